@@ -1,0 +1,17 @@
+//! What all crates of the desk share: the test for idstrings (SPDX 2.3, Annex D.2), names that are
+//! compared by their bytes, owned texts and lists, and the desk's limits.
+//!
+//! A contract sees a `Key` and a `Text` as the list of its bytes, and `Items` as the list of its
+//! items.
+#![tactic(auto)]
+
+mod idstring;
+mod items;
+mod key;
+pub mod limits;
+mod text;
+
+pub use idstring::is_idstring;
+pub use items::Items;
+pub use key::Key;
+pub use text::Text;

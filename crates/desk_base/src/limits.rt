@@ -1,0 +1,10 @@
+//! The desk's limits, each in one place.
+
+/// The bytes of the longest licence expression that is read.
+pub const EXPRESSION_BYTES: usize = 16_384;
+
+/// How many parentheses of a licence expression may be open at once.
+pub const OPEN_PARENTHESES: usize = 64;
+
+/// How many terms a licence expression may have, each time that one stands there counted.
+pub const EXPRESSION_TERMS: usize = 1_024;
