@@ -1,8 +1,7 @@
 //! Cuts a text into tokens: parentheses, and longest runs of other bytes between blanks and
 //! parentheses.
 
-ghost use Rattle.std.specs.Prelude.{◌≡◌, ◌+◌, ◌≤◌, ◌<◌, ◌^◌, ℕ, All, IsTrue, IfNone, IfSome, length, take, drop, slice_index, false};
-ghost use Rattle.std.specs.Prelude.{◌==◌};
+ghost use Rattle.std.specs.Prelude.{◌≡◌, ◌==◌, ◌+◌, ◌≤◌, ◌<◌, ◌^◌, ℕ, All, IsTrue, IfNone, IfSome, length, take, drop, slice_index, false};
 ghost use Rattle.std.specs.List.{position_or_len};
 ghost use Rattle.std.specs.Str.{IsCharBoundary};
 ghost use Rattle.std.specs.Iterator.{at_most};
@@ -198,17 +197,6 @@ pub struct TokenCuts<'a> {
     pub(crate) rest: &'a str,
     pub(crate) place: usize,
     pub ghost fits: { place + length rest.now < 2 ^ 64 },
-}
-
-/// Cuts a text into its tokens.
-pub fn tokens<'a>(text: &'a str) -> TokenCuts<'a>
-    ensures rest { result.rest.now ≡ text.now }
-    ensures place { result.place ≡ 0 }
-{
-    TokenCuts {
-        rest: text,
-        place: 0,
-    }
 }
 
 impl<'a> Iterator for TokenCuts<'a> {

@@ -20,13 +20,13 @@ mod token;
 mod truth;
 mod word;
 
-pub use cut::{TokenCuts, tokens};
+pub use cut::TokenCuts;
 pub use expr::{Expr, Shape};
 pub use fault::ParseFault;
 pub use progress::parse;
 pub use term::Term;
 pub use term_reader::parse_term;
-pub use token::{Kind, Token};
+pub use token::{Kind, Token, tokens};
 pub use truth::{Verdict, check_choice, holds};
 
 #[cfg(test)]

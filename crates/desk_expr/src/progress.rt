@@ -8,11 +8,10 @@ ghost use Rattle.desk_expr.specs.Words.{kind_of};
 ghost use Rattle.desk_expr.specs.Spelling.{symbols, Spells, SpellsWithin, IsStop};
 
 use crate::counts::Counts;
-use crate::cut::tokens;
 use crate::expr::Expr;
 use crate::fault::ParseFault;
 use crate::reader::Reader;
-use crate::token::Token;
+use crate::token::{Token, tokens};
 use crate::word::{Halt, is_bad};
 use desk_base::limits;
 use std::alloc::Global;

@@ -8,11 +8,10 @@ ghost use Rattle.desk_expr.specs.Words.{kind_of};
 ghost use Rattle.desk_expr.specs.Spelling.{symbol, SpellsTermAlone, SpellsTermWithin, IsStop};
 ghost use Rattle.desk_expr.specs.TermReading.{TermSteps, TermStops, TermEnds, TermFalls};
 
-use crate::cut::tokens;
 use crate::expr::Leaf;
 use crate::fault::ParseFault;
 use crate::term::Term;
-use crate::token::{Kind, Token};
+use crate::token::{Kind, Token, tokens};
 use crate::word::{Halt, excepted, exception_of, is_bad, leaf_of};
 use desk_base::limits;
 use std::alloc::Global;

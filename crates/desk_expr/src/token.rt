@@ -1,5 +1,13 @@
 //! Tokens of licence expressions.
 
+ghost use Rattle.std.specs.Prelude.{◌≡◌, ℕ, List, map};
+ghost use Rattle.std.specs.Iterator.{Drains};
+ghost use Rattle.desk_expr.specs.declared.token.Token.{Token};
+ghost use Rattle.desk_expr.specs.Tokens.{AreTokens, lexeme};
+ghost use Rattle.desk_expr.specs.Given.{TokenGiven};
+
+use crate::cut::TokenCuts;
+
 /// What a token is.
 #[derive(Clone, Copy, Debug, PartialEq, Eq)]
 pub enum Kind {
@@ -34,4 +42,17 @@ pub struct Token<'a> {
     pub end: usize,
     /// What it is.
     pub kind: Kind,
+}
+
+/// Cuts a text into its tokens: what calls of `next` give until there is none are the tokens of the
+/// text, in order, each at its place and with its kind.
+pub fn tokens<'a>(text: &'a str) -> TokenCuts<'a>
+    ensures rest { result.rest.now ≡ text.now }
+    ensures place { result.place ≡ 0 }
+    ensures tokens { (given : List Token) → Drains TokenGiven result given → AreTokens 0 text.now (map lexeme given) }
+{
+    TokenCuts {
+        rest: text,
+        place: 0,
+    }
 }
