@@ -38,12 +38,11 @@ has_lines() {
 
 # Runs the program on the words of the file $1, one a line.
 run_words() {
-    set --  "$1"
-    words=$1
+    list=$1
     shift
     while IFS= read -r word || [ -n "$word" ]; do
         set -- "$@" "$word"
-    done <"$words"
+    done <"$list"
     "$program" "$@"
 }
 

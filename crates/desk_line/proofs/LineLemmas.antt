@@ -1,5 +1,5 @@
 -- What follows of the call that words hold, from what `clap` answers to them.
-use Rattle.std.proofs.Common.{◌≡◌, true, [], ◌∷◌, List, Option, None, Some, inl, inr, refl, sym, ◌∙◌, subst}
+use Rattle.std.proofs.Common.{◌≡◌, true, [], ◌∷◌, List, Option, None, inl, inr, refl, sym, ◌∙◌, subst}
 use Rattle.clap.specs.Words.{App, HasKind, IsAmong, Kinds, Row, Text, fault_of, is_simple, is_simple_and_free, kind_of, subcommand_of}
 use Rattle.clap.specs.Kinds.{or_else}
 use Rattle.clap.specs.declared.error.Error.{Error}

@@ -1,6 +1,5 @@
-use Rattle.std.proofs.Common.{rules, ◌≡◌, Some, map, refl, sym, ◌∙◌}
+use Rattle.std.proofs.Common.{map, sym, ◌∙◌}
 use Rattle.clap.specs.Words.{app_of, subcommand_rows_of}
-use Rattle.desk_line.specs.Calls.{call_at, call_of, IsFault, IsFaultOf}
 use Rattle.desk_line.proofs.LineLemmas.{taken, refused}
 use Rattle.desk_line.proofs.reading.line.Goals as goal
 
