@@ -1,7 +1,7 @@
 //! Idstrings, of which the names of licences, exceptions and elements are made (SPDX 2.3, Annex D.2).
 
 ghost use Rattle.std.specs.Prelude.{◌≡◌, ◌↔◌, IsTrue};
-ghost use Rattle.desk_base.specs.Idstring.{is_idstring_byte, IsIdstring};
+ghost use Rattle.desk_base.specs.Idstring.{is_idstring_byte, is_idstring, IsIdstring};
 
 /// Whether the byte may stand in an idstring.
 fn is_idstring_byte(byte: u8) -> bool
@@ -14,7 +14,15 @@ fn is_idstring_byte(byte: u8) -> bool
 pub fn is_idstring(text: &str) -> bool
     ensures { IsTrue result ↔ IsIdstring text.now }
 {
-    !text.is_empty() && text.as_bytes().iter().all(|byte| is_idstring_byte(*byte))
+    is_idstring_of_bytes(text.as_bytes())
+}
+
+/// The same of a text's bytes.
+pub fn is_idstring_of_bytes(bytes: &[u8]) -> bool
+    ensures test { result ≡ is_idstring bytes.now }
+    ensures means { IsTrue result ↔ IsIdstring bytes.now }
+{
+    !bytes.is_empty() && bytes.iter().all(|byte| is_idstring_byte(*byte))
 }
 
 #[cfg(test)]

@@ -11,7 +11,7 @@ mod key;
 pub mod limits;
 mod text;
 
-pub use idstring::is_idstring;
+pub use idstring::{is_idstring, is_idstring_of_bytes};
 pub use items::Items;
 pub use key::Key;
 pub use text::Text;

@@ -1,0 +1,17 @@
+pub mod Tree
+pub mod TreeCode
+pub mod Shape
+pub mod Falls
+pub mod View
+pub mod Words
+pub mod Tokens
+pub mod Given
+pub mod Grammar
+pub mod Spelling
+pub mod Faults
+pub mod Meaning
+pub mod Marks
+pub mod Rest
+pub mod Reading
+pub mod Counting
+pub mod Progress

@@ -1,0 +1,166 @@
+-- Which text spells which tree or term, and where a text that spells none stops.
+use Rattle.std.specs.Prelude.{◌≡◌, ◌≢◌, ◌⊎◌, ℕ, zero, suc, ◌+◌, ◌-◌, ◌<◌, ◌≤◌, Bool, true, false, ◌&&◌, not, if◌then◌else◌, List, [], ◌∷◌, ◌++◌, length, take, map, fold, slice_get, Some}
+use Rattle.desk_base.specs.declared.limits.TheConstants as limit
+use Rattle.desk_expr.specs.declared.fault.ParseFault.{ParseFault}
+use Rattle.desk_expr.specs.declared.fault.ParseFault.TheVariants.{Empty, BadToken, Unexpected, Unclosed, TooDeep, TooLong, TooManyTerms, Memory}
+use Rattle.desk_expr.specs.declared.token.Kind.{Kind}
+use Rattle.desk_expr.specs.declared.token.Kind.TheVariants as kind
+use Rattle.desk_expr.specs.declared.term.Term.{Term}
+use Rattle.desk_expr.specs.Tree.{Tree}
+use Rattle.desk_expr.specs.Words.{licence_term, or_later_term, reference_term}
+use Rattle.desk_expr.specs.Tokens.{Lexeme, AreTokens}
+use Rattle.desk_expr.specs.Grammar.{Symbol, opening, closing, and_word, or_word, with_word, word, bad, SpellsTree, SpellsTerm}
+use Rattle.desk_base.specs.Folded.{folded}
+use Rattle.std.specs.Prelude.{None}
+
+-- the symbol of a token: a licence id without a plus may be an exception
+abbrev pub symbol : Kind → List ℕ → Symbol
+symbol kind.Opening w = opening
+symbol kind.Closing w = closing
+symbol kind.And w = and_word
+symbol kind.Or w = or_word
+symbol kind.With w = with_word
+symbol kind.Licence w = word (licence_term w) (Some (folded w))
+symbol kind.LicenceOrLater w = word (or_later_term w) None
+symbol kind.Reference w = word (reference_term w) None
+symbol kind.Bad w = bad
+
+abbrev pub symbol_of : Lexeme → Symbol
+symbol_of t = symbol t.kind t.text
+
+abbrev pub symbols : List Lexeme → List Symbol
+symbols ts = map symbol_of ts
+
+-- ---- limits
+
+-- the places of the parentheses still open, in the order of the text: one more at each that opens, the last one less at each that closes
+abbrev pub open_after : List ℕ → Lexeme → List ℕ
+open_after places t = open_by t.kind places t.start
+  where
+    open_by : Kind → List ℕ → ℕ → List ℕ
+    open_by kind.Opening ps p = ps ++ p ∷ []
+    open_by kind.Closing ps p = take (length ps - 1) ps
+    open_by _ ps p = ps
+
+abbrev pub still_open : List Lexeme → List ℕ
+still_open ts = fold open_after [] ts
+
+-- how many words are operands: those that don't stand directly after a WITH
+abbrev pub is_word : Symbol → Bool
+is_word (word t x) = true
+is_word _ = false
+
+abbrev pub is_with : Symbol → Bool
+is_with with_word = true
+is_with _ = false
+
+abbrev pub operand_words_after : Bool → List Symbol → ℕ
+operand_words_after after_with [] = 0
+operand_words_after after_with (s ∷ ss) = (if is_word s && not after_with then 1 else 0) + operand_words_after (is_with s) ss
+
+abbrev pub operand_words : List Symbol → ℕ
+operand_words ss = operand_words_after false ss
+
+-- the tokens keep the limits
+pub record KeepsLimits (ts : List Lexeme) : Type 0 where
+  pub depth : length (still_open ts) ≤ limit.OPEN_PARENTHESES
+  pub terms : operand_words (symbols ts) ≤ limit.EXPRESSION_TERMS
+
+-- a fact holds of each front of the list, the list itself included
+abbrev pub AllFronts : (List Lexeme → Type 0) → List Lexeme → Type 0
+AllFronts P ts = (n : ℕ) → P (take n ts)
+
+-- ---- what a text spells
+
+-- the text spells the tree
+abbrev pub Spells : List ℕ → Tree → Type 0
+Spells text e = (ts : List Lexeme) × AreTokens 0 text ts × SpellsTree (symbols ts) e
+
+-- the text spells the tree within the limits
+abbrev pub SpellsWithin : List ℕ → Tree → Type 0
+SpellsWithin text e =
+    (length text ≤ limit.EXPRESSION_BYTES)
+    × (ts : List Lexeme) × AreTokens 0 text ts × SpellsTree (symbols ts) e × AllFronts KeepsLimits ts
+
+-- the text, which is not too long, spells the one term
+abbrev pub SpellsTermWithin : List ℕ → Term → Type 0
+SpellsTermWithin text t =
+    (length text ≤ limit.EXPRESSION_BYTES) × (ts : List Lexeme) × AreTokens 0 text ts × SpellsTerm (symbols ts) t
+
+-- ---- where a text stops that spells nothing, or breaks a limit
+
+abbrev pub closings : ℕ → List Symbol
+closings zero = []
+closings (suc n) = closing ∷ closings n
+
+-- for a language of symbol lists: the trees' or the terms'
+module _ {A : Type 0} (Language : List Symbol → A → Type 0) where
+  -- some list of the language begins with the symbols
+  abbrev pub Begins : List Symbol → Type 0
+  Begins ss = (r : List Symbol) × (a : A) × Language (ss ++ r) a
+
+  -- closing parentheses alone complete the symbols
+  abbrev pub ClosingsComplete : List Symbol → Type 0
+  ClosingsComplete ss = (n : ℕ) × (a : A) × Language (ss ++ closings n) a
+
+  -- a front that may stand: it begins a list of the language and keeps the limits
+  pub record Stands (front : List Lexeme) : Type 0 where
+    pub begins : Begins (symbols front)
+    pub depth : length (still_open front) ≤ limit.OPEN_PARENTHESES
+    pub terms : operand_words (symbols front) ≤ limit.EXPRESSION_TERMS
+
+  -- why a token can't stand after a front, the first reason that applies
+  abbrev pub Reason : List Lexeme → Lexeme → ParseFault → Type 0
+  Reason front t (BadToken place) = (t.kind ≡ kind.Bad) × (place ≡ t.start)
+  Reason front t (Unexpected place) =
+      (t.kind ≢ kind.Bad) × (Begins (symbols (front ++ t ∷ [])) → ⊥) × (place ≡ t.start)
+  Reason front t (TooDeep place) =
+      Begins (symbols (front ++ t ∷ [])) × (limit.OPEN_PARENTHESES < length (still_open (front ++ t ∷ []))) × (place ≡ t.start)
+  Reason front t (TooManyTerms place) =
+      Begins (symbols (front ++ t ∷ []))
+      × (length (still_open (front ++ t ∷ [])) ≤ limit.OPEN_PARENTHESES)
+      × (limit.EXPRESSION_TERMS < operand_words (symbols (front ++ t ∷ [])))
+      × (place ≡ t.start)
+  Reason front t (Empty place) = ⊥
+  Reason front t (Unclosed place) = ⊥
+  Reason front t (TooLong place) = ⊥
+  Reason front t (Memory error) = ⊥
+
+  -- the first token that can't stand in the text, with the reason
+  abbrev pub StopsAtToken : List ℕ → ParseFault → Type 0
+  StopsAtToken text fault =
+      (front : List Lexeme) × (t : Lexeme) × (behind : List Lexeme)
+      × AreTokens 0 text (front ++ t ∷ behind) × AllFronts Stands front × Reason front t fault
+
+  -- why a text of this length can't end behind the tokens
+  abbrev pub EndReason : ℕ → List Lexeme → ParseFault → Type 0
+  EndReason end ts (Unclosed place) =
+      ClosingsComplete (symbols ts)
+      × ((a : A) → Language (symbols ts) a → ⊥)
+      × (slice_get (still_open ts) (length (still_open ts) - 1) ≡ Some place)
+  EndReason end ts (Unexpected place) = (ClosingsComplete (symbols ts) → ⊥) × (place ≡ end)
+  EndReason end ts (Empty place) = ⊥
+  EndReason end ts (BadToken place) = ⊥
+  EndReason end ts (TooDeep place) = ⊥
+  EndReason end ts (TooLong place) = ⊥
+  EndReason end ts (TooManyTerms place) = ⊥
+  EndReason end ts (Memory error) = ⊥
+
+  -- every token can stand, and yet the text spells nothing
+  abbrev pub StopsAtEnd : List ℕ → ParseFault → Type 0
+  StopsAtEnd text fault =
+      (t : Lexeme) × (behind : List Lexeme)
+      × AreTokens 0 text (t ∷ behind) × AllFronts Stands (t ∷ behind) × EndReason (length text) (t ∷ behind) fault
+
+  -- the stop of a text; want of memory may be told of any text
+  abbrev pub IsStop : List ℕ → ParseFault → Type 0
+  IsStop text (TooLong place) = (limit.EXPRESSION_BYTES < length text) × (place ≡ 0)
+  IsStop text (Empty place) = (length text ≤ limit.EXPRESSION_BYTES) × AreTokens 0 text [] × (place ≡ 0)
+  IsStop text (BadToken place) = (length text ≤ limit.EXPRESSION_BYTES) × StopsAtToken text (BadToken place)
+  IsStop text (Unexpected place) =
+      (length text ≤ limit.EXPRESSION_BYTES)
+      × (StopsAtToken text (Unexpected place) ⊎ StopsAtEnd text (Unexpected place))
+  IsStop text (Unclosed place) = (length text ≤ limit.EXPRESSION_BYTES) × StopsAtEnd text (Unclosed place)
+  IsStop text (TooDeep place) = (length text ≤ limit.EXPRESSION_BYTES) × StopsAtToken text (TooDeep place)
+  IsStop text (TooManyTerms place) = (length text ≤ limit.EXPRESSION_BYTES) × StopsAtToken text (TooManyTerms place)
+  IsStop text (Memory error) = Unit {0}

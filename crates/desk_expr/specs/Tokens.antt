@@ -1,0 +1,53 @@
+-- How a text is cut into tokens: parentheses, and longest runs of other bytes between blanks and parentheses.
+use Rattle.std.specs.Prelude.{◌≡◌, ◌⊎◌, ℕ, ◌+◌, ◌==◌, ◌||◌, Bool, false, not, List, [], ◌∷◌, ◌++◌, length, IsTrue, All}
+use Rattle.desk_expr.specs.declared.token.Kind.{Kind}
+use Rattle.desk_expr.specs.declared.token.Token.{Token}
+use Rattle.desk_expr.specs.Words.{kind_of}
+
+-- a space or a tab
+abbrev pub is_blank : ℕ → Bool
+is_blank b = b == 32 || b == 9
+
+abbrev pub is_parenthesis : ℕ → Bool
+is_parenthesis b = b == 40 || b == 41
+
+-- a byte of a run
+abbrev pub is_run_byte : ℕ → Bool
+is_run_byte b = not (is_blank b || is_parenthesis b)
+
+-- no byte of a run begins the text
+abbrev pub NoRunBegins : List ℕ → Type 0
+NoRunBegins [] = Unit {0}
+NoRunBegins (b ∷ bs) = is_run_byte b ≡ false
+
+-- a parenthesis, or a longest run, with what follows it
+abbrev pub IsPiece : List ℕ → List ℕ → Type 0
+IsPiece [] rest = ⊥
+IsPiece (b ∷ bs) rest =
+    (IsTrue (is_parenthesis b) × (bs ≡ []))
+    ⊎ (All (λ x. IsTrue (is_run_byte x)) (b ∷ bs) × NoRunBegins rest)
+
+-- a token: its bytes, the places of the first and behind the last of them, and what it is
+pub record Lexeme : Type 0 where
+  pub text : List ℕ
+  pub start : ℕ
+  pub end : ℕ
+  pub kind : Kind
+
+abbrev pub lexeme : Token → Lexeme
+lexeme t = record { text = t.text.now; start = t.start; end = t.end; kind = t.kind }
+
+-- the first token of the bytes from a place on: only blanks stand before it, and the rest follows it
+pub record IsFirstToken (place : ℕ) (bytes : List ℕ) (t : Lexeme) (rest : List ℕ) : Type 0 where
+  pub blanks : List ℕ
+  pub only_blanks : All (λ x. IsTrue (is_blank x)) blanks
+  pub cut : bytes ≡ blanks ++ (t.text ++ rest)
+  pub start : t.start ≡ place + length blanks
+  pub end : t.end ≡ t.start + length t.text
+  pub piece : IsPiece t.text rest
+  pub kind : t.kind ≡ kind_of t.text
+
+-- the bytes from a place on are these tokens, with only blanks between them
+abbrev pub AreTokens : ℕ → List ℕ → List Lexeme → Type 0
+AreTokens place bytes [] = All (λ x. IsTrue (is_blank x)) bytes
+AreTokens place bytes (t ∷ ts) = (rest : List ℕ) × IsFirstToken place bytes t rest × AreTokens t.end rest ts

@@ -1,0 +1,81 @@
+-- What a run of bytes is, and the term that a word is (SPDX 2.3, Annex D.2 and D.3).
+use Rattle.std.specs.Prelude.{◌≡◌, ℕ, ◌-◌, ◌==◌, ◌||◌, ◌&&◌, not, Bool, true, false, List, [], ◌∷◌, Option, Some, None, if◌then◌else◌, length, take, drop, codes, nat_eq, slice_get}
+use Rattle.std.specs.List.{starts_with, before_first, after_first}
+use Rattle.std.specs.Str.{bytes_eq}
+use Rattle.desk_base.specs.Idstring.{is_idstring}
+use Rattle.desk_base.specs.Folded.{folded}
+use Rattle.desk_expr.specs.declared.term.Term.{Term}
+use Rattle.desk_expr.specs.declared.token.Kind.{Kind}
+use Rattle.desk_expr.specs.declared.token.Kind.TheVariants.{Opening, Closing, And, Or, With, Licence, LicenceOrLater, Reference, Bad}
+
+-- `"LicenseRef-" idstring`
+abbrev pub is_local_reference : List ℕ → Bool
+is_local_reference w = starts_with nat_eq w (codes "LicenseRef-") && is_idstring (drop 11 w)
+
+-- `["DocumentRef-" idstring ":"] "LicenseRef-" idstring`
+abbrev pub is_reference : List ℕ → Bool
+is_reference w =
+    is_local_reference w
+    || (starts_with nat_eq w (codes "DocumentRef-") && (is_idstring (before_first (λ b. b == 58) (drop 12 w)) && is_local_reference (after_first (λ b. b == 58) (drop 12 w))))
+
+-- a run that begins so is a reference or no word at all
+abbrev pub begins_like_reference : List ℕ → Bool
+begins_like_reference w = starts_with nat_eq w (codes "LicenseRef-") || starts_with nat_eq w (codes "DocumentRef-")
+
+-- the bytes before the last one
+abbrev pub without_last : List ℕ → List ℕ
+without_last w = take (length w - 1) w
+
+-- whether the last byte is a plus
+abbrev pub ends_with_plus : List ℕ → Bool
+ends_with_plus [] = false
+ends_with_plus (b ∷ []) = b == 43
+ends_with_plus (b ∷ c ∷ bs) = ends_with_plus (c ∷ bs)
+
+-- a licence id directly followed by a plus
+abbrev pub is_licence_or_later : List ℕ → Bool
+is_licence_or_later w = ends_with_plus w && is_idstring (without_last w)
+
+-- what a run that is no operator is
+abbrev pub word_kind : List ℕ → Kind
+word_kind w =
+    if begins_like_reference w then (if is_reference w then Reference else Bad)
+    else (if is_idstring w then Licence
+    else (if is_licence_or_later w then LicenceOrLater
+    else Bad))
+
+-- what a token is
+abbrev pub kind_of : List ℕ → Kind
+kind_of w =
+    if bytes_eq w (codes "(") then Opening
+    else (if bytes_eq w (codes ")") then Closing
+    else (if bytes_eq w (codes "AND") then And
+    else (if bytes_eq w (codes "OR") then Or
+    else (if bytes_eq w (codes "WITH") then With
+    else word_kind w))))
+
+-- the terms that the words are: ids are folded, references kept byte for byte
+abbrev pub licence_term : List ℕ → Term
+licence_term w = record { key = folded w; plus = false; exception = None }
+
+abbrev pub or_later_term : List ℕ → Term
+or_later_term w = record { key = folded (without_last w); plus = true; exception = None }
+
+abbrev pub reference_term : List ℕ → Term
+reference_term w = record { key = w; plus = false; exception = None }
+
+-- a term with an exception
+abbrev pub with_exception : Term → List ℕ → Term
+with_exception t x = record t { exception = Some x }
+
+-- an id with its capitals made small
+abbrev pub is_folded_id : List ℕ → Bool
+is_folded_id k = is_idstring k && bytes_eq (folded k) k
+
+abbrev pub is_exception : Option (List ℕ) → Bool
+is_exception None = true
+is_exception (Some x) = is_folded_id x
+
+-- a well-formed term: a folded id, perhaps with a plus, or a reference, and perhaps a folded exception
+abbrev pub is_term : Term → Bool
+is_term t = (is_folded_id t.key || (is_reference t.key && not t.plus)) && is_exception t.exception

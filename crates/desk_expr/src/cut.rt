@@ -1,0 +1,218 @@
+//! Cuts a text into tokens: parentheses, and longest runs of other bytes between blanks and
+//! parentheses.
+
+ghost use Rattle.std.specs.Prelude.{◌≡◌, ◌+◌, ◌≤◌, ◌<◌, ◌^◌, ℕ, All, IsTrue, IfNone, IfSome, length, take, drop, slice_index, false};
+ghost use Rattle.std.specs.Str.{IsCharBoundary};
+ghost use Rattle.std.specs.Iterator.{at_most};
+ghost use Rattle.desk_expr.specs.Tokens.{is_blank, is_parenthesis, is_run_byte, IsPiece, IsFirstToken, lexeme};
+ghost use Rattle.desk_expr.specs.Words.{is_local_reference, is_reference, begins_like_reference, is_licence_or_later, word_kind, kind_of};
+
+use crate::token::{Kind, Token};
+use desk_base::is_idstring_of_bytes;
+
+fn is_blank(byte: u8) -> bool
+    ensures { result ≡ is_blank byte }
+{
+    byte == b' ' || byte == b'\t'
+}
+
+fn is_parenthesis(byte: u8) -> bool
+    ensures { result ≡ is_parenthesis byte }
+{
+    byte == b'(' || byte == b')'
+}
+
+fn is_run_byte(byte: u8) -> bool
+    ensures { result ≡ is_run_byte byte }
+{
+    !(is_blank(byte) || is_parenthesis(byte))
+}
+
+// How many blanks stand at the front.
+fn blanks(bytes: &[u8]) -> usize
+    ensures within { result ≤ length bytes.now }
+    ensures blank { (i : ℕ) → i < result → IsTrue (is_blank (slice_index bytes.now i)) }
+    ensures stops { result < length bytes.now → is_blank (slice_index bytes.now result) ≡ false }
+{
+    let mut n = 0;
+    while n < bytes.len() && is_blank(bytes[n]) {
+        n += 1;
+    }
+    n
+}
+
+// How many bytes of a run stand at the front.
+fn run(bytes: &[u8]) -> usize
+    ensures within { result ≤ length bytes.now }
+    ensures run { (i : ℕ) → i < result → IsTrue (is_run_byte (slice_index bytes.now i)) }
+    ensures stops { result < length bytes.now → is_run_byte (slice_index bytes.now result) ≡ false }
+{
+    let mut n = 0;
+    while n < bytes.len() && is_run_byte(bytes[n]) {
+        n += 1;
+    }
+    n
+}
+
+// Whether the bytes are a reference to a licence text of the same document.
+fn is_local_reference(bytes: &[u8]) -> bool
+    ensures { result ≡ is_local_reference bytes.now }
+{
+    bytes.starts_with(b"LicenseRef-") && is_idstring_of_bytes(&bytes[11..])
+}
+
+// Whether the bytes are a reference.
+fn is_reference(bytes: &[u8]) -> bool
+    ensures { result ≡ is_reference bytes.now }
+{
+    if is_local_reference(bytes) {
+        return true;
+    }
+    if !bytes.starts_with(b"DocumentRef-") {
+        return false;
+    }
+    let named = &bytes[12..];
+    match named.iter().position(|byte| *byte == b':') {
+        Some(colon) => {
+            is_idstring_of_bytes(&named[..colon]) && is_local_reference(&named[colon + 1..])
+        }
+        None => false,
+    }
+}
+
+// Whether the bytes begin as a reference does.
+fn begins_like_reference(bytes: &[u8]) -> bool
+    ensures { result ≡ begins_like_reference bytes.now }
+{
+    bytes.starts_with(b"LicenseRef-") || bytes.starts_with(b"DocumentRef-")
+}
+
+// Whether the bytes are a licence id with a plus.
+fn is_licence_or_later(bytes: &[u8]) -> bool
+    ensures { result ≡ is_licence_or_later bytes.now }
+{
+    match bytes {
+        [front @ .., b'+'] => is_idstring_of_bytes(front),
+        _ => false,
+    }
+}
+
+// What a run that is no operator is.
+fn word_kind(bytes: &[u8]) -> Kind
+    ensures { result ≡ word_kind bytes.now }
+{
+    if begins_like_reference(bytes) {
+        if is_reference(bytes) {
+            Kind::Reference
+        } else {
+            Kind::Bad
+        }
+    } else if is_idstring_of_bytes(bytes) {
+        Kind::Licence
+    } else if is_licence_or_later(bytes) {
+        Kind::LicenceOrLater
+    } else {
+        Kind::Bad
+    }
+}
+
+// What a token is.
+fn kind_of(text: &str) -> Kind
+    ensures { result ≡ kind_of text.now }
+{
+    if text == "(" {
+        Kind::Opening
+    } else if text == ")" {
+        Kind::Closing
+    } else if text == "AND" {
+        Kind::And
+    } else if text == "OR" {
+        Kind::Or
+    } else if text == "WITH" {
+        Kind::With
+    } else {
+        word_kind(text.as_bytes())
+    }
+}
+
+// Where the blanks at the front end.
+fn blanks_end(text: &str) -> usize
+    ensures cut { IsCharBoundary text.now result }
+    ensures only { All (λ b. IsTrue (is_blank b)) (take result text.now) }
+    ensures stops { result < length text.now → is_blank (slice_index text.now result) ≡ false }
+{
+    blanks(text.as_bytes())
+}
+
+// Where the piece at the front ends.
+fn piece_end(text: &str) -> usize
+    requires some { 0 < length text.now }
+    requires no_blank { is_blank (slice_index text.now 0) ≡ false }
+    ensures cut { IsCharBoundary text.now result }
+    ensures piece { IsPiece (take result text.now) (drop result text.now) }
+{
+    let bytes = text.as_bytes();
+    if is_parenthesis(bytes[0]) {
+        return 1;
+    }
+    run(bytes)
+}
+
+// The first token of a text that stands at a place, and the text after it.
+fn first_token<'a>(rest: &'a str, place: usize) -> Option<(Token<'a>, &'a str)>
+    requires { place + length rest.now < 2 ^ 64 }
+    ensures none { IfNone result (All (λ b. IsTrue (is_blank b)) rest.now) }
+    ensures some { IfSome result (λ f. IsFirstToken place rest.now (lexeme f.0) f.1.now) }
+{
+    let skipped = blanks_end(rest);
+    let (_, from) = rest.split_at(skipped);
+    if from.is_empty() {
+        return None;
+    }
+    let size = piece_end(from);
+    let (text, after) = from.split_at(size);
+    let start = place + skipped;
+    let token = Token {
+        text,
+        start,
+        end: start + size,
+        kind: kind_of(text),
+    };
+    Some((token, after))
+}
+
+/// The tokens of a text, from the left: what is left of the text, and its place.
+#[derive(Drop)]
+pub struct TokenCuts<'a> {
+    pub(crate) rest: &'a str,
+    pub(crate) place: usize,
+    pub ghost fits: { place + length rest.now < 2 ^ 64 },
+}
+
+/// Cuts a text into its tokens.
+pub fn tokens<'a>(text: &'a str) -> TokenCuts<'a>
+    ensures rest { result.rest.now ≡ text.now }
+    ensures place { result.place ≡ 0 }
+{
+    TokenCuts {
+        rest: text,
+        place: 0,
+    }
+}
+
+impl<'a> Iterator for TokenCuts<'a> {
+    type Item = Token<'a>;
+
+    ghost use Rattle.desk_expr.specs.Given.{TokenGiven};
+
+    ghost next_gives = { TokenGiven };
+
+    ghost remaining = { λ s. at_most (length s.rest.now) };
+
+    fn next(&mut self) -> Option<Token<'a>> {
+        let (token, after) = first_token(self.rest, self.place)?;
+        self.rest = after;
+        self.place = token.end;
+        Some(token)
+    }
+}

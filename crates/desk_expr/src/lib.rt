@@ -1,0 +1,33 @@
+//! Licence expressions (SPDX 2.3, Annex D): cut into tokens, read into a tree, and compared with a
+//! choice of terms.
+//!
+//! A contract sees an `Expr` as a `Tree`: one term, or All or Any of two or more parts. `Spells`
+//! (specs/Spelling.antt) says which text spells which tree by dividing whole lists of tokens;
+//! `parse` reads once from the left, with a stack of its own, and gives the tree or the first
+//! place that doesn't fit. `check_choice` says whether a set of terms satisfies the tree, each of
+//! them needed.
+#![tactic(auto)]
+
+mod counts;
+mod cut;
+mod expr;
+mod fault;
+mod progress;
+mod reader;
+mod term;
+mod term_reader;
+mod token;
+mod truth;
+mod word;
+
+pub use cut::{TokenCuts, tokens};
+pub use expr::{Expr, Shape};
+pub use fault::ParseFault;
+pub use progress::parse;
+pub use term::Term;
+pub use term_reader::parse_term;
+pub use token::{Kind, Token};
+pub use truth::{Verdict, check_choice, holds};
+
+#[cfg(test)]
+mod tests;

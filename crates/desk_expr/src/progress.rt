@@ -1,0 +1,103 @@
+//! Reads a text as a licence expression.
+
+ghost use Rattle.std.specs.Prelude.{◌≡◌, ◌↔◌, ℕ, IfOk, IfErr, List, MatchResult};
+ghost use Rattle.desk_expr.specs.declared.token.Token.{Token};
+ghost use Rattle.desk_expr.specs.Tree.{Tree};
+ghost use Rattle.desk_expr.specs.Tokens.{Lexeme, lexeme};
+ghost use Rattle.desk_expr.specs.Grammar.{SpellsTree};
+ghost use Rattle.desk_expr.specs.Words.{kind_of};
+ghost use Rattle.desk_expr.specs.Spelling.{Spells, SpellsWithin, IsStop};
+
+use crate::counts::Counts;
+use crate::cut::tokens;
+use crate::expr::Expr;
+use crate::fault::ParseFault;
+use crate::reader::Reader;
+use crate::token::{Kind, Token};
+use crate::word::Halt;
+use desk_base::limits;
+use std::alloc::Global;
+
+/// What has been read of a text, and what the limits are about.
+#[derive(Drop)]
+pub(crate) struct Progress {
+    pub(crate) reader: Reader,
+    pub(crate) counts: Counts,
+    pub(crate) started: bool,
+}
+
+impl Progress {
+    ghost use Rattle.desk_expr.specs.Progress.{HasRead, StopsAfter, EndsAfter};
+
+    fn new(alloc: Global) -> Progress
+        ensures { HasRead [] result }
+    {
+        Progress {
+            reader: Reader::new(alloc),
+            counts: Counts::new(alloc),
+            started: false,
+        }
+    }
+
+    // Reads one token.
+    fn step(self, alloc: Global, token: &Token<'_>) -> Result<Progress, ParseFault>
+        requires { token.now.kind ≡ kind_of token.now.text.now }
+        ensures ok { IfOk result (λ n. (front : List Lexeme) → HasRead front self → HasRead (front ++ lexeme token.now ∷ []) n) }
+        ensures err { IfErr result (λ f. (front : List Lexeme) → HasRead front self → StopsAfter front (lexeme token.now) f) }
+    {
+        if matches!(token.kind, Kind::Bad) {
+            return Err(ParseFault::BadToken(token.start));
+        }
+        let Progress {
+            reader,
+            counts,
+            started: _,
+        } = self;
+        let reader = match reader.step(alloc, token) {
+            Ok(reader) => reader,
+            Err(Halt::Memory(error)) => return Err(ParseFault::Memory(error)),
+            Err(_) => return Err(ParseFault::Unexpected(token.start)),
+        };
+        match counts.count(token) {
+            Ok(counts) => Ok(Progress {
+                reader,
+                counts,
+                started: true,
+            }),
+            Err(fault) => Err(fault),
+        }
+    }
+
+    // The tree, where a text of this length ends here.
+    fn finish(self, length: usize) -> Result<Expr, ParseFault> {
+        let Progress {
+            reader,
+            counts,
+            started,
+        } = self;
+        if !started {
+            return Err(ParseFault::Empty(0));
+        }
+        match reader.finish() {
+            Ok(tree) => Ok(tree),
+            Err(Halt::Unexpected) => Err(ParseFault::Unexpected(length)),
+            Err(Halt::Unclosed) => Err(ParseFault::Unclosed(counts.last_open())),
+            Err(Halt::Memory(error)) => Err(ParseFault::Memory(error)),
+        }
+    }
+}
+
+/// The expression that the text spells (SPDX 2.3, Annex D), or the first place at which it stops.
+pub fn parse(alloc: Global, text: &str) -> Result<Expr, ParseFault> {
+    if text.len() > limits::EXPRESSION_BYTES {
+        return Err(ParseFault::TooLong(0));
+    }
+    let mut progress = Progress::new(alloc);
+    for token in tokens(text) {
+        match progress.step(alloc, &token) {
+            Ok(next) => progress = next,
+            Err(fault) => return Err(fault),
+        }
+    }
+    progress.finish(text.len())
+}

@@ -1,0 +1,70 @@
+//! Reads a text as one licence term.
+
+use crate::cut::tokens;
+use crate::expr::Leaf;
+use crate::fault::ParseFault;
+use crate::term::Term;
+use crate::token::{Kind, Token};
+use crate::word::{Halt, excepted, exception_of, leaf_of};
+use desk_base::limits;
+use std::alloc::Global;
+
+/// What stands before the next token.
+#[derive(Drop)]
+pub(crate) enum TermState {
+    /// A word is wanted.
+    Start,
+    /// A word, which an exception may follow.
+    Word(Leaf),
+    /// A word and `WITH`.
+    Exception(Leaf),
+    /// A word with an exception.
+    Done(Leaf),
+}
+
+impl TermState {
+    // Reads one token.
+    fn step(self, alloc: Global, token: &Token<'_>) -> Result<TermState, Halt> {
+        match self {
+            TermState::Start => Ok(TermState::Word(leaf_of(alloc, token.kind, token.text)?)),
+            TermState::Word(leaf) => match token.kind {
+                Kind::With => Ok(TermState::Exception(leaf)),
+                _ => Err(Halt::Unexpected),
+            },
+            TermState::Exception(leaf) => {
+                let key = exception_of(alloc, token.kind, token.text)?;
+                Ok(TermState::Done(excepted(leaf, key)))
+            }
+            TermState::Done(_) => Err(Halt::Unexpected),
+        }
+    }
+
+    // The term, where a text of this length ends here.
+    fn finish(self, length: usize) -> Result<Term, ParseFault> {
+        match self {
+            TermState::Start => Err(ParseFault::Empty(0)),
+            TermState::Word(leaf) | TermState::Done(leaf) => Ok(leaf.into_term()),
+            TermState::Exception(_) => Err(ParseFault::Unexpected(length)),
+        }
+    }
+}
+
+/// The term that the text spells: a licence id, perhaps with a plus, or a reference, and perhaps
+/// `WITH` and an exception id (SPDX 2.3, Annex D.2 and D.4); or the first place at which it stops.
+pub fn parse_term(alloc: Global, text: &str) -> Result<Term, ParseFault> {
+    if text.len() > limits::EXPRESSION_BYTES {
+        return Err(ParseFault::TooLong(0));
+    }
+    let mut state = TermState::Start;
+    for token in tokens(text) {
+        if matches!(token.kind, Kind::Bad) {
+            return Err(ParseFault::BadToken(token.start));
+        }
+        match state.step(alloc, &token) {
+            Ok(next) => state = next,
+            Err(Halt::Memory(error)) => return Err(ParseFault::Memory(error)),
+            Err(_) => return Err(ParseFault::Unexpected(token.start)),
+        }
+    }
+    state.finish(text.len())
+}

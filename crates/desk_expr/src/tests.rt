@@ -1,0 +1,257 @@
+//! Worked examples: verdicts and the faults of texts, one by one.
+
+use crate::{
+    Expr, ParseFault, Shape, Term, Verdict, check_choice, holds, parse, parse_term, tokens,
+};
+use desk_base::Key;
+use std::alloc::{AllocError, Global};
+use std::process::Abort;
+use std::test::Fail;
+
+fn terms(alloc: Global, words: &[&str]) -> Result<Vec<Term>, ParseFault> {
+    let mut terms = Vec::new(alloc);
+    for word in words {
+        let term = parse_term(alloc, word)?;
+        if terms.push(term).is_err() {
+            return Err(ParseFault::Memory(AllocError));
+        }
+    }
+    Ok(terms)
+}
+
+fn verdict(alloc: Global, text: &str, words: &[&str]) -> Result<Verdict, ParseFault> {
+    let expr = parse(alloc, text)?;
+    let terms = terms(alloc, words)?;
+    Ok(check_choice(&expr, terms.as_slice()))
+}
+
+fn fault(alloc: Global, text: &str) -> Option<ParseFault> {
+    parse(alloc, text).err()
+}
+
+fn term_fault(alloc: Global, text: &str) -> Option<ParseFault> {
+    parse_term(alloc, text).err()
+}
+
+#[test]
+fn one_licence_in_two_spellings(rt: HostRuntime) -> Result<(), Fail> {
+    assert_eq!(rt; verdict(rt.alloc(), "MIT", &["mit"])?, Verdict::Minimal);
+    Ok(())
+}
+
+#[test]
+fn binding_and_superfluous_terms(rt: HostRuntime) -> Result<(), Fail> {
+    let text = "A AND B OR C";
+    assert_eq!(rt; verdict(rt.alloc(), text, &["C"])?, Verdict::Minimal);
+    assert_eq!(rt;
+        verdict(rt.alloc(), text, &["A", "C"])?,
+        Verdict::Superfluous(0)
+    );
+    assert_eq!(rt; verdict(rt.alloc(), text, &["A"])?, Verdict::NotEnough);
+    assert_eq!(rt;
+        verdict(rt.alloc(), "A OR B", &["b", "a", "A"])?,
+        Verdict::Superfluous(0)
+    );
+    assert_eq!(rt;
+        verdict(rt.alloc(), "MIT", &["mit", "MIT"])?,
+        Verdict::Minimal
+    );
+    Ok(())
+}
+
+#[test]
+fn faults_and_places(rt: HostRuntime) {
+    let alloc = rt.alloc();
+    assert_eq!(rt; fault(alloc, "GPL-2.0 +"), Some(ParseFault::BadToken(8)));
+    assert_eq!(rt; fault(alloc, "MIT AND"), Some(ParseFault::Unexpected(7)));
+    assert_eq!(rt; fault(alloc, ""), Some(ParseFault::Empty(0)));
+    assert_eq!(rt; fault(alloc, " \t"), Some(ParseFault::Empty(0)));
+    assert_eq!(rt; fault(alloc, "(MIT"), Some(ParseFault::Unclosed(0)));
+    assert_eq!(rt; fault(alloc, "()"), Some(ParseFault::Unexpected(1)));
+    assert_eq!(rt;
+        fault(alloc, "((MIT) AND (A OR B"),
+        Some(ParseFault::Unclosed(11))
+    );
+    assert_eq!(rt;
+        fault(alloc, "(MIT) AND ((A OR B)"),
+        Some(ParseFault::Unclosed(10))
+    );
+    assert_eq!(rt; fault(alloc, "MIT)"), Some(ParseFault::Unexpected(3)));
+    assert_eq!(rt;
+        fault(alloc, "MIT or Zlib"),
+        Some(ParseFault::Unexpected(4))
+    );
+    assert_eq!(rt; fault(alloc, "A WITH b+"), Some(ParseFault::Unexpected(7)));
+    assert_eq!(rt;
+        fault(alloc, "A WITH LicenseRef-b"),
+        Some(ParseFault::Unexpected(7))
+    );
+    assert_eq!(rt; fault(alloc, "(A) WITH b"), Some(ParseFault::Unexpected(4)));
+    assert_eq!(rt;
+        fault(alloc, "A WITH b WITH c"),
+        Some(ParseFault::Unexpected(9))
+    );
+    assert_eq!(rt;
+        fault(alloc, "LicenseRef-a+"),
+        Some(ParseFault::BadToken(0))
+    );
+    assert_eq!(rt;
+        fault(alloc, "DocumentRef-a"),
+        Some(ParseFault::BadToken(0))
+    );
+    assert_eq!(rt; fault(alloc, "DocumentRef-LicenseRef-a:LicenseRef-b"), None);
+    assert_eq!(rt; fault(alloc, "licenseref-x"), None);
+    assert_eq!(rt; fault(alloc, "A AND é"), Some(ParseFault::BadToken(6)));
+}
+
+#[test]
+fn faults_of_terms(rt: HostRuntime) {
+    let alloc = rt.alloc();
+    assert_eq!(rt;
+        term_fault(alloc, "GPL-2.0-only WITH"),
+        Some(ParseFault::Unexpected(17))
+    );
+    assert_eq!(rt;
+        term_fault(alloc, "A AND +"),
+        Some(ParseFault::Unexpected(2))
+    );
+    assert_eq!(rt; term_fault(alloc, "A +"), Some(ParseFault::BadToken(2)));
+    assert_eq!(rt; term_fault(alloc, "("), Some(ParseFault::Unexpected(0)));
+    assert_eq!(rt; term_fault(alloc, "AND"), Some(ParseFault::Unexpected(0)));
+    assert_eq!(rt; term_fault(alloc, ""), Some(ParseFault::Empty(0)));
+    assert_eq!(rt;
+        term_fault(alloc, "A WITH b C"),
+        Some(ParseFault::Unexpected(9))
+    );
+}
+
+#[test]
+fn terms_are_kept_as_they_compare(rt: HostRuntime) -> Result<(), Fail> {
+    let alloc = rt.alloc();
+    let term = parse_term(alloc, "GPL-2.0+ WITH Classpath-Exception-2.0")?;
+    let expected = Term {
+        key: Key::exact(alloc, "gpl-2.0")?,
+        plus: true,
+        exception: Some(Key::exact(alloc, "classpath-exception-2.0")?),
+    };
+    assert!(rt; term == expected);
+    let reference = parse_term(alloc, "DocumentRef-Tools:LicenseRef-Firm.1")?;
+    assert_eq!(rt;
+        reference.key.as_str(),
+        "DocumentRef-Tools:LicenseRef-Firm.1"
+    );
+    assert!(rt; parse_term(alloc, "licenseref-firm")? != parse_term(alloc, "LicenseRef-firm")?);
+    Ok(())
+}
+
+#[test]
+fn groups_keep_their_own_tree(rt: HostRuntime) -> Result<(), Fail> {
+    let alloc = rt.alloc();
+    let expr = parse(alloc, "A AND (B AND C)")?;
+    let Shape::All(parts) = expr.shape() else {
+        return Err(Fail::from("no All"));
+    };
+    assert_eq!(rt; parts.len(), 2);
+    assert!(rt; matches!(parts[0].shape(), Shape::One(_)));
+    assert!(rt; matches!(parts[1].shape(), Shape::All(_)));
+    assert!(rt; matches!(parse(alloc, "(A)")?.shape(), Shape::One(_)));
+    Ok(())
+}
+
+fn repeated(alloc: Global, text: &str, count: usize, between: &str) -> Result<String, AllocError> {
+    let mut whole = String::new(alloc);
+    for k in 0..count {
+        if k > 0 {
+            whole.push_str(between)?;
+        }
+        whole.push_str(text)?;
+    }
+    Ok(whole)
+}
+
+fn in_parentheses(alloc: Global, pairs: usize) -> Result<String, AllocError> {
+    let mut whole = repeated(alloc, "(", pairs, "")?;
+    whole.push_str("MIT")?;
+    whole.push_str(repeated(alloc, ")", pairs, "")?.as_str())?;
+    Ok(whole)
+}
+
+#[test]
+fn limits_are_kept(rt: HostRuntime) -> Result<(), Fail> {
+    let alloc = rt.alloc();
+    let deep = in_parentheses(alloc, 64)?;
+    assert!(rt; matches!(parse(alloc, deep.as_str())?.shape(), Shape::One(_)));
+    let deeper = in_parentheses(alloc, 65)?;
+    assert_eq!(rt;
+        fault(alloc, deeper.as_str()),
+        Some(ParseFault::TooDeep(64))
+    );
+    let many = repeated(alloc, "a", 1024, " OR ")?;
+    assert_eq!(rt; fault(alloc, many.as_str()), None);
+    let more = repeated(alloc, "a", 1025, " OR ")?;
+    assert_eq!(rt;
+        fault(alloc, more.as_str()),
+        Some(ParseFault::TooManyTerms(5120))
+    );
+    let long = repeated(alloc, "a", 16384, "")?;
+    assert_eq!(rt; fault(alloc, long.as_str()), None);
+    let longer = repeated(alloc, "a", 16385, "")?;
+    assert_eq!(rt; fault(alloc, longer.as_str()), Some(ParseFault::TooLong(0)));
+    assert_eq!(rt;
+        term_fault(alloc, longer.as_str()),
+        Some(ParseFault::TooLong(0))
+    );
+    Ok(())
+}
+
+#[test]
+fn seven_factors(rt: HostRuntime) -> Result<(), Fail> {
+    let text =
+        "(a1 OR b1) AND (a2 OR b2) AND (a3 OR b3) AND (a4 OR b4) AND (a5 OR b5) AND (a6 OR b6) AND (a7 OR b7)";
+    let words = ["a1", "a2", "a3", "a4", "a5", "a6", "a7"];
+    assert_eq!(rt; verdict(rt.alloc(), text, &words)?, Verdict::Minimal);
+    Ok(())
+}
+
+// A choice of more than 64 terms, so that they are left out in several rounds.
+#[test]
+fn a_long_choice(rt: HostRuntime) -> Result<(), Fail> {
+    let alloc = rt.alloc();
+    let mut text = String::new(alloc);
+    for k in 0..130u32 {
+        if k > 0 {
+            text.push_str(" AND ")?;
+        }
+        text.push_str(format!(in alloc; "a{k}")?.as_str())?;
+    }
+    let all = parse(alloc, text.as_str())?;
+    let mut chosen = Vec::new(alloc);
+    for k in 0..130u32 {
+        chosen.push(parse_term(alloc, format!(in alloc; "A{k}")?.as_str())?)?;
+    }
+    assert_eq!(rt; check_choice(&all, chosen.as_slice()), Verdict::Minimal);
+    chosen.push(parse_term(alloc, "other")?)?;
+    assert!(rt; holds(&all, chosen.as_slice()));
+    assert_eq!(rt;
+        check_choice(&all, chosen.as_slice()),
+        Verdict::Superfluous(130)
+    );
+    assert_eq!(rt;
+        check_choice(&all, &chosen.as_slice()[1..]),
+        Verdict::NotEnough
+    );
+    Ok(())
+}
+
+#[test]
+fn tokens_stand_at_their_spans(rt: HostRuntime) {
+    let text = " (MIT AND\tX+) é";
+    let spans = [(1, 2), (2, 5), (6, 9), (10, 12), (12, 13), (14, 16)];
+    let mut count = 0usize;
+    for token in tokens(text) {
+        assert!(rt; count < spans.len());
+        assert!(rt; (token.start, token.end) == spans[count]);
+        count += 1;
+    }
+    assert_eq!(rt; count, spans.len());
+}

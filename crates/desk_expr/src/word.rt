@@ -1,0 +1,144 @@
+//! The terms and exceptions that words are.
+
+ghost use Rattle.std.specs.Prelude.{◌≡◌, ℕ, List, Option, OnOk, IfOk, IfErr, [], ◌∷◌, ◌++◌, Some, None, IsTrue, alloc_error};
+ghost use Rattle.desk_expr.specs.declared.term.Term.{Term};
+ghost use Rattle.desk_expr.specs.Grammar.{word};
+ghost use Rattle.desk_expr.specs.Words.{kind_of, licence_term, or_later_term, reference_term, with_exception, is_term, is_folded_id};
+ghost use Rattle.desk_expr.specs.Spelling.{symbol};
+ghost use Rattle.desk_base.specs.Folded.{folded};
+
+use crate::expr::Leaf;
+use crate::term::Term;
+use crate::token::Kind;
+use desk_base::Key;
+use std::alloc::{AllocError, Global};
+
+/// Why reading goes no further.
+#[derive(Clone, Copy, Debug)]
+pub(crate) enum Halt {
+    /// The token, or the end, can't stand there.
+    Unexpected,
+    /// A parenthesis is open at the end.
+    Unclosed,
+    /// No memory was left.
+    Memory(AllocError),
+}
+
+// Want of memory is a cause of its own.
+pub(crate) fn push<T: Drop>(list: &mut Vec<T>, item: T) -> Result<(), Halt>
+    ensures ok { OnOk result (list.new.items ≡ list.old.items ++ item ∷ []) }
+    ensures err { IfErr result (λ h. h ≡ Halt.Memory alloc_error) }
+{
+    match list.push(item) {
+        Ok(()) => Ok(()),
+        Err(_) => Err(Halt::Memory(AllocError)),
+    }
+}
+
+// The key of an id.
+fn folded_key(alloc: Global, text: &str) -> Result<Key, Halt>
+    ensures ok { IfOk result (λ k. k ≡ folded text.now) }
+    ensures err { IfErr result (λ h. h ≡ Halt.Memory alloc_error) }
+{
+    match Key::folded(alloc, text) {
+        Ok(key) => Ok(key),
+        Err(error) => Err(Halt::Memory(error)),
+    }
+}
+
+// The key of a reference.
+fn exact_key(alloc: Global, text: &str) -> Result<Key, Halt>
+    ensures ok { IfOk result (λ k. k ≡ text.now) }
+    ensures err { IfErr result (λ h. h ≡ Halt.Memory alloc_error) }
+{
+    match Key::exact(alloc, text) {
+        Ok(key) => Ok(key),
+        Err(error) => Err(Halt::Memory(error)),
+    }
+}
+
+fn licence(alloc: Global, text: &str) -> Result<Leaf, Halt>
+    requires { Kind.Licence ≡ kind_of text.now }
+    ensures ok { IfOk result (λ t. t ≡ licence_term text.now) }
+    ensures err { IfErr result (λ h. h ≡ Halt.Memory alloc_error) }
+{
+    let key = folded_key(alloc, text)?;
+    Ok(Leaf::new(Term {
+        key,
+        plus: false,
+        exception: None,
+    }))
+}
+
+fn licence_or_later(alloc: Global, text: &str) -> Result<Leaf, Halt>
+    requires { Kind.LicenceOrLater ≡ kind_of text.now }
+    ensures ok { IfOk result (λ t. t ≡ or_later_term text.now) }
+    ensures err { IfErr result (λ h. h ≡ Halt.Memory alloc_error) }
+{
+    let (id, _plus) = text.split_at(text.len() - 1);
+    let key = folded_key(alloc, id)?;
+    Ok(Leaf::new(Term {
+        key,
+        plus: true,
+        exception: None,
+    }))
+}
+
+fn reference(alloc: Global, text: &str) -> Result<Leaf, Halt>
+    requires { Kind.Reference ≡ kind_of text.now }
+    ensures ok { IfOk result (λ t. t ≡ reference_term text.now) }
+    ensures err { IfErr result (λ h. h ≡ Halt.Memory alloc_error) }
+{
+    let key = exact_key(alloc, text)?;
+    Ok(Leaf::new(Term {
+        key,
+        plus: false,
+        exception: None,
+    }))
+}
+
+// The term that a token is by itself.
+pub(crate) fn leaf_of(alloc: Global, kind: Kind, text: &str) -> Result<Leaf, Halt>
+    requires { kind ≡ kind_of text.now }
+    ensures ok { IfOk result (λ t. (o : Option (List ℕ)) × (symbol kind text.now ≡ word t o)) }
+    ensures err { IfErr result (λ h. h ≡ Halt.Unexpected → (t : Term) (o : Option (List ℕ)) → symbol kind text.now ≡ word t o → ⊥) }
+    ensures open { IfErr result (λ h. h ≡ Halt.Unclosed → ⊥) }
+{
+    match kind {
+        Kind::Licence => licence(alloc, text),
+        Kind::LicenceOrLater => licence_or_later(alloc, text),
+        Kind::Reference => reference(alloc, text),
+        _ => Err(Halt::Unexpected),
+    }
+}
+
+// The exception that a token is after `WITH`.
+pub(crate) fn exception_of(alloc: Global, kind: Kind, text: &str) -> Result<Key, Halt>
+    requires { kind ≡ kind_of text.now }
+    ensures ok { IfOk result (λ x. (u : Term) × (symbol kind text.now ≡ word u (Some x))) }
+    ensures well_formed { IfOk result (λ x. IsTrue (is_folded_id x)) }
+    ensures err { IfErr result (λ h. h ≡ Halt.Unexpected → (u : Term) (x : List ℕ) → symbol kind text.now ≡ word u (Some x) → ⊥) }
+    ensures open { IfErr result (λ h. h ≡ Halt.Unclosed → ⊥) }
+{
+    match kind {
+        Kind::Licence => folded_key(alloc, text),
+        _ => Err(Halt::Unexpected),
+    }
+}
+
+// The term with an exception.
+pub(crate) fn excepted(leaf: Leaf, exception: Key) -> Leaf
+    requires { IsTrue (is_folded_id exception) }
+    ensures { result ≡ with_exception leaf exception }
+{
+    let Term {
+        key,
+        plus,
+        exception: _,
+    } = leaf.into_term();
+    Leaf::new(Term {
+        key,
+        plus,
+        exception: Some(exception),
+    })
+}
