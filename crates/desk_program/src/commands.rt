@@ -1,6 +1,6 @@
 //! The subcommands, each a function over what it reads and writes.
 
-ghost use Rattle.std.specs.Prelude.{◌≡◌, ◌++◌, ◌∷◌, [], ℕ, ◌<◌, IfOk, IfErr, List, map};
+ghost use Rattle.std.specs.Prelude.{◌≡◌, ◌++◌, ◌∷◌, [], ℕ, ◌<◌, IfOk, IfErr, OnErr, List, map};
 ghost use Rattle.std.specs.Io.KnownBytes.{Appends, Keeps};
 ghost use Rattle.desk_expr.specs.Faults.{fault_number};
 ghost use Rattle.desk_program.specs.Failures.{IfMemory};
@@ -23,7 +23,8 @@ enum Terms<'a> {
 
 /// The fault, unless it is want of memory, which is handed on.
 fn told(fault: ParseFault) -> Result<ParseFault, AllocError>
-    ensures { IfOk result (λ told. (told ≡ fault) × (0 < fault_number fault)) }
+    ensures told { IfOk result (λ told. (told ≡ fault) × (0 < fault_number fault)) }
+    ensures memory { OnErr result (fault_number fault ≡ 0) }
 {
     match fault {
         ParseFault::Memory(error) => Err(error),
@@ -99,4 +100,72 @@ pub fn check<W: Write>(
     writer.write_all(line.as_bytes())?;
     writer.flush()?;
     Ok(report.status())
+}
+
+#[cfg(test)]
+mod tests {
+    use super::check;
+    use crate::failure::Failure;
+    use std::alloc::Global;
+    use std::io;
+    use std::io::Write;
+
+    /// Takes so many bytes, and fails from then on.
+    #[derive(Drop)]
+    struct Narrow(usize);
+
+    impl Write for Narrow {
+        fn write(&mut self, buf: &[u8]) -> io::Result<usize> {
+            if self.0 == 0 {
+                return Err(io::Error::from(io::ErrorKind::BrokenPipe));
+            }
+            let taken = buf.len().min(self.0);
+            self.0 -= taken;
+            Ok(taken)
+        }
+
+        fn flush(&mut self) -> io::Result<()> {
+            Ok(())
+        }
+    }
+
+    /// The status and the line, which are to be `status` and `line`.
+    fn answers(alloc: Global, expression: &str, words: &[&str], status: u8, line: &str) -> bool {
+        let mut written: Vec<u8> = Vec::new(alloc);
+        match check(alloc, expression, words, &mut written) {
+            Ok(given) => given == status && written.as_slice() == line.as_bytes(),
+            Err(_) => false,
+        }
+    }
+
+    #[test]
+    fn tells_each_verdict(rt: HostRuntime) {
+        let alloc = rt.alloc();
+        let text = "A AND B OR C";
+        assert!(rt; answers(alloc, text, ["C"].as_slice(), 0, "minimal\n"));
+        assert!(rt; answers(alloc, text, ["A", "C"].as_slice(), 1, "superfluous: A\n"));
+        assert!(rt; answers(alloc, text, ["A"].as_slice(), 1, "not enough\n"));
+        assert!(rt; answers(alloc, text, ["A", "é", "+"].as_slice(), 1, "bad term: é\n"));
+        assert!(rt;
+            answers(
+                alloc,
+                "A AND",
+                ["+"].as_slice(),
+                1,
+                "fault: Unexpected at 5\n"
+            )
+        );
+    }
+
+    #[test]
+    fn tells_a_writer_that_fails(rt: HostRuntime) {
+        let words = ["mit"];
+        for room in 0..8usize {
+            let mut writer = Narrow(room);
+            let end = check(rt.alloc(), "MIT", words.as_slice(), &mut writer);
+            assert!(rt; matches!(end, Err(Failure::Write(_))));
+        }
+        let mut writer = Narrow(8);
+        assert!(rt; check(rt.alloc(), "MIT", words.as_slice(), &mut writer).is_ok());
+    }
 }

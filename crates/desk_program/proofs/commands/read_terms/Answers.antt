@@ -9,4 +9,4 @@ loop-word-preserved c = subst (λ ts. SpellTerms (texts (take (c.loop-word.word-
 
 pub returns-in-Err : goal.returns-in-Err
 returns-in-Err c = first_bad c.args.words.now c.loop-word.word-index _ c.loop-word.terms.items c.loop-word-test.true c.loop-word.invariant
-    (c.in-Err.fault, c.in_ok-told-in-Err.ensures.1, c.in-Err.ensures.err)
+    (c.in-Err.fault, c.in_ok-told-in-Err.ensures.told.1, c.in-Err.ensures.err)
