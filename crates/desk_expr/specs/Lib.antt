@@ -15,3 +15,4 @@ pub mod Rest
 pub mod Reading
 pub mod Counting
 pub mod Progress
+pub mod TermReading

@@ -1,6 +1,6 @@
 -- What a run of bytes is, and the term that a word is (SPDX 2.3, Annex D.2 and D.3).
 use Rattle.std.specs.Prelude.{◌≡◌, ℕ, ◌-◌, ◌==◌, ◌||◌, ◌&&◌, not, Bool, true, false, List, [], ◌∷◌, Option, Some, None, if◌then◌else◌, length, take, drop, codes, nat_eq, slice_get}
-use Rattle.std.specs.List.{starts_with, before_first, after_first}
+use Rattle.std.specs.List.{starts_with, ends_with, before_first, after_first}
 use Rattle.std.specs.Str.{bytes_eq}
 use Rattle.desk_base.specs.Idstring.{is_idstring}
 use Rattle.desk_base.specs.Folded.{folded}
@@ -12,11 +12,13 @@ use Rattle.desk_expr.specs.declared.token.Kind.TheVariants.{Opening, Closing, An
 abbrev pub is_local_reference : List ℕ → Bool
 is_local_reference w = starts_with nat_eq w (codes "LicenseRef-") && is_idstring (drop 11 w)
 
+-- `idstring ":" "LicenseRef-" idstring`: the parts before and behind the first colon
+abbrev pub is_reference_of_document : List ℕ → Bool
+is_reference_of_document w = is_idstring (before_first (λ b. b == 58) w) && is_local_reference (after_first (λ b. b == 58) w)
+
 -- `["DocumentRef-" idstring ":"] "LicenseRef-" idstring`
 abbrev pub is_reference : List ℕ → Bool
-is_reference w =
-    is_local_reference w
-    || (starts_with nat_eq w (codes "DocumentRef-") && (is_idstring (before_first (λ b. b == 58) (drop 12 w)) && is_local_reference (after_first (λ b. b == 58) (drop 12 w))))
+is_reference w = is_local_reference w || (starts_with nat_eq w (codes "DocumentRef-") && is_reference_of_document (drop 12 w))
 
 -- a run that begins so is a reference or no word at all
 abbrev pub begins_like_reference : List ℕ → Bool
@@ -26,15 +28,9 @@ begins_like_reference w = starts_with nat_eq w (codes "LicenseRef-") || starts_w
 abbrev pub without_last : List ℕ → List ℕ
 without_last w = take (length w - 1) w
 
--- whether the last byte is a plus
-abbrev pub ends_with_plus : List ℕ → Bool
-ends_with_plus [] = false
-ends_with_plus (b ∷ []) = b == 43
-ends_with_plus (b ∷ c ∷ bs) = ends_with_plus (c ∷ bs)
-
 -- a licence id directly followed by a plus
 abbrev pub is_licence_or_later : List ℕ → Bool
-is_licence_or_later w = ends_with_plus w && is_idstring (without_last w)
+is_licence_or_later w = ends_with nat_eq w (codes "+") && is_idstring (without_last w)
 
 -- what a run that is no operator is
 abbrev pub word_kind : List ℕ → Kind

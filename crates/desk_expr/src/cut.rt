@@ -2,10 +2,12 @@
 //! parentheses.
 
 ghost use Rattle.std.specs.Prelude.{◌≡◌, ◌+◌, ◌≤◌, ◌<◌, ◌^◌, ℕ, All, IsTrue, IfNone, IfSome, length, take, drop, slice_index, false};
+ghost use Rattle.std.specs.Prelude.{◌==◌};
+ghost use Rattle.std.specs.List.{position_or_len};
 ghost use Rattle.std.specs.Str.{IsCharBoundary};
 ghost use Rattle.std.specs.Iterator.{at_most};
 ghost use Rattle.desk_expr.specs.Tokens.{is_blank, is_parenthesis, is_run_byte, IsPiece, IsFirstToken, lexeme};
-ghost use Rattle.desk_expr.specs.Words.{is_local_reference, is_reference, begins_like_reference, is_licence_or_later, word_kind, kind_of};
+ghost use Rattle.desk_expr.specs.Words.{is_local_reference, is_reference_of_document, is_reference, begins_like_reference, is_licence_or_later, word_kind, kind_of};
 
 use crate::token::{Kind, Token};
 use desk_base::is_idstring_of_bytes;
@@ -61,23 +63,35 @@ fn is_local_reference(bytes: &[u8]) -> bool
     bytes.starts_with(b"LicenseRef-") && is_idstring_of_bytes(&bytes[11..])
 }
 
+// Where the first colon stands, or the length where there is none.
+fn colon_place(bytes: &[u8]) -> usize
+    ensures { result ≡ position_or_len (λ b. b == 58) bytes.now }
+{
+    for (place, byte) in bytes.iter().enumerate() {
+        if *byte == b':' {
+            return place;
+        }
+    }
+    bytes.len()
+}
+
+// Whether the bytes are an idstring, a colon and a local reference.
+fn is_reference_of_document(bytes: &[u8]) -> bool
+    ensures { result ≡ is_reference_of_document bytes.now }
+{
+    let colon = colon_place(bytes);
+    if colon == bytes.len() {
+        return false;
+    }
+    is_idstring_of_bytes(&bytes[..colon]) && is_local_reference(&bytes[colon + 1..])
+}
+
 // Whether the bytes are a reference.
 fn is_reference(bytes: &[u8]) -> bool
     ensures { result ≡ is_reference bytes.now }
 {
-    if is_local_reference(bytes) {
-        return true;
-    }
-    if !bytes.starts_with(b"DocumentRef-") {
-        return false;
-    }
-    let named = &bytes[12..];
-    match named.iter().position(|byte| *byte == b':') {
-        Some(colon) => {
-            is_idstring_of_bytes(&named[..colon]) && is_local_reference(&named[colon + 1..])
-        }
-        None => false,
-    }
+    is_local_reference(bytes)
+        || (bytes.starts_with(b"DocumentRef-") && is_reference_of_document(&bytes[12..]))
 }
 
 // Whether the bytes begin as a reference does.
@@ -91,10 +105,7 @@ fn begins_like_reference(bytes: &[u8]) -> bool
 fn is_licence_or_later(bytes: &[u8]) -> bool
     ensures { result ≡ is_licence_or_later bytes.now }
 {
-    match bytes {
-        [front @ .., b'+'] => is_idstring_of_bytes(front),
-        _ => false,
-    }
+    bytes.ends_with(b"+") && is_idstring_of_bytes(&bytes[..bytes.len() - 1])
 }
 
 // What a run that is no operator is.

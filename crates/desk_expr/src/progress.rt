@@ -1,12 +1,11 @@
 //! Reads a text as a licence expression.
 
-ghost use Rattle.std.specs.Prelude.{◌≡◌, ◌↔◌, ℕ, IfOk, IfErr, List, MatchResult};
-ghost use Rattle.desk_expr.specs.declared.token.Token.{Token};
+ghost use Rattle.std.specs.Prelude.{◌≡◌, ℕ, List, [], ◌∷◌, ◌++◌, ◌⊎◌, IfOk, IfErr, alloc_error};
 ghost use Rattle.desk_expr.specs.Tree.{Tree};
 ghost use Rattle.desk_expr.specs.Tokens.{Lexeme, lexeme};
 ghost use Rattle.desk_expr.specs.Grammar.{SpellsTree};
 ghost use Rattle.desk_expr.specs.Words.{kind_of};
-ghost use Rattle.desk_expr.specs.Spelling.{Spells, SpellsWithin, IsStop};
+ghost use Rattle.desk_expr.specs.Spelling.{symbols, Spells, SpellsWithin, IsStop};
 
 use crate::counts::Counts;
 use crate::cut::tokens;
@@ -69,7 +68,10 @@ impl Progress {
     }
 
     // The tree, where a text of this length ends here.
-    fn finish(self, length: usize) -> Result<Expr, ParseFault> {
+    fn finish(self, length: usize) -> Result<Expr, ParseFault>
+        ensures ok { IfOk result (λ e. (front : List Lexeme) → HasRead front self → SpellsTree (symbols front) e) }
+        ensures err { IfErr result (λ f. (front : List Lexeme) → HasRead front self → EndsAfter front length f) }
+    {
         let Progress {
             reader,
             counts,
@@ -88,7 +90,12 @@ impl Progress {
 }
 
 /// The expression that the text spells (SPDX 2.3, Annex D), or the first place at which it stops.
-pub fn parse(alloc: Global, text: &str) -> Result<Expr, ParseFault> {
+pub fn parse(alloc: Global, text: &str) -> Result<Expr, ParseFault>
+    ensures spelled { IfOk result (SpellsWithin text.now) }
+    ensures stop { IfErr result (IsStop SpellsTree text.now) }
+    ensures complete { IfErr result (λ f. f ≡ ParseFault.Memory alloc_error ⊎ ((e : Tree) → SpellsWithin text.now e → ⊥)) }
+    ensures only { (a b : Tree) → Spells text.now a → Spells text.now b → a ≡ b }
+{
     if text.len() > limits::EXPRESSION_BYTES {
         return Err(ParseFault::TooLong(0));
     }

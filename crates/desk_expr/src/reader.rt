@@ -107,14 +107,14 @@ fn operand(
                 state: State::Operand,
             })
         }
-        _ => {
-            let leaf = leaf_of(alloc, token.kind, token.text)?;
-            Ok(Reader {
+        _ => match leaf_of(alloc, token.kind, token.text) {
+            Ok(leaf) => Ok(Reader {
                 outer,
                 inner,
                 state: State::Word(leaf),
-            })
-        }
+            }),
+            Err(halt) => Err(halt),
+        },
     }
 }
 

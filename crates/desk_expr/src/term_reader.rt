@@ -1,5 +1,13 @@
 //! Reads a text as one licence term.
 
+ghost use Rattle.std.specs.Prelude.{◌≡◌, ℕ, List, ◌∷◌, [], ◌++◌, ◌⊎◌, IfOk, IfErr, alloc_error};
+ghost use Rattle.desk_expr.specs.declared.term.Term.{Term};
+ghost use Rattle.desk_expr.specs.Tokens.{Lexeme, lexeme};
+ghost use Rattle.desk_expr.specs.Grammar.{SpellsTerm};
+ghost use Rattle.desk_expr.specs.Words.{kind_of};
+ghost use Rattle.desk_expr.specs.Spelling.{symbol, SpellsTermWithin, IsStop};
+ghost use Rattle.desk_expr.specs.TermReading.{TermSteps, TermStops, TermEnds, TermFalls};
+
 use crate::cut::tokens;
 use crate::expr::Leaf;
 use crate::fault::ParseFault;
@@ -24,7 +32,11 @@ pub(crate) enum TermState {
 
 impl TermState {
     // Reads one token.
-    fn step(self, alloc: Global, token: &Token<'_>) -> Result<TermState, Halt> {
+    fn step(self, alloc: Global, token: &Token<'_>) -> Result<TermState, Halt>
+        requires { token.now.kind ≡ kind_of token.now.text.now }
+        ensures ok { IfOk result (TermSteps self (symbol token.now.kind token.now.text.now)) }
+        ensures err { IfErr result (TermStops self (symbol token.now.kind token.now.text.now)) }
+    {
         match self {
             TermState::Start => Ok(TermState::Word(leaf_of(alloc, token.kind, token.text)?)),
             TermState::Word(leaf) => match token.kind {
@@ -40,7 +52,10 @@ impl TermState {
     }
 
     // The term, where a text of this length ends here.
-    fn finish(self, length: usize) -> Result<Term, ParseFault> {
+    fn finish(self, length: usize) -> Result<Term, ParseFault>
+        ensures ok { IfOk result (TermEnds self) }
+        ensures err { IfErr result (TermFalls self length) }
+    {
         match self {
             TermState::Start => Err(ParseFault::Empty(0)),
             TermState::Word(leaf) | TermState::Done(leaf) => Ok(leaf.into_term()),
@@ -51,7 +66,12 @@ impl TermState {
 
 /// The term that the text spells: a licence id, perhaps with a plus, or a reference, and perhaps
 /// `WITH` and an exception id (SPDX 2.3, Annex D.2 and D.4); or the first place at which it stops.
-pub fn parse_term(alloc: Global, text: &str) -> Result<Term, ParseFault> {
+pub fn parse_term(alloc: Global, text: &str) -> Result<Term, ParseFault>
+    ensures spelled { IfOk result (SpellsTermWithin text.now) }
+    ensures stop { IfErr result (IsStop SpellsTerm text.now) }
+    ensures complete { IfErr result (λ f. f ≡ ParseFault.Memory alloc_error ⊎ ((t : Term) → SpellsTermWithin text.now t → ⊥)) }
+    ensures only { (a b : Term) → SpellsTermWithin text.now a → SpellsTermWithin text.now b → a ≡ b }
+{
     if text.len() > limits::EXPRESSION_BYTES {
         return Err(ParseFault::TooLong(0));
     }

@@ -3,8 +3,9 @@
 //! No memory is taken. Of `n` leaves and `m` chosen terms, `holds` compares at most `n * m` terms,
 //! and `check_choice` at most `n * m * (2 + m / 64)`: the chosen terms are left out by 64 at once.
 
-ghost use Rattle.std.specs.Prelude.{◌≡◌, ◌↔◌, ◌≢◌, ◌<◌, ◌≤◌, ℕ, length, IsTrue, IfSome, IfNone, Contains};
+ghost use Rattle.std.specs.Prelude.{◌≡◌, ◌↔◌, ◌≢◌, ◌<◌, ◌≤◌, ℕ, length, slice_get, Some, IsTrue, IfSome, IfNone, Contains};
 ghost use Rattle.std.specs.Int.{bit_at};
+ghost use Rattle.desk_expr.specs.declared.term.Term.{Term};
 ghost use Rattle.desk_expr.specs.Meaning.{Holds, Without, CanGo, IsMinimal, IsFirst};
 ghost use Rattle.desk_expr.specs.Marks.{Marks};
 
@@ -121,6 +122,17 @@ fn first_mark(marks: u64, size: usize) -> Option<usize>
     None
 }
 
+// The first candidate without which the chosen terms satisfy the expression.
+fn first_to_go(expr: &Expr, chosen: &[Term], candidates: &[Term]) -> Option<usize>
+    requires { length candidates.now ≤ 64 }
+    ensures found { IfSome result (λ k. (t : Term) × (slice_get candidates.now k ≡ Some t) × Holds (Without chosen.now t) expr.now) }
+    ensures first { IfSome result (λ k. (j : ℕ) (t : Term) → j < k → slice_get candidates.now j ≡ Some t → Holds (Without chosen.now t) expr.now → ⊥) }
+    ensures none { IfNone result ((j : ℕ) (t : Term) → slice_get candidates.now j ≡ Some t → Holds (Without chosen.now t) expr.now → ⊥) }
+{
+    let marks = expr.holds_without(chosen, candidates);
+    first_mark(marks, candidates.len())
+}
+
 /// Whether the chosen terms satisfy the expression. The list stands for the set of its terms.
 pub fn holds(expr: &Expr, chosen: &[Term]) -> bool
     ensures { IsTrue result ↔ Holds (Contains chosen.now) expr.now }
@@ -141,8 +153,7 @@ pub fn check_choice(expr: &Expr, chosen: &[Term]) -> Verdict
     let mut from = 0;
     while from < chosen.len() {
         let size = (chosen.len() - from).min(64);
-        let marks = expr.holds_without(chosen, &chosen[from..from + size]);
-        if let Some(k) = first_mark(marks, size) {
+        if let Some(k) = first_to_go(expr, chosen, &chosen[from..from + size]) {
             return Verdict::Superfluous(from + k);
         }
         from += size;

@@ -102,7 +102,7 @@ pub(crate) fn leaf_of(alloc: Global, kind: Kind, text: &str) -> Result<Leaf, Hal
     requires { kind ≡ kind_of text.now }
     ensures ok { IfOk result (λ t. (o : Option (List ℕ)) × (symbol kind text.now ≡ word t o)) }
     ensures err { IfErr result (λ h. h ≡ Halt.Unexpected → (t : Term) (o : Option (List ℕ)) → symbol kind text.now ≡ word t o → ⊥) }
-    ensures open { IfErr result (λ h. h ≡ Halt.Unclosed → ⊥) }
+    ensures closed { IfErr result (λ h. h ≡ Halt.Unclosed → ⊥) }
 {
     match kind {
         Kind::Licence => licence(alloc, text),
@@ -118,7 +118,7 @@ pub(crate) fn exception_of(alloc: Global, kind: Kind, text: &str) -> Result<Key,
     ensures ok { IfOk result (λ x. (u : Term) × (symbol kind text.now ≡ word u (Some x))) }
     ensures well_formed { IfOk result (λ x. IsTrue (is_folded_id x)) }
     ensures err { IfErr result (λ h. h ≡ Halt.Unexpected → (u : Term) (x : List ℕ) → symbol kind text.now ≡ word u (Some x) → ⊥) }
-    ensures open { IfErr result (λ h. h ≡ Halt.Unclosed → ⊥) }
+    ensures closed { IfErr result (λ h. h ≡ Halt.Unclosed → ⊥) }
 {
     match kind {
         Kind::Licence => folded_key(alloc, text),

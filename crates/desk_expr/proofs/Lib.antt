@@ -1,0 +1,11 @@
+pub mod Parts
+pub mod Terms
+pub mod Minimal
+pub mod Cuts
+pub mod WordLemmas
+pub mod Runs
+pub mod Residual
+pub mod Steps
+pub mod SymbolLemmas
+pub mod MarkLemmas
+pub mod GoLemmas

@@ -1,0 +1,134 @@
+-- Bits that tell of which candidates a fact holds.
+use Rattle.std.proofs.Common.{◌≡◌, ◌↔◌, ◌∙◌, ◌⊎◌, inl, inr, ℕ, zero, suc, ◌+◌, ◌-◌, ◌<◌, ◌≤◌, ◌^◌, min, max, ◌*◌, ◌%◌, ⊎_elim, List, [], ◌∷◌, length, take, drop, get_or, sym, subst, ap, refl, arith, Option, Some, None}
+use Rattle.std.specs.Prelude.{slice_get, Contains, ◌≢◌, bit_and, bit_or}
+use Rattle.std.specs.Int.{bit_at}
+use Rattle.std.proofs.lemmas.Option.{slice_get_within}
+use Rattle.std.proofs.lemmas.Nat.Bits.{bit_at_and, bit_at_or, bit_at-lt, bit_at_ones, bit_at_set_same, bit_at_set_other}
+use Rattle.std.proofs.str.Laws.{order}
+use Rattle.std.specs.Int.{w64}
+use mir.Val.{bits}
+use Rattle.desk_expr.specs.declared.term.Term.{Term}
+use Rattle.desk_expr.specs.Tree.{Tree, one, parts_of}
+use Rattle.desk_expr.specs.Meaning.{Holds, AllHold, SomeHolds, Without, CanGo}
+use Rattle.desk_expr.proofs.Parts.{all_hold-drop, some_holds-drop}
+
+-- ---- one bit
+
+pub both_set : (a b k : ℕ) → (bit_at (bit_and a b) k ≡ 1) ↔ ((bit_at a k ≡ 1) × (bit_at b k ≡ 1))
+both_set a b k =
+    let is = bit_at_and a b k in
+    let low = bit_at-lt a k in
+    let low' = bit_at-lt b k in
+    ((λ h. (omega (arith, h, is, low, low'), omega (arith, h, is, low, low'))), (λ h. omega (arith, h.0, h.1, is)))
+
+either_set_from : (a b : ℕ) → a < 2 → b < 2 → max a b ≡ 1 → (a ≡ 1) ⊎ (b ≡ 1)
+either_set_from zero b low low' h = inr (omega arith)
+either_set_from (suc zero) b low low' h = inl refl
+either_set_from (suc (suc a)) b low low' h = absurd (omega arith)
+
+pub either_set : (a b k : ℕ) → (bit_at (bit_or a b) k ≡ 1) ↔ ((bit_at a k ≡ 1) ⊎ (bit_at b k ≡ 1))
+either_set a b k =
+    let is = bit_at_or a b k in
+    let low = bit_at-lt a k in
+    let low' = bit_at-lt b k in
+    (
+      (λ h. either_set_from (bit_at a k) (bit_at b k) low low' (sym is ∙ h)),
+      (λ h. elim h [ inl x ↦ omega (arith, x, is, low, low') | inr y ↦ omega (arith, y, is, low, low') ]),
+    )
+
+pub ones_set : (n k : ℕ) → n ≤ 64 → k < n → bit_at 18446744073709551615 k ≡ 1
+ones_set n k few within = bit_at_ones 64 k (omega arith)
+
+-- ---- the parts of a node
+
+pub all_marked : (set : Term → Type 0) (parts : List Tree) (i : ℕ) (d : Tree) (marks more k : ℕ) → i < length parts
+    → (AllHold set (parts_of parts) ↔ ((bit_at marks k ≡ 1) × AllHold set (parts_of (drop i parts))))
+    → ((bit_at more k ≡ 1) ↔ Holds set (get_or parts i d))
+    → AllHold set (parts_of parts) ↔ ((bit_at (bit_and marks more) k ≡ 1) × AllHold set (parts_of (drop (i + 1) parts)))
+all_marked set parts i d marks more k within so_far here =
+    let first = all_hold-drop set parts i d within in
+    let bits = both_set marks more k in (
+      (λ h. let a = so_far.0 h in let b = first.0 a.1 in (bits.1 (a.0, here.1 b.0), b.1)),
+      (λ h. let a = bits.0 h.0 in so_far.1 (a.0, first.1 (here.0 a.1, h.1))),
+    )
+
+pub some_marked : (set : Term → Type 0) (parts : List Tree) (i : ℕ) (d : Tree) (marks more k : ℕ) → i < length parts
+    → (SomeHolds set (parts_of parts) ↔ ((bit_at marks k ≡ 1) ⊎ SomeHolds set (parts_of (drop i parts))))
+    → ((bit_at more k ≡ 1) ↔ Holds set (get_or parts i d))
+    → SomeHolds set (parts_of parts) ↔ ((bit_at (bit_or marks more) k ≡ 1) ⊎ SomeHolds set (parts_of (drop (i + 1) parts)))
+some_marked set parts i d marks more k within so_far here =
+    let first = some_holds-drop set parts i d within in
+    let bits = either_set marks more k in (
+      (λ h. elim (so_far.0 h) [
+        | inl a ↦ inl (bits.1 (inl a))
+        | inr b ↦ elim (first.0 b) [ inl x ↦ inl (bits.1 (inr (here.1 x))) | inr y ↦ inr y ]
+      ]),
+      (λ h. elim h [
+        | inl a ↦ elim (bits.0 a) [ inl x ↦ so_far.1 (inl x) | inr y ↦ so_far.1 (inr (first.1 (inl (here.0 y)))) ]
+        | inr b ↦ so_far.1 (inr (first.1 (inr b)))
+      ]),
+    )
+
+-- ---- a part of a list
+
+slice_get-take : {X : Type 0} (ys : List X) (size k : ℕ) → k < size → slice_get (take size ys) k ≡ slice_get ys k
+slice_get-take [] zero k within = refl
+slice_get-take [] (suc size) k within = refl
+slice_get-take (y ∷ ys) zero k within = absurd (omega arith)
+slice_get-take (y ∷ ys) (suc size) zero within = refl
+slice_get-take (y ∷ ys) (suc size) (suc k) within = slice_get-take ys size k (omega arith)
+
+slice_get-drop : {X : Type 0} (xs : List X) (from k j : ℕ) → j ≡ from + k → slice_get (drop from xs) k ≡ slice_get xs j
+slice_get-drop [] zero k j is = refl
+slice_get-drop [] (suc from) k j is = refl
+slice_get-drop (x ∷ xs) zero k j is = let same : k ≡ j = omega arith in ap (slice_get (x ∷ xs)) same
+slice_get-drop (x ∷ xs) (suc from) k zero is = absurd (omega arith)
+slice_get-drop (x ∷ xs) (suc from) k (suc j) is = slice_get-drop xs from k j (omega arith)
+
+pub slice_get_window : {X : Type 0} (xs : List X) (from size k : ℕ) → k < size → slice_get (take (from + size - from) (drop from xs)) k ≡ slice_get xs (from + k)
+slice_get_window xs from size k within =
+    slice_get-take (drop from xs) (from + size - from) k (omega arith) ∙ slice_get-drop xs from k (from + k) refl
+
+-- ---- one candidate after another
+
+-- what is told below a place
+abbrev pub ToldBelow : List Term → Term → ℕ → ℕ → Type 0
+ToldBelow candidates term marks k = (j : ℕ) (gone : Term) → j < k → slice_get candidates j ≡ Some gone → (bit_at marks j ≡ 1) ↔ (term ≢ gone)
+
+abbrev pub UnsetFrom : ℕ → ℕ → Type 0
+UnsetFrom marks k = (j : ℕ) → k < j + 1 → bit_at marks j ≡ 0
+
+same_item : (candidates : List Term) (i j : ℕ) (x y : Term) → i ≡ j → slice_get candidates i ≡ Some x → slice_get candidates j ≡ Some y → x ≡ y
+same_item candidates i j x y same at at' = let is : slice_get candidates i ≡ slice_get candidates j = ap (slice_get candidates) same in cc
+
+pub told_set : (candidates : List Term) (term item : Term) (marks k : ℕ) → k < 64 → slice_get candidates k ≡ Some item → (term ≢ item) → ToldBelow candidates term marks k → ToldBelow candidates term (bit_or marks (1 * 2 ^ k % 2 ^ bits w64)) (k + 1)
+told_set candidates term item marks k low at other told j gone within at' =
+    ⊎_elim
+    (λ below. let ne : j ≢ k = omega arith in rw (bit_at_set_other w64 marks k low j ne) (told j gone below at'))
+    (λ above.
+        let is : j ≡ k = omega arith in
+        let set : bit_at (bit_or marks (1 * 2 ^ k % 2 ^ bits w64)) j ≡ 1 = ap (bit_at (bit_or marks (1 * 2 ^ k % 2 ^ bits w64))) is ∙ bit_at_set_same w64 marks k low in
+        let same : item ≡ gone = same_item candidates k j item gone (sym is) at at' in
+        ((λ h e. other (e ∙ sym same)), (λ h. set)))
+    (order j k)
+
+pub told_kept : (candidates : List Term) (term item : Term) (marks k : ℕ) → slice_get candidates k ≡ Some item → term ≡ item → ToldBelow candidates term marks k → UnsetFrom marks k → ToldBelow candidates term marks (k + 1)
+told_kept candidates term item marks k at is told unset j gone within at' =
+    ⊎_elim
+    (λ below. told j gone below at')
+    (λ above.
+        let j_is : j ≡ k = omega arith in
+        let zero_bit : bit_at marks j ≡ 0 = unset j (omega arith) in
+        let same : item ≡ gone = same_item candidates k j item gone (sym j_is) at at' in
+        ((λ h. absurd (omega (arith, h, zero_bit))), (λ h. absurd (h (is ∙ same)))))
+    (order j k)
+
+pub unset_set : (marks k : ℕ) → k < 64 → UnsetFrom marks k → UnsetFrom (bit_or marks (1 * 2 ^ k % 2 ^ bits w64)) (k + 1)
+unset_set marks k low unset j above =
+    let ne : j ≢ k = omega arith in
+    rw (bit_at_set_other w64 marks k low j ne) (unset j (omega arith))
+
+pub item_at : (candidates : List Term) (k : ℕ) → k < length candidates → (t : Term) × (slice_get candidates k ≡ Some t)
+item_at [] k within = absurd (omega arith)
+item_at (x ∷ xs) zero within = (x, refl)
+item_at (x ∷ xs) (suc k) within = item_at xs k (omega arith)

@@ -1,0 +1,135 @@
+-- What the kind of a token says of its bytes, and that words are well-formed terms.
+use Rattle.std.proofs.Common.{◌≡◌, ◌∙◌, ℕ, ◌+◌, ◌<◌, List, [], ◌∷◌, length, Bool, true, false, refl, sym, ap, arith, add-zero, Option, Some, None, take, drop, get_or, codes, nat_eq}
+use Rattle.std.specs.Prelude.{IsTrue, nat_lt, ◌&&◌, ◌||◌, not, map, if◌then◌else◌, ◌-◌}
+use Rattle.std.specs.Bool.{Decides}
+use Rattle.std.specs.Char.{to_ascii_lowercase}
+use Rattle.std.specs.List.{list_all, ends_with}
+use Rattle.std.specs.Str.{bytes_eq}
+use Rattle.std.proofs.lemmas.Bool.Decides.{nat_tests}
+use Rattle.std.proofs.lemmas.Str.Ascii.{lowercase-lowercase}
+use Rattle.std.proofs.lemmas.Slice.Eq.{bytes_eq-Decides}
+use Rattle.std.proofs.lemmas.List.{length-map, get_or-drop}
+use Rattle.desk_base.specs.Idstring.{is_idstring_byte, is_idstring}
+use Rattle.desk_base.specs.Folded.{folded}
+use Rattle.desk_expr.specs.declared.token.Kind.{Kind}
+use Rattle.desk_expr.specs.declared.token.Kind.TheVariants.{Opening, Closing, And, Or, With, Licence, LicenceOrLater, Reference, Bad}
+use Rattle.desk_expr.specs.Words.{is_reference, begins_like_reference, is_licence_or_later, without_last, kind_of, is_folded_id, is_exception, is_term}
+use Rattle.desk_expr.specs.declared.term.Term.{Term}
+
+-- ---- kinds
+
+licence_tests : (o c a r w b f i l : Bool) →
+    Licence ≡ (if o then Opening else (if c then Closing else (if a then And else (if r then Or else (if w then With else (if b then (if f then Reference else Bad) else (if i then Licence else (if l then LicenceOrLater else Bad)))))))) → i ≡ true
+licence_tests true c a r w b f i l h = absurd (cc)
+licence_tests false true a r w b f i l h = absurd (cc)
+licence_tests false false true r w b f i l h = absurd (cc)
+licence_tests false false false true w b f i l h = absurd (cc)
+licence_tests false false false false true b f i l h = absurd (cc)
+licence_tests false false false false false true true i l h = absurd (cc)
+licence_tests false false false false false true false i l h = absurd (cc)
+licence_tests false false false false false false f true l h = refl
+licence_tests false false false false false false f false true h = absurd (cc)
+licence_tests false false false false false false f false false h = absurd (cc)
+
+or_later_tests : (o c a r w b f i l : Bool) →
+    LicenceOrLater ≡ (if o then Opening else (if c then Closing else (if a then And else (if r then Or else (if w then With else (if b then (if f then Reference else Bad) else (if i then Licence else (if l then LicenceOrLater else Bad)))))))) → l ≡ true
+or_later_tests true c a r w b f i l h = absurd (cc)
+or_later_tests false true a r w b f i l h = absurd (cc)
+or_later_tests false false true r w b f i l h = absurd (cc)
+or_later_tests false false false true w b f i l h = absurd (cc)
+or_later_tests false false false false true b f i l h = absurd (cc)
+or_later_tests false false false false false true true i l h = absurd (cc)
+or_later_tests false false false false false true false i l h = absurd (cc)
+or_later_tests false false false false false false f true l h = absurd (cc)
+or_later_tests false false false false false false f false true h = refl
+or_later_tests false false false false false false f false false h = absurd (cc)
+
+reference_tests : (o c a r w b f i l : Bool) →
+    Reference ≡ (if o then Opening else (if c then Closing else (if a then And else (if r then Or else (if w then With else (if b then (if f then Reference else Bad) else (if i then Licence else (if l then LicenceOrLater else Bad)))))))) → f ≡ true
+reference_tests true c a r w b f i l h = absurd (cc)
+reference_tests false true a r w b f i l h = absurd (cc)
+reference_tests false false true r w b f i l h = absurd (cc)
+reference_tests false false false true w b f i l h = absurd (cc)
+reference_tests false false false false true b f i l h = absurd (cc)
+reference_tests false false false false false true true i l h = refl
+reference_tests false false false false false true false i l h = absurd (cc)
+reference_tests false false false false false false f true l h = absurd (cc)
+reference_tests false false false false false false f false true h = absurd (cc)
+reference_tests false false false false false false f false false h = absurd (cc)
+
+pub licence_is_idstring : (w : List ℕ) → Licence ≡ kind_of w → is_idstring w ≡ true
+licence_is_idstring w h = licence_tests (bytes_eq w (codes "(")) (bytes_eq w (codes ")")) (bytes_eq w (codes "AND")) (bytes_eq w (codes "OR")) (bytes_eq w (codes "WITH")) (begins_like_reference w) (is_reference w) (is_idstring w) (is_licence_or_later w) h
+
+pub or_later_is : (w : List ℕ) → LicenceOrLater ≡ kind_of w → is_licence_or_later w ≡ true
+or_later_is w h = or_later_tests (bytes_eq w (codes "(")) (bytes_eq w (codes ")")) (bytes_eq w (codes "AND")) (bytes_eq w (codes "OR")) (bytes_eq w (codes "WITH")) (begins_like_reference w) (is_reference w) (is_idstring w) (is_licence_or_later w) h
+
+pub reference_is : (w : List ℕ) → Reference ≡ kind_of w → is_reference w ≡ true
+reference_is w h = reference_tests (bytes_eq w (codes "(")) (bytes_eq w (codes ")")) (bytes_eq w (codes "AND")) (bytes_eq w (codes "OR")) (bytes_eq w (codes "WITH")) (begins_like_reference w) (is_reference w) (is_idstring w) (is_licence_or_later w) h
+
+-- ---- folded ids
+
+lowercase_byte : (b : ℕ) → is_idstring_byte b ≡ true → is_idstring_byte (to_ascii_lowercase b) ≡ true
+lowercase_byte b h = grind (arith, nat_tests)
+
+and_true : (x y : Bool) → (x && y) ≡ true → (x ≡ true) × (y ≡ true)
+and_true true true h = (refl, refl)
+and_true true false h = absurd (cc)
+and_true false y h = absurd (cc)
+
+pub both_true : (x y : Bool) → x ≡ true → y ≡ true → (x && y) ≡ true
+both_true x y h k = (λ i. h i && k i)
+
+folded_bytes : (w : List ℕ) → list_all is_idstring_byte w ≡ true → list_all is_idstring_byte (folded w) ≡ true
+folded_bytes [] h = refl
+folded_bytes (b ∷ bs) h =
+    let parts = and_true (is_idstring_byte b) (list_all is_idstring_byte bs) h in
+    both_true (is_idstring_byte (to_ascii_lowercase b)) (list_all is_idstring_byte (folded bs)) (lowercase_byte b parts.0) (folded_bytes bs parts.1)
+
+folded_idstring : (w : List ℕ) → is_idstring w ≡ true → is_idstring (folded w) ≡ true
+folded_idstring w h =
+    let parts = and_true (nat_lt 0 (length w)) (list_all is_idstring_byte w) h in
+    both_true (nat_lt 0 (length (folded w))) (list_all is_idstring_byte (folded w)) (rw length-map parts.0) (folded_bytes w parts.1)
+
+pub folded_twice : (w : List ℕ) → folded (folded w) ≡ folded w
+folded_twice [] = refl
+folded_twice (b ∷ bs) = (λ i. lowercase-lowercase b i ∷ folded_twice bs i)
+
+-- an id that is folded is a folded id
+pub folded_id : (w : List ℕ) → is_idstring w ≡ true → is_folded_id (folded w) ≡ true
+folded_id w h =
+    both_true (is_idstring (folded w)) (bytes_eq (folded (folded w)) (folded w)) (folded_idstring w h) ((bytes_eq-Decides (folded (folded w)) (folded w)).1 (folded_twice w))
+
+-- ---- well-formed terms
+
+or_left : (x y : Bool) → x ≡ true → (x || y) ≡ true
+or_left x y h = (λ i. h i || y)
+
+or_right : (x y : Bool) → y ≡ true → (x || y) ≡ true
+or_right true y h = refl
+or_right false y h = h
+
+pub licence_is_term : (w k : List ℕ) → k ≡ folded w → Licence ≡ kind_of w → is_term (record { key = k; plus = false; exception = None }) ≡ true
+licence_is_term w k is h =
+    rw is (both_true (is_folded_id (folded w) || (is_reference (folded w) && true)) true (or_left (is_folded_id (folded w)) (is_reference (folded w) && true) (folded_id w (licence_is_idstring w h))) refl)
+
+pub or_later_is_term : (w k : List ℕ) → k ≡ folded (without_last w) → LicenceOrLater ≡ kind_of w → is_term (record { key = k; plus = true; exception = None }) ≡ true
+or_later_is_term w k is h =
+    let id : is_idstring (without_last w) ≡ true = (and_true (ends_with nat_eq w (codes "+")) (is_idstring (without_last w)) (or_later_is w h)).1 in
+    rw is (both_true (is_folded_id (folded (without_last w)) || (is_reference (folded (without_last w)) && false)) true (or_left (is_folded_id (folded (without_last w))) (is_reference (folded (without_last w)) && false) (folded_id (without_last w) id)) refl)
+
+pub reference_is_term : (w k : List ℕ) → k ≡ w → Reference ≡ kind_of w → is_term (record { key = k; plus = false; exception = None }) ≡ true
+reference_is_term w k is h =
+    rw is (both_true (is_folded_id w || (is_reference w && true)) true (or_right (is_folded_id w) (is_reference w && true) (both_true (is_reference w) true (reference_is w h) refl)) refl)
+
+-- a well-formed term stays one with another exception
+pub excepted_is_term : (t : Term) (x : List ℕ) → is_term t ≡ true → is_folded_id x ≡ true → is_term (record t { exception = Some x }) ≡ true
+excepted_is_term t x h k =
+    both_true (is_folded_id t.key || (is_reference t.key && not t.plus)) (is_folded_id x) (and_true (is_folded_id t.key || (is_reference t.key && not t.plus)) (is_exception t.exception) h).0 k
+
+-- ---- the plus at the end
+
+pub last_is_plus : (w : List ℕ) → LicenceOrLater ≡ kind_of w → get_or w (length w - 1) 0 ≡ 43
+last_is_plus w h =
+    let ends : bytes_eq (codes "+") (drop (length w - 1) w) ≡ true = (and_true (ends_with nat_eq w (codes "+")) (is_idstring (without_last w)) (or_later_is w h)).0 in
+    let is : codes "+" ≡ drop (length w - 1) w = (bytes_eq-Decides (codes "+") (drop (length w - 1) w)).0 ends in
+    ap (λ k. get_or w k 0) (sym (add-zero (length w - 1))) ∙ sym (get_or-drop (length w - 1) w 0 0) ∙ ap (λ l. get_or l 0 0) (sym is)

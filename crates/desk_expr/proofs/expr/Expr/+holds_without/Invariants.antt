@@ -1,0 +1,20 @@
+use Rattle.std.proofs.Common.{◌≡◌, ◌↔◌, ◌⊎◌, ℕ, ◌<◌, ◌^◌, drop, Some}
+use Rattle.std.specs.Prelude.{slice_get}
+use Rattle.std.specs.Int.{bit_at}
+use Rattle.desk_expr.specs.declared.term.Term.{Term}
+use Rattle.desk_expr.specs.Tree.{parts_of}
+use Rattle.desk_expr.specs.Meaning.{AllHold, SomeHolds, Without}
+use Rattle.desk_expr.proofs.expr.Expr.+holds_without.Given as goal
+
+-- all parts hold where the bit is set and the parts from the index on hold
+abbrev pub invariant-loop-part : goal.invariant-loop-part
+invariant-loop-part l =
+    (k : ℕ) (gone : Term) → slice_get l.candidates k ≡ Some gone →
+    AllHold (Without l.chosen gone) (parts_of l.part-items)
+    ↔ ((bit_at l.marks k ≡ 1) × AllHold (Without l.chosen gone) (parts_of (drop l.part-index l.part-items)))
+
+abbrev pub invariant-loop-part-2 : goal.invariant-loop-part-2
+invariant-loop-part-2 l =
+    (k : ℕ) (gone : Term) → slice_get l.candidates k ≡ Some gone →
+    SomeHolds (Without l.chosen gone) (parts_of l.part-items)
+    ↔ ((bit_at l.marks k ≡ 1) ⊎ SomeHolds (Without l.chosen gone) (parts_of (drop l.part-index l.part-items)))
