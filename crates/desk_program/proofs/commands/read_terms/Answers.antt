@@ -5,8 +5,8 @@ use Rattle.desk_program.proofs.commands.read_terms.Goals as goal
 
 pub loop-word-preserved : goal.loop-word-preserved
 loop-word-preserved c = subst (λ ts. SpellTerms (texts (take (c.loop-word.word-index + 1) c.args.words.now)) ts) (sym c.in_ok-push-in-Ok.ensures.items)
-    (spell_next c.args.words.now c.loop-word.word-index _ c.loop-word.terms.items c.in-Ok.term c.loop-word-test.true c.loop-word.invariant c.in-Ok.ensures.ok)
+    (spell_next c.args.words.now c.loop-word.word-index _ c.loop-word.terms.items c.in-Ok.term c.loop-word-test.true c.loop-word.invariant c.in-Ok.ensures.spelled)
 
 pub returns-in-Err : goal.returns-in-Err
 returns-in-Err c = first_bad c.args.words.now c.loop-word.word-index _ c.loop-word.terms.items c.loop-word-test.true c.loop-word.invariant
-    (c.in-Err.fault, c.in_ok-told-in-Err.ensures.told.1, c.in-Err.ensures.err)
+    (c.in-Err.fault, c.in_ok-told-in-Err.ensures.told.1, c.in-Err.ensures.stop)

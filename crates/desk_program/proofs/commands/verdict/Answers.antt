@@ -2,9 +2,6 @@ use Rattle.std.proofs.Common.{◌<◌, length, refl, arith}
 use Rattle.desk_program.proofs.ReportLemmas.{word_at, text_at}
 use Rattle.desk_program.proofs.commands.verdict.Goals as goal
 
-pub check_choice-requires : goal.check_choice-requires
-check_choice-requires c = ?
-
 pub prove-unreachable-requires : goal.prove-unreachable-requires
 prove-unreachable-requires c =
     let at = (c.in-Superfluous.ensures.superfluous c.in-Superfluous.place refl).0 in
