@@ -9,3 +9,8 @@ pub mod Steps
 pub mod SymbolLemmas
 pub mod MarkLemmas
 pub mod GoLemmas
+pub mod Lexing
+pub mod Unambiguous
+pub mod Balance
+pub mod ProgressLemmas
+pub mod ParseLemmas

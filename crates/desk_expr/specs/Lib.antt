@@ -16,3 +16,4 @@ pub mod Reading
 pub mod Counting
 pub mod Progress
 pub mod TermReading
+pub mod Halting

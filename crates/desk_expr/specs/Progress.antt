@@ -41,10 +41,9 @@ StopsAfter front t (TooManyTerms place) = Reason SpellsTree front t (TooManyTerm
 
 -- the tokens can't end a text of this length
 abbrev pub EndsAfter : List Lexeme → ℕ → ParseFault → Type 0
-EndsAfter [] end (Empty place) = place ≡ 0
-EndsAfter (t ∷ ts) end (Empty place) = ⊥
-EndsAfter ts end (Unexpected place) = EndReason SpellsTree end ts (Unexpected place)
-EndsAfter ts end (Unclosed place) = EndReason SpellsTree end ts (Unclosed place)
+EndsAfter ts end (Empty place) = (is_started ts ≡ false) × (place ≡ 0)
+EndsAfter ts end (Unexpected place) = (is_started ts ≡ true) × EndReason SpellsTree end ts (Unexpected place)
+EndsAfter ts end (Unclosed place) = (is_started ts ≡ true) × EndReason SpellsTree end ts (Unclosed place)
 EndsAfter ts end (Memory error) = Unit {0}
 EndsAfter ts end (BadToken place) = ⊥
 EndsAfter ts end (TooDeep place) = ⊥

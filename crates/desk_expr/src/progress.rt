@@ -12,8 +12,8 @@ use crate::cut::tokens;
 use crate::expr::Expr;
 use crate::fault::ParseFault;
 use crate::reader::Reader;
-use crate::token::{Kind, Token};
-use crate::word::Halt;
+use crate::token::Token;
+use crate::word::{Halt, is_bad};
 use desk_base::limits;
 use std::alloc::Global;
 
@@ -44,7 +44,7 @@ impl Progress {
         ensures ok { IfOk result (λ n. (front : List Lexeme) → HasRead front self → HasRead (front ++ lexeme token.now ∷ []) n) }
         ensures err { IfErr result (λ f. (front : List Lexeme) → HasRead front self → StopsAfter front (lexeme token.now) f) }
     {
-        if matches!(token.kind, Kind::Bad) {
+        if is_bad(token.kind) {
             return Err(ParseFault::BadToken(token.start));
         }
         let Progress {
@@ -54,8 +54,7 @@ impl Progress {
         } = self;
         let reader = match reader.step(alloc, token) {
             Ok(reader) => reader,
-            Err(Halt::Memory(error)) => return Err(ParseFault::Memory(error)),
-            Err(_) => return Err(ParseFault::Unexpected(token.start)),
+            Err(halt) => return Err(halt.at(token.start)),
         };
         match counts.count(token) {
             Ok(counts) => Ok(Progress {

@@ -13,7 +13,7 @@ use crate::expr::Leaf;
 use crate::fault::ParseFault;
 use crate::term::Term;
 use crate::token::{Kind, Token};
-use crate::word::{Halt, excepted, exception_of, leaf_of};
+use crate::word::{Halt, excepted, exception_of, is_bad, leaf_of};
 use desk_base::limits;
 use std::alloc::Global;
 
@@ -38,15 +38,18 @@ impl TermState {
         ensures err { IfErr result (TermStops self (symbol token.now.kind token.now.text.now)) }
     {
         match self {
-            TermState::Start => Ok(TermState::Word(leaf_of(alloc, token.kind, token.text)?)),
+            TermState::Start => match leaf_of(alloc, token.kind, token.text) {
+                Ok(leaf) => Ok(TermState::Word(leaf)),
+                Err(halt) => Err(halt),
+            },
             TermState::Word(leaf) => match token.kind {
                 Kind::With => Ok(TermState::Exception(leaf)),
                 _ => Err(Halt::Unexpected),
             },
-            TermState::Exception(leaf) => {
-                let key = exception_of(alloc, token.kind, token.text)?;
-                Ok(TermState::Done(excepted(leaf, key)))
-            }
+            TermState::Exception(leaf) => match exception_of(alloc, token.kind, token.text) {
+                Ok(key) => Ok(TermState::Done(excepted(leaf, key))),
+                Err(halt) => Err(halt),
+            },
             TermState::Done(_) => Err(Halt::Unexpected),
         }
     }
@@ -77,13 +80,12 @@ pub fn parse_term(alloc: Global, text: &str) -> Result<Term, ParseFault>
     }
     let mut state = TermState::Start;
     for token in tokens(text) {
-        if matches!(token.kind, Kind::Bad) {
+        if is_bad(token.kind) {
             return Err(ParseFault::BadToken(token.start));
         }
         match state.step(alloc, &token) {
             Ok(next) => state = next,
-            Err(Halt::Memory(error)) => return Err(ParseFault::Memory(error)),
-            Err(_) => return Err(ParseFault::Unexpected(token.start)),
+            Err(halt) => return Err(halt.at(token.start)),
         }
     }
     state.finish(text.len())

@@ -1,6 +1,6 @@
 //! The terms and exceptions that words are.
 
-ghost use Rattle.std.specs.Prelude.{◌≡◌, ℕ, List, Option, OnOk, IfOk, IfErr, [], ◌∷◌, ◌++◌, Some, None, IsTrue, alloc_error};
+ghost use Rattle.std.specs.Prelude.{◌≡◌, ◌↔◌, ℕ, List, Option, OnOk, IfOk, IfErr, [], ◌∷◌, ◌++◌, Some, None, IsTrue, alloc_error};
 ghost use Rattle.desk_expr.specs.declared.term.Term.{Term};
 ghost use Rattle.desk_expr.specs.Grammar.{word};
 ghost use Rattle.desk_expr.specs.Words.{kind_of, licence_term, or_later_term, reference_term, with_exception, is_term, is_folded_id};
@@ -8,6 +8,7 @@ ghost use Rattle.desk_expr.specs.Spelling.{symbol};
 ghost use Rattle.desk_base.specs.Folded.{folded};
 
 use crate::expr::Leaf;
+use crate::fault::ParseFault;
 use crate::term::Term;
 use crate::token::Kind;
 use desk_base::Key;
@@ -22,6 +23,26 @@ pub(crate) enum Halt {
     Unclosed,
     /// No memory was left.
     Memory(AllocError),
+}
+
+impl Halt {
+    ghost use Rattle.desk_expr.specs.Halting.{fault_at};
+
+    // The fault at a token or at the end.
+    pub(crate) fn at(self, place: usize) -> ParseFault
+        ensures { result ≡ fault_at self place }
+    {
+        match self {
+            Halt::Memory(error) => ParseFault::Memory(error),
+            Halt::Unexpected | Halt::Unclosed => ParseFault::Unexpected(place),
+        }
+    }
+}
+
+pub(crate) fn is_bad(kind: Kind) -> bool
+    ensures { IsTrue result ↔ (kind ≡ Kind.Bad) }
+{
+    matches!(kind, Kind::Bad)
 }
 
 // Want of memory is a cause of its own.

@@ -1,0 +1,225 @@
+-- A text has tokens, and only one list of them.
+use Rattle.std.proofs.Common.{◌≡◌, ◌∙◌, ◌⊎◌, inl, inr, ℕ, zero, suc, ◌+◌, ◌<◌, ◌≤◌, List, [], ◌∷◌, ◌++◌, length, get_or, sym, subst, ap, refl, arith, Bool, true, false, length-append, append_assoc}
+use Rattle.std.specs.Prelude.{IsTrue, All, ◌||◌, not}
+use Rattle.std.proofs.lemmas.Bool.Decides.{nat_tests}
+use Rattle.std.proofs.lemmas.List.{append-nil}
+use Rattle.desk_expr.specs.declared.token.Kind.{Kind}
+use Rattle.desk_expr.specs.Words.{kind_of}
+use Rattle.desk_expr.specs.Tokens.{is_blank, is_parenthesis, is_run_byte, NoRunBegins, IsPiece, Lexeme, IsFirstToken, AreTokens}
+
+-- ---- all of a list
+
+pub all_none : (P : ℕ → Type 0) → All P []
+all_none P k d within = absurd (omega arith)
+
+pub all_more : (P : ℕ → Type 0) (b : ℕ) (bs : List ℕ) → P b → All P bs → All P (b ∷ bs)
+all_more P b bs here rest zero d within = here
+all_more P b bs here rest (suc k) d within = rest k d (omega arith)
+
+pub all_head : (P : ℕ → Type 0) (b : ℕ) (bs : List ℕ) → All P (b ∷ bs) → P b
+all_head P b bs h = h zero b (omega arith)
+
+pub all_tail : (P : ℕ → Type 0) (b : ℕ) (bs : List ℕ) → All P (b ∷ bs) → All P bs
+all_tail P b bs h k d within = h (suc k) d (omega arith)
+
+abbrev Blank : ℕ → Type 0
+Blank b = IsTrue (is_blank b)
+
+abbrev RunByte : ℕ → Type 0
+RunByte b = IsTrue (is_run_byte b)
+
+-- ---- bytes are of one sort
+
+blank_or_not : (b : ℕ) → (is_blank b ≡ true) ⊎ (is_blank b ≡ false)
+blank_or_not b = elim (is_blank b) as (λ v. (v ≡ true) ⊎ (v ≡ false)) [ true ↦ inl refl | false ↦ inr refl ]
+
+run_or_not : (b : ℕ) → (is_run_byte b ≡ true) ⊎ (is_run_byte b ≡ false)
+run_or_not b = elim (is_run_byte b) as (λ v. (v ≡ true) ⊎ (v ≡ false)) [ true ↦ inl refl | false ↦ inr refl ]
+
+no_run : (b : ℕ) → is_blank b ≡ false → is_run_byte b ≡ false → is_parenthesis b ≡ true
+no_run b no_blank not_run = grind (arith, nat_tests)
+
+parenthesis_no_blank : (b : ℕ) → is_parenthesis b ≡ true → is_blank b ≡ false
+parenthesis_no_blank b h = grind (arith, nat_tests)
+
+parenthesis_no_run : (b : ℕ) → is_parenthesis b ≡ true → is_run_byte b ≡ false
+parenthesis_no_run b h = grind (arith, nat_tests)
+
+run_no_blank : (b : ℕ) → is_run_byte b ≡ true → is_blank b ≡ false
+run_no_blank b h = grind (arith, nat_tests)
+
+clash : {A : Type 0} (b : Bool) → b ≡ true → b ≡ false → A
+clash b is is_not = absurd (cc)
+
+-- ---- a text has tokens
+
+record FirstBlanks (bytes : List ℕ) : Type 0 where
+  blanks : List ℕ
+  from : List ℕ
+  only : All Blank blanks
+  cut : bytes ≡ blanks ++ from
+  stops : (b : ℕ) (bs : List ℕ) → from ≡ b ∷ bs → is_blank b ≡ false
+
+first_blanks : (bytes : List ℕ) → FirstBlanks bytes
+first_blanks [] = record { blanks = []; from = []; only = all_none Blank; cut = refl; stops = λ b bs is. absurd (cc) }
+first_blanks (b ∷ bs) =
+    elim (blank_or_not b) [
+      | inl is_so ↦
+        let rest = first_blanks bs in
+        record { blanks = b ∷ rest.blanks; from = rest.from; only = all_more Blank b rest.blanks is_so rest.only; cut = ap (λ l. b ∷ l) rest.cut; stops = rest.stops }
+      | inr is_not ↦ record { blanks = []; from = b ∷ bs; only = all_none Blank; cut = refl; stops = λ c cs is. let same : b ≡ c = cc in subst (λ x. is_blank x ≡ false) same is_not }
+    ]
+
+record FirstRun (bytes : List ℕ) : Type 0 where
+  run : List ℕ
+  rest : List ℕ
+  only : All RunByte run
+  cut : bytes ≡ run ++ rest
+  stops : NoRunBegins rest
+
+first_run : (bytes : List ℕ) → FirstRun bytes
+first_run [] = record { run = []; rest = []; only = all_none RunByte; cut = refl; stops = tt }
+first_run (b ∷ bs) =
+    elim (run_or_not b) [
+      | inl is_so ↦
+        let more = first_run bs in
+        record { run = b ∷ more.run; rest = more.rest; only = all_more RunByte b more.run is_so more.only; cut = ap (λ l. b ∷ l) more.cut; stops = more.stops }
+      | inr is_not ↦ record { run = []; rest = b ∷ bs; only = all_none RunByte; cut = refl; stops = is_not }
+    ]
+
+record FirstPiece (bytes : List ℕ) : Type 0 where
+  text : List ℕ
+  rest : List ℕ
+  piece : IsPiece text rest
+  cut : bytes ≡ text ++ rest
+  some : 0 < length text
+
+first_piece : (b : ℕ) (bs : List ℕ) → is_blank b ≡ false → FirstPiece (b ∷ bs)
+first_piece b bs no_blank =
+    elim (run_or_not b) [
+      | inl is_so ↦
+        let more = first_run bs in
+        record { text = b ∷ more.run; rest = more.rest; piece = inr (all_more RunByte b more.run is_so more.only, more.stops); cut = ap (λ l. b ∷ l) more.cut; some = omega arith }
+      | inr is_not ↦ record { text = b ∷ []; rest = bs; piece = inl (no_run b no_blank is_not, refl); cut = refl; some = omega arith }
+    ]
+
+-- nothing but blanks, or a first token, with less behind it
+first_exists : (place : ℕ) (bytes : List ℕ) → All Blank bytes ⊎ ((t : Lexeme) × (rest : List ℕ) × IsFirstToken place bytes t rest × (length rest < length bytes))
+first_exists place bytes = let skipped = first_blanks bytes in by_from place bytes skipped skipped.from refl
+  where
+    by_from : (place : ℕ) (bytes : List ℕ) (skipped : FirstBlanks bytes) (from : List ℕ) → skipped.from ≡ from → All Blank bytes ⊎ ((t : Lexeme) × (rest : List ℕ) × IsFirstToken place bytes t rest × (length rest < length bytes))
+    by_from place bytes skipped [] is =
+        inl (subst (All Blank) (sym (skipped.cut ∙ ap (λ l. skipped.blanks ++ l) is ∙ append-nil skipped.blanks)) skipped.only)
+    by_from place bytes skipped (b ∷ bs) is =
+        let first = first_piece b bs (skipped.stops b bs is) in
+        let cut : bytes ≡ skipped.blanks ++ (first.text ++ first.rest) = skipped.cut ∙ ap (λ l. skipped.blanks ++ l) (is ∙ first.cut) in
+        inr (
+          record { text = first.text; start = place + length skipped.blanks; end = place + length skipped.blanks + length first.text; kind = kind_of first.text },
+          first.rest,
+          record { blanks = skipped.blanks; only_blanks = skipped.only; cut = cut; start = refl; end = refl; piece = first.piece; kind = refl },
+          (let some = first.some in omega (arith, ap length cut, length-append skipped.blanks (first.text ++ first.rest), length-append first.text first.rest)),
+        )
+
+tokens_exist_in : (n : ℕ) (place : ℕ) (bytes : List ℕ) → length bytes ≤ n → (ts : List Lexeme) × AreTokens place bytes ts
+tokens_exist_in zero place bytes few =
+    elim (first_exists place bytes) [
+      | inl none ↦ ([], none)
+      | inr (t, rest, first, shorter) ↦ absurd (omega arith)
+    ]
+tokens_exist_in (suc n) place bytes few =
+    elim (first_exists place bytes) [
+      | inl none ↦ ([], none)
+      | inr (t, rest, first, shorter) ↦ let more = tokens_exist_in n t.end rest (omega arith) in (t ∷ more.0, (rest, first, more.1))
+    ]
+
+pub tokens_exist : (place : ℕ) (bytes : List ℕ) → (ts : List Lexeme) × AreTokens place bytes ts
+tokens_exist place bytes = tokens_exist_in (length bytes) place bytes (omega arith)
+
+-- ---- and only one list of them
+
+-- two cuts at the blanks in front are one, where no blank begins what follows
+abbrev NoBlankBegins : List ℕ → Type 0
+NoBlankBegins [] = Unit {0}
+NoBlankBegins (b ∷ bs) = is_blank b ≡ false
+
+same_blanks : (xs ys x y : List ℕ) → All Blank xs → All Blank ys → NoBlankBegins x → NoBlankBegins y → xs ++ x ≡ ys ++ y → (xs ≡ ys) × (x ≡ y)
+same_blanks [] [] x y only only' free free' is = (refl, is)
+same_blanks [] (b ∷ ys) [] y only only' free free' is = absurd (cc)
+same_blanks [] (b ∷ ys) (c ∷ x) y only only' free free' is =
+    let same : c ≡ b = cc in clash (is_blank b) (all_head Blank b ys only') (subst (λ v. is_blank v ≡ false) same free)
+same_blanks (b ∷ xs) [] x [] only only' free free' is = absurd (cc)
+same_blanks (b ∷ xs) [] x (c ∷ y) only only' free free' is =
+    let same : c ≡ b = cc in clash (is_blank b) (all_head Blank b xs only) (subst (λ v. is_blank v ≡ false) same free')
+same_blanks (b ∷ xs) (c ∷ ys) x y only only' free free' is =
+    let head : b ≡ c = cc in
+    let tail : xs ++ x ≡ ys ++ y = cc in
+    let rest = same_blanks xs ys x y (all_tail Blank b xs only) (all_tail Blank c ys only') free free' tail in
+    ((λ i. head i ∷ rest.0 i), rest.1)
+
+-- two longest runs in front are one
+same_run : (xs ys x y : List ℕ) → All RunByte xs → All RunByte ys → NoRunBegins x → NoRunBegins y → xs ++ x ≡ ys ++ y → (xs ≡ ys) × (x ≡ y)
+same_run [] [] x y only only' free free' is = (refl, is)
+same_run [] (b ∷ ys) [] y only only' free free' is = absurd (cc)
+same_run [] (b ∷ ys) (c ∷ x) y only only' free free' is =
+    let same : c ≡ b = cc in clash (is_run_byte b) (all_head RunByte b ys only') (subst (λ v. is_run_byte v ≡ false) same free)
+same_run (b ∷ xs) [] x [] only only' free free' is = absurd (cc)
+same_run (b ∷ xs) [] x (c ∷ y) only only' free free' is =
+    let same : c ≡ b = cc in clash (is_run_byte b) (all_head RunByte b xs only) (subst (λ v. is_run_byte v ≡ false) same free')
+same_run (b ∷ xs) (c ∷ ys) x y only only' free free' is =
+    let head : b ≡ c = cc in
+    let tail : xs ++ x ≡ ys ++ y = cc in
+    let rest = same_run xs ys x y (all_tail RunByte b xs only) (all_tail RunByte c ys only') free free' tail in
+    ((λ i. head i ∷ rest.0 i), rest.1)
+
+piece_no_blank : (text rest : List ℕ) → IsPiece text rest → NoBlankBegins (text ++ rest)
+piece_no_blank [] rest p = absurd p
+piece_no_blank (b ∷ bs) rest (inl (h, is)) = parenthesis_no_blank b h
+piece_no_blank (b ∷ bs) rest (inr (only, stops)) = run_no_blank b (all_head RunByte b bs only)
+
+same_piece : (t u x y : List ℕ) → IsPiece t x → IsPiece u y → t ++ x ≡ u ++ y → (t ≡ u) × (x ≡ y)
+same_piece [] u x y p q is = absurd p
+same_piece (b ∷ bs) [] x y p q is = absurd q
+same_piece (b ∷ bs) (c ∷ cs) x y (inl (h, none)) (inl (k, none')) is =
+    let head : b ≡ c = cc in
+    let tail : bs ++ x ≡ cs ++ y = cc in
+    let same : bs ≡ cs = none ∙ sym none' in
+    ((λ i. head i ∷ same i), sym (ap (λ l. l ++ x) none) ∙ tail ∙ ap (λ l. l ++ y) none')
+same_piece (b ∷ bs) (c ∷ cs) x y (inl (h, none)) (inr (only, stops)) is =
+    let head : c ≡ b = cc in
+    clash (is_run_byte b) (subst (λ v. is_run_byte v ≡ true) head (all_head RunByte c cs only)) (parenthesis_no_run b h)
+same_piece (b ∷ bs) (c ∷ cs) x y (inr (only, stops)) (inl (k, none)) is =
+    let head : b ≡ c = cc in
+    clash (is_run_byte c) (subst (λ v. is_run_byte v ≡ true) head (all_head RunByte b bs only)) (parenthesis_no_run c k)
+same_piece (b ∷ bs) (c ∷ cs) x y (inr (only, stops)) (inr (only', stops')) is = same_run (b ∷ bs) (c ∷ cs) x y only only' stops stops' is
+
+same_first : (place : ℕ) (bytes : List ℕ) (t u : Lexeme) (x y : List ℕ) → IsFirstToken place bytes t x → IsFirstToken place bytes u y → (t ≡ u) × (x ≡ y)
+same_first place bytes t u x y f g =
+    let outer = same_blanks f.blanks g.blanks (t.text ++ x) (u.text ++ y) f.only_blanks g.only_blanks (piece_no_blank t.text x f.piece) (piece_no_blank u.text y g.piece) (sym f.cut ∙ g.cut) in
+    let inner = same_piece t.text u.text x y f.piece g.piece outer.1 in
+    let start : t.start ≡ u.start = f.start ∙ ap (λ l. place + length l) outer.0 ∙ sym g.start in
+    let end : t.end ≡ u.end = f.end ∙ (λ i. start i + length (inner.0 i)) ∙ sym g.end in
+    let kind : t.kind ≡ u.kind = f.kind ∙ ap kind_of inner.0 ∙ sym g.kind in
+    ((λ i. record { text = inner.0 i; start = start i; end = end i; kind = kind i }), inner.1)
+
+no_token_of_blanks : (place : ℕ) (bytes : List ℕ) (t : Lexeme) (rest : List ℕ) → All Blank bytes → IsFirstToken place bytes t rest → ⊥
+no_token_of_blanks place bytes t rest only f = starts t.text f.piece f.cut
+  where
+    behind : (front : List ℕ) (b : ℕ) (bs : List ℕ) → All Blank (front ++ b ∷ bs) → is_blank b ≡ true
+    behind [] b bs h = all_head Blank b bs h
+    behind (c ∷ front) b bs h = behind front b bs (all_tail Blank c (front ++ b ∷ bs) h)
+    starts : (text : List ℕ) → IsPiece text rest → bytes ≡ f.blanks ++ (text ++ rest) → ⊥
+    starts [] p cut = p
+    starts (b ∷ bs) p cut =
+        let there : All Blank (f.blanks ++ (b ∷ bs ++ rest)) = subst (All Blank) cut only in
+        let is : is_blank b ≡ true = behind f.blanks b (bs ++ rest) there in
+        clash (is_blank b) is (piece_no_blank (b ∷ bs) rest p)
+
+pub same_tokens : (place : ℕ) (bytes : List ℕ) (ts us : List Lexeme) → AreTokens place bytes ts → AreTokens place bytes us → ts ≡ us
+same_tokens place bytes [] [] h k = refl
+same_tokens place bytes [] (u ∷ us) h (y, g, k) = absurd (no_token_of_blanks place bytes u y h g)
+same_tokens place bytes (t ∷ ts) [] (x, f, h) k = absurd (no_token_of_blanks place bytes t x k f)
+same_tokens place bytes (t ∷ ts) (u ∷ us) (x, f, h) (y, g, k) =
+    let first = same_first place bytes t u x y f g in
+    let moved : AreTokens t.end x us = subst (λ p. AreTokens p x us) (ap (λ (l : Lexeme). l.end) (sym first.0)) (subst (λ r. AreTokens u.end r us) (sym first.1) k) in
+    let rest = same_tokens t.end x ts us h moved in
+    (λ i. first.0 i ∷ rest i)

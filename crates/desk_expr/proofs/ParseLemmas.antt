@@ -1,0 +1,168 @@
+-- A whole text: what its tokens spell, where it stops, and that no other tree is spelled.
+use Rattle.std.proofs.Common.{◌≡◌, ◌∙◌, ◌⊎◌, inl, inr, ℕ, zero, suc, ◌+◌, ◌<◌, ◌≤◌, Bool, true, false, List, [], ◌∷◌, ◌++◌, length, take, sym, subst, ap, refl, append_assoc, arith, Option, Some, None, Result, Ok, Err}
+use Rattle.std.specs.Prelude.{map, IfOk, IfErr, IsTrue, All, alloc_error, ◌≢◌}
+use Rattle.std.proofs.lemmas.List.{map-append, append-nil, take_all, take-append-le}
+use Rattle.desk_base.specs.declared.limits.TheConstants as limit
+use Rattle.desk_expr.specs.declared.cut.TokenCuts.{TokenCuts}
+use Rattle.desk_expr.specs.declared.fault.ParseFault.{ParseFault}
+use Rattle.desk_expr.specs.declared.fault.ParseFault.TheVariants.{Empty, BadToken, Unexpected, Unclosed, TooDeep, TooLong, TooManyTerms, Memory}
+use Rattle.desk_expr.specs.declared.progress.Progress.{Progress}
+use Rattle.desk_expr.specs.declared.token.Kind.{Kind}
+use Rattle.desk_expr.specs.declared.token.Kind.TheVariants.{Bad}
+use Rattle.desk_expr.specs.declared.token.Token.{Token}
+use Rattle.desk_expr.specs.Tree.{Tree}
+use Rattle.desk_expr.specs.Tokens.{is_blank, Lexeme, lexeme, IsFirstToken, AreTokens}
+use Rattle.desk_expr.specs.Given.{TokenGiven}
+use Rattle.desk_expr.specs.Grammar.{Symbol, bad, OrList, AndList, Operand, SpellsTerm, SpellsTree}
+use Rattle.desk_expr.specs.Spelling.{symbol, symbol_of, symbols, still_open, operand_words, AllFronts, KeepsLimits, Begins, Stands, Reason, EndReason, StopsAtToken, StopsAtEnd, IsStop, Spells, SpellsWithin}
+use Rattle.desk_expr.specs.Progress.{StopsAfter, EndsAfter, HasRead, is_started}
+use Rattle.desk_expr.proofs.Lexing.{tokens_exist, same_tokens}
+use Rattle.desk_expr.proofs.Unambiguous.{one_tree}
+use Rattle.desk_expr.proofs.Balance.{no_bad, something}
+
+-- one text spells one tree
+pub spells_once : (text : List ℕ) (a b : Tree) → Spells text a → Spells text b → a ≡ b
+spells_once text a b (ts, are, h) (us, are', k) =
+    let same : us ≡ ts = same_tokens 0 text us ts are' are in
+    one_tree (symbols ts) a b h (subst (λ l. SpellsTree (symbols l) b) same k)
+
+-- ---- the tokens so far
+
+-- whatever tokens the rest has, complete those so far
+abbrev pub SoFar : List ℕ → List Token → TokenCuts → Type 0
+SoFar text yielded cuts = (ts : List Lexeme) → AreTokens cuts.place cuts.rest.now ts → AreTokens 0 text (map lexeme yielded ++ ts)
+
+pub so_far_push : (text : List ℕ) (yielded : List Token) (t : Token) (cuts new : TokenCuts) → SoFar text yielded cuts → TokenGiven cuts (Some t) new → SoFar text (yielded ++ t ∷ []) new
+so_far_push text yielded t cuts new so_far given ts after =
+    let is : map lexeme (yielded ++ t ∷ []) ++ ts ≡ map lexeme yielded ++ lexeme t ∷ ts =
+    ap (λ l. l ++ ts) (map-append lexeme yielded (t ∷ [])) ∙ append_assoc (map lexeme yielded) (lexeme t ∷ []) ts in
+    subst (AreTokens 0 text) (sym is) (so_far (lexeme t ∷ ts) (new.rest.now, given.0, subst (λ p. AreTokens p new.rest.now ts) given.1 after))
+
+pub lexemes_push : (yielded : List Token) (t : Token) → map lexeme (yielded ++ t ∷ []) ≡ map lexeme yielded ++ lexeme t ∷ []
+lexemes_push yielded t = map-append lexeme yielded (t ∷ [])
+
+-- ---- stops
+
+module _ (text : List ℕ) (yielded : List Token) (t : Token) (cuts new : TokenCuts) where
+  at_token : (f : ParseFault) → SoFar text yielded cuts → TokenGiven cuts (Some t) new → AllFronts (Stands SpellsTree) (map lexeme yielded) → Reason SpellsTree (map lexeme yielded) (lexeme t) f → StopsAtToken SpellsTree text f
+  at_token f so_far given stands reason =
+      let behind = tokens_exist t.end new.rest.now in
+      (map lexeme yielded, lexeme t, behind.0, so_far (lexeme t ∷ behind.0) (new.rest.now, given.0, behind.1), stands, reason)
+
+  pub stop_at_token : (f : ParseFault) → length text ≤ limit.EXPRESSION_BYTES → SoFar text yielded cuts → TokenGiven cuts (Some t) new → AllFronts (Stands SpellsTree) (map lexeme yielded) → StopsAfter (map lexeme yielded) (lexeme t) f → IsStop SpellsTree text f
+  stop_at_token (Empty p) short so_far given stands h = absurd h
+  stop_at_token (BadToken p) short so_far given stands h = (short, at_token (BadToken p) so_far given stands h)
+  stop_at_token (Unexpected p) short so_far given stands h = (short, inl (at_token (Unexpected p) so_far given stands h))
+  stop_at_token (Unclosed p) short so_far given stands h = absurd h
+  stop_at_token (TooDeep p) short so_far given stands h = (short, at_token (TooDeep p) so_far given stands h)
+  stop_at_token (TooLong p) short so_far given stands h = absurd h
+  stop_at_token (TooManyTerms p) short so_far given stands h = (short, at_token (TooManyTerms p) so_far given stands h)
+  stop_at_token (Memory e) short so_far given stands h = tt
+
+at_end : (text : List ℕ) (ts : List Lexeme) (f : ParseFault) → AreTokens 0 text ts → AllFronts (Stands SpellsTree) ts → is_started ts ≡ true → EndReason SpellsTree (length text) ts f → StopsAtEnd SpellsTree text f
+at_end text [] f are stands started reason = absurd (cc)
+at_end text (t ∷ ts) f are stands started reason = (t, ts, are, stands, reason)
+
+nothing_started : (text : List ℕ) (ts : List Lexeme) → AreTokens 0 text ts → is_started ts ≡ false → AreTokens 0 text []
+nothing_started text [] are is = are
+nothing_started text (t ∷ ts) are is = absurd (cc)
+
+pub stop_at_end : (text : List ℕ) (ts : List Lexeme) (f : ParseFault) → length text ≤ limit.EXPRESSION_BYTES → AreTokens 0 text ts → AllFronts (Stands SpellsTree) ts → EndsAfter ts (length text) f → IsStop SpellsTree text f
+stop_at_end text ts (Empty p) short are stands h = (short, nothing_started text ts are h.0, h.1)
+stop_at_end text ts (BadToken p) short are stands h = absurd h
+stop_at_end text ts (Unexpected p) short are stands h = (short, inr (at_end text ts (Unexpected p) are stands h.0 h.1))
+stop_at_end text ts (Unclosed p) short are stands h = (short, at_end text ts (Unclosed p) are stands h.0 h.1)
+stop_at_end text ts (TooDeep p) short are stands h = absurd h
+stop_at_end text ts (TooLong p) short are stands h = absurd h
+stop_at_end text ts (TooManyTerms p) short are stands h = absurd h
+stop_at_end text ts (Memory e) short are stands h = tt
+
+-- ---- a text that stops spells nothing within the limits
+
+front_of : (front : List Lexeme) (t : Lexeme) (behind : List Lexeme) → take (suc (length front)) (front ++ t ∷ behind) ≡ front ++ t ∷ []
+front_of [] t behind = refl
+front_of (u ∷ front) t behind = ap (λ l. u ∷ l) (front_of front t behind)
+
+symbols_behind : (front : List Lexeme) (t : Lexeme) (behind : List Lexeme) → symbols (front ++ t ∷ behind) ≡ symbols front ++ symbol_of t ∷ symbols behind
+symbols_behind front t behind = map-append symbol_of front (t ∷ behind)
+
+begun : (front : List Lexeme) (t : Lexeme) (behind : List Lexeme) (e : Tree) → SpellsTree (symbols (front ++ t ∷ behind)) e → Begins SpellsTree (symbols (front ++ t ∷ []))
+begun front t behind e h =
+    let is : symbols (front ++ t ∷ behind) ≡ symbols (front ++ t ∷ []) ++ symbols behind =
+    ap symbols (sym (append_assoc front (t ∷ []) behind)) ∙ map-append symbol_of (front ++ t ∷ []) behind in
+    (symbols behind, e, subst (λ l. SpellsTree l e) is h)
+
+no_reason : (text : List ℕ) (f : ParseFault) (e : Tree) → StopsAtToken SpellsTree text f → SpellsWithin text e → ⊥
+no_reason text f e (front, t, behind, are, stands, reason) (short, us, are', h, keeps) =
+    let same : us ≡ front ++ t ∷ behind = same_tokens 0 text us (front ++ t ∷ behind) are' are in
+    none f reason (subst (λ l. SpellsTree (symbols l) e) same h) (subst KeepsLimits (front_of front t behind) (subst (AllFronts KeepsLimits) same keeps (suc (length front))))
+  where
+    none : (f : ParseFault) → Reason SpellsTree front t f → SpellsTree (symbols (front ++ t ∷ behind)) e → KeepsLimits (front ++ t ∷ []) → ⊥
+    none (Empty p) reason h keeps = reason
+    none (BadToken p) reason h keeps =
+        let is : symbol_of t ≡ bad = ap (λ k. symbol k t.text) reason.0 in
+        no_bad (symbols front) (symbols behind) e (subst (λ s. SpellsTree (symbols front ++ s ∷ symbols behind) e) is (subst (λ l. SpellsTree l e) (symbols_behind front t behind) h))
+    none (Unexpected p) reason h keeps = reason.1 (begun front t behind e h)
+    none (Unclosed p) reason h keeps = reason
+    none (TooDeep p) reason h keeps = let few = keeps.depth in absurd (omega (arith, few, reason.1))
+    none (TooLong p) reason h keeps = reason
+    none (TooManyTerms p) reason h keeps = let few = keeps.terms in absurd (omega (arith, few, reason.2))
+    none (Memory m) reason h keeps = reason
+
+no_end : (text : List ℕ) (f : ParseFault) (e : Tree) → StopsAtEnd SpellsTree text f → SpellsWithin text e → ⊥
+no_end text f e (t, behind, are, stands, reason) (short, us, are', h, keeps) =
+    let same : us ≡ t ∷ behind = same_tokens 0 text us (t ∷ behind) are' are in
+    none f reason (subst (λ l. SpellsTree (symbols l) e) same h)
+  where
+    none : (f : ParseFault) → EndReason SpellsTree (length text) (t ∷ behind) f → SpellsTree (symbols (t ∷ behind)) e → ⊥
+    none (Empty p) reason h = reason
+    none (BadToken p) reason h = reason
+    none (Unexpected p) reason h = reason.0 (0, e, subst (λ l. SpellsTree l e) (sym (append-nil (symbols (t ∷ behind)))) h)
+    none (Unclosed p) reason h = reason.1 e h
+    none (TooDeep p) reason h = reason
+    none (TooLong p) reason h = reason
+    none (TooManyTerms p) reason h = reason
+    none (Memory m) reason h = reason
+
+no_tokens : (text : List ℕ) (e : Tree) → AreTokens 0 text [] → SpellsWithin text e → ⊥
+no_tokens text e are (short, us, are', h, keeps) =
+    let same : us ≡ [] = same_tokens 0 text us [] are' are in
+    something e (subst (λ l. SpellsTree (symbols l) e) same h)
+
+pub stop_spells_nothing : (text : List ℕ) (f : ParseFault) → IsStop SpellsTree text f → (f ≡ Memory alloc_error) ⊎ ((e : Tree) → SpellsWithin text e → ⊥)
+stop_spells_nothing text (Empty p) h = inr (λ e within. no_tokens text e h.1 within)
+stop_spells_nothing text (BadToken p) h = inr (λ e within. no_reason text (BadToken p) e h.1 within)
+stop_spells_nothing text (Unexpected p) h =
+    inr (λ e within. elim h.1 [ inl a ↦ no_reason text (Unexpected p) e a within | inr b ↦ no_end text (Unexpected p) e b within ])
+stop_spells_nothing text (Unclosed p) h = inr (λ e within. no_end text (Unclosed p) e h.1 within)
+stop_spells_nothing text (TooDeep p) h = inr (λ e within. no_reason text (TooDeep p) e h.1 within)
+stop_spells_nothing text (TooLong p) h = inr (λ e within. absurd (omega (arith, h.0, within.0)))
+stop_spells_nothing text (TooManyTerms p) h = inr (λ e within. no_reason text (TooManyTerms p) e h.1 within)
+stop_spells_nothing text (Memory m) h = inl refl
+
+pub faults_spell_nothing : (text : List ℕ) (r : Result Tree ParseFault) → IfErr r (IsStop SpellsTree text) → IfErr r (λ f. (f ≡ Memory alloc_error) ⊎ ((e : Tree) → SpellsWithin text e → ⊥))
+faults_spell_nothing text (Ok e) h = h
+faults_spell_nothing text (Err f) h = stop_spells_nothing text f h
+
+-- ---- the end of the loop
+
+module _ (text : List ℕ) (ts : List Lexeme) (short : length text ≤ limit.EXPRESSION_BYTES) (are : AreTokens 0 text ts) (stands : AllFronts (Stands SpellsTree) ts) where
+  keeps_limits : AllFronts KeepsLimits ts
+  keeps_limits n = record { depth = (stands n).depth; terms = (stands n).terms }
+
+  pub spelled_at_end : (r : Result Tree ParseFault) → IfOk r (λ e. SpellsTree (symbols ts) e) → IfOk r (SpellsWithin text)
+  spelled_at_end (Ok e) h = (short, ts, are, h, keeps_limits)
+  spelled_at_end (Err f) h = h
+
+  pub stopped_at_end : (r : Result Tree ParseFault) → IfErr r (EndsAfter ts (length text)) → IfErr r (IsStop SpellsTree text)
+  stopped_at_end (Ok e) h = h
+  stopped_at_end (Err f) h = stop_at_end text ts f short are stands h
+
+-- what holds of all fronts that have been read, at the one that was
+pub spelled_by : (ts : List Lexeme) (m : Progress) (r : Result Tree ParseFault) → IfOk r (λ e. (front : List Lexeme) → HasRead front m → SpellsTree (symbols front) e) → HasRead ts m → IfOk r (λ e. SpellsTree (symbols ts) e)
+spelled_by ts m (Ok e) h read = h ts read
+spelled_by ts m (Err f) h read = h
+
+pub ended_by : (ts : List Lexeme) (m : Progress) (end : ℕ) (r : Result Tree ParseFault) → IfErr r (λ f. (front : List Lexeme) → HasRead front m → EndsAfter front end f) → HasRead ts m → IfErr r (EndsAfter ts end)
+ended_by ts m end (Ok e) h read = h
+ended_by ts m end (Err f) h read = h ts read

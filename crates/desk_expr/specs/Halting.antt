@@ -1,0 +1,11 @@
+-- The fault of a reader that goes no further.
+use Rattle.std.specs.Prelude.{ℕ}
+use Rattle.desk_expr.specs.declared.word.Halt.{Halt}
+use Rattle.desk_expr.specs.declared.word.Halt.TheVariants as halt
+use Rattle.desk_expr.specs.declared.fault.ParseFault.{ParseFault}
+use Rattle.desk_expr.specs.declared.fault.ParseFault.TheVariants.{Unexpected, Memory}
+
+abbrev pub fault_at : Halt → ℕ → ParseFault
+fault_at halt.Unexpected place = Unexpected place
+fault_at halt.Unclosed place = Unexpected place
+fault_at (halt.Memory error) place = Memory error
