@@ -13,9 +13,11 @@ all: build
 # Only a proved program is built. With no change since the last build this takes seconds.
 build:
 	@echo 'Building build/desk: each crate is proved first. Minutes the first time, then seconds.'
-	@cd $(program) && rt run -- check MIT mit >out.log 2>&1 </dev/null || { cat out.log; rm -f out.log; exit 1; }
-	@rm -f $(program)/out.log
 	@mkdir -p build
+	@rm -f build/is-built
+	@(cd $(program) && rt run -- check MIT mit </dev/null && : >../../build/is-built) 2>&1 | tee build/log \
+	    | awk '/^rt: chose/ { print "  proving " $$NF; fflush() } /^so far/ { print "    " $$0; fflush() }'
+	@[ -f build/is-built ] || { cat build/log; exit 1; }
 	@cmp -s $(program)/out/desk_program build/desk || cp $(program)/out/desk_program build/desk
 	@echo 'Built build/desk.'
 
@@ -25,7 +27,8 @@ demo: build
 
 # The merge gate, and then the acceptance cases on the built program.
 test:
-	@echo 'Running the gate: every proof from nothing, every must-fail edit, every test. This takes long; docs/GATE.md says how long.'
+	@echo 'Running the gate: every proof from nothing, every must-fail edit, every test.'
+	@echo 'That takes minutes to hours: docs/GATE.md has the times of each machine.'
 	rt ci
 	@$(MAKE) build
 	@echo 'Running the acceptance cases on build/desk.'

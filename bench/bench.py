@@ -1,7 +1,8 @@
 """Times `desk check` at the limits of an expression beside bench/check.py: python3 bench/bench.py PROGRAM
 
-Each number is the best of several runs of the whole process, its start included; the first row is
-a small expression, so it is mostly the start. Both programs have to give the same answer.
+Each time is the best of several runs of the whole process, its start included. The first row is a
+small expression, so it is mostly the start: the last two columns have it taken off. Both programs
+have to give the same answer.
 """
 
 import os
@@ -44,14 +45,18 @@ def main():
     desk = os.path.abspath(sys.argv[1])
     other = [sys.executable, os.path.join(os.path.dirname(os.path.abspath(__file__)), "check.py")]
     print(f"best of {RUNS} runs, in milliseconds, on one of {os.cpu_count()} processors")
-    print(f"{'case':44} {'desk':>9} {'python':>9} {'ratio':>8}")
+    print(f"{'case':38} {'desk':>8} {'python':>8} | {'desk':>8} {'python':>8} without the start")
+    start = None
     for name, expression, terms in cases():
         words = [expression, *terms]
         mine, answer = best([desk, "check", *words])
         theirs, expected = best([*other, *words])
         if answer != expected:
             sys.exit(f"{name}: {answer} is not {expected}")
-        print(f"{name:44} {mine * 1000:9.2f} {theirs * 1000:9.2f} {mine / theirs:8.3f}")
+        start = start or (mine, theirs)
+        times = (mine, theirs, mine - start[0], theirs - start[1])
+        whole, rest = times[:2], times[2:]
+        print(f"{name:38} " + " | ".join(" ".join(f"{t * 1000:8.2f}" for t in pair) for pair in (whole, rest)))
 
 
 main()

@@ -14,7 +14,7 @@
 # and must be empty where it is 0 or 1.
 set -eu
 
-here=$(CDPATH= cd -- "$(dirname -- "$0")" && pwd)
+here=$(unset CDPATH; cd -- "$(dirname -- "$0")" && pwd)
 case ${1:?the program to run} in
     /*) program=$1 ;;
     *) program=$(pwd)/$1 ;;

@@ -1,3 +1,4 @@
+#!/bin/sh
 # 1,024 different terms joined by AND, each of them chosen.
 i=1000
 terms=

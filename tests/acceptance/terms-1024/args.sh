@@ -1,3 +1,4 @@
+#!/bin/sh
 # 1,024 terms, of which one is enough.
 printf 'check\nx'
 i=1

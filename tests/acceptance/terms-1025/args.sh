@@ -1,3 +1,4 @@
+#!/bin/sh
 # 1,025 terms: the last one begins behind 1,024 times 'x OR '.
 printf 'check\nx'
 i=1
