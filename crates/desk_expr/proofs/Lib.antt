@@ -14,3 +14,4 @@ pub mod Unambiguous
 pub mod Balance
 pub mod ProgressLemmas
 pub mod ParseLemmas
+pub mod TermLemmas

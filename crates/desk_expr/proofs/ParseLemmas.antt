@@ -32,6 +32,11 @@ spells_once text a b (ts, are, h) (us, are', k) =
 abbrev pub SoFar : List ℕ → List Token → TokenCuts → Type 0
 SoFar text yielded cuts = (ts : List Lexeme) → AreTokens cuts.place cuts.rest.now ts → AreTokens 0 text (map lexeme yielded ++ ts)
 
+pub so_far_none : (text : List ℕ) (cuts fresh : TokenCuts) → cuts ≡ fresh → fresh.rest.now ≡ text → fresh.place ≡ 0 → SoFar text [] cuts
+so_far_none text cuts fresh same rest place ts are =
+    let moved : AreTokens fresh.place fresh.rest.now ts = subst (λ (c : TokenCuts). AreTokens c.place c.rest.now ts) same are in
+    subst (λ p. AreTokens p text ts) place (subst (λ r. AreTokens fresh.place r ts) rest moved)
+
 pub so_far_push : (text : List ℕ) (yielded : List Token) (t : Token) (cuts new : TokenCuts) → SoFar text yielded cuts → TokenGiven cuts (Some t) new → SoFar text (yielded ++ t ∷ []) new
 so_far_push text yielded t cuts new so_far given ts after =
     let is : map lexeme (yielded ++ t ∷ []) ++ ts ≡ map lexeme yielded ++ lexeme t ∷ ts =
@@ -83,14 +88,15 @@ front_of : (front : List Lexeme) (t : Lexeme) (behind : List Lexeme) → take (s
 front_of [] t behind = refl
 front_of (u ∷ front) t behind = ap (λ l. u ∷ l) (front_of front t behind)
 
-symbols_behind : (front : List Lexeme) (t : Lexeme) (behind : List Lexeme) → symbols (front ++ t ∷ behind) ≡ symbols front ++ symbol_of t ∷ symbols behind
+pub symbols_behind : (front : List Lexeme) (t : Lexeme) (behind : List Lexeme) → symbols (front ++ t ∷ behind) ≡ symbols front ++ symbol_of t ∷ symbols behind
 symbols_behind front t behind = map-append symbol_of front (t ∷ behind)
 
+pub symbols_split : (front : List Lexeme) (t : Lexeme) (behind : List Lexeme) → symbols (front ++ t ∷ behind) ≡ symbols (front ++ t ∷ []) ++ symbols behind
+symbols_split front t behind =
+    ap symbols (sym (append_assoc front (t ∷ []) behind)) ∙ map-append symbol_of (front ++ t ∷ []) behind
+
 begun : (front : List Lexeme) (t : Lexeme) (behind : List Lexeme) (e : Tree) → SpellsTree (symbols (front ++ t ∷ behind)) e → Begins SpellsTree (symbols (front ++ t ∷ []))
-begun front t behind e h =
-    let is : symbols (front ++ t ∷ behind) ≡ symbols (front ++ t ∷ []) ++ symbols behind =
-    ap symbols (sym (append_assoc front (t ∷ []) behind)) ∙ map-append symbol_of (front ++ t ∷ []) behind in
-    (symbols behind, e, subst (λ l. SpellsTree l e) is h)
+begun front t behind e h = (symbols behind, e, subst (λ l. SpellsTree l e) (symbols_split front t behind) h)
 
 no_reason : (text : List ℕ) (f : ParseFault) (e : Tree) → StopsAtToken SpellsTree text f → SpellsWithin text e → ⊥
 no_reason text f e (front, t, behind, are, stands, reason) (short, us, are', h, keeps) =

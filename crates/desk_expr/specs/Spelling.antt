@@ -82,10 +82,13 @@ SpellsWithin text e =
     (length text ≤ limit.EXPRESSION_BYTES)
     × (ts : List Lexeme) × AreTokens 0 text ts × SpellsTree (symbols ts) e × AllFronts KeepsLimits ts
 
--- the text, which is not too long, spells the one term
+-- the text spells one term and nothing else
+abbrev pub SpellsTermAlone : List ℕ → Term → Type 0
+SpellsTermAlone text t = (ts : List Lexeme) × AreTokens 0 text ts × SpellsTerm (symbols ts) t
+
+-- and is not too long
 abbrev pub SpellsTermWithin : List ℕ → Term → Type 0
-SpellsTermWithin text t =
-    (length text ≤ limit.EXPRESSION_BYTES) × (ts : List Lexeme) × AreTokens 0 text ts × SpellsTerm (symbols ts) t
+SpellsTermWithin text t = (length text ≤ limit.EXPRESSION_BYTES) × SpellsTermAlone text t
 
 -- ---- where a text stops that spells nothing, or breaks a limit
 

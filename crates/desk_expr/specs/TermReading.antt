@@ -18,9 +18,16 @@ TermRest (Word v) r t =
 TermRest (Exception v) r t = (u : Term) × (x : List ℕ) × (r ≡ word u (Some x) ∷ []) × (with_exception v x ≡ t)
 TermRest (Done v) r t = (r ≡ []) × (v ≡ t)
 
+-- something has been read
+abbrev pub HasBegun : TermState → Type 0
+HasBegun Start = ⊥
+HasBegun (Word v) = Unit {0}
+HasBegun (Exception v) = Unit {0}
+HasBegun (Done v) = Unit {0}
+
 -- one symbol on
 abbrev pub TermSteps : TermState → Symbol → TermState → Type 0
-TermSteps m s n = (r : List Symbol) (t : Term) → TermRest m (s ∷ r) t ↔ TermRest n r t
+TermSteps m s n = HasBegun n × ((r : List Symbol) (t : Term) → TermRest m (s ∷ r) t ↔ TermRest n r t)
 
 -- why the reader stops at a symbol
 abbrev pub TermStops : TermState → Symbol → Halt → Type 0

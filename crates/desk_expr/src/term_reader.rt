@@ -5,7 +5,7 @@ ghost use Rattle.desk_expr.specs.declared.term.Term.{Term};
 ghost use Rattle.desk_expr.specs.Tokens.{Lexeme, lexeme};
 ghost use Rattle.desk_expr.specs.Grammar.{SpellsTerm};
 ghost use Rattle.desk_expr.specs.Words.{kind_of};
-ghost use Rattle.desk_expr.specs.Spelling.{symbol, SpellsTermWithin, IsStop};
+ghost use Rattle.desk_expr.specs.Spelling.{symbol, SpellsTermAlone, SpellsTermWithin, IsStop};
 ghost use Rattle.desk_expr.specs.TermReading.{TermSteps, TermStops, TermEnds, TermFalls};
 
 use crate::cut::tokens;
@@ -73,7 +73,7 @@ pub fn parse_term(alloc: Global, text: &str) -> Result<Term, ParseFault>
     ensures spelled { IfOk result (SpellsTermWithin text.now) }
     ensures stop { IfErr result (IsStop SpellsTerm text.now) }
     ensures complete { IfErr result (λ f. f ≡ ParseFault.Memory alloc_error ⊎ ((t : Term) → SpellsTermWithin text.now t → ⊥)) }
-    ensures only { (a b : Term) → SpellsTermWithin text.now a → SpellsTermWithin text.now b → a ≡ b }
+    ensures only { (a b : Term) → SpellsTermAlone text.now a → SpellsTermAlone text.now b → a ≡ b }
 {
     if text.len() > limits::EXPRESSION_BYTES {
         return Err(ParseFault::TooLong(0));
