@@ -1,12 +1,12 @@
 -- A spelled list has no token that is none, and closes each parenthesis that it opens.
-use Rattle.std.proofs.Common.{◌≡◌, ◌∙◌, ℕ, zero, suc, ◌+◌, ◌-◌, ◌<◌, ◌≤◌, List, [], ◌∷◌, ◌++◌, length, take, sym, subst, ap, refl, arith, length-append, length-take}
-use Rattle.std.specs.Prelude.{map, fold}
+use Rattle.std.proofs.Common.{◌≡◌, ℕ, zero, suc, ◌+◌, ◌-◌, ◌<◌, ◌≤◌, List, [], ◌∷◌, ◌++◌, length, refl, arith, length-append, length-take}
+use Rattle.std.specs.Prelude.{fold}
 use Rattle.desk_expr.specs.declared.token.Kind.{Kind}
 use Rattle.desk_expr.specs.declared.token.Kind.TheVariants.{Opening, Closing, And, Or, With, Licence, LicenceOrLater, Reference, Bad}
 use Rattle.desk_expr.specs.declared.term.Term.{Term}
 use Rattle.desk_expr.specs.Tree.{Tree}
 use Rattle.desk_expr.specs.Tokens.{Lexeme}
-use Rattle.desk_expr.specs.Grammar.{Symbol, opening, closing, and_word, or_word, with_word, word, bad, SpellsTerm, bare, excepted, Operand, a_term, a_group, AndList, one_operand, and_more, OrList, one_list, or_more, SpellsTree}
+use Rattle.desk_expr.specs.Grammar.{Symbol, opening, closing, and_word, or_word, bad, SpellsTerm, bare, excepted, Operand, a_term, a_group, AndList, one_operand, and_more, OrList, one_list, or_more, SpellsTree}
 use Rattle.desk_expr.specs.Spelling.{symbol_of, symbols, open_after, still_open, closings}
 
 -- the opening and the closing parentheses, and the tokens that are none

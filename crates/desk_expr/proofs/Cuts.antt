@@ -1,6 +1,6 @@
 -- Where a text may be cut, and what stands there.
-use Rattle.std.proofs.Common.{◌≡◌, ◌∙◌, ◌⊎◌, inl, inr, ℕ, zero, suc, ◌+◌, ◌-◌, ◌<◌, ◌≤◌, List, [], ◌∷◌, ◌++◌, length, get_or, take, drop, sym, subst, ap, refl, arith, add-one, IsUtf8, Bool, true, false, not, ⊎_elim, take-append-drop, length-drop, length-take-le, length-take, get_or-drop, get_or-take, add-zero}
-use Rattle.std.specs.Prelude.{IsTrue, All, ◌||◌}
+use Rattle.std.proofs.Common.{◌≡◌, inl, inr, ℕ, zero, suc, ◌+◌, ◌<◌, ◌≤◌, List, [], ◌∷◌, length, get_or, take, drop, sym, subst, refl, arith, add-one, IsUtf8, true, false, ⊎_elim, length-take-le, get_or-take}
+use Rattle.std.specs.Prelude.{IsTrue, All}
 use Rattle.std.specs.Str.{IsCharBoundary}
 use Rattle.std.proofs.str.Laws.{order}
 use Rattle.std.proofs.lemmas.Str.{IsCharBoundary-start, IsCharBoundary-end, IsCharBoundary-before_ascii, IsCharBoundary-after_ascii}

@@ -1,5 +1,5 @@
 -- Which chosen terms can go, found a part of the list at a time.
-use Rattle.std.proofs.Common.{◌≡◌, ◌∙◌, ℕ, ◌+◌, ◌-◌, ◌<◌, ◌≤◌, List, length, take, drop, sym, ap, arith, Some, ⊎_elim, length-take}
+use Rattle.std.proofs.Common.{◌≡◌, ◌∙◌, ℕ, ◌+◌, ◌-◌, ◌<◌, ◌≤◌, List, take, drop, sym, ap, arith, Some, ⊎_elim, length-take}
 use Rattle.std.specs.Prelude.{slice_get}
 use Rattle.std.proofs.lemmas.Option.{slice_get_within}
 use Rattle.std.proofs.str.Laws.{order}
@@ -31,9 +31,9 @@ module _ (chosen : List Term) (e : Tree) (from size : ℕ) where
       ⊎_elim
       (λ below. before j below (t, at, holds))
       (λ above.
-          let low : j - from < size = omega arith in
-          let is : from + (j - from) ≡ j = omega arith in
-          round (j - from) t (omega arith) (slice_get_window chosen from size (j - from) low ∙ ap (slice_get chosen) is ∙ at) holds)
+      let low : j - from < size = omega arith in
+      let is : from + (j - from) ≡ j = omega arith in
+      round (j - from) t (omega arith) (slice_get_window chosen from size (j - from) low ∙ ap (slice_get chosen) is ∙ at) holds)
       (order j from)
 
   pub first_goes : (k : ℕ) → ((j : ℕ) → j < from → CanGo chosen e j → ⊥) → Goes k → ((j : ℕ) (t : Term) → j < k → slice_get (window chosen from size) j ≡ Some t → Holds (Without chosen t) e → ⊥) → IsFirst (CanGo chosen e) (from + k)

@@ -1,9 +1,8 @@
 -- A text has tokens, and only one list of them.
-use Rattle.std.proofs.Common.{◌≡◌, ◌∙◌, ◌⊎◌, inl, inr, ℕ, zero, suc, ◌+◌, ◌<◌, ◌≤◌, List, [], ◌∷◌, ◌++◌, length, get_or, sym, subst, ap, refl, arith, Bool, true, false, length-append, append_assoc}
-use Rattle.std.specs.Prelude.{IsTrue, All, ◌||◌, not}
+use Rattle.std.proofs.Common.{◌≡◌, ◌∙◌, ◌⊎◌, inl, inr, ℕ, zero, suc, ◌+◌, ◌<◌, ◌≤◌, List, [], ◌∷◌, ◌++◌, length, sym, subst, ap, refl, arith, Bool, true, false, length-append}
+use Rattle.std.specs.Prelude.{IsTrue, All}
 use Rattle.std.proofs.lemmas.Bool.Decides.{nat_tests}
 use Rattle.std.proofs.lemmas.List.{append-nil}
-use Rattle.desk_expr.specs.declared.token.Kind.{Kind}
 use Rattle.desk_expr.specs.Words.{kind_of}
 use Rattle.desk_expr.specs.Tokens.{is_blank, is_parenthesis, is_run_byte, NoRunBegins, IsPiece, Lexeme, IsFirstToken, AreTokens}
 
@@ -65,8 +64,8 @@ first_blanks [] = record { blanks = []; from = []; only = all_none Blank; cut = 
 first_blanks (b ∷ bs) =
     elim (blank_or_not b) [
       | inl is_so ↦
-        let rest = first_blanks bs in
-        record { blanks = b ∷ rest.blanks; from = rest.from; only = all_more Blank b rest.blanks is_so rest.only; cut = ap (λ l. b ∷ l) rest.cut; stops = rest.stops }
+          let rest = first_blanks bs in
+          record { blanks = b ∷ rest.blanks; from = rest.from; only = all_more Blank b rest.blanks is_so rest.only; cut = ap (λ l. b ∷ l) rest.cut; stops = rest.stops }
       | inr is_not ↦ record { blanks = []; from = b ∷ bs; only = all_none Blank; cut = refl; stops = λ c cs is. let same : b ≡ c = cc in subst (λ x. is_blank x ≡ false) same is_not }
     ]
 
@@ -82,8 +81,8 @@ first_run [] = record { run = []; rest = []; only = all_none RunByte; cut = refl
 first_run (b ∷ bs) =
     elim (run_or_not b) [
       | inl is_so ↦
-        let more = first_run bs in
-        record { run = b ∷ more.run; rest = more.rest; only = all_more RunByte b more.run is_so more.only; cut = ap (λ l. b ∷ l) more.cut; stops = more.stops }
+          let more = first_run bs in
+          record { run = b ∷ more.run; rest = more.rest; only = all_more RunByte b more.run is_so more.only; cut = ap (λ l. b ∷ l) more.cut; stops = more.stops }
       | inr is_not ↦ record { run = []; rest = b ∷ bs; only = all_none RunByte; cut = refl; stops = is_not }
     ]
 
@@ -98,8 +97,8 @@ first_piece : (b : ℕ) (bs : List ℕ) → is_blank b ≡ false → FirstPiece 
 first_piece b bs no_blank =
     elim (run_or_not b) [
       | inl is_so ↦
-        let more = first_run bs in
-        record { text = b ∷ more.run; rest = more.rest; piece = inr (all_more RunByte b more.run is_so more.only, more.stops); cut = ap (λ l. b ∷ l) more.cut; some = omega arith }
+          let more = first_run bs in
+          record { text = b ∷ more.run; rest = more.rest; piece = inr (all_more RunByte b more.run is_so more.only, more.stops); cut = ap (λ l. b ∷ l) more.cut; some = omega arith }
       | inr is_not ↦ record { text = b ∷ []; rest = bs; piece = inl (no_run b no_blank is_not, refl); cut = refl; some = omega arith }
     ]
 
@@ -207,6 +206,7 @@ no_token_of_blanks place bytes t rest only f = starts t.text f.piece f.cut
     behind : (front : List ℕ) (b : ℕ) (bs : List ℕ) → All Blank (front ++ b ∷ bs) → is_blank b ≡ true
     behind [] b bs h = all_head Blank b bs h
     behind (c ∷ front) b bs h = behind front b bs (all_tail Blank c (front ++ b ∷ bs) h)
+
     starts : (text : List ℕ) → IsPiece text rest → bytes ≡ f.blanks ++ (text ++ rest) → ⊥
     starts [] p cut = p
     starts (b ∷ bs) p cut =

@@ -1,15 +1,14 @@
 -- Bits that tell of which candidates a fact holds.
-use Rattle.std.proofs.Common.{◌≡◌, ◌↔◌, ◌∙◌, ◌⊎◌, inl, inr, ℕ, zero, suc, ◌+◌, ◌-◌, ◌<◌, ◌≤◌, ◌^◌, min, max, ◌*◌, ◌%◌, ⊎_elim, List, [], ◌∷◌, length, take, drop, get_or, sym, subst, ap, refl, arith, Option, Some, None}
-use Rattle.std.specs.Prelude.{slice_get, Contains, ◌≢◌, bit_and, bit_or}
+use Rattle.std.proofs.Common.{◌≡◌, ◌↔◌, ◌∙◌, ◌⊎◌, inl, inr, ℕ, zero, suc, ◌+◌, ◌-◌, ◌<◌, ◌≤◌, ◌^◌, max, ◌*◌, ◌%◌, ⊎_elim, List, [], ◌∷◌, length, take, drop, get_or, sym, ap, refl, arith, Some}
+use Rattle.std.specs.Prelude.{slice_get, ◌≢◌, bit_and, bit_or}
 use Rattle.std.specs.Int.{bit_at}
-use Rattle.std.proofs.lemmas.Option.{slice_get_within}
 use Rattle.std.proofs.lemmas.Nat.Bits.{bit_at_and, bit_at_or, bit_at-lt, bit_at_ones, bit_at_set_same, bit_at_set_other}
 use Rattle.std.proofs.str.Laws.{order}
 use Rattle.std.specs.Int.{w64}
 use mir.Val.{bits}
 use Rattle.desk_expr.specs.declared.term.Term.{Term}
-use Rattle.desk_expr.specs.Tree.{Tree, one, parts_of}
-use Rattle.desk_expr.specs.Meaning.{Holds, AllHold, SomeHolds, Without, CanGo}
+use Rattle.desk_expr.specs.Tree.{Tree, parts_of}
+use Rattle.desk_expr.specs.Meaning.{Holds, AllHold, SomeHolds}
 use Rattle.desk_expr.proofs.Parts.{all_hold-drop, some_holds-drop}
 
 -- ---- one bit
@@ -30,8 +29,7 @@ pub either_set : (a b k : ℕ) → (bit_at (bit_or a b) k ≡ 1) ↔ ((bit_at a 
 either_set a b k =
     let is = bit_at_or a b k in
     let low = bit_at-lt a k in
-    let low' = bit_at-lt b k in
-    (
+    let low' = bit_at-lt b k in (
       (λ h. either_set_from (bit_at a k) (bit_at b k) low low' (sym is ∙ h)),
       (λ h. elim h [ inl x ↦ omega (arith, x, is, low, low') | inr y ↦ omega (arith, y, is, low, low') ]),
     )
@@ -106,10 +104,10 @@ told_set candidates term item marks k low at other told j gone within at' =
     ⊎_elim
     (λ below. let ne : j ≢ k = omega arith in rw (bit_at_set_other w64 marks k low j ne) (told j gone below at'))
     (λ above.
-        let is : j ≡ k = omega arith in
-        let set : bit_at (bit_or marks (1 * 2 ^ k % 2 ^ bits w64)) j ≡ 1 = ap (bit_at (bit_or marks (1 * 2 ^ k % 2 ^ bits w64))) is ∙ bit_at_set_same w64 marks k low in
-        let same : item ≡ gone = same_item candidates k j item gone (sym is) at at' in
-        ((λ h e. other (e ∙ sym same)), (λ h. set)))
+    let is : j ≡ k = omega arith in
+    let set : bit_at (bit_or marks (1 * 2 ^ k % 2 ^ bits w64)) j ≡ 1 = ap (bit_at (bit_or marks (1 * 2 ^ k % 2 ^ bits w64))) is ∙ bit_at_set_same w64 marks k low in
+    let same : item ≡ gone = same_item candidates k j item gone (sym is) at at' in
+    ((λ h e. other (e ∙ sym same)), (λ h. set)))
     (order j k)
 
 pub told_kept : (candidates : List Term) (term item : Term) (marks k : ℕ) → slice_get candidates k ≡ Some item → term ≡ item → ToldBelow candidates term marks k → UnsetFrom marks k → ToldBelow candidates term marks (k + 1)
@@ -117,10 +115,10 @@ told_kept candidates term item marks k at is told unset j gone within at' =
     ⊎_elim
     (λ below. told j gone below at')
     (λ above.
-        let j_is : j ≡ k = omega arith in
-        let zero_bit : bit_at marks j ≡ 0 = unset j (omega arith) in
-        let same : item ≡ gone = same_item candidates k j item gone (sym j_is) at at' in
-        ((λ h. absurd (omega (arith, h, zero_bit))), (λ h. absurd (h (is ∙ same)))))
+    let j_is : j ≡ k = omega arith in
+    let zero_bit : bit_at marks j ≡ 0 = unset j (omega arith) in
+    let same : item ≡ gone = same_item candidates k j item gone (sym j_is) at at' in
+    ((λ h. absurd (omega (arith, h, zero_bit))), (λ h. absurd (h (is ∙ same)))))
     (order j k)
 
 pub unset_set : (marks k : ℕ) → k < 64 → UnsetFrom marks k → UnsetFrom (bit_or marks (1 * 2 ^ k % 2 ^ bits w64)) (k + 1)

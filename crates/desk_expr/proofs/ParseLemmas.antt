@@ -1,20 +1,18 @@
 -- A whole text: what its tokens spell, where it stops, and that no other tree is spelled.
-use Rattle.std.proofs.Common.{◌≡◌, ◌∙◌, ◌⊎◌, inl, inr, ℕ, zero, suc, ◌+◌, ◌<◌, ◌≤◌, Bool, true, false, List, [], ◌∷◌, ◌++◌, length, take, sym, subst, ap, refl, append_assoc, arith, Option, Some, None, Result, Ok, Err}
-use Rattle.std.specs.Prelude.{map, IfOk, IfErr, IsTrue, All, alloc_error, ◌≢◌}
-use Rattle.std.proofs.lemmas.List.{map-append, append-nil, take_all, take-append-le}
+use Rattle.std.proofs.Common.{◌≡◌, ◌∙◌, ◌⊎◌, inl, inr, ℕ, suc, ◌≤◌, true, false, List, [], ◌∷◌, ◌++◌, length, take, sym, subst, ap, refl, append_assoc, arith, Some, Result, Ok, Err}
+use Rattle.std.specs.Prelude.{map, IfOk, IfErr, alloc_error}
+use Rattle.std.proofs.lemmas.List.{map-append, append-nil}
 use Rattle.desk_base.specs.declared.limits.TheConstants as limit
 use Rattle.desk_expr.specs.declared.cut.TokenCuts.{TokenCuts}
 use Rattle.desk_expr.specs.declared.fault.ParseFault.{ParseFault}
 use Rattle.desk_expr.specs.declared.fault.ParseFault.TheVariants.{Empty, BadToken, Unexpected, Unclosed, TooDeep, TooLong, TooManyTerms, Memory}
 use Rattle.desk_expr.specs.declared.progress.Progress.{Progress}
-use Rattle.desk_expr.specs.declared.token.Kind.{Kind}
-use Rattle.desk_expr.specs.declared.token.Kind.TheVariants.{Bad}
 use Rattle.desk_expr.specs.declared.token.Token.{Token}
 use Rattle.desk_expr.specs.Tree.{Tree}
-use Rattle.desk_expr.specs.Tokens.{is_blank, Lexeme, lexeme, IsFirstToken, AreTokens}
+use Rattle.desk_expr.specs.Tokens.{Lexeme, lexeme, AreTokens}
 use Rattle.desk_expr.specs.Given.{TokenGiven}
-use Rattle.desk_expr.specs.Grammar.{Symbol, bad, OrList, AndList, Operand, SpellsTerm, SpellsTree}
-use Rattle.desk_expr.specs.Spelling.{symbol, symbol_of, symbols, still_open, operand_words, AllFronts, KeepsLimits, Begins, Stands, Reason, EndReason, StopsAtToken, StopsAtEnd, IsStop, Spells, SpellsWithin}
+use Rattle.desk_expr.specs.Grammar.{bad, SpellsTree}
+use Rattle.desk_expr.specs.Spelling.{symbol, symbol_of, symbols, AllFronts, KeepsLimits, Begins, Stands, Reason, EndReason, StopsAtToken, StopsAtEnd, IsStop, Spells, SpellsWithin}
 use Rattle.desk_expr.specs.Progress.{StopsAfter, EndsAfter, HasRead, is_started}
 use Rattle.desk_expr.proofs.Lexing.{tokens_exist, same_tokens}
 use Rattle.desk_expr.proofs.Unambiguous.{one_tree}

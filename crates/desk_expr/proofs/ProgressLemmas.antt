@@ -1,6 +1,6 @@
 -- One token more has been read.
-use Rattle.std.proofs.Common.{◌≡◌, ◌↔◌, ◌∙◌, ◌⊎◌, inl, inr, ℕ, zero, suc, ◌+◌, ◌-◌, ◌<◌, ◌≤◌, Bool, true, false, List, [], ◌∷◌, ◌++◌, length, take, sym, subst, ap, refl, append_assoc, arith, ⊎_elim, Some, length-append, add_assoc}
-use Rattle.std.specs.Prelude.{map, fold, slice_get, ◌&&◌, not, if◌then◌else◌, ◌≢◌}
+use Rattle.std.proofs.Common.{◌≡◌, ◌↔◌, ◌∙◌, ℕ, zero, suc, ◌+◌, ◌-◌, ◌<◌, ◌≤◌, Bool, true, false, List, [], ◌∷◌, ◌++◌, length, take, sym, subst, ap, refl, append_assoc, arith, ⊎_elim, Some, length-append}
+use Rattle.std.specs.Prelude.{fold, slice_get, ◌&&◌, not, if◌then◌else◌, ◌≢◌}
 use Rattle.std.proofs.lemmas.List.{map-append, append-nil, take_all, take-append-le}
 use Rattle.std.proofs.str.Laws.{order}
 use Rattle.desk_base.specs.declared.limits.TheConstants as limit
@@ -13,7 +13,6 @@ use Rattle.desk_expr.specs.declared.word.Halt.{Halt}
 use Rattle.desk_expr.specs.declared.word.Halt.TheVariants as halt
 use Rattle.desk_expr.specs.Halting.{fault_at}
 use Rattle.desk_expr.specs.declared.progress.Progress.{Progress}
-use Rattle.desk_expr.specs.declared.counts.Counts.{Counts}
 use Rattle.desk_expr.specs.declared.fault.ParseFault.{ParseFault}
 use Rattle.desk_expr.specs.declared.fault.ParseFault.TheVariants.{Empty, BadToken, Unexpected, Unclosed, TooDeep, TooLong, TooManyTerms, Memory}
 use Rattle.desk_expr.specs.Tree.{Tree}
@@ -23,7 +22,7 @@ use Rattle.desk_expr.specs.Spelling.{symbol_of, symbols, open_after, still_open,
 use Rattle.desk_expr.specs.Counting.{CountsToken, IsOver}
 use Rattle.desk_expr.specs.Rest.{Ended}
 use Rattle.desk_expr.specs.Reading.{Rest, RestIn, Steps, Stops, EndsWith, goal_from}
-use Rattle.desk_expr.specs.Progress.{HasRead, StopsAfter, EndsAfter, is_started, ends_with_with}
+use Rattle.desk_expr.specs.Progress.{HasRead, StopsAfter, is_started, ends_with_with}
 use Rattle.desk_expr.proofs.Residual.{ended_lives, want_lives, after_lives, word_lives, exception_lives}
 use Rattle.desk_expr.proofs.Steps.{from_lives}
 use Rattle.desk_expr.proofs.Balance.{completed_open}

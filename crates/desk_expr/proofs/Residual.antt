@@ -1,10 +1,10 @@
 -- What may follow a place in an expression, one symbol on, and at the end.
-use Rattle.std.proofs.Common.{◌≡◌, ◌↔◌, ◌∙◌, ◌⊎◌, inl, inr, ℕ, List, [], ◌∷◌, ◌++◌, sym, subst, ap, refl, append_assoc, Option, Some, None, false}
+use Rattle.std.proofs.Common.{◌≡◌, ◌↔◌, ◌∙◌, inl, inr, ℕ, List, [], ◌∷◌, ◌++◌, sym, subst, ap, refl, append_assoc, Option, Some, None, false}
 use Rattle.std.specs.Prelude.{◌≢◌}
 use Rattle.desk_expr.specs.declared.term.Term.{Term}
 use Rattle.desk_expr.specs.Tree.{Tree, one}
 use Rattle.desk_expr.specs.Words.{with_exception}
-use Rattle.desk_expr.specs.Grammar.{Symbol, opening, closing, and_word, or_word, with_word, word, bad, all_of, any_of}
+use Rattle.desk_expr.specs.Grammar.{Symbol, opening, closing, and_word, or_word, with_word, word, all_of, any_of}
 use Rattle.desk_expr.specs.Rest.{Goal, Tail, Want, After, WantException, AfterWord, Closed, Ended, OperandRun, bare_run, excepted_run, group_run, AndRun, last_operand, next_operand, OrRun, last_list, next_list}
 
 -- only a closing parenthesis may follow a whole list

@@ -1,10 +1,10 @@
 -- The grammar from one place of a list to a later one: what is left behind it is a part of the statement.
-use Rattle.std.proofs.Common.{◌≡◌, ◌↔◌, ◌∙◌, ℕ, List, [], ◌∷◌, ◌++◌, sym, subst, ap, refl, append_assoc, Some}
+use Rattle.std.proofs.Common.{◌≡◌, ◌↔◌, ◌∙◌, List, [], ◌∷◌, ◌++◌, sym, subst, ap, refl, append_assoc, Some}
 use Rattle.std.proofs.lemmas.List.{append-nil}
 use Rattle.desk_expr.specs.declared.term.Term.{Term}
 use Rattle.desk_expr.specs.Tree.{Tree, one}
 use Rattle.desk_expr.specs.Words.{with_exception}
-use Rattle.desk_expr.specs.Grammar.{Symbol, opening, closing, and_word, or_word, with_word, word, all_of, any_of, SpellsTerm, bare, excepted, Operand, a_term, a_group, AndList, one_operand, and_more, OrList, one_list, or_more}
+use Rattle.desk_expr.specs.Grammar.{Symbol, opening, closing, and_word, or_word, with_word, word, all_of, SpellsTerm, bare, excepted, Operand, a_term, a_group, AndList, one_operand, and_more, OrList, one_list, or_more}
 use Rattle.desk_expr.specs.Rest.{OperandRun, bare_run, excepted_run, group_run, AndRun, last_operand, next_operand, OrRun, last_list, next_list}
 
 term_run : {ts : List Symbol} {t : Term} → SpellsTerm ts t → (r : List Symbol) → OperandRun (ts ++ r) (one t) r

@@ -1,5 +1,5 @@
 -- The steps of a reader.
-use Rattle.std.proofs.Common.{◌≡◌, ◌↔◌, ◌∙◌, ◌⊎◌, inl, inr, ℕ, zero, suc, List, [], ◌∷◌, ◌++◌, sym, subst, ap, refl, Option, Some}
+use Rattle.std.proofs.Common.{◌≡◌, ◌↔◌, ◌∙◌, inl, inr, ℕ, zero, suc, List, [], ◌∷◌, ◌++◌, sym, subst, ap, refl, Option, Some}
 use Rattle.std.specs.Prelude.{◌≢◌}
 use Rattle.desk_expr.specs.declared.reader.Group.{Group}
 use Rattle.desk_expr.specs.declared.term.Term.{Term}
@@ -9,7 +9,7 @@ use Rattle.desk_expr.specs.Grammar.{Symbol, opening, closing, and_word, or_word,
 use Rattle.desk_expr.specs.Spelling.{closings}
 use Rattle.desk_expr.specs.Rest.{Goal, Want, After, WantException, AfterWord, Closed, Ended, OrRun}
 use Rattle.desk_expr.specs.Reading.{goal_from}
-use Rattle.desk_expr.proofs.Residual.{OnlyCloses, ended_closes, closed_closes, Lives, ended_lives, closed_lives, after_and, after_or, after_closing, after_closing_none, after_other, run_want, want_run, want_opening, want_word, want_other, after_end, after_end_open}
+use Rattle.desk_expr.proofs.Residual.{OnlyCloses, ended_closes, closed_closes, Lives, closed_lives, after_and, after_or, after_closing, after_closing_none, after_other, run_want, want_run, want_opening, want_word, want_other, after_end, after_end_open}
 use Rattle.desk_expr.proofs.Runs.{whole_run}
 
 pub from_closes : (K : Goal) → OnlyCloses K → (gs : List Group) → OnlyCloses (goal_from K gs)

@@ -1,8 +1,8 @@
 -- Which kind of token each symbol stands for.
 use Rattle.std.proofs.Common.{◌≡◌, ℕ, List, refl}
 use Rattle.desk_expr.specs.declared.token.Kind.{Kind}
-use Rattle.desk_expr.specs.declared.token.Kind.TheVariants.{Opening, Closing, And, Or, With, Licence, LicenceOrLater, Reference, Bad}
-use Rattle.desk_expr.specs.Grammar.{Symbol, opening, closing, and_word, or_word, with_word}
+use Rattle.desk_expr.specs.declared.token.Kind.TheVariants.{Opening, Closing, And, Or, With}
+use Rattle.desk_expr.specs.Grammar.{opening, closing, and_word, or_word, with_word}
 use Rattle.desk_expr.specs.Spelling.{symbol}
 
 pub is_and : (k : Kind) (w : List ℕ) → symbol k w ≡ and_word → k ≡ And

@@ -1,5 +1,5 @@
 -- One term: the steps of its reader, and a whole text.
-use Rattle.std.proofs.Common.{◌≡◌, ◌↔◌, ◌∙◌, ◌⊎◌, inl, inr, ℕ, zero, suc, ◌+◌, ◌-◌, ◌<◌, ◌≤◌, Bool, true, false, List, [], ◌∷◌, ◌++◌, length, take, sym, subst, ap, refl, arith, Option, Some, None, Result, Ok, Err, append_assoc, length-append, length-take}
+use Rattle.std.proofs.Common.{◌≡◌, ◌↔◌, ◌∙◌, ◌⊎◌, inl, inr, ℕ, zero, suc, ◌+◌, ◌-◌, ◌≤◌, Bool, true, false, List, [], ◌∷◌, ◌++◌, length, take, sym, subst, ap, refl, arith, Option, Some, None, Result, Ok, Err, length-append, length-take}
 use Rattle.std.specs.Prelude.{map, fold, IfOk, IfErr, alloc_error, ◌≢◌, ◌&&◌, not, if◌then◌else◌}
 use Rattle.std.proofs.lemmas.List.{append-nil, length-map}
 use Rattle.desk_base.specs.declared.limits.TheConstants as limit
@@ -18,8 +18,8 @@ use Rattle.desk_expr.specs.Halting.{fault_at}
 use Rattle.desk_expr.specs.Words.{with_exception}
 use Rattle.desk_expr.specs.Tokens.{Lexeme, lexeme, AreTokens}
 use Rattle.desk_expr.specs.Given.{TokenGiven}
-use Rattle.desk_expr.specs.Grammar.{Symbol, opening, closing, and_word, or_word, with_word, word, bad, SpellsTerm, bare, excepted}
-use Rattle.desk_expr.specs.Spelling.{symbol, symbol_of, symbols, open_after, still_open, is_word, is_with, operand_words_after, operand_words, closings, AllFronts, Begins, Stands, ClosingsComplete, Reason, EndReason, StopsAtToken, StopsAtEnd, IsStop, SpellsTermAlone, SpellsTermWithin}
+use Rattle.desk_expr.specs.Grammar.{Symbol, with_word, word, bad, SpellsTerm, bare, excepted}
+use Rattle.desk_expr.specs.Spelling.{symbol, symbol_of, symbols, open_after, is_word, is_with, operand_words_after, closings, AllFronts, Begins, Stands, Reason, EndReason, StopsAtToken, StopsAtEnd, IsStop, SpellsTermAlone, SpellsTermWithin}
 use Rattle.desk_expr.specs.TermReading.{TermRest, HasBegun, TermSteps, TermStops, TermEnds, TermFalls}
 use Rattle.desk_expr.proofs.Lexing.{tokens_exist, same_tokens}
 use Rattle.desk_expr.proofs.ProgressLemmas.{symbols_push, fronts_push}
@@ -38,9 +38,9 @@ start_word s v o is = (
     (λ h. elim (term_inv (s ∷ r) t h) [
       | inl (p, e) ↦ inl (let a = is in cc, let a = is in cc)
       | inr (w, u, p, x, e, same) ↦
-        let tail : r ≡ with_word ∷ word u (Some x) ∷ [] = cc in
-        let head : w ≡ v = let a = is in cc in
-        inr (u, x, tail, subst (λ (y : Term). with_exception y x ≡ t) head same)
+          let tail : r ≡ with_word ∷ word u (Some x) ∷ [] = cc in
+          let head : w ≡ v = let a = is in cc in
+          inr (u, x, tail, subst (λ (y : Term). with_exception y x ≡ t) head same)
     ]),
     (λ h. elim h [
       | inl (none, same) ↦ subst (λ q. SpellsTerm (s ∷ q) t) (sym none) (subst (λ q. SpellsTerm (q ∷ []) t) (sym is) (subst (λ y. SpellsTerm (word v o ∷ []) y) same (bare v o)))
@@ -273,10 +273,10 @@ one_term r a b h k =
       | inr (v, u, o, x, e, is) ↦ elim (term_inv r b k) [
         | inl (p, f) ↦ let same = sym e ∙ f in absurd (cc)
         | inr (w, z, p, y, f, is') ↦
-          let same = sym e ∙ f in
-          let heads : v ≡ w = cc in
-          let ids : x ≡ y = cc in
-          sym is ∙ (λ i. with_exception (heads i) (ids i)) ∙ is'
+            let same = sym e ∙ f in
+            let heads : v ≡ w = cc in
+            let ids : x ≡ y = cc in
+            sym is ∙ (λ i. with_exception (heads i) (ids i)) ∙ is'
       ]
     ]
 

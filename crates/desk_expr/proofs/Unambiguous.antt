@@ -1,11 +1,10 @@
 -- A list of symbols spells at most one tree.
-use Rattle.std.proofs.Common.{◌≡◌, ◌↔◌, ◌∙◌, ◌⊎◌, inl, inr, ℕ, zero, suc, ◌+◌, ◌≤◌, List, [], ◌∷◌, ◌++◌, length, sym, subst, ap, refl, arith, Option, Some}
-use Rattle.std.specs.Prelude.{◌≢◌}
+use Rattle.std.proofs.Common.{◌≡◌, ◌∙◌, inl, inr, ℕ, zero, suc, ◌≤◌, List, [], ◌∷◌, ◌++◌, length, sym, subst, ap, refl, arith}
 use Rattle.desk_expr.specs.declared.term.Term.{Term}
 use Rattle.desk_expr.specs.Tree.{Tree, one}
 use Rattle.desk_expr.specs.Words.{with_exception}
-use Rattle.desk_expr.specs.Grammar.{Symbol, opening, closing, and_word, or_word, with_word, word, bad, all_of, any_of, SpellsTree, SpellsTerm, bare, excepted}
-use Rattle.desk_expr.specs.Rest.{Goal, Want, After, AfterWord, WantException, Closed, Ended, OrRun}
+use Rattle.desk_expr.specs.Grammar.{Symbol, opening, closing, and_word, or_word, with_word, word, bad, all_of, any_of, SpellsTree}
+use Rattle.desk_expr.specs.Rest.{Goal, Want, After, AfterWord, WantException, Closed, Ended}
 use Rattle.desk_expr.proofs.Residual.{OnlyCloses, ended_closes, closed_closes, after_and, after_or, after_other, want_opening, want_word, want_other, after_closing, after_closing_none, after_end, after_end_open, run_want}
 use Rattle.desk_expr.proofs.Runs.{whole_run}
 

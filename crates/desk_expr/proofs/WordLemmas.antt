@@ -1,7 +1,6 @@
 -- What the kind of a token says of its bytes, and that words are well-formed terms.
-use Rattle.std.proofs.Common.{◌≡◌, ◌∙◌, ℕ, ◌+◌, ◌<◌, List, [], ◌∷◌, length, Bool, true, false, refl, sym, ap, arith, add-zero, Option, Some, None, take, drop, get_or, codes, nat_eq}
-use Rattle.std.specs.Prelude.{IsTrue, nat_lt, ◌&&◌, ◌||◌, not, map, if◌then◌else◌, ◌-◌}
-use Rattle.std.specs.Bool.{Decides}
+use Rattle.std.proofs.Common.{◌≡◌, ◌∙◌, ℕ, List, [], ◌∷◌, length, Bool, true, false, refl, sym, ap, arith, add-zero, Some, None, drop, get_or, codes, nat_eq}
+use Rattle.std.specs.Prelude.{nat_lt, ◌&&◌, ◌||◌, not, if◌then◌else◌, ◌-◌}
 use Rattle.std.specs.Char.{to_ascii_lowercase}
 use Rattle.std.specs.List.{list_all, ends_with}
 use Rattle.std.specs.Str.{bytes_eq}
@@ -11,7 +10,6 @@ use Rattle.std.proofs.lemmas.Slice.Eq.{bytes_eq-Decides}
 use Rattle.std.proofs.lemmas.List.{length-map, get_or-drop}
 use Rattle.desk_base.specs.Idstring.{is_idstring_byte, is_idstring}
 use Rattle.desk_base.specs.Folded.{folded}
-use Rattle.desk_expr.specs.declared.token.Kind.{Kind}
 use Rattle.desk_expr.specs.declared.token.Kind.TheVariants.{Opening, Closing, And, Or, With, Licence, LicenceOrLater, Reference, Bad}
 use Rattle.desk_expr.specs.Words.{is_reference, begins_like_reference, is_licence_or_later, without_last, kind_of, is_folded_id, is_exception, is_term}
 use Rattle.desk_expr.specs.declared.term.Term.{Term}

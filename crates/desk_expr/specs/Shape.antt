@@ -1,10 +1,10 @@
 -- The tree of a node, and what its parts keep.
-use Rattle.std.specs.Prelude.{ℕ, ◌+◌, ◌≤◌, List, [], ◌∷◌, length}
+use Rattle.std.specs.Prelude.{◌+◌, ◌≤◌, List, [], ◌∷◌, length}
 use Rattle.std.proofs.Common.{arith}
 use denote.Param.Weighed.{most}
 use Rattle.desk_expr.specs.declared.expr.Node.{Node}
 use Rattle.desk_expr.specs.declared.expr.Node.TheVariants.{One, All, Any}
-use Rattle.desk_expr.specs.Tree.{Tree, Trees, one, all, any, parts_of, tree_size, parts_size}
+use Rattle.desk_expr.specs.Tree.{Tree, one, all, any, parts_of, tree_size, parts_size}
 
 abbrev pub tree_of : Node → Tree
 tree_of (One t) = one t

@@ -1,5 +1,5 @@
 -- What a reader of one term stands for: the lists of symbols that complete what it has read, each with its term.
-use Rattle.std.specs.Prelude.{◌≡◌, ◌⊎◌, ◌↔◌, ℕ, List, [], ◌∷◌, Option, Some}
+use Rattle.std.specs.Prelude.{◌≡◌, ◌⊎◌, ◌↔◌, ℕ, List, [], ◌∷◌, Some}
 use Rattle.desk_expr.specs.declared.term.Term.{Term}
 use Rattle.desk_expr.specs.declared.term_reader.TermState.{TermState}
 use Rattle.desk_expr.specs.declared.term_reader.TermState.TheVariants.{Start, Word, Exception, Done}

@@ -1,5 +1,5 @@
 -- What a run of bytes is, and the term that a word is (SPDX 2.3, Annex D.2 and D.3).
-use Rattle.std.specs.Prelude.{◌≡◌, ℕ, ◌-◌, ◌==◌, ◌||◌, ◌&&◌, not, Bool, true, false, List, [], ◌∷◌, Option, Some, None, if◌then◌else◌, length, take, drop, codes, nat_eq, slice_get}
+use Rattle.std.specs.Prelude.{ℕ, ◌-◌, ◌==◌, ◌||◌, ◌&&◌, not, Bool, true, false, List, Option, Some, None, if◌then◌else◌, length, take, drop, codes, nat_eq}
 use Rattle.std.specs.List.{starts_with, ends_with, before_first, after_first}
 use Rattle.std.specs.Str.{bytes_eq}
 use Rattle.desk_base.specs.Idstring.{is_idstring}

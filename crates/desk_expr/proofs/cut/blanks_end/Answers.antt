@@ -1,4 +1,3 @@
-use Rattle.std.proofs.Common.{subst, sym}
 use Rattle.desk_expr.proofs.Cuts.{blanks_boundary, all_blank}
 use Rattle.desk_expr.proofs.cut.blanks_end.Goals as goal
 

@@ -1,4 +1,4 @@
-use Rattle.std.proofs.Common.{ℕ, ◌≤◌, ◌≡◌, sym, arith, eq-eqb, length}
+use Rattle.std.proofs.Common.{sym, arith, eq-eqb, length}
 use Rattle.std.specs.Prelude.{◌==◌}
 use Rattle.std.proofs.lemmas.List.Sums.{position_or_len_is}
 use Rattle.desk_expr.proofs.cut.colon_place.Goals as goal

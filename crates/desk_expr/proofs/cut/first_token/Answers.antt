@@ -1,5 +1,5 @@
-use Rattle.std.proofs.Common.{length, take, drop, arith, ◌≡◌, ◌∙◌, ◌++◌, ◌+◌, ap, sym, subst, length-take-le, take-append-drop}
-use Rattle.desk_expr.specs.Tokens.{IsPiece, IsFirstToken}
+use Rattle.std.proofs.Common.{take, ◌≡◌, ◌∙◌, ◌++◌, ◌+◌, ap, sym, subst, length-take-le, take-append-drop}
+use Rattle.desk_expr.specs.Tokens.{IsPiece}
 use Rattle.desk_expr.proofs.cut.first_token.Goals as goal
 
 pub returns-clause-some : goal.returns-clause-some

@@ -1,5 +1,5 @@
-use Rattle.std.proofs.Common.{◌≡◌, ◌∙◌, sym, subst, length, get_or, true, false, ap}
-use Rattle.desk_expr.specs.Tokens.{is_parenthesis, is_run_byte}
+use Rattle.std.proofs.Common.{◌≡◌, ◌∙◌, sym, get_or, true, false, ap}
+use Rattle.desk_expr.specs.Tokens.{is_parenthesis}
 use Rattle.desk_expr.proofs.Cuts.{parenthesis_boundary, parenthesis_piece, run_boundary, run_piece, run_byte}
 use Rattle.desk_expr.proofs.cut.piece_end.Goals as goal
 

@@ -1,11 +1,7 @@
-use Rattle.std.proofs.Common.{◌≡◌, List, ◌++◌, [], sym, subst, arith, length}
-use Rattle.std.specs.Prelude.{map, ◌≤◌}
+use Rattle.std.proofs.Common.{List, [], sym, subst, length}
+use Rattle.std.specs.Prelude.{map}
 use Rattle.std.proofs.lemmas.List.{append-nil}
-use Rattle.desk_base.specs.declared.limits.TheConstants as limit
-use Rattle.desk_expr.specs.Tree.{Tree}
 use Rattle.desk_expr.specs.Tokens.{Lexeme, lexeme, AreTokens}
-use Rattle.desk_expr.specs.Grammar.{SpellsTree}
-use Rattle.desk_expr.specs.Spelling.{IsStop}
 use Rattle.desk_expr.specs.Progress.{HasRead}
 use Rattle.desk_expr.proofs.ParseLemmas.{spells_once, so_far_push, lexemes_push, stop_at_token, stop_spells_nothing, faults_spell_nothing, spelled_at_end, stopped_at_end, spelled_by, ended_by}
 use Rattle.desk_expr.proofs.progress.parse.Goals as goal

@@ -1,4 +1,4 @@
-use Rattle.std.proofs.Common.{ap, refl}
+use Rattle.std.proofs.Common.{ap}
 use Rattle.desk_expr.specs.Spelling.{symbol}
 use Rattle.desk_expr.proofs.SymbolLemmas.{is_and, is_or, is_closing}
 use Rattle.desk_expr.proofs.Steps.{step_and, step_or, step_closing, step_other}

@@ -1,5 +1,3 @@
-use Rattle.std.proofs.Common.{◌∙◌, refl}
-use Rattle.desk_expr.specs.Words.{with_exception}
 use Rattle.desk_expr.specs.Spelling.{symbol}
 use Rattle.desk_expr.proofs.Steps.{exception_word}
 use Rattle.desk_expr.proofs.reader.exception.Goals as goal

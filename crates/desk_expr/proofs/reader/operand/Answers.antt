@@ -1,5 +1,5 @@
-use Rattle.std.proofs.Common.{◌≡◌, ap, ℕ, List, Option, Result, Ok, Err, refl, sym, subst}
-use Rattle.std.specs.Prelude.{IfErr, ◌≢◌}
+use Rattle.std.proofs.Common.{◌≡◌, ap, ℕ, List, Option, refl}
+use Rattle.std.specs.Prelude.{◌≢◌}
 use Rattle.desk_expr.specs.declared.reader.Reader.{Reader}
 use Rattle.desk_expr.specs.declared.reader.State.TheVariants.{Operand}
 use Rattle.desk_expr.specs.declared.term.Term.{Term}

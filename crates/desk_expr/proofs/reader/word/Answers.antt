@@ -1,4 +1,4 @@
-use Rattle.std.proofs.Common.{ap, ◌↔◌, subst, List, ◌∷◌, Result, Ok, Err}
+use Rattle.std.proofs.Common.{ap, subst, Result, Ok, Err}
 use Rattle.std.specs.Prelude.{IfOk, IfErr, ◌≢◌}
 use Rattle.desk_expr.specs.declared.word.Halt.{Halt}
 use Rattle.desk_expr.specs.declared.word.Halt.TheVariants.{Unexpected, Unclosed, Memory}

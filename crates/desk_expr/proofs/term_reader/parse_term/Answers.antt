@@ -1,11 +1,9 @@
-use Rattle.std.proofs.Common.{◌≡◌, List, ◌++◌, [], sym, subst, refl, inr, length}
+use Rattle.std.proofs.Common.{List, [], sym, subst, refl, inr}
 use Rattle.std.specs.Prelude.{map, ◌≢◌}
 use Rattle.std.proofs.lemmas.List.{append-nil}
 use Rattle.desk_expr.specs.declared.fault.ParseFault.TheVariants.{BadToken}
 use Rattle.desk_expr.specs.declared.token.Kind.TheVariants.{Bad}
 use Rattle.desk_expr.specs.Tokens.{Lexeme, lexeme, AreTokens}
-use Rattle.desk_expr.specs.Grammar.{SpellsTerm}
-use Rattle.desk_expr.specs.Spelling.{IsStop}
 use Rattle.desk_expr.proofs.ParseLemmas.{so_far_none, so_far_push, lexemes_push}
 use Rattle.desk_expr.proofs.TermLemmas.{TermRead, TermStopsAfter, nothing_read, one_read, stopped, stop_at_token, spelled_at_end, stopped_at_end, spells_term_once, stop_spells_no_term, faults_spell_no_term}
 use Rattle.desk_expr.proofs.term_reader.parse_term.Goals as goal

@@ -1,4 +1,4 @@
-use Rattle.std.proofs.Common.{◌≡◌, ◌+◌, ℕ, ◌<◌, subst, refl, rules, arith, length}
+use Rattle.std.proofs.Common.{◌≡◌, ◌+◌, subst, refl, arith}
 use Rattle.desk_expr.specs.Meaning.{CanGo, IsFirst}
 use Rattle.desk_expr.proofs.Minimal.{minimal_if_none_can_go, not_minimal_if_can_go}
 use Rattle.desk_expr.proofs.GoLemmas.{goes, first_goes, none_goes}

@@ -1,4 +1,4 @@
-use Rattle.std.proofs.Common.{◌≡◌, ℕ, ◌<◌}
+use Rattle.std.proofs.Common.{ℕ, ◌<◌}
 use Rattle.std.specs.Prelude.{◌≢◌}
 use Rattle.std.specs.Int.{bit_at}
 use Rattle.desk_expr.proofs.truth.first_mark.Given as goal

@@ -8,5 +8,5 @@ use Rattle.desk_expr.proofs.truth.others.Given as goal
 abbrev pub invariant-loop-k : goal.invariant-loop-k
 invariant-loop-k l = record {
   told : (j : ℕ) (gone : Term) → j < l.k → slice_get l.candidates j ≡ Some gone → (bit_at l.marks j ≡ 1) ↔ (l.term ≢ gone);
-  unset : (j : ℕ) → l.k < j + 1 → bit_at l.marks j ≡ 0
+  unset : (j : ℕ) → l.k < j + 1 → bit_at l.marks j ≡ 0;
 }

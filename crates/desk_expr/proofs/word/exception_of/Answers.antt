@@ -1,4 +1,4 @@
-use Rattle.std.proofs.Common.{◌≡◌, ◌∙◌, ℕ, List, Result, Ok, Err, Some, ap, sym, refl, true}
+use Rattle.std.proofs.Common.{◌≡◌, ◌∙◌, ℕ, List, Result, Ok, Err, Some, ap, sym, true}
 use Rattle.std.specs.Prelude.{IfOk}
 use Rattle.desk_base.specs.Folded.{folded}
 use Rattle.desk_expr.specs.declared.term.Term.{Term}

@@ -1,4 +1,4 @@
-use Rattle.std.proofs.Common.{arith, ap, ◌∙◌, length, ◌-◌}
+use Rattle.std.proofs.Common.{arith, ap, ◌∙◌}
 use Rattle.desk_base.specs.Folded.{folded}
 use Rattle.desk_expr.proofs.WordLemmas.{or_later_is_term, last_is_plus}
 use Rattle.desk_expr.proofs.word.licence_or_later.Goals as goal

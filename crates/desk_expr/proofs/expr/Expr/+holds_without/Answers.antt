@@ -1,5 +1,5 @@
-use Rattle.std.proofs.Common.{◌≡◌, ◌↔◌, ℕ, List, length, sym, subst, ap, ◌∙◌, Some}
-use Rattle.std.specs.Prelude.{slice_get, Contains, ◌≢◌}
+use Rattle.std.proofs.Common.{◌≡◌, ◌↔◌, ℕ, List, length, sym, subst, ap, ◌∙◌}
+use Rattle.std.specs.Prelude.{Contains, ◌≢◌}
 use Rattle.std.specs.Int.{bit_at}
 use Rattle.std.proofs.lemmas.Option.{slice_get_within}
 use Rattle.desk_expr.specs.declared.term.Term.{Term}

@@ -1,10 +1,6 @@
-use Rattle.std.proofs.Common.{◌≡◌, sym, ◌∙◌, refl, subst, true}
-use Rattle.desk_expr.specs.Tree.{Tree}
-use Rattle.desk_expr.specs.Grammar.{SpellsTree}
-use Rattle.desk_expr.specs.Spelling.{symbols}
+use Rattle.std.proofs.Common.{sym, ◌∙◌, refl, subst}
 use Rattle.desk_expr.specs.Reading.{EndsWith}
-use Rattle.desk_expr.specs.Progress.{is_started}
-use Rattle.desk_expr.proofs.ProgressLemmas.{spelled_here, last_is_open, ends_unexpected, ends_unclosed}
+use Rattle.desk_expr.proofs.ProgressLemmas.{spelled_here, ends_unexpected, ends_unclosed}
 use Rattle.desk_expr.proofs.progress.Progress.finish.Goals as goal
 
 pub returns-in-Ok-clause-ok : goal.returns-in-Ok-clause-ok
@@ -21,8 +17,7 @@ returns-in-Err-Unexpected-clause-err c =
 pub returns-in-Err-Unclosed-clause-err : goal.returns-in-Err-Unclosed-clause-err
 returns-in-Err-Unclosed-clause-err c =
     λ front read.
-    let ends = subst (EndsWith c.args.self.reader) c.in-Err-Unclosed.field-0-is c.in-Err-Unclosed.ensures.err in
-    (
+    let ends = subst (EndsWith c.args.self.reader) c.in-Err-Unclosed.field-0-is c.in-Err-Unclosed.ensures.err in (
       sym read.started ∙ c.if-not-started.false,
       ends_unclosed front c.args.self read c.last_open.result ends c.last_open.ensures c.args.length,
     )

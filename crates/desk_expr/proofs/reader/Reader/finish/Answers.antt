@@ -1,4 +1,4 @@
-use Rattle.std.proofs.Common.{◌≡◌, ◌↔◌, ℕ, sym, subst, Result, Ok, Err, inl}
+use Rattle.std.proofs.Common.{◌≡◌, ◌↔◌, sym, subst, Result, Ok, Err, inl}
 use Rattle.std.specs.Prelude.{IfOk, IfErr, []}
 use Rattle.desk_expr.specs.declared.word.Halt.{Halt}
 use Rattle.desk_expr.specs.declared.word.Halt.TheVariants.{Unexpected, Unclosed, Memory}

@@ -1,6 +1,6 @@
-use Rattle.std.proofs.Common.{◌≡◌, ℕ, List, Option, Some, sym, subst, refl, ap}
+use Rattle.std.proofs.Common.{◌≡◌, ℕ, List, Option, sym, subst, refl, ap}
 use Rattle.desk_expr.specs.declared.term.Term.{Term}
-use Rattle.desk_expr.specs.declared.term_reader.TermState.TheVariants.{Start, Word, Exception, Done}
+use Rattle.desk_expr.specs.declared.term_reader.TermState.TheVariants.{Start, Word, Exception}
 use Rattle.desk_expr.specs.declared.word.Halt.{Halt}
 use Rattle.desk_expr.specs.declared.word.Halt.TheVariants.{Unexpected, Unclosed, Memory}
 use Rattle.desk_expr.specs.Grammar.{Symbol, word}
