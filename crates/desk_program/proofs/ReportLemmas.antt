@@ -1,13 +1,17 @@
 -- The reading of words into terms, word by word.
-use Rattle.std.proofs.Common.{◌≡◌, ℕ, suc, ◌+◌, ◌<◌, List, [], ◌∷◌, ◌++◌, length, map, take, drop, get_or, Some, option_map, Bor, refl, sym, ap, subst, ◌∙◌, arith}
-use Rattle.std.specs.Prelude.{slice_get}
+use Rattle.std.proofs.Common.{◌≡◌, ℕ, suc, ◌+◌, ◌<◌, List, [], ◌∷◌, ◌++◌, ◌⊎◌, inl, inr, length, map, take, drop, get_or, Some, option_map, Bor, refl, sym, ap, subst, ◌∙◌, arith}
+use Rattle.std.specs.Prelude.{slice_get, alloc_error}
 use Rattle.std.proofs.Math.Seq.{take-suc, drop-cons}
 use Rattle.std.proofs.lemmas.List.{map-append, length-map, take-append-drop}
 use Rattle.std.proofs.lemmas.Option.{slice_get_within, slice_get-map, slice_get-get_or}
 use Rattle.desk_expr.specs.declared.term.Term.{Term}
+use Rattle.desk_expr.specs.Faults.{fault_number}
+use Rattle.desk_expr.specs.declared.fault.ParseFault.{ParseFault}
+use Rattle.desk_expr.specs.declared.fault.ParseFault.TheVariants.{Memory}
 use Rattle.desk_expr.specs.Tree.{Tree}
-use Rattle.desk_expr.specs.Spelling.{SpellsWithin, SpellsTermWithin}
-use Rattle.desk_program.specs.Report.{SpellTerms, IsBad, IsFirstBad, IsReport, IsVerdict}
+use Rattle.desk_expr.specs.Grammar.{SpellsTree}
+use Rattle.desk_expr.specs.Spelling.{SpellsWithin, SpellsTermWithin, IsStop}
+use Rattle.desk_program.specs.Report.{SpellTerms, IsBad, IsFirstBad, IsReport, IsVerdict, StopsWith}
 use Rattle.desk_program.specs.declared.report.Report.{Report}
 use Rattle.desk_program.specs.declared.report.Report.TheVariants.{Minimal, NotEnough, Superfluous, BadTerm, Fault}
 
@@ -65,6 +69,17 @@ word_at words terms i t spell at =
 pub text_at : (words : List (Bor (List ℕ))) (i : ℕ) (d : Bor (List ℕ)) → i < length words
     → slice_get (texts words) i ≡ Some (get_or words i d).now
 text_at words i d within = slice_get-map (λ w. w.now) words i ∙ ap (option_map (λ w. w.now)) (slice_get-get_or words i d within)
+
+-- a fault that isn't want of memory
+pub not_memory : {P : Type 0} (fault : ParseFault) → 0 < fault_number fault → (fault ≡ Memory alloc_error) ⊎ P → P
+not_memory fault told (inl e) = let none : 0 < fault_number (Memory alloc_error) = subst (λ f. 0 < fault_number f) e told in absurd (omega arith)
+not_memory fault told (inr p) = p
+
+-- a fault that was told
+pub stops_with : (expression : List ℕ) (fault told : ParseFault) → told ≡ fault → 0 < fault_number fault → IsStop SpellsTree expression fault
+    → (fault ≡ Memory alloc_error) ⊎ ((tree : Tree) → SpellsWithin expression tree → ⊥) → StopsWith expression told
+stops_with expression fault told same is_told stop complete =
+    subst (λ f. StopsWith expression f) (sym same) (not_memory fault is_told complete, is_told, stop)
 
 -- a verdict on what the texts spell is their answer
 pub verdict_reported : (expression : List ℕ) (words : List (List ℕ)) (terms : List Term) (tree : Tree) (report : Report) → SpellsWithin expression tree

@@ -3,7 +3,7 @@ use Rattle.std.specs.Prelude.{◌≡◌, ℕ, ◌<◌, List, [], ◌∷◌, ◌+
 use Rattle.desk_expr.specs.declared.fault.ParseFault.{ParseFault}
 use Rattle.desk_expr.specs.declared.term.Term.{Term}
 use Rattle.desk_expr.specs.Tree.{Tree}
-use Rattle.desk_expr.specs.Grammar.{SpellsTree, SpellsTerm}
+use Rattle.desk_expr.specs.Grammar.{SpellsTree}
 use Rattle.desk_expr.specs.Spelling.{SpellsWithin, SpellsTermWithin, IsStop}
 use Rattle.desk_expr.specs.Faults.{fault_name, fault_number, fault_place}
 use Rattle.desk_expr.specs.Meaning.{Holds, IsMinimal, CanGo, IsFirst}
@@ -23,7 +23,7 @@ SpellTerms (word ∷ words) (term ∷ more) = SpellsTermWithin word term × Spel
 
 -- the word spells no term
 abbrev pub IsBad : List ℕ → Type 0
-IsBad word = (fault : ParseFault) × (0 < fault_number fault) × IsStop SpellsTerm word fault
+IsBad word = (term : Term) → SpellsTermWithin word term → ⊥
 
 -- the first word that spells no term: each one before it does
 abbrev pub IsFirstBad : List (List ℕ) → List ℕ → Type 0
@@ -40,9 +40,14 @@ IsVerdict words terms tree NotEnough = Holds (Contains terms) tree → ⊥
 IsVerdict words terms tree (Superfluous word) = (i : ℕ) × (slice_get words i ≡ Some word.now) × IsFirst (CanGo terms tree) i
 IsVerdict words terms tree _ = ⊥
 
+-- the expression spells no tree, and stops with the fault, which isn't want of memory
+abbrev pub StopsWith : List ℕ → ParseFault → Type 0
+StopsWith expression fault =
+    ((tree : Tree) → SpellsWithin expression tree → ⊥) × (0 < fault_number fault) × IsStop SpellsTree expression fault
+
 -- the answer to an expression and words: a fault of the expression first, then the first bad word, then the verdict
 abbrev pub IsReport : List ℕ → List (List ℕ) → Report → Type 0
-IsReport expression words (Fault fault) = (0 < fault_number fault) × IsStop SpellsTree expression fault
+IsReport expression words (Fault fault) = StopsWith expression fault
 IsReport expression words (BadTerm word) = ((tree : Tree) × SpellsWithin expression tree) × IsFirstBad words word.now
 IsReport expression words verdict =
     (tree : Tree) × (terms : List Term) × SpellsWithin expression tree × SpellTerms words terms × IsVerdict words terms tree verdict
