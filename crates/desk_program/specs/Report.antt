@@ -72,6 +72,12 @@ abbrev pub Tells : List ℕ → List (List ℕ) → List ℕ → ℕ → Type 0
 Tells expression words line status =
     (report : Report) × IsReport expression words report × (line ≡ text_of report) × (status ≡ status_of report)
 
+-- only one line and one status do
+abbrev pub TellsOnce : List ℕ → List (List ℕ) → Type 0
+TellsOnce expression words =
+    (line other : List ℕ) (status another : ℕ) → Tells expression words line status → Tells expression words other another
+    → (line ≡ other) × (status ≡ another)
+
 -- ---- the reading of the words
 
 -- the terms of the words, or the first bad word

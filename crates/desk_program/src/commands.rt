@@ -4,7 +4,7 @@ ghost use Rattle.std.specs.Prelude.{◌≡◌, ◌++◌, ◌∷◌, [], ℕ, ◌
 ghost use Rattle.std.specs.Io.KnownBytes.{Appends, Keeps};
 ghost use Rattle.desk_expr.specs.Faults.{fault_number};
 ghost use Rattle.desk_program.specs.Failures.{IfMemory};
-ghost use Rattle.desk_program.specs.Report.{IsReadTo, IsReport, IsVerdict, SpellTerms, Tells};
+ghost use Rattle.desk_program.specs.Report.{IsReadTo, IsReport, IsVerdict, SpellTerms, Tells, TellsOnce};
 
 use crate::failure::Failure;
 use crate::report::Report;
@@ -92,6 +92,7 @@ pub fn check<W: Write>(
     ensures told { IfOk result (λ status. (line : List ℕ)
         × Tells expression.now (map (λ w. w.now) words.now) line status
         × Appends (W.contents writer.old) (W.contents writer.new) (line ++ 10 ∷ [])) }
+    ensures once { TellsOnce expression.now (map (λ w. w.now) words.now) }
     ensures memory { IfErr result
         (IfMemory (Keeps (W.contents writer.old) (W.contents writer.new))) }
 {
