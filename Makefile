@@ -1,0 +1,57 @@
+# Builds, shows, tests and installs the desk. It needs the Rattle toolchain's `rt`, a POSIX shell and make.
+.POSIX:
+.SUFFIXES:
+
+PREFIX = /usr/local
+DESTDIR =
+ARGS = check MIT mit
+
+program = crates/desk_program
+
+all: build
+
+# Only a proved program is built. With no change since the last build this takes seconds.
+build:
+	@echo 'Building build/desk: each crate is proved first. Minutes the first time, then seconds.'
+	@mkdir -p build
+	@rm -f build/is-built
+	@(cd $(program) && rt run -- check MIT mit </dev/null && : >../../build/is-built) 2>&1 | tee build/log \
+	    | awk '/^rt: chose/ { print "  proving " $$NF; fflush() } /^so far/ { print "    " $$0; fflush() }'
+	@[ -f build/is-built ] || { cat build/log; exit 1; }
+	@cmp -s $(program)/out/desk_program build/desk || cp $(program)/out/desk_program build/desk
+	@echo 'Built build/desk.'
+
+# The desk's main job of the day, on a real example.
+demo: build
+	@sh examples/demo.sh build/desk
+
+# The merge gate, and then the acceptance cases on the built program.
+test:
+	@echo 'Running the gate: every proof from nothing, every must-fail edit, every test.'
+	@echo 'That takes minutes to hours: docs/GATE.md has the times of each machine.'
+	rt ci
+	@$(MAKE) build
+	@echo 'Running the acceptance cases on build/desk.'
+	@sh tests/acceptance/run.sh build/desk
+
+# The acceptance cases alone.
+acceptance: build
+	@sh tests/acceptance/run.sh build/desk
+
+# Runs the program with no proof: make try ARGS='check MIT mit'
+try:
+	@echo 'Trying the program with no proof: this says nothing of its contracts.'
+	@cd $(program) && rt try -- $(ARGS)
+
+# Times the program beside another program for the same work.
+bench: build
+	@python3 bench/bench.py build/desk
+
+install: build
+	mkdir -p $(DESTDIR)$(PREFIX)/bin
+	cp build/desk $(DESTDIR)$(PREFIX)/bin/desk
+
+clean:
+	rm -rf build
+
+.PHONY: all build demo test acceptance try bench install clean

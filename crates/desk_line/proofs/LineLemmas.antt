@@ -1,0 +1,47 @@
+-- What follows of the call that words hold, from what `clap` answers to them.
+use Rattle.std.proofs.Common.{◌≡◌, true, [], ◌∷◌, List, Option, None, inl, inr, refl, sym, ◌∙◌, subst}
+use Rattle.clap.specs.Words.{App, HasKind, IsAmong, Kinds, Row, Text, fault_of, is_simple, is_simple_and_free, kind_of, subcommand_of}
+use Rattle.clap.specs.Kinds.{or_else}
+use Rattle.clap.specs.declared.error.Error.{Error}
+use Rattle.clap.specs.declared.error.kind.ErrorKind.{ErrorKind}
+use Rattle.clap.specs.declared.error.kind.ErrorKind.TheVariants.{MissingSubcommand}
+use Rattle.desk_line.specs.Words.{desk_app}
+use Rattle.desk_line.specs.Calls.{call_at, call_of, unless, usage_of, IsFault, IsFaultOf}
+use Rattle.desk_line.specs.declared.call.Call.{Call}
+use Rattle.desk_line.specs.declared.call.LineFault.{LineFault}
+use Rattle.desk_line.specs.declared.call.LineFault.TheVariants.{Memory, Usage}
+
+-- where nothing is refused, what is found stands
+found_where_none : (kinds : Kinds) (found : Option Call) → kinds ≡ [] → unless kinds found ≡ found
+found_where_none kinds found none = subst (λ (ks : Kinds). unless ks found ≡ found) (sym none) refl
+
+none_where_refused : (kinds : Kinds) (found : Option Call) (kind : ErrorKind) → IsAmong kind kinds
+    → (unless kinds found ≡ None) × IsAmong kind (or_else kinds (MissingSubcommand ∷ []))
+none_where_refused [] found kind among = absurd among
+none_where_refused (first ∷ rest) found kind among = (refl, among)
+
+-- words that `clap` takes hold the call of the subcommand that it met
+pub taken : (app : App) (words : List Text) (met : Option (Text × List Row)) → app ≡ desk_app
+    → (is_simple_and_free app ≡ true → fault_of app words ≡ []) → (is_simple app ≡ true → met ≡ subcommand_of app words)
+    → (fault_of desk_app words ≡ []) × (call_of words ≡ call_at met)
+taken app words met same none found =
+    let taken_whole : fault_of desk_app words ≡ [] =
+    subst (λ (a : App). is_simple_and_free a ≡ true → fault_of a words ≡ []) same none refl in
+    let found_whole : met ≡ subcommand_of desk_app words =
+    subst (λ (a : App). is_simple a ≡ true → met ≡ subcommand_of a words) same found refl in (
+      taken_whole,
+      found_where_none (fault_of desk_app words) (call_at (subcommand_of desk_app words)) taken_whole
+          ∙ sym (subst (λ m. call_at met ≡ call_at m) found_whole refl),
+    )
+
+-- words that `clap` refuses hold no call
+pub refused : (app : App) (words : List Text) (error : Error) (fault : LineFault) → app ≡ desk_app
+    → (is_simple_and_free app ≡ true → HasKind (fault_of app words) error) → IsFaultOf error fault → IsFault words fault
+refused app words error fault same kinds of =
+    go fault (subst (λ (a : App). is_simple_and_free a ≡ true → HasKind (fault_of a words) error) same kinds refl) of
+  where
+    go : (fault : LineFault) → HasKind (fault_of desk_app words) error → IsFaultOf error fault → IsFault words fault
+    go (Usage told) (inl memory) of = absurd (of.1 memory)
+    go (Usage told) (inr among) of = subst (λ e. (call_of words ≡ None) × IsAmong (kind_of e) (usage_of words)) (sym of.0)
+        (none_where_refused (fault_of desk_app words) (call_at (subcommand_of desk_app words)) (kind_of error) among)
+    go (Memory refused) kinds of = tt

@@ -1,0 +1,48 @@
+-- The call that the words of a command line hold.
+use Rattle.std.specs.Prelude.{◌≡◌, ◌≢◌, [], ◌∷◌, List, codes, if◌then◌else◌, Option, None, option_map, option_and_then}
+use Rattle.std.specs.Str.{bytes_eq}
+use Rattle.clap.specs.Words.{IsAmong, Kinds, Row, Text, all_of, fault_of, first_of, kind_of, subcommand_of}
+use Rattle.clap.specs.Kinds.{or_else}
+use Rattle.clap.specs.declared.error.kind.ErrorKind.TheVariants.{MissingSubcommand, OutOfMemory}
+use Rattle.clap.specs.declared.error.Error.{Error}
+use Rattle.desk_line.specs.Words.{desk_app}
+use Rattle.desk_line.specs.declared.call.Call.{Call}
+use Rattle.desk_line.specs.declared.call.Call.TheVariants.{Check}
+use Rattle.desk_line.specs.declared.call.LineFault.{LineFault}
+use Rattle.desk_line.specs.declared.call.LineFault.TheVariants.{Memory, Usage}
+
+-- the call of `check` with these values
+abbrev pub check_in : List Row → Option Call
+check_in rows = option_and_then (λ expression. option_map (λ terms. Check expression terms)
+    (all_of (codes "TERM") rows)) (first_of (codes "EXPR") rows)
+
+-- the call of a subcommand with these values
+abbrev pub call_in : Text → List Row → Option Call
+call_in name rows = if bytes_eq name (codes "check") then check_in rows else None
+
+-- the call of the subcommand that was met, if any
+abbrev pub call_at : Option (Text × List Row) → Option Call
+call_at met = option_and_then (λ found. call_in found.0 found.1) met
+
+-- the call, where nothing is refused
+abbrev pub unless : Kinds → Option Call → Option Call
+unless [] call = call
+unless (kind ∷ more) call = None
+
+-- the call of the subcommand and the values that `clap` finds in the words, where it takes them
+abbrev pub call_of : List Text → Option Call
+call_of words = unless (fault_of desk_app words) (call_at (subcommand_of desk_app words))
+
+-- why words hold no call: what `clap` refuses in them, or else that they name no subcommand
+abbrev pub usage_of : List Text → Kinds
+usage_of words = or_else (fault_of desk_app words) (MissingSubcommand ∷ [])
+
+-- the words hold no call, and the error is of a kind that `clap` gives for them; or there was no memory
+abbrev pub IsFault : List Text → LineFault → Type 0
+IsFault words (Usage error) = (call_of words ≡ None) × IsAmong (kind_of error) (usage_of words)
+IsFault words (Memory error) = Unit {0}
+
+-- the fault tells of the error: memory where that is its kind
+abbrev pub IsFaultOf : Error → LineFault → Type 0
+IsFaultOf error (Usage told) = (told ≡ error) × (kind_of error ≢ OutOfMemory)
+IsFaultOf error (Memory refused) = kind_of error ≡ OutOfMemory

@@ -1,0 +1,25 @@
+-- The command line of the program, as `clap` reads it.
+use Rattle.std.specs.Prelude.{codes, Some, true}
+use Rattle.clap.specs.Lexer.{usize_max}
+use Rattle.clap.specs.Words.{App, Rule, Text, new_app, new_rule, with_rule, with_subcommand}
+use Rattle.clap.specs.Simple.{on_top}
+
+-- a word that must stand in its place
+abbrev pub word : Text → Rule
+word name = record (new_rule name) { required = true }
+
+-- one word or more
+abbrev pub words : Text → Rule
+words name = record (word name) { range = Some (record { start_inclusive = 1; end_inclusive = usize_max }) }
+
+-- `check EXPR TERM..`
+abbrev pub check_app : App
+check_app = with_rule (with_rule (new_app (codes "check")) (word (codes "EXPR"))) (words (codes "TERM"))
+
+-- `desk`, which has a version, asks for a subcommand, and shows its help where there are no words
+abbrev pub desk_alone : App
+desk_alone = on_top (λ s. record s { has_version = true; subcommand_required = true; arg_required_else_help = true })
+    (new_app (codes "desk"))
+
+abbrev pub desk_app : App
+desk_app = with_subcommand desk_alone check_app.top

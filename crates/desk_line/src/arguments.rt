@@ -1,0 +1,27 @@
+//! The arguments of the subcommands.
+
+ghost use Rattle.std.specs.Prelude.{◌≡◌, false};
+ghost use Rattle.clap.specs.Words.{rule_of};
+ghost use Rattle.desk_line.specs.Words.{word, words};
+
+use clap::Arg;
+use std::alloc::Global;
+
+/// A word that must stand in its place.
+pub fn word_arg<'a>(alloc: Global, name: &'a str, help: &'a str) -> Arg<'a>
+    ensures rule { rule_of result ≡ word name.entry.now }
+    ensures local { result.global ≡ false }
+{
+    Arg::new(alloc, name).required(true).help(help)
+}
+
+/// One word or more, up to the end of the line.
+pub fn words_arg<'a>(alloc: Global, name: &'a str, help: &'a str) -> Arg<'a>
+    ensures rule { rule_of result ≡ words name.entry.now }
+    ensures local { result.global ≡ false }
+{
+    Arg::new(alloc, name)
+        .required(true)
+        .num_args(1..)
+        .help(help)
+}

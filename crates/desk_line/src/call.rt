@@ -1,0 +1,24 @@
+//! What the words of a command line ask for.
+
+use clap::Error;
+use desk_base::{Items, Text};
+use std::alloc::AllocError;
+
+/// A subcommand with its values.
+#[derive(Debug, Drop)]
+pub enum Call {
+    /// Whether the terms are a minimal set that satisfies the licence expression.
+    Check {
+        expression: Text,
+        terms: Items<Text>,
+    },
+}
+
+/// Why a command line gave no call.
+#[derive(Debug, Drop)]
+pub enum LineFault {
+    Memory(AllocError),
+    /// The words are no call. The error's text is for the user: what is wrong, or the help or
+    /// version that the words ask for.
+    Usage(Error),
+}

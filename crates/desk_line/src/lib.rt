@@ -1,0 +1,18 @@
+//! The command line of the desk: which subcommand its words name, with which values.
+//!
+//! The words are read by `clap`. The command that it reads them by is a constant, `desk_app` of
+//! `specs/Words.antt`, and each function here that builds a part of it states that part, so the
+//! contract of `line` speaks of `clap`'s own reading of the words: the call is the one that they
+//! hold, and a refusal comes exactly where they hold none.
+//!
+//! The texts of help and usage are claimed by no contract.
+#![tactic(auto)]
+
+mod arguments;
+mod call;
+mod reading;
+mod subcommands;
+mod values;
+
+pub use call::{Call, LineFault};
+pub use reading::line;

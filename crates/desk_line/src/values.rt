@@ -1,0 +1,69 @@
+//! The values of a subcommand, from `clap`'s matches.
+
+ghost use Rattle.std.specs.Prelude.{◌≡◌, IfOk, map, option_map};
+ghost use Rattle.clap.specs.Words.{all_of, first_of, found_of, rows_of};
+ghost use Rattle.desk_line.specs.Calls.{call_in, check_in};
+
+use crate::call::Call;
+use clap::ArgMatches;
+use desk_base::{Items, Text};
+use std::alloc::{AllocError, Global};
+
+fn text_in<'a>(matches: &ArgMatches<'a>, id: &str) -> Option<&'a str>
+    ensures { option_map (λ s. s.now) result ≡ first_of id.now (rows_of (found_of matches.now)) }
+{
+    matches.get_str(id)
+}
+
+fn texts_in(
+    alloc: Global,
+    matches: &ArgMatches<'_>,
+    id: &str,
+) -> Result<Option<Items<Text>>, AllocError>
+    ensures { IfOk result (λ r. r ≡ all_of id.now (rows_of (found_of matches.now))) }
+{
+    match matches.get_strs(id) {
+        Some(values) => Ok(Some(copied(alloc, values)?)),
+        None => Ok(None),
+    }
+}
+
+fn copied(alloc: Global, values: &[&str]) -> Result<Items<Text>, AllocError>
+    ensures { IfOk result (λ r. r ≡ map (λ v. v.now) values.now) }
+{
+    let mut texts = Items::new(alloc);
+    for value in values {
+        let value: &str = *value;
+        texts.push(Text::of(alloc, value)?)?;
+    }
+    Ok(texts)
+}
+
+fn check_from(alloc: Global, matches: &ArgMatches<'_>) -> Result<Option<Call>, AllocError>
+    ensures { IfOk result (λ r. r ≡ check_in (rows_of (found_of matches.now))) }
+{
+    let Some(expression) = text_in(matches, "EXPR") else {
+        return Ok(None);
+    };
+    let Some(terms) = texts_in(alloc, matches, "TERM")? else {
+        return Ok(None);
+    };
+    let expression = Text::of(alloc, expression)?;
+    Ok(Some(Call::Check { expression, terms }))
+}
+
+/// The call of a subcommand with these matches, or `None` where they lack a value or no subcommand
+/// has the name.
+pub fn call_from(
+    alloc: Global,
+    name: &str,
+    matches: &ArgMatches<'_>,
+) -> Result<Option<Call>, AllocError>
+    ensures { IfOk result (λ r. r ≡ call_in name.now (rows_of (found_of matches.now))) }
+{
+    if name == "check" {
+        check_from(alloc, matches)
+    } else {
+        Ok(None)
+    }
+}

@@ -1,0 +1,5 @@
+pub mod ReportLemmas
+pub mod WriterLemmas
+pub mod Splits
+pub mod OneStop
+pub mod OneAnswer

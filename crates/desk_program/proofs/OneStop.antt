@@ -1,0 +1,198 @@
+-- A text has one stop.
+use Rattle.std.proofs.Common.{◌≡◌, ◌∙◌, ◌⊎◌, inl, inr, ℕ, suc, ◌<◌, ◌≤◌, List, [], ◌∷◌, ◌++◌, length, take, unwrap_or, sym, subst, ap, refl, append_assoc, arith}
+use Rattle.desk_base.specs.declared.limits.TheConstants as limit
+use Rattle.desk_expr.specs.declared.fault.ParseFault.{ParseFault}
+use Rattle.desk_expr.specs.declared.fault.ParseFault.TheVariants.{Empty, BadToken, Unexpected, Unclosed, TooDeep, TooLong, TooManyTerms, Memory}
+use Rattle.desk_expr.specs.declared.token.Kind.TheVariants as kind
+use Rattle.desk_expr.specs.Faults.{fault_number}
+use Rattle.desk_expr.specs.Tokens.{Lexeme, AreTokens}
+use Rattle.desk_expr.specs.Grammar.{bad, SpellsTree}
+use Rattle.desk_expr.specs.Spelling.{symbol, symbol_of, symbols, AllFronts, Begins, Stands, Reason, EndReason, StopsAtToken, StopsAtEnd, IsStop}
+use Rattle.desk_expr.proofs.Balance.{no_bad}
+use Rattle.desk_expr.proofs.Lexing.{same_tokens}
+use Rattle.desk_expr.proofs.ParseLemmas.{symbols_behind}
+use Rattle.desk_program.proofs.Splits.{Cuts, two_cuts}
+
+-- ---- a token
+
+front_and_one : (front : List Lexeme) (t : Lexeme) (behind : List Lexeme) → take (suc (length front)) (front ++ t ∷ behind) ≡ front ++ t ∷ []
+front_and_one [] t behind = refl
+front_and_one (u ∷ front) t behind = ap (λ l. u ∷ l) (front_and_one front t behind)
+
+no_bad_begins : (front : List Lexeme) (t : Lexeme) → t.kind ≡ kind.Bad → Begins SpellsTree (symbols (front ++ t ∷ [])) → ⊥
+no_bad_begins front t is (r, e, h) =
+    let bad_there : symbols (front ++ t ∷ []) ++ r ≡ symbols front ++ symbol_of t ∷ r =
+    ap (λ l. l ++ r) (symbols_behind front t []) ∙ append_assoc (symbols front) (symbol_of t ∷ []) r in
+    let same : symbol_of t ≡ bad = ap (λ k. symbol k t.text) is in
+    no_bad (symbols front) r e (subst (λ s. SpellsTree (symbols front ++ s ∷ r) e) same (subst (λ l. SpellsTree l e) bad_there h))
+
+-- a token that may stand has no reason against it
+stands_or_stops : (front : List Lexeme) (t : Lexeme) (f : ParseFault) → Stands SpellsTree (front ++ t ∷ []) → Reason SpellsTree front t f → ⊥
+stands_or_stops front t (Empty p) stands reason = reason
+stands_or_stops front t (BadToken p) stands reason = no_bad_begins front t reason.0 stands.begins
+stands_or_stops front t (Unexpected p) stands reason = reason.1 stands.begins
+stands_or_stops front t (Unclosed p) stands reason = reason
+stands_or_stops front t (TooDeep p) stands reason = let few = stands.depth in absurd (omega (arith, few, reason.1))
+stands_or_stops front t (TooLong p) stands reason = reason
+stands_or_stops front t (TooManyTerms p) stands reason = let few = stands.terms in absurd (omega (arith, few, reason.2))
+stands_or_stops front t (Memory m) stands reason = reason
+
+stands_within : (front : List Lexeme) (t : Lexeme) (more : List Lexeme) (f : ParseFault) → AllFronts (Stands SpellsTree) (front ++ t ∷ more) → Reason SpellsTree front t f → ⊥
+stands_within front t more f stands reason =
+    stands_or_stops front t f (subst (Stands SpellsTree) (front_and_one front t more) (stands (suc (length front)))) reason
+
+module _ (front : List Lexeme) (t : Lexeme) where
+  like_bad : (p : ℕ) (g : ParseFault) → Reason SpellsTree front t (BadToken p) → Reason SpellsTree front t g → BadToken p ≡ g
+  like_bad p (Empty q) h k = absurd k
+  like_bad p (BadToken q) h k = ap BadToken (h.1 ∙ sym k.1)
+  like_bad p (Unexpected q) h k = absurd (k.0 h.0)
+  like_bad p (Unclosed q) h k = absurd k
+  like_bad p (TooDeep q) h k = absurd (no_bad_begins front t h.0 k.0)
+  like_bad p (TooLong q) h k = absurd k
+  like_bad p (TooManyTerms q) h k = absurd (no_bad_begins front t h.0 k.0)
+  like_bad p (Memory m) h k = absurd k
+
+  like_unexpected : (p : ℕ) (g : ParseFault) → Reason SpellsTree front t (Unexpected p) → Reason SpellsTree front t g → Unexpected p ≡ g
+  like_unexpected p (Empty q) h k = absurd k
+  like_unexpected p (BadToken q) h k = absurd (h.0 k.0)
+  like_unexpected p (Unexpected q) h k = ap Unexpected (h.2 ∙ sym k.2)
+  like_unexpected p (Unclosed q) h k = absurd k
+  like_unexpected p (TooDeep q) h k = absurd (h.1 k.0)
+  like_unexpected p (TooLong q) h k = absurd k
+  like_unexpected p (TooManyTerms q) h k = absurd (h.1 k.0)
+  like_unexpected p (Memory m) h k = absurd k
+
+  like_deep : (p : ℕ) (g : ParseFault) → Reason SpellsTree front t (TooDeep p) → Reason SpellsTree front t g → TooDeep p ≡ g
+  like_deep p (Empty q) h k = absurd k
+  like_deep p (BadToken q) h k = absurd (no_bad_begins front t k.0 h.0)
+  like_deep p (Unexpected q) h k = absurd (k.1 h.0)
+  like_deep p (Unclosed q) h k = absurd k
+  like_deep p (TooDeep q) h k = ap TooDeep (h.2 ∙ sym k.2)
+  like_deep p (TooLong q) h k = absurd k
+  like_deep p (TooManyTerms q) h k = absurd (omega (arith, h.1, k.1))
+  like_deep p (Memory m) h k = absurd k
+
+  like_many : (p : ℕ) (g : ParseFault) → Reason SpellsTree front t (TooManyTerms p) → Reason SpellsTree front t g → TooManyTerms p ≡ g
+  like_many p (Empty q) h k = absurd k
+  like_many p (BadToken q) h k = absurd (no_bad_begins front t k.0 h.0)
+  like_many p (Unexpected q) h k = absurd (k.1 h.0)
+  like_many p (Unclosed q) h k = absurd k
+  like_many p (TooDeep q) h k = absurd (omega (arith, h.1, k.1))
+  like_many p (TooLong q) h k = absurd k
+  like_many p (TooManyTerms q) h k = ap TooManyTerms (h.3 ∙ sym k.3)
+  like_many p (Memory m) h k = absurd k
+
+  one_reason : (f g : ParseFault) → Reason SpellsTree front t f → Reason SpellsTree front t g → f ≡ g
+  one_reason (Empty p) g h k = absurd h
+  one_reason (BadToken p) g h k = like_bad p g h k
+  one_reason (Unexpected p) g h k = like_unexpected p g h k
+  one_reason (Unclosed p) g h k = absurd h
+  one_reason (TooDeep p) g h k = like_deep p g h k
+  one_reason (TooLong p) g h k = absurd h
+  one_reason (TooManyTerms p) g h k = like_many p g h k
+  one_reason (Memory m) g h k = absurd h
+
+-- ---- the end
+
+module _ (end : ℕ) (ts : List Lexeme) where
+  like_unclosed : (p : ℕ) (g : ParseFault) → EndReason SpellsTree end ts (Unclosed p) → EndReason SpellsTree end ts g → Unclosed p ≡ g
+  like_unclosed p (Empty q) h k = absurd k
+  like_unclosed p (BadToken q) h k = absurd k
+  like_unclosed p (Unexpected q) h k = absurd (k.0 h.0)
+  like_unclosed p (Unclosed q) h k = ap Unclosed (ap (λ o. unwrap_or o 0) (sym h.2 ∙ k.2))
+  like_unclosed p (TooDeep q) h k = absurd k
+  like_unclosed p (TooLong q) h k = absurd k
+  like_unclosed p (TooManyTerms q) h k = absurd k
+  like_unclosed p (Memory m) h k = absurd k
+
+  like_unended : (p : ℕ) (g : ParseFault) → EndReason SpellsTree end ts (Unexpected p) → EndReason SpellsTree end ts g → Unexpected p ≡ g
+  like_unended p (Empty q) h k = absurd k
+  like_unended p (BadToken q) h k = absurd k
+  like_unended p (Unexpected q) h k = ap Unexpected (h.1 ∙ sym k.1)
+  like_unended p (Unclosed q) h k = absurd (h.0 k.0)
+  like_unended p (TooDeep q) h k = absurd k
+  like_unended p (TooLong q) h k = absurd k
+  like_unended p (TooManyTerms q) h k = absurd k
+  like_unended p (Memory m) h k = absurd k
+
+  one_end : (f g : ParseFault) → EndReason SpellsTree end ts f → EndReason SpellsTree end ts g → f ≡ g
+  one_end (Empty p) g h k = absurd h
+  one_end (BadToken p) g h k = absurd h
+  one_end (Unexpected p) g h k = like_unended p g h k
+  one_end (Unclosed p) g h k = like_unclosed p g h k
+  one_end (TooDeep p) g h k = absurd h
+  one_end (TooLong p) g h k = absurd h
+  one_end (TooManyTerms p) g h k = absurd h
+  one_end (Memory m) g h k = absurd h
+
+-- ---- the whole text
+
+-- where a text stops that is not too long
+abbrev Stops : List ℕ → ParseFault → Type 0
+Stops text f = (AreTokens 0 text [] × (f ≡ Empty 0)) ⊎ (StopsAtToken SpellsTree text f ⊎ StopsAtEnd SpellsTree text f)
+
+-- where a text stops
+abbrev Stopped : List ℕ → ParseFault → Type 0
+Stopped text f = ((limit.EXPRESSION_BYTES < length text) × (f ≡ TooLong 0)) ⊎ ((length text ≤ limit.EXPRESSION_BYTES) × Stops text f)
+
+stopped : (text : List ℕ) (f : ParseFault) → 0 < fault_number f → IsStop SpellsTree text f → Stopped text f
+stopped text (Empty p) told h = inr (h.0, inl (h.1, ap Empty h.2))
+stopped text (BadToken p) told h = inr (h.0, inr (inl h.1))
+stopped text (Unexpected p) told h = inr (h.0, inr h.1)
+stopped text (Unclosed p) told h = inr (h.0, inr (inr h.1))
+stopped text (TooDeep p) told h = inr (h.0, inr (inl h.1))
+stopped text (TooLong p) told h = inl (h.0, ap TooLong h.1)
+stopped text (TooManyTerms p) told h = inr (h.0, inr (inl h.1))
+stopped text (Memory m) told h = absurd (omega (arith, told))
+
+module _ (text : List ℕ) (f g : ParseFault) where
+  token_and_token : StopsAtToken SpellsTree text f → StopsAtToken SpellsTree text g → f ≡ g
+  token_and_token (front, t, behind, are, stands, reason) (other, u, rest, are', stands', reason') =
+      go (two_cuts front t behind other u rest (same_tokens 0 text (front ++ t ∷ behind) (other ++ u ∷ rest) are are'))
+    where
+      go : Cuts front t other u → f ≡ g
+      go (inl (same, one)) = one_reason other u f g (subst (λ x. Reason SpellsTree other x f) one (subst (λ l. Reason SpellsTree l t f) same reason)) reason'
+      go (inr (inl (more, longer))) = absurd (stands_within front t more f (subst (AllFronts (Stands SpellsTree)) longer stands') reason)
+      go (inr (inr (more, longer))) = absurd (stands_within other u more g (subst (AllFronts (Stands SpellsTree)) longer stands) reason')
+
+  end_and_end : StopsAtEnd SpellsTree text f → StopsAtEnd SpellsTree text g → f ≡ g
+  end_and_end (t, behind, are, stands, reason) (u, rest, are', stands', reason') =
+      one_end (length text) (u ∷ rest) f g
+      (subst (λ l. EndReason SpellsTree (length text) l f) (same_tokens 0 text (t ∷ behind) (u ∷ rest) are are') reason) reason'
+
+token_and_end : (text : List ℕ) (f g : ParseFault) → StopsAtToken SpellsTree text f → StopsAtEnd SpellsTree text g → ⊥
+token_and_end text f g (front, t, behind, are, stands, reason) (u, rest, are', stands', reason') =
+    stands_within front t behind f (subst (AllFronts (Stands SpellsTree)) (same_tokens 0 text (u ∷ rest) (front ++ t ∷ behind) are' are) stands') reason
+
+token_and_none : (text : List ℕ) (f : ParseFault) → StopsAtToken SpellsTree text f → AreTokens 0 text [] → ⊥
+token_and_none text f (front, t, behind, are, stands, reason) none =
+    let same : [] ≡ front ++ t ∷ behind = same_tokens 0 text [] (front ++ t ∷ behind) none are in
+    some front same
+  where
+    some : (front : List Lexeme) → [] ≡ front ++ t ∷ behind → ⊥
+    some [] e = cc
+    some (v ∷ vs) e = cc
+
+end_and_none : (text : List ℕ) (f : ParseFault) → StopsAtEnd SpellsTree text f → AreTokens 0 text [] → ⊥
+end_and_none text f (t, behind, are, stands, reason) none = let same : [] ≡ t ∷ behind = same_tokens 0 text [] (t ∷ behind) none are in cc
+
+one_place : (text : List ℕ) (f g : ParseFault) → Stops text f → Stops text g → f ≡ g
+one_place text f g (inl a) (inl b) = a.1 ∙ sym b.1
+one_place text f g (inl a) (inr (inl b)) = absurd (token_and_none text g b a.0)
+one_place text f g (inl a) (inr (inr b)) = absurd (end_and_none text g b a.0)
+one_place text f g (inr (inl a)) (inl b) = absurd (token_and_none text f a b.0)
+one_place text f g (inr (inl a)) (inr (inl b)) = token_and_token text f g a b
+one_place text f g (inr (inl a)) (inr (inr b)) = absurd (token_and_end text f g a b)
+one_place text f g (inr (inr a)) (inl b) = absurd (end_and_none text f a b.0)
+one_place text f g (inr (inr a)) (inr (inl b)) = absurd (token_and_end text g f b a)
+one_place text f g (inr (inr a)) (inr (inr b)) = end_and_end text f g a b
+
+one_of : (text : List ℕ) (f g : ParseFault) → Stopped text f → Stopped text g → f ≡ g
+one_of text f g (inl a) (inl b) = a.1 ∙ sym b.1
+one_of text f g (inl a) (inr b) = absurd (omega (arith, a.0, b.0))
+one_of text f g (inr a) (inl b) = absurd (omega (arith, a.0, b.0))
+one_of text f g (inr a) (inr b) = one_place text f g a.1 b.1
+
+-- a text has one stop, want of memory aside
+pub one_stop : (text : List ℕ) (f g : ParseFault) → 0 < fault_number f → 0 < fault_number g → IsStop SpellsTree text f → IsStop SpellsTree text g → f ≡ g
+one_stop text f g told told' h k = one_of text f g (stopped text f told h) (stopped text g told' k)

@@ -1,0 +1,172 @@
+//! The subcommands, each a function over what it reads and writes.
+
+ghost use Rattle.std.specs.Prelude.{◌≡◌, ◌++◌, ◌∷◌, [], ℕ, ◌<◌, IfOk, IfErr, OnErr, List, map};
+ghost use Rattle.std.specs.Io.KnownBytes.{Appends, Keeps};
+ghost use Rattle.desk_expr.specs.Faults.{fault_number};
+ghost use Rattle.desk_program.specs.Failures.{IfMemory};
+ghost use Rattle.desk_program.specs.Report.{IsReadTo, IsReport, IsVerdict, SpellTerms, Tells, TellsOnce};
+
+use crate::failure::Failure;
+use crate::report::Report;
+use desk_expr::{Expr, ParseFault, Term, Verdict, check_choice, parse, parse_term};
+use std::alloc::{AllocError, Global};
+use std::io::Write;
+
+/// What a list of words spells.
+#[derive(Drop)]
+enum Terms<'a> {
+    /// A term each.
+    All(Vec<Term>),
+    /// The first word that spells none.
+    Bad(&'a str),
+}
+
+/// The fault, unless it is want of memory, which is handed on.
+fn told(fault: ParseFault) -> Result<ParseFault, AllocError>
+    ensures told { IfOk result (λ told. (told ≡ fault) × (0 < fault_number fault)) }
+    ensures memory { OnErr result (fault_number fault ≡ 0) }
+{
+    match fault {
+        ParseFault::Memory(error) => Err(error),
+        _ => Ok(fault),
+    }
+}
+
+fn read_terms<'a>(alloc: Global, words: &'a [&'a str]) -> Result<Terms<'a>, AllocError>
+    ensures { IfOk result (IsReadTo (map (λ w. w.now) words.entry.now)) }
+{
+    let mut terms = Vec::new(alloc);
+    for word in words {
+        match parse_term(alloc, word) {
+            Ok(term) => terms.push(term)?,
+            Err(fault) => {
+                told(fault)?;
+                return Ok(Terms::Bad(word));
+            }
+        }
+    }
+    Ok(Terms::All(terms))
+}
+
+/// What the terms of the words are worth.
+fn verdict<'a>(tree: &Expr, terms: &[Term], words: &'a [&'a str]) -> Report<'a>
+    requires { SpellTerms (map (λ w. w.now) words.now) terms.now }
+    ensures { IsVerdict (map (λ w. w.now) words.entry.now) terms.now tree.now result }
+{
+    match check_choice(tree, terms) {
+        Verdict::NotEnough => Report::NotEnough,
+        Verdict::Superfluous(place) => {
+            // There are as many words as terms.
+            prove!(place < words.len());
+            Report::Superfluous(words[place])
+        }
+        Verdict::Minimal => Report::Minimal,
+    }
+}
+
+fn judge<'a>(
+    alloc: Global,
+    expression: &str,
+    words: &'a [&'a str],
+) -> Result<Report<'a>, AllocError>
+    ensures { IfOk result (IsReport expression.now (map (λ w. w.now) words.entry.now)) }
+{
+    let tree = match parse(alloc, expression) {
+        Ok(tree) => tree,
+        Err(fault) => return Ok(Report::Fault(told(fault)?)),
+    };
+    match read_terms(alloc, words)? {
+        Terms::Bad(word) => Ok(Report::BadTerm(word)),
+        Terms::All(terms) => Ok(verdict(&tree, terms.as_slice(), words)),
+    }
+}
+
+/// Writes whether the words spell a minimal choice of terms for the licence expression, as one line,
+/// and answers the program's status. Where memory is wanting, nothing is written.
+pub fn check<W: Write>(
+    alloc: Global,
+    expression: &str,
+    words: &[&str],
+    writer: &mut W,
+) -> Result<u8, Failure>
+    ensures told { IfOk result (λ status. (line : List ℕ)
+        × Tells expression.now (map (λ w. w.now) words.now) line status
+        × Appends (W.contents writer.old) (W.contents writer.new) (line ++ 10 ∷ [])) }
+    ensures once { TellsOnce expression.now (map (λ w. w.now) words.now) }
+    ensures memory { IfErr result
+        (IfMemory (Keeps (W.contents writer.old) (W.contents writer.new))) }
+{
+    let report = judge(alloc, expression, words)?;
+    let line = format!(in alloc; "{report}\n")?;
+    writer.write_all(line.as_bytes())?;
+    writer.flush()?;
+    Ok(report.status())
+}
+
+#[cfg(test)]
+mod tests {
+    use super::check;
+    use crate::failure::Failure;
+    use std::alloc::Global;
+    use std::io;
+    use std::io::Write;
+
+    /// Takes so many bytes, and fails from then on.
+    #[derive(Drop)]
+    struct Narrow(usize);
+
+    impl Write for Narrow {
+        fn write(&mut self, buf: &[u8]) -> io::Result<usize> {
+            if self.0 == 0 {
+                return Err(io::Error::from(io::ErrorKind::BrokenPipe));
+            }
+            let taken = buf.len().min(self.0);
+            self.0 -= taken;
+            Ok(taken)
+        }
+
+        fn flush(&mut self) -> io::Result<()> {
+            Ok(())
+        }
+    }
+
+    /// The status and the line, which are to be `status` and `line`.
+    fn answers(alloc: Global, expression: &str, words: &[&str], status: u8, line: &str) -> bool {
+        let mut written: Vec<u8> = Vec::new(alloc);
+        match check(alloc, expression, words, &mut written) {
+            Ok(given) => given == status && written.as_slice() == line.as_bytes(),
+            Err(_) => false,
+        }
+    }
+
+    #[test]
+    fn tells_each_verdict(rt: HostRuntime) {
+        let alloc = rt.alloc();
+        let text = "A AND B OR C";
+        assert!(rt; answers(alloc, text, ["C"].as_slice(), 0, "minimal\n"));
+        assert!(rt; answers(alloc, text, ["A", "C"].as_slice(), 1, "superfluous: A\n"));
+        assert!(rt; answers(alloc, text, ["A"].as_slice(), 1, "not enough\n"));
+        assert!(rt; answers(alloc, text, ["A", "é", "+"].as_slice(), 1, "bad term: é\n"));
+        assert!(rt;
+            answers(
+                alloc,
+                "A AND",
+                ["+"].as_slice(),
+                1,
+                "fault: Unexpected at 5\n"
+            )
+        );
+    }
+
+    #[test]
+    fn tells_a_writer_that_fails(rt: HostRuntime) {
+        let words = ["mit"];
+        for room in 0..8usize {
+            let mut writer = Narrow(room);
+            let end = check(rt.alloc(), "MIT", words.as_slice(), &mut writer);
+            assert!(rt; matches!(end, Err(Failure::Write(_))));
+        }
+        let mut writer = Narrow(8);
+        assert!(rt; check(rt.alloc(), "MIT", words.as_slice(), &mut writer).is_ok());
+    }
+}

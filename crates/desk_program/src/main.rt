@@ -1,0 +1,76 @@
+//! The licence obligation desk as a program.
+//!
+//! `line` of `desk_line` reads the words, a function of `commands` does what they ask for, and what
+//! it answers is the program's status: 0 done, 1 refused. Words that are no command line give 2, and
+//! want of memory or a failing file or stream gives 3.
+#![tactic(auto)]
+
+mod commands;
+mod failure;
+mod report;
+
+use crate::failure::Failure;
+use desk_line::{Call, LineFault, line};
+use std::alloc::{AllocError, Global};
+use std::process::ExitCode;
+use std::rt::Env;
+use std::{env, io};
+
+const USAGE: u8 = 2;
+
+const FAILED: u8 = 3;
+
+/// Does what the words ask for, and answers the status.
+fn run(rt: &(impl Env + Print + Eprint + AllocGlobal)) -> Result<u8, Failure> {
+    let alloc = rt.alloc();
+    let owned = match env::args(rt) {
+        Ok(owned) => owned.collect::<Vec<String>>(alloc)?,
+        Err(error) => return untold(rt, error),
+    };
+    let words: Vec<&str> = owned.iter().map(|word| word.as_str()).collect(alloc)?;
+    match line(alloc, words.as_slice()) {
+        Ok(call) => answer(rt, alloc, &call),
+        Err(LineFault::Memory(error)) => Err(Failure::from(error)),
+        Err(LineFault::Usage(error)) => {
+            error.print(rt)?;
+            Ok(if error.use_stderr() { USAGE } else { 0 })
+        }
+    }
+}
+
+/// The status where the words of the command line could not be had.
+fn untold(rt: &impl Eprint, error: io::Error) -> Result<u8, Failure> {
+    match error.kind() {
+        io::ErrorKind::OutOfMemory => Err(Failure::from(AllocError)),
+        _ => {
+            eprintln!(rt; "error: a word of the command line is not UTF-8")?;
+            Ok(USAGE)
+        }
+    }
+}
+
+fn answer(rt: &impl Print, alloc: Global, call: &Call) -> Result<u8, Failure> {
+    match call {
+        Call::Check { expression, terms } => {
+            let terms = terms.as_slice().iter();
+            let words: Vec<&str> = terms.map(|term| term.as_str()).collect(alloc)?;
+            commands::check(
+                alloc,
+                expression.as_str(),
+                words.as_slice(),
+                &mut io::writer(rt),
+            )
+        }
+    }
+}
+
+fn main(rt: HostRuntime) -> ExitCode {
+    match run(&rt) {
+        Ok(status) => ExitCode::from(status),
+        Err(failure) => {
+            // Where standard error fails too, there is nobody left to tell.
+            let _told = eprintln!(rt; "error: {failure}");
+            ExitCode::from(FAILED)
+        }
+    }
+}
