@@ -1,5 +1,5 @@
 pub mod Parts
-pub mod Terms
+pub mod SameTerms
 pub mod Minimal
 pub mod Cuts
 pub mod WordLemmas

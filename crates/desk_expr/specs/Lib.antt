@@ -17,3 +17,5 @@ pub mod Counting
 pub mod Progress
 pub mod TermReading
 pub mod Halting
+pub mod Occurring
+pub mod Printing

@@ -1,0 +1,66 @@
+-- How terms and trees are printed: one space round each operator, an All under an Any without parentheses, every other All or Any under another node in parentheses.
+use Rattle.std.specs.Prelude.{ℕ, ◌≤◌, Bool, true, false, List, [], ◌∷◌, ◌++◌, Option, Some, None, codes, if◌then◌else◌, IsTrue}
+use Rattle.desk_expr.specs.declared.printing.Place.{Place}
+use Rattle.desk_expr.specs.declared.printing.Place.TheVariants.{Top, InAll, InAny}
+use Rattle.desk_expr.specs.declared.term.Term.{Term}
+use Rattle.desk_expr.specs.Tree.{Tree, Trees, one, all, any, no_more, more}
+use Rattle.desk_expr.specs.Words.{is_term}
+
+abbrev pub printed_exception : Option (List ℕ) → List ℕ
+printed_exception None = []
+printed_exception (Some x) = codes " WITH " ++ x
+
+abbrev pub printed_word : Term → List ℕ
+printed_word t = t.key ++ (if t.plus then codes "+" else [])
+
+abbrev pub printed_term : Term → List ℕ
+printed_term t = printed_word t ++ printed_exception t.exception
+
+-- where an All and an Any stand in parentheses
+abbrev pub encloses_all : Place → Bool
+encloses_all Top = false
+encloses_all InAll = true
+encloses_all InAny = false
+
+abbrev pub encloses_any : Place → Bool
+encloses_any Top = false
+encloses_any InAll = true
+encloses_any InAny = true
+
+abbrev pub enclosed : Bool → List ℕ → List ℕ
+enclosed wanted text = (if wanted then codes "(" else []) ++ (text ++ (if wanted then codes ")" else []))
+
+abbrev mutual
+  pub printed_in : Place → Tree → List ℕ
+  printed_in place (one t) = printed_term t
+  printed_in place (all ts) = enclosed (encloses_all place) (joined InAll (codes " AND ") ts)
+  printed_in place (any ts) = enclosed (encloses_any place) (joined InAny (codes " OR ") ts)
+
+  pub joined : Place → List ℕ → Trees → List ℕ
+  joined place between no_more = []
+  joined place between (more t ts) = printed_in place t ++ joined_on place between ts
+
+  -- the parts behind the first
+  pub joined_on : Place → List ℕ → Trees → List ℕ
+  joined_on place between no_more = []
+  joined_on place between (more t ts) = between ++ (printed_in place t ++ joined_on place between ts)
+
+abbrev pub printed : Tree → List ℕ
+printed e = printed_in Top e
+
+-- All and Any have two or more parts
+abbrev pub IsSeveral : Trees → Type 0
+IsSeveral no_more = ⊥
+IsSeveral (more t no_more) = ⊥
+IsSeveral (more t (more u ts)) = Unit {0}
+
+-- each term is well formed, and each All and Any has two or more parts
+abbrev mutual
+  pub IsWellFormed : Tree → Type 0
+  IsWellFormed (one t) = IsTrue (is_term t)
+  IsWellFormed (all ts) = IsSeveral ts × AreWellFormed ts
+  IsWellFormed (any ts) = IsSeveral ts × AreWellFormed ts
+
+  pub AreWellFormed : Trees → Type 0
+  AreWellFormed no_more = Unit {0}
+  AreWellFormed (more t ts) = IsWellFormed t × AreWellFormed ts
