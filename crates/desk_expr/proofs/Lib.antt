@@ -15,3 +15,6 @@ pub mod Balance
 pub mod ProgressLemmas
 pub mod ParseLemmas
 pub mod TermLemmas
+pub mod Lexes
+pub mod WordKinds
+pub mod Prints

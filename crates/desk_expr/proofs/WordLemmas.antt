@@ -69,7 +69,7 @@ reference_is w h = reference_tests (bytes_eq w (codes "(")) (bytes_eq w (codes "
 lowercase_byte : (b : ℕ) → is_idstring_byte b ≡ true → is_idstring_byte (to_ascii_lowercase b) ≡ true
 lowercase_byte b h = grind (arith, nat_tests)
 
-and_true : (x y : Bool) → (x && y) ≡ true → (x ≡ true) × (y ≡ true)
+pub and_true : (x y : Bool) → (x && y) ≡ true → (x ≡ true) × (y ≡ true)
 and_true true true h = (refl, refl)
 and_true true false h = absurd (cc)
 and_true false y h = absurd (cc)

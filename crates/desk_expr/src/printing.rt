@@ -1,7 +1,9 @@
 //! Prints terms and expressions.
 
-ghost use Rattle.std.specs.Prelude.{◌≡◌, ◌≤◌, ◌<◌, ◌∷◌, [], ◌++◌, OnOk, IfOk, length, if◌then◌else◌};
+ghost use Rattle.std.specs.Prelude.{◌≡◌, ◌≤◌, ◌<◌, ◌∷◌, [], ◌++◌, OnOk, IfOk, IsTrue, length, if◌then◌else◌};
 ghost use Rattle.std.specs.String.{string_bytes};
+ghost use Rattle.desk_expr.specs.Words.{is_term};
+ghost use Rattle.desk_expr.specs.Spelling.{Spells, SpellsTermAlone};
 ghost use Rattle.desk_expr.specs.Printing.{printed_term, printed_in, printed, IsWellFormed, encloses_all, encloses_any};
 
 use crate::expr::{Expr, Node};
@@ -99,6 +101,7 @@ impl Expr {
 /// The term as a word, with its exception behind `WITH` if it has one (SPDX 2.3, Annex D.2 to D.4).
 pub fn print_term(alloc: Global, term: &Term) -> Result<String, AllocError>
     ensures text { IfOk result (λ s. string_bytes s ≡ printed_term term.now) }
+    ensures spells { IsTrue (is_term term.now) → IfOk result (λ s. SpellsTermAlone (string_bytes s) term.now) }
 {
     let mut text = String::new(alloc);
     add_term(&mut text, term)?;
@@ -109,6 +112,7 @@ pub fn print_term(alloc: Global, term: &Term) -> Result<String, AllocError>
 /// without parentheses, every other All or Any under another node in parentheses.
 pub fn print(alloc: Global, expr: &Expr) -> Result<String, AllocError>
     ensures text { IfOk result (λ s. string_bytes s ≡ printed expr.now) }
+    ensures spells { IfOk result (λ s. Spells (string_bytes s) expr.now) }
     ensures well_formed { OnOk result (IsWellFormed expr.now) }
 {
     let mut text = String::new(alloc);
