@@ -84,8 +84,7 @@ lexes_blank place y us are = (us, blank_before place y us are, refl)
 -- a piece in front
 piece_before : (w : List ℕ) (place : ℕ) (y : List ℕ) (us : List Lexeme) → IsPiece w y → AreTokens (place + length w) y us → Follows place w (symbol (kind_of w) w ∷ []) y us
 piece_before w place y us piece are =
-    let t : Lexeme = record { text = w; start = place; end = place + length w; kind = kind_of w } in
-    (
+    let t : Lexeme = record { text = w; start = place; end = place + length w; kind = kind_of w } in (
       t ∷ us,
       (y, record { blanks = []; only_blanks = λ k d within. absurd (omega arith); cut = refl; start = sym (add-zero place); end = refl; piece = piece; kind = refl }, are),
       refl,

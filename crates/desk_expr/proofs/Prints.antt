@@ -55,10 +55,13 @@ prints_term t h = by_exception t.exception refl
   where
     plain : Term
     plain = record t { exception = None }
+
     parts : ((is_folded_id t.key || (is_reference t.key && not t.plus)) ≡ true) × (is_exception t.exception ≡ true)
     parts = and_true (is_folded_id t.key || (is_reference t.key && not t.plus)) (is_exception t.exception) h
+
     w : (o : Option (List ℕ)) × IsWord (printed_word t) (word plain o)
     w = plain_word t h
+
     by_exception : (x : Option (List ℕ)) → t.exception ≡ x → PrintsTerm t
     by_exception None is =
         let same : plain ≡ t = (λ i. record t { exception = sym is i }) in

@@ -110,18 +110,25 @@ no_name w b bs is id small = record {
   where
     first : (c : ℕ) (cs : List ℕ) → w ≡ c ∷ cs → (b ≡ c → ⊥) → ⊥
     first c cs e bad = let same : b ≡ c = cc in bad same
+
     bad_opening : b ≡ 40 → ⊥
     bad_opening e = let h = subst (λ x. is_idstring_byte x ≡ true) e id in cc
+
     bad_closing : b ≡ 41 → ⊥
     bad_closing e = let h = subst (λ x. is_idstring_byte x ≡ true) e id in cc
+
     bad_a : b ≡ 65 → ⊥
     bad_a e = let h = subst (λ x. to_ascii_lowercase x ≡ x) e small in absurd (omega (arith, h))
+
     bad_o : b ≡ 79 → ⊥
     bad_o e = let h = subst (λ x. to_ascii_lowercase x ≡ x) e small in absurd (omega (arith, h))
+
     bad_w : b ≡ 87 → ⊥
     bad_w e = let h = subst (λ x. to_ascii_lowercase x ≡ x) e small in absurd (omega (arith, h))
+
     bad_l : b ≡ 76 → ⊥
     bad_l e = let h = subst (λ x. to_ascii_lowercase x ≡ x) e small in absurd (omega (arith, h))
+
     bad_d : b ≡ 68 → ⊥
     bad_d e = let h = subst (λ x. to_ascii_lowercase x ≡ x) e small in absurd (omega (arith, h))
 
@@ -147,9 +154,9 @@ plus_is_none : (w : List ℕ) → is_idstring (w ++ codes "+") ≡ false
 plus_is_none w =
     is_not (is_idstring (w ++ codes "+"))
     (λ h.
-        let all = (and_true (nat_lt 0 (length (w ++ codes "+"))) (list_all is_idstring_byte (w ++ codes "+")) h).1 in
-        let last = (and_true (list_all is_idstring_byte w) (list_all is_idstring_byte (codes "+")) (sym (list_all-append is_idstring_byte w (codes "+")) ∙ all)).1 in
-        cc)
+    let all = (and_true (nat_lt 0 (length (w ++ codes "+"))) (list_all is_idstring_byte (w ++ codes "+")) h).1 in
+    let last = (and_true (list_all is_idstring_byte w) (list_all is_idstring_byte (codes "+")) (sym (list_all-append is_idstring_byte w (codes "+")) ∙ all)).1 in
+    cc)
 
 drop_all : (w v : List ℕ) (n : ℕ) → n ≡ length w → drop n (w ++ v) ≡ v
 drop_all [] v zero is = refl
@@ -257,6 +264,7 @@ colon_run (x ∷ xs) h k = by_colon (λ a b. colon_run xs a b) (x == 58) refl h 
   where
     n : ℕ
     n = position_or_len (λ b. b == 58) xs
+
     by_colon : (list_all is_run_byte (before_first (λ b. b == 58) xs) ≡ true → list_all is_run_byte (after_first (λ b. b == 58) xs) ≡ true → list_all is_run_byte xs ≡ true) → (v : Bool) → (x == 58) ≡ v → list_all is_run_byte (take (cond (not v) (1 + n) 0) (x ∷ xs)) ≡ true → list_all is_run_byte (drop (cond (not v) (1 + n) 0 + 1) (x ∷ xs)) ≡ true → list_all is_run_byte (x ∷ xs) ≡ true
     by_colon rest true e h k =
         let is : x ≡ 58 = eqb-true x 58 e in
@@ -274,9 +282,9 @@ reference_run w h =
     elim (or_cases (is_local_reference w) (starts_with nat_eq w (codes "DocumentRef-") && is_reference_of_document (drop 12 w)) h) [
       | inl a ↦ local_run w a
       | inr b ↦
-        let parts = and_true (starts_with nat_eq w (codes "DocumentRef-")) (is_reference_of_document (drop 12 w)) b in
-        let inner = and_true (is_idstring (before_first (λ b. b == 58) (drop 12 w))) (is_local_reference (after_first (λ b. b == 58) (drop 12 w))) parts.1 in
-        prefix_run w (codes "DocumentRef-") parts.0 refl (colon_run (drop 12 w) (idstring_run (before_first (λ b. b == 58) (drop 12 w)) inner.0) (local_run (after_first (λ b. b == 58) (drop 12 w)) inner.1))
+          let parts = and_true (starts_with nat_eq w (codes "DocumentRef-")) (is_reference_of_document (drop 12 w)) b in
+          let inner = and_true (is_idstring (before_first (λ b. b == 58) (drop 12 w))) (is_local_reference (after_first (λ b. b == 58) (drop 12 w))) parts.1 in
+          prefix_run w (codes "DocumentRef-") parts.0 refl (colon_run (drop 12 w) (idstring_run (before_first (λ b. b == 58) (drop 12 w)) inner.0) (local_run (after_first (λ b. b == 58) (drop 12 w)) inner.1))
     ]
 
 -- ---- a printed word is one token, which is its term
@@ -306,22 +314,26 @@ plain_word t h = by_plus t.key t.plus (and_true (is_folded_id t.key || (is_refer
         elim (or_cases (is_folded_id k) (is_reference k && true) h) [
           | inl a ↦ (Some k, subst (λ w. IsWord w (word (record { key = k; plus = false; exception = None }) (Some k))) (sym (append-nil k)) (id_word k a))
           | inr b ↦
-            let reference : is_reference k ≡ true = (and_true (is_reference k) true b).0 in
-            let head = reference_first k (reference_begins k reference) in
-            (None, subst (λ w. IsWord w (word (record { key = k; plus = false; exception = None }) None)) (sym (append-nil k)) (record {
-              some = (let size = ap length head.2 in omega (arith, size));
-              run = all_run k (reference_run k reference);
-              is = ap (λ x. symbol x k) (reference_kind k reference);
-            }))
+              let reference : is_reference k ≡ true = (and_true (is_reference k) true b).0 in
+              let head = reference_first k (reference_begins k reference) in (
+                None,
+                subst (λ w. IsWord w (word (record { key = k; plus = false; exception = None }) None)) (sym (append-nil k)) (record {
+                  some = (let size = ap length head.2 in omega (arith, size));
+                  run = all_run k (reference_run k reference);
+                  is = ap (λ x. symbol x k) (reference_kind k reference);
+                }),
+              )
         ]
     by_plus k true h =
         elim (or_cases (is_folded_id k) (is_reference k && false) h) [
           | inl a ↦
-            let bytes = id_bytes k a in
-            (None, record {
-              some = omega (arith, length-append k (codes "+"));
-              run = all_run (k ++ codes "+") (joined_run k (codes "+") (run_bytes k bytes.0) refl);
-              is = ap (λ x. symbol x (k ++ codes "+")) (or_later_kind k a) ∙ (λ i. word (record { key = (ap folded (plus_front k) ∙ bytes.1) i; plus = true; exception = None }) None);
-            })
+              let bytes = id_bytes k a in (
+                None,
+                record {
+                  some = omega (arith, length-append k (codes "+"));
+                  run = all_run (k ++ codes "+") (joined_run k (codes "+") (run_bytes k bytes.0) refl);
+                  is = ap (λ x. symbol x (k ++ codes "+")) (or_later_kind k a) ∙ (λ i. word (record { key = (ap folded (plus_front k) ∙ bytes.1) i; plus = true; exception = None }) None);
+                },
+              )
           | inr b ↦ let never = (and_true (is_reference k) false b).1 in absurd (cc)
         ]

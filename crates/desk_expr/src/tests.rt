@@ -1,14 +1,15 @@
 //! Worked examples: verdicts and the faults of texts, one by one.
 
 use crate::{
-    Expr, ParseFault, Shape, Term, Verdict, check_choice, holds, parse, parse_term, tokens,
+    ParseFault, Shape, Term, Verdict, check_choice, holds, parse, parse_term, print, print_term,
+    terms, tokens,
 };
 use desk_base::Key;
 use std::alloc::{AllocError, Global};
 use std::process::Abort;
 use std::test::Fail;
 
-fn terms(alloc: Global, words: &[&str]) -> Result<Vec<Term>, ParseFault> {
+fn terms_of(alloc: Global, words: &[&str]) -> Result<Vec<Term>, ParseFault> {
     let mut terms = Vec::new(alloc);
     for word in words {
         let term = parse_term(alloc, word)?;
@@ -21,7 +22,7 @@ fn terms(alloc: Global, words: &[&str]) -> Result<Vec<Term>, ParseFault> {
 
 fn verdict(alloc: Global, text: &str, words: &[&str]) -> Result<Verdict, ParseFault> {
     let expr = parse(alloc, text)?;
-    let terms = terms(alloc, words)?;
+    let terms = terms_of(alloc, words)?;
     Ok(check_choice(&expr, terms.as_slice()))
 }
 
@@ -288,4 +289,49 @@ fn want_of_memory_is_told_as_such(rt: HostRuntime) {
     for (text, expected) in term_texts {
         assert!(rt; is_memory_or(term_fault(alloc, text), expected), "{text}");
     }
+}
+
+#[test]
+fn printing_and_terms(rt: HostRuntime) -> Result<(), Fail> {
+    let alloc = rt.alloc();
+    let expr = parse(alloc, "((A)AND b+) OR LicenseRef-X")?;
+    assert_eq!(rt; print(alloc, &expr)?.as_str(), "a AND b+ OR LicenseRef-X");
+    let found = terms(alloc, &expr)?;
+    assert_eq!(rt; found.len(), 3);
+    assert_eq!(rt; print_term(alloc, &found[0])?.as_str(), "LicenseRef-X");
+    assert_eq!(rt; print_term(alloc, &found[1])?.as_str(), "a");
+    assert_eq!(rt; print_term(alloc, &found[2])?.as_str(), "b+");
+    Ok(())
+}
+
+#[test]
+fn printing_keeps_groups(rt: HostRuntime) -> Result<(), Fail> {
+    let alloc = rt.alloc();
+    let texts = [
+        "a AND (b AND c)",
+        "a OR (b OR c)",
+        "a OR b AND c",
+        "(a OR b) AND c",
+        "(a OR (b OR c)) AND (d AND e WITH f)",
+        "gpl-2.0+ WITH classpath-exception-2.0 OR DocumentRef-T:LicenseRef-Y",
+    ];
+    for text in texts {
+        let expr = parse(alloc, text)?;
+        assert_eq!(rt; print(alloc, &expr)?.as_str(), text);
+    }
+    Ok(())
+}
+
+#[test]
+fn terms_stand_once_and_in_order(rt: HostRuntime) -> Result<(), Fail> {
+    let alloc = rt.alloc();
+    let expr = parse(alloc, "b OR A+ OR a WITH z OR a WITH y OR A AND B OR a+")?;
+    let found = terms(alloc, &expr)?;
+    let words = ["a", "a WITH y", "a WITH z", "a+", "b"];
+    assert_eq!(rt; found.len(), words.len());
+    for k in 0..5usize {
+        assert!(rt; k < found.len());
+        assert_eq!(rt; print_term(alloc, &found[k])?.as_str(), words[k]);
+    }
+    Ok(())
 }
