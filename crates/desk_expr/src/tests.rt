@@ -255,3 +255,37 @@ fn tokens_stand_at_their_spans(rt: HostRuntime) {
     }
     assert_eq!(rt; count, spans.len());
 }
+
+// Where the memory that a call asks for is refused, it tells so and nothing else.
+fn is_memory_or(found: Option<ParseFault>, expected: Option<ParseFault>) -> bool {
+    found == expected || found == Some(ParseFault::Memory(AllocError))
+}
+
+#[test]
+fn want_of_memory_is_told_as_such(rt: HostRuntime) {
+    let alloc = rt.alloc();
+    let texts = [
+        (
+            "GPL-2.0-only WITH Classpath-exception-2.0 OR (MIT AND LicenseRef-X+)",
+            Some(ParseFault::BadToken(54)),
+        ),
+        ("((A OR b+) AND (C OR D)) AND LicenseRef-1", None),
+        (
+            "A AND B OR C AND (D OR E WITH f",
+            Some(ParseFault::Unclosed(17)),
+        ),
+        ("A AND", Some(ParseFault::Unexpected(5))),
+        ("A AND B)", Some(ParseFault::Unexpected(7))),
+    ];
+    for (text, expected) in texts {
+        assert!(rt; is_memory_or(fault(alloc, text), expected), "{text}");
+    }
+    let term_texts = [
+        ("DocumentRef-a:LicenseRef-b WITH c", None),
+        ("A+ WITH b", None),
+        ("A WITH b c", Some(ParseFault::Unexpected(9))),
+    ];
+    for (text, expected) in term_texts {
+        assert!(rt; is_memory_or(term_fault(alloc, text), expected), "{text}");
+    }
+}
