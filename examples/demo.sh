@@ -1,26 +1,40 @@
 #!/bin/sh
-# Asks the desk about choices for the licence of a real package: examples/demo.sh PROGRAM
+# Asks the desk about choices for the licences of real packages: examples/demo.sh PROGRAM
 set -eu
 
 desk=${1:?the program to run}
-package=$(dirname -- "$0")/unicode-ident
-IFS= read -r expression <"$package/expression"
+here=$(dirname -- "$0")
 
-# Shows a question and the desk's answer.
+# Shows a question about the expression and the words, and the desk's answer.
 ask() {
-    printf "\$ desk check '%s' %s\n" "$expression" "$*"
+    expression=$1
+    shift
+    printf "\$ desk check '%s'" "$expression"
+    printf " '%s'" "$@"
+    echo
     status=0
     "$desk" check "$expression" "$@" || status=$?
     printf '(status %s)\n\n' "$status"
 }
 
-set --
-while IFS= read -r term; do
-    set -- "$@" "$term"
-done <"$package/choice"
+# Asks about the choice that the folder $1 has.
+ask_about() {
+    IFS= read -r licence <"$here/$1/expression"
+    choice=$here/$1/choice
+    set --
+    while IFS= read -r term; do
+        set -- "$@" "$term"
+    done <"$choice"
+    ask "$licence" "$@"
+}
 
-echo "The licence of the Rust crate unicode-ident: $expression"
+echo 'The choice made for the Rust crate unicode-ident, and for a header of Linux:'
 echo
-ask "$@"
-ask MIT Apache-2.0 Unicode-3.0
-ask MIT
+ask_about unicode-ident
+ask_about linux-tls
+
+echo 'A term too many, and one too few:'
+echo
+IFS= read -r licence <"$here/unicode-ident/expression"
+ask "$licence" MIT Apache-2.0 Unicode-3.0
+ask "$licence" MIT
