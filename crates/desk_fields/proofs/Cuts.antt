@@ -33,6 +33,14 @@ kept_cut bs n within blank =
     (λ at_end. let is : n ≡ length bs = omega arith in subst (IsCharBoundary bs) (sym is) (IsCharBoundary-end bs))
     (order n (length bs))
 
+-- where a word ends
+pub word_cut : (bs : List ℕ) (n : ℕ) → n ≤ length bs → (n < length bs → is_blank (get_or bs n 0) ≡ true) → IsCharBoundary bs n
+word_cut bs n within blank =
+    ⊎_elim
+    (λ inside. IsCharBoundary-before_ascii bs n inside (blank_low (get_or bs n 0) (blank inside)))
+    (λ at_end. let is : n ≡ length bs = omega arith in subst (IsCharBoundary bs) (sym is) (IsCharBoundary-end bs))
+    (order n (length bs))
+
 pub line_front : (t l : List ℕ) (e : LineEnd) (r : List ℕ) → IsLine t l e r → take (length l) t ≡ l
 line_front t l e r line = ap (take (length l)) line.cut ∙ take-append_seam l (end_bytes e ++ r)
 

@@ -1,5 +1,5 @@
 -- The tags that are read (SPDX 2.3, clauses 6 to 11), those that are read over, and all others.
-use Rattle.std.specs.Prelude.{ℕ, Bool, ◌||◌, List, [], Option, Some, None, unwrap_or, codes, nat_eq, if◌then◌else◌}
+use Rattle.std.specs.Prelude.{ℕ, Bool, ◌||◌, ◌==◌, List, [], Option, Some, None, unwrap_or, codes, nat_eq, if◌then◌else◌}
 use Rattle.std.specs.List.{starts_with}
 use Rattle.std.specs.Str.{bytes_eq}
 use Rattle.desk_fields.specs.declared.tag.Tag.{Tag}
@@ -105,3 +105,35 @@ tag_name tags.ExtractedText = codes "ExtractedText"
 tag_name tags.Relationship = codes "Relationship"
 tag_name tags.ReadOver = []
 tag_name tags.Unknown = []
+
+-- the place of a tag among all
+abbrev pub tag_place : Tag → ℕ
+tag_place tags.Version = 0
+tag_place tags.DataLicense = 1
+tag_place tags.Identifier = 2
+tag_place tags.DocumentName = 3
+tag_place tags.DocumentNamespace = 4
+tag_place tags.Creator = 5
+tag_place tags.Created = 6
+tag_place tags.PackageName = 7
+tag_place tags.PackageVersion = 8
+tag_place tags.DownloadLocation = 9
+tag_place tags.FilesAnalyzed = 10
+tag_place tags.VerificationCode = 11
+tag_place tags.PackageConcluded = 12
+tag_place tags.PackageDeclared = 13
+tag_place tags.PackageCopyright = 14
+tag_place tags.FileName = 15
+tag_place tags.FileChecksum = 16
+tag_place tags.FileConcluded = 17
+tag_place tags.FileLicense = 18
+tag_place tags.FileCopyright = 19
+tag_place tags.SnippetIdentifier = 20
+tag_place tags.LicenseIdentifier = 21
+tag_place tags.ExtractedText = 22
+tag_place tags.Relationship = 23
+tag_place tags.ReadOver = 24
+tag_place tags.Unknown = 25
+
+abbrev pub same_tag : Tag → Tag → Bool
+same_tag a b = tag_place a == tag_place b

@@ -19,6 +19,7 @@ mod text;
 pub use fault::DocFault;
 pub use scan::{Field, fields, one_reading};
 pub use tag::Tag;
+pub use text::{skip_blanks, split_word};
 
 #[cfg(test)]
 mod tests;

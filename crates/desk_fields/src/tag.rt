@@ -1,7 +1,7 @@
 //! The tags of a document.
 
 ghost use Rattle.std.specs.Prelude.{◌≡◌};
-ghost use Rattle.desk_fields.specs.Tags.{tag_of, tag_name, document_tag, package_tag, file_tag, other_tag, is_read_over, is_date_or_purpose, begins_as_element, begins_as_remark, begins_as_document};
+ghost use Rattle.desk_fields.specs.Tags.{tag_of, tag_name, same_tag, document_tag, package_tag, file_tag, other_tag, is_read_over, is_date_or_purpose, begins_as_element, begins_as_remark, begins_as_document};
 
 /// What the tag of a field is read as.
 #[derive(Debug, Clone, Copy, PartialEq, Eq)]
@@ -221,5 +221,12 @@ impl Tag {
             Tag::Relationship => "Relationship",
             Tag::ReadOver | Tag::Unknown => "",
         }
+    }
+
+    /// Whether two fields are read as the same.
+    pub fn is(&self, other: Tag) -> bool
+        ensures { result ≡ same_tag self.now other }
+    {
+        *self as u8 == other as u8
     }
 }

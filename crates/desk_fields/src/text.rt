@@ -1,10 +1,10 @@
 //! Blanks and lines of a text.
 
 ghost use Rattle.std.specs.Prelude.{◌≡◌, ◌+◌, ◌-◌, ◌≤◌, ◌<◌, ℕ, length, take, drop, slice_index, IsTrue, IsUtf8};
-ghost use Rattle.std.specs.List.{prefix_len, suffix_len};
+ghost use Rattle.std.specs.List.{prefix_len, suffix_len, position_or_len};
 ghost use Rattle.std.specs.Str.{IsCharBoundary};
 ghost use Rattle.desk_base.specs.Lines.{IsLine};
-ghost use Rattle.desk_fields.specs.Text.{is_blank, skip_blanks, trim_end, trimmed};
+ghost use Rattle.desk_fields.specs.Text.{is_blank, skip_blanks, trim_end, trimmed, first_word, after_word};
 
 use desk_base::{LineEnd, first_line as first_byte_line};
 
@@ -54,7 +54,7 @@ fn kept_end(text: &str) -> usize
 }
 
 /// The text without the blanks at its front.
-pub(crate) fn skip_blanks(text: &str) -> &str
+pub fn skip_blanks(text: &str) -> &str
     ensures { result.now ≡ skip_blanks text.now }
 {
     text.split_at(blanks_end(text)).1
@@ -80,4 +80,34 @@ pub(crate) fn first_line(text: &str) -> (&str, LineEnd, &str)
     let (front, _) = text.split_at(line.len());
     let (_, back) = text.split_at(bytes.len() - rest.len());
     (front, end, back)
+}
+
+// How many bytes stand before the first blank.
+fn word_len(bytes: &[u8]) -> usize
+    ensures within { result ≤ length bytes.now }
+    ensures value { result ≡ position_or_len is_blank bytes.now }
+    ensures blank { result < length bytes.now → IsTrue (is_blank (slice_index bytes.now result)) }
+{
+    for (i, b) in bytes.iter().enumerate() {
+        if is_blank(*b) {
+            return i;
+        }
+    }
+    bytes.len()
+}
+
+fn word_end(text: &str) -> usize
+    ensures value { result ≡ position_or_len is_blank text.now }
+    ensures cut { IsCharBoundary text.now result }
+{
+    word_len(text.as_bytes())
+}
+
+/// The first word of a text, which is a run between blanks, and what follows it.
+pub fn split_word(text: &str) -> (&str, &str)
+    ensures word { result.0.now ≡ first_word text.now }
+    ensures after { result.1.now ≡ after_word text.now }
+{
+    let text = skip_blanks(text);
+    text.split_at(word_end(text))
 }

@@ -1,0 +1,3 @@
+pub mod TextTests
+pub mod SeenLemmas
+pub mod StepLemmas
