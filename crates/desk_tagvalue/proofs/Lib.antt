@@ -1,3 +1,5 @@
 pub mod TextTests
 pub mod SeenLemmas
 pub mod StepLemmas
+pub mod PartsLemmas
+pub mod ReadLemmas

@@ -4,3 +4,7 @@ pub mod Relationships
 pub mod Sections
 pub mod Faults
 pub mod Seen
+pub mod Parts
+pub mod Missing
+pub mod Views
+pub mod Documents
