@@ -3,3 +3,5 @@ pub mod SeenLemmas
 pub mod StepLemmas
 pub mod PartsLemmas
 pub mod ReadLemmas
+pub mod WriteLemmas
+pub mod AddLemmas

@@ -8,3 +8,5 @@ pub mod Parts
 pub mod Missing
 pub mod Views
 pub mod Documents
+pub mod Drafts
+pub mod Written

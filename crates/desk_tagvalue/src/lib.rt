@@ -1,6 +1,7 @@
 //! SPDX tag-value documents.
 #![tactic(auto)]
 
+mod drafts;
 mod entries;
 mod ids;
 mod faults;
@@ -10,8 +11,14 @@ mod parts;
 mod reading;
 mod relationships;
 mod sections;
+mod writing;
 
+pub use drafts::{Draft, DraftFile};
 pub use entries::Entry;
 pub use reading::{Document, one_document, read};
 pub use parts::{Edge, Extracted, FileEntry, Package, Snippet};
+pub use writing::{WriteFault, write};
 pub use sections::{SectionKind, is_placed, section_begun};
+
+#[cfg(test)]
+mod tests;
