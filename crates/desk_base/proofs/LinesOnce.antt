@@ -22,7 +22,7 @@ cut_once c (d ∷ a) b (f ∷ x) y h k e =
 head_not : (c d : ℕ) (a : List ℕ) → All (λ b. b ≢ c) (d ∷ a) → d ≢ c
 head_not c d a h = All-get_or (λ b. b ≢ c) (d ∷ a) 0 0 (omega arith) h
 
-no_lf_none : (l a b : List ℕ) → All (λ b. b ≢ 10) l → l ≡ a ++ (10 ∷ b) → ⊥
+pub no_lf_none : (l a b : List ℕ) → All (λ b. b ≢ 10) l → l ≡ a ++ (10 ∷ b) → ⊥
 no_lf_none [] [] b h e = cc
 no_lf_none [] (d ∷ a) b h e = cc
 no_lf_none (c ∷ l) [] b h e = head_not 10 c l h cc

@@ -5,9 +5,10 @@ use Rattle.std.proofs.lemmas.Grind.{flat_map-append}
 use Rattle.std.proofs.lemmas.List.{get_or_append_left, drop_more}
 use Rattle.std.proofs.lemmas.List.Elements.{All-append, All-nil}
 use Rattle.std.proofs.Math.Seq.{get_or-append_right}
+use Rattle.desk_tagvalue.specs.declared.drafts.Draft.{Draft}
 use Rattle.desk_tagvalue.specs.declared.drafts.DraftFile.{DraftFile}
 use Rattle.desk_tagvalue.specs.declared.writing.WriteFault.{WriteFault}
-use Rattle.desk_tagvalue.specs.Drafts.{LineText, spelled, text_of_lines, file_lines, files_lines}
+use Rattle.desk_tagvalue.specs.Drafts.{LineText, spelled, text_of_lines, file_lines, files_lines, head_lines, draft_lines}
 use Rattle.desk_tagvalue.specs.Written.{Stands, Adds, IsStopped}
 
 pub all_front : {X : Type 0} (P : X → Type 0) (xs ys : List X) → All P (xs ++ ys) → All P xs
@@ -57,3 +58,6 @@ pub file_stops : (files : List DraftFile) (i : ℕ) (x : DraftFile) (e : WriteFa
 file_stops files i x e lt is inv (inl m) = inl m
 file_stops files i x e lt is inv (inr b) =
     inr (b.0, λ all. b.1 (subst (λ f. All Stands (file_lines (i + 1) f)) (sym is) (all_front Stands (file_lines (i + 1) (get_or files i x)) (files_lines (i + 1 + 1) (drop (i + 1) files)) (subst (All Stands) (one_file (i + 1) files i x lt) (inv all)))))
+
+pub draft_added : (d : Draft) (a b c : List ℕ) → a ≡ [] → Adds a (head_lines d) b → Adds b (files_lines 1 d.files) c → Adds [] (draft_lines d) c
+draft_added d a b c none head files = subst (λ x. Adds x (draft_lines d) c) none (adds_more a b c (head_lines d) (files_lines 1 d.files) head files)

@@ -5,3 +5,5 @@ pub mod PartsLemmas
 pub mod ReadLemmas
 pub mod WriteLemmas
 pub mod AddLemmas
+pub mod Reread
+pub mod LinesReread

@@ -1,5 +1,5 @@
 -- What can be written: a value that is read back from its field, printed alone.
-use Rattle.std.specs.Prelude.{◌≡◌, ◌⊎◌, ℕ, List, [], ◌∷◌, ◌++◌, Result, Ok, All, map}
+use Rattle.std.specs.Prelude.{◌≡◌, ◌⊎◌, ◌==◌, ◌+◌, ℕ, List, [], ◌∷◌, ◌++◌, Result, Ok, All, count_by}
 use Rattle.desk_fields.specs.declared.tag.Tag.{Tag}
 use Rattle.desk_fields.specs.Tags.{tag_name}
 use Rattle.desk_fields.specs.Cutting.{Reads, FieldText}
@@ -24,3 +24,18 @@ pub record Adds (old : List ℕ) (ls : List LineText) (new : List ℕ) : Type 0 
 -- lines weren't added: memory ran out, or not each of them is read back
 abbrev pub IsStopped : List LineText → WriteFault → Type 0
 IsStopped ls e = (e ≡ faults.Memory) ⊎ ((e ≡ faults.BadValue) × (All Stands ls → ⊥))
+
+-- how many line feeds a text has
+abbrev pub feeds : List ℕ → ℕ
+feeds text = count_by (λ b. b == 10) text
+
+-- the field of a line, before others
+abbrev pub onto_line : ℕ → LineText → List FieldText → List FieldText
+onto_line n blank fs = fs
+onto_line n (one_line tag value) fs = field_at n (tag_name tag) value ∷ fs
+onto_line n (in_text tag value) fs = field_at n (tag_name tag) value ∷ fs
+
+-- the fields of some lines, the first of which stands on line n
+abbrev pub fields_of_lines : ℕ → List LineText → List FieldText
+fields_of_lines n [] = []
+fields_of_lines n (l ∷ ls) = onto_line n l (fields_of_lines (n + feeds (spelled l)) ls)

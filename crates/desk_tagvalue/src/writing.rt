@@ -8,7 +8,7 @@ ghost use Rattle.desk_fields.specs.Cutting.{Reads, behind_mark};
 ghost use Rattle.desk_fields.specs.Found.{field_text};
 ghost use Rattle.desk_fields.specs.Tags.{tag_name};
 ghost use Rattle.desk_tagvalue.specs.Drafts.{line_text, one_line, in_text, spelled, file_lines, draft_lines, text_of_lines, files_lines, head_lines};
-ghost use Rattle.desk_tagvalue.specs.Written.{field_at, Stands, Adds, IsStopped};
+ghost use Rattle.desk_tagvalue.specs.Written.{field_at, Stands, Adds, IsStopped, fields_of_lines};
 
 use crate::drafts::{Draft, DraftFile, DraftLine, head_lines, lines_of_file};
 use desk_fields::{DocFault, Field, Tag, fields};
@@ -220,7 +220,11 @@ fn put_files(alloc: Global, out: &mut String, files: &[DraftFile]) -> Result<(),
 
 /// The text of a draft.
 pub fn write(alloc: Global, draft: &Draft) -> Result<String, WriteFault>
+    // The text is that of the draft's lines, each of which is read back.
     ensures ok { IfOk result (λ t. Adds [] (draft_lines draft.now) (string_bytes t)) }
+    // The text has the draft's fields, and no others.
+    ensures fields { IfOk result (λ t. Reads 1 (behind_mark (string_bytes t)) (Ok (fields_of_lines 1 (draft_lines draft.now)))) }
+    // Memory ran out, or some value can't be read back from its field.
     ensures err { IfErr result (λ e. IsStopped (draft_lines draft.now) e) }
 {
     let mut out = String::new(alloc);

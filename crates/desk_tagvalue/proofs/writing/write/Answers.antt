@@ -2,7 +2,8 @@ use Rattle.std.proofs.Common.{[], ◌++◌, subst, sym, ap, ◌∙◌}
 use Rattle.std.specs.String.{string_bytes}
 use Rattle.desk_tagvalue.specs.Drafts.{head_lines, files_lines}
 use Rattle.desk_tagvalue.specs.Written.{Adds, IsStopped}
-use Rattle.desk_tagvalue.proofs.AddLemmas.{adds_more, stops_front, stops_back}
+use Rattle.desk_tagvalue.proofs.AddLemmas.{draft_added, stops_front, stops_back}
+use Rattle.desk_tagvalue.proofs.LinesReread.{draft_again}
 use Rattle.desk_tagvalue.proofs.writing.write.Goals as goal
 
 pub returns-in-Err-clause-err : goal.returns-in-Err-clause-err
@@ -15,8 +16,14 @@ returns-in-Ok-put_files-clause-ok c =
     let d = c.args.draft.now in
     let head = subst (λ l. Adds (string_bytes c.new-out.result) l (string_bytes c.put_all.new.out)) c.head_lines.ensures c.in-Ok.ensures.ok in
     let files = subst (λ l. Adds (string_bytes c.put_all.new.out) (files_lines 1 l) (string_bytes c.put_files.new.out)) c.as_slice.ensures c.in-Ok-put_files.ensures.ok in
-    subst (λ a. Adds a (head_lines d ++ files_lines 1 d.files) (string_bytes c.put_files.new.out)) c.new-out.ensures.bytes
-    (adds_more (string_bytes c.new-out.result) (string_bytes c.put_all.new.out) (string_bytes c.put_files.new.out) (head_lines d) (files_lines 1 d.files) head files)
+    draft_added d (string_bytes c.new-out.result) (string_bytes c.put_all.new.out) (string_bytes c.put_files.new.out) c.new-out.ensures.bytes head files
+
+pub returns-in-Ok-put_files-clause-fields : goal.returns-in-Ok-put_files-clause-fields
+returns-in-Ok-put_files-clause-fields c =
+    let d = c.args.draft.now in
+    let head = subst (λ l. Adds (string_bytes c.new-out.result) l (string_bytes c.put_all.new.out)) c.head_lines.ensures c.in-Ok.ensures.ok in
+    let files = subst (λ l. Adds (string_bytes c.put_all.new.out) (files_lines 1 l) (string_bytes c.put_files.new.out)) c.as_slice.ensures c.in-Ok-put_files.ensures.ok in
+    draft_again d (string_bytes c.put_files.new.out) (draft_added d (string_bytes c.new-out.result) (string_bytes c.put_all.new.out) (string_bytes c.put_files.new.out) c.new-out.ensures.bytes head files)
 
 pub returns-in-Err-put_files-clause-err : goal.returns-in-Err-put_files-clause-err
 returns-in-Err-put_files-clause-err c =
