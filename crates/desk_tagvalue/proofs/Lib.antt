@@ -7,3 +7,6 @@ pub mod WriteLemmas
 pub mod AddLemmas
 pub mod Reread
 pub mod LinesReread
+pub mod DraftEntries
+pub mod DraftRead
+pub mod DraftGiven

@@ -15,7 +15,7 @@ use Rattle.desk_tagvalue.specs.Parts.{head_of, is_inside, Section, section_at, s
 take_next : {X : Type 0} (n : ℕ) (b : X) (xs : List X) → take (1 + n) (b ∷ xs) ≡ b ∷ take n xs
 take_next n b xs = let e : 1 + n ≡ suc n = omega arith in ap (λ k. take k (b ∷ xs)) e
 
-head_inside : (e : EntryText) (es : List EntryText) → begins e ≡ false → head_of (e ∷ es) ≡ e ∷ head_of es
+pub head_inside : (e : EntryText) (es : List EntryText) → begins e ≡ false → head_of (e ∷ es) ≡ e ∷ head_of es
 head_inside e es h =
     ap (λ b. take (cond (not b) (1 + prefix_len is_inside es) 0) (e ∷ es)) h ∙ take_next (prefix_len is_inside es) e es
 

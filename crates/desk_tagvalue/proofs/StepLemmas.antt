@@ -17,7 +17,7 @@ use Rattle.desk_tagvalue.specs.Seen.{newest, HoldsIds, Knows}
 pub newest_push : (xs : List Entry) (x : Entry) → newest (xs ++ (x ∷ [])) ≡ entry_text x ∷ newest xs
 newest_push xs x = ap reverse (map-append entry_text xs (x ∷ [])) ∙ reverse-append (map entry_text xs) (entry_text x ∷ [])
 
-count_one : (e : EntryText) (es : List EntryText) (v : Bool) → begins e ≡ v → count_by begins (e ∷ es) ≡ cond v 1 0 + count_by begins es
+pub count_one : (e : EntryText) (es : List EntryText) (v : Bool) → begins e ≡ v → count_by begins (e ∷ es) ≡ cond v 1 0 + count_by begins es
 count_one e es v h = sum_by-cons (λ x. cond (begins x) 1 0) e es ∙ ap (λ b. cond b 1 0 + count_by begins es) h
 
 section_inside : (e : EntryText) (es : List EntryText) → begins e ≡ false → section (e ∷ es) ≡ e ∷ section es

@@ -10,3 +10,4 @@ pub mod Views
 pub mod Documents
 pub mod Drafts
 pub mod Written
+pub mod Given

@@ -73,6 +73,10 @@ is_hex b = nat_le 48 b && nat_le b 57 || nat_le 65 b && nat_le b 70 || nat_le 97
 abbrev pub is_sha1 : List ℕ → Bool
 is_sha1 value = starts_with nat_eq value (codes "SHA1: ") && length value == 46 && list_all is_hex (drop 6 value)
 
+-- its digits
+abbrev pub sha1_digits : List ℕ → Option (List ℕ)
+sha1_digits value = if is_sha1 value then Some (drop 6 value) else None
+
 -- the digits of the first checksum of that form
 abbrev pub sha1_of : List EntryText → Option (List ℕ)
 sha1_of [] = None

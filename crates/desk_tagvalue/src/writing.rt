@@ -1,6 +1,6 @@
 //! Writing a draft.
 
-ghost use Rattle.std.specs.Prelude.{◌≡◌, ◌⊎◌, ◌↔◌, ◌++◌, ◌∷◌, ◌+◌, ◌<◌, ◌^◌, [], Ok, IsTrue, IfOk, IfErr, OnOk, map, codes, length};
+ghost use Rattle.std.specs.Prelude.{◌≡◌, ◌⊎◌, ◌↔◌, ◌++◌, ◌∷◌, ◌+◌, ◌<◌, ◌≤◌, ◌^◌, [], Ok, IsTrue, IfOk, IfErr, OnOk, map, codes, length};
 ghost use Rattle.std.specs.String.{string_bytes};
 ghost use Rattle.std.specs.Fmt.{decimal};
 ghost use Rattle.hex.specs.Hex.{encode_lower};
@@ -8,6 +8,9 @@ ghost use Rattle.desk_fields.specs.Cutting.{Reads, behind_mark};
 ghost use Rattle.desk_fields.specs.Found.{field_text};
 ghost use Rattle.desk_fields.specs.Tags.{tag_name};
 ghost use Rattle.desk_tagvalue.specs.Drafts.{line_text, one_line, in_text, spelled, file_lines, draft_lines, text_of_lines, files_lines, head_lines};
+ghost use Rattle.desk_tagvalue.specs.Parts.{DocumentText};
+ghost use Rattle.desk_tagvalue.specs.Documents.{Spells};
+ghost use Rattle.desk_tagvalue.specs.Given.{GivesDraft};
 ghost use Rattle.desk_tagvalue.specs.Written.{field_at, Stands, Adds, IsStopped, fields_of_lines};
 
 use crate::drafts::{Draft, DraftFile, DraftLine, head_lines, lines_of_file};
@@ -224,6 +227,8 @@ pub fn write(alloc: Global, draft: &Draft) -> Result<String, WriteFault>
     ensures ok { IfOk result (λ t. Adds [] (draft_lines draft.now) (string_bytes t)) }
     // The text has the draft's fields, and no others.
     ensures fields { IfOk result (λ t. Reads 1 (behind_mark (string_bytes t)) (Ok (fields_of_lines 1 (draft_lines draft.now)))) }
+    // What is read from it says what the draft says.
+    ensures read { IfOk result (λ t. length (string_bytes t) ≤ 4194304 → length draft.now.files ≤ 9999 → (x : DocumentText) × Spells (string_bytes t) (Ok x) × GivesDraft draft.now x) }
     // Memory ran out, or some value can't be read back from its field.
     ensures err { IfErr result (λ e. IsStopped (draft_lines draft.now) e) }
 {
