@@ -48,11 +48,17 @@ entries_of_files n k (f ∷ fs) =
     let d = c + feeds (spelled (one_line tags.FileChecksum (codes "SHA1: " ++ encode_lower f.digest))) in
     let e = d + feeds (spelled (one_line tags.FileConcluded f.concluded)) in
     let g = e + feeds (spelled (copyright_line tags.FileCopyright f.copyright)) in
-    let rest = fields_of_lines g (files_lines (k + 1) fs) in
-    (a, b, c, d, e, map read_entry rest,
-    ap (λ l. entry a tags.FileName (codes "./" ++ f.path) ∷ entry b tags.Identifier (file_id k) ∷ entry c tags.FileChecksum (codes "SHA1: " ++ encode_lower f.digest) ∷ entry d tags.FileConcluded f.concluded ∷ map read_entry l)
-    (copyright_field e tags.FileCopyright f.copyright rest),
-    entries_of_files g (k + 1) fs)
+    let rest = fields_of_lines g (files_lines (k + 1) fs) in (
+      a,
+      b,
+      c,
+      d,
+      e,
+      map read_entry rest,
+      ap (λ l. entry a tags.FileName (codes "./" ++ f.path) ∷ entry b tags.Identifier (file_id k) ∷ entry c tags.FileChecksum (codes "SHA1: " ++ encode_lower f.digest) ∷ entry d tags.FileConcluded f.concluded ∷ map read_entry l)
+          (copyright_field e tags.FileCopyright f.copyright rest),
+      entries_of_files g (k + 1) fs,
+    )
 
 -- the fields of the document and its package, wherever their lines stand
 pub record Places : Type 0 where
@@ -105,12 +111,14 @@ entries_of_draft x =
     let z = o + feeds (spelled (one_line tags.Relationship (codes "SPDXRef-DOCUMENT DESCRIBES SPDXRef-Package"))) in
     let p : Places = record { a = a; b = b; c = c; d = d; e = e; f = f; g = g; h = h; i = i; j = j; k = k; l = l; m = m; n = n; o = o } in
     let rest = fields_of_lines z (files_lines 1 x.files) in
-    let last = field_at o (tag_name tags.Relationship) (codes "SPDXRef-DOCUMENT DESCRIBES SPDXRef-Package") ∷ rest in
-    (p, map read_entry rest,
-    ap (λ l. entry p.a tags.Version (codes "SPDX-2.3") ∷ entry p.b tags.DataLicense (codes "CC0-1.0") ∷ entry p.c tags.Identifier (codes "SPDXRef-DOCUMENT")
-      ∷ entry p.d tags.DocumentName x.name ∷ entry p.e tags.DocumentNamespace x.namespace ∷ entry p.f tags.Creator (codes "Tool: licence-desk-1")
-      ∷ entry p.g tags.Created x.created ∷ entry p.h tags.PackageName x.name
-      ∷ entry p.i tags.Identifier (codes "SPDXRef-Package") ∷ entry p.j tags.DownloadLocation (codes "NOASSERTION")
-      ∷ entry p.k tags.FilesAnalyzed (codes "true") ∷ entry p.l tags.VerificationCode x.code ∷ entry p.m tags.PackageConcluded x.concluded
-      ∷ map read_entry l) (copyright_field n tags.PackageCopyright x.copyright last),
-    entries_of_files z 1 x.files)
+    let last = field_at o (tag_name tags.Relationship) (codes "SPDXRef-DOCUMENT DESCRIBES SPDXRef-Package") ∷ rest in (
+      p,
+      map read_entry rest,
+      ap (λ l. entry p.a tags.Version (codes "SPDX-2.3") ∷ entry p.b tags.DataLicense (codes "CC0-1.0") ∷ entry p.c tags.Identifier (codes "SPDXRef-DOCUMENT")
+          ∷ entry p.d tags.DocumentName x.name ∷ entry p.e tags.DocumentNamespace x.namespace ∷ entry p.f tags.Creator (codes "Tool: licence-desk-1")
+          ∷ entry p.g tags.Created x.created ∷ entry p.h tags.PackageName x.name
+          ∷ entry p.i tags.Identifier (codes "SPDXRef-Package") ∷ entry p.j tags.DownloadLocation (codes "NOASSERTION")
+          ∷ entry p.k tags.FilesAnalyzed (codes "true") ∷ entry p.l tags.VerificationCode x.code ∷ entry p.m tags.PackageConcluded x.concluded
+          ∷ map read_entry l) (copyright_field n tags.PackageCopyright x.copyright last),
+      entries_of_files z 1 x.files,
+    )

@@ -38,7 +38,7 @@ files_named k (f ∷ fs) es is =
 elements_named : (d : Draft) (p : Places) (rest : List EntryText) → AreFileEntries 1 d.files rest → missing_of_elements (head_entries d p rest) ≡ None
 elements_named d p rest is =
     let others = entry p.j tags.DownloadLocation (codes "NOASSERTION") ∷ entry p.k tags.FilesAnalyzed (codes "true") ∷ entry p.l tags.VerificationCode d.code
-      ∷ entry p.m tags.PackageConcluded d.concluded ∷ entry p.n tags.PackageCopyright d.copyright ∷ entry p.o tags.Relationship (codes "SPDXRef-DOCUMENT DESCRIBES SPDXRef-Package") ∷ rest in
+    ∷ entry p.m tags.PackageConcluded d.concluded ∷ entry p.n tags.PackageCopyright d.copyright ∷ entry p.o tags.Relationship (codes "SPDXRef-DOCUMENT DESCRIBES SPDXRef-Package") ∷ rest in
     ap (λ v. cond v (Some (faults.Missing p.h tags.Identifier)) (missing_of_elements rest)) (present p.i (codes "SPDXRef-Package") others) ∙ files_named 1 d.files rest is
 
 document_named : (d : Draft) (p : Places) (rest : List EntryText) → missing_of_document (head_entries d p rest) ≡ None
@@ -66,7 +66,7 @@ no_edges k (f ∷ fs) es is = ap edges_of is.6 ∙ no_edges (k + 1) fs is.5 is.7
 
 file_head : (k : ℕ) (f : DraftFile) (b c d e : ℕ) (rest : List EntryText) → head_of rest ≡ []
     → head_of (entry b tags.Identifier (file_id k) ∷ entry c tags.FileChecksum (codes "SHA1: " ++ encode_lower f.digest) ∷ entry d tags.FileConcluded f.concluded ∷ entry e tags.FileCopyright f.copyright ∷ rest)
-      ≡ entry b tags.Identifier (file_id k) ∷ entry c tags.FileChecksum (codes "SHA1: " ++ encode_lower f.digest) ∷ entry d tags.FileConcluded f.concluded ∷ entry e tags.FileCopyright f.copyright ∷ []
+    ≡ entry b tags.Identifier (file_id k) ∷ entry c tags.FileChecksum (codes "SHA1: " ++ encode_lower f.digest) ∷ entry d tags.FileConcluded f.concluded ∷ entry e tags.FileCopyright f.copyright ∷ []
 file_head k f b c d e rest none =
     let e2 = entry b tags.Identifier (file_id k) in
     let e3 = entry c tags.FileChecksum (codes "SHA1: " ++ encode_lower f.digest) in
@@ -78,14 +78,16 @@ files_given : (k : ℕ) (fs : List DraftFile) (es : List EntryText) → AreFileE
 files_given k [] es is = subst (λ l. AreFiles k [] (parts_of tags.FileName file_of l)) (sym is) tt
 files_given k (f ∷ fs) es is =
     let h = file_head k f is.1 is.2 is.3 is.4 is.5 (head_of_files (k + 1) fs is.5 is.7) in
-    subst (λ l. AreFiles k (f ∷ fs) (parts_of tags.FileName file_of l)) (sym is.6)
-    (record {
-      name = refl;
-      id = ap (text_of tags.Identifier) h;
-      sha1 = ap sha1_of h;
-      concluded = ap (value_of tags.FileConcluded) h;
-      copyright = ap (value_of tags.FileCopyright) h;
-    }, files_given (k + 1) fs is.5 is.7)
+    subst (λ l. AreFiles k (f ∷ fs) (parts_of tags.FileName file_of l)) (sym is.6) (
+      record {
+        name = refl;
+        id = ap (text_of tags.Identifier) h;
+        sha1 = ap sha1_of h;
+        concluded = ap (value_of tags.FileConcluded) h;
+        copyright = ap (value_of tags.FileCopyright) h;
+      },
+      files_given (k + 1) fs is.5 is.7,
+    )
 
 package_head : (d : Draft) (p : Places) (rest : List EntryText) → head_of rest ≡ [] → head_of (package_entries d p rest) ≡ package_entries d p []
 package_head d p rest none =

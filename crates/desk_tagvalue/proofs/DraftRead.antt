@@ -124,7 +124,7 @@ file_before k f a b c d e before h lt =
     record {
       count = omega arith;
       fresh = λ j ge small.
-        ap (λ v. v || has_element (file_id j) before) (ids_apart k j (omega arith) small (omega arith)) ∙ h.fresh j (omega arith) small;
+          ap (λ v. v || has_element (file_id j) before) (ids_apart k j (omega arith) small (omega arith)) ∙ h.fresh j (omega arith) small;
     }
 
 files_sound : (k : ℕ) (fs : List DraftFile) (es before : List EntryText) → AreFileEntries k fs es → Before k before → k + length fs ≤ 10000 → first_fault before es ≡ None

@@ -52,6 +52,7 @@ and_true a b h k = ap (λ v. v && b) h ∙ k
 
 pub id_test : (r : Bool) (text : List ℕ) → IsTrue r ↔ IsIdstring text → r ≡ is_id text
 id_test r text h =
-    same_from_decides {P = IsIdstring text} r (is_id text) (h.0, h.1)
-    (λ e. let parts = and_parts (nat_lt 0 (length text)) (list_all is_idstring_byte text) e in (let some = parts.0 in grind (arith, nat_tests), test_all is_idstring_byte text parts.1),
-    λ is. and_true (nat_lt 0 (length text)) (list_all is_idstring_byte text) (let some = is.0 in grind (arith, nat_tests)) (all_test is_idstring_byte text is.1))
+    same_from_decides {P = IsIdstring text} r (is_id text) (h.0, h.1) (
+      λ e. let parts = and_parts (nat_lt 0 (length text)) (list_all is_idstring_byte text) e in (let some = parts.0 in grind (arith, nat_tests), test_all is_idstring_byte text parts.1),
+      λ is. and_true (nat_lt 0 (length text)) (list_all is_idstring_byte text) (let some = is.0 in grind (arith, nat_tests)) (all_test is_idstring_byte text is.1),
+    )

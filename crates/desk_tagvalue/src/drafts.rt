@@ -77,7 +77,10 @@ pub(crate) fn head_lines<'a>(draft: &'a Draft) -> [DraftLine<'a>; 16]
         DraftLine::OneLine(Tag::VerificationCode, draft.code.as_str()),
         DraftLine::OneLine(Tag::PackageConcluded, draft.concluded.as_str()),
         copyright_line(Tag::PackageCopyright, draft.copyright.as_str()),
-        DraftLine::OneLine(Tag::Relationship, "SPDXRef-DOCUMENT DESCRIBES SPDXRef-Package"),
+        DraftLine::OneLine(
+            Tag::Relationship,
+            "SPDXRef-DOCUMENT DESCRIBES SPDXRef-Package",
+        ),
     ]
 }
 

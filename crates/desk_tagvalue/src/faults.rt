@@ -13,7 +13,9 @@ ghost use Rattle.desk_tagvalue.specs.Seen.{newest, has_key, HoldsIds, Knows};
 use crate::Entry;
 use crate::ids::{is_document_id, is_element_id, is_licence_id};
 use crate::relationships::is_relationship;
-use crate::sections::{IdForm, SectionKind, id_form, is_placed, once_in_document, once_in_section, section_begun};
+use crate::sections::{
+    IdForm, SectionKind, id_form, is_placed, once_in_document, once_in_section, section_begun,
+};
 use desk_base::limits::DOCUMENT_ELEMENTS;
 use desk_fields::{DocFault, Tag};
 use std::alloc::Global;
@@ -158,11 +160,7 @@ fn open_section(seen: &mut Seen, kind: SectionKind, start: usize)
 }
 
 // Goes past a field.
-fn step<'a>(
-    seen: &mut Seen<'a>,
-    before: &[Entry<'a>],
-    entry: &Entry<'a>,
-) -> Result<(), DocFault>
+fn step<'a>(seen: &mut Seen<'a>, before: &[Entry<'a>], entry: &Entry<'a>) -> Result<(), DocFault>
     requires { Knows before.now seen.old }
     ensures ok { OnOk result (field_fault (newest before.now) (entry_text entry.now) ≡ None) }
     ensures knows { OnOk result (Knows (before.now ++ entry.now ∷ []) seen.new) }

@@ -3,8 +3,8 @@
 
 mod drafts;
 mod entries;
-mod ids;
 mod faults;
+mod ids;
 mod lists;
 mod missing;
 mod parts;
@@ -15,10 +15,10 @@ mod writing;
 
 pub use drafts::{Draft, DraftFile};
 pub use entries::Entry;
-pub use reading::{Document, one_document, read};
 pub use parts::{Edge, Extracted, FileEntry, Package, Snippet};
-pub use writing::{WriteFault, write};
+pub use reading::{Document, one_document, read};
 pub use sections::{SectionKind, is_placed, section_begun};
+pub use writing::{WriteFault, write};
 
 #[cfg(test)]
 mod tests;

@@ -7,7 +7,9 @@ ghost use Rattle.desk_tagvalue.specs.Parts.{parts_of, package_of, file_of, snipp
 ghost use Rattle.desk_tagvalue.specs.Views.{package_text, file_text, snippet_text, extracted_text, edge_text};
 
 use crate::Entry;
-use crate::parts::{Edge, Extracted, FileEntry, Package, Snippet, edge_of, extracted_of, file_of, package_of};
+use crate::parts::{
+    Edge, Extracted, FileEntry, Package, Snippet, edge_of, extracted_of, file_of, package_of,
+};
 use desk_fields::Tag;
 use std::alloc::{AllocError, Global};
 
@@ -79,10 +81,7 @@ pub(crate) fn snippets<'a>(
 }
 
 /// All relationships, in order.
-pub(crate) fn edges<'a>(
-    alloc: Global,
-    entries: &[Entry<'a>],
-) -> Result<Vec<Edge<'a>>, AllocError>
+pub(crate) fn edges<'a>(alloc: Global, entries: &[Entry<'a>]) -> Result<Vec<Edge<'a>>, AllocError>
     ensures { IfOk result (λ v. map edge_text v.items ≡ edges_of (map entry_text entries.now)) }
 {
     let mut found = Vec::new(alloc);

@@ -107,5 +107,4 @@ pub fn read<'a>(alloc: Global, bytes: &'a [u8]) -> Result<Document<'a>, DocFault
 pub fn one_document()
     ensures once { (bytes : List ℕ) (a b : Result DocumentText DocFault) → Spells bytes a → Spells bytes b → a ≡ b }
     ensures memory { (bytes : List ℕ) → Spells bytes (Err DocFault.Memory) → ⊥ }
-{
-}
+{}

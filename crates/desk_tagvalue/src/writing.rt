@@ -55,12 +55,7 @@ fn is_only(found: &[Field], tag: &str, value: &str) -> bool
 }
 
 // Whether the text of a field is read as this one field.
-fn is_read_back(
-    alloc: Global,
-    spelled: &str,
-    tag: &str,
-    value: &str,
-) -> Result<bool, AllocError>
+fn is_read_back(alloc: Global, spelled: &str, tag: &str, value: &str) -> Result<bool, AllocError>
     ensures { IfOk result (λ b. IsTrue b ↔ Reads 1 (behind_mark spelled.now) (Ok (field_at 1 tag.now value.now ∷ []))) }
 {
     match fields(alloc, spelled) {
@@ -96,12 +91,7 @@ fn put_field(
 }
 
 // Adds a field on one line.
-fn put_one_line(
-    alloc: Global,
-    out: &mut String,
-    tag: Tag,
-    value: &str,
-) -> Result<(), WriteFault>
+fn put_one_line(alloc: Global, out: &mut String, tag: Tag, value: &str) -> Result<(), WriteFault>
     ensures ok { OnOk result (string_bytes out.new ≡ string_bytes out.old ++ spelled (one_line tag value.now)) }
     ensures stands { OnOk result (Stands (one_line tag value.now)) }
     ensures err { IfErr result (λ e. (e ≡ WriteFault.Memory) ⊎ ((e ≡ WriteFault.BadValue) × (Stands (one_line tag value.now) → ⊥))) }
@@ -114,12 +104,7 @@ fn put_one_line(
 }
 
 // Adds a field in `<text>`.
-fn put_in_text(
-    alloc: Global,
-    out: &mut String,
-    tag: Tag,
-    value: &str,
-) -> Result<(), WriteFault>
+fn put_in_text(alloc: Global, out: &mut String, tag: Tag, value: &str) -> Result<(), WriteFault>
     ensures ok { OnOk result (string_bytes out.new ≡ string_bytes out.old ++ spelled (in_text tag value.now)) }
     ensures stands { OnOk result (Stands (in_text tag value.now)) }
     ensures err { IfErr result (λ e. (e ≡ WriteFault.Memory) ⊎ ((e ≡ WriteFault.BadValue) × (Stands (in_text tag value.now) → ⊥))) }
