@@ -129,3 +129,29 @@ fn writes_files(rt: HostRuntime) -> Result<(), Fail> {
     assert!(rt; write(alloc, &other).is_err());
     Ok(())
 }
+
+// With `rt try --test --fail-alloc 1..` each allocation fails in turn: the answer is then Memory, and else the right one.
+#[test]
+fn reads_or_tells_want_of_memory(rt: HostRuntime) {
+    match read(rt.alloc(), SMALL.as_bytes()) {
+        Ok(document) => expect_small(&rt, &document),
+        Err(fault) => assert_eq!(rt; fault, DocFault::Memory),
+    }
+}
+
+#[test]
+fn writes_or_tells_want_of_memory(rt: HostRuntime) {
+    let Ok(mut draft) = draft_of(rt.alloc(), "n") else {
+        return;
+    };
+    let Ok(file) = file_of(rt.alloc(), "a", "2025 Firm") else {
+        return;
+    };
+    if draft.files.push(file).is_err() {
+        return;
+    }
+    match write(rt.alloc(), &draft) {
+        Ok(text) => assert!(rt; text.as_str().starts_with(EMPTY_TREE)),
+        Err(fault) => assert_eq!(rt; fault, WriteFault::Memory),
+    }
+}
