@@ -10,3 +10,4 @@ pub mod LinesReread
 pub mod DraftEntries
 pub mod DraftRead
 pub mod DraftGiven
+pub mod Digests

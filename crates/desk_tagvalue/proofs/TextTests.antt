@@ -34,7 +34,7 @@ all_test f (x ∷ xs) h =
     let head : f x ≡ true = All-get_or (λ b. IsTrue (f b)) (x ∷ xs) 0 0 (omega arith) h in
     ap (λ v. v && list_all f xs) head ∙ all_test f xs (All-tail (λ b. IsTrue (f b)) x xs h)
 
-test_all : (f : ℕ → Bool) (xs : List ℕ) → list_all f xs ≡ true → All (λ b. IsTrue (f b)) xs
+pub test_all : (f : ℕ → Bool) (xs : List ℕ) → list_all f xs ≡ true → All (λ b. IsTrue (f b)) xs
 test_all f [] h = λ k d lt. absurd (omega arith)
 test_all f (x ∷ xs) h =
     let cases : (v : Bool) → f x ≡ v → (v && list_all f xs) ≡ true → All (λ b. IsTrue (f b)) (x ∷ xs) = λ v. elim v as (λ v. f x ≡ v → (v && list_all f xs) ≡ true → All (λ b. IsTrue (f b)) (x ∷ xs)) [

@@ -1,6 +1,6 @@
 //! Writing a draft.
 
-ghost use Rattle.std.specs.Prelude.{◌≡◌, ◌⊎◌, ◌↔◌, ◌++◌, ◌∷◌, ◌+◌, ◌<◌, ◌≤◌, ◌^◌, [], Ok, IsTrue, IfOk, IfErr, OnOk, map, codes, length};
+ghost use Rattle.std.specs.Prelude.{◌≡◌, ◌⊎◌, ◌↔◌, ◌++◌, ◌∷◌, ◌+◌, ◌<◌, ◌≤◌, ◌^◌, [], ℕ, List, All, Some, Ok, IsTrue, IfOk, IfErr, OnOk, map, codes, length};
 ghost use Rattle.std.specs.String.{string_bytes};
 ghost use Rattle.std.specs.Fmt.{decimal};
 ghost use Rattle.hex.specs.Hex.{encode_lower};
@@ -8,7 +8,7 @@ ghost use Rattle.desk_fields.specs.Cutting.{Reads, behind_mark};
 ghost use Rattle.desk_fields.specs.Found.{field_text};
 ghost use Rattle.desk_fields.specs.Tags.{tag_name};
 ghost use Rattle.desk_tagvalue.specs.Drafts.{line_text, one_line, in_text, spelled, file_lines, draft_lines, text_of_lines, files_lines, head_lines};
-ghost use Rattle.desk_tagvalue.specs.Parts.{DocumentText};
+ghost use Rattle.desk_tagvalue.specs.Parts.{DocumentText, sha1_digits};
 ghost use Rattle.desk_tagvalue.specs.Documents.{Spells};
 ghost use Rattle.desk_tagvalue.specs.Given.{GivesDraft};
 ghost use Rattle.desk_tagvalue.specs.Written.{field_at, Stands, Adds, IsStopped, fields_of_lines};
@@ -226,4 +226,10 @@ pub fn write(alloc: Global, draft: &Draft) -> Result<String, WriteFault>
         Ok(()) => Ok(out),
         Err(fault) => Err(fault),
     }
+}
+
+/// The checksum that is written of a digest is read as its 40 digits.
+pub fn one_digest()
+    ensures { (digest : List ℕ) → length digest ≡ 20 → All (λ b. b < 256) digest → sha1_digits (codes "SHA1: " ++ encode_lower digest) ≡ Some (encode_lower digest) }
+{
 }
