@@ -1,17 +1,17 @@
 -- The fields of a draft, with their tags read.
-use Rattle.std.proofs.Common.{◌≡◌, ◌∙◌, ℕ, ◌+◌, ◌<◌, ◌≤◌, List, [], ◌∷◌, ◌++◌, length, sym, subst, ap, refl, arith, Bool, true, false, cond}
+use Rattle.std.proofs.Common.{◌≡◌, ℕ, ◌+◌, List, [], ◌∷◌, ◌++◌, ap, refl, Bool, true, false, cond}
 use Rattle.std.specs.Prelude.{codes, map}
 use Rattle.std.specs.Str.{bytes_eq}
 use Rattle.std.specs.Fmt.{decimal}
 use Rattle.hex.specs.Hex.{encode_lower}
 use Rattle.desk_fields.specs.declared.tag.Tag.{Tag}
 use Rattle.desk_fields.specs.declared.tag.Tag.TheVariants as tags
-use Rattle.desk_fields.specs.Tags.{tag_name, tag_of}
+use Rattle.desk_fields.specs.Tags.{tag_name}
 use Rattle.desk_fields.specs.Cutting.{FieldText}
 use Rattle.desk_tagvalue.specs.declared.drafts.Draft.{Draft}
 use Rattle.desk_tagvalue.specs.declared.drafts.DraftFile.{DraftFile}
 use Rattle.desk_tagvalue.specs.Entries.{EntryText, read_entry}
-use Rattle.desk_tagvalue.specs.Drafts.{LineText, blank, one_line, in_text, spelled, copyright_line, head_lines, file_lines, files_lines, draft_lines}
+use Rattle.desk_tagvalue.specs.Drafts.{blank, one_line, in_text, spelled, copyright_line, files_lines, draft_lines}
 use Rattle.desk_tagvalue.specs.Written.{field_at, feeds, onto_line, fields_of_lines}
 
 abbrev pub entry : ℕ → Tag → List ℕ → EntryText

@@ -1,26 +1,23 @@
 -- The document of a draft's fields says what the draft says.
-use Rattle.std.proofs.Common.{◌≡◌, ◌∙◌, ℕ, ◌+◌, ◌<◌, ◌≤◌, List, [], ◌∷◌, ◌++◌, length, sym, subst, ap, refl, arith, Bool, true, false, cond, Option, Some, None, Ok, IsUtf8}
-use Rattle.std.specs.Prelude.{codes, map, filter, is_none, ◌&&◌}
-use Rattle.std.specs.String.{string_bytes}
+use Rattle.std.proofs.Common.{◌≡◌, ◌∙◌, ℕ, ◌+◌, ◌≤◌, List, [], ◌∷◌, ◌++◌, length, sym, subst, ap, refl, false, cond, Some, None, Ok, IsUtf8}
+use Rattle.std.specs.Prelude.{codes, map, filter}
 use Rattle.hex.specs.Hex.{encode_lower}
 use Rattle.desk_fields.specs.declared.tag.Tag.{Tag}
 use Rattle.desk_fields.specs.declared.tag.Tag.TheVariants as tags
 use Rattle.desk_fields.specs.Tags.{same_tag}
-use Rattle.desk_fields.specs.declared.fault.DocFault.{DocFault}
 use Rattle.desk_fields.specs.declared.fault.DocFault.TheVariants as faults
-use Rattle.desk_fields.specs.Cutting.{Reads, behind_mark}
 use Rattle.desk_tagvalue.specs.declared.drafts.Draft.{Draft}
 use Rattle.desk_tagvalue.specs.declared.drafts.DraftFile.{DraftFile}
 use Rattle.desk_tagvalue.specs.Entries.{EntryText, value_of, read_entry}
-use Rattle.desk_tagvalue.specs.Faults.{begins, first_fault, first_of}
-use Rattle.desk_tagvalue.specs.Missing.{missing_of, missing_of_document, missing_of_elements, is_absent, is_unnamed}
-use Rattle.desk_tagvalue.specs.Parts.{head_of, Section, section_at, sections_of, begins_with, parts_of, package_of, file_of, snippet_of, extracted_of, edge_of, edges_of, FileText, EdgeText, DocumentText, document_of, is_edge, text_of, sha1_of, sha1_digits, is_sha1}
+use Rattle.desk_tagvalue.specs.Faults.{first_fault, first_of}
+use Rattle.desk_tagvalue.specs.Missing.{missing_of, missing_of_document, missing_of_elements, is_absent}
+use Rattle.desk_tagvalue.specs.Parts.{head_of, Section, section_at, sections_of, begins_with, parts_of, package_of, file_of, snippet_of, extracted_of, edge_of, edges_of, DocumentText, document_of, text_of, sha1_of}
 use Rattle.desk_tagvalue.specs.Documents.{limit, judged, unless, Spells, fields}
 use Rattle.desk_tagvalue.specs.Drafts.{draft_lines}
 use Rattle.desk_tagvalue.specs.Written.{Adds, fields_of_lines}
-use Rattle.desk_tagvalue.specs.Given.{IsFile, AreFiles, IsPackage, IsOnlyPackage, IsOnlyEdge, GivesDraft}
+use Rattle.desk_tagvalue.specs.Given.{AreFiles, IsPackage, IsOnlyPackage, IsOnlyEdge, GivesDraft}
 use Rattle.desk_tagvalue.proofs.PartsLemmas.{head_inside}
-use Rattle.desk_tagvalue.proofs.DraftEntries.{entry, file_id, file_entries, AreFileEntries, Places, package_entries, head_entries, entries_of_draft}
+use Rattle.desk_tagvalue.proofs.DraftEntries.{entry, file_id, AreFileEntries, Places, package_entries, head_entries, entries_of_draft}
 use Rattle.desk_tagvalue.proofs.DraftRead.{draft_sound}
 use Rattle.desk_tagvalue.proofs.LinesReread.{draft_again}
 

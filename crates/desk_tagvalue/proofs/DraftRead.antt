@@ -1,6 +1,6 @@
 -- A draft's fields are a document.
-use Rattle.std.proofs.Common.{◌≡◌, ◌≢◌, ◌∙◌, ℕ, suc, ◌+◌, ◌<◌, ◌≤◌, ◌^◌, ◌%◌, List, [], ◌∷◌, ◌++◌, length, drop, take, sym, subst, ap, refl, arith, Bool, true, false, cond, Option, Some, None}
-use Rattle.std.specs.Prelude.{codes, map, not, ◌&&◌, ◌||◌, count_by, nat_le, nat_lt, is_some}
+use Rattle.std.proofs.Common.{◌≡◌, ◌∙◌, ℕ, ◌+◌, ◌<◌, ◌≤◌, ◌^◌, ◌%◌, List, [], ◌∷◌, ◌++◌, length, ap, refl, arith, Bool, true, false, cond, Some, None}
+use Rattle.std.specs.Prelude.{codes, not, ◌&&◌, ◌||◌, count_by, nat_le, nat_lt}
 use Rattle.std.specs.List.{list_all}
 use Rattle.std.specs.Str.{bytes_eq}
 use Rattle.std.specs.Fmt.{decimal}
@@ -10,16 +10,14 @@ use Rattle.std.proofs.lemmas.List.{append_cancel_left}
 use Rattle.std.proofs.lemmas.Slice.Eq.{bytes_eq-Decides}
 use Rattle.std.proofs.lemmas.Bool.Decides.{nat_tests}
 use Rattle.hex.specs.Hex.{encode_lower}
-use Rattle.desk_fields.specs.declared.tag.Tag.{Tag}
 use Rattle.desk_fields.specs.declared.tag.Tag.TheVariants as tags
-use Rattle.desk_fields.specs.declared.fault.DocFault.{DocFault}
 use Rattle.desk_fields.specs.declared.fault.DocFault.TheVariants as faults
 use Rattle.desk_tagvalue.specs.declared.drafts.Draft.{Draft}
 use Rattle.desk_tagvalue.specs.declared.drafts.DraftFile.{DraftFile}
 use Rattle.desk_tagvalue.specs.Entries.{EntryText}
 use Rattle.desk_tagvalue.specs.Ids.{is_element_id}
 use Rattle.desk_tagvalue.specs.Faults.{begins, has_element, first_fault, field_fault, first_of}
-use Rattle.desk_tagvalue.proofs.DraftEntries.{entry, file_id, file_entries, AreFileEntries, Places, package_entries, head_entries}
+use Rattle.desk_tagvalue.proofs.DraftEntries.{entry, file_id, file_entries, AreFileEntries, Places, head_entries}
 use Rattle.desk_tagvalue.proofs.StepLemmas.{count_one}
 
 -- the fields of the document and its package, the newest first

@@ -1,6 +1,6 @@
 -- Lines that are read back alone are read back together.
-use Rattle.std.proofs.Common.{◌≡◌, ◌∙◌, ◌⊎◌, inl, inr, ℕ, ◌+◌, ◌-◌, ◌<◌, ◌≤◌, List, [], ◌∷◌, ◌++◌, length, get_or, sym, subst, ap, refl, arith, Result, Ok, Err, append_assoc, append-nil, length-append}
-use Rattle.std.specs.Prelude.{All, codes, map}
+use Rattle.std.proofs.Common.{◌≡◌, inr, ℕ, ◌+◌, ◌-◌, ◌≤◌, List, [], ◌∷◌, ◌++◌, sym, subst, refl, arith, Ok, append_assoc}
+use Rattle.std.specs.Prelude.{All, codes}
 use Rattle.std.proofs.lemmas.List.Elements.{All-get_or, All-tail}
 use Rattle.desk_base.specs.declared.lines.LineEnd.TheVariants.{Lf}
 use Rattle.desk_fields.specs.declared.tag.Tag.{Tag}
@@ -8,9 +8,9 @@ use Rattle.desk_fields.specs.Tags.{tag_name}
 use Rattle.desk_fields.specs.Pieces.{bare}
 use Rattle.desk_fields.specs.Cutting.{Reads, done, more, FieldText, with_front, behind_mark}
 use Rattle.desk_tagvalue.specs.declared.drafts.Draft.{Draft}
-use Rattle.desk_tagvalue.specs.Drafts.{LineText, blank, one_line, in_text, spelled, text_of_lines, draft_lines, head_lines, files_lines}
+use Rattle.desk_tagvalue.specs.Drafts.{LineText, blank, one_line, in_text, spelled, text_of_lines, draft_lines}
 use Rattle.desk_tagvalue.specs.Written.{Stands, Adds, field_at, feeds, onto_line, fields_of_lines}
-use Rattle.desk_tagvalue.proofs.Reread.{Res, EndsLf, reads_append, reads_shift, shift}
+use Rattle.desk_tagvalue.proofs.Reread.{EndsLf, reads_append, reads_shift}
 
 -- one field, on another line
 field_again : (tag value s : List ℕ) (n : ℕ) → 1 ≤ n → Reads 1 s (Ok (field_at 1 tag value ∷ [])) → Reads n s (Ok (field_at n tag value ∷ []))

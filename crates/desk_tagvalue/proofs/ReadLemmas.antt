@@ -1,5 +1,5 @@
 -- Bytes spell one document.
-use Rattle.std.proofs.Common.{◌≡◌, ◌∙◌, ℕ, ◌+◌, ◌<◌, ◌≤◌, List, [], ◌∷◌, length, sym, subst, ap, refl, arith, Bool, true, false, cond, Option, Some, None, Result, Ok, Err, ◌⊎◌, inl, inr, IsUtf8}
+use Rattle.std.proofs.Common.{◌≡◌, ◌∙◌, ℕ, ◌<◌, ◌≤◌, List, [], ◌∷◌, length, sym, subst, ap, refl, arith, Bool, true, false, cond, Option, Some, None, Result, Ok, Err, ◌⊎◌, inl, inr, IsUtf8}
 use Rattle.std.specs.Prelude.{map, not, ◌&&◌, IfOk, IfErr}
 use Rattle.desk_fields.specs.declared.tag.Tag.TheVariants as tags
 use Rattle.desk_fields.specs.Tags.{same_tag}
@@ -7,8 +7,8 @@ use Rattle.desk_tagvalue.specs.Relationships.{is_relationship}
 use Rattle.desk_fields.specs.declared.fault.DocFault.{DocFault}
 use Rattle.desk_fields.specs.declared.fault.DocFault.TheVariants as faults
 use Rattle.desk_fields.specs.declared.scan.Field.{Field}
-use Rattle.desk_fields.specs.Cutting.{Reads, done, more, fails, Fails, FieldText, behind_mark, with_piece, onto, line_after}
-use Rattle.desk_fields.specs.Pieces.{Piece, given}
+use Rattle.desk_fields.specs.Cutting.{Reads, done, more, fails, Fails, FieldText, behind_mark, with_piece, line_after}
+use Rattle.desk_fields.specs.Pieces.{Piece}
 use Rattle.desk_fields.specs.Found.{field_text}
 use Rattle.desk_fields.proofs.OneReading.{reads_once}
 use Rattle.desk_tagvalue.specs.declared.entries.Entry.{Entry}

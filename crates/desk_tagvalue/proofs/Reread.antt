@@ -1,15 +1,15 @@
 -- A reading followed by a reading is a reading.
-use Rattle.std.proofs.Common.{◌≡◌, ◌≢◌, ◌∙◌, ◌⊎◌, inl, inr, ℕ, ◌+◌, ◌-◌, ◌<◌, ◌≤◌, List, [], ◌∷◌, ◌++◌, length, get_or, sym, subst, ap, refl, arith, Bool, true, false, cond, Option, Some, None, Result, Ok, Err, append_assoc, append-nil, length-append}
-use Rattle.std.specs.Prelude.{All, codes, count_by, map, ◌==◌}
+use Rattle.std.proofs.Common.{◌≡◌, ◌≢◌, ◌∙◌, ◌⊎◌, inl, inr, ℕ, ◌+◌, ◌-◌, ◌<◌, List, [], ◌∷◌, ◌++◌, length, get_or, sym, subst, ap, refl, arith, false, cond, Result, Ok, Err, append_assoc, append-nil, length-append}
+use Rattle.std.specs.Prelude.{codes, map, ◌==◌}
 use Rattle.std.proofs.Math.Seq.{get_or-append_seam, get_or-append_right}
 use Rattle.std.proofs.lemmas.List.Elements.{All-append, All-cons, All-get_or, All-tail}
 use Rattle.std.proofs.lemmas.List.Sums.{sum_by-cons, sum_by-append}
 use Rattle.std.proofs.lemmas.Bool.Decides.{nat_tests}
 use Rattle.desk_base.specs.declared.lines.LineEnd.{LineEnd}
 use Rattle.desk_base.specs.declared.lines.LineEnd.TheVariants.{Lf, CrLf, Nothing}
-use Rattle.desk_base.specs.Lines.{Ends, end_bytes}
+use Rattle.desk_base.specs.Lines.{end_bytes}
 use Rattle.desk_fields.specs.declared.fault.DocFault.{DocFault}
-use Rattle.desk_fields.specs.Pieces.{Piece, bare, one_line, text, bytes_of, given, IsPiece, NoLf, AllBlank, opened}
+use Rattle.desk_fields.specs.Pieces.{Piece, bare, one_line, text, bytes_of, given, IsPiece, NoLf}
 use Rattle.desk_fields.specs.Cutting.{Begins, Reads, done, more, fails, FieldText, with_piece, with_front, onto, line_after, feeds_in}
 use Rattle.desk_fields.proofs.Once.{gap_no_lf}
 use Rattle.desk_tagvalue.specs.Written.{feeds}

@@ -1,17 +1,16 @@
 -- One field more.
-use Rattle.std.proofs.Common.{◌≡◌, ◌∙◌, ℕ, ◌+◌, ◌<◌, ◌≤◌, List, [], ◌∷◌, ◌++◌, length, drop, take, get_or, sym, subst, ap, refl, arith, Bool, true, false, cond, Option, Some, None, length-append, ◌⊎◌, inl, inr}
+use Rattle.std.proofs.Common.{◌≡◌, ◌∙◌, ◌+◌, List, [], ◌∷◌, ◌++◌, length, drop, sym, subst, ap, arith, Bool, true, false, cond, Some, None, length-append}
 use Rattle.std.specs.Prelude.{map, reverse, count_by, is_some}
 use Rattle.std.proofs.lemmas.List.{reverse-append, map-append, drop-append-le}
 use Rattle.std.proofs.Math.Seq.{drop-append_seam}
 use Rattle.std.proofs.lemmas.List.Sums.{sum_by-cons}
-use Rattle.desk_fields.specs.declared.fault.DocFault.{DocFault}
 use Rattle.desk_tagvalue.specs.declared.entries.Entry.{Entry}
 use Rattle.desk_tagvalue.specs.declared.faults.Ids.{Ids}
 use Rattle.desk_tagvalue.specs.declared.faults.Seen.{Seen}
 use Rattle.desk_tagvalue.specs.declared.sections.SectionKind.{SectionKind}
 use Rattle.desk_tagvalue.specs.Entries.{EntryText, entry_text}
 use Rattle.desk_tagvalue.specs.Sections.{section_begun}
-use Rattle.desk_tagvalue.specs.Faults.{begins, kind_of, kind_after, section, first_fault, field_fault, first_of}
+use Rattle.desk_tagvalue.specs.Faults.{begins, kind_of, kind_after, section}
 use Rattle.desk_tagvalue.specs.Seen.{newest, HoldsIds, Knows}
 
 pub newest_push : (xs : List Entry) (x : Entry) → newest (xs ++ (x ∷ [])) ≡ entry_text x ∷ newest xs

@@ -1,16 +1,15 @@
 -- Tests on texts, by the calls that make them.
-use Rattle.std.proofs.Common.{◌≡◌, ◌∙◌, ℕ, zero, suc, ◌+◌, ◌<◌, ◌≤◌, List, [], ◌∷◌, ◌++◌, length, drop, sym, subst, ap, refl, arith, Bool, true, false, Option, Some, None, eqb, get_or}
+use Rattle.std.proofs.Common.{◌≡◌, ◌∙◌, ℕ, List, [], ◌∷◌, length, drop, sym, subst, ap, refl, arith, Bool, true, false, Option, Some, None, eqb}
 use Rattle.std.specs.Prelude.{◌&&◌, ◌↔◌, IfNone, IfSome, IsTrue, All, MatchOption, nat_lt}
-use Rattle.std.specs.List.{starts_with, list_all, before_first, after_first, position_or_len}
+use Rattle.std.specs.List.{starts_with, list_all}
 use Rattle.std.specs.Str.Pattern.{FindsTextPrefix, StripsPrefix}
 use Rattle.std.specs.Str.{IsCharBoundary}
-use Rattle.std.proofs.lemmas.Str.Pattern.{starts_text, split_once_first, IsSplitOnceResult}
+use Rattle.std.proofs.lemmas.Str.Pattern.{starts_text}
 use Rattle.std.proofs.lemmas.Bool.Decides.{same_from_decides, nat_tests}
 use Rattle.std.proofs.lemmas.List.Elements.{All-tail, All-cons, All-get_or}
 use denote.Ref.{Bor}
 use Rattle.desk_base.specs.Idstring.{is_idstring_byte, IsIdstring}
-use Rattle.desk_tagvalue.specs.Ids.{is_id, is_element_id}
-use Rattle.desk_tagvalue.specs.Relationships.{is_qualified, is_colon, is_document_name}
+use Rattle.desk_tagvalue.specs.Ids.{is_id}
 
 abbrev pub Strips : List ℕ → List ℕ → Option (Bor (List ℕ)) → Type 0
 Strips p s r = MatchOption r (FindsTextPrefix p s None) (λ x. StripsPrefix (FindsTextPrefix p) s x.now)

@@ -1,5 +1,5 @@
 -- What is read back.
-use Rattle.std.proofs.Common.{◌≡◌, ◌∙◌, ℕ, ◌+◌, ◌<◌, ◌≤◌, List, [], ◌∷◌, ◌++◌, length, sym, subst, ap, refl, arith, Bool, true, false, Result, Ok, Err, ◌⊎◌, inl, inr, get_or}
+use Rattle.std.proofs.Common.{◌≡◌, ℕ, ◌<◌, List, [], ◌∷◌, ◌++◌, length, subst, refl, arith, Bool, false, Ok, Err, ◌⊎◌, inl, inr, get_or}
 use Rattle.std.specs.Prelude.{IsTrue, ◌↔◌, codes}
 use Rattle.desk_fields.specs.declared.fault.DocFault.{DocFault}
 use Rattle.desk_fields.specs.Cutting.{Reads, FieldText, behind_mark}

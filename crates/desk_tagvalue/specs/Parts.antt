@@ -1,5 +1,5 @@
 -- The parts of a document: sections as cuts of the fields at the tags that begin one, and what each section says.
-use Rattle.std.specs.Prelude.{ℕ, Bool, ◌&&◌, ◌||◌, ◌==◌, not, true, nat_eq, nat_le, List, [], ◌∷◌, Option, Some, None, unwrap_or, if◌then◌else◌, codes, drop, length, map, filter}
+use Rattle.std.specs.Prelude.{ℕ, Bool, ◌&&◌, ◌||◌, ◌==◌, not, nat_eq, nat_le, List, [], ◌∷◌, Option, Some, None, unwrap_or, if◌then◌else◌, codes, drop, length, map, filter}
 use Rattle.std.specs.List.{take_while, starts_with, list_all}
 use Rattle.desk_fields.specs.declared.tag.Tag.{Tag}
 use Rattle.desk_fields.specs.declared.tag.Tag.TheVariants as tags

@@ -1,5 +1,4 @@
 -- The parts of a document without where they lie in memory.
-use Rattle.std.specs.Prelude.{List, map}
 use Rattle.desk_tagvalue.specs.declared.parts.Package.{Package}
 use Rattle.desk_tagvalue.specs.declared.parts.FileEntry.{FileEntry}
 use Rattle.desk_tagvalue.specs.declared.parts.Snippet.{Snippet}

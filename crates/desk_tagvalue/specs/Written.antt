@@ -1,6 +1,5 @@
 -- What can be written: a value that is read back from its field, printed alone.
-use Rattle.std.specs.Prelude.{◌≡◌, ◌⊎◌, ◌==◌, ◌+◌, ℕ, List, [], ◌∷◌, ◌++◌, Result, Ok, All, count_by}
-use Rattle.desk_fields.specs.declared.tag.Tag.{Tag}
+use Rattle.std.specs.Prelude.{◌≡◌, ◌⊎◌, ◌==◌, ◌+◌, ℕ, List, [], ◌∷◌, ◌++◌, Ok, All, count_by}
 use Rattle.desk_fields.specs.Tags.{tag_name}
 use Rattle.desk_fields.specs.Cutting.{Reads, FieldText}
 use Rattle.desk_tagvalue.specs.declared.writing.WriteFault.{WriteFault}

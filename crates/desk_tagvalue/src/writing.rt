@@ -231,5 +231,4 @@ pub fn write(alloc: Global, draft: &Draft) -> Result<String, WriteFault>
 /// The checksum that is written of a digest is read as its 40 digits.
 pub fn one_digest()
     ensures { (digest : List ℕ) → length digest ≡ 20 → All (λ b. b < 256) digest → sha1_digits (codes "SHA1: " ++ encode_lower digest) ≡ Some (encode_lower digest) }
-{
-}
+{}

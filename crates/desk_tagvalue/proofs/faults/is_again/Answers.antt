@@ -6,7 +6,7 @@ use Rattle.desk_tagvalue.specs.Entries.{entry_text}
 use Rattle.desk_tagvalue.specs.Seen.{newest}
 use Rattle.desk_tagvalue.specs.Sections.{once_in_section, is_placed}
 use Rattle.desk_tagvalue.specs.Faults.{has_tag, kind_of, section}
-use Rattle.desk_tagvalue.proofs.SeenLemmas.{any_reverse, again_in_document, again_in_section, not_first, not_second, by_third}
+use Rattle.desk_tagvalue.proofs.SeenLemmas.{any_reverse, again_in_document, again_in_section, by_third}
 use Rattle.desk_tagvalue.proofs.faults.is_again.Goals as goal
 
 pub returns-then-once_in_document : goal.returns-then-once_in_document

@@ -1,6 +1,6 @@
-use Rattle.std.proofs.Common.{◌≡◌, ◌∙◌, ◌++◌, ◌∷◌, [], ap, sym, subst, length, Some}
+use Rattle.std.proofs.Common.{◌∙◌, ◌++◌, ◌∷◌, [], ap, sym, subst}
 use Rattle.desk_tagvalue.specs.Entries.{entry_text}
-use Rattle.desk_tagvalue.specs.Sections.{id_form, section_begun}
+use Rattle.desk_tagvalue.specs.Sections.{id_form}
 use Rattle.desk_tagvalue.specs.Seen.{newest, Knows}
 use Rattle.desk_tagvalue.proofs.StepLemmas.{knows_inside, knows_begun}
 use Rattle.desk_tagvalue.proofs.faults.step.Goals as goal

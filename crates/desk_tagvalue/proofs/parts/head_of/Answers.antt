@@ -1,4 +1,4 @@
-use Rattle.std.proofs.Common.{sym, ap, ◌∙◌, length, ◌<◌, arith}
+use Rattle.std.proofs.Common.{sym, ap, ◌∙◌}
 use Rattle.std.specs.Prelude.{map, is_some}
 use Rattle.desk_tagvalue.specs.Entries.{entry_text}
 use Rattle.desk_tagvalue.specs.Parts.{head_of}

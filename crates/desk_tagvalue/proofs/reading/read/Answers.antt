@@ -1,11 +1,8 @@
-use Rattle.std.proofs.Common.{◌≡◌, ◌∙◌, ap, sym, subst, refl, arith, inl, inr, ◌≤◌, length, Result}
+use Rattle.std.proofs.Common.{◌∙◌, ap, inr}
 use Rattle.std.specs.Prelude.{map}
-use Rattle.desk_fields.specs.declared.fault.DocFault.{DocFault}
 use Rattle.desk_fields.specs.Found.{field_text}
-use Rattle.desk_fields.specs.Cutting.{Reads, behind_mark}
 use Rattle.desk_tagvalue.specs.Entries.{entry_text, read_entry}
-use Rattle.desk_tagvalue.specs.Parts.{DocumentText}
-use Rattle.desk_tagvalue.specs.Documents.{limit, judged, Spells, too_large, no_text, no_fields}
+use Rattle.desk_tagvalue.specs.Documents.{too_large, no_text}
 use Rattle.desk_tagvalue.proofs.ReadLemmas.{spells_judged, ok_from, err_from, err_cut}
 use Rattle.desk_tagvalue.proofs.reading.read.Goals as goal
 

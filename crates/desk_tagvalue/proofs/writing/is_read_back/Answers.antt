@@ -1,4 +1,4 @@
-use Rattle.std.proofs.Common.{◌≡◌, ap, ◌∙◌, sym, subst, [], ◌∷◌}
+use Rattle.std.proofs.Common.{◌≡◌, subst, [], ◌∷◌}
 use Rattle.std.specs.Prelude.{IsTrue, ◌↔◌, map}
 use Rattle.desk_fields.specs.Cutting.{behind_mark}
 use Rattle.desk_fields.specs.Found.{field_text}

@@ -1,4 +1,4 @@
-use Rattle.std.proofs.Common.{◌≡◌, [], subst, sym, ap, length, drop, arith, ◌+◌, ◌≤◌}
+use Rattle.std.proofs.Common.{subst, sym, length, arith, ◌+◌, ◌≤◌}
 use Rattle.std.specs.String.{string_bytes}
 use Rattle.std.proofs.lemmas.List.{drop_all}
 use Rattle.desk_tagvalue.specs.Drafts.{files_lines}

@@ -1,4 +1,4 @@
-use Rattle.std.proofs.Common.{[], ◌++◌, subst, sym, ap, ◌∙◌}
+use Rattle.std.proofs.Common.{subst}
 use Rattle.std.specs.String.{string_bytes}
 use Rattle.desk_tagvalue.specs.Drafts.{head_lines, files_lines}
 use Rattle.desk_tagvalue.specs.Written.{Adds, IsStopped}
