@@ -1,1 +1,2 @@
 pub mod IdstringLemmas
+pub mod LinesOnce

@@ -8,3 +8,9 @@ pub const OPEN_PARENTHESES: usize = 64;
 
 /// How many terms a licence expression may have, each time that one stands there counted.
 pub const EXPRESSION_TERMS: usize = 1_024;
+
+/// The bytes of the longest tag-value document that is read.
+pub const DOCUMENT_BYTES: usize = 4_194_304;
+
+/// How many packages, files, snippets and extracted licences a document may have together.
+pub const DOCUMENT_ELEMENTS: usize = 10_000;

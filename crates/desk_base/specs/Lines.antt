@@ -1,0 +1,40 @@
+-- How bytes are cut into lines: at each LF, a CR before it being a part of the line's end.
+use Rattle.std.specs.Prelude.{◌≡◌, ◌≢◌, ℕ, ◌+◌, ◌-◌, ◌<◌, List, [], ◌∷◌, ◌++◌, length, slice_index, All, map}
+use Rattle.desk_base.specs.declared.lines.LineEnd.{LineEnd}
+use Rattle.desk_base.specs.declared.lines.LineEnd.TheVariants.{Lf, CrLf, Nothing}
+use Rattle.desk_base.specs.declared.lines.Line.{Line}
+
+abbrev pub end_bytes : LineEnd → List ℕ
+end_bytes Lf = 10 ∷ []
+end_bytes CrLf = 13 ∷ 10 ∷ []
+end_bytes Nothing = []
+
+-- a text that an LF ends doesn't end by CR itself, and only a last text that isn't empty lacks an end
+abbrev pub Ends : List ℕ → LineEnd → List ℕ → Type 0
+Ends text Lf rest = slice_index text (length text - 1) ≢ 13
+Ends text CrLf rest = Unit {0}
+Ends text Nothing rest = (rest ≡ []) × (0 < length text)
+
+-- the first line of some bytes, its end, and what follows it
+pub record IsLine (bytes text : List ℕ) (end : LineEnd) (rest : List ℕ) : Type 0 where
+  pub cut : bytes ≡ text ++ (end_bytes end ++ rest)
+  pub no_lf : All (λ b. b ≢ 10) text
+  pub ends : Ends text end rest
+
+-- a line without where it lies in memory
+pub record LineText : Type 0 where
+  pub number : ℕ
+  pub text : List ℕ
+  pub end : LineEnd
+
+abbrev pub line_text : Line → LineText
+line_text l = record { number = l.number; text = l.text.now; end = l.end }
+
+-- the bytes are these lines, each the first line of what the lines before it leave, numbered on from a number
+abbrev pub CutsInto : ℕ → List ℕ → List LineText → Type 0
+CutsInto number bytes [] = bytes ≡ []
+CutsInto number bytes (l ∷ ls) =
+    (rest : List ℕ) × (l.number ≡ number) × IsLine bytes l.text l.end rest × CutsInto (number + 1) rest ls
+
+abbrev pub AreLines : ℕ → List ℕ → List Line → Type 0
+AreLines number bytes lines = CutsInto number bytes (map line_text lines)

@@ -1,0 +1,143 @@
+//! Bytes as lines.
+
+ghost use Rattle.std.specs.Prelude.{◌≡◌, ◌+◌, ◌<◌, ◌^◌, ℕ, List, length, IfOk};
+ghost use Rattle.std.specs.Iterator.{at_most};
+ghost use Rattle.desk_base.specs.Lines.{IsLine, AreLines, CutsInto, LineText};
+
+use memchr::memchr;
+use std::alloc::{AllocError, Global};
+
+/// How a line ends.
+#[derive(Debug, Clone, Copy)]
+pub enum LineEnd {
+    /// By a line feed alone.
+    Lf,
+    /// By a carriage return and a line feed.
+    CrLf,
+    /// By the end of the bytes.
+    Nothing,
+}
+
+/// A line of some bytes.
+#[derive(Debug, Clone, Copy)]
+pub struct Line<'a> {
+    /// Its number, from 1.
+    pub number: u64,
+    /// Its bytes without its end.
+    pub text: &'a [u8],
+    /// How it ends.
+    pub end: LineEnd,
+}
+
+/// The first line of some bytes, its end, and what follows it.
+pub fn first_line(bytes: &[u8]) -> (&[u8], LineEnd, &[u8])
+    requires { 0 < length bytes.now }
+    ensures line { IsLine bytes.now result.0.now result.1 result.2.now }
+    ensures shorter { length result.2.now < length bytes.now }
+{
+    let Some(n) = memchr(b'\n', bytes) else {
+        return (bytes, LineEnd::Nothing, &bytes[bytes.len()..]);
+    };
+    let rest = &bytes[n + 1..];
+    if n > 0 && bytes[n - 1] == b'\r' {
+        return (&bytes[..n - 1], LineEnd::CrLf, rest);
+    }
+    (&bytes[..n], LineEnd::Lf, rest)
+}
+
+/// The lines of some bytes, from the first.
+#[derive(Drop)]
+pub struct Lines<'a> {
+    /// What isn't cut yet.
+    pub rest: &'a [u8],
+    /// The number of the next line.
+    pub number: u64,
+    ghost fits: { number + length rest.now < 2 ^ 64 },
+}
+
+impl<'a> Lines<'a> {
+    /// The lines of some bytes. They end by LF or CRLF, the last one also by the end of the bytes;
+    /// a CR alone is an ordinary byte.
+    pub fn of(bytes: &'a [u8]) -> Lines<'a>
+        ensures rest { result.rest.now ≡ bytes.now }
+        ensures number { result.number ≡ 1 }
+    {
+        Lines {
+            rest: bytes,
+            number: 1,
+        }
+    }
+
+    /// All lines of some bytes, in a list.
+    pub fn listed(alloc: Global, bytes: &'a [u8]) -> Result<Vec<Line<'a>>, AllocError>
+        ensures { IfOk result (λ v. AreLines 1 bytes.now v.items) }
+    {
+        let mut lines = Vec::new(alloc);
+        for line in Lines::of(bytes) {
+            lines.push(line)?;
+        }
+        Ok(lines)
+    }
+}
+
+impl<'a> Iterator for Lines<'a> {
+    type Item = Line<'a>;
+
+    ghost use Rattle.desk_base.specs.NextLine.{LineGiven};
+
+    ghost next_gives = { LineGiven };
+
+    ghost remaining = { λ s. at_most (length s.rest.now) };
+
+    fn next(&mut self) -> Option<Line<'a>> {
+        if self.rest.is_empty() {
+            return None;
+        }
+        let number = self.number;
+        let (text, end, rest) = first_line(self.rest);
+        self.rest = rest;
+        self.number = number + 1;
+        Some(Line { number, text, end })
+    }
+}
+
+/// Bytes are cut into lines in one way.
+pub fn one_cutting()
+    ensures { (bytes : List ℕ) (a b : List LineText) → CutsInto 1 bytes a → CutsInto 1 bytes b → a ≡ b }
+{}
+
+#[cfg(test)]
+mod tests {
+    use super::{Line, LineEnd, Lines};
+    use std::test::Fail;
+
+    fn end_of(line: &Line) -> &'static str {
+        match line.end {
+            LineEnd::Lf => "lf",
+            LineEnd::CrLf => "crlf",
+            LineEnd::Nothing => "nothing",
+        }
+    }
+
+    #[test]
+    fn cuts_lines(rt: HostRuntime) -> Result<(), Fail> {
+        let bytes = b"a\r\n\nb\rc\r\r\n\r\n\rd";
+        let want = [
+            (1, b"a".as_slice(), "crlf"),
+            (2, b"".as_slice(), "lf"),
+            (3, b"b\rc\r".as_slice(), "crlf"),
+            (4, b"".as_slice(), "crlf"),
+            (5, b"\rd".as_slice(), "nothing"),
+        ];
+        let lines = Lines::listed(rt.alloc(), bytes.as_slice())?;
+        assert_eq!(rt; lines.len(), want.len());
+        for (line, (number, text, end)) in lines.iter().zip(want) {
+            assert_eq!(rt; line.number, number);
+            assert_eq!(rt; line.text, text);
+            assert_eq!(rt; end_of(line), end);
+        }
+        assert_eq!(rt; Lines::of(b"").count(), 0);
+        assert_eq!(rt; Lines::of(b"a\n").count(), 1);
+        Ok(())
+    }
+}

@@ -1,0 +1,8 @@
+use Rattle.desk_fields.proofs.Cuts.{kept_cut}
+use Rattle.desk_fields.proofs.text.kept_end.Goals as goal
+
+pub returns-clause-cut : goal.returns-clause-cut
+returns-clause-cut c =
+    let is = c.as_bytes.ensures.value in
+    let k = rw is at c.kept.ensures in
+    kept_cut c.args.text.now c.kept.result k.within k.blank

@@ -1,0 +1,29 @@
+-- Fields whose tags are read.
+use Rattle.std.specs.Prelude.{ℕ, List, [], ◌∷◌, Option, Some, None, if◌then◌else◌}
+use denote.Ref.{Bor}
+use Rattle.desk_fields.specs.declared.tag.Tag.{Tag}
+use Rattle.desk_fields.specs.Tags.{tag_of, same_tag}
+use Rattle.desk_fields.specs.Cutting.{FieldText}
+use Rattle.desk_tagvalue.specs.declared.entries.Entry.{Entry}
+
+-- a field whose tag is read, without where it lies in memory
+pub record EntryText : Type 0 where
+  pub line : ℕ
+  pub tag : Tag
+  pub value : List ℕ
+
+abbrev pub entry_text : Entry → EntryText
+entry_text e = record { line = e.line; tag = e.tag; value = e.value.now }
+
+abbrev pub read_entry : FieldText → EntryText
+read_entry f = record { line = f.line; tag = tag_of f.tag; value = f.value }
+
+-- the bytes of a text, where it is there
+abbrev pub value_text : Option (Bor (List ℕ)) → Option (List ℕ)
+value_text None = None
+value_text (Some v) = Some v.now
+
+-- the value of the first field with a tag
+abbrev pub value_of : Tag → List EntryText → Option (List ℕ)
+value_of tag [] = None
+value_of tag (e ∷ es) = if same_tag e.tag tag then Some e.value else value_of tag es

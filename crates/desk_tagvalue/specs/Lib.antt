@@ -1,0 +1,13 @@
+pub mod Entries
+pub mod Ids
+pub mod Relationships
+pub mod Sections
+pub mod Faults
+pub mod Seen
+pub mod Parts
+pub mod Missing
+pub mod Views
+pub mod Documents
+pub mod Drafts
+pub mod Written
+pub mod Given

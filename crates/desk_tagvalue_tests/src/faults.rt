@@ -1,0 +1,242 @@
+//! Faults of a document, several at once too, with the answers that the stated order gives.
+
+use crate::support::told;
+use std::test::Fail;
+
+// The head of a document, whose fifth line is its last.
+const HEAD: &str = "SPDXVersion: SPDX-2.3\nSPDXID: SPDXRef-DOCUMENT\nDocumentName: d\n\
+    DocumentNamespace: https://example.org/d\nCreated: 2025-01-01T00:00:00Z\n";
+
+// In each part the first line is the answer to the head with the other lines behind it, from line 6 on.
+const CASES: &str = "9 6 SPDXVersion
+SPDXVersion: SPDX-2.3
+---
+9 6 SPDXVersion
+SPDXVersion: SPDX-2.0
+---
+9 6 SPDXID
+SPDXID: SPDXRef-DOCUMENT
+---
+9 7 DataLicense
+DataLicense: a
+DataLicense: b
+---
+9 7 Created
+PackageName: p
+Created: y
+SPDXID: x
+---
+6 6 SPDXID
+PackageName: p
+---
+6 6 SPDXID
+FileName: f
+
+FileName: g
+SPDXID: SPDXRef-g
+---
+6 8 SPDXID
+PackageName: p
+SPDXID: SPDXRef-p
+FileName: f
+PackageName: q
+---
+7 7 -
+PackageName: p
+SPDXID: p
+---
+7 7 -
+PackageName: p
+SPDXID: SPDXRef-
+---
+7 7 -
+PackageName: p
+SPDXID: SPDXRef-a_b
+---
+8 7 -
+PackageName: p
+SPDXID: SPDXRef-DOCUMENT
+---
+8 7 -
+SnippetSPDXID: SPDXRef-s
+SnippetSPDXID: SPDXRef-s
+---
+8 9 -
+PackageName: p
+SPDXID: SPDXRef-s
+FileName: f
+SPDXID: SPDXRef-s
+---
+7 6 -
+SnippetSPDXID: LicenseRef-s
+---
+8 7 -
+LicenseID: LicenseRef-1
+LicenseID: LicenseRef-1
+---
+7 6 -
+LicenseID: SPDXRef-1
+---
+9 8 ExtractedText
+LicenseID: LicenseRef-1
+ExtractedText: a
+ExtractedText: b
+---
+9 9 PackageVersion
+PackageName: p
+SPDXID: SPDXRef-p
+PackageVersion: 1
+PackageVersion: 1
+---
+9 9 LicenseConcluded
+FileName: p
+SPDXID: SPDXRef-p
+LicenseConcluded: 1
+LicenseConcluded: 1
+---
+10 6 -
+Relationship: SPDXRef-a CONTAINS
+---
+10 6 -
+Relationship: SPDXRef-a contains SPDXRef-b
+---
+10 6 -
+Relationship: NONE CONTAINS SPDXRef-b
+---
+10 6 -
+Relationship: SPDXRef-a CONTAINS SPDXRef-b x
+---
+10 6 -
+Relationship: SPDXRef-a CONTAINS DocumentRef-:SPDXRef-b
+---
+10 6 -
+Relationship: <text>SPDXRef-a CONTAINS
+SPDXRef-b</text>
+---
+10 6 -
+Relationship:
+---
+2 7 -
+Relationship: x
+A
+---
+3 7 -
+Relationship: x
+A: <text>
+B: <text> </text
+---
+4 8 -
+Relationship: x
+A: <text>
+</text> .
+B: <text>
+---
+10 6 -
+Relationship: x
+Created: y
+Created: z
+---
+9 6 Created
+Created: y
+Relationship: x
+---
+10 7 -
+FileName: f
+Relationship: x
+---
+7 7 -
+FileName: f
+SPDXID: x
+SPDXID: y
+---
+9 8 SPDXID
+FileName: f
+SPDXID: SPDXRef-f
+SPDXID: y
+---
+document
+PackageVersion: 1
+PackageVersion: 1
+---
+document
+SnippetSPDXID: SPDXRef-s
+SPDXID: x
+SPDXID: y
+---
+document
+LicenseID: LicenseRef-1
+SPDXID: SPDXRef-1
+SnippetSPDXID: SPDXRef-1
+---
+document
+Creator: a
+Creator: b
+Foo: x
+Foo: y
+---
+document
+Relationship: \tSPDXRef-a  DEPENDS_ON\tDocumentRef-x.1+y:SPDXRef-b
+---
+document
+Relationship: DocumentRef-a:SPDXRef-b OTHER NONE
+Relationship: SPDXRef-a _ NOASSERTION
+---
+document
+FileName: f
+SPDXID: SPDXRef-f
+FileChecksum: SHA1: x
+FileChecksum: MD5: y
+LicenseInfoInFile: a
+LicenseInfoInFile: b
+---
+document
+PackageName:
+SPDXID: SPDXRef-p
+PackageName:
+SPDXID: SPDXRef-q";
+
+#[test]
+fn tells_faults_in_their_order(rt: HostRuntime) -> Result<(), Fail> {
+    let alloc = rt.alloc();
+    let mut cases = 0u32;
+    for case in CASES.split("\n---\n") {
+        let (want, lines) = case.split_once('\n').ok_or("a case without lines")?;
+        let text = format!(in alloc; "{HEAD}{lines}\n")?;
+        let answer = told(alloc, text.as_bytes())?;
+        assert_eq!(rt; answer.as_str(), want, "{lines:?}");
+        cases = cases.saturating_add(1);
+    }
+    assert_eq!(rt; cases, 43);
+    Ok(())
+}
+
+#[test]
+fn tells_faults_of_the_head(rt: HostRuntime) -> Result<(), Fail> {
+    let alloc = rt.alloc();
+    let cases = [
+        ("", "6 1 SPDXVersion"),
+        ("SPDXVersion: SPDX-2.3\nSPDXID", "2 2 -"),
+        ("SPDXVersion: SPDX-2.0\n", "5 1 -"),
+        ("\u{feff}SPDXVersion: SPDX-2.1\r\n", "6 1 SPDXID"),
+        (
+            "SPDXVersion: SPDX-2.2\nSPDXID: SPDXRef-DOCUMENT\n",
+            "6 1 DocumentName",
+        ),
+        (
+            "PackageName: p\nSPDXID: SPDXRef-DOCUMENT\nSPDXVersion: SPDX-2.3\n",
+            "6 1 SPDXID",
+        ),
+        ("SPDXID: SPDXRef-x\n", "7 1 -"),
+        (
+            "SPDXVersion: SPDX-2.3\nSPDXID: SPDXRef-DOCUMENT\nDocumentName:",
+            "6 1 DocumentNamespace",
+        ),
+    ];
+    for (text, want) in cases {
+        let answer = told(alloc, text.as_bytes())?;
+        assert_eq!(rt; answer.as_str(), want, "{text:?}");
+    }
+    let answer = told(alloc, b"A\n\xff")?;
+    assert_eq!(rt; answer.as_str(), "1 0 -");
+    Ok(())
+}

@@ -1,0 +1,12 @@
+//! Tests of `desk_fields` and `desk_tagvalue` on whole documents: faults in their order, hostile bytes, and documents
+//! written by hand after the clauses of SPDX 2.3. The answers on changed bytes are those of `tests/documents/oracle.py`.
+#![tactic(auto)]
+
+#[cfg(test)]
+mod faults;
+#[cfg(test)]
+mod hostile;
+#[cfg(test)]
+mod support;
+#[cfg(test)]
+mod whole;
