@@ -7,6 +7,7 @@ DESTDIR =
 ARGS = check MIT mit
 
 program = crates/desk_program
+documents = crates/desk_documents_bench
 
 all: build
 
@@ -43,9 +44,12 @@ try:
 	@echo 'Trying the program with no proof: this says nothing of its contracts.'
 	@cd $(program) && rt try -- $(ARGS)
 
-# Times the program beside another program for the same work.
+# Times the program and the reading of documents, each beside another program.
 bench: build
 	@python3 bench/bench.py build/desk
+	@echo 'Building the program that reads documents.'
+	@cd $(documents) && rt run >/dev/null
+	@python3 bench/documents.py $(documents)/out/desk_documents_bench build/documents
 
 install: build
 	mkdir -p $(DESTDIR)$(PREFIX)/bin

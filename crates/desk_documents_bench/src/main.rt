@@ -1,5 +1,5 @@
 //! Times the reading of the documents that its arguments name: for each three times the cutting into fields and the whole
-//! reading, as lines of file, bytes, nanoseconds and nanoseconds. `tests/documents/bench.py` makes the documents and runs it.
+//! reading, as lines of file, bytes, nanoseconds and nanoseconds. `bench/documents.py` makes the documents and runs it.
 #![tactic(auto)]
 
 use desk_fields::fields;
