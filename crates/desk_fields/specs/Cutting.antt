@@ -1,11 +1,11 @@
--- A text as a list of pieces, each with its end, and the fields that they give.
-use Rattle.std.specs.Prelude.{◌≡◌, ◌≢◌, ℕ, ◌+◌, ◌==◌, false, List, [], ◌∷◌, ◌++◌, length, count_by, Option, Some, None, Result, Ok, Err, codes, take, drop, if◌then◌else◌}
+-- A text as a list of pieces, each with its end, the fields that they give, and the fault of the first piece that is none
+-- (SPDX 2.3, clause 4.4). The definition speaks of a whole cutting; each byte lies in one piece or one end.
+use Rattle.std.specs.Prelude.{◌≡◌, ◌≢◌, ℕ, ◌+◌, ◌==◌, false, List, [], ◌∷◌, ◌++◌, length, All, count_by, Option, Some, None, Result, Ok, Err, codes, take, drop, if◌then◌else◌}
 use Rattle.std.specs.Str.{bytes_eq}
 use Rattle.desk_base.specs.declared.lines.LineEnd.{LineEnd}
 use Rattle.desk_base.specs.Lines.{IsLine, Ends, end_bytes}
 use Rattle.desk_fields.specs.Pieces.{Piece, bare, one_line, text, bytes_of, given, IsPiece, IsTagged, IsFirstEnd, AllBlank, is_bare, opened}
 use Rattle.desk_fields.specs.Text.{trimmed}
-use Rattle.std.specs.Prelude.{All}
 use Rattle.desk_fields.specs.declared.fault.DocFault.{DocFault}
 use Rattle.desk_fields.specs.declared.fault.DocFault.TheVariants.{NoColon, OpenText, AfterText}
 
@@ -50,11 +50,12 @@ abbrev pub onto : ℕ → Option (List ℕ × List ℕ) → List FieldText → L
 onto line None fs = fs
 onto line (Some g) fs = record { line = line; tag = g.0; value = g.1 } ∷ fs
 
+-- what follows a piece, with its field before
 abbrev pub with_piece : ℕ → Piece → Result (List FieldText) DocFault → Result (List FieldText) DocFault
 with_piece line p (Ok fs) = Ok (onto line (given p) fs)
 with_piece line p (Err f) = Err f
 
--- the same with fields before it
+-- the same with some fields before
 abbrev pub with_front : List FieldText → Result (List FieldText) DocFault → Result (List FieldText) DocFault
 with_front fs (Ok gs) = Ok (fs ++ gs)
 with_front fs (Err f) = Err f

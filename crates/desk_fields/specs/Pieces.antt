@@ -1,13 +1,13 @@
--- The pieces of a tag-value text: blank lines, comments, fields on one line, fields in <text> .. </text>.
+-- The pieces of a tag-value text (SPDX 2.3, clause 4.4): blank lines, comments that begin with `#`, fields `Tag: value` on
+-- one line, and fields whose value stands in <text> .. </text>, over lines if need be.
 use Rattle.std.specs.Prelude.{◌≡◌, ◌≢◌, ℕ, ◌<◌, ◌==◌, ◌||◌, Bool, List, ◌∷◌, ◌++◌, length, slice_index, All, IsTrue, Option, Some, None, codes}
 use Rattle.desk_fields.specs.Text.{skip_blanks, trimmed}
 
-abbrev pub is_colon : ℕ → Bool
-is_colon b = b == 58
-
+-- no line ends within
 abbrev pub NoLf : List ℕ → Type 0
 NoLf line = All (λ b. b ≢ 10) line
 
+-- blanks alone, or nothing
 abbrev pub AllBlank : List ℕ → Type 0
 AllBlank text = length (skip_blanks text) ≡ 0
 
@@ -26,6 +26,8 @@ pub record IsTagged (before : List ℕ) : Type 0 where
 abbrev pub Opens : List ℕ → Type 0
 Opens after = (inner : List ℕ) × (skip_blanks after ≡ codes "<text>" ++ inner)
 
+-- a field on one line is what stands before its first colon and after it; one in <text> has a gap of blanks before <text>,
+-- its value, and a tail of blanks behind </text>
 pub data Piece : Type 0 where
   bare : (line : List ℕ) → Piece
   one_line : (before after : List ℕ) → Piece
@@ -35,6 +37,7 @@ pub data Piece : Type 0 where
 abbrev pub opened : List ℕ → List ℕ → List ℕ → List ℕ
 opened before gap inner = before ++ (58 ∷ (gap ++ (codes "<text>" ++ inner)))
 
+-- the bytes of a piece, without the end of its last line
 abbrev pub bytes_of : Piece → List ℕ
 bytes_of (bare line) = line
 bytes_of (one_line before after) = before ++ (58 ∷ after)
@@ -44,6 +47,7 @@ bytes_of (text before gap value tail) = opened before gap (value ++ (codes "</te
 abbrev pub IsFirstEnd : List ℕ → Type 0
 IsFirstEnd value = (xs ys : List ℕ) → value ++ codes "</text>" ≡ xs ++ (codes "</text>" ++ ys) → length ys ≡ 0
 
+-- what makes a piece one
 abbrev pub IsPiece : Piece → Type 0
 IsPiece (bare line) = NoLf line × IsTrue (is_bare line)
 IsPiece (one_line before after) = IsTagged before × NoLf after × (Opens after → ⊥)

@@ -196,3 +196,18 @@ fn counts_elements(rt: HostRuntime) -> Result<(), Fail> {
     expect(&rt, alloc, &more, "12 20005 -")?;
     Ok(())
 }
+
+#[test]
+fn reads_marks_and_carriage_returns(rt: HostRuntime) -> Result<(), Fail> {
+    let alloc = rt.alloc();
+    let mut text = String::from_str(alloc, "\u{feff}")?;
+    for line in SMALL.lines() {
+        text.push_str(line)?;
+        text.push_str("\r\n")?;
+    }
+    let document = read(alloc, text.as_bytes())?;
+    assert_eq!(rt; document.namespace, "https://example.org/d1");
+    assert_eq!(rt; document.packages.as_slice().len(), 1);
+    assert_eq!(rt; document.entries.as_slice().len(), 14);
+    Ok(())
+}
