@@ -5,12 +5,14 @@
 //! items.
 #![tactic(auto)]
 
+mod day;
 mod idstring;
 mod items;
 mod key;
 pub mod limits;
 mod text;
 
+pub use day::Day;
 pub use idstring::is_idstring;
 pub use items::Items;
 pub use key::Key;
