@@ -199,7 +199,7 @@ state_or_open state = unwrap_or state release.IsOpen
 
 -- the state of a duty's release
 abbrev pub release_state_of : List Command → Option (ℕ × Owed) → ReleaseState
-release_state_of h duty = option_map_or (λ d. state_of h d.1.release) duty release.IsOpen
+release_state_of h duty = option_map_or (λ d. unwrap_or (release_state h d.1.release) release.IsOpen) duty release.IsOpen
 
 abbrev pub answer : Readings → List Command → Command → Answer
 answer w h (LoadCatalogue text) = load_answer (w.catalogue text) (length (revisions h))

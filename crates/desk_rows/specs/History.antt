@@ -7,7 +7,7 @@ use Rattle.std.specs.Str.{bytes_eq}
 use Rattle.desk_rows.specs.Lists.{latest, in_order}
 use Rattle.desk_rows.specs.Texts.{text_below, sorted_set}
 use Rattle.desk_rows.specs.Readings.{Readings}
-use Rattle.desk_rows.specs.Keys.{attached_below, is_rule, is_attached_to}
+use Rattle.desk_rows.specs.Keys.{below_by, attached_order, is_rule, is_attached_to}
 use Rattle.desk_rows.specs.declared.reading.Catalogue.{Catalogue}
 use Rattle.desk_rows.specs.declared.reading.Rule.{Rule}
 use Rattle.desk_rows.specs.declared.reading.Document.{Document}
@@ -163,7 +163,7 @@ attachment _ = None
 
 -- all attachments, by release and document
 abbrev pub attached : List Command → List AttachedRow
-attached h = in_order attached_below (filter_map attachment h)
+attached h = in_order (below_by attached_order) (filter_map attachment h)
 
 -- those of a release
 abbrev pub attached_to : List AttachedRow → List ℕ → List AttachedRow

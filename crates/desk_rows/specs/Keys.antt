@@ -1,6 +1,9 @@
 -- The keys of rows: the order of each table, and the rows at a key.
 use Rattle.std.specs.Prelude.{ℕ, ◌==◌, ◌&&◌, ◌||◌, nat_lt, Bool, List}
 use Rattle.std.specs.Str.{bytes_eq}
+use Rattle.std.specs.Ordering.{nat_cmp, is_lt, on, then_cmp}
+use Rattle.std.specs.Cmp.Lexicographic.{slice_cmp}
+use Rattle.std.specs.declared.cmp.Ordering.{Ordering}
 use Rattle.desk_rows.specs.Texts.{text_below}
 use Rattle.desk_rows.specs.declared.reading.Rule.{Rule}
 use Rattle.desk_rows.specs.declared.row.RuleRow.{RuleRow}
@@ -13,29 +16,28 @@ use Rattle.desk_rows.specs.declared.row.FrozenRow.{FrozenRow}
 use Rattle.desk_rows.specs.declared.row.DutyRow.{DutyRow}
 use Rattle.desk_rows.specs.declared.row.ChangeRow.{ChangeRow}
 
--- one key before another: by the first part, and where that ties by the rest
-abbrev pub text_then : List ℕ → List ℕ → Bool → Bool
-text_then a b rest = text_below a b || (bytes_eq a b && rest)
-
-abbrev pub number_then : ℕ → ℕ → Bool → Bool
-number_then a b rest = nat_lt a b || ((a == b) && rest)
+-- one row before another, by the order of their keys
+abbrev pub below_by : {A : Type 0} → (A → A → Ordering) → A → A → Bool
+below_by order a b = is_lt (order a b)
 
 abbrev pub release_below : ReleaseRow → ReleaseRow → Bool
 release_below a b = text_below a.name b.name
 
-abbrev pub attached_below : AttachedRow → AttachedRow → Bool
-attached_below a b = text_then a.release b.release (nat_lt a.document b.document)
+abbrev pub attached_order : AttachedRow → AttachedRow → Ordering
+attached_order = then_cmp (on (λ row. row.release) (slice_cmp nat_cmp)) (on (λ row. row.document) nat_cmp)
 
-abbrev pub choice_below : ChoiceRow → ChoiceRow → Bool
-choice_below a b =
-    text_then a.release b.release (number_then a.document b.document (text_then a.package_id b.package_id (text_below a.term b.term)))
+abbrev pub choice_order : ChoiceRow → ChoiceRow → Ordering
+choice_order =
+    then_cmp (on (λ row. row.release) (slice_cmp nat_cmp)) (then_cmp (on (λ row. row.document) nat_cmp)
+        (then_cmp (on (λ row. row.package_id) (slice_cmp nat_cmp)) (on (λ row. row.term) (slice_cmp nat_cmp))))
 
-abbrev pub frozen_below : FrozenRow → FrozenRow → Bool
-frozen_below a b =
-    text_then a.release b.release (number_then a.document b.document (text_then a.package_id b.package_id (text_below a.term b.term)))
+abbrev pub frozen_order : FrozenRow → FrozenRow → Ordering
+frozen_order =
+    then_cmp (on (λ row. row.release) (slice_cmp nat_cmp)) (then_cmp (on (λ row. row.document) nat_cmp)
+        (then_cmp (on (λ row. row.package_id) (slice_cmp nat_cmp)) (on (λ row. row.term) (slice_cmp nat_cmp))))
 
 abbrev pub change_below : ChangeRow → ChangeRow → Bool
-change_below a b = number_then a.duty b.duty (nat_lt a.step b.step)
+change_below a b = nat_lt a.duty b.duty || ((a.duty == b.duty) && nat_lt a.step b.step)
 
 abbrev pub is_rule : List ℕ → List ℕ → Rule → Bool
 is_rule term form rule = bytes_eq rule.term term && bytes_eq rule.form form

@@ -2,7 +2,7 @@
 use Rattle.std.specs.Prelude.{ℕ, Bool, not, List, [], ◌∷◌, ◌++◌, filter, map}
 use Rattle.desk_rows.specs.Lists.{put, put_all, updated, in_order}
 use Rattle.desk_rows.specs.Readings.{Readings}
-use Rattle.desk_rows.specs.Keys.{release_below, choice_below, frozen_below, change_below, attached_below, is_release, is_duty, is_choice_of}
+use Rattle.desk_rows.specs.Keys.{release_below, choice_order, frozen_order, change_below, below_by, attached_order, is_release, is_duty, is_choice_of}
 use Rattle.desk_rows.specs.History.{revisions, in_force, forms_in, rule_rows, documents, packages, references, opened, names, place_in, form_of, state_of, revision_of, attached, term_set}
 use Rattle.desk_rows.specs.Raised.{frozen}
 use Rattle.desk_rows.specs.Moves.{duties, all_changes}
@@ -81,8 +81,8 @@ tables w h = record {
   adoption = [];
   releases = release_rows h;
   attached = attached h;
-  choice = in_order choice_below (standing w h);
-  frozen = in_order frozen_below (frozen w h);
+  choice = in_order (below_by choice_order) (standing w h);
+  frozen = in_order (below_by frozen_order) (frozen w h);
   duty = duties w h;
   changes = all_changes w h;
 }
@@ -102,11 +102,11 @@ applied (change.Imported row ps refs) t = record t {
   extracted = t.extracted ++ refs;
 }
 applied (change.Opened row) t = record t { releases = put release_below row t.releases }
-applied (change.Attached row) t = record t { attached = put attached_below row t.attached }
-applied (change.Chosen r d p rows) t = record t { choice = put_all choice_below rows (filter (is_other_choice r d p) t.choice) }
+applied (change.Attached row) t = record t { attached = put (below_by attached_order) row t.attached }
+applied (change.Chosen r d p rows) t = record t { choice = put_all (below_by choice_order) rows (filter (is_other_choice r d p) t.choice) }
 applied (change.Froze r revision rows new moved) t = record t {
   releases = updated (is_release r) (with_release_state Frozen revision) t.releases;
-  frozen = put_all frozen_below rows t.frozen;
+  frozen = put_all (below_by frozen_order) rows t.frozen;
   duty = t.duty ++ new;
   changes = t.changes ++ moved;
 }

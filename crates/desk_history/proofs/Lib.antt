@@ -1,0 +1,11 @@
+mod Rows
+mod Orders
+mod Same
+mod Lookups
+mod Chosen
+mod Opening
+mod Meeting
+mod Freezing
+pub mod Steps
+pub mod Queries
+pub mod Running

@@ -1,0 +1,2 @@
+//! The laws of the recorded history.
+#![tactic(auto)]
