@@ -30,7 +30,7 @@ pub step-answer : (w : Readings) (h : List Command) (c : Command) → answer_fro
 step-answer w h (LoadCatalogue text) = refl
 step-answer w h (Import bytes profile) = refl
 step-answer w h (OpenRelease r f) = open-answer w h r f
-step-answer w h (Attach r d) = ap (λ s. attach_answer s (list_any (is_document d) (documents w h)) (list_any (is_attachment r d) (attached h)) (length (attached_to (attached h) r))) (state-found w h r)
+step-answer w h (Attach r d) = ap (λ s. attach_answer s (is_some (find (is_document d) (documents w h))) (list_any (is_attachment r d) (attached h)) (length (attached_to (attached h) r))) (state-found w h r)
 step-answer w h (Choose r d p texts) = ap (λ s. choose_answer w texts s (find (is_document d) (documents w h)) (find (is_package d p) (packages w h)) (list_any (is_attachment r d) (attached h))) (state-found w h r)
 step-answer w h (Freeze r day) = freeze-answer w h r day
 step-answer w h (Meet q day text) = meet-answer w h q day text

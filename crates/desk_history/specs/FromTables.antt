@@ -11,8 +11,13 @@ use Rattle.desk_rows.specs.Moves.{duty_row}
 use Rattle.desk_rows.specs.Tables.{Tables, applied, choice_row}
 use Rattle.desk_rows.specs.Answers.{load_answer, import_answer, open_answer, attach_answer, choose_answer, freeze_answer, meet_answer, walk, profile_in, is_recorded}
 use Rattle.desk_rows.specs.Queries.{duty_line, totals_of}
+use Rattle.desk_rows.specs.declared.reading.Catalogue.{Catalogue}
+use Rattle.desk_rows.specs.declared.reading.Document.{Document}
+use Rattle.desk_rows.specs.declared.reading.Profile.{Profile}
 use Rattle.desk_rows.specs.declared.reading.Rule.{Rule}
 use Rattle.desk_rows.specs.declared.refusal.Refusal.TheVariants as why
+use Rattle.std.specs.Str.{bytes_eq}
+use Rattle.desk_rows.specs.declared.row.DocumentRow.{DocumentRow}
 use Rattle.desk_rows.specs.declared.row.RuleRow.{RuleRow}
 use Rattle.desk_rows.specs.declared.row.PackageRow.{PackageRow}
 use Rattle.desk_rows.specs.declared.row.ReleaseRow.{ReleaseRow}
@@ -79,7 +84,7 @@ abbrev pub answer_from : Readings → Tables → Command → Answer
 answer_from w t (LoadCatalogue text) = load_answer (w.catalogue text) (length t.catalogue)
 answer_from w t (Import bytes profile) = import_answer (w.document bytes) bytes t.document
 answer_from w t (OpenRelease r form) = open_answer r form t.forms (is_some (release_found t r)) (length t.releases)
-answer_from w t (Attach r d) = attach_answer (state_found t r) (list_any (is_document d) t.document) (list_any (is_attachment r d) t.attached) (length (attached_to t.attached r))
+answer_from w t (Attach r d) = attach_answer (state_found t r) (is_some (find (is_document d) t.document)) (list_any (is_attachment r d) t.attached) (length (attached_to t.attached r))
 answer_from w t (Choose r d p texts) = choose_answer w texts (state_found t r) (find (is_document d) t.document) (find (is_package d p) t.packages) (list_any (is_attachment r d) t.attached)
 answer_from w t (Freeze r day) =
     freeze_answer day (state_found t r) (length (attached_to t.attached r))
@@ -96,27 +101,58 @@ raised_row day row = record { duty = row.number; step = 1; day = day; word = wor
 abbrev pub new_duties : Readings → Tables → List ℕ → List DutyRow
 new_duties w t r = map new_duty (enumerate_from (length t.duty + 1) (owed_found w t r))
 
--- what a recorded command does to the rows
-abbrev pub change_for : Readings → Tables → Command → Change
-change_for w t (LoadCatalogue text) =
-    change.Loaded (record { revision = length t.catalogue + 1; body = text })
-        (map (rule_row (length t.catalogue + 1)) (rules_in (result_ok (w.catalogue text)))) (forms_in (result_ok (w.catalogue text)))
-change_for w t (Import bytes profile) =
-    let n = length t.document + 1 in
-    change.Imported (record { number = n; namespace = namespace_in (result_ok (w.document bytes)); bytes = bytes; profile = profile })
-        (map (package_row n) (packages_in (result_ok (w.document bytes)))) (map (extracted_row n) (references_in (result_ok (w.document bytes))))
-change_for w t (OpenRelease r form) =
-    change.Opened (record { name = r; place = length t.releases + 1; form = form; state = release.IsOpen; revision = 0 })
-change_for w t (Attach r d) = change.Attached (record { release = r; document = d })
-change_for w t (Choose r d p texts) = change.Chosen r d p (map (choice_row r d p) (term_set w texts))
-change_for w t (Freeze r day) =
-    change.Froze r (length t.catalogue) (frozen_found w t r) (new_duties w t r) (map (raised_row day) (new_duties w t r))
-change_for w t (Meet q day text) =
+-- What a recorded command does to the rows
+
+abbrev pub loaded_change : Tables → List ℕ → Option Catalogue → Change
+loaded_change t text catalogue =
+    let n = length t.catalogue + 1 in
+    change.Loaded (record { revision = n; body = text }) (map (rule_row n) (rules_in catalogue)) (forms_in catalogue)
+
+abbrev pub imported_as : ℕ → List ℕ → Profile → Option Document → Change
+imported_as n bytes profile document =
+    change.Imported (record { number = n; namespace = namespace_in document; bytes = bytes; profile = profile })
+        (map (package_row n) (packages_in document)) (map (extracted_row n) (references_in document))
+
+abbrev pub imported_change : Tables → List ℕ → Profile → Option Document → Change
+imported_change t bytes profile document = imported_as (length t.document + 1) bytes profile document
+
+abbrev pub opened_change : Tables → List ℕ → List ℕ → Change
+opened_change t r form = change.Opened (record { name = r; place = length t.releases + 1; form = form; state = release.IsOpen; revision = 0 })
+
+abbrev pub chosen_change : List ℕ → ℕ → List ℕ → List (List ℕ) → Change
+chosen_change r d p terms = change.Chosen r d p (map (choice_row r d p) terms)
+
+abbrev pub froze_change : Tables → List ℕ → List ℕ → List FrozenRow → List DutyRow → Change
+froze_change t r day rows new = change.Froze r (length t.catalogue) rows new (map (raised_row day) new)
+
+abbrev pub met_change : Tables → ℕ → List ℕ → List ℕ → Change
+met_change t q day text =
     change.Moved q stands.Met (record { duty = q; step = steps_found t q + 1; day = day; word = word.Met; body = text; last_day = None })
+
+abbrev pub change_for : Readings → Tables → Command → Change
+change_for w t (LoadCatalogue text) = loaded_change t text (result_ok (w.catalogue text))
+change_for w t (Import bytes profile) = imported_change t bytes profile (result_ok (w.document bytes))
+change_for w t (OpenRelease r form) = opened_change t r form
+change_for w t (Attach r d) = change.Attached (record { release = r; document = d })
+change_for w t (Choose r d p texts) = chosen_change r d p (term_set w texts)
+change_for w t (Freeze r day) = froze_change t r day (frozen_found w t r) (new_duties w t r)
+change_for w t (Meet q day text) = met_change t q day text
+
+-- the rows after an answer
+abbrev pub noted_by : Answer → Change → Tables → Tables
+noted_by a c t = if is_recorded a then applied c t else t
 
 -- the rows after a command
 abbrev pub rows_noted : Readings → Tables → Command → Tables
-rows_noted w t c = if is_recorded (answer_from w t c) then applied (change_for w t c) t else t
+rows_noted w t c = noted_by (answer_from w t c) (change_for w t c) t
+
+-- What a store tells of an import with a namespace: its number, and whether its bytes are these
+abbrev pub known_import : List ℕ → DocumentRow → ℕ × Bool
+known_import bytes row = (row.number, bytes_eq row.bytes bytes)
+
+-- and of a document
+abbrev pub known_document : DocumentRow → ℕ × Profile
+known_document row = (row.number, row.profile)
 
 -- the answer to a query
 abbrev pub queried_from : Tables → Query → Answer

@@ -205,7 +205,7 @@ abbrev pub answer : Readings → List Command → Command → Answer
 answer w h (LoadCatalogue text) = load_answer (w.catalogue text) (length (revisions h))
 answer w h (Import bytes profile) = import_answer (w.document bytes) bytes (documents w h)
 answer w h (OpenRelease r form) = open_answer r form (forms_in (in_force w h)) (is_some (form_of h r)) (length (opened h))
-answer w h (Attach r d) = attach_answer (release_state h r) (list_any (is_document d) (documents w h)) (list_any (is_attachment r d) (attached h)) (length (attached_to (attached h) r))
+answer w h (Attach r d) = attach_answer (release_state h r) (is_some (find (is_document d) (documents w h))) (list_any (is_attachment r d) (attached h)) (length (attached_to (attached h) r))
 answer w h (Choose r d p texts) = choose_answer w texts (release_state h r) (find (is_document d) (documents w h)) (find (is_package d p) (packages w h)) (list_any (is_attachment r d) (attached h))
 answer w h (Freeze r day) =
     let form = unwrap_or (form_of h r) [] in

@@ -9,3 +9,5 @@ pub mod Tables
 pub mod Answers
 pub mod Queries
 pub mod Runs
+pub mod Numbers
+pub mod Faults

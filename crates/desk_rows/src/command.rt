@@ -7,7 +7,8 @@ use crate::row::{
     PackageRow, ReleaseRow, RuleRow,
 };
 use crate::state::DutyState;
-use desk_base::{Day, Items, Text};
+use desk_base::{Items, Text};
+use std::alloc::{AllocError, AllocFailed};
 use thiserror::Error;
 
 /// A command, with texts and numbers as they came.
@@ -64,7 +65,8 @@ pub struct DutyLine {
     pub rule: Text,
     pub code: Text,
     pub state: DutyState,
-    pub day: Day,
+    /// The day of the last change, as it was written.
+    pub day: Text,
 }
 
 /// How many duties of a release were raised, and how many of these stand where.
@@ -145,6 +147,28 @@ pub enum Fault {
     Memory,
     #[error("the store failed")]
     Store(StoreFault),
+}
+
+impl From<AllocError> for Fault {
+    ghost use Rattle.std.specs.Prelude.{◌≡◌};
+    ghost use Rattle.desk_rows.specs.declared.command.Fault.TheVariants.{Memory};
+
+    ghost from_gives = { λ _ fault. fault ≡ Memory };
+
+    fn from(_error: AllocError) -> Fault {
+        Fault::Memory
+    }
+}
+
+impl<T: Drop> From<AllocFailed<T>> for Fault {
+    ghost use Rattle.std.specs.Prelude.{◌≡◌};
+    ghost use Rattle.desk_rows.specs.declared.command.Fault.TheVariants.{Memory};
+
+    ghost from_gives = { λ _ fault. fault ≡ Memory };
+
+    fn from(_error: AllocFailed<T>) -> Fault {
+        Fault::Memory
+    }
 }
 
 /// What became of a command.

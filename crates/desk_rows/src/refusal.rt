@@ -121,8 +121,13 @@ pub enum Refusal {
 }
 
 impl Refusal {
+    ghost use Rattle.std.specs.Prelude.{◌≡◌};
+    ghost use Rattle.desk_rows.specs.Numbers.{refusal_number};
+
     /// The number of the refusal.
-    pub fn number(&self) -> u8 {
+    pub fn number(&self) -> u8
+        ensures { result ≡ refusal_number self.now }
+    {
         match self {
             Refusal::BadCatalogue(_) => 1,
             Refusal::BadDocument(_) => 2,

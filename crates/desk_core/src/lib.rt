@@ -1,0 +1,9 @@
+//! The desk: what a command answers and which rows it changes, decided once over looked-up rows, for the desk in memory and for
+//! the desk in tables alike.
+#![tactic(auto)]
+
+pub mod catalogue;
+pub mod document;
+pub mod release;
+pub mod store;
+pub mod texts;
