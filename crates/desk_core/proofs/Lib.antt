@@ -1,1 +1,3 @@
 mod Names
+mod Sets
+mod Places

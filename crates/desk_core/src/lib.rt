@@ -3,6 +3,7 @@
 #![tactic(auto)]
 
 pub mod catalogue;
+pub mod choice;
 pub mod document;
 pub mod release;
 pub mod store;

@@ -6,7 +6,7 @@ ghost use Rattle.desk_rows.specs.Readings.{Readings};
 ghost use Rattle.desk_rows.specs.Faults.{MayFail};
 ghost use Rattle.desk_rows.specs.Texts.{is_release_name};
 ghost use Rattle.desk_rows.specs.Keys.{is_attachment, is_document};
-ghost use Rattle.desk_rows.specs.Answers.{open_answer, attach_answer, attach_to};
+ghost use Rattle.desk_rows.specs.Answers.{open_answer, attach_answer, attach_to, unready};
 ghost use Rattle.desk_history.specs.FromTables.{answer_from, rows_noted, noted_by, opened_change, state_found};
 ghost use Rattle.desk_rows.specs.declared.command.Command.TheVariants.{OpenRelease, Attach};
 
@@ -28,6 +28,17 @@ pub fn is_release_name(text: &str) -> bool
     ensures { result ≡ is_release_name text.now }
 {
     text.len() <= NAME_BYTES && is_idstring(text)
+}
+
+/// What stands against work on a release in this state.
+pub(crate) fn unready(state: ReleaseState) -> Option<Refusal>
+    ensures { result ≡ unready state }
+{
+    match state {
+        ReleaseState::IsOpen => None,
+        ReleaseState::Frozen => Some(Refusal::ReleaseState(ReleaseState::Frozen)),
+        ReleaseState::Withdrawn => Some(Refusal::ReleaseState(ReleaseState::Withdrawn)),
+    }
 }
 
 /// Opens a release.
@@ -83,8 +94,8 @@ pub fn attach<S: Store>(store: &mut S, release: &Text, document: u64) -> Result<
     let Some((number, _)) = store.document(document)? else {
         return Ok(Answer::Refused(Refusal::UnknownDocument));
     };
-    if row.state != ReleaseState::IsOpen {
-        return Ok(Answer::Refused(Refusal::ReleaseState(row.state)));
+    if let Some(refusal) = unready(row.state) {
+        return Ok(Answer::Refused(refusal));
     }
     if store.is_attached(release.as_str(), document)? {
         return Ok(Answer::Refused(Refusal::AlreadyAttached));

@@ -11,7 +11,8 @@ use Rattle.desk_rows.specs.Lists.{put_all, in_order, updated, latest, or_else}
 use Rattle.desk_rows.specs.Readings.{Readings}
 use Rattle.desk_rows.specs.Keys.{is_release, below_by, frozen_order}
 use Rattle.desk_rows.specs.History.{revisions, in_force, rules_in, documents, packages, attached, attached_to, names, form_of, state_of, state_given, revision_of}
-use Rattle.desk_rows.specs.Raised.{Owed, raised, owed_at, owed_for, numbered, shipped, chosen_in, frozen, frozen_at, frozen_for}
+use Rattle.desk_rows.specs.declared.row.Owed.{Owed}
+use Rattle.desk_rows.specs.Raised.{raised, owed_at, owed_for, numbered, shipped, chosen_in, frozen, frozen_at, frozen_for}
 use Rattle.desk_rows.specs.Moves.{duties, duty_row, changes, change_rows, change_row, moves, place, is_move, all_changes}
 use Rattle.desk_rows.specs.Tables.{Tables, tables, release_row, with_release_state}
 use Rattle.desk_rows.specs.Answers.{answer, freeze_answer, walk, profile_in}

@@ -11,7 +11,8 @@ use Rattle.desk_rows.specs.Lists.{put, updated}
 use Rattle.desk_rows.specs.Texts.{is_note}
 use Rattle.desk_rows.specs.Readings.{Readings}
 use Rattle.desk_rows.specs.Keys.{is_duty, is_change_of, change_below}
-use Rattle.desk_rows.specs.Raised.{Owed, raised, owed_at, numbered}
+use Rattle.desk_rows.specs.declared.row.Owed.{Owed}
+use Rattle.desk_rows.specs.Raised.{raised, owed_at, numbered}
 use Rattle.desk_rows.specs.Moves.{duties, duty_row, changes, change_rows, change_row, moves, place, place_after, is_move, all_changes}
 use Rattle.desk_rows.specs.Tables.{tables, with_duty_state}
 use Rattle.desk_rows.specs.Answers.{answer, answer, IsHistory, is_recorded, duty_at, release_state, release_state_of, meet_answer, meet_duty}

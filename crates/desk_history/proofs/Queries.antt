@@ -7,7 +7,8 @@ use Rattle.std.proofs.lemmas.Bool.Decides.{nat_tests}
 use Rattle.desk_rows.specs.Readings.{Readings}
 use Rattle.desk_rows.specs.Keys.{is_change_of, is_duty_of}
 use Rattle.desk_rows.specs.History.{form_of}
-use Rattle.desk_rows.specs.Raised.{Owed, raised, numbered}
+use Rattle.desk_rows.specs.declared.row.Owed.{Owed}
+use Rattle.desk_rows.specs.Raised.{raised, numbered}
 use Rattle.desk_rows.specs.Moves.{duties, duty_row, changes, place, all_changes}
 use Rattle.desk_rows.specs.Tables.{Tables, tables}
 use Rattle.desk_rows.specs.Queries.{queried, duty_line, duties_of, totals_of}

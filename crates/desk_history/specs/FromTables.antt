@@ -6,7 +6,8 @@ use Rattle.std.specs.Result.{result_ok}
 use Rattle.desk_rows.specs.Readings.{Readings}
 use Rattle.desk_rows.specs.Keys.{is_document, is_package, is_release, is_attachment, is_choice_of, is_duty, is_duty_of, is_change_of, is_rule_of}
 use Rattle.desk_rows.specs.History.{rules_in, forms_in, rule_row, namespace_in, packages_in, references_in, package_row, extracted_row, attached_to, term_set}
-use Rattle.desk_rows.specs.Raised.{Owed, shipped_of, owed_for, frozen_for}
+use Rattle.desk_rows.specs.declared.row.Owed.{Owed}
+use Rattle.desk_rows.specs.Raised.{shipped_of, owed_for, frozen_for}
 use Rattle.desk_rows.specs.Moves.{duty_row}
 use Rattle.desk_rows.specs.Tables.{Tables, applied, choice_row}
 use Rattle.desk_rows.specs.Answers.{load_answer, import_answer, open_answer, attach_answer, choose_answer, freeze_answer, meet_answer, walk, profile_in, is_recorded}

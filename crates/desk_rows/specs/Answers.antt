@@ -9,7 +9,8 @@ use Rattle.desk_rows.specs.Texts.{is_release_name, is_note}
 use Rattle.desk_rows.specs.Readings.{Readings}
 use Rattle.desk_rows.specs.Keys.{is_document, has_namespace, is_package, is_attachment}
 use Rattle.desk_rows.specs.History.{revisions, in_force, rules_in, forms_in, documents, packages, profile_of, expression_in, opened, form_of, state_of, attached, attached_to}
-use Rattle.desk_rows.specs.Raised.{Owed, shipped, rule_adopted, chosen_in, owed_at, raised, numbered}
+use Rattle.desk_rows.specs.declared.row.Owed.{Owed}
+use Rattle.desk_rows.specs.Raised.{shipped, rule_adopted, chosen_in, owed_at, raised, numbered}
 use Rattle.desk_rows.specs.Moves.{moves, place}
 use Rattle.desk_rows.specs.declared.reading.Catalogue.{Catalogue}
 use Rattle.desk_rows.specs.declared.reading.Rule.{Rule}
@@ -107,11 +108,16 @@ abbrev pub choose_document : Readings → List (List ℕ) → Bool → Option Pa
 choose_document w terms is_attached found state document =
     option_map_or (λ row. choose_package w terms is_attached row.profile state found) document (answered.Refused why.UnknownDocument)
 
+-- the release, the document, the package, the release's state, and the rest
+abbrev pub choose_terms : Readings → List (List ℕ) → Option ReleaseState → Option DocumentRow → Option PackageRow → Bool → Answer
+choose_terms w terms state document found is_attached =
+    option_map_or (λ s. choose_document w terms is_attached found s document) state (answered.Refused why.UnknownRelease)
+
 -- Choose: a text that is no term, the release, the document, the package, the release's state, and the rest
 abbrev pub choose_answer : Readings → List (List ℕ) → Option ReleaseState → Option DocumentRow → Option PackageRow → Bool → Answer
 choose_answer w texts state document found is_attached =
     option_map_or (λ i. answered.Refused (why.BadTerm i)) (first_bad w 0 texts)
-    (option_map_or (λ s. choose_document w (filter_map w.term texts) is_attached found s document) state (answered.Refused why.UnknownRelease))
+        (choose_terms w (filter_map w.term texts) state document found is_attached)
 
 -- Freeze's walk over the shipped packages: the first that fails
 

@@ -6,20 +6,12 @@ use Rattle.desk_rows.specs.Readings.{Readings}
 use Rattle.desk_rows.specs.Keys.{is_shipped_by}
 use Rattle.desk_rows.specs.History.{in_force, rules_in, rule_for, packages, form_of, attached, attached_to, choice}
 use Rattle.desk_rows.specs.declared.reading.Rule.{Rule}
+use Rattle.desk_rows.specs.declared.row.Owed.{Owed}
 use Rattle.desk_rows.specs.declared.row.PackageRow.{PackageRow}
 use Rattle.desk_rows.specs.declared.row.AttachedRow.{AttachedRow}
 use Rattle.desk_rows.specs.declared.row.FrozenRow.{FrozenRow}
 use Rattle.desk_rows.specs.declared.command.Command.{Command}
 use Rattle.desk_rows.specs.declared.command.Command.TheVariants.{Freeze}
-
--- what a duty is owed for, and the catalogue's spelling of its term
-pub record Owed : Type 0 where
-  pub release : List ℕ
-  pub document : ℕ
-  pub package_id : List ℕ
-  pub term : List ℕ
-  pub code : List ℕ
-  pub rule : List ℕ
 
 -- the shipped packages of the documents that are attached, by document and id
 abbrev pub shipped_of : List AttachedRow → List PackageRow → List PackageRow

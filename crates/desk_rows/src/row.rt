@@ -104,6 +104,17 @@ pub struct FrozenRow {
     pub rule: Text,
 }
 
+/// What a duty is owed for: a code of the rule for a term of a package in a release, and the rule's spelling of the term.
+#[derive(Debug, Drop)]
+pub struct Owed {
+    pub release: Text,
+    pub document: u32,
+    pub package_id: Text,
+    pub term: Text,
+    pub code: Text,
+    pub rule: Text,
+}
+
 /// A duty.
 #[derive(Debug, Drop)]
 pub struct DutyRow {
