@@ -1,3 +1,4 @@
 mod Names
 mod Sets
 mod Places
+mod Duties

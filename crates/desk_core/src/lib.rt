@@ -5,6 +5,7 @@
 pub mod catalogue;
 pub mod choice;
 pub mod document;
+pub mod duty;
 pub mod release;
 pub mod store;
 pub mod texts;

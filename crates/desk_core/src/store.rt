@@ -104,6 +104,7 @@ pub trait Store {
 
     fn duty(&mut self, number: u64) -> Result<Option<DutyRow>, Fault>
         ensures found { IfOk result (λ found. found ≡ duty_found (rows self.old) number) }
+        ensures same { IfOk result (λ found. IfSome found (λ row. row.number ≡ number)) }
         ensures kept { rows self.new ≡ rows self.old }
         ensures fault { IfErr result (MayFail tells) };
 
