@@ -2,3 +2,5 @@ mod Names
 mod Sets
 mod Places
 mod Duties
+mod Walking
+mod Freezes

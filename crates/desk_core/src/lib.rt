@@ -6,6 +6,7 @@ pub mod catalogue;
 pub mod choice;
 pub mod document;
 pub mod duty;
+pub mod freeze;
 pub mod release;
 pub mod store;
 pub mod texts;

@@ -10,7 +10,7 @@ use Rattle.desk_rows.specs.declared.row.Owed.{Owed}
 use Rattle.desk_rows.specs.Raised.{shipped_of, owed_for, frozen_for}
 use Rattle.desk_rows.specs.Moves.{duty_row}
 use Rattle.desk_rows.specs.Tables.{Tables, applied, choice_row}
-use Rattle.desk_rows.specs.Answers.{load_answer, import_answer, open_answer, attach_answer, choose_answer, freeze_answer, meet_answer, walk, profile_in, is_recorded}
+use Rattle.desk_rows.specs.Answers.{load_answer, import_answer, open_answer, attach_answer, choose_answer, freeze_answer, freeze_open, meet_answer, walk, profile_in, is_recorded}
 use Rattle.desk_rows.specs.Queries.{duty_line, totals_of}
 use Rattle.desk_rows.specs.declared.reading.Catalogue.{Catalogue}
 use Rattle.desk_rows.specs.declared.reading.Document.{Document}
@@ -123,8 +123,24 @@ opened_change t r form = change.Opened (record { name = r; place = length t.rele
 abbrev pub chosen_change : List ℕ → ℕ → List ℕ → List (List ℕ) → Change
 chosen_change r d p terms = change.Chosen r d p (map (choice_row r d p) terms)
 
+abbrev pub froze_rows : List ℕ → ℕ → List ℕ → List FrozenRow → List DutyRow → Change
+froze_rows r revision day rows new = change.Froze r revision rows new (map (raised_row day) new)
+
 abbrev pub froze_change : Tables → List ℕ → List ℕ → List FrozenRow → List DutyRow → Change
-froze_change t r day rows new = change.Froze r (length t.catalogue) rows new (map (raised_row day) new)
+froze_change t r day rows new = froze_rows r (length t.catalogue) day rows new
+
+abbrev pub froze_as : Tables → List ℕ → List ℕ → List FrozenRow → List Owed → Change
+froze_as t r day rows owed = froze_change t r day rows (map new_duty (enumerate_from (length t.duty + 1) owed))
+
+-- the freeze of an open release with this form
+abbrev pub freeze_open_found : Readings → Tables → List ℕ → List ℕ → Answer
+freeze_open_found w t r form =
+    freeze_open (length (attached_to t.attached r)) (walk w (rules_found t) form (profile_in t.document) (choice_found t r) (shipped_found t r))
+        (length t.duty) (length (owed_for w (rules_found t) form r (choice_found t r) (shipped_found t r)))
+
+abbrev pub freeze_change_found : Readings → Tables → List ℕ → List ℕ → List ℕ → Change
+freeze_change_found w t r form day =
+    froze_as t r day (frozen_for w (rules_found t) form r (choice_found t r) (shipped_found t r)) (owed_for w (rules_found t) form r (choice_found t r) (shipped_found t r))
 
 abbrev pub met_change : Tables → ℕ → List ℕ → List ℕ → Change
 met_change t q day text =

@@ -139,10 +139,13 @@ unchosen p (t ∷ ts) = None
 abbrev pub unconcluded : Readings → Profile → PackageRow → Option Refusal
 unconcluded w profile p = if is_some (expression_in w profile p.concluded) then None else Some (why.NoConclusion p.document p.id)
 
--- a package fails: no conclusion, no choice, a term without adoption, a term without a rule
+-- no conclusion, no choice, a term without adoption
+abbrev pub unready_package : Readings → Profile → List (List ℕ) → PackageRow → Option Refusal
+unready_package w profile terms p = or_else (unconcluded w profile p) (or_else (unchosen p terms) (first_unadopted w p.document terms))
+
+-- a package fails by one of these, or by a term without a rule
 abbrev pub package_fault : Readings → List Rule → List ℕ → Profile → List (List ℕ) → PackageRow → Option Refusal
-package_fault w rules form profile terms p =
-    or_else (unconcluded w profile p) (or_else (unchosen p terms) (or_else (first_unadopted w p.document terms) (first_unruled w rules form p terms)))
+package_fault w rules form profile terms p = or_else (unready_package w profile terms p) (first_unruled w rules form p terms)
 
 abbrev pub walk : Readings → List Rule → List ℕ → (PackageRow → Profile) → (PackageRow → List (List ℕ)) → List PackageRow → Option Refusal
 walk w rules form profile chosen [] = None
@@ -152,11 +155,13 @@ walk w rules form profile chosen (p ∷ ps) = or_else (package_fault w rules for
 abbrev pub unattached : ℕ → Option Refusal
 unattached count = if count == 0 then Some why.EmptyRelease else None
 
+-- so many new duties beside the old ones
+abbrev pub freeze_fits : ℕ → ℕ → Answer
+freeze_fits old new = if nat_lt 100000 (old + new) then answered.Refused (why.Full limit.Duties) else answered.Frozen (old + 1) new
+
 -- what a freeze of an open release answers, of these attached documents, with this walk and these new duties
 abbrev pub freeze_open : ℕ → Option Refusal → ℕ → ℕ → Answer
-freeze_open attached fault old new =
-    refused_or (unattached attached) (refused_or fault
-    (if nat_lt 100000 (old + new) then answered.Refused (why.Full limit.Duties) else answered.Frozen (old + 1) new))
+freeze_open attached fault old new = refused_or (unattached attached) (refused_or fault (freeze_fits old new))
 
 -- Freeze: the day, the release, its state, nothing attached, the walk, the duties
 abbrev pub freeze_answer : List ℕ → Option ReleaseState → ℕ → Option Refusal → ℕ → ℕ → Answer

@@ -28,17 +28,14 @@ adopted w term = if is_some (w.reference term) then None else Some term
 abbrev pub rule_adopted : Readings → List Rule → List ℕ → List ℕ → Option Rule
 rule_adopted w rules form term = option_and_then (λ t. rule_for rules t form) (adopted w term)
 
+-- a code that a term of a package owes under a rule
+abbrev pub owed_code : List ℕ → PackageRow → List ℕ → Rule → List ℕ → Owed
+owed_code r p term rule code = record { release = r; document = p.document; package_id = p.id; term = term; code = code; rule = rule.spelled }
+
 -- what a term of a package owes under a rule: each of its codes
 abbrev pub owed_under : List ℕ → PackageRow → List ℕ → Option Rule → List Owed
 owed_under r p term None = []
-owed_under r p term (Some rule) = map (λ k. record {
-  release = r;
-  document = p.document;
-  package_id = p.id;
-  term = term;
-  code = k;
-  rule = rule.spelled;
-}) rule.codes
+owed_under r p term (Some rule) = map (owed_code r p term rule) rule.codes
 
 abbrev pub owed_for_terms : Readings → List Rule → List ℕ → List ℕ → PackageRow → List (List ℕ) → List Owed
 owed_for_terms w rules form r p terms = flat_map (λ term. owed_under r p term (rule_adopted w rules form term)) terms
@@ -65,9 +62,12 @@ abbrev pub numbered : Readings → List Command → List (ℕ × Owed)
 numbered w h = enumerate_from 1 (raised w h)
 
 -- the record of a frozen term
+abbrev pub frozen_term : List ℕ → PackageRow → List ℕ → Rule → FrozenRow
+frozen_term r p term rule = record { release = r; document = p.document; package_id = p.id; term = term; rule = rule.spelled }
+
 abbrev pub frozen_under : List ℕ → PackageRow → List ℕ → Option Rule → List FrozenRow
 frozen_under r p term None = []
-frozen_under r p term (Some rule) = record { release = r; document = p.document; package_id = p.id; term = term; rule = rule.spelled } ∷ []
+frozen_under r p term (Some rule) = frozen_term r p term rule ∷ []
 
 abbrev pub frozen_for_terms : Readings → List Rule → List ℕ → List ℕ → PackageRow → List (List ℕ) → List FrozenRow
 frozen_for_terms w rules form r p terms = flat_map (λ term. frozen_under r p term (rule_adopted w rules form term)) terms

@@ -119,7 +119,7 @@ pub enum Change {
     },
     Froze {
         release: Text,
-        revision: u32,
+        revision: u64,
         frozen: Items<FrozenRow>,
         duties: Items<DutyRow>,
         changes: Items<ChangeRow>,

@@ -75,7 +75,7 @@ pub struct ReleaseRow {
     pub form: Text,
     pub state: ReleaseState,
     /// The revision of the catalogue at its freeze, 0 before.
-    pub revision: u32,
+    pub revision: u64,
 }
 
 /// A document that is attached to a release.
