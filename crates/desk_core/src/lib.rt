@@ -2,8 +2,10 @@
 //! the desk in tables alike.
 #![tactic(auto)]
 
+pub mod ask;
 pub mod catalogue;
 pub mod choice;
+pub mod desk;
 pub mod document;
 pub mod duty;
 pub mod freeze;

@@ -1,7 +1,7 @@
 mod Rows
 mod Orders
 mod Same
-mod Lookups
+pub mod Lookups
 mod Chosen
 mod Opening
 mod Meeting

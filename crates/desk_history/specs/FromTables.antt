@@ -36,6 +36,7 @@ use Rattle.desk_rows.specs.declared.command.Change.{Change}
 use Rattle.desk_rows.specs.declared.command.Change.TheVariants as change
 use Rattle.desk_rows.specs.declared.command.Command.{Command}
 use Rattle.desk_rows.specs.declared.command.Command.TheVariants.{LoadCatalogue, Import, OpenRelease, Attach, Choose, Freeze, Meet}
+use Rattle.desk_rows.specs.declared.command.DutyLine.{DutyLine}
 use Rattle.desk_rows.specs.declared.command.Query.{Query}
 use Rattle.desk_rows.specs.declared.command.Query.TheVariants as query
 
@@ -171,10 +172,14 @@ known_import bytes row = (row.number, bytes_eq row.bytes bytes)
 abbrev pub known_document : DocumentRow → ℕ × Profile
 known_document row = (row.number, row.profile)
 
+-- the line of a duty
+abbrev pub line_found : Tables → DutyRow → DutyLine
+line_found t row = duty_line (λ q. filter (is_change_of q) t.changes) row
+
 -- the answer to a query
 abbrev pub queried_from : Tables → Query → Answer
 queried_from t (query.Duties r) =
-    if is_some (release_found t r) then answered.Duties (map (duty_line (λ q. filter (is_change_of q) t.changes)) (filter (is_duty_of r) t.duty))
+    if is_some (release_found t r) then answered.Duties (map (line_found t) (filter (is_duty_of r) t.duty))
     else answered.Refused why.UnknownRelease
 queried_from t (query.Totals r) =
     if is_some (release_found t r) then answered.Totals (totals_of (filter (is_duty_of r) t.duty)) else answered.Refused why.UnknownRelease
