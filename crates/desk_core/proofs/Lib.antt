@@ -4,3 +4,6 @@ mod Places
 mod Duties
 mod Walking
 mod Freezes
+mod Days
+mod PutAll
+mod Founds

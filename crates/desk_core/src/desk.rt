@@ -17,6 +17,7 @@ use crate::choice::choose;
 use crate::document::import;
 use crate::duty::meet;
 use crate::freeze::freeze;
+use crate::memory::MemStore;
 use crate::release::{attach, open_release};
 use crate::store::Store;
 use crate::texts::Texts;
@@ -95,6 +96,19 @@ impl<T: Texts, S: Store> TableDesk<T, S> {
     }
 }
 
+impl<T: Texts> TableDesk<T, MemStore> {
+    /// The empty desk in memory.
+    pub fn new(alloc: Global, texts: T) -> TableDesk<T, MemStore>
+        ensures { (w : Readings) → ⟦<MemStore as Store>⟧.rows result.store ≡ tables w [] }
+    {
+        TableDesk {
+            texts,
+            store: MemStore::new(alloc),
+            alloc,
+        }
+    }
+}
+
 impl<T: Texts, S: Store> Desk for TableDesk<T, S> {
     ghost content = { λ d. S.rows d.store };
 
@@ -143,3 +157,6 @@ pub fn run<D: Desk>(
     }
     Ok(outcomes)
 }
+
+/// A desk in memory.
+pub type MemDesk<T> = TableDesk<T, MemStore>;

@@ -12,7 +12,7 @@ ghost use Rattle.desk_rows.specs.Queries.{last_day};
 ghost use Rattle.desk_history.specs.FromTables.{release_found, rules_found, duty_found, steps_found, known_import, known_document};
 ghost use Rattle.desk_rows.specs.declared.command.StoreFault.{StoreFault};
 
-use desk_base::Text;
+use desk_base::{Day, Text};
 use desk_rows::{AttachedRow, Change, DutyRow, Fault, PackageRow, Profile, ReleaseRow, Rule};
 
 /// Tables of rows, in memory or elsewhere. Reads leave the rows; `commit` alone writes, all of a change or nothing.
@@ -125,8 +125,8 @@ pub trait Store {
         ensures kept { rows self.new ≡ rows self.old }
         ensures fault { IfErr result (MayFail tells) };
 
-    /// The day of a duty's last change, empty where it has none.
-    fn last_day(&mut self, duty: u32) -> Result<Text, Fault>
+    /// The day of a duty's last change, if it has one.
+    fn last_day(&mut self, duty: u32) -> Result<Option<Day>, Fault>
         ensures found { IfOk result (λ day. day ≡ last_day (filter (is_change_of duty) (rows self.old).changes)) }
         ensures kept { rows self.new ≡ rows self.old }
         ensures fault { IfErr result (MayFail tells) };

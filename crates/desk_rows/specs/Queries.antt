@@ -1,5 +1,5 @@
 -- The answer to each query.
-use Rattle.std.specs.Prelude.{ℕ, Bool, true, false, List, [], ◌∷◌, length, filter, map, count_by, is_some, if◌then◌else◌}
+use Rattle.std.specs.Prelude.{ℕ, Bool, true, false, List, [], ◌∷◌, length, filter, map, count_by, Option, Some, None, is_some, if◌then◌else◌}
 use Rattle.desk_rows.specs.Readings.{Readings}
 use Rattle.desk_rows.specs.Keys.{is_duty_of}
 use Rattle.desk_rows.specs.History.{form_of}
@@ -44,9 +44,9 @@ totals_of rows = record {
 }
 
 -- the day of the last change
-abbrev pub last_day : List ChangeRow → List ℕ
-last_day [] = []
-last_day (row ∷ []) = row.day
+abbrev pub last_day : List ChangeRow → Option (List ℕ)
+last_day [] = None
+last_day (row ∷ []) = Some row.day
 last_day (row ∷ next ∷ rows) = last_day (next ∷ rows)
 
 abbrev pub duty_line : (ℕ → List ChangeRow) → DutyRow → DutyLine

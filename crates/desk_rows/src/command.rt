@@ -7,7 +7,7 @@ use crate::row::{
     PackageRow, ReleaseRow, RuleRow,
 };
 use crate::state::DutyState;
-use desk_base::{Items, Text};
+use desk_base::{Day, Items, Text};
 use std::alloc::{AllocError, AllocFailed};
 use thiserror::Error;
 
@@ -65,8 +65,8 @@ pub struct DutyLine {
     pub rule: Text,
     pub code: Text,
     pub state: DutyState,
-    /// The day of the last change, as it was written.
-    pub day: Text,
+    /// The day of the last change.
+    pub day: Option<Day>,
 }
 
 /// How many duties of a release were raised, and how many of these stand where.
