@@ -13,3 +13,6 @@ pub mod memory;
 pub mod release;
 pub mod store;
 pub mod texts;
+
+#[cfg(test)]
+mod tests;
