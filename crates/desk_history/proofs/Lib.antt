@@ -9,3 +9,6 @@ mod Freezing
 pub mod Steps
 pub mod Queries
 pub mod Running
+mod RaisedLaw
+mod Counting
+mod Minimal

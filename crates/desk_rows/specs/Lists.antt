@@ -1,5 +1,5 @@
 -- Words on lists. A history has its newest command first.
-use Rattle.std.specs.Prelude.{Bool, List, [], ◌∷◌, Option, Some, None, if◌then◌else◌}
+use Rattle.std.specs.Prelude.{◌≡◌, ◌⊎◌, Bool, List, [], ◌∷◌, Option, Some, None, if◌then◌else◌}
 
 -- the first of two that is there
 abbrev pub or_else : {B : Type 0} → Option B → Option B → Option B
@@ -30,3 +30,8 @@ in_order below (x ∷ xs) = put below x (in_order below xs)
 abbrev pub updated : {A : Type 0} → (A → Bool) → (A → A) → List A → List A
 updated test change [] = []
 updated test change (x ∷ xs) = (if test x then change x else x) ∷ updated test change xs
+
+-- x is one of some
+abbrev pub IsIn : {A : Type 0} → A → List A → Type 0
+IsIn x [] = ⊥
+IsIn x (y ∷ ys) = (y ≡ x) ⊎ IsIn x ys

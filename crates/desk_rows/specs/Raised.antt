@@ -1,7 +1,8 @@
 -- The duties that freezes raise.
-use Rattle.std.specs.Prelude.{◌≡◌, ℕ, List, [], ◌∷◌, ◌++◌, filter, map, Option, Some, None, is_some, unwrap_or, Contains, if◌then◌else◌}
+use Rattle.std.specs.Prelude.{◌≡◌, ℕ, List, [], ◌∷◌, ◌++◌, filter, map, Option, Some, None, is_some, unwrap_or, if◌then◌else◌}
 use Rattle.std.specs.List.{flat_map, enumerate_from}
 use Rattle.std.specs.Option.{option_and_then}
+use Rattle.desk_rows.specs.Lists.{IsIn}
 use Rattle.desk_rows.specs.Readings.{Readings}
 use Rattle.desk_rows.specs.Keys.{is_shipped_by}
 use Rattle.desk_rows.specs.History.{in_force, rules_in, rule_for, packages, form_of, attached, attached_to, choice}
@@ -93,10 +94,10 @@ pub record IsRaised (w : Readings) (h : List Command) (d : Owed) : Type 0 where
   pub row : PackageRow
   pub rule : Rule
   pub split : h ≡ later ++ Freeze d.release day ∷ before
-  pub ships : Contains (shipped w before d.release) row
+  pub ships : IsIn row (shipped w before d.release)
   pub document : d.document ≡ row.document
   pub package_id : d.package_id ≡ row.id
-  pub chosen : Contains (choice w before d.release row.document row.id) d.term
+  pub chosen : IsIn d.term (choice w before d.release row.document row.id)
   pub owes : rule_adopted w (rules_in (in_force w before)) (unwrap_or (form_of before d.release) []) d.term ≡ Some rule
-  pub code : Contains rule.codes d.code
+  pub code : IsIn d.code rule.codes
   pub spelled : d.rule ≡ rule.spelled
