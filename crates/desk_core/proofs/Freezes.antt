@@ -33,9 +33,9 @@ freeze_fitting w t r form day ps old new o some e no_frozen no_owed g is =
     let g1 = subst (GathersAll w t form r ps old new) is g in
     let walked : walk w (rules_found t) form (profile_in t.document) (choice_found t r) (shipped_found t r) ≡ None = ap (walk w (rules_found t) form (profile_in t.document) (choice_found t r)) (sym e) ∙ g1.0 in
     let frozen : new.frozen.items ≡ frozen_for w (rules_found t) form r (choice_found t r) (shipped_found t r) =
-      g1.1 ∙ (ap (λ xs. xs ++ frozen_for w (rules_found t) form r (choice_found t r) ps) no_frozen ∙ ap (frozen_for w (rules_found t) form r (choice_found t r)) e) in
+    g1.1 ∙ (ap (λ xs. xs ++ frozen_for w (rules_found t) form r (choice_found t r) ps) no_frozen ∙ ap (frozen_for w (rules_found t) form r (choice_found t r)) e) in
     let owed : new.owed.items ≡ owed_for w (rules_found t) form r (choice_found t r) (shipped_found t r) =
-      g1.2 ∙ (ap (λ xs. xs ++ owed_for w (rules_found t) form r (choice_found t r) ps) no_owed ∙ ap (owed_for w (rules_found t) form r (choice_found t r)) e) in
+    g1.2 ∙ (ap (λ xs. xs ++ owed_for w (rules_found t) form r (choice_found t r) ps) no_owed ∙ ap (owed_for w (rules_found t) form r (choice_found t r)) e) in
     record {
       answer = ap (λ xs. freeze_fits (length t.duty) (length xs)) owed ∙ sym (rw (some, walked) refl);
       rows = ap (λ xs. froze_as t r day xs new.owed.items) frozen ∙ ap (froze_as t r day (frozen_for w (rules_found t) form r (choice_found t r) (shipped_found t r))) owed;

@@ -32,9 +32,10 @@ found_at w terms t t1 t2 r d p found k row e1 s1 e2 s2 e3 =
     rw (e1, f3) (by_document w terms (list_any (is_attachment r d) t.attached) found.state row (find (is_document d) t.document) k f2)
 
 pub is_found : (t : Tables) (r : List ℕ) (d : ℕ) (p : List ℕ) (state : ReleaseState) (attached : Bool) (place : Place) (o : Found) → IsOpenPlace state attached place o → place.document ≡ d → ((w : Readings) (terms : List (List ℕ)) → choose_found w t r d p terms ≡ choose_shipped w terms attached place.profile state place.row) → IsFound t r d p o
-is_found t r d p state attached place (Here found) is same at =
-    (ap (λ (x : Place). x.document) is.0 ∙ same,
-     λ w terms. ap (λ (x : Place). choose_for w terms x.profile x.row) is.0 ∙ (is.1 w terms ∙ sym (at w terms)))
+is_found t r d p state attached place (Here found) is same at = (
+  ap (λ (x : Place). x.document) is.0 ∙ same,
+  λ w terms. ap (λ (x : Place). choose_for w terms x.profile x.row) is.0 ∙ (is.1 w terms ∙ sym (at w terms)),
+)
 is_found t r d p state attached place (Nowhere refusal) is same at = λ w terms. is w terms ∙ sym (at w terms)
 
 pub same_number : (o : Option (ℕ × Profile)) (n d : ℕ) (profile : Profile) → o ≡ Some (n, profile) → IfSome o (λ known. known.0 ≡ d) → n ≡ d

@@ -59,17 +59,17 @@ gathers_due due due' rows owed old new (Some f) e g = e ∙ g
 pub gathers_package : (w : Readings) (t t2 : Tables) (form r : List ℕ) (p : PackageRow) (profile : Profile) (terms : List (List ℕ)) (old new : Gathered) (fault : Option Refusal) → t2 ≡ t → terms ≡ choice_found t r p → profile ≡ profile_in t.document p → None ≡ unready_package w profile terms p → GathersTerms w (rules_found t2) form r p terms old new fault → GathersPackage w t form r p old new fault
 gathers_package w t t2 form r p profile terms old new fault s e f ready g =
     let g1 : GathersTerms w (rules_found t) form r p (choice_found t r p) old new fault =
-      subst (λ (u : Tables). GathersTerms w (rules_found u) form r p (choice_found t r p) old new fault) s (subst (λ (ts : List (List ℕ)). GathersTerms w (rules_found t2) form r p ts old new fault) e g) in
+    subst (λ (u : Tables). GathersTerms w (rules_found u) form r p (choice_found t r p) old new fault) s (subst (λ (ts : List (List ℕ)). GathersTerms w (rules_found t2) form r p ts old new fault) e g) in
     let ready1 : None ≡ unready_package w (profile_in t.document p) (choice_found t r p) p =
-      subst (λ (x : Profile). None ≡ unready_package w x (choice_found t r p) p) f (subst (λ (ts : List (List ℕ)). None ≡ unready_package w profile ts p) e ready) in
+    subst (λ (x : Profile). None ≡ unready_package w x (choice_found t r p) p) f (subst (λ (ts : List (List ℕ)). None ≡ unready_package w profile ts p) e ready) in
     gathers_due (first_unruled w (rules_found t) form p (choice_found t r p)) (package_fault w (rules_found t) form (profile_in t.document p) (choice_found t r p) p)
-      (frozen_for_terms w (rules_found t) form r p (choice_found t r p)) (owed_for_terms w (rules_found t) form r p (choice_found t r p)) old new fault
-      (rw (← ready1) refl) g1
+    (frozen_for_terms w (rules_found t) form r p (choice_found t r p)) (owed_for_terms w (rules_found t) form r p (choice_found t r p)) old new fault
+    (rw (← ready1) refl) g1
 
 pub unready_gathers : (w : Readings) (t : Tables) (form r : List ℕ) (p : PackageRow) (profile : Profile) (terms : List (List ℕ)) (refusal : Refusal) → terms ≡ choice_found t r p → profile ≡ profile_in t.document p → Some refusal ≡ unready_package w profile terms p → package_fault w (rules_found t) form (profile_in t.document p) (choice_found t r p) p ≡ Some refusal
 unready_gathers w t form r p profile terms refusal e f ready =
     let ready1 : Some refusal ≡ unready_package w (profile_in t.document p) (choice_found t r p) p =
-      subst (λ (x : Profile). Some refusal ≡ unready_package w x (choice_found t r p) p) f (subst (λ (ts : List (List ℕ)). Some refusal ≡ unready_package w profile ts p) e ready) in
+    subst (λ (x : Profile). Some refusal ≡ unready_package w x (choice_found t r p) p) f (subst (λ (ts : List (List ℕ)). Some refusal ≡ unready_package w profile ts p) e ready) in
     rw (← ready1) refl
 
 -- the walk over packages, of which the first fails

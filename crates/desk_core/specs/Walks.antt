@@ -61,10 +61,10 @@ GathersTerms w rules form r p terms old new fault =
 abbrev pub GathersPackage : Readings → Tables → List ℕ → List ℕ → PackageRow → Gathered → Gathered → Option Refusal → Type 0
 GathersPackage w t form r p old new fault =
     Gathers (package_fault w (rules_found t) form (profile_in t.document p) (choice_found t r p) p)
-        (frozen_for_terms w (rules_found t) form r p (choice_found t r p)) (owed_for_terms w (rules_found t) form r p (choice_found t r p)) old new fault
+    (frozen_for_terms w (rules_found t) form r p (choice_found t r p)) (owed_for_terms w (rules_found t) form r p (choice_found t r p)) old new fault
 
 -- the walk over some packages
 abbrev pub GathersAll : Readings → Tables → List ℕ → List ℕ → List PackageRow → Gathered → Gathered → Option Refusal → Type 0
 GathersAll w t form r ps old new fault =
     Gathers (walk w (rules_found t) form (profile_in t.document) (choice_found t r) ps)
-        (frozen_for w (rules_found t) form r (choice_found t r) ps) (owed_for w (rules_found t) form r (choice_found t r) ps) old new fault
+    (frozen_for w (rules_found t) form r (choice_found t r) ps) (owed_for w (rules_found t) form r (choice_found t r) ps) old new fault

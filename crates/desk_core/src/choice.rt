@@ -17,7 +17,9 @@ use crate::release::unready;
 use crate::store::Store;
 use crate::texts::Texts;
 use desk_base::{Items, Text};
-use desk_rows::{Answer, Change, ChoiceRow, Fault, PackageRow, Profile, Refusal, ReleaseState, Verdict};
+use desk_rows::{
+    Answer, Change, ChoiceRow, Fault, PackageRow, Profile, Refusal, ReleaseState, Verdict,
+};
 use std::alloc::{AllocError, Global};
 
 /// The terms that texts spell, or the place of the first that spells none.
@@ -77,7 +79,11 @@ fn sorted_set(alloc: Global, terms: Items<Text>) -> Result<Vec<Text>, AllocError
 }
 
 /// What a verdict refuses.
-fn refusal_of(alloc: Global, terms: &[Text], verdict: Verdict) -> Result<Option<Refusal>, AllocError>
+fn refusal_of(
+    alloc: Global,
+    terms: &[Text],
+    verdict: Verdict,
+) -> Result<Option<Refusal>, AllocError>
     ensures { IfOk result (λ refusal. refused_or refusal Done ≡ judged terms.now verdict) }
 {
     match verdict {
@@ -285,6 +291,8 @@ pub fn choose<T: Texts, S: Store>(
     };
     match read {
         TermsRead::BadTerm(i) => Ok(Answer::Refused(Refusal::BadTerm(i))),
-        TermsRead::Terms(terms) => choose_terms(alloc, texts, store, release, document, package_id, terms),
+        TermsRead::Terms(terms) => choose_terms(
+            alloc, texts, store, release, document, package_id, terms,
+        ),
     }
 }

@@ -69,7 +69,12 @@ pub fn carry_out<T: Texts, S: Store>(
         Command::Import { bytes, profile } => import(alloc, texts, store, bytes, *profile),
         Command::OpenRelease { release, form } => open_release(store, release, form),
         Command::Attach { release, document } => attach(store, release, *document),
-        Command::Choose { release, document, package_id, terms } => choose(alloc, texts, store, release, *document, package_id, terms),
+        Command::Choose {
+            release,
+            document,
+            package_id,
+            terms,
+        } => choose(alloc, texts, store, release, *document, package_id, terms),
         Command::Freeze { release, day } => freeze(alloc, texts, store, release, day),
         Command::Meet { duty, day, text } => meet(store, *duty, day, text),
     }

@@ -11,13 +11,20 @@ ghost use Rattle.desk_rows.specs.declared.command.Command.TheVariants.{Import};
 use crate::store::Store;
 use crate::texts::Texts;
 use desk_base::Items;
-use desk_rows::{Answer, Change, Document, DocumentRow, ExtractedRow, Fault, Limit, Package, PackageRow, Profile, Reference, Refusal};
+use desk_rows::{
+    Answer, Change, Document, DocumentRow, ExtractedRow, Fault, Limit, Package, PackageRow,
+    Profile, Reference, Refusal,
+};
 use std::alloc::{AllocError, Global};
 
 /// How many documents a desk keeps.
 const MAX_DOCUMENTS: u64 = 4_096;
 
-fn package_rows(alloc: Global, document: u32, packages: Vec<Package>) -> Result<Items<PackageRow>, AllocError>
+fn package_rows(
+    alloc: Global,
+    document: u32,
+    packages: Vec<Package>,
+) -> Result<Items<PackageRow>, AllocError>
     ensures { IfOk result (λ rows. rows ≡ map (package_row document) packages.items) }
 {
     let mut rows = Items::new(alloc);
@@ -35,7 +42,11 @@ fn package_rows(alloc: Global, document: u32, packages: Vec<Package>) -> Result<
     Ok(rows)
 }
 
-fn extracted_rows(alloc: Global, document: u32, references: Vec<Reference>) -> Result<Items<ExtractedRow>, AllocError>
+fn extracted_rows(
+    alloc: Global,
+    document: u32,
+    references: Vec<Reference>,
+) -> Result<Items<ExtractedRow>, AllocError>
     ensures { IfOk result (λ rows. rows ≡ map (extracted_row document) references.items) }
 {
     let mut rows = Items::new(alloc);

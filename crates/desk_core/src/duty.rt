@@ -12,7 +12,9 @@ ghost use Rattle.desk_rows.specs.declared.command.Command.TheVariants.{Meet};
 
 use crate::store::Store;
 use desk_base::{Day, Text};
-use desk_rows::{Answer, Change, ChangeRow, DutyRow, DutyState, Fault, Limit, Refusal, ReleaseState, Word};
+use desk_rows::{
+    Answer, Change, ChangeRow, DutyRow, DutyState, Fault, Limit, Refusal, ReleaseState, Word,
+};
 
 /// How many changes a duty has at most before it is withdrawn.
 const MAX_CHANGES: u64 = 999;

@@ -17,7 +17,8 @@ use crate::store::Store;
 use crate::texts::Texts;
 use desk_base::{Day, Items, Text};
 use desk_rows::{
-    Answer, AttachedRow, Change, ChangeRow, DutyRow, DutyState, Fault, FrozenRow, Limit, Owed, PackageRow, Profile, Refusal, Rule, Word,
+    Answer, AttachedRow, Change, ChangeRow, DutyRow, DutyState, Fault, FrozenRow, Limit, Owed,
+    PackageRow, Profile, Refusal, Rule, Word,
 };
 use std::alloc::{AllocError, Global};
 
@@ -259,7 +260,16 @@ fn freeze_package<T: Texts, S: Store>(
     if let Some(refusal) = refusal {
         return Ok(Some(refusal));
     }
-    freeze_terms(alloc, texts, store, release, form, row, terms.as_slice(), gathered)
+    freeze_terms(
+        alloc,
+        texts,
+        store,
+        release,
+        form,
+        row,
+        terms.as_slice(),
+        gathered,
+    )
 }
 
 /// Gathers what packages owe, or tells what stands against the first that fails.
@@ -421,7 +431,15 @@ fn freeze_open<T: Texts, S: Store>(
         frozen: Vec::new(alloc),
         owed: Vec::new(alloc),
     };
-    if let Some(refusal) = freeze_packages(alloc, texts, store, release, form, packages.as_slice(), &mut gathered)? {
+    if let Some(refusal) = freeze_packages(
+        alloc,
+        texts,
+        store,
+        release,
+        form,
+        packages.as_slice(),
+        &mut gathered,
+    )? {
         return Ok(Answer::Refused(refusal));
     }
     freeze_gathered(alloc, store, release, day, gathered)

@@ -12,7 +12,6 @@ pub mod freeze;
 pub mod memory;
 pub mod release;
 pub mod store;
-pub mod texts;
-
 #[cfg(test)]
 mod tests;
+pub mod texts;

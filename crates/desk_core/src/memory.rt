@@ -15,8 +15,8 @@ ghost use Rattle.desk_history.specs.FromTables.{rule_of};
 use crate::store::Store;
 use desk_base::{Day, Items, Text};
 use desk_rows::{
-    AttachedRow, CatalogueRow, Change, ChangeRow, ChoiceRow, DocumentRow, DutyRow, DutyState, ExtractedRow, Fault, FrozenRow,
-    PackageRow, Profile, ReleaseRow, ReleaseState, Rule, RuleRow,
+    AttachedRow, CatalogueRow, Change, ChangeRow, ChoiceRow, DocumentRow, DutyRow, DutyState,
+    ExtractedRow, Fault, FrozenRow, PackageRow, Profile, ReleaseRow, ReleaseState, Rule, RuleRow,
 };
 use std::alloc::{AllocError, Global};
 
@@ -134,14 +134,21 @@ fn find_rule<'a>(rows: &'a [RuleRow], revision: u64, term: &str, form: &str) -> 
     ensures { option_map rule_of (option_copied result) ≡ find (is_rule term.now form.now) (map rule_of (filter (is_rule_of revision) rows.now)) }
 {
     for row in rows {
-        if u64::from(row.revision) == revision && row.term.as_str() == term && row.form.as_str() == form {
+        if u64::from(row.revision) == revision
+            && row.term.as_str() == term
+            && row.form.as_str() == form
+        {
             return Some(row);
         }
     }
     None
 }
 
-fn shipped_rows(alloc: Global, rows: &[PackageRow], document: u32) -> Result<Vec<PackageRow>, AllocError>
+fn shipped_rows(
+    alloc: Global,
+    rows: &[PackageRow],
+    document: u32,
+) -> Result<Vec<PackageRow>, AllocError>
     ensures { IfOk result (λ found. found.items ≡ filter (is_shipped_by document) rows.now) }
 {
     let mut found = Vec::new(alloc);
@@ -153,7 +160,11 @@ fn shipped_rows(alloc: Global, rows: &[PackageRow], document: u32) -> Result<Vec
     Ok(found)
 }
 
-fn attached_rows(alloc: Global, rows: &[AttachedRow], release: &str) -> Result<Vec<AttachedRow>, AllocError>
+fn attached_rows(
+    alloc: Global,
+    rows: &[AttachedRow],
+    release: &str,
+) -> Result<Vec<AttachedRow>, AllocError>
     ensures { IfOk result (λ found. found.items ≡ filter (is_attached_to release.now) rows.now) }
 {
     let mut found = Vec::new(alloc);
@@ -176,7 +187,10 @@ fn chosen_terms(
 {
     let mut found = Vec::new(alloc);
     for row in rows {
-        if row.release.as_str() == release && row.document == document && row.package_id.as_str() == id {
+        if row.release.as_str() == release
+            && row.document == document
+            && row.package_id.as_str() == id
+        {
             found.push(row.term.clone()?)?;
         }
     }
@@ -210,13 +224,17 @@ fn last_day(rows: &[ChangeRow], duty: u32) -> Option<Day>
 fn step_count(rows: &[ChangeRow], duty: u64) -> u64
     ensures { result ≡ length (filter (is_change_of duty) rows.now) }
 {
-    rows.iter().filter(|row| u64::from(row.duty) == duty).count() as u64
+    rows.iter()
+        .filter(|row| u64::from(row.duty) == duty)
+        .count() as u64
 }
 
 fn attached_count(rows: &[AttachedRow], release: &str) -> u64
     ensures { result ≡ length (filter (is_attached_to release.now) rows.now) }
 {
-    rows.iter().filter(|row| row.release.as_str() == release).count() as u64
+    rows.iter()
+        .filter(|row| row.release.as_str() == release)
+        .count() as u64
 }
 
 fn is_attached(rows: &[AttachedRow], release: &str, document: u64) -> bool
@@ -380,7 +398,9 @@ fn move_duty(rows: &mut Vec<DutyRow>, number: u32, state: DutyState)
 fn is_other(row: &ChoiceRow, release: &Text, document: u32, package_id: &Text) -> bool
     ensures { result ≡ is_other_choice release.now document package_id.now row.now }
 {
-    !(row.release.as_str() == release.as_str() && row.document == document && row.package_id.as_str() == package_id.as_str())
+    !(row.release.as_str() == release.as_str()
+        && row.document == document
+        && row.package_id.as_str() == package_id.as_str())
 }
 
 fn drop_choice(rows: &mut Vec<ChoiceRow>, release: &Text, document: u32, package_id: &Text)
@@ -434,7 +454,12 @@ impl MemStore {
         }
     }
 
-    fn load(&mut self, row: CatalogueRow, rules: Items<RuleRow>, forms: Items<Text>) -> Result<(), Fault>
+    fn load(
+        &mut self,
+        row: CatalogueRow,
+        rules: Items<RuleRow>,
+        forms: Items<Text>,
+    ) -> Result<(), Fault>
         ensures ok { OnOk result (⟦<MemStore as Store>⟧.rows self.new ≡ applied (Change.Loaded row rules forms) (⟦<MemStore as Store>⟧.rows self.old)) }
         ensures err { OnErr result (⟦<MemStore as Store>⟧.rows self.new ≡ ⟦<MemStore as Store>⟧.rows self.old) }
         ensures fault { IfErr result (λ fault. fault ≡ Fault.Memory) }
@@ -449,7 +474,12 @@ impl MemStore {
         Ok(())
     }
 
-    fn import(&mut self, row: DocumentRow, packages: Items<PackageRow>, references: Items<ExtractedRow>) -> Result<(), Fault>
+    fn import(
+        &mut self,
+        row: DocumentRow,
+        packages: Items<PackageRow>,
+        references: Items<ExtractedRow>,
+    ) -> Result<(), Fault>
         ensures ok { OnOk result (⟦<MemStore as Store>⟧.rows self.new ≡ applied (Change.Imported row packages references) (⟦<MemStore as Store>⟧.rows self.old)) }
         ensures err { OnErr result (⟦<MemStore as Store>⟧.rows self.new ≡ ⟦<MemStore as Store>⟧.rows self.old) }
         ensures fault { IfErr result (λ fault. fault ≡ Fault.Memory) }
@@ -468,7 +498,13 @@ impl MemStore {
         Ok(())
     }
 
-    fn choose(&mut self, release: &Text, document: u32, package_id: &Text, rows: Items<ChoiceRow>) -> Result<(), Fault>
+    fn choose(
+        &mut self,
+        release: &Text,
+        document: u32,
+        package_id: &Text,
+        rows: Items<ChoiceRow>,
+    ) -> Result<(), Fault>
         ensures ok { OnOk result (⟦<MemStore as Store>⟧.rows self.new ≡ applied (Change.Chosen release.now document package_id.now rows) (⟦<MemStore as Store>⟧.rows self.old)) }
         ensures err { OnErr result (⟦<MemStore as Store>⟧.rows self.new ≡ ⟦<MemStore as Store>⟧.rows self.old) }
         ensures fault { IfErr result (λ fault. fault ≡ Fault.Memory) }
@@ -534,7 +570,12 @@ impl Store for MemStore {
     }
 
     fn rule(&mut self, term: &str, form: &str) -> Result<Option<Rule>, Fault> {
-        match find_rule(self.rules.as_slice(), self.catalogue.len() as u64, term, form) {
+        match find_rule(
+            self.rules.as_slice(),
+            self.catalogue.len() as u64,
+            term,
+            form,
+        ) {
             Some(row) => match rule_copy(self.alloc, row) {
                 Ok(rule) => Ok(Some(rule)),
                 Err(_) => Err(Fault::Memory),

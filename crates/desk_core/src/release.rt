@@ -42,11 +42,7 @@ pub(crate) fn unready(state: ReleaseState) -> Option<Refusal>
 }
 
 /// Opens a release.
-pub fn open_release<S: Store>(
-    store: &mut S,
-    release: &Text,
-    form: &Text,
-) -> Result<Answer, Fault>
+pub fn open_release<S: Store>(store: &mut S, release: &Text, form: &Text) -> Result<Answer, Fault>
     ensures answer { (w : Readings) → IfOk result (λ answer. answer ≡ answer_from w (S.rows store.old) (OpenRelease release.now form.now)) }
     ensures ok { (w : Readings) → OnOk result (S.rows store.new ≡ rows_noted w (S.rows store.old) (OpenRelease release.now form.now)) }
     ensures err { OnErr result (S.rows store.new ≡ S.rows store.old) }
@@ -106,6 +102,9 @@ pub fn attach<S: Store>(store: &mut S, release: &Text, document: u64) -> Result<
     let Ok(release) = release.clone() else {
         return Err(Fault::Memory);
     };
-    store.commit(Change::Attached(AttachedRow { release, document: number }))?;
+    store.commit(Change::Attached(AttachedRow {
+        release,
+        document: number,
+    }))?;
     Ok(Answer::Done)
 }

@@ -4,8 +4,8 @@ use crate::desk::{Desk, MemDesk, TableDesk, run};
 use crate::texts::Texts;
 use desk_base::{Items, Text};
 use desk_rows::{
-    Answer, Catalogue, CatalogueFault, Command, Document, DocumentFault, DutyState, Fault, Limit, Outcome, Package, Profile, Query,
-    Refusal, ReleaseState, Rule, Totals, Verdict,
+    Answer, Catalogue, CatalogueFault, Command, Document, DocumentFault, DutyState, Fault, Limit,
+    Outcome, Package, Profile, Query, Refusal, ReleaseState, Rule, Totals, Verdict,
 };
 use std::alloc::{AllocError, Global};
 use std::test::Fail;
@@ -128,7 +128,10 @@ impl Texts for Given {
         if !terms.iter().any(|term| term.as_str() == wanted.as_str()) {
             return Ok(Verdict::NotEnough);
         }
-        match terms.iter().position(|term| term.as_str() != wanted.as_str()) {
+        match terms
+            .iter()
+            .position(|term| term.as_str() != wanted.as_str())
+        {
             Some(i) => Ok(Verdict::Superfluous(i)),
             None => Ok(Verdict::Minimal),
         }
@@ -214,15 +217,15 @@ fn is_same(answer: &Answer, wanted: &Answer) -> bool {
         (Answer::Imported(a), Answer::Imported(b)) => a == b,
         (Answer::Again(a), Answer::Again(b)) => a == b,
         (Answer::Done, Answer::Done) => true,
-        (Answer::Frozen { first, count }, Answer::Frozen { first: f, count: c }) => first == f && count == c,
+        (Answer::Frozen { first, count }, Answer::Frozen { first: f, count: c }) => first == f
+            && count == c,
         (Answer::Refused(a), Answer::Refused(b)) => a == b,
         _ => false,
     }
 }
 
 fn first_release(alloc: Global) -> Result<Vec<Command>, AllocError> {
-    let commands = vec![
-        in alloc;
+    let commands = vec![in alloc;
         load(alloc, "one")?,
         import(alloc, b"d1")?,
         open(alloc, "r1")?,
@@ -262,8 +265,7 @@ fn the_first_release(rt: HostRuntime) -> Result<(), Fail> {
         withdrawn: 0,
     };
     assert_eq!(rt; totals(alloc, &mut desk, "r1")?, one_met);
-    let more = vec![
-        in alloc;
+    let more = vec![in alloc;
         import(alloc, b"d1")?,
         load(alloc, "two")?,
         open(alloc, "r2")?,
@@ -326,36 +328,121 @@ fn refusals(rt: HostRuntime) -> Result<(), Fail> {
     let alloc = rt.alloc();
     let mut desk = TableDesk::new(alloc, Given);
     let desk = &mut desk;
-    assert_eq!(rt; refused_after(alloc, desk, &[], load(alloc, "a =")?)?, Refusal::BadCatalogue(CatalogueFault::NotToml));
-    assert_eq!(rt; refused_after(alloc, desk, &[], import(alloc, b"SPDXID")?)?, Refusal::BadDocument(DocumentFault::NoColon(2)));
-    assert_eq!(rt; refused_after(alloc, desk, &[], open(alloc, "a b")?)?, Refusal::BadName);
-    assert_eq!(rt; refused_after(alloc, desk, &[], open(alloc, "r1")?)?, Refusal::UnknownForm);
-    assert_eq!(rt; refused_after(alloc, desk, &[], attach(alloc, "r1", 9)?)?, Refusal::UnknownRelease);
-    assert_eq!(rt; refused_after(alloc, desk, &[], freeze(alloc, "r1", "2025-02-29")?)?, Refusal::BadDay);
-    assert_eq!(rt; refused_after(alloc, desk, &[], freeze(alloc, "r1", "2025-02-28")?)?, Refusal::UnknownRelease);
-    assert_eq!(rt; refused_after(alloc, desk, &[], meet(alloc, 1)?)?, Refusal::UnknownDuty);
-    let opened = vec![in alloc; load(alloc, "one")?, import(alloc, b"d1")?, open(alloc, "r1")?]?;
-    assert_eq!(rt; refused_after(alloc, desk, opened.as_slice(), open(alloc, "r1")?)?, Refusal::NameTaken);
-    assert_eq!(rt; refused_after(alloc, desk, &[], import(alloc, b"d1 again")?)?, Refusal::NamespaceTaken { document: 1 });
-    assert_eq!(rt; refused_after(alloc, desk, &[], attach(alloc, "r1", 2)?)?, Refusal::UnknownDocument);
-    assert_eq!(rt; refused_after(alloc, desk, &[], freeze(alloc, "r1", "2025-03-03")?)?, Refusal::EmptyRelease);
-    assert_eq!(rt; refused_after(alloc, desk, &[], choose(alloc, "r9", 1, &["MIT", "MIT AND"])?)?, Refusal::BadTerm(1));
-    assert_eq!(rt; refused_after(alloc, desk, &[], choose(alloc, "r9", 1, &["MIT"])?)?, Refusal::UnknownRelease);
-    assert_eq!(rt; refused_after(alloc, desk, &[], choose(alloc, "r1", 9, &["MIT"])?)?, Refusal::UnknownDocument);
-    assert_eq!(rt; refused_after(alloc, desk, &[], choose(alloc, "r1", 1, &["MIT"])?)?, Refusal::NotShipped);
+    assert_eq!(rt;
+        refused_after(alloc, desk, &[], load(alloc, "a =")?)?,
+        Refusal::BadCatalogue(CatalogueFault::NotToml)
+    );
+    assert_eq!(rt;
+        refused_after(alloc, desk, &[], import(alloc, b"SPDXID")?)?,
+        Refusal::BadDocument(DocumentFault::NoColon(2))
+    );
+    assert_eq!(rt;
+        refused_after(alloc, desk, &[], open(alloc, "a b")?)?,
+        Refusal::BadName
+    );
+    assert_eq!(rt;
+        refused_after(alloc, desk, &[], open(alloc, "r1")?)?,
+        Refusal::UnknownForm
+    );
+    assert_eq!(rt;
+        refused_after(alloc, desk, &[], attach(alloc, "r1", 9)?)?,
+        Refusal::UnknownRelease
+    );
+    assert_eq!(rt;
+        refused_after(alloc, desk, &[], freeze(alloc, "r1", "2025-02-29")?)?,
+        Refusal::BadDay
+    );
+    assert_eq!(rt;
+        refused_after(alloc, desk, &[], freeze(alloc, "r1", "2025-02-28")?)?,
+        Refusal::UnknownRelease
+    );
+    assert_eq!(rt;
+        refused_after(alloc, desk, &[], meet(alloc, 1)?)?,
+        Refusal::UnknownDuty
+    );
+    let opened = vec![in alloc;
+        load(alloc, "one")?,
+        import(alloc, b"d1")?,
+        open(alloc, "r1")?,
+    ]?;
+    assert_eq!(rt;
+        refused_after(alloc, desk, opened.as_slice(), open(alloc, "r1")?)?,
+        Refusal::NameTaken
+    );
+    assert_eq!(rt;
+        refused_after(alloc, desk, &[], import(alloc, b"d1 again")?)?,
+        Refusal::NamespaceTaken { document: 1 }
+    );
+    assert_eq!(rt;
+        refused_after(alloc, desk, &[], attach(alloc, "r1", 2)?)?,
+        Refusal::UnknownDocument
+    );
+    assert_eq!(rt;
+        refused_after(alloc, desk, &[], freeze(alloc, "r1", "2025-03-03")?)?,
+        Refusal::EmptyRelease
+    );
+    assert_eq!(rt;
+        refused_after(
+            alloc,
+            desk,
+            &[],
+            choose(alloc, "r9", 1, &["MIT", "MIT AND"])?
+        )?,
+        Refusal::BadTerm(1)
+    );
+    assert_eq!(rt;
+        refused_after(alloc, desk, &[], choose(alloc, "r9", 1, &["MIT"])?)?,
+        Refusal::UnknownRelease
+    );
+    assert_eq!(rt;
+        refused_after(alloc, desk, &[], choose(alloc, "r1", 9, &["MIT"])?)?,
+        Refusal::UnknownDocument
+    );
+    assert_eq!(rt;
+        refused_after(alloc, desk, &[], choose(alloc, "r1", 1, &["MIT"])?)?,
+        Refusal::NotShipped
+    );
     let attached = vec![in alloc; attach(alloc, "r1", 1)?]?;
-    assert_eq!(rt; refused_after(alloc, desk, attached.as_slice(), attach(alloc, "r1", 1)?)?, Refusal::AlreadyAttached);
-    assert_eq!(rt; refused_after(alloc, desk, &[], choose(alloc, "r1", 1, &[])?)?, Refusal::NotEnough);
-    assert_eq!(rt; refused_after(alloc, desk, &[], choose(alloc, "r1", 1, &["MIT", "Zlib"])?)?, Refusal::NotMinimal { term: text(alloc, "zlib")? });
+    assert_eq!(rt;
+        refused_after(alloc, desk, attached.as_slice(), attach(alloc, "r1", 1)?)?,
+        Refusal::AlreadyAttached
+    );
+    assert_eq!(rt;
+        refused_after(alloc, desk, &[], choose(alloc, "r1", 1, &[])?)?,
+        Refusal::NotEnough
+    );
+    assert_eq!(rt;
+        refused_after(alloc, desk, &[], choose(alloc, "r1", 1, &["MIT", "Zlib"])?)?,
+        Refusal::NotMinimal {
+            term: text(alloc, "zlib")?
+        }
+    );
     let no_choice = Refusal::NoChoice {
         document: 1,
         package_id: text(alloc, "SPDXRef-p")?,
     };
-    assert_eq!(rt; refused_after(alloc, desk, &[], freeze(alloc, "r1", "2025-03-03")?)?, no_choice);
-    let frozen = vec![in alloc; choose(alloc, "r1", 1, &["MIT"])?, freeze(alloc, "r1", "2025-03-03")?]?;
-    assert_eq!(rt; refused_after(alloc, desk, frozen.as_slice(), freeze(alloc, "r1", "2025-03-03")?)?, Refusal::ReleaseState(ReleaseState::Frozen));
+    assert_eq!(rt;
+        refused_after(alloc, desk, &[], freeze(alloc, "r1", "2025-03-03")?)?,
+        no_choice
+    );
+    let frozen = vec![in alloc;
+        choose(alloc, "r1", 1, &["MIT"])?,
+        freeze(alloc, "r1", "2025-03-03")?,
+    ]?;
+    assert_eq!(rt;
+        refused_after(
+            alloc,
+            desk,
+            frozen.as_slice(),
+            freeze(alloc, "r1", "2025-03-03")?
+        )?,
+        Refusal::ReleaseState(ReleaseState::Frozen)
+    );
     let met = vec![in alloc; meet(alloc, 1)?]?;
-    assert_eq!(rt; refused_after(alloc, desk, met.as_slice(), meet(alloc, 1)?)?, Refusal::DutyState(DutyState::Met));
+    assert_eq!(rt;
+        refused_after(alloc, desk, met.as_slice(), meet(alloc, 1)?)?,
+        Refusal::DutyState(DutyState::Met)
+    );
     Ok(())
 }
 
@@ -365,8 +452,7 @@ fn walks(rt: HostRuntime) -> Result<(), Fail> {
     let alloc = rt.alloc();
     let mut desk = TableDesk::new(alloc, Given);
     let desk = &mut desk;
-    let before = vec![
-        in alloc;
+    let before = vec![in alloc;
         load(alloc, "one")?,
         import(alloc, b"reference")?,
         import(alloc, b"zlib")?,
@@ -384,18 +470,32 @@ fn walks(rt: HostRuntime) -> Result<(), Fail> {
         document: 1,
         reference: text(alloc, "LicenseRef-1")?,
     };
-    assert_eq!(rt; refused_after(alloc, desk, before.as_slice(), freeze(alloc, "r1", "2025-03-03")?)?, not_adopted);
+    assert_eq!(rt;
+        refused_after(
+            alloc,
+            desk,
+            before.as_slice(),
+            freeze(alloc, "r1", "2025-03-03")?
+        )?,
+        not_adopted
+    );
     let no_rule = Refusal::NoRule {
         document: 2,
         package_id: text(alloc, "SPDXRef-p")?,
         term: text(alloc, "zlib")?,
     };
-    assert_eq!(rt; refused_after(alloc, desk, &[], freeze(alloc, "r2", "2025-03-03")?)?, no_rule);
+    assert_eq!(rt;
+        refused_after(alloc, desk, &[], freeze(alloc, "r2", "2025-03-03")?)?,
+        no_rule
+    );
     let no_conclusion = Refusal::NoConclusion {
         document: 3,
         package_id: text(alloc, "SPDXRef-p")?,
     };
-    assert_eq!(rt; refused_after(alloc, desk, &[], freeze(alloc, "r3", "2025-03-03")?)?, no_conclusion);
+    assert_eq!(rt;
+        refused_after(alloc, desk, &[], freeze(alloc, "r3", "2025-03-03")?)?,
+        no_conclusion
+    );
     assert_eq!(rt; totals(alloc, desk, "r1")?.raised, 0);
     Ok(())
 }
@@ -405,8 +505,7 @@ fn walks(rt: HostRuntime) -> Result<(), Fail> {
 fn nothing_owed(rt: HostRuntime) -> Result<(), Fail> {
     let alloc = rt.alloc();
     let mut desk = TableDesk::new(alloc, Given);
-    let commands = vec![
-        in alloc;
+    let commands = vec![in alloc;
         load(alloc, "none")?,
         import(alloc, b"d1")?,
         open(alloc, "r1")?,
@@ -427,7 +526,12 @@ fn full(rt: HostRuntime) -> Result<(), Fail> {
     for _ in 0..4096 {
         assert!(rt; is_same(&desk.apply(&load(alloc, "one")?)?, &Answer::Revision(0)) == false);
     }
-    assert!(rt; is_same(&desk.apply(&load(alloc, "one")?)?, &Answer::Refused(Refusal::Full(Limit::Revisions))));
+    assert!(rt;
+        is_same(
+            &desk.apply(&load(alloc, "one")?)?,
+            &Answer::Refused(Refusal::Full(Limit::Revisions))
+        )
+    );
     Ok(())
 }
 

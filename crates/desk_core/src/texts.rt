@@ -37,12 +37,7 @@ pub trait Texts {
         ensures { (w : Readings) → are_right w → IfOk result (λ reference. reference ≡ w.reference term.now) };
 
     /// Whether a text is a licence expression.
-    fn is_expression(
-        &self,
-        alloc: Global,
-        profile: Profile,
-        text: &str,
-    ) -> Result<bool, AllocError>
+    fn is_expression(&self, alloc: Global, profile: Profile, text: &str) -> Result<bool, AllocError>
         ensures { (w : Readings) → are_right w → IfOk result (λ is. is ≡ w.is_expression profile text.now) };
 
     /// What printed terms are to the expression that a text spells.

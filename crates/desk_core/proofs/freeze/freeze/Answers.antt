@@ -14,8 +14,8 @@ returns-clause-answer g c =
     let t1 : Tables = g.S.Store.rows c.release.new.self in
     let found : release_found t c.args.release.now ≡ Some c.in-Some-2.row = ap (release_found t) (sym c.as_str.ensures) ∙ (sym c.in_ok-row.ensures.found ∙ c.in-Some-2.is) in
     λ w right. IfOk-weaker c.freeze_open.result _ _
-      (λ a is. is ∙ frozen_answer w t t1 c.args.release.now c.args.day.now c.in-Some-2.row c.in_ok-row.ensures.kept found c.in-Some.ensures.0 c.in_default-unready.ensures)
-      (c.freeze_open.ensures.answer w right)
+    (λ a is. is ∙ frozen_answer w t t1 c.args.release.now c.args.day.now c.in-Some-2.row c.in_ok-row.ensures.kept found c.in-Some.ensures.0 c.in_default-unready.ensures)
+    (c.freeze_open.ensures.answer w right)
 
 pub returns-clause-ok : goal.returns-clause-ok
 returns-clause-ok g c =
@@ -23,6 +23,6 @@ returns-clause-ok g c =
     let t1 : Tables = g.S.Store.rows c.release.new.self in
     let found : release_found t c.args.release.now ≡ Some c.in-Some-2.row = ap (release_found t) (sym c.as_str.ensures) ∙ (sym c.in_ok-row.ensures.found ∙ c.in-Some-2.is) in
     λ w right. both_ok c.freeze_open.result _ _ _ (c.freeze_open.ensures.answer w right) (c.freeze_open.ensures.ok w right)
-      (λ a is rows. rows ∙ (frozen_rows w t t1 c.args.release.now c.args.day.now c.in-Some.day c.in-Some-2.row a c.in_ok-row.ensures.kept found c.in-Some.ensures.1
-        ∙ ap (λ b. noted_by b (change_for w t (Freeze c.args.release.now c.args.day.now)) t)
-            (is ∙ frozen_answer w t t1 c.args.release.now c.args.day.now c.in-Some-2.row c.in_ok-row.ensures.kept found c.in-Some.ensures.0 c.in_default-unready.ensures)))
+    (λ a is rows. rows ∙ (frozen_rows w t t1 c.args.release.now c.args.day.now c.in-Some.day c.in-Some-2.row a c.in_ok-row.ensures.kept found c.in-Some.ensures.1
+    ∙ ap (λ b. noted_by b (change_for w t (Freeze c.args.release.now c.args.day.now)) t)
+    (is ∙ frozen_answer w t t1 c.args.release.now c.args.day.now c.in-Some-2.row c.in_ok-row.ensures.kept found c.in-Some.ensures.0 c.in_default-unready.ensures)))

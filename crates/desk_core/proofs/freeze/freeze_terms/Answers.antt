@@ -20,16 +20,16 @@ loop-term-preserved g c =
     record {
       kept = c.in_ok-rule.ensures.kept ∙ c.loop-term.invariant.kept;
       gathered = λ w right.
-        let found : Some c.in-Some.rule ≡ rule_adopted w rules form term =
+          let found : Some c.in-Some.rule ≡ rule_adopted w rules form term =
           sym c.in-Some.is ∙ (c.in_ok-rule.ensures.found w right ∙ ap (λ (u : Tables). rule_adopted w (rules_found u) form term) c.loop-term.invariant.kept) in
-        let on : WalksOn w rules form c.args.release.now c.args.row.now (drop i terms) rest term c.in-Some.rule =
+          let on : WalksOn w rules form c.args.release.now c.args.row.now (drop i terms) rest term c.in-Some.rule =
           walks_on w rules form c.args.release.now c.args.row.now (drop i terms) rest term c.in-Some.rule split found in
-        let before = c.loop-term.invariant.gathered w right in
-        record {
-          unruled = sym on.unruled ∙ before.unruled;
-          frozen = more_of c.loop-term.gathered.frozen.items c.add_term.new.gathered.frozen.items (frozen_term c.args.release.now c.args.row.now term c.in-Some.rule ∷ [])
-            (frozen_for_terms w rules form c.args.release.now c.args.row.now (drop i terms)) (frozen_for_terms w rules form c.args.release.now c.args.row.now rest) _ c.in-Ok.ensures.frozen on.frozen before.frozen;
-          owed = more_of c.loop-term.gathered.owed.items c.add_term.new.gathered.owed.items _
-            (owed_for_terms w rules form c.args.release.now c.args.row.now (drop i terms)) (owed_for_terms w rules form c.args.release.now c.args.row.now rest) _ c.in-Ok.ensures.owed on.owed before.owed;
-        };
+          let before = c.loop-term.invariant.gathered w right in
+          record {
+            unruled = sym on.unruled ∙ before.unruled;
+            frozen = more_of c.loop-term.gathered.frozen.items c.add_term.new.gathered.frozen.items (frozen_term c.args.release.now c.args.row.now term c.in-Some.rule ∷ [])
+                (frozen_for_terms w rules form c.args.release.now c.args.row.now (drop i terms)) (frozen_for_terms w rules form c.args.release.now c.args.row.now rest) _ c.in-Ok.ensures.frozen on.frozen before.frozen;
+            owed = more_of c.loop-term.gathered.owed.items c.add_term.new.gathered.owed.items _
+                (owed_for_terms w rules form c.args.release.now c.args.row.now (drop i terms)) (owed_for_terms w rules form c.args.release.now c.args.row.now rest) _ c.in-Ok.ensures.owed on.owed before.owed;
+          };
     }
