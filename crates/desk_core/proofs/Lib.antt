@@ -7,3 +7,4 @@ mod Freezes
 mod Days
 mod PutAll
 mod Founds
+mod Ledgering

@@ -9,6 +9,7 @@ pub mod desk;
 pub mod document;
 pub mod duty;
 pub mod freeze;
+pub mod ledger;
 pub mod memory;
 pub mod release;
 pub mod store;
