@@ -6,12 +6,13 @@ ghost use Rattle.std.specs.Option.{option_copied, option_map};
 ghost use Rattle.std.specs.List.{list_any};
 ghost use Rattle.std.specs.Str.{bytes_eq};
 ghost use Rattle.desk_rows.specs.Lists.{put, put_all, updated};
-ghost use Rattle.desk_rows.specs.Keys.{below_by, release_below, attached_order, choice_order, frozen_order, change_below, is_release, is_document, has_namespace, is_package, is_shipped_by, is_attached_to, is_attachment, is_choice_of, is_duty, is_duty_of, is_change_of, is_rule, is_rule_of};
+ghost use Rattle.desk_rows.specs.Keys.{below_by, release_below, attached_order, choice_order, frozen_order, is_release, is_document, has_namespace, is_package, is_shipped_by, is_attached_to, is_attachment, is_choice_of, is_duty, is_duty_of, is_change_of, is_rule, is_rule_of};
 ghost use Rattle.desk_rows.specs.Tables.{Tables, applied, with_release_state, with_duty_state, is_other_choice};
 ghost use Rattle.desk_rows.specs.declared.state.ReleaseState.TheVariants.{Frozen};
-ghost use Rattle.desk_rows.specs.Queries.{last_day};
+ghost use Rattle.desk_core.specs.Ledgers.{all_of};
 ghost use Rattle.desk_history.specs.FromTables.{rule_of};
 
+use crate::ledger::Ledger;
 use crate::store::Store;
 use desk_base::{Day, Items, Text};
 use desk_rows::{
@@ -124,12 +125,6 @@ fn find_package<'a>(rows: &'a Vec<PackageRow>, document: u64, id: &str) -> Optio
     rows.iter().find(|row| u64::from(row.document) == document && row.id.as_str() == id)
 }
 
-fn find_duty(rows: &Vec<DutyRow>, number: u64) -> Option<&DutyRow>
-    ensures { option_copied result ≡ find (is_duty number) rows.now.items }
-{
-    rows.iter().find(|row| u64::from(row.number) == number)
-}
-
 fn find_rule<'a>(rows: &'a [RuleRow], revision: u64, term: &str, form: &str) -> Option<&'a RuleRow>
     ensures { option_map rule_of (option_copied result) ≡ find (is_rule term.now form.now) (map rule_of (filter (is_rule_of revision) rows.now)) }
 {
@@ -209,26 +204,6 @@ fn duties_of(alloc: Global, rows: &[DutyRow], release: &str) -> Result<Vec<DutyR
     Ok(found)
 }
 
-fn last_day(rows: &[ChangeRow], duty: u32) -> Option<Day>
-    ensures { result ≡ last_day (filter (is_change_of duty) rows.now) }
-{
-    let mut day = None;
-    for row in rows {
-        if row.duty == duty {
-            day = Some(row.day);
-        }
-    }
-    day
-}
-
-fn step_count(rows: &[ChangeRow], duty: u64) -> u64
-    ensures { result ≡ length (filter (is_change_of duty) rows.now) }
-{
-    rows.iter()
-        .filter(|row| u64::from(row.duty) == duty)
-        .count() as u64
-}
-
 fn attached_count(rows: &[AttachedRow], release: &str) -> u64
     ensures { result ≡ length (filter (is_attached_to release.now) rows.now) }
 {
@@ -305,14 +280,6 @@ impl Keyed for FrozenRow {
     }
 }
 
-impl Keyed for ChangeRow {
-    ghost below = { change_below };
-
-    fn is_below(&self, other: &Self) -> bool {
-        self.duty < other.duty || (self.duty == other.duty && self.step < other.step)
-    }
-}
-
 fn place_of<R: Keyed>(rows: &Vec<R>, row: &R) -> usize
     ensures within { result ≤ vec_len rows.now }
     ensures place { put R.below row.now rows.now.items ≡ insert rows.now.items result row.now }
@@ -378,23 +345,6 @@ fn freeze_release(rows: &mut Vec<ReleaseRow>, name: &str, revision: u64)
     }
 }
 
-/// The duty as it is after the move of the one with this number.
-fn move_one(row: &mut DutyRow, number: u32, state: DutyState)
-    ensures { row.new ≡ (if is_duty number row.old then with_duty_state state row.old else row.old) }
-{
-    if row.number == number {
-        row.state = state;
-    }
-}
-
-fn move_duty(rows: &mut Vec<DutyRow>, number: u32, state: DutyState)
-    ensures { rows.new.items ≡ updated (is_duty number) (with_duty_state state) rows.old.items }
-{
-    for row in rows.iter_mut() {
-        move_one(row, number, state);
-    }
-}
-
 fn is_other(row: &ChoiceRow, release: &Text, document: u32, package_id: &Text) -> bool
     ensures { result ≡ is_other_choice release.now document package_id.now row.now }
 {
@@ -425,8 +375,7 @@ pub struct MemStore {
     attached: Vec<AttachedRow>,
     choices: Vec<ChoiceRow>,
     frozen: Vec<FrozenRow>,
-    duties: Vec<DutyRow>,
-    changes: Vec<ChangeRow>,
+    ledger: Ledger,
 }
 
 impl MemStore {
@@ -449,8 +398,7 @@ impl MemStore {
             attached: Vec::new(alloc),
             choices: Vec::new(alloc),
             frozen: Vec::new(alloc),
-            duties: Vec::new(alloc),
-            changes: Vec::new(alloc),
+            ledger: Ledger::new(alloc),
         }
     }
 
@@ -529,16 +477,8 @@ impl MemStore {
         ensures fault { IfErr result (λ fault. fault ≡ Fault.Memory) }
     {
         let frozen = frozen.into_vec();
-        let mut duties = duties.into_vec();
-        let mut changes = changes.into_vec();
         reserve(&mut self.frozen, frozen.len())?;
-        reserve(&mut self.duties, duties.len())?;
-        let Ok(()) = self.changes.append(&mut changes) else {
-            return Err(Fault::Memory);
-        };
-        let Ok(()) = self.duties.append(&mut duties) else {
-            unreachable!()
-        };
+        self.ledger.append(duties.into_vec(), changes.into_vec())?;
         put_rows(&mut self.frozen, frozen);
         freeze_release(&mut self.releases, release.as_str(), revision);
         Ok(())
@@ -549,15 +489,13 @@ impl MemStore {
         ensures err { OnErr result (⟦<MemStore as Store>⟧.rows self.new ≡ ⟦<MemStore as Store>⟧.rows self.old) }
         ensures fault { IfErr result (λ fault. fault ≡ Fault.Memory) }
     {
-        reserve(&mut self.changes, 1)?;
-        move_duty(&mut self.duties, duty, state);
-        put_row(&mut self.changes, change);
+        self.ledger.move_to(duty, state, change)?;
         Ok(())
     }
 }
 
 impl Store for MemStore {
-    ghost rows = { λ s. record { catalogue = s.catalogue.items; forms = s.forms; rule = s.rules.items; document = s.documents.items; packages = s.packages.items; extracted = s.extracted.items; conclusion = []; adoption = []; releases = s.releases.items; attached = s.attached.items; choice = s.choices.items; frozen = s.frozen.items; duty = s.duties.items; changes = s.changes.items } };
+    ghost rows = { λ s. record { catalogue = s.catalogue.items; forms = s.forms; rule = s.rules.items; document = s.documents.items; packages = s.packages.items; extracted = s.extracted.items; conclusion = []; adoption = []; releases = s.releases.items; attached = s.attached.items; choice = s.choices.items; frozen = s.frozen.items; duty = s.ledger.duties.items; changes = all_of s.ledger.groups.items } };
 
     ghost tells = { λ _. ⊥ };
 
@@ -656,7 +594,7 @@ impl Store for MemStore {
     }
 
     fn duty(&mut self, number: u64) -> Result<Option<DutyRow>, Fault> {
-        match find_duty(&self.duties, number) {
+        match self.ledger.find(number) {
             Some(row) => match duty_copy(row) {
                 Ok(row) => Ok(Some(row)),
                 Err(_) => Err(Fault::Memory),
@@ -666,22 +604,22 @@ impl Store for MemStore {
     }
 
     fn duty_count(&mut self) -> Result<u64, Fault> {
-        Ok(self.duties.len() as u64)
+        Ok(self.ledger.len() as u64)
     }
 
     fn duties_of(&mut self, release: &str) -> Result<Vec<DutyRow>, Fault> {
-        match duties_of(self.alloc, self.duties.as_slice(), release) {
+        match duties_of(self.alloc, self.ledger.duties(), release) {
             Ok(rows) => Ok(rows),
             Err(_) => Err(Fault::Memory),
         }
     }
 
     fn steps(&mut self, duty: u64) -> Result<u64, Fault> {
-        Ok(step_count(self.changes.as_slice(), duty))
+        Ok(self.ledger.steps(duty))
     }
 
     fn last_day(&mut self, duty: u32) -> Result<Option<Day>, Fault> {
-        Ok(last_day(self.changes.as_slice(), duty))
+        Ok(self.ledger.last_day(u64::from(duty)))
     }
 
     fn commit(&mut self, change: Change) -> Result<(), Fault> {
