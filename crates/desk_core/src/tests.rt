@@ -2,12 +2,13 @@
 
 use crate::desk::{Desk, MemDesk, TableDesk, run};
 use crate::texts::Texts;
-use desk_base::{Items, Text};
+use desk_base::{Day, Items, Text};
 use desk_rows::{
-    Answer, Catalogue, CatalogueFault, Command, Document, DocumentFault, DutyState, Fault, Limit,
-    Outcome, Package, Profile, Query, Refusal, ReleaseState, Rule, Totals, Verdict,
+    Answer, Catalogue, CatalogueFault, Command, Document, DocumentFault, DutyLine, DutyState, Limit, Outcome, Package, Profile, Query,
+    Refusal, ReleaseState, Rule, Totals, Verdict,
 };
 use std::alloc::{AllocError, Global};
+use std::process::Abort;
 use std::test::Fail;
 
 /// Readings that the tests give: a document is named by its bytes, a catalogue by its text.
@@ -26,13 +27,13 @@ fn texts(alloc: Global, words: &[&str]) -> Result<Items<Text>, AllocError> {
     Ok(items)
 }
 
-fn mit_rule(alloc: Global, codes: &[&str]) -> Result<Items<Rule>, AllocError> {
+fn mit_rule(alloc: Global, codes: Items<Text>) -> Result<Items<Rule>, AllocError> {
     let mut rules = Items::new(alloc);
     rules.push(Rule {
         term: text(alloc, "mit")?,
         form: text(alloc, "binary")?,
         spelled: text(alloc, "MIT")?,
-        codes: texts(alloc, codes)?,
+        codes,
     })?;
     Ok(rules)
 }
@@ -50,6 +51,30 @@ fn package_of(alloc: Global, id: &str, concluded: &str) -> Result<Items<Package>
     Ok(packages)
 }
 
+fn codes_of(alloc: Global, body: &str) -> Result<Option<Items<Text>>, AllocError> {
+    match body {
+        "one" => Ok(Some(texts(alloc, &["include-text"])?)),
+        "two" => Ok(Some(texts(alloc, &["give-notice", "include-text"])?)),
+        "none" => Ok(Some(Items::new(alloc))),
+        _ => Ok(None),
+    }
+}
+
+fn catalogue_with(alloc: Global, codes: Items<Text>) -> Result<Catalogue, AllocError> {
+    Ok(Catalogue {
+        forms: texts(alloc, &["binary"])?,
+        rules: mit_rule(alloc, codes)?,
+    })
+}
+
+fn document_of(alloc: Global, namespace: &str, concluded: &str) -> Result<Document, AllocError> {
+    Ok(Document {
+        namespace: text(alloc, namespace)?,
+        packages: package_of(alloc, "SPDXRef-p", concluded)?,
+        references: Items::new(alloc),
+    })
+}
+
 impl Texts for Given {
     ghost are_right = { λ _. ⊥ };
 
@@ -58,16 +83,10 @@ impl Texts for Given {
         alloc: Global,
         body: &str,
     ) -> Result<Result<Catalogue, CatalogueFault>, AllocError> {
-        let codes: &[&str] = match body {
-            "one" => &["include-text"],
-            "two" => &["give-notice", "include-text"],
-            "none" => &[],
-            _ => return Ok(Err(CatalogueFault::NotToml)),
-        };
-        Ok(Ok(Catalogue {
-            forms: texts(alloc, &["binary"])?,
-            rules: mit_rule(alloc, codes)?,
-        }))
+        match codes_of(alloc, body)? {
+            Some(codes) => Ok(Ok(catalogue_with(alloc, codes)?)),
+            None => Ok(Err(CatalogueFault::NotToml)),
+        }
     }
 
     fn document(
@@ -75,19 +94,14 @@ impl Texts for Given {
         alloc: Global,
         bytes: &[u8],
     ) -> Result<Result<Document, DocumentFault>, AllocError> {
-        let (namespace, concluded) = match bytes {
-            b"d1" => ("https://example.org/d1", "MIT"),
-            b"d1 again" => ("https://example.org/d1", "MIT"),
-            b"reference" => ("https://example.org/d2", "LicenseRef-1"),
-            b"zlib" => ("https://example.org/d3", "Zlib"),
-            b"none" => ("https://example.org/d4", "NONE"),
-            _ => return Ok(Err(DocumentFault::NoColon(2))),
-        };
-        Ok(Ok(Document {
-            namespace: text(alloc, namespace)?,
-            packages: package_of(alloc, "SPDXRef-p", concluded)?,
-            references: Items::new(alloc),
-        }))
+        match bytes {
+            b"d1" => Ok(Ok(document_of(alloc, "https://example.org/d1", "MIT")?)),
+            b"d1 again" => Ok(Ok(document_of(alloc, "https://example.org/d1", "MIT")?)),
+            b"reference" => Ok(Ok(document_of(alloc, "https://example.org/d2", "LicenseRef-1")?)),
+            b"zlib" => Ok(Ok(document_of(alloc, "https://example.org/d3", "Zlib")?)),
+            b"none" => Ok(Ok(document_of(alloc, "https://example.org/d4", "NONE")?)),
+            _ => Ok(Err(DocumentFault::NoColon(2))),
+        }
     }
 
     fn term(&self, alloc: Global, word: &str) -> Result<Option<Text>, AllocError> {
@@ -194,363 +208,379 @@ fn meet(alloc: Global, duty: u64) -> Result<Command, AllocError> {
     })
 }
 
-fn totals(alloc: Global, desk: &mut MemDesk<Given>, release: &str) -> Result<Totals, Fail> {
-    let query = Query::Totals {
-        release: text(alloc, release)?,
-    };
-    match desk.ask(&query)? {
-        Answer::Totals(totals) => Ok(totals),
-        _ => Err(Fail::from("no totals")),
-    }
-}
-
-fn is_answer(outcome: Option<&Outcome>, wanted: &Answer) -> bool {
-    match outcome {
-        Some(Outcome::Answered(answer)) => is_same(answer, wanted),
-        _ => false,
-    }
-}
-
 fn is_same(answer: &Answer, wanted: &Answer) -> bool {
     match (answer, wanted) {
         (Answer::Revision(a), Answer::Revision(b)) => a == b,
         (Answer::Imported(a), Answer::Imported(b)) => a == b,
         (Answer::Again(a), Answer::Again(b)) => a == b,
         (Answer::Done, Answer::Done) => true,
-        (Answer::Frozen { first, count }, Answer::Frozen { first: f, count: c }) => first == f
-            && count == c,
+        (Answer::Frozen { first, count }, Answer::Frozen { first: f, count: c }) => first == f && count == c,
         (Answer::Refused(a), Answer::Refused(b)) => a == b,
         _ => false,
     }
 }
 
-fn first_release(alloc: Global) -> Result<Vec<Command>, AllocError> {
-    let commands = vec![in alloc;
-        load(alloc, "one")?,
-        import(alloc, b"d1")?,
-        open(alloc, "r1")?,
-        attach(alloc, "r1", 1)?,
-        choose(alloc, "r1", 1, &["MIT"])?,
-        freeze(alloc, "r1", "2025-03-03")?,
-        meet(alloc, 1)?,
-    ]?;
-    Ok(commands)
+/// Rows of commands, each with what it is answered.
+#[derive(Clone, Copy)]
+enum Row {
+    /// The first release, a repeated import, and a later catalogue.
+    FirstRelease,
+    /// Refusals before anything stands.
+    Nothing,
+    /// Refusals round a release.
+    Release,
+    /// What stands against a freeze.
+    Walk,
+    /// A rule without duties.
+    NoDuties,
 }
 
-/// The first release, a repeated import, and a later catalogue, which leaves the duties that were raised.
-#[test]
-fn the_first_release(rt: HostRuntime) -> Result<(), Fail> {
-    let alloc = rt.alloc();
-    let mut desk = TableDesk::new(alloc, Given);
-    let commands = first_release(alloc)?;
-    let outcomes = run(alloc, &mut desk, commands.as_slice())?;
-    let wanted = [
-        Answer::Revision(1),
-        Answer::Imported(1),
-        Answer::Done,
-        Answer::Done,
-        Answer::Done,
-        Answer::Frozen { first: 1, count: 1 },
-        Answer::Done,
-    ];
-    assert_eq!(rt; outcomes.len(), wanted.len());
-    for (i, answer) in wanted.iter().enumerate() {
-        assert!(rt; is_answer(outcomes.get(i), answer), "{i}: {answer:?}");
-    }
-    let one_met = Totals {
-        raised: 1,
-        still_open: 0,
-        met: 1,
-        waived: 0,
-        withdrawn: 0,
-    };
-    assert_eq!(rt; totals(alloc, &mut desk, "r1")?, one_met);
-    let more = vec![in alloc;
-        import(alloc, b"d1")?,
-        load(alloc, "two")?,
-        open(alloc, "r2")?,
-        attach(alloc, "r2", 1)?,
-        choose(alloc, "r2", 1, &["mit"])?,
-        freeze(alloc, "r2", "2025-03-03")?,
-    ]?;
-    let outcomes = run(alloc, &mut desk, more.as_slice())?;
-    assert!(rt; is_answer(outcomes.get(0), &Answer::Again(1)));
-    assert!(rt; is_answer(outcomes.get(1), &Answer::Revision(2)));
-    assert!(rt; is_answer(outcomes.get(5), &Answer::Frozen { first: 2, count: 2 }));
-    assert_eq!(rt; totals(alloc, &mut desk, "r1")?, one_met);
-    Ok(())
-}
-
-/// The line of the first release's duty.
-#[test]
-fn the_duties_of_a_release(rt: HostRuntime) -> Result<(), Fail> {
-    let alloc = rt.alloc();
-    let mut desk = TableDesk::new(alloc, Given);
-    let commands = first_release(alloc)?;
-    let _ = run(alloc, &mut desk, commands.as_slice())?;
-    let query = Query::Duties {
-        release: text(alloc, "r1")?,
-    };
-    let Answer::Duties(lines) = desk.ask(&query)? else {
-        return Err(Fail::from("no duties"));
-    };
-    let [line] = lines.as_slice() else {
-        return Err(Fail::from("not one duty"));
-    };
-    assert_eq!(rt; (line.number, line.document), (1, 1));
-    assert_eq!(rt; line.package_id.as_str(), "SPDXRef-p");
-    assert_eq!(rt; line.term.as_str(), "mit");
-    assert_eq!(rt; line.rule.as_str(), "MIT");
-    assert_eq!(rt; line.code.as_str(), "include-text");
-    assert_eq!(rt; line.state, DutyState::Met);
-    let day = line.day.ok_or("no day")?;
-    assert_eq!(rt; day.as_bytes(), b"2025-03-04".as_slice());
-    Ok(())
-}
-
-/// What a command is refused after these.
-fn refused_after(
-    alloc: Global,
-    desk: &mut MemDesk<Given>,
-    before: &[Command],
-    command: Command,
-) -> Result<Refusal, Fail> {
-    let _ = run(alloc, desk, before)?;
-    match desk.apply(&command)? {
-        Answer::Refused(refusal) => Ok(refusal),
-        _ => Err(Fail::from("not refused")),
+fn first_release(alloc: Global, i: usize) -> Result<Command, AllocError> {
+    match i {
+        0 => load(alloc, "one"),
+        1 => import(alloc, b"d1"),
+        2 => open(alloc, "r1"),
+        3 => attach(alloc, "r1", 1),
+        4 => choose(alloc, "r1", 1, &["MIT"]),
+        5 => freeze(alloc, "r1", "2025-03-03"),
+        6 => meet(alloc, 1),
+        7 => import(alloc, b"d1"),
+        8 => load(alloc, "two"),
+        9 => open(alloc, "r2"),
+        10 => attach(alloc, "r2", 1),
+        11 => choose(alloc, "r2", 1, &["mit"]),
+        _ => freeze(alloc, "r2", "2025-03-03"),
     }
 }
 
-/// Each refusal, where two would apply the first of the order.
-#[test]
-fn refusals(rt: HostRuntime) -> Result<(), Fail> {
-    let alloc = rt.alloc();
-    let mut desk = TableDesk::new(alloc, Given);
-    let desk = &mut desk;
-    assert_eq!(rt;
-        refused_after(alloc, desk, &[], load(alloc, "a =")?)?,
-        Refusal::BadCatalogue(CatalogueFault::NotToml)
-    );
-    assert_eq!(rt;
-        refused_after(alloc, desk, &[], import(alloc, b"SPDXID")?)?,
-        Refusal::BadDocument(DocumentFault::NoColon(2))
-    );
-    assert_eq!(rt;
-        refused_after(alloc, desk, &[], open(alloc, "a b")?)?,
-        Refusal::BadName
-    );
-    assert_eq!(rt;
-        refused_after(alloc, desk, &[], open(alloc, "r1")?)?,
-        Refusal::UnknownForm
-    );
-    assert_eq!(rt;
-        refused_after(alloc, desk, &[], attach(alloc, "r1", 9)?)?,
-        Refusal::UnknownRelease
-    );
-    assert_eq!(rt;
-        refused_after(alloc, desk, &[], freeze(alloc, "r1", "2025-02-29")?)?,
-        Refusal::BadDay
-    );
-    assert_eq!(rt;
-        refused_after(alloc, desk, &[], freeze(alloc, "r1", "2025-02-28")?)?,
-        Refusal::UnknownRelease
-    );
-    assert_eq!(rt;
-        refused_after(alloc, desk, &[], meet(alloc, 1)?)?,
-        Refusal::UnknownDuty
-    );
-    let opened = vec![in alloc;
-        load(alloc, "one")?,
-        import(alloc, b"d1")?,
-        open(alloc, "r1")?,
-    ]?;
-    assert_eq!(rt;
-        refused_after(alloc, desk, opened.as_slice(), open(alloc, "r1")?)?,
-        Refusal::NameTaken
-    );
-    assert_eq!(rt;
-        refused_after(alloc, desk, &[], import(alloc, b"d1 again")?)?,
-        Refusal::NamespaceTaken { document: 1 }
-    );
-    assert_eq!(rt;
-        refused_after(alloc, desk, &[], attach(alloc, "r1", 2)?)?,
-        Refusal::UnknownDocument
-    );
-    assert_eq!(rt;
-        refused_after(alloc, desk, &[], freeze(alloc, "r1", "2025-03-03")?)?,
-        Refusal::EmptyRelease
-    );
-    assert_eq!(rt;
-        refused_after(
-            alloc,
-            desk,
-            &[],
-            choose(alloc, "r9", 1, &["MIT", "MIT AND"])?
-        )?,
-        Refusal::BadTerm(1)
-    );
-    assert_eq!(rt;
-        refused_after(alloc, desk, &[], choose(alloc, "r9", 1, &["MIT"])?)?,
-        Refusal::UnknownRelease
-    );
-    assert_eq!(rt;
-        refused_after(alloc, desk, &[], choose(alloc, "r1", 9, &["MIT"])?)?,
-        Refusal::UnknownDocument
-    );
-    assert_eq!(rt;
-        refused_after(alloc, desk, &[], choose(alloc, "r1", 1, &["MIT"])?)?,
-        Refusal::NotShipped
-    );
-    let attached = vec![in alloc; attach(alloc, "r1", 1)?]?;
-    assert_eq!(rt;
-        refused_after(alloc, desk, attached.as_slice(), attach(alloc, "r1", 1)?)?,
-        Refusal::AlreadyAttached
-    );
-    assert_eq!(rt;
-        refused_after(alloc, desk, &[], choose(alloc, "r1", 1, &[])?)?,
-        Refusal::NotEnough
-    );
-    assert_eq!(rt;
-        refused_after(alloc, desk, &[], choose(alloc, "r1", 1, &["MIT", "Zlib"])?)?,
-        Refusal::NotMinimal {
-            term: text(alloc, "zlib")?
-        }
-    );
-    let no_choice = Refusal::NoChoice {
+fn first_release_answer(i: usize) -> Answer {
+    match i {
+        0 => Answer::Revision(1),
+        1 => Answer::Imported(1),
+        5 => Answer::Frozen { first: 1, count: 1 },
+        7 => Answer::Again(1),
+        8 => Answer::Revision(2),
+        12 => Answer::Frozen { first: 2, count: 2 },
+        _ => Answer::Done,
+    }
+}
+
+fn nothing(alloc: Global, i: usize) -> Result<Command, AllocError> {
+    match i {
+        0 => load(alloc, "a ="),
+        1 => import(alloc, b"SPDXID"),
+        2 => open(alloc, "a b"),
+        3 => open(alloc, "r1"),
+        4 => attach(alloc, "r1", 9),
+        5 => freeze(alloc, "r1", "2025-02-29"),
+        6 => freeze(alloc, "r1", "2025-02-28"),
+        7 => choose(alloc, "r9", 1, &["MIT", "MIT AND"]),
+        8 => choose(alloc, "r9", 1, &["MIT"]),
+        _ => meet(alloc, 1),
+    }
+}
+
+fn nothing_answer(i: usize) -> Refusal {
+    match i {
+        0 => Refusal::BadCatalogue(CatalogueFault::NotToml),
+        1 => Refusal::BadDocument(DocumentFault::NoColon(2)),
+        2 => Refusal::BadName,
+        3 => Refusal::UnknownForm,
+        5 => Refusal::BadDay,
+        7 => Refusal::BadTerm(1),
+        9 => Refusal::UnknownDuty,
+        _ => Refusal::UnknownRelease,
+    }
+}
+
+fn release(alloc: Global, i: usize) -> Result<Command, AllocError> {
+    match i {
+        0 => load(alloc, "one"),
+        1 => import(alloc, b"d1"),
+        2 => open(alloc, "r1"),
+        3 => open(alloc, "r1"),
+        4 => import(alloc, b"d1 again"),
+        5 => attach(alloc, "r1", 2),
+        6 => freeze(alloc, "r1", "2025-03-03"),
+        7 => choose(alloc, "r1", 9, &["MIT"]),
+        8 => choose(alloc, "r1", 1, &["MIT"]),
+        9 => attach(alloc, "r1", 1),
+        10 => attach(alloc, "r1", 1),
+        11 => choose(alloc, "r1", 1, &[]),
+        12 => choose(alloc, "r1", 1, &["MIT", "Zlib"]),
+        13 => freeze(alloc, "r1", "2025-03-03"),
+        14 => choose(alloc, "r1", 1, &["MIT"]),
+        15 => freeze(alloc, "r1", "2025-03-03"),
+        16 => freeze(alloc, "r1", "2025-03-03"),
+        17 => meet(alloc, 1),
+        _ => meet(alloc, 1),
+    }
+}
+
+fn no_choice(alloc: Global) -> Result<Refusal, AllocError> {
+    Ok(Refusal::NoChoice {
         document: 1,
         package_id: text(alloc, "SPDXRef-p")?,
-    };
-    assert_eq!(rt;
-        refused_after(alloc, desk, &[], freeze(alloc, "r1", "2025-03-03")?)?,
-        no_choice
-    );
-    let frozen = vec![in alloc;
-        choose(alloc, "r1", 1, &["MIT"])?,
-        freeze(alloc, "r1", "2025-03-03")?,
-    ]?;
-    assert_eq!(rt;
-        refused_after(
-            alloc,
-            desk,
-            frozen.as_slice(),
-            freeze(alloc, "r1", "2025-03-03")?
-        )?,
-        Refusal::ReleaseState(ReleaseState::Frozen)
-    );
-    let met = vec![in alloc; meet(alloc, 1)?]?;
-    assert_eq!(rt;
-        refused_after(alloc, desk, met.as_slice(), meet(alloc, 1)?)?,
-        Refusal::DutyState(DutyState::Met)
-    );
-    Ok(())
+    })
 }
 
-/// What stands against a freeze: no conclusion, a reference without adoption, a term without a rule.
-#[test]
-fn walks(rt: HostRuntime) -> Result<(), Fail> {
-    let alloc = rt.alloc();
-    let mut desk = TableDesk::new(alloc, Given);
-    let desk = &mut desk;
-    let before = vec![in alloc;
-        load(alloc, "one")?,
-        import(alloc, b"reference")?,
-        import(alloc, b"zlib")?,
-        import(alloc, b"none")?,
-        open(alloc, "r1")?,
-        open(alloc, "r2")?,
-        open(alloc, "r3")?,
-        attach(alloc, "r1", 1)?,
-        choose(alloc, "r1", 1, &["LicenseRef-1"])?,
-        attach(alloc, "r2", 2)?,
-        choose(alloc, "r2", 2, &["Zlib"])?,
-        attach(alloc, "r3", 3)?,
-    ]?;
-    let not_adopted = Refusal::NotAdopted {
+fn release_answer(alloc: Global, i: usize) -> Result<Answer, AllocError> {
+    match i {
+        0 => Ok(Answer::Revision(1)),
+        1 => Ok(Answer::Imported(1)),
+        3 => Ok(Answer::Refused(Refusal::NameTaken)),
+        4 => Ok(Answer::Refused(Refusal::NamespaceTaken { document: 1 })),
+        5 => Ok(Answer::Refused(Refusal::UnknownDocument)),
+        6 => Ok(Answer::Refused(Refusal::EmptyRelease)),
+        7 => Ok(Answer::Refused(Refusal::UnknownDocument)),
+        8 => Ok(Answer::Refused(Refusal::NotShipped)),
+        10 => Ok(Answer::Refused(Refusal::AlreadyAttached)),
+        11 => Ok(Answer::Refused(Refusal::NotEnough)),
+        12 => Ok(Answer::Refused(Refusal::NotMinimal { term: text(alloc, "zlib")? })),
+        13 => Ok(Answer::Refused(no_choice(alloc)?)),
+        15 => Ok(Answer::Frozen { first: 1, count: 1 }),
+        16 => Ok(Answer::Refused(Refusal::ReleaseState(ReleaseState::Frozen))),
+        18 => Ok(Answer::Refused(Refusal::DutyState(DutyState::Met))),
+        _ => Ok(Answer::Done),
+    }
+}
+
+fn walk(alloc: Global, i: usize) -> Result<Command, AllocError> {
+    match i {
+        0 => load(alloc, "one"),
+        1 => import(alloc, b"reference"),
+        2 => import(alloc, b"zlib"),
+        3 => import(alloc, b"none"),
+        4 => open(alloc, "r1"),
+        5 => open(alloc, "r2"),
+        6 => open(alloc, "r3"),
+        7 => attach(alloc, "r1", 1),
+        8 => choose(alloc, "r1", 1, &["LicenseRef-1"]),
+        9 => attach(alloc, "r2", 2),
+        10 => choose(alloc, "r2", 2, &["Zlib"]),
+        11 => attach(alloc, "r3", 3),
+        12 => freeze(alloc, "r1", "2025-03-03"),
+        13 => freeze(alloc, "r2", "2025-03-03"),
+        _ => freeze(alloc, "r3", "2025-03-03"),
+    }
+}
+
+fn not_adopted(alloc: Global) -> Result<Refusal, AllocError> {
+    Ok(Refusal::NotAdopted {
         document: 1,
         reference: text(alloc, "LicenseRef-1")?,
-    };
-    assert_eq!(rt;
-        refused_after(
-            alloc,
-            desk,
-            before.as_slice(),
-            freeze(alloc, "r1", "2025-03-03")?
-        )?,
-        not_adopted
-    );
-    let no_rule = Refusal::NoRule {
+    })
+}
+
+fn no_rule(alloc: Global) -> Result<Refusal, AllocError> {
+    Ok(Refusal::NoRule {
         document: 2,
         package_id: text(alloc, "SPDXRef-p")?,
         term: text(alloc, "zlib")?,
-    };
-    assert_eq!(rt;
-        refused_after(alloc, desk, &[], freeze(alloc, "r2", "2025-03-03")?)?,
-        no_rule
-    );
-    let no_conclusion = Refusal::NoConclusion {
+    })
+}
+
+fn no_conclusion(alloc: Global) -> Result<Refusal, AllocError> {
+    Ok(Refusal::NoConclusion {
         document: 3,
         package_id: text(alloc, "SPDXRef-p")?,
-    };
-    assert_eq!(rt;
-        refused_after(alloc, desk, &[], freeze(alloc, "r3", "2025-03-03")?)?,
-        no_conclusion
-    );
-    assert_eq!(rt; totals(alloc, desk, "r1")?.raised, 0);
-    Ok(())
+    })
 }
 
-/// A rule without duties.
-#[test]
-fn nothing_owed(rt: HostRuntime) -> Result<(), Fail> {
-    let alloc = rt.alloc();
-    let mut desk = TableDesk::new(alloc, Given);
-    let commands = vec![in alloc;
-        load(alloc, "none")?,
-        import(alloc, b"d1")?,
-        open(alloc, "r1")?,
-        attach(alloc, "r1", 1)?,
-        choose(alloc, "r1", 1, &["MIT"])?,
-        freeze(alloc, "r1", "2025-03-03")?,
-    ]?;
-    let outcomes = run(alloc, &mut desk, commands.as_slice())?;
-    assert!(rt; is_answer(outcomes.get(5), &Answer::Frozen { first: 1, count: 0 }));
-    Ok(())
-}
-
-/// The limit of the documents that a release may have.
-#[test]
-fn full(rt: HostRuntime) -> Result<(), Fail> {
-    let alloc = rt.alloc();
-    let mut desk = TableDesk::new(alloc, Given);
-    for _ in 0..4096 {
-        assert!(rt; is_same(&desk.apply(&load(alloc, "one")?)?, &Answer::Revision(0)) == false);
+fn walk_answer(alloc: Global, i: usize) -> Result<Answer, AllocError> {
+    match i {
+        0 => Ok(Answer::Revision(1)),
+        1 => Ok(Answer::Imported(1)),
+        2 => Ok(Answer::Imported(2)),
+        3 => Ok(Answer::Imported(3)),
+        12 => Ok(Answer::Refused(not_adopted(alloc)?)),
+        13 => Ok(Answer::Refused(no_rule(alloc)?)),
+        14 => Ok(Answer::Refused(no_conclusion(alloc)?)),
+        _ => Ok(Answer::Done),
     }
-    assert!(rt;
-        is_same(
-            &desk.apply(&load(alloc, "one")?)?,
-            &Answer::Refused(Refusal::Full(Limit::Revisions))
-        )
-    );
+}
+
+fn no_duties(alloc: Global, i: usize) -> Result<Command, AllocError> {
+    match i {
+        0 => load(alloc, "none"),
+        i => first_release(alloc, i),
+    }
+}
+
+fn no_duties_answer(i: usize) -> Answer {
+    match i {
+        5 => Answer::Frozen { first: 1, count: 0 },
+        i => first_release_answer(i),
+    }
+}
+
+fn command_of(alloc: Global, row: Row, i: usize) -> Result<Command, AllocError> {
+    match row {
+        Row::FirstRelease => first_release(alloc, i),
+        Row::Nothing => nothing(alloc, i),
+        Row::Release => release(alloc, i),
+        Row::Walk => walk(alloc, i),
+        Row::NoDuties => no_duties(alloc, i),
+    }
+}
+
+fn answer_of(alloc: Global, row: Row, i: usize) -> Result<Answer, AllocError> {
+    match row {
+        Row::FirstRelease => Ok(first_release_answer(i)),
+        Row::Nothing => Ok(Answer::Refused(nothing_answer(i))),
+        Row::Release => release_answer(alloc, i),
+        Row::Walk => walk_answer(alloc, i),
+        Row::NoDuties => Ok(no_duties_answer(i)),
+    }
+}
+
+fn commands_of(alloc: Global, row: Row, count: usize) -> Result<Vec<Command>, AllocError> {
+    let mut commands = Vec::new(alloc);
+    for i in 0..count {
+        commands.push(command_of(alloc, row, i)?)?;
+    }
+    Ok(commands)
+}
+
+fn is_answer(alloc: Global, outcome: &Outcome, row: Row, i: usize) -> Result<bool, AllocError> {
+    let wanted = answer_of(alloc, row, i)?;
+    match outcome {
+        Outcome::Answered(answer) => Ok(is_same(answer, &wanted)),
+        Outcome::Failed(_) => Ok(false),
+    }
+}
+
+/// Runs a row of commands on an empty desk, and compares each outcome.
+fn follow(rt: &impl Abort, alloc: Global, row: Row, count: usize) -> Result<MemDesk<Given>, Fail> {
+    let mut desk = TableDesk::new(alloc, Given);
+    let commands = commands_of(alloc, row, count)?;
+    let outcomes = run(alloc, &mut desk, commands.as_slice())?;
+    assert_eq!(rt; outcomes.len(), count);
+    for (i, outcome) in outcomes.iter().enumerate() {
+        let is = is_answer(alloc, outcome, row, i)?;
+        assert!(rt; is, "{i}: {outcome:?}");
+    }
+    Ok(desk)
+}
+
+fn totals(alloc: Global, desk: &mut MemDesk<Given>, release: &str) -> Result<Option<Totals>, Fail> {
+    let query = Query::Totals {
+        release: text(alloc, release)?,
+    };
+    match desk.ask(&query)? {
+        Answer::Totals(totals) => Ok(Some(totals)),
+        _ => Ok(None),
+    }
+}
+
+const ONE_MET: Totals = Totals {
+    raised: 1,
+    still_open: 0,
+    met: 1,
+    waived: 0,
+    withdrawn: 0,
+};
+
+#[test]
+fn follows_the_first_release(rt: HostRuntime) -> Result<(), Fail> {
+    let alloc = rt.alloc();
+    let mut desk = follow(&rt, alloc, Row::FirstRelease, 13)?;
+    let counted = totals(alloc, &mut desk, "r1")?;
+    assert_eq!(rt; counted, Some(ONE_MET));
     Ok(())
 }
 
-/// The first release with each allocation refused in turn: a command that fails for memory has changed nothing.
 #[test]
-fn without_memory(rt: HostRuntime) -> Result<(), Fail> {
+fn refuses_on_an_empty_desk(rt: HostRuntime) -> Result<(), Fail> {
     let alloc = rt.alloc();
-    let mut desk = TableDesk::new(alloc, Given);
-    let commands = first_release(alloc)?;
-    for command in &commands {
-        match desk.apply(command) {
-            Ok(_) => {}
-            Err(fault) => {
-                assert_eq!(rt; fault, Fault::Memory);
-                let again = desk.apply(command)?;
-                assert!(rt; !matches!(again, Answer::Refused(_)), "{again:?}");
-            }
+    let mut desk = follow(&rt, alloc, Row::Nothing, 10)?;
+    let counted = totals(alloc, &mut desk, "r1")?;
+    assert_eq!(rt; counted, None);
+    Ok(())
+}
+
+#[test]
+fn refuses_round_a_release(rt: HostRuntime) -> Result<(), Fail> {
+    let alloc = rt.alloc();
+    let mut desk = follow(&rt, alloc, Row::Release, 19)?;
+    let counted = totals(alloc, &mut desk, "r1")?;
+    assert_eq!(rt; counted, Some(ONE_MET));
+    Ok(())
+}
+
+#[test]
+fn tells_what_stands_against_a_freeze(rt: HostRuntime) -> Result<(), Fail> {
+    let _ = follow(&rt, rt.alloc(), Row::Walk, 15)?;
+    Ok(())
+}
+
+#[test]
+fn freezes_without_duties(rt: HostRuntime) -> Result<(), Fail> {
+    let _ = follow(&rt, rt.alloc(), Row::NoDuties, 6)?;
+    Ok(())
+}
+
+fn is_line(line: &DutyLine) -> bool {
+    line.number == 1
+        && line.document == 1
+        && line.package_id.as_str() == "SPDXRef-p"
+        && line.term.as_str() == "mit"
+        && line.rule.as_str() == "MIT"
+        && line.code.as_str() == "include-text"
+        && line.state == DutyState::Met
+}
+
+fn is_on(day: Option<Day>, text: &[u8]) -> bool {
+    match day {
+        Some(day) => day.as_bytes() == text,
+        None => false,
+    }
+}
+
+#[test]
+fn lists_the_duties_of_a_release(rt: HostRuntime) -> Result<(), Fail> {
+    let alloc = rt.alloc();
+    let mut desk = follow(&rt, alloc, Row::FirstRelease, 13)?;
+    let query = Query::Duties {
+        release: text(alloc, "r1")?,
+    };
+    if let Answer::Duties(lines) = desk.ask(&query)? {
+        assert_eq!(rt; lines.as_slice().len(), 1);
+        for line in lines.as_slice() {
+            assert!(rt; is_line(line), "{line:?}");
+            assert!(rt; is_on(line.day, b"2025-03-04"), "{line:?}");
         }
     }
-    assert_eq!(rt; totals(alloc, &mut desk, "r1")?.met, 1);
+    Ok(())
+}
+
+/// The 4,097th revision doesn't fit.
+#[test]
+fn keeps_no_more_revisions_than_fit(rt: HostRuntime) -> Result<(), Fail> {
+    let alloc = rt.alloc();
+    let mut desk = TableDesk::new(alloc, Given);
+    let command = load(alloc, "one")?;
+    for _ in 0..4096 {
+        let answer = desk.apply(&command)?;
+        assert!(rt; matches!(answer, Answer::Revision(_)));
+    }
+    let answer = desk.apply(&command)?;
+    assert!(rt; is_same(&answer, &Answer::Refused(Refusal::Full(Limit::Revisions))));
+    Ok(())
+}
+
+/// With an allocation refused, a command fails for memory and has changed nothing: applied again, it is answered as ever.
+#[test]
+fn goes_on_after_want_of_memory(rt: HostRuntime) -> Result<(), Fail> {
+    let alloc = rt.alloc();
+    let mut desk = TableDesk::new(alloc, Given);
+    for i in 0..7 {
+        let command = first_release(alloc, i)?;
+        let answer = match desk.apply(&command) {
+            Ok(answer) => answer,
+            Err(_) => desk.apply(&command)?,
+        };
+        assert!(rt; is_same(&answer, &first_release_answer(i)), "{i}: {answer:?}");
+    }
     Ok(())
 }
