@@ -1,17 +1,15 @@
 -- A duty that was found is met.
-use Rattle.std.proofs.Common.{◌≡◌, ℕ, Bool, true, false, List, [], ◌∷◌, Option, Some, None, Result, Ok, Err, sym, refl, ap, ◌∙◌, subst}
+use Rattle.std.proofs.Common.{◌≡◌, ℕ, true, List, Some, Result, Ok, Err, sym, refl, ap, ◌∙◌}
 use Rattle.std.specs.Prelude.{unwrap_or, IfOk, OnOk}
 use Rattle.desk_base.specs.Day.{is_day}
 use Rattle.desk_rows.specs.Texts.{is_note}
 use Rattle.desk_rows.specs.Readings.{Readings}
 use Rattle.desk_rows.specs.Tables.{Tables}
-use Rattle.desk_rows.specs.Answers.{meet_duty, meet_answer}
-use Rattle.desk_history.specs.FromTables.{answer_from, noted_by, met_change, duty_found, state_found, steps_found, release_state_found}
+use Rattle.desk_rows.specs.Answers.{meet_duty}
+use Rattle.desk_history.specs.FromTables.{answer_from, noted_by, met_change, duty_found, state_found, steps_found}
 use Rattle.desk_rows.specs.declared.row.DutyRow.{DutyRow}
-use Rattle.desk_rows.specs.declared.state.ReleaseState.{ReleaseState}
 use Rattle.desk_rows.specs.declared.state.ReleaseState.TheVariants.{IsOpen}
 use Rattle.desk_rows.specs.declared.command.Answer.{Answer}
-use Rattle.desk_rows.specs.declared.command.Change.{Change}
 use Rattle.desk_rows.specs.declared.command.Command.TheVariants.{Meet}
 
 pub both_ok : {A E : Type 0} (r : Result A E) (P Q : A → Type 0) (G : Type 0) → IfOk r P → IfOk r Q → ((x : A) → P x → Q x → G) → OnOk r G

@@ -1,10 +1,10 @@
 -- Duties found by their numbers, and changes by their groups.
-use Rattle.std.proofs.Common.{◌≡◌, ◌≢◌, ℕ, ◌+◌, ◌-◌, ◌<◌, ◌≤◌, Bool, true, false, cond, List, [], ◌∷◌, ◌++◌, length, map, zero, suc, Option, Some, None, sym, refl, ap, ◌∙◌, subst, arith, append_assoc, append-nil, length-append, add-one, inl, inr}
-use Rattle.std.specs.Prelude.{if◌then◌else◌, find, filter, ◌||◌, ◌&&◌, ◌==◌, nat_lt, slice_get, slice_set, slice_index_or, unwrap_or}
+use Rattle.std.proofs.Common.{◌≡◌, ℕ, ◌+◌, ◌-◌, ◌<◌, Bool, true, false, List, [], ◌∷◌, ◌++◌, length, zero, suc, Some, None, sym, refl, ap, ◌∙◌, subst, arith, append_assoc, append-nil, length-append}
+use Rattle.std.specs.Prelude.{if◌then◌else◌, find, filter, ◌||◌, ◌&&◌, ◌==◌, slice_get, slice_set, slice_index_or, unwrap_or}
 use Rattle.std.specs.List.{list_any, list_all}
 use Rattle.std.proofs.lemmas.List.Elements.{filter-append}
-use Rattle.std.proofs.lemmas.List.Folds.{list_any-append, list_all-append}
-use Rattle.std.proofs.lemmas.Bool.Decides.{nat_tests, eqb_tells}
+use Rattle.std.proofs.lemmas.List.Folds.{list_all-append}
+use Rattle.std.proofs.lemmas.Bool.Decides.{nat_tests}
 use Rattle.desk_rows.specs.Lists.{put, updated}
 use Rattle.desk_rows.specs.Keys.{is_duty, is_change_of, change_below}
 use Rattle.desk_core.specs.Ledgers.{numbered, stepped, grouped, all_of, more_at}
@@ -75,14 +75,15 @@ numbered-updated change keeps q n (row ∷ rows) e =
     let here : (row.number == n) ≡ true = and_left (row.number == n) (numbered (n + 1) rows) e in
     let rest = numbered-updated change keeps q (n + 1) rows (and_right (row.number == n) (numbered (n + 1) rows) e) in
     elim (row.number == q) as (λ b. numbered n ((if b then change row else row) ∷ updated (is_duty q) change rows) ≡ true) [
-      true ↦ both ((change row).number == n) (numbered (n + 1) (updated (is_duty q) change rows)) (ap (λ k. k == n) (keeps row) ∙ here) rest
-    | false ↦ both (row.number == n) (numbered (n + 1) (updated (is_duty q) change rows)) here rest ]
+      | true ↦ both ((change row).number == n) (numbered (n + 1) (updated (is_duty q) change rows)) (ap (λ k. k == n) (keeps row) ∙ here) rest
+      | false ↦ both (row.number == n) (numbered (n + 1) (updated (is_duty q) change rows)) here rest
+    ]
 
 pub numbered-append : (n : ℕ) (rows more : List DutyRow) → numbered n rows ≡ true → numbered (n + length rows) more ≡ true → numbered n (rows ++ more) ≡ true
 numbered-append n [] more e f = subst (λ k. numbered k more ≡ true) (let z : n + 0 ≡ n = omega arith in z) f
 numbered-append n (row ∷ rows) more e f =
     both (row.number == n) (numbered (n + 1) (rows ++ more)) (and_left (row.number == n) (numbered (n + 1) rows) e)
-      (numbered-append (n + 1) rows more (and_right (row.number == n) (numbered (n + 1) rows) e) (subst (λ k. numbered k more ≡ true) (let z : n + suc (length rows) ≡ n + 1 + length rows = omega arith in z) f))
+    (numbered-append (n + 1) rows more (and_right (row.number == n) (numbered (n + 1) rows) e) (subst (λ k. numbered k more ≡ true) (let z : n + suc (length rows) ≡ n + 1 + length rows = omega arith in z) f))
 
 -- Changes
 
@@ -125,7 +126,7 @@ filter_group n (suc i) (g ∷ gs) e =
     let next : n + suc i ≡ n + 1 + i = omega arith in
     filter-append (is_change_of (n + suc i)) g (all_of gs)
     ∙ rw (filter_other (n + suc i) n 1 g (and_left (stepped n 1 g) (grouped (n + 1) gs) e) differ)
-      (ap (λ k. filter (is_change_of k) (all_of gs)) next ∙ filter_group (n + 1) i gs (and_right (stepped n 1 g) (grouped (n + 1) gs) e))
+    (ap (λ k. filter (is_change_of k) (all_of gs)) next ∙ filter_group (n + 1) i gs (and_right (stepped n 1 g) (grouped (n + 1) gs) e))
 
 -- one more change of a duty
 
@@ -159,7 +160,7 @@ groups_above row n [] e lt = refl
 groups_above row n (g ∷ gs) e lt =
     list_all-append (change_below row) g (all_of gs)
     ∙ both (list_all (change_below row) g) (list_all (change_below row) (all_of gs)) (all_above row n 1 g (and_left (stepped n 1 g) (grouped (n + 1) gs) e) lt)
-        (groups_above row (n + 1) gs (and_right (stepped n 1 g) (grouped (n + 1) gs) e) (omega arith))
+    (groups_above row (n + 1) gs (and_right (stepped n 1 g) (grouped (n + 1) gs) e) (omega arith))
 
 put_first : (row : ChangeRow) (ys : List ChangeRow) → list_all (change_below row) ys ≡ true → put change_below row ys ≡ row ∷ ys
 put_first row [] all = refl
@@ -199,7 +200,7 @@ stepped-push n k [] row e d s =
     both ((row.duty == n) && (row.step == k)) true (both (row.duty == n) (row.step == k) a b) refl
 stepped-push n k (x ∷ xs) row e d s =
     both ((x.duty == n) && (x.step == k)) (stepped n (k + 1) (xs ++ row ∷ [])) (and_left ((x.duty == n) && (x.step == k)) (stepped n (k + 1) xs) e)
-      (stepped-push n (k + 1) xs row (and_right ((x.duty == n) && (x.step == k)) (stepped n (k + 1) xs) e) d (omega arith))
+    (stepped-push n (k + 1) xs row (and_right ((x.duty == n) && (x.step == k)) (stepped n (k + 1) xs) e) d (omega arith))
 
 pub grouped-more : (n i : ℕ) (groups : List (List ChangeRow)) (row : ChangeRow) → grouped n groups ≡ true → row.duty ≡ n + i → row.step ≡ length (group_at groups i) + 1 → grouped n (more_at groups i row) ≡ true
 grouped-more n i [] row e d s = refl
@@ -207,7 +208,7 @@ grouped-more n zero (g ∷ gs) row e d s =
     both (stepped n 1 (g ++ row ∷ [])) (grouped (n + 1) gs) (stepped-push n 1 g row (and_left (stepped n 1 g) (grouped (n + 1) gs) e) (omega arith) (omega arith)) (and_right (stepped n 1 g) (grouped (n + 1) gs) e)
 grouped-more n (suc i) (g ∷ gs) row e d s =
     both (stepped n 1 g) (grouped (n + 1) (more_at gs i row)) (and_left (stepped n 1 g) (grouped (n + 1) gs) e)
-      (grouped-more (n + 1) i gs row (and_right (stepped n 1 g) (grouped (n + 1) gs) e) (omega arith) s)
+    (grouped-more (n + 1) i gs row (and_right (stepped n 1 g) (grouped (n + 1) gs) e) (omega arith) s)
 
 -- some groups more
 
@@ -215,7 +216,7 @@ pub grouped-append : (n : ℕ) (groups more : List (List ChangeRow)) → grouped
 grouped-append n [] more e f = subst (λ k. grouped k more ≡ true) (let z : n + 0 ≡ n = omega arith in z) f
 grouped-append n (g ∷ gs) more e f =
     both (stepped n 1 g) (grouped (n + 1) (gs ++ more)) (and_left (stepped n 1 g) (grouped (n + 1) gs) e)
-      (grouped-append (n + 1) gs more (and_right (stepped n 1 g) (grouped (n + 1) gs) e) (subst (λ k. grouped k more ≡ true) (let z : n + suc (length gs) ≡ n + 1 + length gs = omega arith in z) f))
+    (grouped-append (n + 1) gs more (and_right (stepped n 1 g) (grouped (n + 1) gs) e) (subst (λ k. grouped k more ≡ true) (let z : n + suc (length gs) ≡ n + 1 + length gs = omega arith in z) f))
 
 pub all_of-append : (groups more : List (List ChangeRow)) → all_of (groups ++ more) ≡ all_of groups ++ all_of more
 all_of-append [] more = refl
@@ -265,7 +266,7 @@ singles_push first n seen row group groups more e g a k d s is grown =
 pub next_step : (q place steps step : ℕ) (groups : List (List ChangeRow)) → grouped 1 groups ≡ true → q ≡ 1 + place → steps ≡ length (filter (is_change_of q) (all_of groups)) → step ≡ steps + 1 → step ≡ length (group_at groups place) + 1
 next_step q place steps step groups e d f s =
     let same : length (filter (is_change_of q) (all_of groups)) ≡ length (group_at groups place) =
-      ap (λ k. length (filter (is_change_of k) (all_of groups))) d ∙ ap length (filter_group 1 place groups e) in
+    ap (λ k. length (filter (is_change_of k) (all_of groups))) d ∙ ap length (filter_group 1 place groups e) in
     omega (arith, s, f, same)
 
 -- some duties more, or none where there was no room

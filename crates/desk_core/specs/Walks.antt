@@ -1,5 +1,5 @@
 -- What the steps of a choice and of a freeze have found.
-use Rattle.std.specs.Prelude.{◌≡◌, ℕ, List, Option, Some, None, Result, Ok, Err}
+use Rattle.std.specs.Prelude.{◌≡◌, ℕ, List, Option, Some, None}
 use Rattle.std.specs.List.{filter_map}
 use Rattle.desk_rows.specs.Readings.{Readings}
 use Rattle.std.specs.Prelude.{find, Bool, ◌++◌}
@@ -18,7 +18,6 @@ use Rattle.desk_core.specs.declared.choice.TermsRead.{TermsRead}
 use Rattle.desk_core.specs.declared.choice.TermsRead.TheVariants.{Terms, BadTerm}
 use Rattle.desk_rows.specs.Answers.{first_bad, choose_terms, choose_for, choose_shipped, walk, package_fault, first_unruled, profile_in}
 use Rattle.desk_rows.specs.Raised.{owed_for, frozen_for, owed_for_terms, frozen_for_terms}
-use Rattle.desk_rows.specs.declared.reading.Profile.{Profile}
 use Rattle.desk_rows.specs.declared.reading.Rule.{Rule}
 use Rattle.desk_rows.specs.declared.refusal.Refusal.{Refusal}
 use Rattle.desk_rows.specs.declared.row.PackageRow.{PackageRow}

@@ -175,7 +175,12 @@ impl Ledger {
     /// Moves a duty by a change that is the next of its own, or does nothing.
     ///
     /// A change that isn't the next one of a duty comes from no command; it is answered as want of memory.
-    pub(crate) fn move_to(&mut self, duty: u32, state: DutyState, change: ChangeRow) -> Result<(), Fault>
+    pub(crate) fn move_to(
+        &mut self,
+        duty: u32,
+        state: DutyState,
+        change: ChangeRow,
+    ) -> Result<(), Fault>
         ensures duties { OnOk result (self.new.duties.items ≡ updated (is_duty duty) (with_duty_state state) self.old.duties.items) }
         ensures changes { OnOk result (all_of self.new.groups.items ≡ put change_below change (all_of self.old.groups.items)) }
         ensures duties_err { OnErr result (self.new.duties.items ≡ self.old.duties.items) }
@@ -202,7 +207,11 @@ impl Ledger {
     /// Adds duties that are numbered on, with a first change each, or does nothing.
     ///
     /// Others come from no command; they are answered as want of memory.
-    pub(crate) fn append(&mut self, mut duties: Vec<DutyRow>, changes: Vec<ChangeRow>) -> Result<(), Fault>
+    pub(crate) fn append(
+        &mut self,
+        mut duties: Vec<DutyRow>,
+        changes: Vec<ChangeRow>,
+    ) -> Result<(), Fault>
         ensures duties { OnOk result (self.new.duties.items ≡ self.old.duties.items ++ duties.items) }
         ensures changes { OnOk result (all_of self.new.groups.items ≡ all_of self.old.groups.items ++ changes.items) }
         ensures duties_err { OnErr result (self.new.duties.items ≡ self.old.duties.items) }

@@ -4,8 +4,8 @@ use crate::desk::{Desk, MemDesk, TableDesk, run};
 use crate::texts::Texts;
 use desk_base::{Day, Items, Text};
 use desk_rows::{
-    Answer, Catalogue, CatalogueFault, Command, Document, DocumentFault, DutyLine, DutyState, Limit, Outcome, Package, Profile, Query,
-    Refusal, ReleaseState, Rule, Totals, Verdict,
+    Answer, Catalogue, CatalogueFault, Command, Document, DocumentFault, DutyLine, DutyState,
+    Limit, Outcome, Package, Profile, Query, Refusal, ReleaseState, Rule, Totals, Verdict,
 };
 use std::alloc::{AllocError, Global};
 use std::process::Abort;
@@ -214,7 +214,8 @@ fn is_same(answer: &Answer, wanted: &Answer) -> bool {
         (Answer::Imported(a), Answer::Imported(b)) => a == b,
         (Answer::Again(a), Answer::Again(b)) => a == b,
         (Answer::Done, Answer::Done) => true,
-        (Answer::Frozen { first, count }, Answer::Frozen { first: f, count: c }) => first == f && count == c,
+        (Answer::Frozen { first, count }, Answer::Frozen { first: f, count: c }) => first == f
+            && count == c,
         (Answer::Refused(a), Answer::Refused(b)) => a == b,
         _ => false,
     }
@@ -336,7 +337,9 @@ fn release_answer(alloc: Global, i: usize) -> Result<Answer, AllocError> {
         8 => Ok(Answer::Refused(Refusal::NotShipped)),
         10 => Ok(Answer::Refused(Refusal::AlreadyAttached)),
         11 => Ok(Answer::Refused(Refusal::NotEnough)),
-        12 => Ok(Answer::Refused(Refusal::NotMinimal { term: text(alloc, "zlib")? })),
+        12 => Ok(Answer::Refused(Refusal::NotMinimal {
+            term: text(alloc, "zlib")?,
+        })),
         13 => Ok(Answer::Refused(no_choice(alloc)?)),
         15 => Ok(Answer::Frozen { first: 1, count: 1 }),
         16 => Ok(Answer::Refused(Refusal::ReleaseState(ReleaseState::Frozen))),
@@ -580,7 +583,10 @@ fn goes_on_after_want_of_memory(rt: HostRuntime) -> Result<(), Fail> {
             Ok(answer) => answer,
             Err(_) => desk.apply(&command)?,
         };
-        assert!(rt; is_same(&answer, &first_release_answer(i)), "{i}: {answer:?}");
+        assert!(rt;
+            is_same(&answer, &first_release_answer(i)),
+            "{i}: {answer:?}"
+        );
     }
     Ok(())
 }

@@ -1,19 +1,18 @@
 -- What is chosen for a package, in the history and in its tables.
-use Rattle.std.proofs.Common.{◌≡◌, ◌≢◌, ℕ, ◌+◌, Bool, true, false, cond, List, [], ◌∷◌, ◌++◌, length, map, Option, Some, None, sym, refl, ap, ◌∙◌, subst, arith, append-nil, inl, inr}
+use Rattle.std.proofs.Common.{◌≡◌, ℕ, Bool, true, false, cond, List, [], ◌∷◌, ◌++◌, map, Option, Some, None, sym, refl, ap, ◌∙◌, subst, arith, append-nil}
 use Rattle.std.specs.Prelude.{if◌then◌else◌, filter, ◌&&◌, ◌==◌, unwrap_or, not}
-use Rattle.std.specs.List.{list_all, filter_map}
-use Rattle.std.specs.Ordering.{is_lt, is_eq, ordering_reverse, ordering_then, nat_cmp}
+use Rattle.std.specs.List.{filter_map}
+use Rattle.std.specs.Ordering.{is_lt, is_eq, ordering_reverse, nat_cmp}
 use Rattle.std.specs.declared.cmp.Ordering.{Ordering}
 use Rattle.std.specs.declared.cmp.Ordering.TheVariants.{Less, Equal, Greater}
-use Rattle.std.specs.Cmp.{IsTotalOrder}
 use Rattle.std.specs.Cmp.Lexicographic.{slice_cmp}
 use Rattle.std.specs.Str.{bytes_eq}
 use Rattle.std.proofs.lemmas.Cmp.{nat_list_cmp_total, nat_cmp_total, tied_itself}
 use Rattle.std.proofs.lemmas.Map.Text.{is_eq-slice_cmp}
 use Rattle.std.proofs.lemmas.List.Elements.{filter-append}
-use Rattle.std.proofs.lemmas.Bool.Decides.{nat_tests, eqb_tells}
+use Rattle.std.proofs.lemmas.Bool.Decides.{nat_tests}
 use Rattle.std.proofs.Math.Path.{fun_ext}
-use Rattle.desk_rows.specs.Lists.{latest, or_else, in_order, put}
+use Rattle.desk_rows.specs.Lists.{latest, or_else, in_order}
 use Rattle.desk_rows.specs.Texts.{text_below, put_new, sorted_set}
 use Rattle.desk_rows.specs.Readings.{Readings}
 use Rattle.desk_rows.specs.Keys.{is_choice_of, below_by, choice_order}
@@ -21,12 +20,12 @@ use Rattle.desk_rows.specs.History.{term_set, terms_given, choice, is_package_of
 use Rattle.desk_rows.specs.Raised.{chosen_in}
 use Rattle.desk_rows.specs.Tables.{tables, standing, choice_row, is_other_choice}
 use Rattle.desk_history.specs.FromTables.{choice_found}
-use Rattle.desk_history.proofs.Rows.{text_tells, texts_equal, same_text, map-map}
+use Rattle.desk_history.proofs.Rows.{texts_equal, same_text}
 use Rattle.desk_history.proofs.Orders.{IsOrder, order_of, filter-in_order, choice_is_order, under, put_first, both, and_left, and_right}
 use Rattle.desk_rows.specs.declared.row.PackageRow.{PackageRow}
 use Rattle.desk_rows.specs.declared.row.ChoiceRow.{ChoiceRow}
 use Rattle.desk_rows.specs.declared.command.Command.{Command}
-use Rattle.desk_rows.specs.declared.command.Command.TheVariants.{LoadCatalogue, Import, OpenRelease, Attach, Choose, Freeze, Meet}
+use Rattle.desk_rows.specs.declared.command.Command.TheVariants.{Choose}
 
 -- Sorted sets of texts
 
@@ -47,17 +46,19 @@ under_chain : (x y : List ℕ) (zs : List (List ℕ)) → text_below x y ≡ tru
 under_chain x y [] e all = refl
 under_chain x y (z ∷ zs) e all =
     both (text_below x z) (under text_below x zs)
-      (text_order.between x y z e (text_order.asym y z (and_left (text_below y z) (under text_below y zs) all)))
-      (under_chain x y zs e (and_right (text_below y z) (under text_below y zs) all))
+    (text_order.between x y z e (text_order.asym y z (and_left (text_below y z) (under text_below y zs) all)))
+    (under_chain x y zs e (and_right (text_below y z) (under text_below y zs) all))
 
 under-put_new : (x y : List ℕ) (zs : List (List ℕ)) → text_below y x ≡ true → under text_below y zs ≡ true → under text_below y (put_new x zs) ≡ true
 under-put_new x y [] e all = both (text_below y x) true e refl
 under-put_new x y (z ∷ zs) e all =
     elim (text_below x z) as (λ b. under text_below y (if b then x ∷ z ∷ zs else (if bytes_eq x z then z ∷ zs else z ∷ put_new x zs)) ≡ true) [
-      true ↦ both (text_below y x) (under text_below y (z ∷ zs)) e all
-    | false ↦ elim (bytes_eq x z) as (λ b. under text_below y (if b then z ∷ zs else z ∷ put_new x zs) ≡ true) [
-        true ↦ all
-      | false ↦ both (text_below y z) (under text_below y (put_new x zs)) (and_left (text_below y z) (under text_below y zs) all) (under-put_new x y zs e (and_right (text_below y z) (under text_below y zs) all)) ] ]
+      | true ↦ both (text_below y x) (under text_below y (z ∷ zs)) e all
+      | false ↦ elim (bytes_eq x z) as (λ b. under text_below y (if b then z ∷ zs else z ∷ put_new x zs) ≡ true) [
+        | true ↦ all
+        | false ↦ both (text_below y z) (under text_below y (put_new x zs)) (and_left (text_below y z) (under text_below y zs) all) (under-put_new x y zs e (and_right (text_below y z) (under text_below y zs) all))
+      ]
+    ]
 
 rises_step : (x y : List ℕ) (ys : List (List ℕ)) (b c : Bool) → text_below x y ≡ b → bytes_eq x y ≡ c → rises (y ∷ ys) ≡ true → rises (put_new x ys) ≡ true → rises (if b then x ∷ y ∷ ys else (if c then y ∷ ys else y ∷ put_new x ys)) ≡ true
 rises_step x y ys true c e f up rest =
@@ -92,14 +93,14 @@ under-rows : (r p a : List ℕ) (d : ℕ) (terms : List (List ℕ)) → under te
 under-rows r p a d [] all = refl
 under-rows r p a d (t ∷ ts) all =
     both (below_by choice_order (choice_row r d p a) (choice_row r d p t)) (under (below_by choice_order) (choice_row r d p a) (map (choice_row r d p) ts))
-      (row_order r p a t d ∙ and_left (text_below a t) (under text_below a ts) all)
-      (under-rows r p a d ts (and_right (text_below a t) (under text_below a ts) all))
+    (row_order r p a t d ∙ and_left (text_below a t) (under text_below a ts) all)
+    (under-rows r p a d ts (and_right (text_below a t) (under text_below a ts) all))
 
 in_order-rows : (r p : List ℕ) (d : ℕ) (terms : List (List ℕ)) → rises terms ≡ true → in_order (below_by choice_order) (map (choice_row r d p) terms) ≡ map (choice_row r d p) terms
 in_order-rows r p d [] up = refl
 in_order-rows r p d (t ∷ ts) up =
     rw (in_order-rows r p d ts (and_right (under text_below t ts) (rises ts) up))
-      (put_first (below_by choice_order) (choice_row r d p t) (map (choice_row r d p) ts) (under-rows r p t d ts (and_left (under text_below t ts) (rises ts) up)))
+    (put_first (below_by choice_order) (choice_row r d p t) (map (choice_row r d p) ts) (under-rows r p t d ts (and_left (under text_below t ts) (rises ts) up)))
 
 -- a test and its opposite
 against : {A : Type 0} (test : A → Bool) (x : A) (xs : List A) (b : Bool) → test x ≡ b → filter test (filter (λ x. not (test x)) xs) ≡ [] → filter test (cond (not b) (x ∷ filter (λ x. not (test x)) xs) (filter (λ x. not (test x)) xs)) ≡ []
@@ -152,7 +153,7 @@ ruled_out r p r' p' d d' row true e f g =
     let a = same_package r p row.release row.package_id d row.document f in
     let b = same_package r' p' row.release row.package_id d' row.document g in
     let again : is_package_of r d p r' d' p' ≡ true = subst (λ x. is_package_of r d p x d' p' ≡ true) (sym a.release ∙ b.release)
-        (subst (λ x. is_package_of r d p r x p' ≡ true) (sym a.document ∙ b.document) (subst (λ x. is_package_of r d p r d x ≡ true) (sym a.package_id ∙ b.package_id) (same_key r p d))) in
+    (subst (λ x. is_package_of r d p r x p' ≡ true) (sym a.document ∙ b.document) (subst (λ x. is_package_of r d p r d x ≡ true) (sym a.package_id ∙ b.package_id) (same_key r p d))) in
     cc
 
 -- the rows of one package among the rows of one package
@@ -169,9 +170,9 @@ standing_step w h r p r' p' d d' texts true e rest =
     filter-append (is_choice_of r d p) (map (choice_row r' d' p') (term_set w texts)) (filter (is_other_choice r' d' p') (standing w h))
     ∙ (ap (λ rows. rows ++ filter (is_choice_of r d p) (filter (is_other_choice r' d' p') (standing w h))) (own_rows r p r' p' d d' true e (term_set w texts))
     ∙ (subst (λ x. map (choice_row r' d' p') (term_set w texts) ++ filter (is_choice_of x d p) (filter (is_other_choice r' d' p') (standing w h)) ≡ map (choice_row x d p) (term_set w texts)) same.release
-       (subst (λ x. map (choice_row r' d' p') (term_set w texts) ++ filter (is_choice_of r' x p) (filter (is_other_choice r' d' p') (standing w h)) ≡ map (choice_row r' x p) (term_set w texts)) same.document
-       (subst (λ x. map (choice_row r' d' p') (term_set w texts) ++ filter (is_choice_of r' d' x) (filter (is_other_choice r' d' p') (standing w h)) ≡ map (choice_row r' d' x) (term_set w texts)) same.package_id
-       (ap (λ rows. map (choice_row r' d' p') (term_set w texts) ++ rows) (filter_against (is_choice_of r' d' p') (standing w h)) ∙ append-nil (map (choice_row r' d' p') (term_set w texts)))))))
+    (subst (λ x. map (choice_row r' d' p') (term_set w texts) ++ filter (is_choice_of r' x p) (filter (is_other_choice r' d' p') (standing w h)) ≡ map (choice_row r' x p) (term_set w texts)) same.document
+    (subst (λ x. map (choice_row r' d' p') (term_set w texts) ++ filter (is_choice_of r' d' x) (filter (is_other_choice r' d' p') (standing w h)) ≡ map (choice_row r' d' x) (term_set w texts)) same.package_id
+    (ap (λ rows. map (choice_row r' d' p') (term_set w texts) ++ rows) (filter_against (is_choice_of r' d' p') (standing w h)) ∙ append-nil (map (choice_row r' d' p') (term_set w texts)))))))
 standing_step w h r p r' p' d d' texts false e rest =
     filter-append (is_choice_of r d p) (map (choice_row r' d' p') (term_set w texts)) (filter (is_other_choice r' d' p') (standing w h))
     ∙ (ap (λ rows. rows ++ filter (is_choice_of r d p) (filter (is_other_choice r' d' p') (standing w h))) (own_rows r p r' p' d d' false e (term_set w texts))
@@ -190,8 +191,8 @@ terms_of r p d (t ∷ ts) = ap (λ xs. t ∷ xs) (terms_of r p d ts)
 choice_at : (w : Readings) (h : List Command) (r : List ℕ) (row : PackageRow) → choice_found (tables w h) r row ≡ chosen_in w h r row
 choice_at w h r row =
     ap (map (λ row. row.term)) (filter-in_order (below_by choice_order) choice_is_order (is_choice_of r row.document row.id) (standing w h)
-      ∙ (ap (in_order (below_by choice_order)) (standing-choice w h r row.document row.id)
-      ∙ in_order-rows r row.id row.document (choice w h r row.document row.id) (rises-choice w h r row.document row.id)))
+    ∙ (ap (in_order (below_by choice_order)) (standing-choice w h r row.document row.id)
+    ∙ in_order-rows r row.id row.document (choice w h r row.document row.id) (rises-choice w h r row.document row.id)))
     ∙ terms_of r row.id row.document (choice w h r row.document row.id)
 
 pub choice-found : (w : Readings) (h : List Command) (r : List ℕ) → choice_found (tables w h) r ≡ chosen_in w h r

@@ -1,26 +1,25 @@
 -- What a freeze leaves.
-use Rattle.std.proofs.Common.{◌≡◌, ◌≢◌, ℕ, ◌+◌, ◌<◌, ◌≤◌, Bool, true, false, cond, List, [], ◌∷◌, ◌++◌, length, map, Option, Some, None, sym, refl, ap, ◌∙◌, subst, arith, append_assoc, length-append, append-nil, add-one, add-zero, zero-add, suc, inl, inr}
-use Rattle.std.specs.Prelude.{if◌then◌else◌, find, filter, ◌||◌, ◌&&◌, nat_lt, nat_le, ◌==◌, is_some, unwrap_or, IsTrue, not}
+use Rattle.std.proofs.Common.{◌≡◌, ℕ, ◌+◌, ◌<◌, ◌≤◌, true, false, List, [], ◌∷◌, ◌++◌, length, map, sym, refl, ap, ◌∙◌, arith, length-append, add-zero, suc, inl, inr}
+use Rattle.std.specs.Prelude.{◌&&◌, nat_lt, nat_le, ◌==◌, unwrap_or}
 use Rattle.std.specs.List.{flat_map, enumerate_from}
 use Rattle.std.specs.Option.{option_map}
 use Rattle.std.specs.Str.{bytes_eq}
 use Rattle.std.proofs.lemmas.List.{length-map, map-append}
 use Rattle.std.proofs.lemmas.List.Concat.{flat_map-append, flat_map_single}
-use Rattle.std.proofs.lemmas.Bool.Decides.{nat_tests, eqb_tells}
-use Rattle.desk_rows.specs.Lists.{put_all, in_order, updated, latest, or_else}
+use Rattle.std.proofs.lemmas.Bool.Decides.{nat_tests}
+use Rattle.desk_rows.specs.Lists.{put_all, in_order, updated}
 use Rattle.desk_rows.specs.Readings.{Readings}
 use Rattle.desk_rows.specs.Keys.{is_release, below_by, frozen_order}
-use Rattle.desk_rows.specs.History.{revisions, in_force, rules_in, documents, packages, attached, attached_to, names, form_of, state_of, state_given, revision_of}
+use Rattle.desk_rows.specs.History.{revisions, in_force, rules_in, documents, attached, attached_to, names, form_of, state_of}
 use Rattle.desk_rows.specs.declared.row.Owed.{Owed}
 use Rattle.desk_rows.specs.Raised.{raised, owed_at, owed_for, numbered, shipped, chosen_in, frozen, frozen_at, frozen_for}
-use Rattle.desk_rows.specs.Moves.{duties, duty_row, changes, change_rows, change_row, moves, place, is_move, all_changes}
-use Rattle.desk_rows.specs.Tables.{Tables, tables, release_row, with_release_state}
+use Rattle.desk_rows.specs.Moves.{duties, duty_row, changes, moves, place, is_move, all_changes}
+use Rattle.desk_rows.specs.Tables.{tables, release_row, with_release_state}
 use Rattle.desk_rows.specs.Answers.{answer, freeze_answer, walk, profile_in}
-use Rattle.desk_history.specs.FromTables.{answer_from, rules_found, form_found, choice_found, shipped_found, state_found, owed_found, frozen_found, new_duty, raised_row, new_duties}
-use Rattle.desk_history.proofs.Rows.{updated-map, text_tells, texts_turned, same_text, in_order-append, map-map}
+use Rattle.desk_history.specs.FromTables.{answer_from, rules_found, form_found, choice_found, owed_found, frozen_found, new_duty, raised_row, new_duties}
+use Rattle.desk_history.proofs.Rows.{updated-map, text_tells, texts_turned, in_order-append, map-map}
 use Rattle.desk_history.proofs.Lookups.{state-found, form-found, rules-found}
 use Rattle.desk_history.proofs.Chosen.{choice-found}
-use Rattle.desk_rows.specs.declared.row.ReleaseRow.{ReleaseRow}
 use Rattle.desk_rows.specs.declared.row.DutyRow.{DutyRow}
 use Rattle.desk_rows.specs.declared.row.ChangeRow.{ChangeRow}
 use Rattle.desk_rows.specs.declared.state.ReleaseState.TheVariants.{Frozen}
@@ -119,8 +118,9 @@ moves_newer w h r day k lt le =
 pub freeze-releases : (w : Readings) (h : List Command) (r day : List ℕ) → map (release_row (Freeze r day ∷ h)) (names h) ≡ updated (is_release r) (with_release_state Frozen (length (revisions h))) (map (release_row h) (names h))
 freeze-releases w h r day = sym (updated-map (is_release r) (with_release_state Frozen (length (revisions h))) (release_row h) (release_row (Freeze r day ∷ h)) (λ n.
     elim (text_tells n r) [
-      inl e ↦ (let f : bytes_eq r n ≡ true = texts_turned r n ∙ e.0 in rw (e.0, f) refl)
-    | inr e ↦ (let f : bytes_eq r n ≡ false = texts_turned r n ∙ e.0 in rw (e.0, f) refl) ]) (names h))
+      | inl e ↦ (let f : bytes_eq r n ≡ true = texts_turned r n ∙ e.0 in rw (e.0, f) refl)
+      | inr e ↦ (let f : bytes_eq r n ≡ false = texts_turned r n ∙ e.0 in rw (e.0, f) refl)
+    ]) (names h))
 
 pub freeze-duties : (w : Readings) (h : List Command) (r day : List ℕ) → duties w (Freeze r day ∷ h) ≡ duties w h ++ map new_duty (enumerate_from (1 + length (raised w h)) (owed_at w h r))
 freeze-duties w h r day =
@@ -145,8 +145,8 @@ freeze-changes w h r day =
     ∙ (flat_map-append rows' (enumerate_from 1 (raised w h)) (enumerate_from first new)
     ∙ (ap (λ cs. cs ++ flat_map rows' (enumerate_from first new)) (flat_map_numbered rows' rows 1 (raised w h) (λ k d le lt. rw (moves_older w h r day k (omega arith)) refl))
     ∙ ap (λ cs. flat_map rows (enumerate_from 1 (raised w h)) ++ cs)
-        (flat_map_numbered rows' (λ d. one d ∷ []) first new (λ k d le lt. rw (moves_newer w h r day k (omega arith) (omega arith)) refl)
-        ∙ (flat_map_single one (enumerate_from first new) ∙ sym (map-map (raised_row day) new_duty (enumerate_from first new))))))
+    (flat_map_numbered rows' (λ d. one d ∷ []) first new (λ k d le lt. rw (moves_newer w h r day k (omega arith) (omega arith)) refl)
+    ∙ (flat_map_single one (enumerate_from first new) ∙ sym (map-map (raised_row day) new_duty (enumerate_from first new))))))
 
 -- the new duties, as they are made from the tables
 pub new-duties : (w : Readings) (h : List Command) (r : List ℕ) → map new_duty (enumerate_from (1 + length (raised w h)) (owed_at w h r)) ≡ new_duties w (tables w h) r

@@ -1,32 +1,25 @@
 -- What is looked up in the tables of a history is what the history says.
-use Rattle.std.proofs.Common.{◌≡◌, ◌≢◌, ℕ, ◌+◌, ◌<◌, ◌≤◌, Bool, true, false, cond, List, [], ◌∷◌, ◌++◌, length, map, Option, Some, None, sym, refl, ap, ◌∙◌, subst, arith, append-nil, length-append, inl, inr}
-use Rattle.std.specs.Prelude.{if◌then◌else◌, find, filter, ◌&&◌, ◌==◌, is_some, unwrap_or, not, nat_le}
-use Rattle.std.specs.List.{list_any, filter_map}
-use Rattle.std.specs.Option.{option_map, option_map_or, option_and_then}
+use Rattle.std.proofs.Common.{◌≡◌, ℕ, ◌+◌, ◌<◌, Bool, true, false, List, [], ◌∷◌, ◌++◌, length, map, Option, Some, None, refl, ap, ◌∙◌, subst, arith, length-append, inl, inr}
+use Rattle.std.specs.Prelude.{if◌then◌else◌, filter, ◌==◌, is_some, unwrap_or}
+use Rattle.std.specs.List.{list_any}
+use Rattle.std.specs.Option.{option_map}
 use Rattle.std.specs.Result.{result_ok}
 use Rattle.std.specs.Str.{bytes_eq}
-use Rattle.std.proofs.lemmas.List.{length-map, map-append}
+use Rattle.std.proofs.lemmas.List.{length-map}
 use Rattle.std.proofs.lemmas.List.Elements.{filter-append}
-use Rattle.std.proofs.lemmas.Bool.Decides.{nat_tests, eqb_tells}
-use Rattle.desk_rows.specs.Lists.{latest, or_else, in_order}
+use Rattle.std.proofs.lemmas.Bool.Decides.{nat_tests}
 use Rattle.desk_rows.specs.Texts.{text_below}
 use Rattle.desk_rows.specs.Readings.{Readings}
-use Rattle.desk_rows.specs.Keys.{is_release, is_rule_of, is_choice_of, below_by, choice_order}
-use Rattle.desk_rows.specs.History.{revisions, loaded, in_force, rules_in, rule_row, rule_rows, name_opened, opened, names, form_given, form_of, state_of, term_set, terms_given, choice, is_package_of}
-use Rattle.desk_rows.specs.Raised.{chosen_in}
-use Rattle.desk_rows.specs.Tables.{tables, release_row, standing, choice_row, is_other_choice}
+use Rattle.desk_rows.specs.Keys.{is_release, is_rule_of, is_choice_of}
+use Rattle.desk_rows.specs.History.{revisions, in_force, rules_in, rule_row, rule_rows, opened, names, form_of, state_of, is_package_of}
+use Rattle.desk_rows.specs.Tables.{tables, release_row, choice_row}
 use Rattle.desk_rows.specs.Answers.{release_state}
-use Rattle.desk_history.specs.FromTables.{release_found, state_found, form_found, rules_found, rule_of, choice_found}
-use Rattle.desk_history.proofs.Rows.{find-map, find_text, list_any-in_order, length-in_order, text_tells, same_text, texts_turned, map-map}
-use Rattle.desk_history.proofs.Orders.{filter-in_order, choice_is_order}
+use Rattle.desk_history.specs.FromTables.{release_found, state_found, form_found, rules_found, rule_of}
+use Rattle.desk_history.proofs.Rows.{find-map, find_text, list_any-in_order, length-in_order, text_tells}
 use Rattle.desk_rows.specs.declared.reading.Rule.{Rule}
-use Rattle.desk_rows.specs.declared.row.RuleRow.{RuleRow}
-use Rattle.desk_rows.specs.declared.row.PackageRow.{PackageRow}
 use Rattle.desk_rows.specs.declared.row.ReleaseRow.{ReleaseRow}
-use Rattle.desk_rows.specs.declared.row.ChoiceRow.{ChoiceRow}
-use Rattle.desk_rows.specs.declared.state.ReleaseState.{ReleaseState}
 use Rattle.desk_rows.specs.declared.command.Command.{Command}
-use Rattle.desk_rows.specs.declared.command.Command.TheVariants.{LoadCatalogue, Import, OpenRelease, Attach, Choose, Freeze, Meet}
+use Rattle.desk_rows.specs.declared.command.Command.TheVariants.{LoadCatalogue, OpenRelease}
 
 -- Releases
 
@@ -35,8 +28,9 @@ opened-form : (h : List Command) (r : List ℕ) → list_any (λ n. bytes_eq n r
 opened-form [] r = refl
 opened-form (OpenRelease n form ∷ h) r =
     elim (text_tells n r) [
-      inl w ↦ rw w.0 refl
-    | inr w ↦ rw w.0 (opened-form h r) ]
+      | inl w ↦ rw w.0 refl
+      | inr w ↦ rw w.0 (opened-form h r)
+    ]
 opened-form (_ ∷ h) r = opened-form h r
 
 pub names-form : (h : List Command) (r : List ℕ) → list_any (λ n. bytes_eq n r) (names h) ≡ is_some (form_of h r)

@@ -1,8 +1,8 @@
 -- What one more move of a duty leaves.
-use Rattle.std.proofs.Common.{◌≡◌, ◌≢◌, ℕ, ◌+◌, ◌<◌, ◌≤◌, Bool, true, false, cond, List, [], ◌∷◌, ◌++◌, length, map, Option, Some, None, sym, refl, ap, ◌∙◌, subst, arith, append_assoc, length-append, append-nil, add-one, add-zero, zero-add, suc, inl, inr}
+use Rattle.std.proofs.Common.{◌≡◌, ◌≢◌, ℕ, ◌+◌, ◌<◌, ◌≤◌, Bool, true, false, cond, List, [], ◌∷◌, ◌++◌, length, Option, Some, None, sym, refl, ap, ◌∙◌, subst, arith, append_assoc, length-append, append-nil, add-one, inl, inr}
 use Rattle.std.specs.Prelude.{if◌then◌else◌, find, filter, ◌||◌, ◌&&◌, nat_lt, nat_le, ◌==◌, is_some, unwrap_or, IsTrue, not}
 use Rattle.std.specs.List.{flat_map, list_any, list_all, enumerate_from}
-use Rattle.std.specs.Option.{option_map, option_map_or}
+use Rattle.std.specs.Option.{option_map}
 use Rattle.std.proofs.lemmas.List.Elements.{filter-append}
 use Rattle.std.proofs.lemmas.List.Folds.{list_any-append, list_all-append}
 use Rattle.std.proofs.lemmas.Bool.Decides.{nat_tests, eqb_tells}
@@ -12,25 +12,23 @@ use Rattle.desk_rows.specs.Texts.{is_note}
 use Rattle.desk_rows.specs.Readings.{Readings}
 use Rattle.desk_rows.specs.Keys.{is_duty, is_change_of, change_below}
 use Rattle.desk_rows.specs.declared.row.Owed.{Owed}
-use Rattle.desk_rows.specs.Raised.{raised, owed_at, numbered}
-use Rattle.desk_rows.specs.Moves.{duties, duty_row, changes, change_rows, change_row, moves, place, place_after, is_move, all_changes}
+use Rattle.desk_rows.specs.Raised.{raised, numbered}
+use Rattle.desk_rows.specs.Moves.{duties, duty_row, changes, change_rows, change_row, moves, place, place_after, all_changes}
 use Rattle.desk_rows.specs.Tables.{tables, with_duty_state}
-use Rattle.desk_rows.specs.Answers.{answer, answer, IsHistory, is_recorded, duty_at, release_state, release_state_of, meet_answer, meet_duty}
-use Rattle.desk_history.specs.FromTables.{duty_found, steps_found, state_found, release_state_found}
+use Rattle.desk_rows.specs.Answers.{answer, answer, is_recorded, duty_at, release_state_of, meet_answer}
+use Rattle.desk_history.specs.FromTables.{duty_found, steps_found, release_state_found}
 use Rattle.desk_history.proofs.Rows.{find-map, updated-map, put-past}
 use Rattle.desk_history.proofs.Lookups.{state-found}
 use Rattle.desk_history.proofs.Orders.{put_first}
-use Rattle.desk_rows.specs.declared.row.DutyRow.{DutyRow}
 use Rattle.desk_rows.specs.declared.row.ChangeRow.{ChangeRow}
 use Rattle.desk_rows.specs.declared.state.ReleaseState.{ReleaseState}
 use Rattle.desk_rows.specs.declared.state.ReleaseState.TheVariants as release
 use Rattle.desk_rows.specs.declared.state.DutyState.{DutyState}
 use Rattle.desk_rows.specs.declared.state.DutyState.TheVariants as stands
 use Rattle.desk_rows.specs.declared.refusal.Refusal.TheVariants as why
-use Rattle.desk_rows.specs.declared.command.Answer.{Answer}
 use Rattle.desk_rows.specs.declared.command.Answer.TheVariants as answered
 use Rattle.desk_rows.specs.declared.command.Command.{Command}
-use Rattle.desk_rows.specs.declared.command.Command.TheVariants.{LoadCatalogue, Import, OpenRelease, Attach, Choose, Freeze, Meet}
+use Rattle.desk_rows.specs.declared.command.Command.TheVariants.{Freeze, Meet}
 
 abbrev pub in_range : ℕ → ℕ → ℕ → Bool
 in_range n q k = nat_le n q && nat_lt q (n + k)
@@ -60,8 +58,9 @@ find_numbered g q n [] = rw (range_none n q) refl
 find_numbered {A} g q n (x ∷ xs) =
     rw (← add-one (length xs))
     (elim (eqb_tells n q) [
-      inl w ↦ rw (w.0, range_here n q (length xs) w.1) (ap (λ k. Some (g k)) w.1)
-    | inr w ↦ rw (w.0, range_next n q (length xs) w.1) (find_numbered g q (n + 1) xs) ])
+      | inl w ↦ rw (w.0, range_here n q (length xs) w.1) (ap (λ k. Some (g k)) w.1)
+      | inr w ↦ rw (w.0, range_next n q (length xs) w.1) (find_numbered g q (n + 1) xs)
+    ])
 
 -- the row of a duty
 pub duty-found : (w : Readings) (h : List Command) (q : ℕ) → duty_found (tables w h) q ≡ option_map (λ d. duty_row (place w h d.0) d) (duty_at w h q)
@@ -98,7 +97,7 @@ filter-change_rows q n [] = grind (arith, nat_tests)
 filter-change_rows q n (m ∷ ms) =
     filter-append (is_change_of q) (change_rows n ms) (change_row n (length ms + 1) m ∷ [])
     ∙ rw (filter-change_rows q n ms, change_row-duty n (length ms + 1) m)
-      (elim (n == q) as (λ b. (if b then change_rows n ms else []) ++ cond b (change_row n (length ms + 1) m ∷ []) [] ≡ (if b then change_rows n ms ++ change_row n (length ms + 1) m ∷ [] else [])) [ true ↦ refl | false ↦ refl ])
+    (elim (n == q) as (λ b. (if b then change_rows n ms else []) ++ cond b (change_row n (length ms + 1) m ∷ []) [] ≡ (if b then change_rows n ms ++ change_row n (length ms + 1) m ∷ [] else [])) [ true ↦ refl | false ↦ refl ])
 
 -- the changes of a duty are its rows in the table
 pub changes-numbered : (w : Readings) (h : List Command) (q n : ℕ) (xs : List Owed) → filter (is_change_of q) (flat_map (λ (d : ℕ × Owed). changes w h d.0) (enumerate_from n xs)) ≡ (if in_range n q (length xs) then changes w h q else [])
@@ -106,9 +105,10 @@ changes-numbered w h q n [] = rw (range_none n q) refl
 changes-numbered w h q n (x ∷ xs) =
     filter-append (is_change_of q) (changes w h n) (flat_map (λ (d : ℕ × Owed). changes w h d.0) (enumerate_from (n + 1) xs))
     ∙ rw (changes-numbered w h q (n + 1) xs, filter-change_rows q n (moves w h n), ← add-one (length xs))
-      (elim (eqb_tells n q) [
-        inl e ↦ rw (e.0, range_here n q (length xs) e.1, range_over n q (length xs) e.1) (append-nil (change_rows n (moves w h n)) ∙ ap (λ k. changes w h k) e.1)
-      | inr e ↦ rw (e.0, range_next n q (length xs) e.1) refl ])
+    (elim (eqb_tells n q) [
+      | inl e ↦ rw (e.0, range_here n q (length xs) e.1, range_over n q (length xs) e.1) (append-nil (change_rows n (moves w h n)) ∙ ap (λ k. changes w h k) e.1)
+      | inr e ↦ rw (e.0, range_next n q (length xs) e.1) refl
+    ])
 
 pub steps-numbered : (w : Readings) (h : List Command) (q n : ℕ) (xs : List Owed) → length (filter (is_change_of q) (flat_map (λ (d : ℕ × Owed). changes w h d.0) (enumerate_from n xs))) ≡ (if in_range n q (length xs) then length (moves w h q) else 0)
 steps-numbered w h q n xs =
@@ -142,8 +142,9 @@ met_known : {A : Type 0} (day text : List ℕ) (s : ReleaseState) (n : ℕ) (f :
 met_known day text s n f (Some x) h = refl
 met_known day text s n f None h =
     (elim (is_day day) as (λ b. IsTrue (is_recorded (if not b then answered.Refused why.BadDay else (if not (is_note text) then answered.Refused why.BadText else answered.Refused why.UnknownDuty))) → false ≡ true) [
-      true ↦ elim (is_note text) as (λ b. IsTrue (is_recorded (if not b then answered.Refused why.BadText else answered.Refused why.UnknownDuty)) → false ≡ true) [ true ↦ λ e. cc | false ↦ λ e. cc ]
-    | false ↦ λ e. cc ]) h
+      | true ↦ elim (is_note text) as (λ b. IsTrue (is_recorded (if not b then answered.Refused why.BadText else answered.Refused why.UnknownDuty)) → false ≡ true) [ true ↦ λ e. cc | false ↦ λ e. cc ]
+      | false ↦ λ e. cc
+    ]) h
 
 pub meet_known : (w : Readings) (h : List Command) (q : ℕ) (day text : List ℕ) → IsTrue (is_recorded (answer w h (Meet q day text))) → (nat_le 1 q && nat_le q (length (raised w h))) ≡ true
 meet_known w h q day text recorded =
@@ -214,10 +215,11 @@ more_changes w h q day text n (x ∷ xs) in_h =
     ap (λ ms. change_rows n ms ++ flat_map (λ (d : ℕ × Owed). changes w (Meet q day text ∷ h) d.0) (enumerate_from (n + 1) xs)) (moved w h q day text n in_h)
     ∙ (ap (λ rows. change_rows n (if n == q then Meet q day text ∷ moves w h n else moves w h n) ++ rows) (more_changes w h q day text (n + 1) xs in_h)
     ∙ rw (← add-one (length xs))
-      (elim (eqb_tells n q) [
-        inl e ↦ rw (e.0, range_here n q (length xs) e.1, range_over n q (length xs) e.1) (subst (λ (k : ℕ). (change_rows k (moves w h k) ++ change_row k (length (moves w h k) + 1) (Meet q day text) ∷ []) ++ flat_map (λ (d : ℕ × Owed). changes w h d.0) (enumerate_from (k + 1) xs) ≡ put change_below row (changes w h k ++ flat_map (λ (d : ℕ × Owed). changes w h d.0) (enumerate_from (k + 1) xs))) (sym e.1) (at_duty w h q day text xs))
+    (elim (eqb_tells n q) [
+      | inl e ↦ rw (e.0, range_here n q (length xs) e.1, range_over n q (length xs) e.1) (subst (λ (k : ℕ). (change_rows k (moves w h k) ++ change_row k (length (moves w h k) + 1) (Meet q day text) ∷ []) ++ flat_map (λ (d : ℕ × Owed). changes w h d.0) (enumerate_from (k + 1) xs) ≡ put change_below row (changes w h k ++ flat_map (λ (d : ℕ × Owed). changes w h d.0) (enumerate_from (k + 1) xs))) (sym e.1) (at_duty w h q day text xs))
       | inr e ↦ rw (e.0, range_next n q (length xs) e.1)
-          (choose_put (in_range (n + 1) q (length xs)) row (changes w h n) rest (λ g. none_below row n (moves w h n) (λ step le. past_change q n (length (moves w h q) + 1) step (below_range n q (length xs) g)))) ]))
+          (choose_put (in_range (n + 1) q (length xs)) row (changes w h n) rest (λ g. none_below row n (moves w h n) (λ step le. past_change q n (length (moves w h q) + 1) step (below_range n q (length xs) g))))
+    ]))
 
 pub meet-duties : (w : Readings) (h : List Command) (q : ℕ) (day text : List ℕ) → IsTrue (is_recorded (answer w h (Meet q day text))) → duties w (Meet q day text ∷ h) ≡ updated (is_duty q) (with_duty_state stands.Met) (duties w h)
 meet-duties w h q day text recorded =

@@ -1,26 +1,24 @@
 -- A recorded choice is minimal.
-use Rattle.std.proofs.Common.{◌≡◌, ℕ, Bool, true, false, cond, List, [], ◌∷◌, ◌++◌, Option, Some, None, sym, refl, ap, ◌∙◌, subst}
-use Rattle.std.specs.Prelude.{if◌then◌else◌, find, filter, not, ◌&&◌, IsTrue}
+use Rattle.std.proofs.Common.{◌≡◌, ℕ, Bool, true, false, List, [], ◌∷◌, ◌++◌, Option, Some, None, refl, subst}
+use Rattle.std.specs.Prelude.{if◌then◌else◌, find, not, ◌&&◌, IsTrue}
 use Rattle.std.specs.List.{filter_map, list_any}
-use Rattle.std.specs.Option.{option_map_or, option_map}
+use Rattle.std.specs.Option.{option_map_or}
 use Rattle.desk_rows.specs.Readings.{Readings}
 use Rattle.desk_rows.specs.Keys.{is_package, is_document, is_attachment}
 use Rattle.desk_rows.specs.History.{documents, packages, expression_in, attached}
-use Rattle.desk_rows.specs.Answers.{answer, is_recorded, IsHistory, judged, choose_for, choose_shipped, choose_package, choose_document, choose_terms, choose_answer, first_bad, release_state, unready, refused_or}
+use Rattle.desk_rows.specs.Answers.{answer, is_recorded, IsHistory, judged, choose_for, choose_package, choose_document, choose_terms, first_bad, release_state, unready, refused_or}
 use Rattle.desk_history.specs.Laws.{IsMinimalChoice}
 use Rattle.desk_rows.specs.declared.reading.Profile.{Profile}
 use Rattle.desk_rows.specs.declared.reading.Verdict.{Verdict}
 use Rattle.desk_rows.specs.declared.reading.Verdict.TheVariants.{NotEnough, Superfluous, Minimal}
-use Rattle.desk_rows.specs.declared.refusal.Refusal.{Refusal}
 use Rattle.desk_rows.specs.declared.refusal.Refusal.TheVariants as why
 use Rattle.desk_rows.specs.declared.row.DocumentRow.{DocumentRow}
 use Rattle.desk_rows.specs.declared.row.PackageRow.{PackageRow}
 use Rattle.desk_rows.specs.declared.state.ReleaseState.{ReleaseState}
 use Rattle.desk_rows.specs.declared.state.ReleaseState.TheVariants.{IsOpen, Frozen, Withdrawn}
-use Rattle.desk_rows.specs.declared.command.Answer.{Answer}
 use Rattle.desk_rows.specs.declared.command.Answer.TheVariants as answered
 use Rattle.desk_rows.specs.declared.command.Command.{Command}
-use Rattle.desk_rows.specs.declared.command.Command.TheVariants.{LoadCatalogue, Import, OpenRelease, Attach, Choose, Freeze, Meet}
+use Rattle.desk_rows.specs.declared.command.Command.TheVariants.{Choose}
 
 minimal_by : (terms : List (List ℕ)) (v : Verdict) → IsTrue (is_recorded (judged terms v)) → v ≡ Minimal
 minimal_by terms NotEnough e = cc

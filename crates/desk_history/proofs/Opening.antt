@@ -1,8 +1,8 @@
 -- What the opening of a release and an attachment leave.
-use Rattle.std.proofs.Common.{◌≡◌, ◌≢◌, ℕ, ◌+◌, Bool, true, false, cond, List, [], ◌∷◌, ◌++◌, length, map, Option, Some, None, sym, refl, ap, ◌∙◌, subst, arith, inl, inr}
-use Rattle.std.specs.Prelude.{if◌then◌else◌, is_some, unwrap_or, IsTrue, not, ◌&&◌, nat_le, nat_lt}
-use Rattle.std.specs.List.{list_any, filter_map}
-use Rattle.std.specs.Option.{option_map, option_map_or}
+use Rattle.std.proofs.Common.{◌≡◌, ℕ, ◌+◌, Bool, true, false, List, [], ◌∷◌, length, map, Option, Some, None, sym, refl, ap, ◌∙◌, inl, inr}
+use Rattle.std.specs.Prelude.{if◌then◌else◌, is_some, unwrap_or, IsTrue, not}
+use Rattle.std.specs.List.{list_any}
+use Rattle.std.specs.Option.{option_map}
 use Rattle.std.specs.Str.{bytes_eq}
 use Rattle.desk_base.specs.Day.{is_day}
 use Rattle.desk_rows.specs.Lists.{latest, or_else, put}
@@ -10,21 +10,18 @@ use Rattle.desk_rows.specs.Texts.{text_below, is_release_name}
 use Rattle.desk_rows.specs.Readings.{Readings}
 use Rattle.desk_rows.specs.Keys.{release_below}
 use Rattle.desk_rows.specs.Raised.{shipped, chosen_in, raised, owed_at}
-use Rattle.desk_rows.specs.History.{in_force, rules_in, documents, attached, attached_to, opened, names, form_given, form_of, state_given, state_of, revision_of, place_in}
+use Rattle.desk_rows.specs.History.{in_force, rules_in, documents, attached, attached_to, opened, names, form_of, state_given, state_of, revision_of}
 use Rattle.desk_rows.specs.Tables.{release_row}
-use Rattle.desk_rows.specs.Answers.{answer, IsHistory, is_recorded, release_state, open_answer, freeze_answer, walk, profile_in}
-use Rattle.desk_history.proofs.Rows.{map-put, map_others, text_tells, texts_equal, same_text, texts_turned}
+use Rattle.desk_rows.specs.Answers.{IsHistory, is_recorded, release_state, open_answer, freeze_answer, walk, profile_in}
+use Rattle.desk_history.proofs.Rows.{map-put, map_others, text_tells, same_text, texts_turned}
 use Rattle.desk_history.proofs.Lookups.{names-form, length-releases}
-use Rattle.desk_rows.specs.declared.row.ReleaseRow.{ReleaseRow}
 use Rattle.desk_rows.specs.declared.state.ReleaseState.{ReleaseState}
-use Rattle.desk_rows.specs.declared.state.ReleaseState.TheVariants.{IsOpen, Frozen, Withdrawn}
+use Rattle.desk_rows.specs.declared.state.ReleaseState.TheVariants.{IsOpen}
 use Rattle.desk_rows.specs.declared.refusal.Refusal.{Refusal}
 use Rattle.desk_rows.specs.declared.refusal.Refusal.TheVariants as why
-use Rattle.desk_rows.specs.declared.refusal.Limit.TheVariants as limit
-use Rattle.desk_rows.specs.declared.command.Answer.{Answer}
 use Rattle.desk_rows.specs.declared.command.Answer.TheVariants as answered
 use Rattle.desk_rows.specs.declared.command.Command.{Command}
-use Rattle.desk_rows.specs.declared.command.Command.TheVariants.{LoadCatalogue, Import, OpenRelease, Attach, Choose, Freeze, Meet}
+use Rattle.desk_rows.specs.declared.command.Command.TheVariants.{OpenRelease, Freeze}
 
 -- a release that is not opened yet has no state and no revision
 pub record IsUntouched (h : List Command) (r : List ℕ) : Type 0 where
@@ -50,8 +47,9 @@ another : (h : List Command) (r r' : List ℕ) → is_some (release_state h r') 
 another h r r' there none =
     let known : is_some (form_of h r') ≡ true = sym (is_some-map (λ form. state_of h r') (form_of h r')) ∙ there in
     elim (text_tells r' r) [
-      inl w ↦ (let at : is_some (form_of h r') ≡ is_some (form_of h r) = ap (λ n. is_some (form_of h n)) w.1 in cc)
-    | inr w ↦ w.0 ]
+      | inl w ↦ (let at : is_some (form_of h r') ≡ is_some (form_of h r) = ap (λ n. is_some (form_of h n)) w.1 in cc)
+      | inr w ↦ w.0
+    ]
 
 pub untouched : (w : Readings) (h : List Command) (r : List ℕ) → IsHistory w h → is_some (form_of h r) ≡ false → IsUntouched h r
 untouched w [] r ok none = record { state = refl; revision = refl }
@@ -67,8 +65,9 @@ pub open_free : (name form : List ℕ) (forms : List (List ℕ)) (taken : Bool) 
 open_free name form forms false n h = refl
 open_free name form forms true n h =
     (elim (is_release_name name) as (λ b. IsTrue (is_recorded (if not b then answered.Refused why.BadName else (if not (list_any (bytes_eq form) forms) then answered.Refused why.UnknownForm else answered.Refused why.NameTaken))) → true ≡ false) [
-      true ↦ elim (list_any (bytes_eq form) forms) as (λ b. IsTrue (is_recorded (if not b then answered.Refused why.UnknownForm else answered.Refused why.NameTaken)) → true ≡ false) [ true ↦ λ e. cc | false ↦ λ e. cc ]
-    | false ↦ λ e. cc ]) h
+      | true ↦ elim (list_any (bytes_eq form) forms) as (λ b. IsTrue (is_recorded (if not b then answered.Refused why.UnknownForm else answered.Refused why.NameTaken)) → true ≡ false) [ true ↦ λ e. cc | false ↦ λ e. cc ]
+      | false ↦ λ e. cc
+    ]) h
 
 other_row : (h : List Command) (r f n : List ℕ) → bytes_eq n r ≡ false → release_row h n ≡ release_row (OpenRelease r f ∷ h) n
 other_row h r f n differ = let e : bytes_eq r n ≡ false = texts_turned r n ∙ differ in rw e refl

@@ -1,14 +1,14 @@
 -- A filter of sorted rows.
-use Rattle.std.proofs.Common.{◌≡◌, ℕ, Bool, true, false, cond, List, [], ◌∷◌, sym, refl, ap, ◌∙◌}
+use Rattle.std.proofs.Common.{◌≡◌, Bool, true, false, cond, List, [], ◌∷◌, sym, refl, ap, ◌∙◌}
 use Rattle.std.specs.Prelude.{if◌then◌else◌, filter, ◌&&◌, not}
 use Rattle.std.specs.List.{list_all}
-use Rattle.std.specs.Ordering.{is_lt, ordering_reverse, nat_cmp, on, then_cmp}
+use Rattle.std.specs.Ordering.{is_lt, ordering_reverse}
 use Rattle.std.specs.Cmp.{IsTotalOrder}
 use Rattle.std.specs.declared.cmp.Ordering.{Ordering}
 use Rattle.std.specs.declared.cmp.Ordering.TheVariants.{Less, Equal, Greater}
-use Rattle.std.proofs.lemmas.Cmp.{alike_right, tied_back, on_total, then_total, nat_list_cmp_total, nat_cmp_total}
+use Rattle.std.proofs.lemmas.Cmp.{alike_right, on_total, then_total, nat_list_cmp_total, nat_cmp_total}
 use Rattle.desk_rows.specs.Lists.{put, in_order}
-use Rattle.desk_rows.specs.Keys.{below_by, attached_order, choice_order, frozen_order}
+use Rattle.desk_rows.specs.Keys.{below_by, attached_order, choice_order}
 
 -- what the order of rows must keep
 pub record IsOrder {A : Type 0} (below : A → A → Bool) : Type 0 where
@@ -64,21 +64,22 @@ over_all below o x y [] e all = refl
 over_all below o x y (z ∷ zs) e all =
     let here : below z y ≡ false = not_true (below z y) (and_left (not (below z y)) (over below y zs) all) in
     both (not (below z x)) (over below x zs)
-      (ap not (o.asym x z (o.between x y z e here)))
-      (over_all below o x y zs e (and_right (not (below z y)) (over below y zs) all))
+    (ap not (o.asym x z (o.between x y z e here)))
+    (over_all below o x y zs e (and_right (not (below z y)) (over below y zs) all))
 
 over-put : {A : Type 0} (below : A → A → Bool) (x y : A) (zs : List A) → below x y ≡ false → over below y zs ≡ true → over below y (put below x zs) ≡ true
 over-put below x y [] e all = rw e refl
 over-put below x y (z ∷ zs) e all =
     elim (below x z) as (λ b. over below y (if b then x ∷ z ∷ zs else z ∷ put below x zs) ≡ true) [
-      true ↦ both (not (below x y)) (over below y (z ∷ zs)) (ap not e) all
-    | false ↦ both (not (below z y)) (over below y (put below x zs)) (and_left (not (below z y)) (over below y zs) all) (over-put below x y zs e (and_right (not (below z y)) (over below y zs) all)) ]
+      | true ↦ both (not (below x y)) (over below y (z ∷ zs)) (ap not e) all
+      | false ↦ both (not (below z y)) (over below y (put below x zs)) (and_left (not (below z y)) (over below y zs) all) (over-put below x y zs e (and_right (not (below z y)) (over below y zs) all))
+    ]
 
 put_step : {A : Type 0} (below : A → A → Bool) → IsOrder below → (x y : A) (ys : List A) (b : Bool) → below x y ≡ b → ascends below (y ∷ ys) ≡ true → ascends below (put below x ys) ≡ true → ascends below (if b then x ∷ y ∷ ys else y ∷ put below x ys) ≡ true
 put_step below o x y ys true e up rest =
     both (over below x (y ∷ ys)) (ascends below (y ∷ ys))
-      (both (not (below y x)) (over below x ys) (ap not (o.asym x y e)) (over_all below o x y ys e (and_left (over below y ys) (ascends below ys) up)))
-      up
+    (both (not (below y x)) (over below x ys) (ap not (o.asym x y e)) (over_all below o x y ys e (and_left (over below y ys) (ascends below ys) up)))
+    up
 put_step below o x y ys false e up rest =
     both (over below y (put below x ys)) (ascends below (put below x ys)) (over-put below x y ys e (and_left (over below y ys) (ascends below ys) up)) rest
 
@@ -104,8 +105,9 @@ under_over below o test x y (z ∷ zs) e all =
     let here : below x z ≡ true = o.between x y z e (not_true (below z y) (and_left (not (below z y)) (over below y zs) all)) in
     let rest = under_over below o test x y zs e (and_right (not (below z y)) (over below y zs) all) in
     elim (test z) as (λ b. under below x (cond b (z ∷ filter test zs) (filter test zs)) ≡ true) [
-      true ↦ both (below x z) (under below x (filter test zs)) here rest
-    | false ↦ rest ]
+      | true ↦ both (below x z) (under below x (filter test zs)) here rest
+      | false ↦ rest
+    ]
 
 -- the row in its place, where it passes
 abbrev pub put_if : {A : Type 0} → (A → A → Bool) → Bool → A → List A → List A
@@ -114,18 +116,21 @@ put_if below kept x ys = if kept then put below x ys else ys
 filter_here : {A : Type 0} (below : A → A → Bool) → IsOrder below → (test : A → Bool) (x y : A) (ys : List A) → below x y ≡ true → over below y ys ≡ true → filter test (x ∷ y ∷ ys) ≡ put_if below (test x) x (filter test (y ∷ ys))
 filter_here below o test x y ys e all =
     let rest : under below x (filter test (y ∷ ys)) ≡ true =
-        elim (test y) as (λ b. under below x (cond b (y ∷ filter test ys) (filter test ys)) ≡ true) [
-          true ↦ both (below x y) (under below x (filter test ys)) e (under_over below o test x y ys e all)
-        | false ↦ under_over below o test x y ys e all ] in
+    elim (test y) as (λ b. under below x (cond b (y ∷ filter test ys) (filter test ys)) ≡ true) [
+      | true ↦ both (below x y) (under below x (filter test ys)) e (under_over below o test x y ys e all)
+      | false ↦ under_over below o test x y ys e all
+    ] in
     elim (test x) as (λ b. cond b (x ∷ filter test (y ∷ ys)) (filter test (y ∷ ys)) ≡ put_if below b x (filter test (y ∷ ys))) [
-      true ↦ sym (put_first below x (filter test (y ∷ ys)) rest)
-    | false ↦ refl ]
+      | true ↦ sym (put_first below x (filter test (y ∷ ys)) rest)
+      | false ↦ refl
+    ]
 
 filter_later : {A : Type 0} (below : A → A → Bool) (test : A → Bool) (x y : A) (ys : List A) (b : Bool) → below x y ≡ false → filter test (put below x ys) ≡ put_if below b x (filter test ys) → cond (test y) (y ∷ filter test (put below x ys)) (filter test (put below x ys)) ≡ put_if below b x (cond (test y) (y ∷ filter test ys) (filter test ys))
 filter_later below test x y ys true e rest =
     rw rest (elim (test y) as (λ c. cond c (y ∷ put below x (filter test ys)) (put below x (filter test ys)) ≡ put below x (cond c (y ∷ filter test ys) (filter test ys))) [
-      true ↦ rw e refl
-    | false ↦ refl ])
+      | true ↦ rw e refl
+      | false ↦ refl
+    ])
 filter_later below test x y ys false e rest = rw rest refl
 
 filter_step : {A : Type 0} (below : A → A → Bool) → IsOrder below → (test : A → Bool) (x y : A) (ys : List A) (b : Bool) → below x y ≡ b → ascends below (y ∷ ys) ≡ true → filter test (put below x ys) ≡ put_if below (test x) x (filter test ys) → filter test (if b then x ∷ y ∷ ys else y ∷ put below x ys) ≡ put_if below (test x) x (filter test (y ∷ ys))
@@ -142,7 +147,7 @@ filter-in_order below o test [] = refl
 filter-in_order below o test (x ∷ xs) =
     filter-put below o test x (in_order below xs) (ascends-in_order below o xs)
     ∙ rw (filter-in_order below o test xs)
-      (elim (test x) as (λ b. put_if below b x (in_order below (filter test xs)) ≡ in_order below (cond b (x ∷ filter test xs) (filter test xs))) [ true ↦ refl | false ↦ refl ])
+    (elim (test x) as (λ b. put_if below b x (in_order below (filter test xs)) ≡ in_order below (cond b (x ∷ filter test xs) (filter test xs))) [ true ↦ refl | false ↦ refl ])
 
 -- the orders of the tables
 pub attached_is_order : IsOrder (below_by attached_order)
@@ -151,4 +156,4 @@ attached_is_order = order_of (then_total (on_total (λ row. row.release) nat_lis
 pub choice_is_order : IsOrder (below_by choice_order)
 choice_is_order =
     order_of (then_total (on_total (λ row. row.release) nat_list_cmp_total) (then_total (on_total (λ row. row.document) nat_cmp_total)
-      (then_total (on_total (λ row. row.package_id) nat_list_cmp_total) (on_total (λ row. row.term) nat_list_cmp_total))))
+    (then_total (on_total (λ row. row.package_id) nat_list_cmp_total) (on_total (λ row. row.term) nat_list_cmp_total))))

@@ -1,25 +1,22 @@
 -- The answers to queries, from tables.
-use Rattle.std.proofs.Common.{◌≡◌, ℕ, ◌+◌, ◌≤◌, Bool, true, false, List, [], ◌∷◌, length, map, Option, Some, None, sym, refl, ap, ◌∙◌, arith}
-use Rattle.std.specs.Prelude.{if◌then◌else◌, filter, ◌&&◌, nat_le, nat_lt, is_some, cond}
-use Rattle.std.specs.List.{enumerate_from, flat_map}
-use Rattle.std.specs.Option.{option_map}
+use Rattle.std.proofs.Common.{◌≡◌, ℕ, ◌+◌, ◌≤◌, true, false, List, [], ◌∷◌, length, map, refl, ap, ◌∙◌, arith}
+use Rattle.std.specs.Prelude.{if◌then◌else◌, filter, is_some, cond}
+use Rattle.std.specs.List.{enumerate_from}
 use Rattle.std.proofs.lemmas.Bool.Decides.{nat_tests}
 use Rattle.desk_rows.specs.Readings.{Readings}
 use Rattle.desk_rows.specs.Keys.{is_change_of, is_duty_of}
 use Rattle.desk_rows.specs.History.{form_of}
 use Rattle.desk_rows.specs.declared.row.Owed.{Owed}
-use Rattle.desk_rows.specs.Raised.{raised, numbered}
-use Rattle.desk_rows.specs.Moves.{duties, duty_row, changes, place, all_changes}
+use Rattle.desk_rows.specs.Raised.{raised}
+use Rattle.desk_rows.specs.Moves.{duty_row, changes, place, all_changes}
 use Rattle.desk_rows.specs.Tables.{Tables, tables}
 use Rattle.desk_rows.specs.Queries.{queried, duty_line, duties_of, totals_of}
-use Rattle.desk_history.specs.FromTables.{queried_from, release_found}
+use Rattle.desk_history.specs.FromTables.{queried_from}
 use Rattle.desk_history.proofs.Lookups.{is_found}
 use Rattle.desk_history.proofs.Meeting.{changes-numbered, in_range}
 use Rattle.desk_rows.specs.declared.row.DutyRow.{DutyRow}
 use Rattle.desk_rows.specs.declared.row.ChangeRow.{ChangeRow}
 use Rattle.desk_rows.specs.declared.refusal.Refusal.TheVariants as why
-use Rattle.desk_rows.specs.declared.command.DutyLine.{DutyLine}
-use Rattle.desk_rows.specs.declared.command.Answer.{Answer}
 use Rattle.desk_rows.specs.declared.command.Answer.TheVariants as answered
 use Rattle.desk_rows.specs.declared.command.Query.{Query}
 use Rattle.desk_rows.specs.declared.command.Query.TheVariants as query
@@ -39,10 +36,11 @@ lines_from w h r n (x ∷ xs) le e =
     let rest : List DutyRow = filter (is_duty_of r) (map (λ (d : ℕ × Owed). duty_row (place w h d.0) d) (enumerate_from (n + 1) xs)) in
     let here : in_range 1 n (length (raised w h)) ≡ true = in_all n (length (raised w h)) (length xs) le (omega arith) in
     let line : duty_line (λ q. filter (is_change_of q) (all_changes w h)) row ≡ duty_line (changes w h) row =
-        ap (λ rows. let found : ℕ → List ChangeRow = λ q. rows in duty_line found row) (changes-found w h n here) in
+    ap (λ rows. let found : ℕ → List ChangeRow = λ q. rows in duty_line found row) (changes-found w h n here) in
     elim (is_duty_of r row) as (λ b. map (duty_line (λ q. filter (is_change_of q) (all_changes w h))) (cond b (row ∷ rest) rest) ≡ map (duty_line (changes w h)) (cond b (row ∷ rest) rest)) [
-      true ↦ rw line (ap (λ xs. duty_line (changes w h) row ∷ xs) (lines_from w h r (n + 1) xs (omega arith) (omega arith)))
-    | false ↦ lines_from w h r (n + 1) xs (omega arith) (omega arith) ]
+      | true ↦ rw line (ap (λ xs. duty_line (changes w h) row ∷ xs) (lines_from w h r (n + 1) xs (omega arith) (omega arith)))
+      | false ↦ lines_from w h r (n + 1) xs (omega arith) (omega arith)
+    ]
 
 lines-found : (w : Readings) (h : List Command) (r : List ℕ) → map (duty_line (λ q. filter (is_change_of q) (all_changes w h))) (duties_of w h r) ≡ map (duty_line (changes w h)) (duties_of w h r)
 lines-found w h r = lines_from w h r 1 (raised w h) (omega arith) refl

@@ -1,5 +1,5 @@
 -- A duty is raised exactly where a freeze of its release raises it.
-use Rattle.std.proofs.Common.{◌≡◌, ℕ, ◌+◌, List, [], ◌∷◌, ◌++◌, map, length, Option, Some, None, sym, refl, ap, ◌∙◌, subst, inl, inr, arith}
+use Rattle.std.proofs.Common.{◌≡◌, ℕ, List, [], ◌∷◌, ◌++◌, map, Option, Some, None, sym, refl, ap, ◌∙◌, subst, inl, inr}
 use Rattle.std.specs.Prelude.{◌⊎◌, unwrap_or}
 use Rattle.std.specs.List.{flat_map}
 use Rattle.desk_rows.specs.Lists.{IsIn}
@@ -66,26 +66,51 @@ is_in_raised w h d is =
     let form = unwrap_or (form_of before d.release) [] in
     let r = d.release in
     let codes : IsIn d (map (owed_code r is.row d.term is.rule) is.rule.codes) =
-      subst (λ (x : Owed). IsIn x (map (owed_code r is.row d.term is.rule) is.rule.codes)) (same_owed d is.row is.rule is.document is.package_id is.spelled)
-        (in_map (owed_code r is.row d.term is.rule) d.code is.rule.codes is.code) in
+    subst (λ (x : Owed). IsIn x (map (owed_code r is.row d.term is.rule) is.rule.codes)) (same_owed d is.row is.rule is.document is.package_id is.spelled)
+    (in_map (owed_code r is.row d.term is.rule) d.code is.rule.codes is.code) in
     let by_term : IsIn d (owed_under r is.row d.term (rule_adopted w rules form d.term)) = rw is.owes codes in
     let by_package : IsIn d (owed_for_terms w rules form r is.row (chosen_in w before r is.row)) =
-      in_flat_map (λ (term : List ℕ). owed_under r is.row term (rule_adopted w rules form term)) d.term d (chosen_in w before r is.row) is.chosen by_term in
+    in_flat_map (λ (term : List ℕ). owed_under r is.row term (rule_adopted w rules form term)) d.term d (chosen_in w before r is.row) is.chosen by_term in
     let by_freeze : IsIn d (owed_at w before r) =
-      in_flat_map (λ (p : PackageRow). owed_for_terms w rules form r p (chosen_in w before r p)) is.row d (shipped w before r) is.ships by_package in
+    in_flat_map (λ (p : PackageRow). owed_for_terms w rules form r p (chosen_in w before r p)) is.row d (shipped w before r) is.ships by_package in
     subst (λ (hs : List Command). IsIn d (raised w hs)) (sym is.split) (raised_there w is.later before r is.day d by_freeze)
 
 later_raised : (w : Readings) (c : Command) (h : List Command) (d : Owed) → IsRaised w h d → IsRaised w (c ∷ h) d
 later_raised w c h d is = record {
-  later = c ∷ is.later; before = is.before; day = is.day; row = is.row; rule = is.rule; split = ap (λ hs. c ∷ hs) is.split;
-  ships = is.ships; document = is.document; package_id = is.package_id; chosen = is.chosen; owes = is.owes; code = is.code; spelled = is.spelled }
+  later = c ∷ is.later;
+  before = is.before;
+  day = is.day;
+  row = is.row;
+  rule = is.rule;
+  split = ap (λ hs. c ∷ hs) is.split;
+  ships = is.ships;
+  document = is.document;
+  package_id = is.package_id;
+  chosen = is.chosen;
+  owes = is.owes;
+  code = is.code;
+  spelled = is.spelled;
+}
 
 by_rule : (w : Readings) (h : List Command) (r day : List ℕ) (d : Owed) (p : PackageRow) (term : List ℕ) (o : Option Rule) → IsIn p (shipped w h r) → IsIn term (choice w h r p.document p.id) → rule_adopted w (rules_in (in_force w h)) (unwrap_or (form_of h r) []) term ≡ o → IsIn d (owed_under r p term o) → IsRaised w (Freeze r day ∷ h) d
 by_rule w h r day d p term None ships chosen e m = absurd m
 by_rule w h r day d p term (Some rule) ships chosen e m =
     let found = from_map (owed_code r p term rule) d rule.codes m in
     let here : IsRaised w (Freeze r day ∷ h) (owed_code r p term rule found.0) = record {
-      later = []; before = h; day = day; row = p; rule = rule; split = refl; ships = ships; document = refl; package_id = refl; chosen = chosen; owes = e; code = found.1; spelled = refl } in
+      later = [];
+      before = h;
+      day = day;
+      row = p;
+      rule = rule;
+      split = refl;
+      ships = ships;
+      document = refl;
+      package_id = refl;
+      chosen = chosen;
+      owes = e;
+      code = found.1;
+      spelled = refl;
+    } in
     subst (IsRaised w (Freeze r day ∷ h)) found.2 here
 
 by_freeze : (w : Readings) (h : List Command) (r day : List ℕ) (d : Owed) → IsIn d (owed_at w h r) → IsRaised w (Freeze r day ∷ h) d

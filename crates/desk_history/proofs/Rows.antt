@@ -1,11 +1,10 @@
 -- Lists of rows made of lists of keys.
-use Rattle.std.proofs.Common.{◌≡◌, ◌≢◌, ℕ, ◌+◌, Bool, true, false, cond, List, [], ◌∷◌, ◌++◌, length, map, Option, Some, None, sym, refl, ap, ◌∙◌, arith, inl, inr}
-use Rattle.std.specs.Prelude.{if◌then◌else◌, find, filter, ◌||◌, ◌⊎◌, not}
-use Rattle.std.specs.List.{flat_map, list_any}
+use Rattle.std.proofs.Common.{◌≡◌, ◌≢◌, ℕ, ◌+◌, Bool, true, false, cond, List, [], ◌∷◌, ◌++◌, length, map, Some, None, sym, refl, ap, ◌∙◌, arith, inl, inr}
+use Rattle.std.specs.Prelude.{if◌then◌else◌, find, ◌||◌, ◌⊎◌}
+use Rattle.std.specs.List.{list_any}
 use Rattle.std.specs.Option.{option_map}
 use Rattle.std.specs.Str.{bytes_eq}
 use Rattle.std.proofs.lemmas.Slice.Eq.{bytes_eq-Decides}
-use Rattle.std.proofs.lemmas.Bool.Decides.{nat_tests}
 use Rattle.desk_rows.specs.Lists.{put, put_all, in_order, updated}
 
 -- a test of two texts tells whether they are the same
@@ -37,8 +36,9 @@ map-put below below' f same x [] = refl
 map-put below below' f same x (y ∷ ys) =
     rw (same x y)
     (elim (below x y) as (λ b. map f (if b then x ∷ y ∷ ys else y ∷ put below x ys) ≡ (if b then f x ∷ f y ∷ map f ys else f y ∷ put below' (f x) (map f ys))) [
-      true ↦ refl
-    | false ↦ ap (λ zs. f y ∷ zs) (map-put below below' f same x ys) ])
+      | true ↦ refl
+      | false ↦ ap (λ zs. f y ∷ zs) (map-put below below' f same x ys)
+    ])
 
 swap_or : (a b c : Bool) → (a || (b || c)) ≡ (b || (a || c))
 swap_or true true c = refl
@@ -50,8 +50,9 @@ pub list_any-put : {A : Type 0} (below : A → A → Bool) (test : A → Bool) (
 list_any-put below test x [] = refl
 list_any-put below test x (y ∷ ys) =
     elim (below x y) as (λ b. list_any test (if b then x ∷ y ∷ ys else y ∷ put below x ys) ≡ (test x || (test y || list_any test ys))) [
-      true ↦ refl
-    | false ↦ ap (λ b. test y || b) (list_any-put below test x ys) ∙ swap_or (test y) (test x) (list_any test ys) ]
+      | true ↦ refl
+      | false ↦ ap (λ b. test y || b) (list_any-put below test x ys) ∙ swap_or (test y) (test x) (list_any test ys)
+    ]
 
 pub list_any-in_order : {A : Type 0} (below : A → A → Bool) (test : A → Bool) (xs : List A) → list_any test (in_order below xs) ≡ list_any test xs
 list_any-in_order below test [] = refl
@@ -61,8 +62,9 @@ pub length-put : {A : Type 0} (below : A → A → Bool) (x : A) (xs : List A) �
 length-put below x [] = omega arith
 length-put below x (y ∷ ys) =
     elim (below x y) as (λ b. length (if b then x ∷ y ∷ ys else y ∷ put below x ys) ≡ length (y ∷ ys) + 1) [
-      true ↦ omega arith
-    | false ↦ omega (arith, length-put below x ys) ]
+      | true ↦ omega arith
+      | false ↦ omega (arith, length-put below x ys)
+    ]
 
 pub length-in_order : {A : Type 0} (below : A → A → Bool) (xs : List A) → length (in_order below xs) ≡ length xs
 length-in_order below [] = refl
@@ -73,15 +75,17 @@ pub find-map : {A B : Type 0} (test : B → Bool) (f : A → B) (xs : List A) �
 find-map test f [] = refl
 find-map test f (x ∷ xs) =
     elim (test (f x)) as (λ b. cond b (Some (f x)) (find test (map f xs)) ≡ option_map f (cond b (Some x) (find (λ x. test (f x)) xs))) [
-      true ↦ refl
-    | false ↦ find-map test f xs ]
+      | true ↦ refl
+      | false ↦ find-map test f xs
+    ]
 
 pub find_text : (r : List ℕ) (xs : List (List ℕ)) → find (λ n. bytes_eq n r) xs ≡ (if list_any (λ n. bytes_eq n r) xs then Some r else None)
 find_text r [] = refl
 find_text r (x ∷ xs) =
     elim (text_tells x r) [
-      inl w ↦ rw w.0 (ap Some w.1)
-    | inr w ↦ rw w.0 (find_text r xs) ]
+      | inl w ↦ rw w.0 (ap Some w.1)
+      | inr w ↦ rw w.0 (find_text r xs)
+    ]
 
 or_left : (a b : Bool) → (a || b) ≡ false → a ≡ false
 or_left true b e = e

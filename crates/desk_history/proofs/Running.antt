@@ -1,9 +1,9 @@
 -- One more command of a run.
-use Rattle.std.proofs.Common.{◌≡◌, ℕ, ◌+◌, ◌<◌, ◌≤◌, Bool, true, false, List, [], ◌∷◌, ◌++◌, length, get_or, sym, refl, ap, ◌∙◌, subst, arith}
-use Rattle.std.specs.Prelude.{if◌then◌else◌, IsTrue}
+use Rattle.std.proofs.Common.{◌≡◌, ◌<◌, List, [], ◌∷◌, ◌++◌, length, get_or, sym, ap, subst, arith}
+use Rattle.std.specs.Prelude.{if◌then◌else◌}
 use Rattle.desk_rows.specs.Readings.{Readings}
-use Rattle.desk_rows.specs.Answers.{answer, IsHistory, is_recorded, noted}
-use Rattle.desk_rows.specs.Runs.{AreAnswers, IsAnswer, history_after, history_with, is_kept}
+use Rattle.desk_rows.specs.Answers.{IsHistory, is_recorded}
+use Rattle.desk_rows.specs.Runs.{AreAnswers, IsAnswer, history_after, history_with}
 use Rattle.desk_history.proofs.Steps.{IsHistory-noted}
 use Rattle.desk_rows.specs.declared.command.Command.{Command}
 use Rattle.desk_rows.specs.declared.command.Outcome.{Outcome}

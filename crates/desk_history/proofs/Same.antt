@@ -1,5 +1,5 @@
 -- Tables with the same rows.
-use Rattle.std.proofs.Common.{◌≡◌, List, ap, ◌∙◌, refl}
+use Rattle.std.proofs.Common.{◌≡◌, ap, ◌∙◌}
 use Rattle.desk_rows.specs.Tables.{Tables}
 
 pub same_tables : (a b : Tables) → a.catalogue ≡ b.catalogue → a.forms ≡ b.forms → a.rule ≡ b.rule → a.document ≡ b.document → a.packages ≡ b.packages → a.extracted ≡ b.extracted → a.conclusion ≡ b.conclusion → a.adoption ≡ b.adoption → a.releases ≡ b.releases → a.attached ≡ b.attached → a.choice ≡ b.choice → a.frozen ≡ b.frozen → a.duty ≡ b.duty → a.changes ≡ b.changes → a ≡ b

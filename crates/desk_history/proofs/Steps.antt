@@ -1,13 +1,12 @@
 -- The tables of a history answer and change as the history does.
-use Rattle.std.proofs.Common.{◌≡◌, ℕ, ◌+◌, Bool, true, false, List, [], ◌∷◌, ◌++◌, length, map, Option, sym, refl, ap, ◌∙◌, subst, append-nil}
+use Rattle.std.proofs.Common.{◌≡◌, ℕ, Bool, true, false, List, ◌∷◌, ◌++◌, length, map, sym, refl, ap, ◌∙◌}
 use Rattle.std.specs.Prelude.{if◌then◌else◌, IsTrue, is_some, find, filter}
 use Rattle.std.specs.List.{list_any}
-use Rattle.desk_rows.specs.Lists.{put_all, in_order}
+use Rattle.desk_rows.specs.Lists.{put_all}
 use Rattle.desk_rows.specs.Readings.{Readings}
-use Rattle.desk_rows.specs.Keys.{is_document, is_package, is_attachment, below_by, choice_order, is_change_of, is_duty_of}
+use Rattle.desk_rows.specs.Keys.{is_document, is_package, is_attachment, below_by, choice_order}
 use Rattle.desk_rows.specs.History.{opened, form_of, forms_in, in_force, documents, packages, attached, attached_to, term_set}
-use Rattle.desk_rows.specs.Raised.{raised}
-use Rattle.desk_rows.specs.Moves.{changes, duties, all_changes}
+use Rattle.desk_rows.specs.Moves.{duties, all_changes}
 use Rattle.desk_rows.specs.Tables.{Tables, tables, applied, standing, choice_row, is_other_choice}
 use Rattle.desk_rows.specs.Answers.{answer, IsHistory, is_recorded, noted, open_answer, attach_answer, choose_answer}
 use Rattle.desk_history.specs.FromTables.{answer_from, change_for, rows_noted, raised_row}
@@ -43,16 +42,16 @@ open-rows w h r f ok recorded =
 choose-rows : (w : Readings) (h : List Command) (r p : List ℕ) (d : ℕ) (texts : List (List ℕ)) → tables w (Choose r d p texts ∷ h) ≡ applied (change_for w (tables w h) (Choose r d p texts)) (tables w h)
 choose-rows w h r p d texts =
     same_tables _ _ refl refl refl refl refl refl refl refl refl refl
-      (in_order-append (below_by choice_order) (map (choice_row r d p) (term_set w texts)) (filter (is_other_choice r d p) (standing w h))
-       ∙ ap (put_all (below_by choice_order) (map (choice_row r d p) (term_set w texts))) (sym (filter-in_order (below_by choice_order) choice_is_order (is_other_choice r d p) (standing w h))))
-      refl refl refl
+    (in_order-append (below_by choice_order) (map (choice_row r d p) (term_set w texts)) (filter (is_other_choice r d p) (standing w h))
+    ∙ ap (put_all (below_by choice_order) (map (choice_row r d p) (term_set w texts))) (sym (filter-in_order (below_by choice_order) choice_is_order (is_other_choice r d p) (standing w h))))
+    refl refl refl
 
 freeze-rows : (w : Readings) (h : List Command) (r day : List ℕ) → tables w (Freeze r day ∷ h) ≡ applied (change_for w (tables w h) (Freeze r day)) (tables w h)
 freeze-rows w h r day =
     same_tables _ _ refl refl refl refl refl refl refl refl (freeze-releases w h r day) refl refl
-      (freeze-frozen w h r day)
-      (freeze-duties w h r day ∙ ap (λ rows. duties w h ++ rows) (new-duties w h r))
-      (freeze-changes w h r day ∙ ap (λ rows. all_changes w h ++ map (raised_row day) rows) (new-duties w h r))
+    (freeze-frozen w h r day)
+    (freeze-duties w h r day ∙ ap (λ rows. duties w h ++ rows) (new-duties w h r))
+    (freeze-changes w h r day ∙ ap (λ rows. all_changes w h ++ map (raised_row day) rows) (new-duties w h r))
 
 meet-rows : (w : Readings) (h : List Command) (q : ℕ) (day text : List ℕ) → IsTrue (is_recorded (answer w h (Meet q day text))) → tables w (Meet q day text ∷ h) ≡ applied (change_for w (tables w h) (Meet q day text)) (tables w h)
 meet-rows w h q day text recorded =

@@ -1,6 +1,6 @@
 -- The answer and the change of a command, from the rows of tables: what the code computes.
-use Rattle.std.specs.Prelude.{ℕ, ◌+◌, Bool, true, false, List, [], ◌∷◌, length, filter, map, find, count_by, Option, Some, None, is_some, unwrap_or, if◌then◌else◌}
-use Rattle.std.specs.List.{list_any, flat_map, enumerate_from, filter_map}
+use Rattle.std.specs.Prelude.{ℕ, ◌+◌, Bool, List, [], length, filter, map, find, Option, None, is_some, unwrap_or, if◌then◌else◌}
+use Rattle.std.specs.List.{list_any, enumerate_from}
 use Rattle.std.specs.Option.{option_map, option_map_or}
 use Rattle.std.specs.Result.{result_ok}
 use Rattle.desk_rows.specs.Readings.{Readings}
@@ -22,7 +22,6 @@ use Rattle.desk_rows.specs.declared.row.DocumentRow.{DocumentRow}
 use Rattle.desk_rows.specs.declared.row.RuleRow.{RuleRow}
 use Rattle.desk_rows.specs.declared.row.PackageRow.{PackageRow}
 use Rattle.desk_rows.specs.declared.row.ReleaseRow.{ReleaseRow}
-use Rattle.desk_rows.specs.declared.row.ChoiceRow.{ChoiceRow}
 use Rattle.desk_rows.specs.declared.row.FrozenRow.{FrozenRow}
 use Rattle.desk_rows.specs.declared.row.DutyRow.{DutyRow}
 use Rattle.desk_rows.specs.declared.row.ChangeRow.{ChangeRow}
@@ -90,8 +89,8 @@ answer_from w t (Attach r d) = attach_answer (state_found t r) (is_some (find (i
 answer_from w t (Choose r d p texts) = choose_answer w texts (state_found t r) (find (is_document d) t.document) (find (is_package d p) t.packages) (list_any (is_attachment r d) t.attached)
 answer_from w t (Freeze r day) =
     freeze_answer day (state_found t r) (length (attached_to t.attached r))
-        (walk w (rules_found t) (form_found t r) (profile_in t.document) (choice_found t r) (shipped_found t r))
-        (length t.duty) (length (owed_found w t r))
+    (walk w (rules_found t) (form_found t r) (profile_in t.document) (choice_found t r) (shipped_found t r))
+    (length t.duty) (length (owed_found w t r))
 answer_from w t (Meet q day text) = meet_answer day text (release_state_found t (duty_found t q)) (steps_found t q) (option_map (λ row. row.state) (duty_found t q))
 
 abbrev pub new_duty : ℕ × Owed → DutyRow
@@ -113,7 +112,7 @@ loaded_change t text catalogue =
 abbrev pub imported_as : ℕ → List ℕ → Profile → Option Document → Change
 imported_as n bytes profile document =
     change.Imported (record { number = n; namespace = namespace_in document; bytes = bytes; profile = profile })
-        (map (package_row n) (packages_in document)) (map (extracted_row n) (references_in document))
+    (map (package_row n) (packages_in document)) (map (extracted_row n) (references_in document))
 
 abbrev pub imported_change : Tables → List ℕ → Profile → Option Document → Change
 imported_change t bytes profile document = imported_as (length t.document + 1) bytes profile document
@@ -137,7 +136,7 @@ froze_as t r day rows owed = froze_change t r day rows (map new_duty (enumerate_
 abbrev pub freeze_open_found : Readings → Tables → List ℕ → List ℕ → Answer
 freeze_open_found w t r form =
     freeze_open (length (attached_to t.attached r)) (walk w (rules_found t) form (profile_in t.document) (choice_found t r) (shipped_found t r))
-        (length t.duty) (length (owed_for w (rules_found t) form r (choice_found t r) (shipped_found t r)))
+    (length t.duty) (length (owed_for w (rules_found t) form r (choice_found t r) (shipped_found t r)))
 
 abbrev pub freeze_change_found : Readings → Tables → List ℕ → List ℕ → List ℕ → Change
 freeze_change_found w t r form day =

@@ -1,16 +1,13 @@
 -- Laws of the recorded history, in the subject's own words.
-use Rattle.std.specs.Prelude.{◌≡◌, ℕ, ◌+◌, Bool, true, List, [], ◌∷◌, ◌++◌, find, Option, Some, None}
+use Rattle.std.specs.Prelude.{◌≡◌, ℕ, List, find, Some}
 use Rattle.std.specs.List.{filter_map}
-use Rattle.desk_rows.specs.Lists.{IsIn}
 use Rattle.desk_rows.specs.Readings.{Readings}
 use Rattle.desk_rows.specs.Keys.{is_package, is_document}
-use Rattle.desk_rows.specs.History.{documents, packages, expression_in, profile_of}
-use Rattle.desk_rows.specs.Answers.{answer, is_recorded, IsHistory}
+use Rattle.desk_rows.specs.History.{documents, packages, expression_in}
 use Rattle.desk_rows.specs.declared.reading.Verdict.TheVariants.{Minimal}
 use Rattle.desk_rows.specs.declared.row.DocumentRow.{DocumentRow}
 use Rattle.desk_rows.specs.declared.row.PackageRow.{PackageRow}
 use Rattle.desk_rows.specs.declared.command.Command.{Command}
-use Rattle.desk_rows.specs.declared.command.Command.TheVariants.{Choose}
 
 -- a choice that was recorded after these commands: the package has a concluded expression, of which the terms are a minimal set
 pub record IsMinimalChoice (w : Readings) (before : List Command) (d : ℕ) (p : List ℕ) (texts : List (List ℕ)) : Type 0 where

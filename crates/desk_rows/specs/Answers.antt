@@ -117,7 +117,7 @@ choose_terms w terms state document found is_attached =
 abbrev pub choose_answer : Readings → List (List ℕ) → Option ReleaseState → Option DocumentRow → Option PackageRow → Bool → Answer
 choose_answer w texts state document found is_attached =
     option_map_or (λ i. answered.Refused (why.BadTerm i)) (first_bad w 0 texts)
-        (choose_terms w (filter_map w.term texts) state document found is_attached)
+    (choose_terms w (filter_map w.term texts) state document found is_attached)
 
 -- Freeze's walk over the shipped packages: the first that fails
 

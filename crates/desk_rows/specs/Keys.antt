@@ -29,12 +29,12 @@ attached_order = then_cmp (on (λ row. row.release) (slice_cmp nat_cmp)) (on (λ
 abbrev pub choice_order : ChoiceRow → ChoiceRow → Ordering
 choice_order =
     then_cmp (on (λ row. row.release) (slice_cmp nat_cmp)) (then_cmp (on (λ row. row.document) nat_cmp)
-        (then_cmp (on (λ row. row.package_id) (slice_cmp nat_cmp)) (on (λ row. row.term) (slice_cmp nat_cmp))))
+    (then_cmp (on (λ row. row.package_id) (slice_cmp nat_cmp)) (on (λ row. row.term) (slice_cmp nat_cmp))))
 
 abbrev pub frozen_order : FrozenRow → FrozenRow → Ordering
 frozen_order =
     then_cmp (on (λ row. row.release) (slice_cmp nat_cmp)) (then_cmp (on (λ row. row.document) nat_cmp)
-        (then_cmp (on (λ row. row.package_id) (slice_cmp nat_cmp)) (on (λ row. row.term) (slice_cmp nat_cmp))))
+    (then_cmp (on (λ row. row.package_id) (slice_cmp nat_cmp)) (on (λ row. row.term) (slice_cmp nat_cmp))))
 
 abbrev pub change_below : ChangeRow → ChangeRow → Bool
 change_below a b = nat_lt a.duty b.duty || ((a.duty == b.duty) && nat_lt a.step b.step)

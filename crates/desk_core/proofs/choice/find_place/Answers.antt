@@ -1,11 +1,10 @@
-use Rattle.std.proofs.Common.{◌≡◌, ◌∙◌, sym, ap, refl, ℕ, List, Some}
+use Rattle.std.proofs.Common.{◌≡◌, ◌∙◌, sym, ap, ℕ, List, Some}
 use Rattle.std.specs.Prelude.{find}
 use Rattle.std.specs.List.{list_any}
 use Rattle.desk_rows.specs.Keys.{is_package, is_attachment}
 use Rattle.desk_rows.specs.Tables.{Tables}
 use Rattle.desk_rows.specs.Answers.{choose_shipped}
 use Rattle.desk_history.specs.FromTables.{release_found}
-use Rattle.desk_rows.specs.declared.row.PackageRow.{PackageRow}
 use Rattle.desk_core.proofs.Places.{found_at, is_found, same_number}
 use Rattle.desk_core.proofs.choice.find_place.Goals as goal
 

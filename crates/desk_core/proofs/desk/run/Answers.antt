@@ -1,4 +1,4 @@
-use Rattle.std.proofs.Common.{◌≡◌, ℕ, ◌<◌, List, [], ◌∷◌, ◌++◌, length, get_or, sym, ap, ◌∙◌, subst, arith}
+use Rattle.std.proofs.Common.{◌≡◌, ℕ, ◌<◌, List, length, get_or, sym, ap, ◌∙◌, subst, arith}
 use Rattle.desk_rows.specs.Tables.{tables}
 use Rattle.desk_rows.specs.Answers.{IsHistory}
 use Rattle.desk_rows.specs.Runs.{AreAnswers, history_after}

@@ -1,10 +1,9 @@
-use Rattle.std.proofs.Common.{◌≡◌, ◌∙◌, sym, ap, subst, ℕ, List, Some, true}
+use Rattle.std.proofs.Common.{◌≡◌, ◌∙◌, sym, ap, subst, Some, true}
 use Rattle.std.specs.Prelude.{IfSome, Option}
 use Rattle.std.proofs.lemmas.Result.{IfOk-weaker}
 use Rattle.desk_rows.specs.Texts.{is_note}
 use Rattle.desk_rows.specs.Tables.{Tables}
 use Rattle.desk_rows.specs.declared.row.DutyRow.{DutyRow}
-use Rattle.desk_rows.specs.declared.command.Command.TheVariants.{Meet}
 use Rattle.desk_history.specs.FromTables.{duty_found, met_change, noted_by}
 use Rattle.desk_core.proofs.Duties.{both_ok, met_answer, met_rows}
 use Rattle.desk_core.proofs.duty.meet.Goals as goal

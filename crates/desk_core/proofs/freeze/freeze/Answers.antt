@@ -1,7 +1,6 @@
-use Rattle.std.proofs.Common.{◌≡◌, ◌∙◌, sym, ap, ℕ, List, Some, None}
+use Rattle.std.proofs.Common.{◌≡◌, ◌∙◌, sym, ap, Some}
 use Rattle.std.proofs.lemmas.Result.{IfOk-weaker}
 use Rattle.desk_rows.specs.Tables.{Tables}
-use Rattle.desk_rows.specs.Answers.{unready}
 use Rattle.desk_rows.specs.declared.command.Command.TheVariants.{Freeze}
 use Rattle.desk_history.specs.FromTables.{release_found, noted_by, change_for}
 use Rattle.desk_core.proofs.Duties.{both_ok}

@@ -1,4 +1,4 @@
-use Rattle.std.proofs.Common.{◌≡◌, ◌∙◌, sym, ap, subst, ℕ, List, length, false, refl}
+use Rattle.std.proofs.Common.{◌≡◌, ◌∙◌, sym, ap, subst, ℕ, List, length, false}
 use Rattle.std.specs.Prelude.{◌==◌}
 use Rattle.std.proofs.lemmas.Result.{IfOk-weaker}
 use Rattle.desk_rows.specs.Tables.{Tables}
@@ -6,9 +6,8 @@ use Rattle.desk_rows.specs.History.{attached_to}
 use Rattle.desk_rows.specs.Raised.{shipped_of}
 use Rattle.desk_rows.specs.declared.row.AttachedRow.{AttachedRow}
 use Rattle.desk_rows.specs.declared.row.PackageRow.{PackageRow}
-use Rattle.desk_history.specs.FromTables.{shipped_found, noted_by, froze_as, freeze_change_found}
+use Rattle.desk_history.specs.FromTables.{shipped_found, noted_by, froze_as}
 use Rattle.desk_core.specs.Walks.{GathersAll}
-use Rattle.desk_core.specs.declared.freeze.Gathered.{Gathered}
 use Rattle.desk_core.proofs.Freezes.{freeze_refused, freeze_fitting, Fits}
 use Rattle.desk_rows.specs.Answers.{freeze_fits}
 use Rattle.desk_core.proofs.freeze.freeze_open.Goals as goal

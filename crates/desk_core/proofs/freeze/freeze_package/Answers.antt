@@ -1,4 +1,4 @@
-use Rattle.std.proofs.Common.{◌≡◌, ◌∙◌, sym, ap, ℕ, List, map, None, Some}
+use Rattle.std.proofs.Common.{◌≡◌, ◌∙◌, sym, ap, ℕ, List, map, None}
 use Rattle.std.specs.Prelude.{filter}
 use Rattle.std.proofs.lemmas.Result.{IfOk-weaker}
 use Rattle.desk_rows.specs.Keys.{is_choice_of}
@@ -6,7 +6,7 @@ use Rattle.desk_rows.specs.Tables.{Tables}
 use Rattle.desk_rows.specs.Answers.{unready_package}
 use Rattle.desk_rows.specs.declared.row.PackageRow.{PackageRow}
 use Rattle.desk_history.specs.FromTables.{choice_found}
-use Rattle.desk_core.proofs.Walking.{gathers_package, unready_gathers}
+use Rattle.desk_core.proofs.Walking.{gathers_package}
 use Rattle.desk_core.proofs.freeze.freeze_package.Goals as goal
 
 pub returns-clause-gathered : goal.returns-clause-gathered

@@ -1,7 +1,6 @@
-use Rattle.std.proofs.Common.{◌≡◌, ◌∙◌, sym, ap, subst, ℕ, List, Some, length, drop, ◌+◌, ◌∷◌, []}
-use Rattle.desk_rows.specs.Readings.{Readings}
+use Rattle.std.proofs.Common.{◌≡◌, ◌∙◌, sym, ap, ℕ, List, Some, drop, ◌+◌, ◌∷◌, []}
 use Rattle.desk_rows.specs.Tables.{Tables}
-use Rattle.desk_rows.specs.Raised.{rule_adopted, frozen_for_terms, owed_for_terms, owed_code, frozen_term}
+use Rattle.desk_rows.specs.Raised.{rule_adopted, frozen_for_terms, owed_for_terms, frozen_term}
 use Rattle.desk_rows.specs.declared.reading.Rule.{Rule}
 use Rattle.desk_history.specs.FromTables.{rules_found}
 use Rattle.desk_core.proofs.Walking.{drop_item, more_of, walks_on, WalksOn}

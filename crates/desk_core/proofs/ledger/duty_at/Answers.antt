@@ -1,4 +1,4 @@
-use Rattle.std.proofs.Common.{◌∙◌, arith, sym, ◌<◌}
+use Rattle.std.proofs.Common.{◌∙◌, arith, sym}
 use Rattle.desk_core.proofs.Ledgering.{find_number, find_below}
 use Rattle.desk_core.proofs.ledger.duty_at.Goals as goal
 

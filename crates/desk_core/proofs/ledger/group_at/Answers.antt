@@ -1,4 +1,4 @@
-use Rattle.std.proofs.Common.{◌≡◌, ◌∙◌, arith, sym, ap, ◌<◌, List, []}
+use Rattle.std.proofs.Common.{◌∙◌, arith, sym, ap, List, []}
 use Rattle.std.specs.Prelude.{Option, unwrap_or}
 use Rattle.desk_rows.specs.declared.row.ChangeRow.{ChangeRow}
 use Rattle.desk_core.proofs.Ledgering.{filter_number, filter_below}

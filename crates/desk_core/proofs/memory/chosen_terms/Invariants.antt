@@ -1,5 +1,5 @@
 use Rattle.std.proofs.Common.{◌≡◌, ◌++◌, map, drop}
-use Rattle.std.specs.Prelude.{filter, find}
+use Rattle.std.specs.Prelude.{filter}
 use Rattle.desk_rows.specs.Keys.{is_choice_of}
 use Rattle.desk_core.proofs.memory.chosen_terms.Given as goal
 

@@ -1,5 +1,5 @@
-use Rattle.std.proofs.Common.{◌≡◌, ◌++◌, map, drop}
-use Rattle.std.specs.Prelude.{filter, find}
+use Rattle.std.proofs.Common.{◌≡◌, ◌++◌, drop}
+use Rattle.std.specs.Prelude.{filter}
 use Rattle.desk_rows.specs.Keys.{is_duty_of}
 use Rattle.desk_core.proofs.memory.duties_of.Given as goal
 

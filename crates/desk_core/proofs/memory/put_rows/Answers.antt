@@ -1,5 +1,5 @@
-use Rattle.std.proofs.Common.{◌≡◌, ◌+◌, ◌∙◌, ap, sym, arith}
-use Rattle.desk_rows.specs.Lists.{put, put_all}
+use Rattle.std.proofs.Common.{◌∙◌, ap, sym, arith}
+use Rattle.desk_rows.specs.Lists.{put_all}
 use Rattle.desk_core.proofs.PutAll.{put_all-push}
 use Rattle.desk_core.proofs.memory.put_rows.Goals as goal
 

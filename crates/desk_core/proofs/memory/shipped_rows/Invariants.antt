@@ -1,5 +1,5 @@
-use Rattle.std.proofs.Common.{◌≡◌, ◌++◌, map, drop}
-use Rattle.std.specs.Prelude.{filter, find}
+use Rattle.std.proofs.Common.{◌≡◌, ◌++◌, drop}
+use Rattle.std.specs.Prelude.{filter}
 use Rattle.desk_rows.specs.Keys.{is_shipped_by}
 use Rattle.desk_core.proofs.memory.shipped_rows.Given as goal
 

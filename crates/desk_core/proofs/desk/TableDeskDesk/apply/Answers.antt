@@ -1,4 +1,4 @@
-use Rattle.std.proofs.Common.{◌≡◌, ◌∙◌}
+use Rattle.std.proofs.Common.{◌∙◌}
 use Rattle.std.proofs.lemmas.Result.{IfOk-weaker, on_ok_weaker}
 use Rattle.desk_history.proofs.Steps.{at_history, answer_at_history}
 use Rattle.desk_core.proofs.desk.TableDeskDesk.apply.Goals as goal

@@ -1,4 +1,4 @@
-use Rattle.std.proofs.Common.{◌≡◌, ◌∙◌}
+use Rattle.std.proofs.Common.{◌∙◌}
 use Rattle.std.proofs.lemmas.Result.{IfOk-weaker}
 use Rattle.desk_history.proofs.Queries.{query_at_history}
 use Rattle.desk_core.proofs.desk.TableDeskDesk.ask.Goals as goal

@@ -1,7 +1,6 @@
-use Rattle.std.proofs.Common.{◌≡◌, ◌∙◌, ◌+◌, ◌-◌, ◌<◌, ap, sym, refl, arith, length, List, true, ℕ}
+use Rattle.std.proofs.Common.{◌≡◌, ◌∙◌, ◌+◌, ◌-◌, ◌<◌, ap, sym, refl, arith, length, List, ℕ}
 use Rattle.desk_rows.specs.Tables.{with_duty_state}
 use Rattle.desk_rows.specs.declared.row.ChangeRow.{ChangeRow}
-use Rattle.desk_rows.specs.declared.row.DutyRow.{DutyRow}
 use Rattle.desk_core.specs.Ledgers.{numbered, grouped, all_of}
 use Rattle.desk_core.proofs.Ledgering.{group_at, next_step, grouped-more, put_group, numbered-updated}
 use Rattle.desk_core.proofs.ledger.Ledger.move_to.Goals as goal
