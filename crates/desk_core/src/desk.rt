@@ -165,3 +165,17 @@ pub fn run<D: Desk>(
 
 /// A desk in memory.
 pub type MemDesk<T> = TableDesk<T, MemStore>;
+
+/// Applies commands to an empty desk in memory.
+pub fn run_in_memory<T: Texts + Drop>(
+    alloc: Global,
+    texts: T,
+    commands: &[Command],
+) -> Result<(Vec<Outcome>, MemDesk<T>), AllocError>
+    ensures answers { (w : Readings) → T.are_right w → IfOk result (λ done. AreAnswers w [] commands.now done.0.items) }
+    ensures content { (w : Readings) → T.are_right w → IfOk result (λ done. ⟦<MemStore as Store>⟧.rows done.1.store ≡ tables w (history_after [] commands.now done.0.items)) }
+{
+    let mut desk = TableDesk::new(alloc, texts);
+    let outcomes = run(alloc, &mut desk, commands)?;
+    Ok((outcomes, desk))
+}
