@@ -5,6 +5,7 @@
 //! items.
 #![tactic(auto)]
 
+mod day;
 mod idstring;
 mod items;
 mod key;
@@ -12,6 +13,7 @@ pub mod limits;
 mod lines;
 mod text;
 
+pub use day::Day;
 pub use idstring::{is_idstring, is_idstring_of_bytes};
 pub use items::Items;
 pub use key::Key;

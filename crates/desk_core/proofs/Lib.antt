@@ -1,0 +1,10 @@
+mod Names
+mod Sets
+mod Places
+mod Duties
+mod Walking
+mod Freezes
+mod Days
+mod PutAll
+mod Founds
+mod Ledgering

@@ -1,0 +1,52 @@
+//! What reads the texts that a desk is given.
+
+ghost use Rattle.std.specs.Prelude.{◌≡◌, IfOk};
+ghost use Rattle.desk_rows.specs.Readings.{Readings};
+
+use desk_base::Text;
+use desk_rows::{Catalogue, CatalogueFault, Document, DocumentFault, Profile, Verdict};
+use std::alloc::{AllocError, Global};
+
+/// A reader of texts. It tells which readings are right by its own definitions, and answers as each of these does.
+pub trait Texts {
+    /// The readings that give each text what it says.
+    ghost are_right: { Readings → Type 0 };
+
+    /// The catalogue that a text is, or its fault.
+    fn catalogue(
+        &self,
+        alloc: Global,
+        text: &str,
+    ) -> Result<Result<Catalogue, CatalogueFault>, AllocError>
+        ensures { (w : Readings) → are_right w → IfOk result (λ read. read ≡ w.catalogue text.now) };
+
+    /// The document that bytes spell, or their fault.
+    fn document(
+        &self,
+        alloc: Global,
+        bytes: &[u8],
+    ) -> Result<Result<Document, DocumentFault>, AllocError>
+        ensures { (w : Readings) → are_right w → IfOk result (λ read. read ≡ w.document bytes.now) };
+
+    /// The licence term that a text spells, printed.
+    fn term(&self, alloc: Global, text: &str) -> Result<Option<Text>, AllocError>
+        ensures { (w : Readings) → are_right w → IfOk result (λ term. term ≡ w.term text.now) };
+
+    /// The reference that a printed term names, without its exception.
+    fn reference(&self, alloc: Global, term: &str) -> Result<Option<Text>, AllocError>
+        ensures { (w : Readings) → are_right w → IfOk result (λ reference. reference ≡ w.reference term.now) };
+
+    /// Whether a text is a licence expression.
+    fn is_expression(&self, alloc: Global, profile: Profile, text: &str) -> Result<bool, AllocError>
+        ensures { (w : Readings) → are_right w → IfOk result (λ is. is ≡ w.is_expression profile text.now) };
+
+    /// What printed terms are to the expression that a text spells.
+    fn verdict(
+        &self,
+        alloc: Global,
+        profile: Profile,
+        text: &str,
+        terms: &[Text],
+    ) -> Result<Verdict, AllocError>
+        ensures { (w : Readings) → are_right w → IfOk result (λ verdict. verdict ≡ w.verdict profile text.now terms.now) };
+}

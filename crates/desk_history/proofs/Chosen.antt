@@ -1,0 +1,199 @@
+-- What is chosen for a package, in the history and in its tables.
+use Rattle.std.proofs.Common.{◌≡◌, ℕ, Bool, true, false, cond, List, [], ◌∷◌, ◌++◌, map, Option, Some, None, sym, refl, ap, ◌∙◌, subst, arith, append-nil}
+use Rattle.std.specs.Prelude.{if◌then◌else◌, filter, ◌&&◌, ◌==◌, unwrap_or, not}
+use Rattle.std.specs.List.{filter_map}
+use Rattle.std.specs.Ordering.{is_lt, is_eq, ordering_reverse, nat_cmp}
+use Rattle.std.specs.declared.cmp.Ordering.{Ordering}
+use Rattle.std.specs.declared.cmp.Ordering.TheVariants.{Less, Equal, Greater}
+use Rattle.std.specs.Cmp.Lexicographic.{slice_cmp}
+use Rattle.std.specs.Str.{bytes_eq}
+use Rattle.std.proofs.lemmas.Cmp.{nat_list_cmp_total, nat_cmp_total, tied_itself}
+use Rattle.std.proofs.lemmas.Map.Text.{is_eq-slice_cmp}
+use Rattle.std.proofs.lemmas.List.Elements.{filter-append}
+use Rattle.std.proofs.lemmas.Bool.Decides.{nat_tests}
+use Rattle.std.proofs.Math.Path.{fun_ext}
+use Rattle.desk_rows.specs.Lists.{latest, or_else, in_order}
+use Rattle.desk_rows.specs.Texts.{text_below, put_new, sorted_set}
+use Rattle.desk_rows.specs.Readings.{Readings}
+use Rattle.desk_rows.specs.Keys.{is_choice_of, below_by, choice_order}
+use Rattle.desk_rows.specs.History.{term_set, terms_given, choice, is_package_of}
+use Rattle.desk_rows.specs.Raised.{chosen_in}
+use Rattle.desk_rows.specs.Tables.{tables, standing, choice_row, is_other_choice}
+use Rattle.desk_history.specs.FromTables.{choice_found}
+use Rattle.desk_history.proofs.Rows.{texts_equal, same_text}
+use Rattle.desk_history.proofs.Orders.{IsOrder, order_of, filter-in_order, choice_is_order, under, put_first, both, and_left, and_right}
+use Rattle.desk_rows.specs.declared.row.PackageRow.{PackageRow}
+use Rattle.desk_rows.specs.declared.row.ChoiceRow.{ChoiceRow}
+use Rattle.desk_rows.specs.declared.command.Command.{Command}
+use Rattle.desk_rows.specs.declared.command.Command.TheVariants.{Choose}
+
+-- Sorted sets of texts
+
+-- each text is below the ones after it
+abbrev pub rises : List (List ℕ) → Bool
+rises [] = true
+rises (x ∷ xs) = under text_below x xs && rises xs
+
+text_order : IsOrder (below_by (slice_cmp nat_cmp))
+text_order = order_of nat_list_cmp_total
+
+turns : (x y : List ℕ) (o : Ordering) → slice_cmp nat_cmp x y ≡ o → is_lt o ≡ false → bytes_eq x y ≡ false → text_below y x ≡ true
+turns x y Less e f g = cc
+turns x y Equal e f g = let same : is_eq (slice_cmp nat_cmp x y) ≡ bytes_eq x y = is_eq-slice_cmp x y in let yes : is_eq (slice_cmp nat_cmp x y) ≡ true = ap is_eq e in cc
+turns x y Greater e f g = ap is_lt (nat_list_cmp_total.antisymm y x ∙ ap ordering_reverse e)
+
+under_chain : (x y : List ℕ) (zs : List (List ℕ)) → text_below x y ≡ true → under text_below y zs ≡ true → under text_below x zs ≡ true
+under_chain x y [] e all = refl
+under_chain x y (z ∷ zs) e all =
+    both (text_below x z) (under text_below x zs)
+    (text_order.between x y z e (text_order.asym y z (and_left (text_below y z) (under text_below y zs) all)))
+    (under_chain x y zs e (and_right (text_below y z) (under text_below y zs) all))
+
+under-put_new : (x y : List ℕ) (zs : List (List ℕ)) → text_below y x ≡ true → under text_below y zs ≡ true → under text_below y (put_new x zs) ≡ true
+under-put_new x y [] e all = both (text_below y x) true e refl
+under-put_new x y (z ∷ zs) e all =
+    elim (text_below x z) as (λ b. under text_below y (if b then x ∷ z ∷ zs else (if bytes_eq x z then z ∷ zs else z ∷ put_new x zs)) ≡ true) [
+      | true ↦ both (text_below y x) (under text_below y (z ∷ zs)) e all
+      | false ↦ elim (bytes_eq x z) as (λ b. under text_below y (if b then z ∷ zs else z ∷ put_new x zs) ≡ true) [
+        | true ↦ all
+        | false ↦ both (text_below y z) (under text_below y (put_new x zs)) (and_left (text_below y z) (under text_below y zs) all) (under-put_new x y zs e (and_right (text_below y z) (under text_below y zs) all))
+      ]
+    ]
+
+rises_step : (x y : List ℕ) (ys : List (List ℕ)) (b c : Bool) → text_below x y ≡ b → bytes_eq x y ≡ c → rises (y ∷ ys) ≡ true → rises (put_new x ys) ≡ true → rises (if b then x ∷ y ∷ ys else (if c then y ∷ ys else y ∷ put_new x ys)) ≡ true
+rises_step x y ys true c e f up rest =
+    both (under text_below x (y ∷ ys)) (rises (y ∷ ys)) (both (text_below x y) (under text_below x ys) e (under_chain x y ys e (and_left (under text_below y ys) (rises ys) up))) up
+rises_step x y ys false true e f up rest = up
+rises_step x y ys false false e f up rest =
+    both (under text_below y (put_new x ys)) (rises (put_new x ys)) (under-put_new x y ys (turns x y (slice_cmp nat_cmp x y) refl e f) (and_left (under text_below y ys) (rises ys) up)) rest
+
+rises-put_new : (x : List ℕ) (ys : List (List ℕ)) → rises ys ≡ true → rises (put_new x ys) ≡ true
+rises-put_new x [] up = refl
+rises-put_new x (y ∷ ys) up = rises_step x y ys (text_below x y) (bytes_eq x y) refl refl up (rises-put_new x ys (and_right (under text_below y ys) (rises ys) up))
+
+pub rises-sorted_set : (xs : List (List ℕ)) → rises (sorted_set xs) ≡ true
+rises-sorted_set [] = refl
+rises-sorted_set (x ∷ xs) = rises-put_new x (sorted_set xs) (rises-sorted_set xs)
+
+rises_or : (w : Readings) (texts : List (List ℕ)) (b : Bool) (o : Option (List (List ℕ))) → rises (unwrap_or o []) ≡ true → rises (unwrap_or (or_else (if b then Some (term_set w texts) else None) o) []) ≡ true
+rises_or w texts true o up = rises-sorted_set (filter_map w.term texts)
+rises_or w texts false o up = up
+
+pub rises-choice : (w : Readings) (h : List Command) (r : List ℕ) (d : ℕ) (p : List ℕ) → rises (choice w h r d p) ≡ true
+rises-choice w [] r d p = refl
+rises-choice w (Choose r' d' p' texts ∷ h) r d p = rises_or w texts (is_package_of r d p r' d' p') (latest (terms_given w r d p) h) (rises-choice w h r d p)
+rises-choice w (_ ∷ h) r d p = rises-choice w h r d p
+
+-- The rows of a package's choice
+
+row_order : (r p a b : List ℕ) (d : ℕ) → below_by choice_order (choice_row r d p a) (choice_row r d p b) ≡ text_below a b
+row_order r p a b d = rw (tied_itself nat_list_cmp_total r, tied_itself nat_cmp_total d, tied_itself nat_list_cmp_total p) refl
+
+under-rows : (r p a : List ℕ) (d : ℕ) (terms : List (List ℕ)) → under text_below a terms ≡ true → under (below_by choice_order) (choice_row r d p a) (map (choice_row r d p) terms) ≡ true
+under-rows r p a d [] all = refl
+under-rows r p a d (t ∷ ts) all =
+    both (below_by choice_order (choice_row r d p a) (choice_row r d p t)) (under (below_by choice_order) (choice_row r d p a) (map (choice_row r d p) ts))
+    (row_order r p a t d ∙ and_left (text_below a t) (under text_below a ts) all)
+    (under-rows r p a d ts (and_right (text_below a t) (under text_below a ts) all))
+
+in_order-rows : (r p : List ℕ) (d : ℕ) (terms : List (List ℕ)) → rises terms ≡ true → in_order (below_by choice_order) (map (choice_row r d p) terms) ≡ map (choice_row r d p) terms
+in_order-rows r p d [] up = refl
+in_order-rows r p d (t ∷ ts) up =
+    rw (in_order-rows r p d ts (and_right (under text_below t ts) (rises ts) up))
+    (put_first (below_by choice_order) (choice_row r d p t) (map (choice_row r d p) ts) (under-rows r p t d ts (and_left (under text_below t ts) (rises ts) up)))
+
+-- a test and its opposite
+against : {A : Type 0} (test : A → Bool) (x : A) (xs : List A) (b : Bool) → test x ≡ b → filter test (filter (λ x. not (test x)) xs) ≡ [] → filter test (cond (not b) (x ∷ filter (λ x. not (test x)) xs) (filter (λ x. not (test x)) xs)) ≡ []
+against test x xs true e rest = rest
+against test x xs false e rest = rw e rest
+
+filter_against : {A : Type 0} (test : A → Bool) (xs : List A) → filter test (filter (λ x. not (test x)) xs) ≡ []
+filter_against test [] = refl
+filter_against test (x ∷ xs) = against test x xs (test x) refl (filter_against test xs)
+
+-- a test and the opposite of one that it rules out
+apart : {A : Type 0} (test other : A → Bool) (x : A) (xs : List A) (b c : Bool) → test x ≡ b → other x ≡ c → (b ≡ true → c ≡ false) → filter test (filter (λ x. not (other x)) xs) ≡ filter test xs → filter test (cond (not c) (x ∷ filter (λ x. not (other x)) xs) (filter (λ x. not (other x)) xs)) ≡ cond b (x ∷ filter test xs) (filter test xs)
+apart test other x xs true true e f out rest = let no : true ≡ false = out refl in cc
+apart test other x xs true false e f out rest = rw (e, rest) refl
+apart test other x xs false true e f out rest = rest
+apart test other x xs false false e f out rest = rw (e, rest) refl
+
+filter_apart : {A : Type 0} (test other : A → Bool) → ((x : A) → test x ≡ true → other x ≡ false) → (xs : List A) → filter test (filter (λ x. not (other x)) xs) ≡ filter test xs
+filter_apart test other out [] = refl
+filter_apart test other out (x ∷ xs) = apart test other x xs (test x) (other x) refl refl (out x) (filter_apart test other out xs)
+
+-- the keys of packages
+record SamePackage (r p r' p' : List ℕ) (d d' : ℕ) : Type 0 where
+  release : r' ≡ r
+  document : d' ≡ d
+  package_id : p' ≡ p
+
+numbers_equal : (a b : ℕ) → (a == b) ≡ true → a ≡ b
+numbers_equal a b e = grind (arith, nat_tests)
+
+same_number : (a : ℕ) → (a == a) ≡ true
+same_number a = grind (arith, nat_tests)
+
+same_package : (r p r' p' : List ℕ) (d d' : ℕ) → is_package_of r d p r' d' p' ≡ true → SamePackage r p r' p' d d'
+same_package r p r' p' d d' e =
+    let front = and_left (bytes_eq r' r && (d' == d)) (bytes_eq p' p) e in
+    record {
+      release = texts_equal r' r (and_left (bytes_eq r' r) (d' == d) front);
+      document = numbers_equal d' d (and_right (bytes_eq r' r) (d' == d) front);
+      package_id = texts_equal p' p (and_right (bytes_eq r' r && (d' == d)) (bytes_eq p' p) e);
+    }
+
+same_key : (r p : List ℕ) (d : ℕ) → is_package_of r d p r d p ≡ true
+same_key r p d = rw (same_text r, same_number d, same_text p) refl
+
+-- a row of one package is none of another
+ruled_out : (r p r' p' : List ℕ) (d d' : ℕ) (row : ChoiceRow) (b : Bool) → is_package_of r d p r' d' p' ≡ false → is_choice_of r d p row ≡ true → is_choice_of r' d' p' row ≡ b → b ≡ false
+ruled_out r p r' p' d d' row false e f g = refl
+ruled_out r p r' p' d d' row true e f g =
+    let a = same_package r p row.release row.package_id d row.document f in
+    let b = same_package r' p' row.release row.package_id d' row.document g in
+    let again : is_package_of r d p r' d' p' ≡ true = subst (λ x. is_package_of r d p x d' p' ≡ true) (sym a.release ∙ b.release)
+    (subst (λ x. is_package_of r d p r x p' ≡ true) (sym a.document ∙ b.document) (subst (λ x. is_package_of r d p r d x ≡ true) (sym a.package_id ∙ b.package_id) (same_key r p d))) in
+    cc
+
+-- the rows of one package among the rows of one package
+own_rows : (r p r' p' : List ℕ) (d d' : ℕ) (b : Bool) → is_package_of r d p r' d' p' ≡ b → (terms : List (List ℕ)) → filter (is_choice_of r d p) (map (choice_row r' d' p') terms) ≡ (if b then map (choice_row r' d' p') terms else [])
+own_rows r p r' p' d d' true e [] = refl
+own_rows r p r' p' d d' false e [] = refl
+own_rows r p r' p' d d' true e (t ∷ ts) = rw e (ap (λ xs. choice_row r' d' p' t ∷ xs) (own_rows r p r' p' d d' true e ts))
+own_rows r p r' p' d d' false e (t ∷ ts) = rw e (own_rows r p r' p' d d' false e ts)
+
+-- one more choice
+standing_step : (w : Readings) (h : List Command) (r p r' p' : List ℕ) (d d' : ℕ) (texts : List (List ℕ)) (b : Bool) → is_package_of r d p r' d' p' ≡ b → filter (is_choice_of r d p) (standing w h) ≡ map (choice_row r d p) (choice w h r d p) → filter (is_choice_of r d p) (standing w (Choose r' d' p' texts ∷ h)) ≡ map (choice_row r d p) (unwrap_or (or_else (if b then Some (term_set w texts) else None) (latest (terms_given w r d p) h)) [])
+standing_step w h r p r' p' d d' texts true e rest =
+    let same = same_package r p r' p' d d' e in
+    filter-append (is_choice_of r d p) (map (choice_row r' d' p') (term_set w texts)) (filter (is_other_choice r' d' p') (standing w h))
+    ∙ (ap (λ rows. rows ++ filter (is_choice_of r d p) (filter (is_other_choice r' d' p') (standing w h))) (own_rows r p r' p' d d' true e (term_set w texts))
+    ∙ (subst (λ x. map (choice_row r' d' p') (term_set w texts) ++ filter (is_choice_of x d p) (filter (is_other_choice r' d' p') (standing w h)) ≡ map (choice_row x d p) (term_set w texts)) same.release
+    (subst (λ x. map (choice_row r' d' p') (term_set w texts) ++ filter (is_choice_of r' x p) (filter (is_other_choice r' d' p') (standing w h)) ≡ map (choice_row r' x p) (term_set w texts)) same.document
+    (subst (λ x. map (choice_row r' d' p') (term_set w texts) ++ filter (is_choice_of r' d' x) (filter (is_other_choice r' d' p') (standing w h)) ≡ map (choice_row r' d' x) (term_set w texts)) same.package_id
+    (ap (λ rows. map (choice_row r' d' p') (term_set w texts) ++ rows) (filter_against (is_choice_of r' d' p') (standing w h)) ∙ append-nil (map (choice_row r' d' p') (term_set w texts)))))))
+standing_step w h r p r' p' d d' texts false e rest =
+    filter-append (is_choice_of r d p) (map (choice_row r' d' p') (term_set w texts)) (filter (is_other_choice r' d' p') (standing w h))
+    ∙ (ap (λ rows. rows ++ filter (is_choice_of r d p) (filter (is_other_choice r' d' p') (standing w h))) (own_rows r p r' p' d d' false e (term_set w texts))
+    ∙ (filter_apart (is_choice_of r d p) (is_choice_of r' d' p') (λ row f. ruled_out r p r' p' d d' row (is_choice_of r' d' p' row) e f refl) (standing w h)
+    ∙ rest))
+
+pub standing-choice : (w : Readings) (h : List Command) (r : List ℕ) (d : ℕ) (p : List ℕ) → filter (is_choice_of r d p) (standing w h) ≡ map (choice_row r d p) (choice w h r d p)
+standing-choice w [] r d p = refl
+standing-choice w (Choose r' d' p' texts ∷ h) r d p = standing_step w h r p r' p' d d' texts (is_package_of r d p r' d' p') refl (standing-choice w h r d p)
+standing-choice w (_ ∷ h) r d p = standing-choice w h r d p
+
+terms_of : (r p : List ℕ) (d : ℕ) (terms : List (List ℕ)) → map (λ row. row.term) (map (choice_row r d p) terms) ≡ terms
+terms_of r p d [] = refl
+terms_of r p d (t ∷ ts) = ap (λ xs. t ∷ xs) (terms_of r p d ts)
+
+choice_at : (w : Readings) (h : List Command) (r : List ℕ) (row : PackageRow) → choice_found (tables w h) r row ≡ chosen_in w h r row
+choice_at w h r row =
+    ap (map (λ row. row.term)) (filter-in_order (below_by choice_order) choice_is_order (is_choice_of r row.document row.id) (standing w h)
+    ∙ (ap (in_order (below_by choice_order)) (standing-choice w h r row.document row.id)
+    ∙ in_order-rows r row.id row.document (choice w h r row.document row.id) (rises-choice w h r row.document row.id)))
+    ∙ terms_of r row.id row.document (choice w h r row.document row.id)
+
+pub choice-found : (w : Readings) (h : List Command) (r : List ℕ) → choice_found (tables w h) r ≡ chosen_in w h r
+choice-found w h r = fun_ext (choice_at w h r)

@@ -1,0 +1,161 @@
+-- What a freeze leaves.
+use Rattle.std.proofs.Common.{◌≡◌, ℕ, ◌+◌, ◌<◌, ◌≤◌, true, false, List, [], ◌∷◌, ◌++◌, length, map, sym, refl, ap, ◌∙◌, arith, length-append, add-zero, suc, inl, inr}
+use Rattle.std.specs.Prelude.{◌&&◌, nat_lt, nat_le, ◌==◌, unwrap_or}
+use Rattle.std.specs.List.{flat_map, enumerate_from}
+use Rattle.std.specs.Option.{option_map}
+use Rattle.std.specs.Str.{bytes_eq}
+use Rattle.std.proofs.lemmas.List.{length-map, map-append}
+use Rattle.std.proofs.lemmas.List.Concat.{flat_map-append, flat_map_single}
+use Rattle.std.proofs.lemmas.Bool.Decides.{nat_tests}
+use Rattle.desk_rows.specs.Lists.{put_all, in_order, updated}
+use Rattle.desk_rows.specs.Readings.{Readings}
+use Rattle.desk_rows.specs.Keys.{is_release, below_by, frozen_order}
+use Rattle.desk_rows.specs.History.{revisions, in_force, rules_in, documents, attached, attached_to, names, form_of, state_of}
+use Rattle.desk_rows.specs.declared.row.Owed.{Owed}
+use Rattle.desk_rows.specs.Raised.{raised, owed_at, owed_for, numbered, shipped, chosen_in, frozen, frozen_at, frozen_for}
+use Rattle.desk_rows.specs.Moves.{duties, duty_row, changes, moves, place, is_move, all_changes}
+use Rattle.desk_rows.specs.Tables.{tables, release_row, with_release_state}
+use Rattle.desk_rows.specs.Answers.{answer, freeze_answer, walk, profile_in}
+use Rattle.desk_history.specs.FromTables.{answer_from, rules_found, form_found, choice_found, owed_found, frozen_found, new_duty, raised_row, new_duties}
+use Rattle.desk_history.proofs.Rows.{updated-map, text_tells, texts_turned, in_order-append, map-map}
+use Rattle.desk_history.proofs.Lookups.{state-found, form-found, rules-found}
+use Rattle.desk_history.proofs.Chosen.{choice-found}
+use Rattle.desk_rows.specs.declared.row.DutyRow.{DutyRow}
+use Rattle.desk_rows.specs.declared.row.ChangeRow.{ChangeRow}
+use Rattle.desk_rows.specs.declared.state.ReleaseState.TheVariants.{Frozen}
+use Rattle.desk_rows.specs.declared.command.Command.{Command}
+use Rattle.desk_rows.specs.declared.command.Command.TheVariants.{LoadCatalogue, Import, OpenRelease, Attach, Choose, Freeze, Meet}
+
+-- What is looked up
+
+pub owed-found : (w : Readings) (h : List Command) (r : List ℕ) → owed_found w (tables w h) r ≡ owed_at w h r
+owed-found w h r =
+    ap (λ rules. owed_for w rules (form_found (tables w h) r) r (choice_found (tables w h) r) (shipped w h r)) (rules-found w h)
+    ∙ (ap (λ form. owed_for w (rules_in (in_force w h)) form r (choice_found (tables w h) r) (shipped w h r)) (form-found w h r)
+    ∙ ap (λ chosen. owed_for w (rules_in (in_force w h)) (unwrap_or (form_of h r) []) r chosen (shipped w h r)) (choice-found w h r))
+
+pub frozen-found : (w : Readings) (h : List Command) (r : List ℕ) → frozen_found w (tables w h) r ≡ frozen_at w h r
+frozen-found w h r =
+    ap (λ rules. frozen_for w rules (form_found (tables w h) r) r (choice_found (tables w h) r) (shipped w h r)) (rules-found w h)
+    ∙ (ap (λ form. frozen_for w (rules_in (in_force w h)) form r (choice_found (tables w h) r) (shipped w h r)) (form-found w h r)
+    ∙ ap (λ chosen. frozen_for w (rules_in (in_force w h)) (unwrap_or (form_of h r) []) r chosen (shipped w h r)) (choice-found w h r))
+
+walk-found : (w : Readings) (h : List Command) (r : List ℕ) → walk w (rules_found (tables w h)) (form_found (tables w h) r) (profile_in (documents w h)) (choice_found (tables w h) r) (shipped w h r) ≡ walk w (rules_in (in_force w h)) (unwrap_or (form_of h r) []) (profile_in (documents w h)) (chosen_in w h r) (shipped w h r)
+walk-found w h r =
+    ap (λ rules. walk w rules (form_found (tables w h) r) (profile_in (documents w h)) (choice_found (tables w h) r) (shipped w h r)) (rules-found w h)
+    ∙ (ap (λ form. walk w (rules_in (in_force w h)) form (profile_in (documents w h)) (choice_found (tables w h) r) (shipped w h r)) (form-found w h r)
+    ∙ ap (λ chosen. walk w (rules_in (in_force w h)) (unwrap_or (form_of h r) []) (profile_in (documents w h)) chosen (shipped w h r)) (choice-found w h r))
+
+length-numbered : {A : Type 0} (n : ℕ) (xs : List A) → length (enumerate_from n xs) ≡ length xs
+length-numbered n [] = refl
+length-numbered n (x ∷ xs) = ap suc (length-numbered (n + 1) xs)
+
+pub length-duties : (w : Readings) (h : List Command) → length (duties w h) ≡ length (raised w h)
+length-duties w h = length-map (numbered w h) (λ d. duty_row (place w h d.0) d) ∙ length-numbered 1 (raised w h)
+
+pub freeze-answer : (w : Readings) (h : List Command) (r day : List ℕ) → answer_from w (tables w h) (Freeze r day) ≡ answer w h (Freeze r day)
+freeze-answer w h r day =
+    ap (λ s. freeze_answer day s (length (attached_to (attached h) r)) (walk w (rules_found (tables w h)) (form_found (tables w h) r) (profile_in (documents w h)) (choice_found (tables w h) r) (shipped w h r)) (length (duties w h)) (length (owed_found w (tables w h) r))) (state-found w h r)
+    ∙ (ap (λ f. freeze_answer day (option_map (λ form. state_of h r) (form_of h r)) (length (attached_to (attached h) r)) f (length (duties w h)) (length (owed_found w (tables w h) r))) (walk-found w h r)
+    ∙ (ap (λ n. freeze_answer day (option_map (λ form. state_of h r) (form_of h r)) (length (attached_to (attached h) r)) (walk w (rules_in (in_force w h)) (unwrap_or (form_of h r) []) (profile_in (documents w h)) (chosen_in w h r) (shipped w h r)) n (length (owed_found w (tables w h) r))) (length-duties w h)
+    ∙ ap (λ xs. freeze_answer day (option_map (λ form. state_of h r) (form_of h r)) (length (attached_to (attached h) r)) (walk w (rules_in (in_force w h)) (unwrap_or (form_of h r) []) (profile_in (documents w h)) (chosen_in w h r) (shipped w h r)) (length (raised w h)) (length xs)) (owed-found w h r)))
+
+-- Duties that are not raised yet don't move
+
+pub raised_fewer : (w : Readings) (c : Command) (h : List Command) → length (raised w h) ≤ length (raised w (c ∷ h))
+raised_fewer w (Freeze r day) h = omega (arith, length-append (raised w h) (owed_at w h r))
+raised_fewer w (LoadCatalogue text) h = omega arith
+raised_fewer w (Import bytes profile) h = omega arith
+raised_fewer w (OpenRelease r f) h = omega arith
+raised_fewer w (Attach r d) h = omega arith
+raised_fewer w (Choose r d p texts) h = omega arith
+raised_fewer w (Meet q day text) h = omega arith
+
+beyond : (a b q : ℕ) → a + b < q → (nat_lt a q && nat_le q (a + b)) ≡ false
+beyond a b q lt = grind (arith, nat_tests)
+
+beyond_meet : (q' q a : ℕ) → a < q → ((q' == q) && nat_le q a) ≡ false
+beyond_meet q' q a lt = grind (arith, nat_tests)
+
+unmoved_by : (w : Readings) (h : List Command) (c : Command) (q : ℕ) → length (raised w (c ∷ h)) < q → is_move w q c h (moves w h q) ≡ false
+unmoved_by w h (Freeze r day) q lt = beyond (length (raised w h)) (length (owed_at w h r)) q (omega (arith, length-append (raised w h) (owed_at w h r)))
+unmoved_by w h (Meet q' day text) q lt = beyond_meet q' q (length (raised w h)) lt
+unmoved_by w h _ q lt = refl
+
+pub unmoved : (w : Readings) (h : List Command) (q : ℕ) → length (raised w h) < q → moves w h q ≡ []
+unmoved w [] q lt = refl
+unmoved w (c ∷ h) q lt = rw (unmoved_by w h c q lt) (unmoved w h q (let le = raised_fewer w c h in omega arith))
+
+-- numbers from a list's end on
+numbered-append : {A : Type 0} (n : ℕ) (xs ys : List A) → enumerate_from n (xs ++ ys) ≡ enumerate_from n xs ++ enumerate_from (n + length xs) ys
+numbered-append n [] ys = rw (add-zero n) refl
+numbered-append n (x ∷ xs) ys = ap (λ zs. (n, x) ∷ zs) (numbered-append (n + 1) xs ys ∙ ap (λ k. enumerate_from (n + 1) xs ++ enumerate_from k ys) (omega arith))
+
+map_numbered : {A B : Type 0} (f g : ℕ × A → B) (n : ℕ) (xs : List A) → ((k : ℕ) (x : A) → n ≤ k → k < n + length xs → f (k, x) ≡ g (k, x)) → map f (enumerate_from n xs) ≡ map g (enumerate_from n xs)
+map_numbered f g n [] same = refl
+map_numbered f g n (x ∷ xs) same = rw (same n x (omega arith) (omega arith), map_numbered f g (n + 1) xs (λ k y le lt. same k y (omega arith) (omega arith))) refl
+
+flat_map_numbered : {A B : Type 0} (f g : ℕ × A → List B) (n : ℕ) (xs : List A) → ((k : ℕ) (x : A) → n ≤ k → k < n + length xs → f (k, x) ≡ g (k, x)) → flat_map f (enumerate_from n xs) ≡ flat_map g (enumerate_from n xs)
+flat_map_numbered f g n [] same = refl
+flat_map_numbered f g n (x ∷ xs) same = rw (same n x (omega arith) (omega arith), flat_map_numbered f g (n + 1) xs (λ k y le lt. same k y (omega arith) (omega arith))) refl
+
+older_than : (a b k : ℕ) → k ≤ a → (nat_lt a k && nat_le k (a + b)) ≡ false
+older_than a b k le = grind (arith, nat_tests)
+
+newer_than : (a b k : ℕ) → a < k → k ≤ a + b → (nat_lt a k && nat_le k (a + b)) ≡ true
+newer_than a b k lt le = grind (arith, nat_tests)
+
+moves_older : (w : Readings) (h : List Command) (r day : List ℕ) (k : ℕ) → k ≤ length (raised w h) → moves w (Freeze r day ∷ h) k ≡ moves w h k
+moves_older w h r day k le = let e : is_move w k (Freeze r day) h (moves w h k) ≡ false = older_than (length (raised w h)) (length (owed_at w h r)) k le in rw e refl
+
+moves_newer : (w : Readings) (h : List Command) (r day : List ℕ) (k : ℕ) → length (raised w h) < k → k ≤ length (raised w h) + length (owed_at w h r) → moves w (Freeze r day ∷ h) k ≡ Freeze r day ∷ []
+moves_newer w h r day k lt le =
+    let e : is_move w k (Freeze r day) h (moves w h k) ≡ true = newer_than (length (raised w h)) (length (owed_at w h r)) k lt le in
+    rw (e, unmoved w h k lt) refl
+
+-- The rows
+
+pub freeze-releases : (w : Readings) (h : List Command) (r day : List ℕ) → map (release_row (Freeze r day ∷ h)) (names h) ≡ updated (is_release r) (with_release_state Frozen (length (revisions h))) (map (release_row h) (names h))
+freeze-releases w h r day = sym (updated-map (is_release r) (with_release_state Frozen (length (revisions h))) (release_row h) (release_row (Freeze r day ∷ h)) (λ n.
+    elim (text_tells n r) [
+      | inl e ↦ (let f : bytes_eq r n ≡ true = texts_turned r n ∙ e.0 in rw (e.0, f) refl)
+      | inr e ↦ (let f : bytes_eq r n ≡ false = texts_turned r n ∙ e.0 in rw (e.0, f) refl)
+    ]) (names h))
+
+pub freeze-duties : (w : Readings) (h : List Command) (r day : List ℕ) → duties w (Freeze r day ∷ h) ≡ duties w h ++ map new_duty (enumerate_from (1 + length (raised w h)) (owed_at w h r))
+freeze-duties w h r day =
+    let new = owed_at w h r in
+    let h' = Freeze r day ∷ h in
+    let row : ℕ × Owed → DutyRow = λ d. duty_row (place w h d.0) d in
+    let row' : ℕ × Owed → DutyRow = λ d. duty_row (place w h' d.0) d in
+    ap (map row') (numbered-append 1 (raised w h) new)
+    ∙ (map-append row' (enumerate_from 1 (raised w h)) (enumerate_from (1 + length (raised w h)) new)
+    ∙ (ap (λ rows. rows ++ map row' (enumerate_from (1 + length (raised w h)) new)) (map_numbered row' row 1 (raised w h) (λ k d le lt. rw (moves_older w h r day k (omega arith)) refl))
+    ∙ ap (λ rows. map row (enumerate_from 1 (raised w h)) ++ rows) (map_numbered row' new_duty (1 + length (raised w h)) new (λ k d le lt. rw (moves_newer w h r day k (omega arith) (omega arith)) refl))))
+
+pub freeze-changes : (w : Readings) (h : List Command) (r day : List ℕ) → all_changes w (Freeze r day ∷ h) ≡ all_changes w h ++ map (raised_row day) (map new_duty (enumerate_from (1 + length (raised w h)) (owed_at w h r)))
+freeze-changes w h r day =
+    let new = owed_at w h r in
+    let h' = Freeze r day ∷ h in
+    let first = 1 + length (raised w h) in
+    let rows : ℕ × Owed → List ChangeRow = λ d. changes w h d.0 in
+    let rows' : ℕ × Owed → List ChangeRow = λ d. changes w h' d.0 in
+    let one : ℕ × Owed → ChangeRow = λ d. raised_row day (new_duty d) in
+    ap (flat_map rows') (numbered-append 1 (raised w h) new)
+    ∙ (flat_map-append rows' (enumerate_from 1 (raised w h)) (enumerate_from first new)
+    ∙ (ap (λ cs. cs ++ flat_map rows' (enumerate_from first new)) (flat_map_numbered rows' rows 1 (raised w h) (λ k d le lt. rw (moves_older w h r day k (omega arith)) refl))
+    ∙ ap (λ cs. flat_map rows (enumerate_from 1 (raised w h)) ++ cs)
+    (flat_map_numbered rows' (λ d. one d ∷ []) first new (λ k d le lt. rw (moves_newer w h r day k (omega arith) (omega arith)) refl)
+    ∙ (flat_map_single one (enumerate_from first new) ∙ sym (map-map (raised_row day) new_duty (enumerate_from first new))))))
+
+-- the new duties, as they are made from the tables
+pub new-duties : (w : Readings) (h : List Command) (r : List ℕ) → map new_duty (enumerate_from (1 + length (raised w h)) (owed_at w h r)) ≡ new_duties w (tables w h) r
+new-duties w h r =
+    sym (ap (λ owed. map new_duty (enumerate_from (length (duties w h) + 1) owed)) (owed-found w h r)
+    ∙ (ap (λ n. map new_duty (enumerate_from (n + 1) (owed_at w h r))) (length-duties w h)
+    ∙ ap (λ n. map new_duty (enumerate_from n (owed_at w h r))) (let e : length (raised w h) + 1 ≡ 1 + length (raised w h) = omega arith in e)))
+
+pub freeze-frozen : (w : Readings) (h : List Command) (r day : List ℕ) → in_order (below_by frozen_order) (frozen w (Freeze r day ∷ h)) ≡ put_all (below_by frozen_order) (frozen_found w (tables w h) r) (in_order (below_by frozen_order) (frozen w h))
+freeze-frozen w h r day =
+    in_order-append (below_by frozen_order) (frozen_at w h r) (frozen w h)
+    ∙ ap (λ rows. put_all (below_by frozen_order) rows (in_order (below_by frozen_order) (frozen w h))) (sym (frozen-found w h r))

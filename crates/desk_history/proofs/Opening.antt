@@ -1,0 +1,82 @@
+-- What the opening of a release and an attachment leave.
+use Rattle.std.proofs.Common.{◌≡◌, ℕ, ◌+◌, Bool, true, false, List, [], ◌∷◌, length, map, Option, Some, None, sym, refl, ap, ◌∙◌, inl, inr}
+use Rattle.std.specs.Prelude.{if◌then◌else◌, is_some, unwrap_or, IsTrue, not}
+use Rattle.std.specs.List.{list_any}
+use Rattle.std.specs.Option.{option_map}
+use Rattle.std.specs.Str.{bytes_eq}
+use Rattle.desk_base.specs.Day.{is_day}
+use Rattle.desk_rows.specs.Lists.{latest, or_else, put}
+use Rattle.desk_rows.specs.Texts.{text_below, is_release_name}
+use Rattle.desk_rows.specs.Readings.{Readings}
+use Rattle.desk_rows.specs.Keys.{release_below}
+use Rattle.desk_rows.specs.Raised.{shipped, chosen_in, raised, owed_at}
+use Rattle.desk_rows.specs.History.{in_force, rules_in, documents, attached, attached_to, opened, names, form_of, state_given, state_of, revision_of}
+use Rattle.desk_rows.specs.Tables.{release_row}
+use Rattle.desk_rows.specs.Answers.{IsHistory, is_recorded, release_state, open_answer, freeze_answer, walk, profile_in}
+use Rattle.desk_history.proofs.Rows.{map-put, map_others, text_tells, same_text, texts_turned}
+use Rattle.desk_history.proofs.Lookups.{names-form, length-releases}
+use Rattle.desk_rows.specs.declared.state.ReleaseState.{ReleaseState}
+use Rattle.desk_rows.specs.declared.state.ReleaseState.TheVariants.{IsOpen}
+use Rattle.desk_rows.specs.declared.refusal.Refusal.{Refusal}
+use Rattle.desk_rows.specs.declared.refusal.Refusal.TheVariants as why
+use Rattle.desk_rows.specs.declared.command.Answer.TheVariants as answered
+use Rattle.desk_rows.specs.declared.command.Command.{Command}
+use Rattle.desk_rows.specs.declared.command.Command.TheVariants.{OpenRelease, Freeze}
+
+-- a release that is not opened yet has no state and no revision
+pub record IsUntouched (h : List Command) (r : List ℕ) : Type 0 where
+  pub state : latest (state_given r) h ≡ None
+  pub revision : revision_of h r ≡ 0
+
+-- a freeze is recorded only of a release that is open
+pub frozen_open : (day : List ℕ) (s : Option ReleaseState) (count : ℕ) (fault : Option Refusal) (old new : ℕ) → IsTrue (is_recorded (freeze_answer day s count fault old new)) → is_some s ≡ true
+frozen_open day (Some s) count fault old new h = refl
+frozen_open day None count fault old new h =
+    (elim (is_day day) as (λ b. IsTrue (is_recorded (if not b then answered.Refused why.BadDay else answered.Refused why.UnknownRelease)) → false ≡ true) [ true ↦ λ e. cc | false ↦ λ e. cc ]) h
+
+or_else_rest : {B : Type 0} (o p : Option B) → is_some (or_else o p) ≡ false → is_some p ≡ false
+or_else_rest None p h = h
+or_else_rest (Some x) p h = cc
+
+is_some-map : {A B : Type 0} (f : A → B) (o : Option A) → is_some (option_map f o) ≡ is_some o
+is_some-map f None = refl
+is_some-map f (Some x) = refl
+
+-- so it is another one
+another : (h : List Command) (r r' : List ℕ) → is_some (release_state h r') ≡ true → is_some (form_of h r) ≡ false → bytes_eq r' r ≡ false
+another h r r' there none =
+    let known : is_some (form_of h r') ≡ true = sym (is_some-map (λ form. state_of h r') (form_of h r')) ∙ there in
+    elim (text_tells r' r) [
+      | inl w ↦ (let at : is_some (form_of h r') ≡ is_some (form_of h r) = ap (λ n. is_some (form_of h n)) w.1 in cc)
+      | inr w ↦ w.0
+    ]
+
+pub untouched : (w : Readings) (h : List Command) (r : List ℕ) → IsHistory w h → is_some (form_of h r) ≡ false → IsUntouched h r
+untouched w [] r ok none = record { state = refl; revision = refl }
+untouched w (OpenRelease r' f ∷ h) r ok none = let u = untouched w h r ok.1 (or_else_rest (if bytes_eq r' r then Some f else None) (form_of h r) none) in record { state = u.state; revision = u.revision }
+untouched w (Freeze r' day ∷ h) r ok none =
+    let u = untouched w h r ok.1 none in
+    let e : bytes_eq r' r ≡ false = another h r r' (frozen_open day (release_state h r') (length (attached_to (attached h) r')) (walk w (rules_in (in_force w h)) (unwrap_or (form_of h r') []) (profile_in (documents w h)) (chosen_in w h r') (shipped w h r')) (length (raised w h)) (length (owed_at w h r')) ok.0) none in
+    record { state = rw e u.state; revision = rw e u.revision }
+untouched w (_ ∷ h) r ok none = let u = untouched w h r ok.1 none in record { state = u.state; revision = u.revision }
+
+-- a release is opened only where its name is free
+pub open_free : (name form : List ℕ) (forms : List (List ℕ)) (taken : Bool) (n : ℕ) → IsTrue (is_recorded (open_answer name form forms taken n)) → taken ≡ false
+open_free name form forms false n h = refl
+open_free name form forms true n h =
+    (elim (is_release_name name) as (λ b. IsTrue (is_recorded (if not b then answered.Refused why.BadName else (if not (list_any (bytes_eq form) forms) then answered.Refused why.UnknownForm else answered.Refused why.NameTaken))) → true ≡ false) [
+      | true ↦ elim (list_any (bytes_eq form) forms) as (λ b. IsTrue (is_recorded (if not b then answered.Refused why.UnknownForm else answered.Refused why.NameTaken)) → true ≡ false) [ true ↦ λ e. cc | false ↦ λ e. cc ]
+      | false ↦ λ e. cc
+    ]) h
+
+other_row : (h : List Command) (r f n : List ℕ) → bytes_eq n r ≡ false → release_row h n ≡ release_row (OpenRelease r f ∷ h) n
+other_row h r f n differ = let e : bytes_eq r n ≡ false = texts_turned r n ∙ differ in rw e refl
+
+new_row : (h : List Command) (r f : List ℕ) (k : ℕ) → IsUntouched h r → k ≡ length (opened h) → release_row (OpenRelease r f ∷ h) r ≡ record { name = r; place = k + 1; form = f; state = IsOpen; revision = 0 }
+new_row h r f k u same = rw (same_text r, u.state, u.revision, same) refl
+
+pub open-releases : (w : Readings) (h : List Command) (r f : List ℕ) → IsHistory w h → is_some (form_of h r) ≡ false → map (release_row (OpenRelease r f ∷ h)) (names (OpenRelease r f ∷ h)) ≡ put release_below (record { name = r; place = length (map (release_row h) (names h)) + 1; form = f; state = IsOpen; revision = 0 }) (map (release_row h) (names h))
+open-releases w h r f ok none =
+    map-put text_below release_below (release_row (OpenRelease r f ∷ h)) (λ a b. refl) r (names h)
+    ∙ (ap (λ row. put release_below row (map (release_row (OpenRelease r f ∷ h)) (names h))) (new_row h r f (length (map (release_row h) (names h))) (untouched w h r ok none) (length-releases h))
+    ∙ ap (λ rows. put release_below (record { name = r; place = length (map (release_row h) (names h)) + 1; form = f; state = IsOpen; revision = 0 }) rows) (sym (map_others (release_row h) (release_row (OpenRelease r f ∷ h)) r (other_row h r f) (names h) (names-form h r ∙ none))))

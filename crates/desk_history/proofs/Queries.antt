@@ -1,0 +1,56 @@
+-- The answers to queries, from tables.
+use Rattle.std.proofs.Common.{◌≡◌, ℕ, ◌+◌, ◌≤◌, true, false, List, [], ◌∷◌, length, map, refl, ap, ◌∙◌, arith}
+use Rattle.std.specs.Prelude.{if◌then◌else◌, filter, is_some, cond}
+use Rattle.std.specs.List.{enumerate_from}
+use Rattle.std.proofs.lemmas.Bool.Decides.{nat_tests}
+use Rattle.desk_rows.specs.Readings.{Readings}
+use Rattle.desk_rows.specs.Keys.{is_change_of, is_duty_of}
+use Rattle.desk_rows.specs.History.{form_of}
+use Rattle.desk_rows.specs.declared.row.Owed.{Owed}
+use Rattle.desk_rows.specs.Raised.{raised}
+use Rattle.desk_rows.specs.Moves.{duty_row, changes, place, all_changes}
+use Rattle.desk_rows.specs.Tables.{Tables, tables}
+use Rattle.desk_rows.specs.Queries.{queried, duty_line, duties_of, totals_of}
+use Rattle.desk_history.specs.FromTables.{queried_from}
+use Rattle.desk_history.proofs.Lookups.{is_found}
+use Rattle.desk_history.proofs.Meeting.{changes-numbered, in_range}
+use Rattle.desk_rows.specs.declared.row.DutyRow.{DutyRow}
+use Rattle.desk_rows.specs.declared.row.ChangeRow.{ChangeRow}
+use Rattle.desk_rows.specs.declared.refusal.Refusal.TheVariants as why
+use Rattle.desk_rows.specs.declared.command.Answer.TheVariants as answered
+use Rattle.desk_rows.specs.declared.command.Query.{Query}
+use Rattle.desk_rows.specs.declared.command.Query.TheVariants as query
+use Rattle.desk_rows.specs.declared.command.Command.{Command}
+
+in_all : (n l k : ℕ) → 1 ≤ n → n + (k + 1) ≡ 1 + l → in_range 1 n l ≡ true
+in_all n l k le e = grind (arith, nat_tests)
+
+-- the changes of a duty that is raised are its rows in the table
+changes-found : (w : Readings) (h : List Command) (n : ℕ) → in_range 1 n (length (raised w h)) ≡ true → filter (is_change_of n) (all_changes w h) ≡ changes w h n
+changes-found w h n e = changes-numbered w h n 1 (raised w h) ∙ rw e refl
+
+lines_from : (w : Readings) (h : List Command) (r : List ℕ) (n : ℕ) (xs : List Owed) → 1 ≤ n → n + length xs ≡ 1 + length (raised w h) → map (duty_line (λ q. filter (is_change_of q) (all_changes w h))) (filter (is_duty_of r) (map (λ (d : ℕ × Owed). duty_row (place w h d.0) d) (enumerate_from n xs))) ≡ map (duty_line (changes w h)) (filter (is_duty_of r) (map (λ (d : ℕ × Owed). duty_row (place w h d.0) d) (enumerate_from n xs)))
+lines_from w h r n [] le e = refl
+lines_from w h r n (x ∷ xs) le e =
+    let row : DutyRow = duty_row (place w h n) (n, x) in
+    let rest : List DutyRow = filter (is_duty_of r) (map (λ (d : ℕ × Owed). duty_row (place w h d.0) d) (enumerate_from (n + 1) xs)) in
+    let here : in_range 1 n (length (raised w h)) ≡ true = in_all n (length (raised w h)) (length xs) le (omega arith) in
+    let line : duty_line (λ q. filter (is_change_of q) (all_changes w h)) row ≡ duty_line (changes w h) row =
+    ap (λ rows. let found : ℕ → List ChangeRow = λ q. rows in duty_line found row) (changes-found w h n here) in
+    elim (is_duty_of r row) as (λ b. map (duty_line (λ q. filter (is_change_of q) (all_changes w h))) (cond b (row ∷ rest) rest) ≡ map (duty_line (changes w h)) (cond b (row ∷ rest) rest)) [
+      | true ↦ rw line (ap (λ xs. duty_line (changes w h) row ∷ xs) (lines_from w h r (n + 1) xs (omega arith) (omega arith)))
+      | false ↦ lines_from w h r (n + 1) xs (omega arith) (omega arith)
+    ]
+
+lines-found : (w : Readings) (h : List Command) (r : List ℕ) → map (duty_line (λ q. filter (is_change_of q) (all_changes w h))) (duties_of w h r) ≡ map (duty_line (changes w h)) (duties_of w h r)
+lines-found w h r = lines_from w h r 1 (raised w h) (omega arith) refl
+
+pub query-answer : (w : Readings) (h : List Command) (q : Query) → queried_from (tables w h) q ≡ queried w h q
+query-answer w h (query.Duties r) =
+    ap (λ b. if b then answered.Duties (map (duty_line (λ q. filter (is_change_of q) (all_changes w h))) (duties_of w h r)) else answered.Refused why.UnknownRelease) (is_found w h r)
+    ∙ ap (λ rows. if is_some (form_of h r) then answered.Duties rows else answered.Refused why.UnknownRelease) (lines-found w h r)
+query-answer w h (query.Totals r) =
+    ap (λ b. if b then answered.Totals (totals_of (duties_of w h r)) else answered.Refused why.UnknownRelease) (is_found w h r)
+
+pub query_at_history : (w : Readings) (h : List Command) (q : Query) (t : Tables) → t ≡ tables w h → queried_from t q ≡ queried w h q
+query_at_history w h q t e = ap (λ u. queried_from u q) e ∙ query-answer w h q

@@ -1,0 +1,90 @@
+-- The tables of a history answer and change as the history does.
+use Rattle.std.proofs.Common.{◌≡◌, ℕ, Bool, true, false, List, ◌∷◌, ◌++◌, length, map, sym, refl, ap, ◌∙◌}
+use Rattle.std.specs.Prelude.{if◌then◌else◌, IsTrue, is_some, find, filter}
+use Rattle.std.specs.List.{list_any}
+use Rattle.desk_rows.specs.Lists.{put_all}
+use Rattle.desk_rows.specs.Readings.{Readings}
+use Rattle.desk_rows.specs.Keys.{is_document, is_package, is_attachment, below_by, choice_order}
+use Rattle.desk_rows.specs.History.{opened, form_of, forms_in, in_force, documents, packages, attached, attached_to, term_set}
+use Rattle.desk_rows.specs.Moves.{duties, all_changes}
+use Rattle.desk_rows.specs.Tables.{Tables, tables, applied, standing, choice_row, is_other_choice}
+use Rattle.desk_rows.specs.Answers.{answer, IsHistory, is_recorded, noted, open_answer, attach_answer, choose_answer}
+use Rattle.desk_history.specs.FromTables.{answer_from, change_for, rows_noted, raised_row}
+use Rattle.desk_history.proofs.Same.{same_tables}
+use Rattle.desk_history.proofs.Rows.{in_order-append}
+use Rattle.desk_history.proofs.Orders.{filter-in_order, choice_is_order}
+use Rattle.desk_history.proofs.Lookups.{is_found, length-releases, state-found}
+use Rattle.desk_history.proofs.Opening.{open-releases, open_free}
+use Rattle.desk_history.proofs.Freezing.{freeze-answer, freeze-releases, freeze-duties, freeze-changes, freeze-frozen, new-duties}
+use Rattle.desk_history.proofs.Meeting.{meet-answer, meet-duties, meet-changes}
+use Rattle.desk_rows.specs.declared.command.Command.{Command}
+use Rattle.desk_rows.specs.declared.command.Command.TheVariants.{LoadCatalogue, Import, OpenRelease, Attach, Choose, Freeze, Meet}
+
+open-answer : (w : Readings) (h : List Command) (r f : List ℕ) → answer_from w (tables w h) (OpenRelease r f) ≡ answer w h (OpenRelease r f)
+open-answer w h r f =
+    ap (λ b. open_answer r f (forms_in (in_force w h)) b (length (tables w h).releases)) (is_found w h r)
+    ∙ ap (open_answer r f (forms_in (in_force w h)) (is_some (form_of h r))) (length-releases h)
+
+pub step-answer : (w : Readings) (h : List Command) (c : Command) → answer_from w (tables w h) c ≡ answer w h c
+step-answer w h (LoadCatalogue text) = refl
+step-answer w h (Import bytes profile) = refl
+step-answer w h (OpenRelease r f) = open-answer w h r f
+step-answer w h (Attach r d) = ap (λ s. attach_answer s (is_some (find (is_document d) (documents w h))) (list_any (is_attachment r d) (attached h)) (length (attached_to (attached h) r))) (state-found w h r)
+step-answer w h (Choose r d p texts) = ap (λ s. choose_answer w texts s (find (is_document d) (documents w h)) (find (is_package d p) (packages w h)) (list_any (is_attachment r d) (attached h))) (state-found w h r)
+step-answer w h (Freeze r day) = freeze-answer w h r day
+step-answer w h (Meet q day text) = meet-answer w h q day text
+
+open-rows : (w : Readings) (h : List Command) (r f : List ℕ) → IsHistory w h → IsTrue (is_recorded (answer w h (OpenRelease r f))) → tables w (OpenRelease r f ∷ h) ≡ applied (change_for w (tables w h) (OpenRelease r f)) (tables w h)
+open-rows w h r f ok recorded =
+    let free : is_some (form_of h r) ≡ false = open_free r f (forms_in (in_force w h)) (is_some (form_of h r)) (length (opened h)) recorded in
+    same_tables _ _ refl refl refl refl refl refl refl refl (open-releases w h r f ok free) refl refl refl refl refl
+
+choose-rows : (w : Readings) (h : List Command) (r p : List ℕ) (d : ℕ) (texts : List (List ℕ)) → tables w (Choose r d p texts ∷ h) ≡ applied (change_for w (tables w h) (Choose r d p texts)) (tables w h)
+choose-rows w h r p d texts =
+    same_tables _ _ refl refl refl refl refl refl refl refl refl refl
+    (in_order-append (below_by choice_order) (map (choice_row r d p) (term_set w texts)) (filter (is_other_choice r d p) (standing w h))
+    ∙ ap (put_all (below_by choice_order) (map (choice_row r d p) (term_set w texts))) (sym (filter-in_order (below_by choice_order) choice_is_order (is_other_choice r d p) (standing w h))))
+    refl refl refl
+
+freeze-rows : (w : Readings) (h : List Command) (r day : List ℕ) → tables w (Freeze r day ∷ h) ≡ applied (change_for w (tables w h) (Freeze r day)) (tables w h)
+freeze-rows w h r day =
+    same_tables _ _ refl refl refl refl refl refl refl refl (freeze-releases w h r day) refl refl
+    (freeze-frozen w h r day)
+    (freeze-duties w h r day ∙ ap (λ rows. duties w h ++ rows) (new-duties w h r))
+    (freeze-changes w h r day ∙ ap (λ rows. all_changes w h ++ map (raised_row day) rows) (new-duties w h r))
+
+meet-rows : (w : Readings) (h : List Command) (q : ℕ) (day text : List ℕ) → IsTrue (is_recorded (answer w h (Meet q day text))) → tables w (Meet q day text ∷ h) ≡ applied (change_for w (tables w h) (Meet q day text)) (tables w h)
+meet-rows w h q day text recorded =
+    same_tables _ _ refl refl refl refl refl refl refl refl refl refl refl refl (meet-duties w h q day text recorded) (meet-changes w h q day text recorded)
+
+pub recorded-rows : (w : Readings) (h : List Command) (c : Command) → IsHistory w h → IsTrue (is_recorded (answer w h c)) → tables w (c ∷ h) ≡ applied (change_for w (tables w h) c) (tables w h)
+recorded-rows w h (LoadCatalogue text) ok kept = refl
+recorded-rows w h (Import bytes profile) ok kept = refl
+recorded-rows w h (OpenRelease r f) ok kept = open-rows w h r f ok kept
+recorded-rows w h (Attach r d) ok kept = refl
+recorded-rows w h (Choose r d p texts) ok kept = choose-rows w h r p d texts
+recorded-rows w h (Freeze r day) ok kept = freeze-rows w h r day
+recorded-rows w h (Meet q day text) ok kept = meet-rows w h q day text kept
+
+noted_rows : (w : Readings) (h : List Command) (c : Command) (b : Bool) → (b ≡ true → tables w (c ∷ h) ≡ applied (change_for w (tables w h) c) (tables w h)) → tables w (if b then c ∷ h else h) ≡ (if b then applied (change_for w (tables w h) c) (tables w h) else tables w h)
+noted_rows w h c true same = same refl
+noted_rows w h c false same = refl
+
+pub step-rows : (w : Readings) (h : List Command) (c : Command) → IsHistory w h → rows_noted w (tables w h) c ≡ tables w (noted w h c)
+step-rows w h c ok =
+    ap (λ a. if is_recorded a then applied (change_for w (tables w h) c) (tables w h) else tables w h) (step-answer w h c)
+    ∙ sym (noted_rows w h c (is_recorded (answer w h c)) (λ e. recorded-rows w h c ok e))
+
+noted_ok : (w : Readings) (h : List Command) (c : Command) (b : Bool) → is_recorded (answer w h c) ≡ b → IsHistory w h → IsHistory w (if b then c ∷ h else h)
+noted_ok w h c true e ok = (e, ok)
+noted_ok w h c false e ok = ok
+
+pub IsHistory-noted : (w : Readings) (h : List Command) (c : Command) → IsHistory w h → IsHistory w (noted w h c)
+IsHistory-noted w h c ok = noted_ok w h c (is_recorded (answer w h c)) refl ok
+
+-- the same of the rows that a store keeps
+pub at_history : (w : Readings) (h : List Command) (c : Command) (t : Tables) → IsHistory w h → t ≡ tables w h → rows_noted w t c ≡ tables w (noted w h c)
+at_history w h c t ok e = ap (λ u. rows_noted w u c) e ∙ step-rows w h c ok
+
+pub answer_at_history : (w : Readings) (h : List Command) (c : Command) (t : Tables) → t ≡ tables w h → answer_from w t c ≡ answer w h c
+answer_at_history w h c t e = ap (λ u. answer_from w u c) e ∙ step-answer w h c

@@ -1,0 +1,184 @@
+-- The answer and the change of a command, from the rows of tables: what the code computes.
+use Rattle.std.specs.Prelude.{ℕ, ◌+◌, Bool, List, [], length, filter, map, find, Option, None, is_some, unwrap_or, if◌then◌else◌}
+use Rattle.std.specs.List.{list_any, enumerate_from}
+use Rattle.std.specs.Option.{option_map, option_map_or}
+use Rattle.std.specs.Result.{result_ok}
+use Rattle.desk_rows.specs.Readings.{Readings}
+use Rattle.desk_rows.specs.Keys.{is_document, is_package, is_release, is_attachment, is_choice_of, is_duty, is_duty_of, is_change_of, is_rule_of}
+use Rattle.desk_rows.specs.History.{rules_in, forms_in, rule_row, namespace_in, packages_in, references_in, package_row, extracted_row, attached_to, term_set}
+use Rattle.desk_rows.specs.declared.row.Owed.{Owed}
+use Rattle.desk_rows.specs.Raised.{shipped_of, owed_for, frozen_for}
+use Rattle.desk_rows.specs.Moves.{duty_row}
+use Rattle.desk_rows.specs.Tables.{Tables, applied, choice_row}
+use Rattle.desk_rows.specs.Answers.{load_answer, import_answer, open_answer, attach_answer, choose_answer, freeze_answer, freeze_open, meet_answer, walk, profile_in, is_recorded}
+use Rattle.desk_rows.specs.Queries.{duty_line, totals_of}
+use Rattle.desk_rows.specs.declared.reading.Catalogue.{Catalogue}
+use Rattle.desk_rows.specs.declared.reading.Document.{Document}
+use Rattle.desk_rows.specs.declared.reading.Profile.{Profile}
+use Rattle.desk_rows.specs.declared.reading.Rule.{Rule}
+use Rattle.desk_rows.specs.declared.refusal.Refusal.TheVariants as why
+use Rattle.std.specs.Str.{bytes_eq}
+use Rattle.desk_rows.specs.declared.row.DocumentRow.{DocumentRow}
+use Rattle.desk_rows.specs.declared.row.RuleRow.{RuleRow}
+use Rattle.desk_rows.specs.declared.row.PackageRow.{PackageRow}
+use Rattle.desk_rows.specs.declared.row.ReleaseRow.{ReleaseRow}
+use Rattle.desk_rows.specs.declared.row.FrozenRow.{FrozenRow}
+use Rattle.desk_rows.specs.declared.row.DutyRow.{DutyRow}
+use Rattle.desk_rows.specs.declared.row.ChangeRow.{ChangeRow}
+use Rattle.desk_rows.specs.declared.state.ReleaseState.{ReleaseState}
+use Rattle.desk_rows.specs.declared.state.ReleaseState.TheVariants as release
+use Rattle.desk_rows.specs.declared.state.DutyState.TheVariants as stands
+use Rattle.desk_rows.specs.declared.state.Word.TheVariants as word
+use Rattle.desk_rows.specs.declared.command.Answer.{Answer}
+use Rattle.desk_rows.specs.declared.command.Answer.TheVariants as answered
+use Rattle.desk_rows.specs.declared.command.Change.{Change}
+use Rattle.desk_rows.specs.declared.command.Change.TheVariants as change
+use Rattle.desk_rows.specs.declared.command.Command.{Command}
+use Rattle.desk_rows.specs.declared.command.Command.TheVariants.{LoadCatalogue, Import, OpenRelease, Attach, Choose, Freeze, Meet}
+use Rattle.desk_rows.specs.declared.command.DutyLine.{DutyLine}
+use Rattle.desk_rows.specs.declared.command.Query.{Query}
+use Rattle.desk_rows.specs.declared.command.Query.TheVariants as query
+
+-- What is looked up
+
+abbrev pub release_found : Tables → List ℕ → Option ReleaseRow
+release_found t r = find (is_release r) t.releases
+
+abbrev pub state_found : Tables → List ℕ → Option ReleaseState
+state_found t r = option_map (λ row. row.state) (release_found t r)
+
+abbrev pub form_found : Tables → List ℕ → List ℕ
+form_found t r = unwrap_or (option_map (λ row. row.form) (release_found t r)) []
+
+abbrev pub rule_of : RuleRow → Rule
+rule_of row = record { term = row.term; form = row.form; spelled = row.spelled; codes = row.codes }
+
+-- the rules of the catalogue in force
+abbrev pub rules_found : Tables → List Rule
+rules_found t = map rule_of (filter (is_rule_of (length t.catalogue)) t.rule)
+
+abbrev pub choice_found : Tables → List ℕ → PackageRow → List (List ℕ)
+choice_found t r p = map (λ row. row.term) (filter (is_choice_of r p.document p.id) t.choice)
+
+abbrev pub shipped_found : Tables → List ℕ → List PackageRow
+shipped_found t r = shipped_of (attached_to t.attached r) t.packages
+
+abbrev pub duty_found : Tables → ℕ → Option DutyRow
+duty_found t q = find (is_duty q) t.duty
+
+abbrev pub steps_found : Tables → ℕ → ℕ
+steps_found t q = length (filter (is_change_of q) t.changes)
+
+-- the state of a duty's release
+abbrev pub release_state_found : Tables → Option DutyRow → ReleaseState
+release_state_found t duty = option_map_or (λ row. unwrap_or (state_found t row.release) release.IsOpen) duty release.IsOpen
+
+-- what a freeze raises
+abbrev pub owed_found : Readings → Tables → List ℕ → List Owed
+owed_found w t r = owed_for w (rules_found t) (form_found t r) r (choice_found t r) (shipped_found t r)
+
+abbrev pub frozen_found : Readings → Tables → List ℕ → List FrozenRow
+frozen_found w t r = frozen_for w (rules_found t) (form_found t r) r (choice_found t r) (shipped_found t r)
+
+-- the answer
+abbrev pub answer_from : Readings → Tables → Command → Answer
+answer_from w t (LoadCatalogue text) = load_answer (w.catalogue text) (length t.catalogue)
+answer_from w t (Import bytes profile) = import_answer (w.document bytes) bytes t.document
+answer_from w t (OpenRelease r form) = open_answer r form t.forms (is_some (release_found t r)) (length t.releases)
+answer_from w t (Attach r d) = attach_answer (state_found t r) (is_some (find (is_document d) t.document)) (list_any (is_attachment r d) t.attached) (length (attached_to t.attached r))
+answer_from w t (Choose r d p texts) = choose_answer w texts (state_found t r) (find (is_document d) t.document) (find (is_package d p) t.packages) (list_any (is_attachment r d) t.attached)
+answer_from w t (Freeze r day) =
+    freeze_answer day (state_found t r) (length (attached_to t.attached r))
+    (walk w (rules_found t) (form_found t r) (profile_in t.document) (choice_found t r) (shipped_found t r))
+    (length t.duty) (length (owed_found w t r))
+answer_from w t (Meet q day text) = meet_answer day text (release_state_found t (duty_found t q)) (steps_found t q) (option_map (λ row. row.state) (duty_found t q))
+
+abbrev pub new_duty : ℕ × Owed → DutyRow
+new_duty d = duty_row stands.IsOpen d
+
+abbrev pub raised_row : List ℕ → DutyRow → ChangeRow
+raised_row day row = record { duty = row.number; step = 1; day = day; word = word.Raised; body = []; last_day = None }
+
+abbrev pub new_duties : Readings → Tables → List ℕ → List DutyRow
+new_duties w t r = map new_duty (enumerate_from (length t.duty + 1) (owed_found w t r))
+
+-- What a recorded command does to the rows
+
+abbrev pub loaded_change : Tables → List ℕ → Option Catalogue → Change
+loaded_change t text catalogue =
+    let n = length t.catalogue + 1 in
+    change.Loaded (record { revision = n; body = text }) (map (rule_row n) (rules_in catalogue)) (forms_in catalogue)
+
+abbrev pub imported_as : ℕ → List ℕ → Profile → Option Document → Change
+imported_as n bytes profile document =
+    change.Imported (record { number = n; namespace = namespace_in document; bytes = bytes; profile = profile })
+    (map (package_row n) (packages_in document)) (map (extracted_row n) (references_in document))
+
+abbrev pub imported_change : Tables → List ℕ → Profile → Option Document → Change
+imported_change t bytes profile document = imported_as (length t.document + 1) bytes profile document
+
+abbrev pub opened_change : Tables → List ℕ → List ℕ → Change
+opened_change t r form = change.Opened (record { name = r; place = length t.releases + 1; form = form; state = release.IsOpen; revision = 0 })
+
+abbrev pub chosen_change : List ℕ → ℕ → List ℕ → List (List ℕ) → Change
+chosen_change r d p terms = change.Chosen r d p (map (choice_row r d p) terms)
+
+abbrev pub froze_rows : List ℕ → ℕ → List ℕ → List FrozenRow → List DutyRow → Change
+froze_rows r revision day rows new = change.Froze r revision rows new (map (raised_row day) new)
+
+abbrev pub froze_change : Tables → List ℕ → List ℕ → List FrozenRow → List DutyRow → Change
+froze_change t r day rows new = froze_rows r (length t.catalogue) day rows new
+
+abbrev pub froze_as : Tables → List ℕ → List ℕ → List FrozenRow → List Owed → Change
+froze_as t r day rows owed = froze_change t r day rows (map new_duty (enumerate_from (length t.duty + 1) owed))
+
+-- the freeze of an open release with this form
+abbrev pub freeze_open_found : Readings → Tables → List ℕ → List ℕ → Answer
+freeze_open_found w t r form =
+    freeze_open (length (attached_to t.attached r)) (walk w (rules_found t) form (profile_in t.document) (choice_found t r) (shipped_found t r))
+    (length t.duty) (length (owed_for w (rules_found t) form r (choice_found t r) (shipped_found t r)))
+
+abbrev pub freeze_change_found : Readings → Tables → List ℕ → List ℕ → List ℕ → Change
+freeze_change_found w t r form day =
+    froze_as t r day (frozen_for w (rules_found t) form r (choice_found t r) (shipped_found t r)) (owed_for w (rules_found t) form r (choice_found t r) (shipped_found t r))
+
+abbrev pub met_change : Tables → ℕ → List ℕ → List ℕ → Change
+met_change t q day text =
+    change.Moved q stands.Met (record { duty = q; step = steps_found t q + 1; day = day; word = word.Met; body = text; last_day = None })
+
+abbrev pub change_for : Readings → Tables → Command → Change
+change_for w t (LoadCatalogue text) = loaded_change t text (result_ok (w.catalogue text))
+change_for w t (Import bytes profile) = imported_change t bytes profile (result_ok (w.document bytes))
+change_for w t (OpenRelease r form) = opened_change t r form
+change_for w t (Attach r d) = change.Attached (record { release = r; document = d })
+change_for w t (Choose r d p texts) = chosen_change r d p (term_set w texts)
+change_for w t (Freeze r day) = froze_change t r day (frozen_found w t r) (new_duties w t r)
+change_for w t (Meet q day text) = met_change t q day text
+
+-- the rows after an answer
+abbrev pub noted_by : Answer → Change → Tables → Tables
+noted_by a c t = if is_recorded a then applied c t else t
+
+-- the rows after a command
+abbrev pub rows_noted : Readings → Tables → Command → Tables
+rows_noted w t c = noted_by (answer_from w t c) (change_for w t c) t
+
+-- What a store tells of an import with a namespace: its number, and whether its bytes are these
+abbrev pub known_import : List ℕ → DocumentRow → ℕ × Bool
+known_import bytes row = (row.number, bytes_eq row.bytes bytes)
+
+-- and of a document
+abbrev pub known_document : DocumentRow → ℕ × Profile
+known_document row = (row.number, row.profile)
+
+-- the line of a duty
+abbrev pub line_found : Tables → DutyRow → DutyLine
+line_found t row = duty_line (λ q. filter (is_change_of q) t.changes) row
+
+-- the answer to a query
+abbrev pub queried_from : Tables → Query → Answer
+queried_from t (query.Duties r) =
+    if is_some (release_found t r) then answered.Duties (map (line_found t) (filter (is_duty_of r) t.duty))
+    else answered.Refused why.UnknownRelease
+queried_from t (query.Totals r) =
+    if is_some (release_found t r) then answered.Totals (totals_of (filter (is_duty_of r) t.duty)) else answered.Refused why.UnknownRelease

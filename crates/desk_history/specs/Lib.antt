@@ -1,0 +1,2 @@
+pub mod FromTables
+pub mod Laws

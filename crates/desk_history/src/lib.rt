@@ -1,0 +1,45 @@
+//! The laws of the recorded history, each as the contract of a function with an empty body: they say in the subject's own words
+//! what the definitions of `desk_rows` come to. In `proofs/` stand the lemmas by which the desk's code, which sees rows alone, keeps
+//! the tables of a history.
+#![tactic(auto)]
+
+ghost use Rattle.std.specs.Prelude.{◌≡◌, ℕ, ◌+◌, ◌++◌, ◌∷◌, List, map, filter};
+ghost use Rattle.desk_rows.specs.Lists.{IsIn};
+ghost use Rattle.desk_rows.specs.Readings.{Readings};
+ghost use Rattle.desk_rows.specs.Keys.{is_choice_of};
+ghost use Rattle.desk_rows.specs.History.{choice};
+ghost use Rattle.desk_rows.specs.Raised.{raised, IsRaised};
+ghost use Rattle.desk_rows.specs.Tables.{standing, choice_row};
+ghost use Rattle.desk_rows.specs.Answers.{answer, noted, IsHistory};
+ghost use Rattle.desk_rows.specs.Queries.{duties_of, totals_of};
+ghost use Rattle.desk_history.specs.Laws.{IsMinimalChoice};
+ghost use Rattle.desk_rows.specs.declared.row.Owed.{Owed};
+ghost use Rattle.desk_rows.specs.declared.command.Command.{Command};
+ghost use Rattle.desk_rows.specs.declared.command.Command.TheVariants.{Choose};
+
+/// A duty is raised exactly where a freeze of its release stands in the history, and before it a document that ships the package
+/// was attached, the term was chosen for it, and the catalogue in force owed the code for the term's adopted form.
+pub fn raised_exactly()
+    ensures held { (w : Readings) (h : List Command) (d : Owed) → IsRaised w h d → IsIn d (raised w h) }
+    ensures only { (w : Readings) (h : List Command) (d : Owed) → IsIn d (raised w h) → IsRaised w h d }
+{}
+
+/// Each choice that was recorded is a minimal set of its package's concluded expression.
+pub fn choices_are_minimal()
+    ensures { (w : Readings) (h later before : List Command) (r : List ℕ) (d : ℕ) (p : List ℕ) (texts : List (List ℕ)) → IsHistory w h → h ≡ later ++ Choose r d p texts ∷ before → IsMinimalChoice w before d p texts }
+{}
+
+/// The choice that stands for a package is the last one.
+pub fn last_choice_stands()
+    ensures { (w : Readings) (h : List Command) (r : List ℕ) (d : ℕ) (p : List ℕ) → filter (is_choice_of r d p) (standing w h) ≡ map (choice_row r d p) (choice w h r d p) }
+{}
+
+/// Each duty that was raised is open, met, waived or withdrawn, and only one of these.
+pub fn each_duty_stands_once()
+    ensures { (w : Readings) (h : List Command) (r : List ℕ) → let totals = totals_of (duties_of w h r) in totals.raised ≡ totals.still_open + totals.met + totals.waived + totals.withdrawn }
+{}
+
+/// A recorded history with a recorded command is a recorded history.
+pub fn histories_grow()
+    ensures { (w : Readings) (h : List Command) (c : Command) → IsHistory w h → IsHistory w (noted w h c) }
+{}

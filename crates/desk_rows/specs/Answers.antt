@@ -1,0 +1,241 @@
+-- The answer to each command and query: the first refusal that applies, else what was done. Each is a function of what is looked up.
+use Rattle.std.specs.Prelude.{ℕ, ◌+◌, ◌==◌, ◌&&◌, nat_lt, nat_le, not, Bool, true, false, List, [], ◌∷◌, length, find, slice_index_or, Option, Some, None, is_some, unwrap_or, Result, Ok, Err, IsTrue, if◌then◌else◌}
+use Rattle.std.specs.List.{list_any, filter_map}
+use Rattle.std.specs.Option.{option_map, option_map_or}
+use Rattle.std.specs.Str.{bytes_eq}
+use Rattle.desk_base.specs.Day.{is_day}
+use Rattle.desk_rows.specs.Lists.{or_else}
+use Rattle.desk_rows.specs.Texts.{is_release_name, is_note}
+use Rattle.desk_rows.specs.Readings.{Readings}
+use Rattle.desk_rows.specs.Keys.{is_document, has_namespace, is_package, is_attachment}
+use Rattle.desk_rows.specs.History.{revisions, in_force, rules_in, forms_in, documents, packages, profile_of, expression_in, opened, form_of, state_of, attached, attached_to}
+use Rattle.desk_rows.specs.declared.row.Owed.{Owed}
+use Rattle.desk_rows.specs.Raised.{shipped, rule_adopted, chosen_in, owed_at, raised, numbered}
+use Rattle.desk_rows.specs.Moves.{moves, place}
+use Rattle.desk_rows.specs.declared.reading.Catalogue.{Catalogue}
+use Rattle.desk_rows.specs.declared.reading.Rule.{Rule}
+use Rattle.desk_rows.specs.declared.reading.Document.{Document}
+use Rattle.desk_rows.specs.declared.reading.Profile.{Profile}
+use Rattle.desk_rows.specs.declared.reading.Verdict.{Verdict}
+use Rattle.desk_rows.specs.declared.reading.Verdict.TheVariants as verdict
+use Rattle.desk_rows.specs.declared.refusal.CatalogueFault.{CatalogueFault}
+use Rattle.desk_rows.specs.declared.refusal.DocumentFault.{DocumentFault}
+use Rattle.desk_rows.specs.declared.refusal.Limit.TheVariants as limit
+use Rattle.desk_rows.specs.declared.refusal.Refusal.{Refusal}
+use Rattle.desk_rows.specs.declared.refusal.Refusal.TheVariants as why
+use Rattle.desk_rows.specs.declared.row.DocumentRow.{DocumentRow}
+use Rattle.desk_rows.specs.declared.row.PackageRow.{PackageRow}
+use Rattle.desk_rows.specs.declared.state.ReleaseState.{ReleaseState}
+use Rattle.desk_rows.specs.declared.state.ReleaseState.TheVariants as release
+use Rattle.desk_rows.specs.declared.state.DutyState.{DutyState}
+use Rattle.desk_rows.specs.declared.state.DutyState.TheVariants as stands
+use Rattle.desk_rows.specs.declared.command.Answer.{Answer}
+use Rattle.desk_rows.specs.declared.command.Answer.TheVariants as answered
+use Rattle.desk_rows.specs.declared.command.Command.{Command}
+use Rattle.desk_rows.specs.declared.command.Command.TheVariants.{LoadCatalogue, Import, OpenRelease, Attach, Choose, Freeze, Meet}
+
+-- the refusal, or the answer where there is none
+abbrev pub refused_or : Option Refusal → Answer → Answer
+refused_or None answer = answer
+refused_or (Some refusal) answer = answered.Refused refusal
+
+-- LoadCatalogue: a text that is no catalogue, the revisions
+abbrev pub load_answer : Result Catalogue CatalogueFault → ℕ → Answer
+load_answer (Err fault) count = answered.Refused (why.BadCatalogue fault)
+load_answer (Ok catalogue) count = if nat_le 4096 count then answered.Refused (why.Full limit.Revisions) else answered.Revision (count + 1)
+
+-- Import: bytes that are no document; its namespace, with the same bytes or others; the documents
+abbrev pub import_known : List ℕ → ℕ → Option DocumentRow → Answer
+import_known bytes count None = if nat_le 4096 count then answered.Refused (why.Full limit.Documents) else answered.Imported (count + 1)
+import_known bytes count (Some row) = if bytes_eq row.bytes bytes then answered.Again row.number else answered.Refused (why.NamespaceTaken row.number)
+
+abbrev pub import_answer : Result Document DocumentFault → List ℕ → List DocumentRow → Answer
+import_answer (Err fault) bytes rows = answered.Refused (why.BadDocument fault)
+import_answer (Ok document) bytes rows = import_known bytes (length rows) (find (has_namespace document.namespace) rows)
+
+-- OpenRelease: the name; the form, which the catalogue in force must have; a name that is taken; the releases
+abbrev pub open_answer : List ℕ → List ℕ → List (List ℕ) → Bool → ℕ → Answer
+open_answer name form forms taken count =
+    if not (is_release_name name) then answered.Refused why.BadName
+    else (if not (list_any (bytes_eq form) forms) then answered.Refused why.UnknownForm
+    else (if taken then answered.Refused why.NameTaken
+    else (if nat_le 4096 count then answered.Refused (why.Full limit.Releases) else answered.Done)))
+
+-- a release that isn't open
+abbrev pub unready : ReleaseState → Option Refusal
+unready release.IsOpen = None
+unready state = Some (why.ReleaseState state)
+
+-- Attach: the release, the document, the release's state, a document that is attached already, the attached
+abbrev pub attach_to : Bool → Bool → ℕ → ReleaseState → Answer
+attach_to known already count state =
+    if not known then answered.Refused why.UnknownDocument
+    else refused_or (unready state)
+    (if already then answered.Refused why.AlreadyAttached
+    else (if nat_le 64 count then answered.Refused (why.Full limit.Attached) else answered.Done))
+
+abbrev pub attach_answer : Option ReleaseState → Bool → Bool → ℕ → Answer
+attach_answer state known already count = option_map_or (attach_to known already count) state (answered.Refused why.UnknownRelease)
+
+-- the place of the first text that spells no term
+abbrev pub first_bad : Readings → ℕ → List (List ℕ) → Option ℕ
+first_bad w i [] = None
+first_bad w i (text ∷ texts) = if is_some (w.term text) then first_bad w (i + 1) texts else Some i
+
+-- what a verdict on the terms answers
+abbrev pub judged : List (List ℕ) → Verdict → Answer
+judged terms verdict.NotEnough = answered.Refused why.NotEnough
+judged terms (verdict.Superfluous i) = answered.Refused (why.NotMinimal (slice_index_or terms i []))
+judged terms verdict.Minimal = answered.Done
+
+-- the terms for a package of an open release: no conclusion, else the verdict on them
+abbrev pub choose_for : Readings → List (List ℕ) → Profile → PackageRow → Answer
+choose_for w terms profile p =
+    option_map_or (λ text. judged terms (w.verdict profile text terms)) (expression_in w profile p.concluded)
+    (answered.Refused (why.NoConclusion p.document p.id))
+
+-- a release that isn't open, a document that isn't attached or a package that isn't shipped
+abbrev pub choose_shipped : Readings → List (List ℕ) → Bool → Profile → ReleaseState → PackageRow → Answer
+choose_shipped w terms is_attached profile state p =
+    refused_or (unready state)
+    (if not (is_attached && p.shipped) then answered.Refused why.NotShipped else choose_for w terms profile p)
+
+abbrev pub choose_package : Readings → List (List ℕ) → Bool → Profile → ReleaseState → Option PackageRow → Answer
+choose_package w terms is_attached profile state found =
+    option_map_or (choose_shipped w terms is_attached profile state) found (answered.Refused why.UnknownPackage)
+
+abbrev pub choose_document : Readings → List (List ℕ) → Bool → Option PackageRow → ReleaseState → Option DocumentRow → Answer
+choose_document w terms is_attached found state document =
+    option_map_or (λ row. choose_package w terms is_attached row.profile state found) document (answered.Refused why.UnknownDocument)
+
+-- the release, the document, the package, the release's state, and the rest
+abbrev pub choose_terms : Readings → List (List ℕ) → Option ReleaseState → Option DocumentRow → Option PackageRow → Bool → Answer
+choose_terms w terms state document found is_attached =
+    option_map_or (λ s. choose_document w terms is_attached found s document) state (answered.Refused why.UnknownRelease)
+
+-- Choose: a text that is no term, the release, the document, the package, the release's state, and the rest
+abbrev pub choose_answer : Readings → List (List ℕ) → Option ReleaseState → Option DocumentRow → Option PackageRow → Bool → Answer
+choose_answer w texts state document found is_attached =
+    option_map_or (λ i. answered.Refused (why.BadTerm i)) (first_bad w 0 texts)
+    (choose_terms w (filter_map w.term texts) state document found is_attached)
+
+-- Freeze's walk over the shipped packages: the first that fails
+
+-- the first term without adoption
+abbrev pub first_unadopted : Readings → ℕ → List (List ℕ) → Option Refusal
+first_unadopted w d [] = None
+first_unadopted w d (t ∷ ts) = or_else (option_map (λ reference. why.NotAdopted d reference) (w.reference t)) (first_unadopted w d ts)
+
+-- the first term whose adopted form has no rule
+abbrev pub first_unruled : Readings → List Rule → List ℕ → PackageRow → List (List ℕ) → Option Refusal
+first_unruled w rules form p [] = None
+first_unruled w rules form p (t ∷ ts) =
+    if is_some (rule_adopted w rules form t) then first_unruled w rules form p ts else Some (why.NoRule p.document p.id t)
+
+abbrev pub unchosen : PackageRow → List (List ℕ) → Option Refusal
+unchosen p [] = Some (why.NoChoice p.document p.id)
+unchosen p (t ∷ ts) = None
+
+abbrev pub unconcluded : Readings → Profile → PackageRow → Option Refusal
+unconcluded w profile p = if is_some (expression_in w profile p.concluded) then None else Some (why.NoConclusion p.document p.id)
+
+-- no conclusion, no choice, a term without adoption
+abbrev pub unready_package : Readings → Profile → List (List ℕ) → PackageRow → Option Refusal
+unready_package w profile terms p = or_else (unconcluded w profile p) (or_else (unchosen p terms) (first_unadopted w p.document terms))
+
+-- a package fails by one of these, or by a term without a rule
+abbrev pub package_fault : Readings → List Rule → List ℕ → Profile → List (List ℕ) → PackageRow → Option Refusal
+package_fault w rules form profile terms p = or_else (unready_package w profile terms p) (first_unruled w rules form p terms)
+
+abbrev pub walk : Readings → List Rule → List ℕ → (PackageRow → Profile) → (PackageRow → List (List ℕ)) → List PackageRow → Option Refusal
+walk w rules form profile chosen [] = None
+walk w rules form profile chosen (p ∷ ps) = or_else (package_fault w rules form (profile p) (chosen p) p) (walk w rules form profile chosen ps)
+
+-- nothing attached
+abbrev pub unattached : ℕ → Option Refusal
+unattached count = if count == 0 then Some why.EmptyRelease else None
+
+-- so many new duties beside the old ones
+abbrev pub freeze_fits : ℕ → ℕ → Answer
+freeze_fits old new = if nat_lt 100000 (old + new) then answered.Refused (why.Full limit.Duties) else answered.Frozen (old + 1) new
+
+-- what a freeze of an open release answers, of these attached documents, with this walk and these new duties
+abbrev pub freeze_open : ℕ → Option Refusal → ℕ → ℕ → Answer
+freeze_open attached fault old new = refused_or (unattached attached) (refused_or fault (freeze_fits old new))
+
+-- Freeze: the day, the release, its state, nothing attached, the walk, the duties
+abbrev pub freeze_answer : List ℕ → Option ReleaseState → ℕ → Option Refusal → ℕ → ℕ → Answer
+freeze_answer day state attached fault old new =
+    if not (is_day day) then answered.Refused why.BadDay
+    else option_map_or (λ s. refused_or (unready s) (freeze_open attached fault old new)) state (answered.Refused why.UnknownRelease)
+
+-- a release that is withdrawn
+abbrev pub gone : ReleaseState → Option Refusal
+gone release.Withdrawn = Some (why.ReleaseState release.Withdrawn)
+gone _ = None
+
+-- a duty that isn't open
+abbrev pub settled : DutyState → Option Refusal
+settled stands.IsOpen = None
+settled state = Some (why.DutyState state)
+
+-- a move of a duty, after its day and text: the duty, its release's state, its own state, its changes
+abbrev pub meet_duty : ReleaseState → ℕ → DutyState → Answer
+meet_duty state steps place =
+    refused_or (gone state) (refused_or (settled place)
+    (if nat_le 999 steps then answered.Refused (why.Full limit.Changes) else answered.Done))
+
+-- Meet: the day, the text, the duty, its release's state, its own state, its changes
+abbrev pub meet_answer : List ℕ → List ℕ → ReleaseState → ℕ → Option DutyState → Answer
+meet_answer day text state steps place =
+    if not (is_day day) then answered.Refused why.BadDay
+    else (if not (is_note text) then answered.Refused why.BadText
+    else option_map_or (meet_duty state steps) place (answered.Refused why.UnknownDuty))
+
+-- Over a history
+
+-- the state of a release, if it was opened
+abbrev pub release_state : List Command → List ℕ → Option ReleaseState
+release_state h r = option_map (λ form. state_of h r) (form_of h r)
+
+abbrev pub profile_in : List DocumentRow → PackageRow → Profile
+profile_in rows p = profile_of (find (is_document p.document) rows)
+
+-- a duty by its number
+abbrev pub duty_at : Readings → List Command → ℕ → Option (ℕ × Owed)
+duty_at w h q = find (λ d. d.0 == q) (numbered w h)
+
+abbrev pub state_or_open : Option ReleaseState → ReleaseState
+state_or_open state = unwrap_or state release.IsOpen
+
+-- the state of a duty's release
+abbrev pub release_state_of : List Command → Option (ℕ × Owed) → ReleaseState
+release_state_of h duty = option_map_or (λ d. unwrap_or (release_state h d.1.release) release.IsOpen) duty release.IsOpen
+
+abbrev pub answer : Readings → List Command → Command → Answer
+answer w h (LoadCatalogue text) = load_answer (w.catalogue text) (length (revisions h))
+answer w h (Import bytes profile) = import_answer (w.document bytes) bytes (documents w h)
+answer w h (OpenRelease r form) = open_answer r form (forms_in (in_force w h)) (is_some (form_of h r)) (length (opened h))
+answer w h (Attach r d) = attach_answer (release_state h r) (is_some (find (is_document d) (documents w h))) (list_any (is_attachment r d) (attached h)) (length (attached_to (attached h) r))
+answer w h (Choose r d p texts) = choose_answer w texts (release_state h r) (find (is_document d) (documents w h)) (find (is_package d p) (packages w h)) (list_any (is_attachment r d) (attached h))
+answer w h (Freeze r day) =
+    let form = unwrap_or (form_of h r) [] in
+    freeze_answer day (release_state h r) (length (attached_to (attached h) r))
+    (walk w (rules_in (in_force w h)) form (profile_in (documents w h)) (chosen_in w h r) (shipped w h r))
+    (length (raised w h)) (length (owed_at w h r))
+answer w h (Meet q day text) = meet_answer day text (release_state_of h (duty_at w h q)) (length (moves w h q)) (option_map (λ d. place w h d.0) (duty_at w h q))
+
+-- a command is recorded where it is neither refused nor answered Again
+abbrev pub is_recorded : Answer → Bool
+is_recorded (answered.Again n) = false
+is_recorded (answered.Refused refusal) = false
+is_recorded _ = true
+
+-- the history with a command at its end, where it was recorded
+abbrev pub noted : Readings → List Command → Command → List Command
+noted w h c = if is_recorded (answer w h c) then c ∷ h else h
+
+-- a list of recorded commands
+abbrev pub IsHistory : Readings → List Command → Type 0
+IsHistory w [] = Unit {0}
+IsHistory w (c ∷ h) = IsTrue (is_recorded (answer w h c)) × IsHistory w h

@@ -1,0 +1,13 @@
+pub mod Lists
+pub mod Texts
+pub mod Readings
+pub mod Keys
+pub mod History
+pub mod Raised
+pub mod Moves
+pub mod Tables
+pub mod Answers
+pub mod Queries
+pub mod Runs
+pub mod Numbers
+pub mod Faults

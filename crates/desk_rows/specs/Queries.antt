@@ -1,0 +1,72 @@
+-- The answer to each query.
+use Rattle.std.specs.Prelude.{ℕ, Bool, true, false, List, [], ◌∷◌, length, filter, map, count_by, Option, Some, None, is_some, if◌then◌else◌}
+use Rattle.desk_rows.specs.Readings.{Readings}
+use Rattle.desk_rows.specs.Keys.{is_duty_of}
+use Rattle.desk_rows.specs.History.{form_of}
+use Rattle.desk_rows.specs.Moves.{changes, duties}
+use Rattle.desk_rows.specs.declared.refusal.Refusal.TheVariants as why
+use Rattle.desk_rows.specs.declared.row.DutyRow.{DutyRow}
+use Rattle.desk_rows.specs.declared.row.ChangeRow.{ChangeRow}
+use Rattle.desk_rows.specs.declared.state.DutyState.{DutyState}
+use Rattle.desk_rows.specs.declared.state.DutyState.TheVariants as stands
+use Rattle.desk_rows.specs.declared.command.DutyLine.{DutyLine}
+use Rattle.desk_rows.specs.declared.command.Totals.{Totals}
+use Rattle.desk_rows.specs.declared.command.Answer.{Answer}
+use Rattle.desk_rows.specs.declared.command.Answer.TheVariants as answered
+use Rattle.desk_rows.specs.declared.command.Query.{Query}
+use Rattle.desk_rows.specs.declared.command.Query.TheVariants as query
+use Rattle.desk_rows.specs.declared.command.Command.{Command}
+
+abbrev pub is_open : DutyState → Bool
+is_open stands.IsOpen = true
+is_open _ = false
+
+abbrev pub is_met : DutyState → Bool
+is_met stands.Met = true
+is_met _ = false
+
+abbrev pub is_waived : DutyState → Bool
+is_waived stands.Waived = true
+is_waived _ = false
+
+abbrev pub is_withdrawn : DutyState → Bool
+is_withdrawn stands.Withdrawn = true
+is_withdrawn _ = false
+
+-- how many duties there are, and how many of them stand where
+abbrev pub totals_of : List DutyRow → Totals
+totals_of rows = record {
+  raised = length rows;
+  still_open = count_by (λ row. is_open row.state) rows;
+  met = count_by (λ row. is_met row.state) rows;
+  waived = count_by (λ row. is_waived row.state) rows;
+  withdrawn = count_by (λ row. is_withdrawn row.state) rows;
+}
+
+-- the day of the last change
+abbrev pub last_day : List ChangeRow → Option (List ℕ)
+last_day [] = None
+last_day (row ∷ []) = Some row.day
+last_day (row ∷ next ∷ rows) = last_day (next ∷ rows)
+
+abbrev pub duty_line : (ℕ → List ChangeRow) → DutyRow → DutyLine
+duty_line changed row = record {
+  number = row.number;
+  document = row.document;
+  package_id = row.package_id;
+  term = row.term;
+  rule = row.rule;
+  code = row.code;
+  state = row.state;
+  day = last_day (changed row.number);
+}
+
+-- the duties of a release, by number
+abbrev pub duties_of : Readings → List Command → List ℕ → List DutyRow
+duties_of w h r = filter (is_duty_of r) (duties w h)
+
+abbrev pub queried : Readings → List Command → Query → Answer
+queried w h (query.Duties r) =
+    if is_some (form_of h r) then answered.Duties (map (duty_line (changes w h)) (duties_of w h r)) else answered.Refused why.UnknownRelease
+queried w h (query.Totals r) =
+    if is_some (form_of h r) then answered.Totals (totals_of (duties_of w h r)) else answered.Refused why.UnknownRelease

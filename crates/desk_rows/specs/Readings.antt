@@ -1,0 +1,23 @@
+-- What texts say. The definitions of the history take it as an argument: which reading is right is said where texts are read,
+-- of licence expressions by SPDX 2.3, Annex D, of documents by its tag-value form.
+use Rattle.std.specs.Prelude.{ℕ, Bool, List, Option, Result}
+use Rattle.desk_rows.specs.declared.reading.Catalogue.{Catalogue}
+use Rattle.desk_rows.specs.declared.reading.Document.{Document}
+use Rattle.desk_rows.specs.declared.reading.Profile.{Profile}
+use Rattle.desk_rows.specs.declared.reading.Verdict.{Verdict}
+use Rattle.desk_rows.specs.declared.refusal.CatalogueFault.{CatalogueFault}
+use Rattle.desk_rows.specs.declared.refusal.DocumentFault.{DocumentFault}
+
+pub record Readings : Type 0 where
+  -- the catalogue that a text is, or its fault
+  pub catalogue : List ℕ → Result Catalogue CatalogueFault
+  -- the document that bytes spell, or their fault
+  pub document : List ℕ → Result Document DocumentFault
+  -- the licence term that a text spells, printed
+  pub term : List ℕ → Option (List ℕ)
+  -- the reference that a printed term names, without its exception
+  pub reference : List ℕ → Option (List ℕ)
+  -- whether a text is a licence expression
+  pub is_expression : Profile → List ℕ → Bool
+  -- what a list of printed terms is to the expression that a text spells
+  pub verdict : Profile → List ℕ → List (List ℕ) → Verdict

@@ -1,0 +1,179 @@
+//! Commands, queries and what they are answered.
+
+use crate::reading::Profile;
+use crate::refusal::Refusal;
+use crate::row::{
+    AttachedRow, CatalogueRow, ChangeRow, ChoiceRow, DocumentRow, DutyRow, ExtractedRow, FrozenRow,
+    PackageRow, ReleaseRow, RuleRow,
+};
+use crate::state::DutyState;
+use desk_base::{Day, Items, Text};
+use std::alloc::{AllocError, AllocFailed};
+use thiserror::Error;
+
+/// A command, with texts and numbers as they came.
+#[derive(Debug, Drop)]
+pub enum Command {
+    LoadCatalogue {
+        text: Text,
+    },
+    Import {
+        bytes: Items<u8>,
+        profile: Profile,
+    },
+    OpenRelease {
+        release: Text,
+        form: Text,
+    },
+    Attach {
+        release: Text,
+        document: u64,
+    },
+    Choose {
+        release: Text,
+        document: u64,
+        package_id: Text,
+        terms: Items<Text>,
+    },
+    Freeze {
+        release: Text,
+        day: Text,
+    },
+    Meet {
+        duty: u64,
+        day: Text,
+        text: Text,
+    },
+}
+
+/// A question.
+#[derive(Debug, Drop)]
+pub enum Query {
+    /// The duties of a release, by number.
+    Duties { release: Text },
+    /// How many duties of a release stand where.
+    Totals { release: Text },
+}
+
+/// A duty of a release, and the day of its last change.
+#[derive(Debug, Drop)]
+pub struct DutyLine {
+    pub number: u32,
+    pub document: u32,
+    pub package_id: Text,
+    pub term: Text,
+    pub rule: Text,
+    pub code: Text,
+    pub state: DutyState,
+    /// The day of the last change.
+    pub day: Option<Day>,
+}
+
+/// How many duties of a release were raised, and how many of these stand where.
+#[derive(Clone, Copy, Debug, PartialEq, Eq)]
+pub struct Totals {
+    pub raised: u64,
+    pub still_open: u64,
+    pub met: u64,
+    pub waived: u64,
+    pub withdrawn: u64,
+}
+
+/// What a command or a query is answered.
+#[derive(Debug, Drop)]
+pub enum Answer {
+    /// The catalogue was loaded as this revision.
+    Revision(u32),
+    /// The document was imported under this number.
+    Imported(u32),
+    /// The document stands already under this number.
+    Again(u32),
+    Done,
+    /// The release was frozen, and its duties, so many, are numbered from the first on.
+    Frozen { first: u32, count: u32 },
+    Duties(Items<DutyLine>),
+    Totals(Totals),
+    Refused(Refusal),
+}
+
+/// What a recorded command does to the rows.
+#[derive(Debug, Drop)]
+pub enum Change {
+    Loaded {
+        catalogue: CatalogueRow,
+        rules: Items<RuleRow>,
+        forms: Items<Text>,
+    },
+    Imported {
+        document: DocumentRow,
+        packages: Items<PackageRow>,
+        references: Items<ExtractedRow>,
+    },
+    Opened(ReleaseRow),
+    Attached(AttachedRow),
+    Chosen {
+        release: Text,
+        document: u32,
+        package_id: Text,
+        rows: Items<ChoiceRow>,
+    },
+    Froze {
+        release: Text,
+        revision: u64,
+        frozen: Items<FrozenRow>,
+        duties: Items<DutyRow>,
+        changes: Items<ChangeRow>,
+    },
+    Moved {
+        duty: u32,
+        state: DutyState,
+        change: ChangeRow,
+    },
+}
+
+/// Why a database didn't serve.
+#[derive(Clone, Copy, Debug, PartialEq, Eq)]
+pub enum StoreFault {
+    /// The database refused a statement or a commit.
+    Database,
+    /// The database gave rows that no desk's tables have.
+    Rows,
+}
+
+/// Why a command or a query was not answered.
+#[derive(Clone, Copy, Debug, Drop, PartialEq, Eq, Error)]
+pub enum Fault {
+    #[error("out of memory")]
+    Memory,
+    #[error("the store failed")]
+    Store(StoreFault),
+}
+
+impl From<AllocError> for Fault {
+    ghost use Rattle.std.specs.Prelude.{◌≡◌};
+    ghost use Rattle.desk_rows.specs.declared.command.Fault.TheVariants.{Memory};
+
+    ghost from_gives = { λ _ fault. fault ≡ Memory };
+
+    fn from(_error: AllocError) -> Fault {
+        Fault::Memory
+    }
+}
+
+impl<T: Drop> From<AllocFailed<T>> for Fault {
+    ghost use Rattle.std.specs.Prelude.{◌≡◌};
+    ghost use Rattle.desk_rows.specs.declared.command.Fault.TheVariants.{Memory};
+
+    ghost from_gives = { λ _ fault. fault ≡ Memory };
+
+    fn from(_error: AllocFailed<T>) -> Fault {
+        Fault::Memory
+    }
+}
+
+/// What became of a command.
+#[derive(Debug, Drop)]
+pub enum Outcome {
+    Answered(Answer),
+    Failed(Fault),
+}

@@ -1,0 +1,20 @@
+//! What the desk keeps, is asked and answers: the rows of its tables, its commands, queries and answers, the refusals by their
+//! numbers and names; and in `specs/` what each of them means, over the recorded history of commands.
+//!
+//! A contract sees each text and each list as its items, and each other value as the record of its fields.
+#![tactic(auto)]
+
+pub mod command;
+pub mod reading;
+pub mod refusal;
+pub mod row;
+pub mod state;
+
+pub use command::{Answer, Change, Command, DutyLine, Fault, Outcome, Query, StoreFault, Totals};
+pub use reading::{Catalogue, Document, Package, Profile, Reference, Rule, Verdict};
+pub use refusal::{CatalogueFault, CataloguePart, DocumentFault, ExpressionFault, Limit, Refusal};
+pub use row::{
+    AdoptionRow, AttachedRow, CatalogueRow, ChangeRow, ChoiceRow, ConclusionRow, DocumentRow,
+    DutyRow, ExtractedRow, FrozenRow, Owed, PackageRow, ReleaseRow, RuleRow,
+};
+pub use state::{DutyState, ReleaseState, Word};

@@ -1,0 +1,75 @@
+//! What the desk understands of the texts that it is given.
+
+use desk_base::{Items, Text};
+
+/// How the operators of the licence expressions of a document are written.
+#[derive(Clone, Copy, Debug, PartialEq, Eq)]
+pub enum Profile {
+    /// In capitals alone (SPDX 2.3, Annex D).
+    Capitals,
+    /// In capitals or in small letters.
+    Either,
+}
+
+/// A rule of a catalogue: what a term owes in a form.
+#[derive(Debug, Drop)]
+pub struct Rule {
+    /// The term, as it is printed.
+    pub term: Text,
+    pub form: Text,
+    /// The term, as the catalogue spells it.
+    pub spelled: Text,
+    /// The codes of the duties, sorted by their bytes, each once.
+    pub codes: Items<Text>,
+}
+
+/// A catalogue of rules.
+#[derive(Debug, Drop)]
+pub struct Catalogue {
+    pub forms: Items<Text>,
+    /// The rules, sorted by term and form.
+    pub rules: Items<Rule>,
+}
+
+/// A package of a document.
+#[derive(Debug, Drop)]
+pub struct Package {
+    /// Its SPDXID.
+    pub id: Text,
+    pub name: Text,
+    pub version: Option<Text>,
+    /// The value of PackageLicenseConcluded, as it is written.
+    pub concluded: Option<Text>,
+    /// The value of PackageCopyrightText, as it is written.
+    pub copyright: Option<Text>,
+    /// Whether the document ships it.
+    pub shipped: bool,
+}
+
+/// A licence reference that a document defines.
+#[derive(Debug, Drop)]
+pub struct Reference {
+    pub id: Text,
+    pub body: Option<Text>,
+}
+
+/// A document.
+#[derive(Debug, Drop)]
+pub struct Document {
+    pub namespace: Text,
+    /// The packages, sorted by their ids.
+    pub packages: Items<Package>,
+    /// The references that it defines, sorted by their ids.
+    pub references: Items<Reference>,
+}
+
+/// What a list of terms is to a licence expression.
+#[derive(Clone, Copy, Debug, PartialEq, Eq)]
+pub enum Verdict {
+    /// The expression isn't true under these terms.
+    NotEnough,
+    /// It is true also without the term at this place of the list, the first such.
+    Superfluous(usize),
+    /// It is true, and each term is needed.
+    Minimal,
+}
