@@ -48,7 +48,7 @@ try:
 bench: build
 	@python3 bench/bench.py build/desk
 	@echo 'Building the program that reads documents.'
-	@cd $(documents) && rt run >/dev/null
+	@cd $(documents) && { rt run >../../build/log 2>&1 || { cat ../../build/log; exit 1; }; }
 	@python3 bench/documents.py $(documents)/out/desk_documents_bench build/documents
 
 install: build
