@@ -7,20 +7,14 @@ ghost use Rattle.desk_rows.specs.Tables.{Tables, tables};
 ghost use Rattle.desk_rows.specs.Answers.{answer, noted, IsHistory};
 ghost use Rattle.desk_rows.specs.Queries.{queried};
 ghost use Rattle.desk_rows.specs.Runs.{AreAnswers, IsAnswer, history_after, history_with};
-ghost use Rattle.desk_history.specs.FromTables.{answer_from, rows_noted};
 ghost use Rattle.desk_rows.specs.declared.command.Command.{Command};
 ghost use Rattle.desk_rows.specs.declared.command.StoreFault.{StoreFault};
 
-use crate::ask::answer_to;
-use crate::catalogue::load_catalogue;
-use crate::choice::choose;
-use crate::document::import;
-use crate::duty::meet;
-use crate::freeze::freeze;
-use crate::memory::MemStore;
-use crate::release::{attach, open_release};
-use crate::store::Store;
-use crate::texts::Texts;
+use desk_access::store::Store;
+use desk_access::texts::Texts;
+use desk_decisions::ask::answer_to;
+use desk_decisions::carry::carry_out;
+use desk_memory::MemStore;
 use desk_rows::{Answer, Command, Fault, Outcome, Query};
 use std::alloc::{AllocError, Global};
 
@@ -50,34 +44,6 @@ pub trait Desk {
         ensures answer { (w : Readings) → are_right w → (h : List Command) → IsHistory w h → content self.old ≡ tables w h → IfOk result (λ a. a ≡ queried w h query.now) }
         ensures kept { content self.new ≡ content self.old }
         ensures fault { IfErr result (MayFail tells) };
-}
-
-/// Carries out a command over a store.
-pub fn carry_out<T: Texts, S: Store>(
-    alloc: Global,
-    texts: &T,
-    store: &mut S,
-    command: &Command,
-) -> Result<Answer, Fault>
-    ensures answer { (w : Readings) → T.are_right w → IfOk result (λ a. a ≡ answer_from w (S.rows store.old) command.now) }
-    ensures ok { (w : Readings) → T.are_right w → OnOk result (S.rows store.new ≡ rows_noted w (S.rows store.old) command.now) }
-    ensures err { OnErr result (S.rows store.new ≡ S.rows store.old) }
-    ensures fault { IfErr result (MayFail S.tells) }
-{
-    match command {
-        Command::LoadCatalogue { text } => load_catalogue(alloc, texts, store, text),
-        Command::Import { bytes, profile } => import(alloc, texts, store, bytes, *profile),
-        Command::OpenRelease { release, form } => open_release(store, release, form),
-        Command::Attach { release, document } => attach(store, release, *document),
-        Command::Choose {
-            release,
-            document,
-            package_id,
-            terms,
-        } => choose(alloc, texts, store, release, *document, package_id, terms),
-        Command::Freeze { release, day } => freeze(alloc, texts, store, release, day),
-        Command::Meet { duty, day, text } => meet(store, *duty, day, text),
-    }
 }
 
 /// A desk over a store of rows, with a reader of texts.

@@ -1,7 +1,7 @@
 //! The desk in memory over texts whose readings are given.
 
 use crate::desk::{Desk, MemDesk, TableDesk, run};
-use crate::texts::Texts;
+use desk_access::texts::Texts;
 use desk_base::{Day, Items, Text};
 use desk_rows::{
     Answer, Catalogue, CatalogueFault, Command, Document, DocumentFault, DutyLine, DutyState,

@@ -85,8 +85,8 @@ fn is_reference_of_document(bytes: &[u8]) -> bool
     is_idstring_of_bytes(&bytes[..colon]) && is_local_reference(&bytes[colon + 1..])
 }
 
-// Whether the bytes are a reference.
-fn is_reference(bytes: &[u8]) -> bool
+/// Whether the bytes are a reference: `["DocumentRef-" idstring ":"] "LicenseRef-" idstring` (SPDX 2.3, Annex D.1).
+pub fn is_reference(bytes: &[u8]) -> bool
     ensures { result ≡ is_reference bytes.now }
 {
     is_local_reference(bytes)

@@ -22,7 +22,7 @@ mod token;
 mod truth;
 mod word;
 
-pub use cut::TokenCuts;
+pub use cut::{TokenCuts, is_reference};
 pub use expr::{Expr, Shape};
 pub use fault::ParseFault;
 pub use listing::terms;

@@ -19,17 +19,17 @@ pub enum ExpressionFault {
 #[derive(Debug, Drop, PartialEq)]
 pub enum DocumentFault {
     NotUtf8,
-    NoColon(u32),
-    OpenText(u32),
-    AfterText(u32),
-    BadVersion(u32),
-    Missing { line: u32, tag: Text },
-    BadId(u32),
-    DuplicateId(u32),
-    Repeated { line: u32, tag: Text },
-    BadRelationship(u32),
+    NoColon(u64),
+    OpenText(u64),
+    AfterText(u64),
+    BadVersion(u64),
+    Missing { line: u64, tag: Text },
+    BadId(u64),
+    DuplicateId(u64),
+    Repeated { line: u64, tag: Text },
+    BadRelationship(u64),
     TooLarge,
-    TooManyElements(u32),
+    TooManyElements(u64),
 }
 
 /// A part of a catalogue.
@@ -45,12 +45,12 @@ pub enum CataloguePart {
 #[derive(Clone, Copy, Debug, PartialEq, Eq)]
 pub enum CatalogueFault {
     NotToml,
-    Missing(CataloguePart, u32),
-    BadKind(CataloguePart, u32),
-    BadTerm(CataloguePart, u32),
-    UnknownForm(CataloguePart, u32),
-    UnknownDuty(CataloguePart, u32),
-    Twice(CataloguePart, u32),
+    Missing(CataloguePart, usize),
+    BadKind(CataloguePart, usize),
+    BadTerm(CataloguePart, usize),
+    UnknownForm(CataloguePart, usize),
+    UnknownDuty(CataloguePart, usize),
+    Twice(CataloguePart, usize),
     TooLarge,
 }
 

@@ -1,7 +1,0 @@
-use Rattle.std.proofs.Common.{ap, ◌∙◌}
-use Rattle.desk_rows.specs.declared.row.DutyRow.{DutyRow}
-use Rattle.desk_core.proofs.Founds.{duty_number}
-use Rattle.desk_core.proofs.memory.MemStoreStore.duty.Goals as goal
-
-pub returns-in-Ok-clause-same : goal.returns-in-Ok-clause-same
-returns-in-Ok-clause-same c = ap (λ (row : DutyRow). row.number) c.in-Ok.ensures ∙ duty_number c.args.number _ c.in-Some.row.now c.in-Some.ensures

@@ -1,0 +1,6 @@
+mod Names
+mod Sets
+mod Places
+mod Duties
+mod Walking
+mod Freezes

@@ -1,0 +1,298 @@
+//! Terms are chosen for the packages of a release.
+
+ghost use Rattle.std.specs.Prelude.{◌≡◌, ◌≤◌, ◌<◌, ◌+◌, ◌++◌, ◌∷◌, [], IfOk, IfErr, OnOk, OnErr, MatchOption, insert, map, length, Ok, Some, None, Option, filter};
+ghost use Rattle.std.specs.Option.{option_map};
+ghost use Rattle.desk_rows.specs.Readings.{Readings};
+ghost use Rattle.desk_rows.specs.Faults.{MayFail};
+ghost use Rattle.desk_rows.specs.Texts.{put_new, sorted_set};
+ghost use Rattle.desk_rows.specs.Tables.{choice_row};
+ghost use Rattle.desk_rows.specs.Answers.{choose_for, refused_or};
+ghost use Rattle.desk_history.specs.FromTables.{answer_from, rows_noted, noted_by, chosen_change};
+ghost use Rattle.desk_decisions.specs.Walks.{AreTermsOf, choose_found, IsFound, IsOpenPlace};
+ghost use Rattle.desk_rows.specs.Answers.{judged};
+ghost use Rattle.desk_rows.specs.declared.command.Answer.TheVariants.{Done};
+ghost use Rattle.desk_rows.specs.declared.command.Command.TheVariants.{Choose};
+
+use crate::release::unready;
+use desk_access::store::Store;
+use desk_access::texts::Texts;
+use desk_base::{Items, Text};
+use desk_rows::{
+    Answer, Change, ChoiceRow, Fault, PackageRow, Profile, Refusal, ReleaseState, Verdict,
+};
+use std::alloc::{AllocError, Global};
+
+/// The terms that texts spell, or the place of the first that spells none.
+#[derive(Drop)]
+enum TermsRead {
+    Terms(Items<Text>),
+    BadTerm(usize),
+}
+
+fn read_terms<T: Texts>(alloc: Global, texts: &T, words: &[Text]) -> Result<TermsRead, AllocError>
+    ensures { (w : Readings) → T.are_right w → IfOk result (AreTermsOf w words.now) }
+{
+    let mut terms = Items::new(alloc);
+    for (i, word) in words.iter().enumerate() {
+        let Some(term) = texts.term(alloc, word.as_str())? else {
+            return Ok(TermsRead::BadTerm(i));
+        };
+        terms.push(term)?;
+    }
+    Ok(TermsRead::Terms(terms))
+}
+
+/// Where a term goes among others that are sorted, if it isn't there.
+fn place_of(set: &[Text], term: &Text) -> Option<usize>
+    ensures { MatchOption result (put_new term.now set.now ≡ set.now) (λ place. (place ≤ length set.now) × (put_new term.now set.now ≡ insert set.now place term.now)) }
+{
+    for (place, other) in set.iter().enumerate() {
+        if term.as_str() < other.as_str() {
+            return Some(place);
+        }
+        if term.as_str() == other.as_str() {
+            return None;
+        }
+    }
+    Some(set.len())
+}
+
+fn put_new(set: &mut Vec<Text>, term: Text) -> Result<(), AllocError>
+    ensures { OnOk result (set.new.items ≡ put_new term set.old.items) }
+{
+    if let Some(place) = place_of(set.as_slice(), &term) {
+        set.insert(place, term)?;
+    }
+    Ok(())
+}
+
+/// The set of some terms, sorted.
+fn sorted_set(alloc: Global, terms: Items<Text>) -> Result<Vec<Text>, AllocError>
+    ensures { IfOk result (λ set. set.items ≡ sorted_set terms) }
+{
+    let mut terms = terms.into_vec();
+    let mut set = Vec::new(alloc);
+    while let Some(term) = terms.pop() {
+        put_new(&mut set, term)?;
+    }
+    Ok(set)
+}
+
+/// What a verdict refuses.
+fn refusal_of(
+    alloc: Global,
+    terms: &[Text],
+    verdict: Verdict,
+) -> Result<Option<Refusal>, AllocError>
+    ensures { IfOk result (λ refusal. refused_or refusal Done ≡ judged terms.now verdict) }
+{
+    match verdict {
+        Verdict::NotEnough => Ok(Some(Refusal::NotEnough)),
+        Verdict::Superfluous(i) => {
+            let term = match terms.get(i) {
+                Some(term) => term.clone()?,
+                None => Text::of(alloc, "")?,
+            };
+            Ok(Some(Refusal::NotMinimal { term }))
+        }
+        Verdict::Minimal => Ok(None),
+    }
+}
+
+/// What stands against the terms for a package.
+fn judge<T: Texts>(
+    alloc: Global,
+    texts: &T,
+    profile: Profile,
+    row: &PackageRow,
+    terms: &[Text],
+) -> Result<Option<Refusal>, AllocError>
+    ensures { (w : Readings) → T.are_right w → IfOk result (λ refusal. refused_or refusal Done ≡ choose_for w terms.now profile row.now) }
+{
+    if let Some(text) = &row.concluded {
+        if texts.is_expression(alloc, profile, text.as_str())? {
+            let verdict = texts.verdict(alloc, profile, text.as_str(), terms)?;
+            return refusal_of(alloc, terms, verdict);
+        }
+    }
+    Ok(Some(Refusal::NoConclusion {
+        document: row.document,
+        package_id: row.id.clone()?,
+    }))
+}
+
+fn choice_rows(
+    alloc: Global,
+    release: &Text,
+    document: u32,
+    package_id: &Text,
+    terms: Vec<Text>,
+) -> Result<Items<ChoiceRow>, AllocError>
+    ensures { IfOk result (λ rows. rows ≡ map (choice_row release.now document package_id.now) terms.items) }
+{
+    let mut rows = Items::new(alloc);
+    for term in terms {
+        rows.push(ChoiceRow {
+            release: release.clone()?,
+            document,
+            package_id: package_id.clone()?,
+            term,
+        })?;
+    }
+    Ok(rows)
+}
+
+/// The rows of a choice.
+fn chosen(
+    alloc: Global,
+    release: &Text,
+    document: u32,
+    package_id: &Text,
+    terms: Items<Text>,
+) -> Result<Change, AllocError>
+    ensures { IfOk result (λ change. change ≡ chosen_change release.now document package_id.now (sorted_set terms)) }
+{
+    let set = sorted_set(alloc, terms)?;
+    let rows = choice_rows(alloc, release, document, package_id, set)?;
+    Ok(Change::Chosen {
+        release: release.clone()?,
+        document,
+        package_id: package_id.clone()?,
+        rows,
+    })
+}
+
+/// A shipped package of an attached document in an open release.
+#[derive(Drop)]
+struct Place {
+    document: u32,
+    profile: Profile,
+    row: PackageRow,
+}
+
+/// Where terms may be chosen, or why not there.
+#[derive(Drop)]
+enum Found {
+    Here(Place),
+    Nowhere(Refusal),
+}
+
+/// Whether terms may be chosen at a place, by the state of the release and whether the document is attached.
+fn open_place(state: ReleaseState, is_attached: bool, place: Place) -> Found
+    ensures { IsOpenPlace state is_attached place result }
+{
+    if let Some(refusal) = unready(state) {
+        return Found::Nowhere(refusal);
+    }
+    if !is_attached {
+        return Found::Nowhere(Refusal::NotShipped);
+    }
+    if !place.row.shipped {
+        return Found::Nowhere(Refusal::NotShipped);
+    }
+    Found::Here(place)
+}
+
+/// Looks up where terms may be chosen.
+fn find_place<S: Store>(
+    store: &mut S,
+    release: &Text,
+    document: u64,
+    package_id: &Text,
+) -> Result<Found, Fault>
+    ensures found { IfOk result (IsFound (S.rows store.old) release.now document package_id.now) }
+    ensures kept { S.rows store.new ≡ S.rows store.old }
+    ensures fault { IfErr result (MayFail S.tells) }
+{
+    let Some(found) = store.release(release.as_str())? else {
+        return Ok(Found::Nowhere(Refusal::UnknownRelease));
+    };
+    let Some((number, profile)) = store.document(document)? else {
+        return Ok(Found::Nowhere(Refusal::UnknownDocument));
+    };
+    let Some(row) = store.package_row(document, package_id.as_str())? else {
+        return Ok(Found::Nowhere(Refusal::UnknownPackage));
+    };
+    let is_attached = store.is_attached(release.as_str(), document)?;
+    let place = Place {
+        document: number,
+        profile,
+        row,
+    };
+    Ok(open_place(found.state, is_attached, place))
+}
+
+/// Chooses terms that were read, at a place.
+fn choose_at<T: Texts, S: Store>(
+    alloc: Global,
+    texts: &T,
+    store: &mut S,
+    release: &Text,
+    place: &Place,
+    package_id: &Text,
+    terms: Items<Text>,
+) -> Result<Answer, Fault>
+    ensures answer { (w : Readings) → T.are_right w → IfOk result (λ answer. answer ≡ choose_for w terms place.now.profile place.now.row) }
+    ensures ok { IfOk result (λ answer. S.rows store.new ≡ noted_by answer (chosen_change release.now place.now.document package_id.now (sorted_set terms)) (S.rows store.old)) }
+    ensures err { OnErr result (S.rows store.new ≡ S.rows store.old) }
+    ensures fault { IfErr result (MayFail S.tells) }
+{
+    let Ok(refusal) = judge(alloc, texts, place.profile, &place.row, terms.as_slice()) else {
+        return Err(Fault::Memory);
+    };
+    if let Some(refusal) = refusal {
+        return Ok(Answer::Refused(refusal));
+    }
+    let Ok(change) = chosen(alloc, release, place.document, package_id, terms) else {
+        return Err(Fault::Memory);
+    };
+    store.commit(change)?;
+    Ok(Answer::Done)
+}
+
+/// Chooses terms that were read.
+fn choose_terms<T: Texts, S: Store>(
+    alloc: Global,
+    texts: &T,
+    store: &mut S,
+    release: &Text,
+    document: u64,
+    package_id: &Text,
+    terms: Items<Text>,
+) -> Result<Answer, Fault>
+    ensures answer { (w : Readings) → T.are_right w → IfOk result (λ answer. answer ≡ choose_found w (S.rows store.old) release.now document package_id.now terms) }
+    ensures ok { IfOk result (λ answer. S.rows store.new ≡ noted_by answer (chosen_change release.now document package_id.now (sorted_set terms)) (S.rows store.old)) }
+    ensures err { OnErr result (S.rows store.new ≡ S.rows store.old) }
+    ensures fault { IfErr result (MayFail S.tells) }
+{
+    match find_place(store, release, document, package_id)? {
+        Found::Nowhere(refusal) => Ok(Answer::Refused(refusal)),
+        Found::Here(place) => choose_at(alloc, texts, store, release, &place, package_id, terms),
+    }
+}
+
+/// Chooses terms for a package in a release.
+pub fn choose<T: Texts, S: Store>(
+    alloc: Global,
+    texts: &T,
+    store: &mut S,
+    release: &Text,
+    document: u64,
+    package_id: &Text,
+    words: &Items<Text>,
+) -> Result<Answer, Fault>
+    ensures answer { (w : Readings) → T.are_right w → IfOk result (λ answer. answer ≡ answer_from w (S.rows store.old) (Choose release.now document package_id.now words.now)) }
+    ensures ok { (w : Readings) → T.are_right w → OnOk result (S.rows store.new ≡ rows_noted w (S.rows store.old) (Choose release.now document package_id.now words.now)) }
+    ensures err { OnErr result (S.rows store.new ≡ S.rows store.old) }
+    ensures fault { IfErr result (MayFail S.tells) }
+{
+    let Ok(read) = read_terms(alloc, texts, words.as_slice()) else {
+        return Err(Fault::Memory);
+    };
+    match read {
+        TermsRead::BadTerm(i) => Ok(Answer::Refused(Refusal::BadTerm(i))),
+        TermsRead::Terms(terms) => choose_terms(
+            alloc, texts, store, release, document, package_id, terms,
+        ),
+    }
+}

@@ -1,0 +1,139 @@
+//! Documents are imported.
+
+ghost use Rattle.std.specs.Prelude.{◌≡◌, ◌≤◌, ◌<◌, ◌+◌, ◌^◌, IfOk, IfErr, OnOk, OnErr, map, length, Ok, Some};
+ghost use Rattle.desk_rows.specs.Readings.{Readings};
+ghost use Rattle.desk_rows.specs.Faults.{MayFail};
+ghost use Rattle.desk_rows.specs.History.{package_row, extracted_row};
+ghost use Rattle.desk_rows.specs.Answers.{import_answer};
+ghost use Rattle.desk_history.specs.FromTables.{answer_from, rows_noted, noted_by, imported_as, imported_change};
+ghost use Rattle.desk_rows.specs.declared.command.Command.TheVariants.{Import};
+
+use desk_access::store::Store;
+use desk_access::texts::Texts;
+use desk_base::Items;
+use desk_rows::{
+    Answer, Change, Document, DocumentRow, ExtractedRow, Fault, Limit, Package, PackageRow,
+    Profile, Reference, Refusal,
+};
+use std::alloc::{AllocError, Global};
+
+/// How many documents a desk keeps.
+const MAX_DOCUMENTS: u64 = 4_096;
+
+fn package_rows(
+    alloc: Global,
+    document: u32,
+    packages: Vec<Package>,
+) -> Result<Items<PackageRow>, AllocError>
+    ensures { IfOk result (λ rows. rows ≡ map (package_row document) packages.items) }
+{
+    let mut rows = Items::new(alloc);
+    for package in packages {
+        rows.push(PackageRow {
+            document,
+            id: package.id,
+            name: package.name,
+            version: package.version,
+            concluded: package.concluded,
+            copyright: package.copyright,
+            shipped: package.shipped,
+        })?;
+    }
+    Ok(rows)
+}
+
+fn extracted_rows(
+    alloc: Global,
+    document: u32,
+    references: Vec<Reference>,
+) -> Result<Items<ExtractedRow>, AllocError>
+    ensures { IfOk result (λ rows. rows ≡ map (extracted_row document) references.items) }
+{
+    let mut rows = Items::new(alloc);
+    for reference in references {
+        rows.push(ExtractedRow {
+            document,
+            reference: reference.id,
+            body: reference.body,
+        })?;
+    }
+    Ok(rows)
+}
+
+/// The rows of a new document.
+fn imported(
+    alloc: Global,
+    number: u32,
+    bytes: &[u8],
+    profile: Profile,
+    document: Document,
+) -> Result<Change, AllocError>
+    ensures { IfOk result (λ change. change ≡ imported_as number bytes.now profile (Some document)) }
+{
+    let bytes = Vec::from_slice(alloc, bytes)?;
+    let packages = package_rows(alloc, number, document.packages.into_vec())?;
+    let references = extracted_rows(alloc, number, document.references.into_vec())?;
+    Ok(Change::Imported {
+        document: DocumentRow {
+            number,
+            namespace: document.namespace,
+            bytes: Items::from_vec(bytes),
+            profile,
+        },
+        packages,
+        references,
+    })
+}
+
+/// Imports a document that was read.
+fn import_read<S: Store>(
+    alloc: Global,
+    store: &mut S,
+    bytes: &[u8],
+    profile: Profile,
+    document: Document,
+) -> Result<Answer, Fault>
+    ensures answer { IfOk result (λ answer. answer ≡ import_answer (Ok document) bytes.now (S.rows store.old).document) }
+    ensures ok { IfOk result (λ answer. S.rows store.new ≡ noted_by answer (imported_change (S.rows store.old) bytes.now profile (Some document)) (S.rows store.old)) }
+    ensures err { OnErr result (S.rows store.new ≡ S.rows store.old) }
+    ensures fault { IfErr result (MayFail S.tells) }
+{
+    if let Some((number, is_same)) = store.import_of(document.namespace.as_str(), bytes)? {
+        if is_same {
+            return Ok(Answer::Again(number));
+        }
+        return Ok(Answer::Refused(Refusal::NamespaceTaken { document: number }));
+    }
+    let count = store.document_count()?;
+    if count >= MAX_DOCUMENTS {
+        return Ok(Answer::Refused(Refusal::Full(Limit::Documents)));
+    }
+    let number = count as u32 + 1;
+    let Ok(change) = imported(alloc, number, bytes, profile, document) else {
+        return Err(Fault::Memory);
+    };
+    store.commit(change)?;
+    Ok(Answer::Imported(number))
+}
+
+/// Imports the document that bytes spell.
+pub fn import<T: Texts, S: Store>(
+    alloc: Global,
+    texts: &T,
+    store: &mut S,
+    bytes: &Items<u8>,
+    profile: Profile,
+) -> Result<Answer, Fault>
+    ensures answer { (w : Readings) → T.are_right w → IfOk result (λ answer. answer ≡ answer_from w (S.rows store.old) (Import bytes.now profile)) }
+    ensures ok { (w : Readings) → T.are_right w → OnOk result (S.rows store.new ≡ rows_noted w (S.rows store.old) (Import bytes.now profile)) }
+    ensures err { OnErr result (S.rows store.new ≡ S.rows store.old) }
+    ensures fault { IfErr result (MayFail S.tells) }
+{
+    let Ok(read) = texts.document(alloc, bytes.as_slice()) else {
+        return Err(Fault::Memory);
+    };
+    match read {
+        Err(fault) => Ok(Answer::Refused(Refusal::BadDocument(fault))),
+        Ok(document) => import_read(alloc, store, bytes.as_slice(), profile, document),
+    }
+}

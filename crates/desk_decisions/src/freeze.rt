@@ -1,0 +1,471 @@
+//! Releases are frozen, and their duties raised.
+
+ghost use Rattle.std.specs.Prelude.{◌≡◌, ℕ, ◌≤◌, ◌<◌, ◌+◌, ◌++◌, ◌∷◌, ◌^◌, [], IfOk, IfErr, OnOk, OnErr, map, length, Ok, Some, None, Option, unwrap_or};
+ghost use Rattle.std.specs.List.{enumerate_from};
+ghost use Rattle.desk_rows.specs.Readings.{Readings};
+ghost use Rattle.desk_rows.specs.Faults.{MayFail};
+ghost use Rattle.desk_rows.specs.History.{attached_to, expression_in};
+ghost use Rattle.desk_rows.specs.Raised.{owed_under, owed_code, frozen_term, rule_adopted, shipped_of};
+ghost use Rattle.desk_rows.specs.Answers.{first_unadopted, unconcluded, unready_package, freeze_fits, profile_in};
+ghost use Rattle.desk_history.specs.FromTables.{answer_from, rows_noted, noted_by, rules_found, new_duty, raised_row, froze_rows, froze_as, freeze_open_found, freeze_change_found};
+ghost use Rattle.desk_decisions.specs.Walks.{GathersTerms, GathersPackage, GathersAll};
+ghost use Rattle.desk_rows.specs.declared.command.Command.TheVariants.{Freeze};
+
+use crate::duty::read_day;
+use crate::release::unready;
+use desk_access::store::Store;
+use desk_access::texts::Texts;
+use desk_base::{Day, Items, Text};
+use desk_rows::{
+    Answer, AttachedRow, Change, ChangeRow, DutyRow, DutyState, Fault, FrozenRow, Limit, Owed,
+    PackageRow, Profile, Refusal, Rule, Word,
+};
+use std::alloc::{AllocError, Global};
+
+/// How many duties a desk keeps.
+const MAX_DUTIES: u64 = 100_000;
+
+/// What a freeze has gathered: the frozen terms, and the duties that they owe.
+#[derive(Drop)]
+struct Gathered {
+    frozen: Vec<FrozenRow>,
+    owed: Vec<Owed>,
+}
+
+fn owed_row(
+    release: &Text,
+    row: &PackageRow,
+    term: &Text,
+    rule: &Rule,
+    code: &Text,
+) -> Result<Owed, AllocError>
+    ensures { IfOk result (λ owed. owed ≡ owed_code release.now row.now term.now rule.now code.now) }
+{
+    Ok(Owed {
+        release: release.clone()?,
+        document: row.document,
+        package_id: row.id.clone()?,
+        term: term.clone()?,
+        code: code.clone()?,
+        rule: rule.spelled.clone()?,
+    })
+}
+
+fn add_codes(
+    owed: &mut Vec<Owed>,
+    release: &Text,
+    row: &PackageRow,
+    term: &Text,
+    rule: &Rule,
+) -> Result<(), AllocError>
+    ensures { OnOk result (owed.new.items ≡ owed.old.items ++ map (owed_code release.now row.now term.now rule.now) rule.now.codes) }
+{
+    let codes = rule.codes.as_slice();
+    for code in codes {
+        owed.push(owed_row(release, row, term, rule, code)?)?;
+    }
+    Ok(())
+}
+
+fn frozen_row(
+    release: &Text,
+    row: &PackageRow,
+    term: &Text,
+    rule: &Rule,
+) -> Result<FrozenRow, AllocError>
+    ensures { IfOk result (λ frozen. frozen ≡ frozen_term release.now row.now term.now rule.now) }
+{
+    Ok(FrozenRow {
+        release: release.clone()?,
+        document: row.document,
+        package_id: row.id.clone()?,
+        term: term.clone()?,
+        rule: rule.spelled.clone()?,
+    })
+}
+
+/// Adds a frozen term and what it owes.
+fn add_term(
+    gathered: &mut Gathered,
+    release: &Text,
+    row: &PackageRow,
+    term: &Text,
+    rule: &Rule,
+) -> Result<(), AllocError>
+    ensures frozen { OnOk result (gathered.new.frozen.items ≡ gathered.old.frozen.items ++ frozen_term release.now row.now term.now rule.now ∷ []) }
+    ensures owed { OnOk result (gathered.new.owed.items ≡ gathered.old.owed.items ++ map (owed_code release.now row.now term.now rule.now) rule.now.codes) }
+{
+    gathered.frozen.push(frozen_row(release, row, term, rule)?)?;
+    add_codes(&mut gathered.owed, release, row, term, rule)?;
+    Ok(())
+}
+
+/// The rule for the adopted form of a term.
+fn rule_adopted<T: Texts, S: Store>(
+    alloc: Global,
+    texts: &T,
+    store: &mut S,
+    form: &Text,
+    term: &Text,
+) -> Result<Option<Rule>, Fault>
+    ensures found { (w : Readings) → T.are_right w → IfOk result (λ found. found ≡ rule_adopted w (rules_found (S.rows store.old)) form.now term.now) }
+    ensures kept { S.rows store.new ≡ S.rows store.old }
+    ensures fault { IfErr result (MayFail S.tells) }
+{
+    let Ok(reference) = texts.reference(alloc, term.as_str()) else {
+        return Err(Fault::Memory);
+    };
+    if reference.is_some() {
+        return Ok(None);
+    }
+    store.rule(term.as_str(), form.as_str())
+}
+
+/// The first term of a package without adoption.
+fn first_unadopted<T: Texts>(
+    alloc: Global,
+    texts: &T,
+    document: u32,
+    terms: &[Text],
+) -> Result<Option<Refusal>, AllocError>
+    ensures { (w : Readings) → T.are_right w → IfOk result (λ refusal. refusal ≡ first_unadopted w document terms.now) }
+{
+    for term in terms {
+        if let Some(reference) = texts.reference(alloc, term.as_str())? {
+            return Ok(Some(Refusal::NotAdopted {
+                document,
+                reference,
+            }));
+        }
+    }
+    Ok(None)
+}
+
+fn no_rule(row: &PackageRow, term: &Text) -> Result<Refusal, Fault>
+    ensures refusal { IfOk result (λ refusal. refusal ≡ Refusal.NoRule row.now.document row.now.id term.now) }
+    ensures fault { IfErr result (λ fault. fault ≡ Fault.Memory) }
+{
+    Ok(Refusal::NoRule {
+        document: row.document,
+        package_id: row.id.clone()?,
+        term: term.clone()?,
+    })
+}
+
+/// Gathers what the terms of a package owe, or tells the first without a rule.
+fn freeze_terms<T: Texts, S: Store>(
+    alloc: Global,
+    texts: &T,
+    store: &mut S,
+    release: &Text,
+    form: &Text,
+    row: &PackageRow,
+    terms: &[Text],
+    gathered: &mut Gathered,
+) -> Result<Option<Refusal>, Fault>
+    ensures gathered { (w : Readings) → T.are_right w → IfOk result (GathersTerms w (rules_found (S.rows store.old)) form.now release.now row.now terms.now gathered.old gathered.new) }
+    ensures kept { S.rows store.new ≡ S.rows store.old }
+    ensures fault { IfErr result (MayFail S.tells) }
+{
+    for term in terms {
+        let Some(rule) = rule_adopted(alloc, texts, store, form, term)? else {
+            return Ok(Some(no_rule(row, term)?));
+        };
+        let Ok(()) = add_term(gathered, release, row, term, &rule) else {
+            return Err(Fault::Memory);
+        };
+    }
+    Ok(None)
+}
+
+/// What stands against a package without a conclusion.
+fn unconcluded<T: Texts>(
+    alloc: Global,
+    texts: &T,
+    profile: Profile,
+    row: &PackageRow,
+) -> Result<Option<Refusal>, AllocError>
+    ensures { (w : Readings) → T.are_right w → IfOk result (λ refusal. refusal ≡ unconcluded w profile row.now) }
+{
+    if let Some(text) = &row.concluded {
+        if texts.is_expression(alloc, profile, text.as_str())? {
+            return Ok(None);
+        }
+    }
+    Ok(Some(Refusal::NoConclusion {
+        document: row.document,
+        package_id: row.id.clone()?,
+    }))
+}
+
+/// The profile of a package's document.
+fn profile_of<S: Store>(store: &mut S, row: &PackageRow) -> Result<Profile, Fault>
+    ensures found { IfOk result (λ profile. profile ≡ profile_in (S.rows store.old).document row.now) }
+    ensures kept { S.rows store.new ≡ S.rows store.old }
+    ensures fault { IfErr result (MayFail S.tells) }
+{
+    match store.document(u64::from(row.document))? {
+        Some((_, profile)) => Ok(profile),
+        None => Ok(Profile::Capitals),
+    }
+}
+
+fn no_choice(row: &PackageRow) -> Result<Refusal, AllocError>
+    ensures { IfOk result (λ refusal. refusal ≡ Refusal.NoChoice row.now.document row.now.id) }
+{
+    Ok(Refusal::NoChoice {
+        document: row.document,
+        package_id: row.id.clone()?,
+    })
+}
+
+/// What stands against a package with these terms, apart from rules.
+fn unready_package<T: Texts>(
+    alloc: Global,
+    texts: &T,
+    profile: Profile,
+    row: &PackageRow,
+    terms: &[Text],
+) -> Result<Option<Refusal>, AllocError>
+    ensures { (w : Readings) → T.are_right w → IfOk result (λ refusal. refusal ≡ unready_package w profile terms.now row.now) }
+{
+    if let Some(refusal) = unconcluded(alloc, texts, profile, row)? {
+        return Ok(Some(refusal));
+    }
+    if terms.is_empty() {
+        return Ok(Some(no_choice(row)?));
+    }
+    first_unadopted(alloc, texts, row.document, terms)
+}
+
+/// Gathers what a package owes, or tells what stands against it.
+fn freeze_package<T: Texts, S: Store>(
+    alloc: Global,
+    texts: &T,
+    store: &mut S,
+    release: &Text,
+    form: &Text,
+    row: &PackageRow,
+    gathered: &mut Gathered,
+) -> Result<Option<Refusal>, Fault>
+    ensures gathered { (w : Readings) → T.are_right w → IfOk result (GathersPackage w (S.rows store.old) form.now release.now row.now gathered.old gathered.new) }
+    ensures kept { S.rows store.new ≡ S.rows store.old }
+    ensures fault { IfErr result (MayFail S.tells) }
+{
+    let profile = profile_of(store, row)?;
+    let terms = store.chosen(release.as_str(), row.document, row.id.as_str())?;
+    let Ok(refusal) = unready_package(alloc, texts, profile, row, terms.as_slice()) else {
+        return Err(Fault::Memory);
+    };
+    if let Some(refusal) = refusal {
+        return Ok(Some(refusal));
+    }
+    freeze_terms(
+        alloc,
+        texts,
+        store,
+        release,
+        form,
+        row,
+        terms.as_slice(),
+        gathered,
+    )
+}
+
+/// Gathers what packages owe, or tells what stands against the first that fails.
+fn freeze_packages<T: Texts, S: Store>(
+    alloc: Global,
+    texts: &T,
+    store: &mut S,
+    release: &Text,
+    form: &Text,
+    packages: &[PackageRow],
+    gathered: &mut Gathered,
+) -> Result<Option<Refusal>, Fault>
+    ensures gathered { (w : Readings) → T.are_right w → IfOk result (GathersAll w (S.rows store.old) form.now release.now packages.now gathered.old gathered.new) }
+    ensures kept { S.rows store.new ≡ S.rows store.old }
+    ensures fault { IfErr result (MayFail S.tells) }
+{
+    for row in packages {
+        if let Some(refusal) = freeze_package(alloc, texts, store, release, form, row, gathered)? {
+            return Ok(Some(refusal));
+        }
+    }
+    Ok(None)
+}
+
+/// The shipped packages of documents that are attached.
+fn shipped_packages<S: Store>(
+    alloc: Global,
+    store: &mut S,
+    attached: &[AttachedRow],
+) -> Result<Vec<PackageRow>, Fault>
+    ensures found { IfOk result (λ rows. rows.items ≡ shipped_of attached.now (S.rows store.old).packages) }
+    ensures kept { S.rows store.new ≡ S.rows store.old }
+    ensures fault { IfErr result (MayFail S.tells) }
+{
+    let mut all = Vec::new(alloc);
+    for row in attached {
+        let mut more = store.shipped(row.document)?;
+        let Ok(()) = all.append(&mut more) else {
+            return Err(Fault::Memory);
+        };
+    }
+    Ok(all)
+}
+
+/// The rows of new duties.
+fn duty_rows(alloc: Global, first: u32, owed: Vec<Owed>) -> Result<Vec<DutyRow>, AllocError>
+    requires { first + length owed.items < 2 ^ 32 }
+    ensures { IfOk result (λ rows. rows.items ≡ map new_duty (enumerate_from first owed.items)) }
+{
+    let mut rows = Vec::new(alloc);
+    let mut number = first;
+    for owed in owed {
+        rows.push(DutyRow {
+            number,
+            release: owed.release,
+            document: owed.document,
+            package_id: owed.package_id,
+            term: owed.term,
+            code: owed.code,
+            rule: owed.rule,
+            state: DutyState::IsOpen,
+        })?;
+        number += 1;
+    }
+    Ok(rows)
+}
+
+/// The first changes of new duties.
+fn raised_rows(alloc: Global, day: Day, duties: &[DutyRow]) -> Result<Vec<ChangeRow>, AllocError>
+    ensures { IfOk result (λ rows. rows.items ≡ map (raised_row day) duties.now) }
+{
+    let mut rows = Vec::new(alloc);
+    for duty in duties {
+        rows.push(ChangeRow {
+            duty: duty.number,
+            step: 1,
+            day,
+            word: Word::Raised,
+            body: Text::of(alloc, "")?,
+            last_day: None,
+        })?;
+    }
+    Ok(rows)
+}
+
+/// The rows of a freeze.
+fn froze(
+    alloc: Global,
+    release: &Text,
+    revision: u64,
+    day: Day,
+    first: u32,
+    gathered: Gathered,
+) -> Result<Change, AllocError>
+    requires { first + length gathered.owed.items < 2 ^ 32 }
+    ensures { IfOk result (λ change. change ≡ froze_rows release.now revision day gathered.frozen.items (map new_duty (enumerate_from first gathered.owed.items))) }
+{
+    let duties = duty_rows(alloc, first, gathered.owed)?;
+    let changes = raised_rows(alloc, day, duties.as_slice())?;
+    Ok(Change::Froze {
+        release: release.clone()?,
+        revision,
+        frozen: Items::from_vec(gathered.frozen),
+        duties: Items::from_vec(duties),
+        changes: Items::from_vec(changes),
+    })
+}
+
+/// Freezes a release with what was gathered, if its duties fit.
+fn freeze_gathered<S: Store>(
+    alloc: Global,
+    store: &mut S,
+    release: &Text,
+    day: Day,
+    gathered: Gathered,
+) -> Result<Answer, Fault>
+    ensures answer { IfOk result (λ answer. answer ≡ freeze_fits (length (S.rows store.old).duty) (length gathered.owed.items)) }
+    ensures ok { IfOk result (λ answer. S.rows store.new ≡ noted_by answer (froze_as (S.rows store.old) release.now day gathered.frozen.items gathered.owed.items) (S.rows store.old)) }
+    ensures err { OnErr result (S.rows store.new ≡ S.rows store.old) }
+    ensures fault { IfErr result (MayFail S.tells) }
+{
+    let old = store.duty_count()?;
+    let new = gathered.owed.len() as u64;
+    if old > MAX_DUTIES || new > MAX_DUTIES - old {
+        return Ok(Answer::Refused(Refusal::Full(Limit::Duties)));
+    }
+    let first = old as u32 + 1;
+    let revision = store.revision_count()?;
+    let Ok(change) = froze(alloc, release, revision, day, first, gathered) else {
+        return Err(Fault::Memory);
+    };
+    store.commit(change)?;
+    Ok(Answer::Frozen {
+        first,
+        count: new as u32,
+    })
+}
+
+/// Freezes an open release with this form.
+fn freeze_open<T: Texts, S: Store>(
+    alloc: Global,
+    texts: &T,
+    store: &mut S,
+    release: &Text,
+    form: &Text,
+    day: Day,
+) -> Result<Answer, Fault>
+    ensures answer { (w : Readings) → T.are_right w → IfOk result (λ answer. answer ≡ freeze_open_found w (S.rows store.old) release.now form.now) }
+    ensures ok { (w : Readings) → T.are_right w → IfOk result (λ answer. S.rows store.new ≡ noted_by answer (freeze_change_found w (S.rows store.old) release.now form.now day) (S.rows store.old)) }
+    ensures err { OnErr result (S.rows store.new ≡ S.rows store.old) }
+    ensures fault { IfErr result (MayFail S.tells) }
+{
+    let attached = store.attached(release.as_str())?;
+    if attached.is_empty() {
+        return Ok(Answer::Refused(Refusal::EmptyRelease));
+    }
+    let packages = shipped_packages(alloc, store, attached.as_slice())?;
+    let mut gathered = Gathered {
+        frozen: Vec::new(alloc),
+        owed: Vec::new(alloc),
+    };
+    if let Some(refusal) = freeze_packages(
+        alloc,
+        texts,
+        store,
+        release,
+        form,
+        packages.as_slice(),
+        &mut gathered,
+    )? {
+        return Ok(Answer::Refused(refusal));
+    }
+    freeze_gathered(alloc, store, release, day, gathered)
+}
+
+/// Freezes a release.
+pub fn freeze<T: Texts, S: Store>(
+    alloc: Global,
+    texts: &T,
+    store: &mut S,
+    release: &Text,
+    day: &Text,
+) -> Result<Answer, Fault>
+    ensures answer { (w : Readings) → T.are_right w → IfOk result (λ answer. answer ≡ answer_from w (S.rows store.old) (Freeze release.now day.now)) }
+    ensures ok { (w : Readings) → T.are_right w → OnOk result (S.rows store.new ≡ rows_noted w (S.rows store.old) (Freeze release.now day.now)) }
+    ensures err { OnErr result (S.rows store.new ≡ S.rows store.old) }
+    ensures fault { IfErr result (MayFail S.tells) }
+{
+    let Some(day) = read_day(day) else {
+        return Ok(Answer::Refused(Refusal::BadDay));
+    };
+    let Some(row) = store.release(release.as_str())? else {
+        return Ok(Answer::Refused(Refusal::UnknownRelease));
+    };
+    if let Some(refusal) = unready(row.state) {
+        return Ok(Answer::Refused(refusal));
+    }
+    freeze_open(alloc, texts, store, release, &row.form, day)
+}

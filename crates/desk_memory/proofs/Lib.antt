@@ -1,0 +1,4 @@
+mod Days
+mod PutAll
+mod Founds
+mod Ledgering

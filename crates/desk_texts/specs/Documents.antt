@@ -1,0 +1,64 @@
+-- What the desk keeps of a document (SPDX 2.3, clauses 6.5, 7 and 10).
+use Rattle.std.specs.Prelude.{ℕ, true, List, [], ◌∷◌, map, Result, Ok, Err, if◌then◌else◌}
+use Rattle.std.specs.Str.{bytes_eq}
+use Rattle.desk_fields.specs.declared.fault.DocFault.{DocFault}
+use Rattle.desk_fields.specs.declared.fault.DocFault.TheVariants as doc
+use Rattle.desk_fields.specs.Tags.{tag_name}
+use Rattle.desk_rows.specs.Texts.{text_below}
+use Rattle.desk_rows.specs.declared.reading.Document.{Document}
+use Rattle.desk_rows.specs.declared.reading.Package.{Package}
+use Rattle.desk_rows.specs.declared.reading.Reference.{Reference}
+use Rattle.desk_rows.specs.declared.refusal.DocumentFault.{DocumentFault}
+use Rattle.desk_rows.specs.declared.refusal.DocumentFault.TheVariants as fault
+use Rattle.desk_tagvalue.specs.Parts.{DocumentText, PackageText, ExtractedText}
+
+-- x among others that rise by their ids, where its id isn't there
+abbrev pub put_by : {A : Type 0} → (A → List ℕ) → A → List A → List A
+put_by id x [] = x ∷ []
+put_by id x (y ∷ ys) = if text_below (id x) (id y) then x ∷ y ∷ ys else (if bytes_eq (id x) (id y) then y ∷ ys else y ∷ put_by id x ys)
+
+-- all of some by their ids, each id once; the ids of a document's packages are different, and so are those of its extracted licences
+abbrev pub sorted_by : {A : Type 0} → (A → List ℕ) → List A → List A
+sorted_by id [] = []
+sorted_by id (x ∷ xs) = put_by id x (sorted_by id xs)
+
+-- a package: each one ships
+abbrev pub package_of : PackageText → Package
+package_of p = record {
+  id = p.id;
+  name = p.name;
+  version = p.version;
+  concluded = p.concluded;
+  copyright = p.copyright;
+  shipped = true;
+}
+
+abbrev pub reference_of : ExtractedText → Reference
+reference_of x = record { id = x.id; body = x.text }
+
+abbrev pub document_of : DocumentText → Document
+document_of d = record {
+  namespace = d.namespace;
+  packages = map package_of (sorted_by (λ p. p.id) d.packages);
+  references = map reference_of (sorted_by (λ x. x.id) d.extracted);
+}
+
+-- a document's fault; want of memory is none
+abbrev pub fault_of : DocFault → DocumentFault
+fault_of doc.Memory = fault.NotUtf8
+fault_of doc.NotUtf8 = fault.NotUtf8
+fault_of (doc.NoColon line) = fault.NoColon line
+fault_of (doc.OpenText line) = fault.OpenText line
+fault_of (doc.AfterText line) = fault.AfterText line
+fault_of (doc.BadVersion line) = fault.BadVersion line
+fault_of (doc.Missing line tag) = fault.Missing line (tag_name tag)
+fault_of (doc.BadId line) = fault.BadId line
+fault_of (doc.DuplicateId line) = fault.DuplicateId line
+fault_of (doc.Repeated line tag) = fault.Repeated line (tag_name tag)
+fault_of (doc.BadRelationship line) = fault.BadRelationship line
+fault_of doc.TooLarge = fault.TooLarge
+fault_of (doc.TooManyElements line) = fault.TooManyElements line
+
+abbrev pub kept : Result DocumentText DocFault → Result Document DocumentFault
+kept (Ok d) = Ok (document_of d)
+kept (Err f) = Err (fault_of f)

@@ -1,0 +1,48 @@
+-- Licence expressions in the fields of a document (SPDX 2.3, clause 7.13 and Annex D).
+use Rattle.std.specs.Prelude.{◌≡◌, ◌⊎◌, ¬◌, ℕ, ◌==◌, ◌&&◌, ◌||◌, Bool, true, false, List, Option, Some, None, length, codes, Contains}
+use Rattle.std.specs.Str.{bytes_eq}
+use Rattle.desk_expr.specs.declared.term.Term.{Term}
+use Rattle.desk_expr.specs.Tree.{Tree}
+use Rattle.desk_expr.specs.Spelling.{SpellsWithin}
+use Rattle.desk_expr.specs.Meaning.{Holds, CanGo, IsFirst, IsMinimal}
+use Rattle.desk_fields.specs.Text.{first_word, after_word, skip_blanks}
+use Rattle.desk_rows.specs.declared.reading.Verdict.{Verdict}
+use Rattle.desk_rows.specs.declared.reading.Verdict.TheVariants.{NotEnough, Superfluous, Minimal}
+use Rattle.desk_texts.specs.Terms.{AreTerms}
+
+-- one word alone
+abbrev pub is_only_word : List ℕ → List ℕ → Bool
+is_only_word word text = bytes_eq (first_word text) word && length (skip_blanks (after_word text)) == 0
+
+-- NONE or NOASSERTION alone, which tells of no licence
+abbrev pub is_no_licence : List ℕ → Bool
+is_no_licence text = is_only_word (codes "NONE") text || is_only_word (codes "NOASSERTION") text
+
+-- the expression of a field's value
+abbrev pub IsExpression : List ℕ → Tree → Type 0
+IsExpression text e = (is_no_licence text ≡ false) × SpellsWithin text e
+
+abbrev pub IsNoExpression : List ℕ → Type 0
+IsNoExpression text = (e : Tree) → IsExpression text e → ⊥
+
+-- the expression that a value is, if it is one
+abbrev pub IsRead : List ℕ → Option Tree → Type 0
+IsRead text None = IsNoExpression text
+IsRead text (Some e) = IsExpression text e
+
+-- whether a value is an expression
+abbrev pub Tells : List ℕ → Bool → Type 0
+Tells text true = (e : Tree) × IsExpression text e
+Tells text false = IsNoExpression text
+
+-- what a list of terms is to an expression
+abbrev pub IsVerdict : Tree → List Term → Verdict → Type 0
+IsVerdict e ts NotEnough = ¬ Holds (Contains ts) e
+IsVerdict e ts (Superfluous i) = Holds (Contains ts) e × IsFirst (CanGo ts e) i
+IsVerdict e ts Minimal = IsMinimal ts e
+
+-- what texts that spell terms are to the expression of a value: not enough where it has none, or where a text spells no term
+abbrev pub Judges : List ℕ → List (List ℕ) → Verdict → Type 0
+Judges text words verdict =
+    ((e : Tree) × (ts : List Term) × IsExpression text e × AreTerms words ts × IsVerdict e ts verdict)
+    ⊎ (((e : Tree) (ts : List Term) → IsExpression text e → AreTerms words ts → ⊥) × (verdict ≡ NotEnough))

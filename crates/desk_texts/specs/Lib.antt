@@ -1,0 +1,4 @@
+pub mod Terms
+pub mod Expressions
+pub mod Documents
+pub mod Right

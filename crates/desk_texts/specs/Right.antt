@@ -1,0 +1,23 @@
+-- Which readings are right: they tell of each text what it spells.
+use Rattle.std.specs.Prelude.{◌≡◌, ℕ, Bool, List, Option, Result}
+use Rattle.desk_fields.specs.declared.fault.DocFault.{DocFault}
+use Rattle.desk_rows.specs.Readings.{Readings}
+use Rattle.desk_rows.specs.declared.reading.Profile.{Profile}
+use Rattle.desk_rows.specs.declared.reading.Verdict.{Verdict}
+use Rattle.desk_tagvalue.specs.Documents.{Spells}
+use Rattle.desk_tagvalue.specs.Parts.{DocumentText}
+use Rattle.desk_texts.specs.Documents.{kept}
+use Rattle.desk_texts.specs.Expressions.{Tells, Judges}
+use Rattle.desk_texts.specs.Terms.{IsPrintedTerm, reference_in}
+
+pub record AreRight (w : Readings) : Type 0 where
+  -- the document that bytes spell, or their fault
+  pub document : (bytes : List ℕ) (read : Result DocumentText DocFault) → Spells bytes read → w.document bytes ≡ kept read
+  -- the licence term that a text spells, printed
+  pub term : (text : List ℕ) (printed : Option (List ℕ)) → IsPrintedTerm text printed → w.term text ≡ printed
+  -- the reference that a printed term names
+  pub reference : (term : List ℕ) → w.reference term ≡ reference_in term
+  -- whether a value is a licence expression
+  pub expression : (profile : Profile) (text : List ℕ) (tells : Bool) → Tells text tells → w.is_expression profile text ≡ tells
+  -- what terms are to the expression of a value
+  pub verdict : (profile : Profile) (text : List ℕ) (words : List (List ℕ)) (verdict : Verdict) → Judges text words verdict → w.verdict profile text words ≡ verdict

@@ -1,0 +1,36 @@
+-- Terms as texts (SPDX 2.3, Annex D.2 to D.4).
+use Rattle.std.specs.Prelude.{◌≡◌, ℕ, List, [], ◌∷◌, Option, Some, None, if◌then◌else◌}
+use Rattle.desk_expr.specs.declared.term.Term.{Term}
+use Rattle.desk_expr.specs.Words.{is_reference}
+use Rattle.desk_expr.specs.Printing.{printed_term}
+use Rattle.desk_expr.specs.Spelling.{SpellsTermWithin}
+use Rattle.desk_fields.specs.Text.{first_word}
+
+-- the text spells no term
+abbrev pub SpellsNoTerm : List ℕ → Type 0
+SpellsNoTerm text = (t : Term) → SpellsTermWithin text t → ⊥
+
+-- the term that a text spells, if it spells one
+abbrev pub IsTerm : List ℕ → Option Term → Type 0
+IsTerm text None = SpellsNoTerm text
+IsTerm text (Some t) = SpellsTermWithin text t
+
+-- the term that a text spells, printed
+abbrev pub IsPrintedTerm : List ℕ → Option (List ℕ) → Type 0
+IsPrintedTerm text None = SpellsNoTerm text
+IsPrintedTerm text (Some printed) = (t : Term) × SpellsTermWithin text t × (printed ≡ printed_term t)
+
+-- the texts spell these terms, one each
+abbrev pub AreTerms : List (List ℕ) → List Term → Type 0
+AreTerms [] [] = Unit {0}
+AreTerms (text ∷ texts) (t ∷ ts) = SpellsTermWithin text t × AreTerms texts ts
+AreTerms _ _ = ⊥
+
+-- the terms that texts spell, if each spells one
+abbrev pub AreAllTerms : List (List ℕ) → Option (List Term) → Type 0
+AreAllTerms texts None = (ts : List Term) → AreTerms texts ts → ⊥
+AreAllTerms texts (Some ts) = AreTerms texts ts
+
+-- the reference that a printed term names: its first word, where that is a reference
+abbrev pub reference_in : List ℕ → Option (List ℕ)
+reference_in term = if is_reference (first_word term) then Some (first_word term) else None

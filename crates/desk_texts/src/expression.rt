@@ -1,0 +1,74 @@
+//! Licence expressions in the fields of a document.
+
+ghost use Rattle.std.specs.Prelude.{◌≡◌, IfOk, IsTrue, Contains};
+ghost use Rattle.desk_texts.specs.Expressions.{is_only_word, is_no_licence, IsRead, Tells, IsVerdict, Judges};
+
+use crate::term::read_terms;
+use desk_base::Text;
+use desk_expr::{Expr, ParseFault, Term, check_choice, parse};
+use desk_fields::{skip_blanks, split_word};
+use desk_rows::Verdict;
+use std::alloc::{AllocError, Global};
+
+/// Whether a text is one word alone.
+fn is_only_word(word: &str, text: &str) -> bool
+    ensures { result ≡ is_only_word word.now text.now }
+{
+    let (first, after) = split_word(text);
+    first == word && skip_blanks(after).is_empty()
+}
+
+/// Whether a value is `NONE` or `NOASSERTION` alone.
+fn is_no_licence(text: &str) -> bool
+    ensures { result ≡ is_no_licence text.now }
+{
+    is_only_word("NONE", text) || is_only_word("NOASSERTION", text)
+}
+
+/// The expression that a value is.
+fn read_expression(alloc: Global, text: &str) -> Result<Option<Expr>, AllocError>
+    ensures { IfOk result (IsRead text.now) }
+{
+    if is_no_licence(text) {
+        return Ok(None);
+    }
+    match parse(alloc, text) {
+        Ok(expr) => Ok(Some(expr)),
+        Err(ParseFault::Memory(error)) => Err(error),
+        Err(_) => Ok(None),
+    }
+}
+
+/// Whether a value is a licence expression.
+pub(crate) fn is_expression(alloc: Global, text: &str) -> Result<bool, AllocError>
+    ensures { IfOk result (Tells text.now) }
+{
+    match read_expression(alloc, text)? {
+        Some(_) => Ok(true),
+        None => Ok(false),
+    }
+}
+
+/// What terms are to an expression.
+fn judged(expr: &Expr, terms: &[Term]) -> Verdict
+    ensures { IsVerdict expr.now terms.now result }
+{
+    match check_choice(expr, terms) {
+        desk_expr::Verdict::NotEnough => Verdict::NotEnough,
+        desk_expr::Verdict::Superfluous(i) => Verdict::Superfluous(i),
+        desk_expr::Verdict::Minimal => Verdict::Minimal,
+    }
+}
+
+/// What texts that spell terms are to the expression of a value.
+pub(crate) fn verdict(alloc: Global, text: &str, words: &[Text]) -> Result<Verdict, AllocError>
+    ensures { IfOk result (Judges text.now words.now) }
+{
+    let Some(expr) = read_expression(alloc, text)? else {
+        return Ok(Verdict::NotEnough);
+    };
+    let Some(terms) = read_terms(alloc, words)? else {
+        return Ok(Verdict::NotEnough);
+    };
+    Ok(judged(&expr, terms.as_slice()))
+}

@@ -1,0 +1,57 @@
+//! The desk's reader of texts.
+
+ghost use Rattle.desk_texts.specs.Right.{AreRight};
+
+use crate::document::read_document;
+use crate::expression::{is_expression, verdict};
+use crate::term::{printed_term, reference_in};
+use desk_access::texts::Texts;
+use desk_base::Text;
+use desk_rows::{Catalogue, CatalogueFault, Document, DocumentFault, Profile, Verdict};
+use std::alloc::{AllocError, Global};
+
+/// Reads texts as their standards say.
+#[derive(Clone, Copy, Debug)]
+pub struct Standard;
+
+impl Texts for Standard {
+    ghost are_right = { AreRight };
+
+    fn document(
+        &self,
+        alloc: Global,
+        bytes: &[u8],
+    ) -> Result<Result<Document, DocumentFault>, AllocError> {
+        read_document(alloc, bytes)
+    }
+
+    fn term(&self, alloc: Global, text: &str) -> Result<Option<Text>, AllocError> {
+        printed_term(alloc, text)
+    }
+
+    fn reference(&self, alloc: Global, term: &str) -> Result<Option<Text>, AllocError> {
+        match reference_in(term) {
+            Some(reference) => Ok(Some(Text::of(alloc, reference)?)),
+            None => Ok(None),
+        }
+    }
+
+    fn is_expression(
+        &self,
+        alloc: Global,
+        _profile: Profile,
+        text: &str,
+    ) -> Result<bool, AllocError> {
+        is_expression(alloc, text)
+    }
+
+    fn verdict(
+        &self,
+        alloc: Global,
+        _profile: Profile,
+        text: &str,
+        terms: &[Text],
+    ) -> Result<Verdict, AllocError> {
+        verdict(alloc, text, terms)
+    }
+}

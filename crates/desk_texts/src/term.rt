@@ -1,0 +1,60 @@
+//! Terms as texts.
+
+ghost use Rattle.std.specs.Prelude.{◌≡◌, IfOk};
+ghost use Rattle.std.specs.Option.{option_map};
+ghost use Rattle.desk_texts.specs.Terms.{IsTerm, IsPrintedTerm, AreAllTerms, reference_in};
+
+use desk_base::Text;
+use desk_expr::{ParseFault, Term, is_reference, parse_term, print_term};
+use desk_fields::split_word;
+use std::alloc::{AllocError, Global};
+
+/// The term that a text spells.
+fn read_term(alloc: Global, text: &str) -> Result<Option<Term>, AllocError>
+    ensures { IfOk result (IsTerm text.now) }
+{
+    match parse_term(alloc, text) {
+        Ok(term) => Ok(Some(term)),
+        Err(ParseFault::Memory(error)) => Err(error),
+        Err(_) => Ok(None),
+    }
+}
+
+/// The term that a text spells, printed.
+pub(crate) fn printed_term(alloc: Global, text: &str) -> Result<Option<Text>, AllocError>
+    ensures { IfOk result (IsPrintedTerm text.now) }
+{
+    match read_term(alloc, text)? {
+        Some(term) => {
+            let printed = print_term(alloc, &term)?;
+            Ok(Some(Text::of(alloc, printed.as_str())?))
+        }
+        None => Ok(None),
+    }
+}
+
+/// The terms that texts spell, if each spells one.
+pub(crate) fn read_terms(alloc: Global, texts: &[Text]) -> Result<Option<Vec<Term>>, AllocError>
+    ensures { IfOk result (λ read. AreAllTerms texts.now (option_map (λ terms. terms.items) read)) }
+{
+    let mut terms = Vec::new(alloc);
+    for text in texts {
+        match read_term(alloc, text.as_str())? {
+            Some(term) => terms.push(term)?,
+            None => return Ok(None),
+        }
+    }
+    Ok(Some(terms))
+}
+
+/// The reference that a printed term names.
+pub(crate) fn reference_in(term: &str) -> Option<&str>
+    ensures { option_map (λ word. word.now) result ≡ reference_in term.now }
+{
+    let (word, _) = split_word(term);
+    if is_reference(word.as_bytes()) {
+        Some(word)
+    } else {
+        None
+    }
+}
