@@ -1,1 +1,4 @@
-
+mod Faults
+mod Terms
+mod Orders
+mod Halving

@@ -1,5 +1,5 @@
 -- Licence expressions in the fields of a document (SPDX 2.3, clause 7.13 and Annex D).
-use Rattle.std.specs.Prelude.{◌≡◌, ◌⊎◌, ¬◌, ℕ, ◌==◌, ◌&&◌, ◌||◌, Bool, true, false, List, Option, Some, None, length, codes, Contains}
+use Rattle.std.specs.Prelude.{◌≡◌, ◌⊎◌, ℕ, ◌==◌, ◌&&◌, ◌||◌, Bool, true, false, List, Option, Some, None, length, codes, Contains}
 use Rattle.std.specs.Str.{bytes_eq}
 use Rattle.desk_expr.specs.declared.term.Term.{Term}
 use Rattle.desk_expr.specs.Tree.{Tree}
@@ -38,7 +38,7 @@ Tells text false = IsNoExpression text
 -- what a list of terms is to an expression
 abbrev pub IsVerdict : Tree → List Term → Verdict → Type 0
 IsVerdict e ts NotEnough = ¬ Holds (Contains ts) e
-IsVerdict e ts (Superfluous i) = Holds (Contains ts) e × IsFirst (CanGo ts e) i
+IsVerdict e ts (Superfluous i) = IsFirst (CanGo ts e) i
 IsVerdict e ts Minimal = IsMinimal ts e
 
 -- what texts that spell terms are to the expression of a value: not enough where it has none, or where a text spells no term

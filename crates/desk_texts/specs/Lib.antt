@@ -1,3 +1,4 @@
+pub mod Rising
 pub mod Terms
 pub mod Expressions
 pub mod Documents

@@ -4,17 +4,21 @@ use Rattle.desk_fields.specs.declared.fault.DocFault.{DocFault}
 use Rattle.desk_rows.specs.Readings.{Readings}
 use Rattle.desk_rows.specs.declared.reading.Profile.{Profile}
 use Rattle.desk_rows.specs.declared.reading.Verdict.{Verdict}
+use Rattle.desk_catalogue.specs.Reading.{catalogue_of}
+use Rattle.desk_catalogue.specs.Terms.{ReadsTerms}
 use Rattle.desk_tagvalue.specs.Documents.{Spells}
 use Rattle.desk_tagvalue.specs.Parts.{DocumentText}
 use Rattle.desk_texts.specs.Documents.{kept}
 use Rattle.desk_texts.specs.Expressions.{Tells, Judges}
-use Rattle.desk_texts.specs.Terms.{IsPrintedTerm, reference_in}
+use Rattle.desk_texts.specs.Terms.{reference_in}
 
 pub record AreRight (w : Readings) : Type 0 where
+  -- the licence term that a text spells, printed
+  pub term : ReadsTerms w.term
+  -- the catalogue that a text is, or its fault
+  pub catalogue : (text : List ℕ) → w.catalogue text ≡ catalogue_of w.term text
   -- the document that bytes spell, or their fault
   pub document : (bytes : List ℕ) (read : Result DocumentText DocFault) → Spells bytes read → w.document bytes ≡ kept read
-  -- the licence term that a text spells, printed
-  pub term : (text : List ℕ) (printed : Option (List ℕ)) → IsPrintedTerm text printed → w.term text ≡ printed
   -- the reference that a printed term names
   pub reference : (term : List ℕ) → w.reference term ≡ reference_in term
   -- whether a value is a licence expression

@@ -1,8 +1,7 @@
 -- Terms as texts (SPDX 2.3, Annex D.2 to D.4).
-use Rattle.std.specs.Prelude.{◌≡◌, ℕ, List, [], ◌∷◌, Option, Some, None, if◌then◌else◌}
+use Rattle.std.specs.Prelude.{ℕ, List, [], ◌∷◌, Option, Some, None, if◌then◌else◌}
 use Rattle.desk_expr.specs.declared.term.Term.{Term}
 use Rattle.desk_expr.specs.Words.{is_reference}
-use Rattle.desk_expr.specs.Printing.{printed_term}
 use Rattle.desk_expr.specs.Spelling.{SpellsTermWithin}
 use Rattle.desk_fields.specs.Text.{first_word}
 
@@ -14,11 +13,6 @@ SpellsNoTerm text = (t : Term) → SpellsTermWithin text t → ⊥
 abbrev pub IsTerm : List ℕ → Option Term → Type 0
 IsTerm text None = SpellsNoTerm text
 IsTerm text (Some t) = SpellsTermWithin text t
-
--- the term that a text spells, printed
-abbrev pub IsPrintedTerm : List ℕ → Option (List ℕ) → Type 0
-IsPrintedTerm text None = SpellsNoTerm text
-IsPrintedTerm text (Some printed) = (t : Term) × SpellsTermWithin text t × (printed ≡ printed_term t)
 
 -- the texts spell these terms, one each
 abbrev pub AreTerms : List (List ℕ) → List Term → Type 0

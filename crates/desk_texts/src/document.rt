@@ -1,7 +1,8 @@
 //! What the desk keeps of a document.
 
-ghost use Rattle.std.specs.Prelude.{◌≡◌, ◌≢◌, ◌×◌, IfOk, Option, Result, map, ℕ, List};
+ghost use Rattle.std.specs.Prelude.{◌≡◌, ◌≢◌, IfOk, OnOk, Option, Result, map, ℕ, List};
 ghost use Rattle.desk_fields.specs.declared.fault.DocFault.{DocFault};
+ghost use Rattle.desk_fields.specs.Tags.{tag_name};
 ghost use Rattle.desk_tagvalue.specs.Documents.{Spells, document_text};
 ghost use Rattle.desk_tagvalue.specs.Entries.{value_text};
 ghost use Rattle.desk_tagvalue.specs.Parts.{DocumentText};
@@ -32,7 +33,7 @@ impl Identified for Extracted<'_> {
 }
 
 fn copy_of(alloc: Global, value: Option<&str>) -> Result<Option<Text>, AllocError>
-    ensures { IfOk result (λ copy. copy ≡ value_text value) }
+    ensures { IfOk result (λ copy. copy ≡ value_text value.entry) }
 {
     match value {
         Some(text) => Ok(Some(Text::of(alloc, text)?)),
@@ -40,15 +41,15 @@ fn copy_of(alloc: Global, value: Option<&str>) -> Result<Option<Text>, AllocErro
     }
 }
 
-fn package_of(alloc: Global, package: &desk_tagvalue::Package<'_>) -> Result<Package, AllocError>
-    ensures { IfOk result (λ kept. kept ≡ package_of (package_text package.now)) }
+fn package_of(alloc: Global, text: &desk_tagvalue::Package<'_>) -> Result<Package, AllocError>
+    ensures { IfOk result (λ kept. kept ≡ package_of (package_text text.now)) }
 {
     Ok(Package {
-        id: Text::of(alloc, package.id)?,
-        name: Text::of(alloc, package.name)?,
-        version: copy_of(alloc, package.version)?,
-        concluded: copy_of(alloc, package.concluded)?,
-        copyright: copy_of(alloc, package.copyright)?,
+        id: Text::of(alloc, text.id)?,
+        name: Text::of(alloc, text.name)?,
+        version: copy_of(alloc, text.version)?,
+        concluded: copy_of(alloc, text.concluded)?,
+        copyright: copy_of(alloc, text.copyright)?,
         shipped: true,
     })
 }
@@ -62,15 +63,39 @@ fn reference_of(alloc: Global, extracted: &Extracted<'_>) -> Result<Reference, A
     })
 }
 
+fn package_copies(
+    alloc: Global,
+    packages: Vec<&desk_tagvalue::Package<'_>>,
+) -> Result<Items<Package>, AllocError>
+    ensures { IfOk result (λ kept. kept ≡ map (λ p. package_of (package_text p.now)) packages.entry.items) }
+{
+    let mut kept = Items::new(alloc);
+    for text in packages {
+        kept.push(package_of(alloc, text)?)?;
+    }
+    Ok(kept)
+}
+
 fn packages_of(
     alloc: Global,
     packages: &[desk_tagvalue::Package<'_>],
 ) -> Result<Items<Package>, AllocError>
     ensures { IfOk result (λ kept. kept ≡ map package_of (sorted_by (λ p. p.id) (map package_text packages.now))) }
 {
+    let sorted = sorted_by(alloc, packages)?;
+    let kept = package_copies(alloc, sorted)?;
+    Ok(kept)
+}
+
+fn reference_copies(
+    alloc: Global,
+    extracted: Vec<&Extracted<'_>>,
+) -> Result<Items<Reference>, AllocError>
+    ensures { IfOk result (λ kept. kept ≡ map (λ x. reference_of (extracted_text x.now)) extracted.entry.items) }
+{
     let mut kept = Items::new(alloc);
-    for package in sorted_by(alloc, packages)? {
-        kept.push(package_of(alloc, package)?)?;
+    for one in extracted {
+        kept.push(reference_of(alloc, one)?)?;
     }
     Ok(kept)
 }
@@ -81,10 +106,8 @@ fn references_of(
 ) -> Result<Items<Reference>, AllocError>
     ensures { IfOk result (λ kept. kept ≡ map reference_of (sorted_by (λ x. x.id) (map extracted_text extracted.now))) }
 {
-    let mut kept = Items::new(alloc);
-    for one in sorted_by(alloc, extracted)? {
-        kept.push(reference_of(alloc, one)?)?;
-    }
+    let sorted = sorted_by(alloc, extracted)?;
+    let kept = reference_copies(alloc, sorted)?;
     Ok(kept)
 }
 
@@ -102,14 +125,15 @@ fn document_of(
 }
 
 fn named(alloc: Global, tag: Tag) -> Result<Text, AllocError>
-    ensures { IfOk result (λ text. text ≡ Rattle.desk_fields.specs.Tags.tag_name tag) }
+    ensures { IfOk result (λ text. text ≡ tag_name tag) }
 {
     Text::of(alloc, tag.name())
 }
 
 /// A document's fault, or want of memory.
 fn fault_of(alloc: Global, fault: DocFault) -> Result<DocumentFault, AllocError>
-    ensures { IfOk result (λ kept. kept ≡ fault_of fault) }
+    ensures fault { IfOk result (λ kept. kept ≡ fault_of fault) }
+    ensures told { OnOk result (fault ≡ DocFault.Memory → ⊥) }
 {
     match fault {
         DocFault::Memory => Err(AllocError),

@@ -3,9 +3,9 @@
 ghost use Rattle.std.specs.Prelude.{◌≡◌, IfOk, IsTrue, Contains};
 ghost use Rattle.desk_texts.specs.Expressions.{is_only_word, is_no_licence, IsRead, Tells, IsVerdict, Judges};
 
-use crate::term::read_terms;
+use crate::term::{read_terms, told};
 use desk_base::Text;
-use desk_expr::{Expr, ParseFault, Term, check_choice, parse};
+use desk_expr::{Expr, Term, check_choice, parse};
 use desk_fields::{skip_blanks, split_word};
 use desk_rows::Verdict;
 use std::alloc::{AllocError, Global};
@@ -34,8 +34,10 @@ fn read_expression(alloc: Global, text: &str) -> Result<Option<Expr>, AllocError
     }
     match parse(alloc, text) {
         Ok(expr) => Ok(Some(expr)),
-        Err(ParseFault::Memory(error)) => Err(error),
-        Err(_) => Ok(None),
+        Err(fault) => {
+            told(fault)?;
+            Ok(None)
+        }
     }
 }
 
@@ -64,11 +66,12 @@ fn judged(expr: &Expr, terms: &[Term]) -> Verdict
 pub(crate) fn verdict(alloc: Global, text: &str, words: &[Text]) -> Result<Verdict, AllocError>
     ensures { IfOk result (Judges text.now words.now) }
 {
-    let Some(expr) = read_expression(alloc, text)? else {
-        return Ok(Verdict::NotEnough);
+    let expr = match read_expression(alloc, text)? {
+        Some(expr) => expr,
+        None => return Ok(Verdict::NotEnough),
     };
-    let Some(terms) = read_terms(alloc, words)? else {
-        return Ok(Verdict::NotEnough);
-    };
-    Ok(judged(&expr, terms.as_slice()))
+    match read_terms(alloc, words)? {
+        Some(terms) => Ok(judged(&expr, terms.as_slice())),
+        None => Ok(Verdict::NotEnough),
+    }
 }

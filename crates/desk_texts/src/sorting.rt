@@ -1,7 +1,10 @@
 //! Parts of a document in the order of their ids.
 
-ghost use Rattle.std.specs.Prelude.{◌≡◌, ◌≤◌, IfOk, OnOk, List, ℕ, MatchOption, map, insert, length};
+ghost use Rattle.std.specs.Prelude.{◌≡◌, ◌≤◌, ◌<◌, IfOk, OnOk, List, ℕ, map, drop, length};
+ghost use Rattle.std.proofs.Common.{get_or, Bor};
+ghost use Rattle.desk_rows.specs.Texts.{text_below};
 ghost use Rattle.desk_texts.specs.Documents.{put_by, sorted_by};
+ghost use Rattle.desk_texts.specs.Rising.{Rises, IsLower, is_below_first};
 
 use std::alloc::{AllocError, Global};
 
@@ -14,25 +17,48 @@ pub(crate) trait Identified {
         ensures { result.now ≡ id_of self.now };
 }
 
-/// Where a part goes among others that are sorted, if its id isn't there.
-fn place_of<P: Identified>(sorted: &[&P], part: &P) -> Option<usize>
-    ensures { MatchOption result (put_by P.id_of part.now (map (λ p. p.now) sorted.now) ≡ map (λ p. p.now) sorted.now) (λ place. (place ≤ length sorted.now) × (put_by P.id_of part.now (map (λ p. p.now) sorted.now) ≡ insert (map (λ p. p.now) sorted.now) place part.now)) }
+/// Whether the id of a part is below another.
+fn is_below<P: Identified>(sorted: &[&P], place: usize, id: &str) -> bool
+    requires { place < length sorted.now }
+    ensures { (d : Bor P) → result ≡ text_below (P.id_of (get_or sorted.now place d).now) id.now }
 {
-    for (place, other) in sorted.iter().enumerate() {
-        if part.id() < other.id() {
-            return Some(place);
-        }
-        if part.id() == other.id() {
-            return None;
+    sorted[place].id() < id
+}
+
+/// How many of the ids are below one, by halving.
+fn lower<P: Identified>(sorted: &[&P], id: &str) -> usize
+    requires { Rises (map (λ p. P.id_of p.now) sorted.now) }
+    ensures { IsLower (map (λ p. P.id_of p.now) sorted.now) id.now result }
+{
+    let mut low = 0;
+    let mut high = sorted.len();
+    while low < high {
+        let middle = low + (high - low) / 2;
+        if is_below(sorted, middle, id) {
+            low = middle + 1;
+        } else {
+            high = middle;
         }
     }
-    Some(sorted.len())
+    low
+}
+
+/// Whether a part goes in at a place: there is none with its id.
+fn is_new<P: Identified>(sorted: &[&P], place: usize, id: &str) -> bool
+    requires { place ≤ length sorted.now }
+    ensures { result ≡ is_below_first id.now (drop place (map (λ p. P.id_of p.now) sorted.now)) }
+{
+    place == sorted.len() || id < sorted[place].id()
 }
 
 fn put_by<'s, P: Identified>(sorted: &mut Vec<&'s P>, part: &'s P) -> Result<(), AllocError>
-    ensures { OnOk result (map (λ p. p.now) sorted.new.items ≡ put_by P.id_of part.now (map (λ p. p.now) sorted.old.items)) }
+    requires { Rises (map (λ p. P.id_of p.now) sorted.old.items) }
+    ensures items { OnOk result (map (λ p. p.now) sorted.new.items ≡ put_by P.id_of part.now (map (λ p. p.now) sorted.old.items)) }
+    ensures rises { OnOk result (Rises (map (λ p. P.id_of p.now) sorted.new.items)) }
 {
-    if let Some(place) = place_of(sorted.as_slice(), part) {
+    let id = part.id();
+    let place = lower(sorted.as_slice(), id);
+    if is_new(sorted.as_slice(), place, id) {
         sorted.insert(place, part)?;
     }
     Ok(())
@@ -46,8 +72,10 @@ pub(crate) fn sorted_by<'s, P: Identified>(
     ensures { IfOk result (λ sorted. map (λ p. p.now) sorted.items ≡ sorted_by P.id_of parts.now) }
 {
     let mut sorted = Vec::new(alloc);
-    for part in parts.iter().rev() {
+    let mut rest = parts;
+    while let Some((part, front)) = rest.split_last() {
         put_by(&mut sorted, part)?;
+        rest = front;
     }
     Ok(sorted)
 }

@@ -17,6 +17,14 @@ pub struct Standard;
 impl Texts for Standard {
     ghost are_right = { AreRight };
 
+    fn catalogue(
+        &self,
+        alloc: Global,
+        text: &str,
+    ) -> Result<Result<Catalogue, CatalogueFault>, AllocError> {
+        desk_catalogue::read(alloc, text)
+    }
+
     fn document(
         &self,
         alloc: Global,

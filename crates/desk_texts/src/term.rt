@@ -1,13 +1,25 @@
 //! Terms as texts.
 
-ghost use Rattle.std.specs.Prelude.{◌≡◌, IfOk};
+ghost use Rattle.std.specs.Prelude.{◌≡◌, ◌<◌, IfOk, OnOk};
 ghost use Rattle.std.specs.Option.{option_map};
-ghost use Rattle.desk_texts.specs.Terms.{IsTerm, IsPrintedTerm, AreAllTerms, reference_in};
+ghost use Rattle.desk_expr.specs.Faults.{fault_number};
+ghost use Rattle.desk_catalogue.specs.Terms.{IsTermOf};
+ghost use Rattle.desk_texts.specs.Terms.{IsTerm, AreAllTerms, reference_in};
 
 use desk_base::Text;
 use desk_expr::{ParseFault, Term, is_reference, parse_term, print_term};
 use desk_fields::split_word;
 use std::alloc::{AllocError, Global};
+
+/// Whether a fault is want of memory, which is handed on.
+pub(crate) fn told(fault: ParseFault) -> Result<(), AllocError>
+    ensures { OnOk result (0 < fault_number fault) }
+{
+    match fault {
+        ParseFault::Memory(error) => Err(error),
+        _ => Ok(()),
+    }
+}
 
 /// The term that a text spells.
 fn read_term(alloc: Global, text: &str) -> Result<Option<Term>, AllocError>
@@ -15,14 +27,16 @@ fn read_term(alloc: Global, text: &str) -> Result<Option<Term>, AllocError>
 {
     match parse_term(alloc, text) {
         Ok(term) => Ok(Some(term)),
-        Err(ParseFault::Memory(error)) => Err(error),
-        Err(_) => Ok(None),
+        Err(fault) => {
+            told(fault)?;
+            Ok(None)
+        }
     }
 }
 
 /// The term that a text spells, printed.
 pub(crate) fn printed_term(alloc: Global, text: &str) -> Result<Option<Text>, AllocError>
-    ensures { IfOk result (IsPrintedTerm text.now) }
+    ensures { IfOk result (IsTermOf text.now) }
 {
     match read_term(alloc, text)? {
         Some(term) => {

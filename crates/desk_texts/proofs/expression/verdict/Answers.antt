@@ -1,0 +1,7 @@
+use Rattle.std.proofs.Common.{refl, subst, inl, inr}
+use Rattle.desk_texts.specs.Expressions.{IsRead}
+use Rattle.desk_texts.specs.Terms.{AreAllTerms}
+use Rattle.desk_texts.proofs.expression.verdict.Goals as goal
+
+pub returns-in-None : goal.returns-in-None
+returns-in-None c = inr (λ e ts is are. (subst (IsRead c.args.text.now) c.in-None.is c.in_ok-expr.ensures) e is, refl)
