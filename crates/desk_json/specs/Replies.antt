@@ -1,6 +1,6 @@
 -- The reply to an outcome: a JSON text (RFC 8259) without blanks, the members of each object in the order of their keys.
 use Rattle.std.specs.Prelude.{ℕ, Bool, true, false, List, [], ◌∷◌, codes, map}
-use Rattle.serde_json.specs.Data.{Data, boolean, string, object, Members, no_members, member}
+use Rattle.serde_json.specs.Data.{Data, boolean, string, object, no_members, member}
 use Rattle.serde_json.specs.Written.{compact_text}
 use Rattle.desk_json.specs.Parts.{whole, list, duty_row, totals_row}
 use Rattle.desk_json.specs.Refusals.{refusal_values}

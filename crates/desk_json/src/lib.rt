@@ -11,3 +11,8 @@ mod rows;
 pub use reading::read_command;
 pub use replies::{bad_command_line, memory_line, reply_line};
 pub use request::Request;
+
+#[cfg(test)]
+mod reply_tests;
+#[cfg(test)]
+mod request_tests;
