@@ -11,3 +11,5 @@ pub mod Queries
 pub mod Runs
 pub mod Numbers
 pub mod Faults
+pub mod Names
+pub mod FaultNumbers

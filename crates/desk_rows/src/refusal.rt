@@ -15,6 +15,26 @@ pub enum ExpressionFault {
     TooManyTerms(usize),
 }
 
+impl ExpressionFault {
+    ghost use Rattle.std.specs.Prelude.{◌≡◌};
+    ghost use Rattle.desk_rows.specs.FaultNumbers.{expression_fault_number};
+
+    /// The number of the fault.
+    pub fn number(&self) -> u8
+        ensures { result ≡ expression_fault_number self.now }
+    {
+        match self {
+            ExpressionFault::Empty(_) => 1,
+            ExpressionFault::BadToken(_) => 2,
+            ExpressionFault::Unexpected(_) => 3,
+            ExpressionFault::Unclosed(_) => 4,
+            ExpressionFault::TooDeep(_) => 5,
+            ExpressionFault::TooLong(_) => 6,
+            ExpressionFault::TooManyTerms(_) => 7,
+        }
+    }
+}
+
 /// Why a text is no tag-value document (SPDX 2.3), with the line, counted from 1.
 #[derive(Debug, Drop, PartialEq)]
 pub enum DocumentFault {
@@ -32,6 +52,31 @@ pub enum DocumentFault {
     TooManyElements(u64),
 }
 
+impl DocumentFault {
+    ghost use Rattle.std.specs.Prelude.{◌≡◌};
+    ghost use Rattle.desk_rows.specs.FaultNumbers.{document_fault_number};
+
+    /// The number of the fault.
+    pub fn number(&self) -> u8
+        ensures { result ≡ document_fault_number self.now }
+    {
+        match self {
+            DocumentFault::NotUtf8 => 1,
+            DocumentFault::NoColon(_) => 2,
+            DocumentFault::OpenText(_) => 3,
+            DocumentFault::AfterText(_) => 4,
+            DocumentFault::BadVersion(_) => 5,
+            DocumentFault::Missing { .. } => 6,
+            DocumentFault::BadId(_) => 7,
+            DocumentFault::DuplicateId(_) => 8,
+            DocumentFault::Repeated { .. } => 9,
+            DocumentFault::BadRelationship(_) => 10,
+            DocumentFault::TooLarge => 11,
+            DocumentFault::TooManyElements(_) => 12,
+        }
+    }
+}
+
 /// A part of a catalogue.
 #[derive(Clone, Copy, Debug, PartialEq, Eq)]
 pub enum CataloguePart {
@@ -39,6 +84,23 @@ pub enum CataloguePart {
     Duty,
     Rule,
     Text,
+}
+
+impl CataloguePart {
+    ghost use Rattle.std.specs.Prelude.{◌≡◌};
+    ghost use Rattle.desk_rows.specs.Names.{part_name};
+
+    /// The key of the part.
+    pub fn name(&self) -> &'static str
+        ensures { result.now ≡ part_name self.now }
+    {
+        match self {
+            CataloguePart::Forms => "forms",
+            CataloguePart::Duty => "duty",
+            CataloguePart::Rule => "rule",
+            CataloguePart::Text => "text",
+        }
+    }
 }
 
 /// Why a text is no catalogue, with the part and the place in it, counted from 0.
@@ -54,6 +116,27 @@ pub enum CatalogueFault {
     TooLarge,
 }
 
+impl CatalogueFault {
+    ghost use Rattle.std.specs.Prelude.{◌≡◌};
+    ghost use Rattle.desk_rows.specs.FaultNumbers.{catalogue_fault_number};
+
+    /// The number of the fault.
+    pub fn number(&self) -> u8
+        ensures { result ≡ catalogue_fault_number self.now }
+    {
+        match self {
+            CatalogueFault::NotToml => 1,
+            CatalogueFault::Missing(_, _) => 2,
+            CatalogueFault::BadKind(_, _) => 3,
+            CatalogueFault::BadTerm(_, _) => 4,
+            CatalogueFault::UnknownForm(_, _) => 5,
+            CatalogueFault::UnknownDuty(_, _) => 6,
+            CatalogueFault::Twice(_, _) => 7,
+            CatalogueFault::TooLarge => 8,
+        }
+    }
+}
+
 /// What is full.
 #[derive(Clone, Copy, Debug, PartialEq, Eq)]
 pub enum Limit {
@@ -64,6 +147,26 @@ pub enum Limit {
     Adoptions,
     Duties,
     Changes,
+}
+
+impl Limit {
+    ghost use Rattle.std.specs.Prelude.{◌≡◌};
+    ghost use Rattle.desk_rows.specs.Names.{limit_name};
+
+    /// The word for what is full.
+    pub fn name(&self) -> &'static str
+        ensures { result.now ≡ limit_name self.now }
+    {
+        match self {
+            Limit::Revisions => "revisions",
+            Limit::Documents => "documents",
+            Limit::Releases => "releases",
+            Limit::Attached => "attached",
+            Limit::Adoptions => "adoptions",
+            Limit::Duties => "duties",
+            Limit::Changes => "changes",
+        }
+    }
 }
 
 /// Why a command or a query is refused.
@@ -122,6 +225,7 @@ pub enum Refusal {
 
 impl Refusal {
     ghost use Rattle.std.specs.Prelude.{◌≡◌};
+    ghost use Rattle.desk_rows.specs.Names.{refusal_name};
     ghost use Rattle.desk_rows.specs.Numbers.{refusal_number};
 
     /// The number of the refusal.
@@ -159,6 +263,44 @@ impl Refusal {
             Refusal::TooMany => 28,
             Refusal::TooManyTerms => 29,
             Refusal::BadEnd => 30,
+        }
+    }
+
+    /// The name of the refusal.
+    pub fn name(&self) -> &'static str
+        ensures { result.now ≡ refusal_name self.now }
+    {
+        match self {
+            Refusal::BadCatalogue(_) => "BadCatalogue",
+            Refusal::BadDocument(_) => "BadDocument",
+            Refusal::NamespaceTaken { .. } => "NamespaceTaken",
+            Refusal::UnknownDocument => "UnknownDocument",
+            Refusal::UnknownPackage => "UnknownPackage",
+            Refusal::BadExpression(_) => "BadExpression",
+            Refusal::Chosen { .. } => "Chosen",
+            Refusal::BadTerm(_) => "BadTerm",
+            Refusal::BadName => "BadName",
+            Refusal::NameTaken => "NameTaken",
+            Refusal::UnknownForm => "UnknownForm",
+            Refusal::UnknownRelease => "UnknownRelease",
+            Refusal::ReleaseState(_) => "ReleaseState",
+            Refusal::AlreadyAttached => "AlreadyAttached",
+            Refusal::NotShipped => "NotShipped",
+            Refusal::NoConclusion { .. } => "NoConclusion",
+            Refusal::NotEnough => "NotEnough",
+            Refusal::NotMinimal { .. } => "NotMinimal",
+            Refusal::NoChoice { .. } => "NoChoice",
+            Refusal::EmptyRelease => "EmptyRelease",
+            Refusal::NotAdopted { .. } => "NotAdopted",
+            Refusal::NoRule { .. } => "NoRule",
+            Refusal::UnknownDuty => "UnknownDuty",
+            Refusal::DutyState(_) => "DutyState",
+            Refusal::BadText => "BadText",
+            Refusal::BadDay => "BadDay",
+            Refusal::Full(_) => "Full",
+            Refusal::TooMany => "TooMany",
+            Refusal::TooManyTerms => "TooManyTerms",
+            Refusal::BadEnd => "BadEnd",
         }
     }
 }

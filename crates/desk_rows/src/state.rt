@@ -8,6 +8,22 @@ pub enum ReleaseState {
     Withdrawn,
 }
 
+impl ReleaseState {
+    ghost use Rattle.std.specs.Prelude.{◌≡◌};
+    ghost use Rattle.desk_rows.specs.Names.{release_state_name};
+
+    /// The word for the state.
+    pub fn name(&self) -> &'static str
+        ensures { result.now ≡ release_state_name self.now }
+    {
+        match self {
+            ReleaseState::IsOpen => "open",
+            ReleaseState::Frozen => "frozen",
+            ReleaseState::Withdrawn => "withdrawn",
+        }
+    }
+}
+
 /// Where a duty stands. It is printed as `open`, `met`, `waived` or `withdrawn`.
 #[derive(Clone, Copy, Debug, PartialEq, Eq)]
 pub enum DutyState {
@@ -15,6 +31,23 @@ pub enum DutyState {
     Met,
     Waived,
     Withdrawn,
+}
+
+impl DutyState {
+    ghost use Rattle.std.specs.Prelude.{◌≡◌};
+    ghost use Rattle.desk_rows.specs.Names.{duty_state_name};
+
+    /// The word for the state.
+    pub fn name(&self) -> &'static str
+        ensures { result.now ≡ duty_state_name self.now }
+    {
+        match self {
+            DutyState::IsOpen => "open",
+            DutyState::Met => "met",
+            DutyState::Waived => "waived",
+            DutyState::Withdrawn => "withdrawn",
+        }
+    }
 }
 
 /// What a change of a duty was.

@@ -1,0 +1,5 @@
+pub mod Fields
+pub mod Requests
+pub mod Parts
+pub mod Refusals
+pub mod Replies

@@ -1,0 +1,27 @@
+-- The parts of replies: numbers, lists and the rows of an answer.
+use Rattle.std.specs.Prelude.{ℕ, List, [], ◌∷◌, Option, Some, None, if◌then◌else◌}
+use Rattle.std.specs.Str.{is_utf8}
+use Rattle.serde_json.specs.Data.{Data, number, unsigned, string, array}
+use Rattle.serde_json.specs.View.{items_of}
+use Rattle.desk_rows.specs.Names.{duty_state_name}
+use Rattle.desk_rows.specs.declared.command.DutyLine.{DutyLine}
+use Rattle.desk_rows.specs.declared.command.Totals.{Totals}
+
+abbrev pub whole : ℕ → Data
+whole n = number (unsigned n)
+
+abbrev pub list : List Data → Data
+list ds = array (items_of ds)
+
+-- The day of a line as it is written. It is empty where a line has no day, which no history gives, and where bytes are no text, which
+-- no day is.
+abbrev pub day_text : Option (List ℕ) → List ℕ
+day_text None = []
+day_text (Some day) = if is_utf8 day then day else []
+
+abbrev pub duty_row : DutyLine → Data
+duty_row line = list (whole line.number ∷ whole line.document ∷ string line.package_id ∷ string line.term ∷ string line.rule ∷ string line.code
+    ∷ string (duty_state_name line.state) ∷ string (day_text line.day) ∷ [])
+
+abbrev pub totals_row : Totals → Data
+totals_row t = list (whole t.raised ∷ whole t.still_open ∷ whole t.met ∷ whole t.waived ∷ whole t.withdrawn ∷ [])

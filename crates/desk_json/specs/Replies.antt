@@ -1,0 +1,67 @@
+-- The reply to an outcome: a JSON text (RFC 8259) without blanks, the members of each object in the order of their keys.
+use Rattle.std.specs.Prelude.{ℕ, Bool, true, false, List, [], ◌∷◌, codes, map}
+use Rattle.serde_json.specs.Data.{Data, boolean, string, object, no_members, member}
+use Rattle.serde_json.specs.Written.{compact_text}
+use Rattle.desk_json.specs.Parts.{whole, list, duty_row, totals_row}
+use Rattle.desk_json.specs.Refusals.{refusal_values}
+use Rattle.desk_rows.specs.Names.{refusal_name}
+use Rattle.desk_rows.specs.Numbers.{refusal_number}
+use Rattle.desk_rows.specs.declared.command.Answer.{Answer}
+use Rattle.desk_rows.specs.declared.command.Answer.TheVariants as answer
+use Rattle.desk_rows.specs.declared.command.Fault.{Fault}
+use Rattle.desk_rows.specs.declared.command.Fault.TheVariants as fault
+use Rattle.desk_rows.specs.declared.command.Outcome.{Outcome}
+use Rattle.desk_rows.specs.declared.command.Outcome.TheVariants as outcome
+use Rattle.desk_rows.specs.declared.refusal.Refusal.{Refusal}
+
+abbrev pub revision_reply : ℕ → Data
+revision_reply n = object (member (codes "revision") (whole n) no_members)
+
+-- a document is new where this import stored it
+abbrev pub document_reply : ℕ → Bool → Data
+document_reply n new = object (member (codes "document") (whole n) (member (codes "new") (boolean new) no_members))
+
+abbrev pub done_reply : Data
+done_reply = object (member (codes "done") (boolean true) no_members)
+
+abbrev pub frozen_reply : ℕ → ℕ → Data
+frozen_reply first count = object (member (codes "count") (whole count) (member (codes "first") (whole first) no_members))
+
+abbrev pub rows_reply : List Data → Data
+rows_reply rows = object (member (codes "rows") (list rows) no_members)
+
+-- the values of a refusal, its name and its number
+abbrev pub refusal_reply : Refusal → Data
+refusal_reply refusal = object
+    (member (codes "at") (list (refusal_values refusal))
+    (member (codes "name") (string (refusal_name refusal))
+    (member (codes "refused") (whole (refusal_number refusal)) no_members)))
+
+abbrev pub answer_reply : Answer → Data
+answer_reply (answer.Revision n) = revision_reply n
+answer_reply (answer.Imported n) = document_reply n true
+answer_reply (answer.Again n) = document_reply n false
+answer_reply answer.Done = done_reply
+answer_reply (answer.Frozen first count) = frozen_reply first count
+answer_reply (answer.Duties lines) = rows_reply (map duty_row lines)
+answer_reply (answer.Totals totals) = rows_reply (totals_row totals ∷ [])
+answer_reply (answer.Refused refusal) = refusal_reply refusal
+
+abbrev pub fault_reply : List ℕ → Data
+fault_reply word = object (member (codes "fault") (string word) no_members)
+
+abbrev pub fault_word : Fault → List ℕ
+fault_word fault.Memory = codes "memory"
+fault_word (fault.Store cause) = codes "store"
+
+abbrev pub reply_of : Outcome → Data
+reply_of (outcome.Answered answer) = answer_reply answer
+reply_of (outcome.Failed fault) = fault_reply (fault_word fault)
+
+-- the text of the reply
+abbrev pub reply_text : Outcome → List ℕ
+reply_text outcome = compact_text (reply_of outcome)
+
+-- the text of the reply to what is no request
+abbrev pub bad_command_text : List ℕ
+bad_command_text = compact_text (fault_reply (codes "command"))

@@ -1,0 +1,108 @@
+-- The request that a JSON text (RFC 8259) is: an object with exactly the members of its form.
+use Rattle.std.specs.Prelude.{ℕ, ◌==◌, List, codes, if◌then◌else◌, Option, None, option_map, unwrap_or}
+use Rattle.std.specs.Str.{bytes_eq, is_utf8}
+use Rattle.serde_json.specs.Data.{Data}
+use Rattle.serde_json.specs.Read.{read}
+use Rattle.desk_json.specs.Fields.{size, text_in, number_in, texts_in}
+use Rattle.desk_rows.specs.declared.command.Command.TheVariants as command
+use Rattle.desk_rows.specs.declared.command.Query.TheVariants as query
+use Rattle.desk_rows.specs.declared.reading.Profile.TheVariants.{Capitals}
+use Rattle.desk_json.specs.declared.request.Request.{Request}
+use Rattle.desk_json.specs.declared.request.Request.TheVariants.{Act, Ask, BadCommand}
+
+-- a request of an object with so many members. Each key stands once in an object, so where that many keys are found in it, it has
+-- no others.
+abbrev pub with_members : ℕ → Data → Request → Request
+with_members n d request = if size d == n then request else BadCommand
+
+-- a request that needs the text, the number or the texts of a member
+abbrev pub with_text : List ℕ → Data → (List ℕ → Request) → Request
+with_text key d request = unwrap_or (option_map request (text_in key d)) BadCommand
+
+abbrev pub with_number : List ℕ → Data → (ℕ → Request) → Request
+with_number key d request = unwrap_or (option_map request (number_in key d)) BadCommand
+
+abbrev pub with_texts : List ℕ → Data → (List (List ℕ) → Request) → Request
+with_texts key d request = unwrap_or (option_map request (texts_in key d)) BadCommand
+
+-- each form; the member that names it is one of its members
+abbrev pub catalogue_request : Data → Request
+catalogue_request d = with_members 2 d
+    (with_text (codes "text") d (λ text. Act (command.LoadCatalogue text)))
+
+abbrev pub import_request : Data → Request
+import_request d = with_members 2 d
+    (with_text (codes "text") d (λ bytes. Act (command.Import bytes Capitals)))
+
+abbrev pub open_request : Data → Request
+open_request d = with_members 3 d
+    (with_text (codes "release") d (λ release.
+    with_text (codes "form") d (λ form.
+    Act (command.OpenRelease release form))))
+
+abbrev pub attach_request : Data → Request
+attach_request d = with_members 3 d
+    (with_text (codes "release") d (λ release.
+    with_number (codes "document") d (λ document.
+    Act (command.Attach release document))))
+
+abbrev pub choose_request : Data → Request
+choose_request d = with_members 5 d
+    (with_text (codes "release") d (λ release.
+    with_number (codes "document") d (λ document.
+    with_text (codes "package") d (λ package_id.
+    with_texts (codes "terms") d (λ terms.
+    Act (command.Choose release document package_id terms))))))
+
+abbrev pub freeze_request : Data → Request
+freeze_request d = with_members 3 d
+    (with_text (codes "release") d (λ release.
+    with_text (codes "day") d (λ day.
+    Act (command.Freeze release day))))
+
+abbrev pub meet_request : Data → Request
+meet_request d = with_members 4 d
+    (with_number (codes "duty") d (λ duty.
+    with_text (codes "day") d (λ day.
+    with_text (codes "text") d (λ text.
+    Act (command.Meet duty day text)))))
+
+abbrev pub duties_request : Data → Request
+duties_request d = with_members 2 d
+    (with_text (codes "release") d (λ release. Ask (query.Duties release)))
+
+abbrev pub totals_request : Data → Request
+totals_request d = with_members 2 d
+    (with_text (codes "release") d (λ release. Ask (query.Totals release)))
+
+-- the form that the word behind `do` names
+abbrev pub command_request : List ℕ → Data → Request
+command_request word d =
+    if bytes_eq word (codes "catalogue") then catalogue_request d
+    else if bytes_eq word (codes "import") then import_request d
+    else if bytes_eq word (codes "open") then open_request d
+    else if bytes_eq word (codes "attach") then attach_request d
+    else if bytes_eq word (codes "choose") then choose_request d
+    else if bytes_eq word (codes "freeze") then freeze_request d
+    else if bytes_eq word (codes "meet") then meet_request d
+    else BadCommand
+
+-- the form that the word behind `ask` names
+abbrev pub query_request : List ℕ → Data → Request
+query_request word d =
+    if bytes_eq word (codes "duties") then duties_request d
+    else if bytes_eq word (codes "totals") then totals_request d
+    else BadCommand
+
+-- the request that a value is; one with both `do` and `ask` has a member too many
+abbrev pub request_of : Data → Request
+request_of d = unwrap_or (option_map (λ word. command_request word d) (text_in (codes "do") d))
+    (with_text (codes "ask") d (λ word. query_request word d))
+
+-- the value that bytes are the JSON text of: UTF-8, and read by the grammar with nothing left
+abbrev pub value_of : List ℕ → Option Data
+value_of bytes = if is_utf8 bytes then read bytes else None
+
+-- the request that bytes are
+abbrev pub request_in : List ℕ → Request
+request_in bytes = unwrap_or (option_map request_of (value_of bytes)) BadCommand

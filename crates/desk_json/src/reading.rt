@@ -1,0 +1,213 @@
+//! Reads a request.
+
+ghost use Rattle.std.specs.Prelude.{◌≡◌, IfOk};
+ghost use Rattle.serde_json.specs.View.{view};
+ghost use Rattle.desk_json.specs.Requests.{catalogue_request, import_request, open_request, attach_request, choose_request, freeze_request, meet_request, duties_request, totals_request, command_request, query_request, request_of, request_in};
+
+use crate::fields::{number_at, size_of, text_at, texts_at};
+use crate::request::Request;
+use desk_base::{Items, Text};
+use desk_rows::{Command, Profile, Query};
+use serde_json::Value;
+use std::alloc::{AllocError, Global};
+
+fn read_catalogue(alloc: Global, value: &Value) -> Result<Request, AllocError>
+    ensures { IfOk result (λ r. r ≡ catalogue_request (view value.now)) }
+{
+    if size_of(value) != 2 {
+        return Ok(Request::BadCommand);
+    }
+    let Some(text) = text_at(value, "text") else {
+        return Ok(Request::BadCommand);
+    };
+    let text = Text::of(alloc, text)?;
+    Ok(Request::Act(Command::LoadCatalogue { text }))
+}
+
+fn read_import(alloc: Global, value: &Value) -> Result<Request, AllocError>
+    ensures { IfOk result (λ r. r ≡ import_request (view value.now)) }
+{
+    if size_of(value) != 2 {
+        return Ok(Request::BadCommand);
+    }
+    let Some(text) = text_at(value, "text") else {
+        return Ok(Request::BadCommand);
+    };
+    let bytes = Items::from_vec(text.as_bytes().to_vec(alloc)?);
+    Ok(Request::Act(Command::Import {
+        bytes,
+        profile: Profile::Capitals,
+    }))
+}
+
+fn read_open(alloc: Global, value: &Value) -> Result<Request, AllocError>
+    ensures { IfOk result (λ r. r ≡ open_request (view value.now)) }
+{
+    if size_of(value) != 3 {
+        return Ok(Request::BadCommand);
+    }
+    let Some(release) = text_at(value, "release") else {
+        return Ok(Request::BadCommand);
+    };
+    let Some(form) = text_at(value, "form") else {
+        return Ok(Request::BadCommand);
+    };
+    let release = Text::of(alloc, release)?;
+    let form = Text::of(alloc, form)?;
+    Ok(Request::Act(Command::OpenRelease { release, form }))
+}
+
+fn read_attach(alloc: Global, value: &Value) -> Result<Request, AllocError>
+    ensures { IfOk result (λ r. r ≡ attach_request (view value.now)) }
+{
+    if size_of(value) != 3 {
+        return Ok(Request::BadCommand);
+    }
+    let Some(release) = text_at(value, "release") else {
+        return Ok(Request::BadCommand);
+    };
+    let Some(document) = number_at(value, "document") else {
+        return Ok(Request::BadCommand);
+    };
+    let release = Text::of(alloc, release)?;
+    Ok(Request::Act(Command::Attach { release, document }))
+}
+
+fn read_choose(alloc: Global, value: &Value) -> Result<Request, AllocError>
+    ensures { IfOk result (λ r. r ≡ choose_request (view value.now)) }
+{
+    if size_of(value) != 5 {
+        return Ok(Request::BadCommand);
+    }
+    let Some(release) = text_at(value, "release") else {
+        return Ok(Request::BadCommand);
+    };
+    let Some(document) = number_at(value, "document") else {
+        return Ok(Request::BadCommand);
+    };
+    let Some(package_id) = text_at(value, "package") else {
+        return Ok(Request::BadCommand);
+    };
+    let Some(terms) = texts_at(alloc, value, "terms")? else {
+        return Ok(Request::BadCommand);
+    };
+    let release = Text::of(alloc, release)?;
+    let package_id = Text::of(alloc, package_id)?;
+    Ok(Request::Act(Command::Choose {
+        release,
+        document,
+        package_id,
+        terms,
+    }))
+}
+
+fn read_freeze(alloc: Global, value: &Value) -> Result<Request, AllocError>
+    ensures { IfOk result (λ r. r ≡ freeze_request (view value.now)) }
+{
+    if size_of(value) != 3 {
+        return Ok(Request::BadCommand);
+    }
+    let Some(release) = text_at(value, "release") else {
+        return Ok(Request::BadCommand);
+    };
+    let Some(day) = text_at(value, "day") else {
+        return Ok(Request::BadCommand);
+    };
+    let release = Text::of(alloc, release)?;
+    let day = Text::of(alloc, day)?;
+    Ok(Request::Act(Command::Freeze { release, day }))
+}
+
+fn read_meet(alloc: Global, value: &Value) -> Result<Request, AllocError>
+    ensures { IfOk result (λ r. r ≡ meet_request (view value.now)) }
+{
+    if size_of(value) != 4 {
+        return Ok(Request::BadCommand);
+    }
+    let Some(duty) = number_at(value, "duty") else {
+        return Ok(Request::BadCommand);
+    };
+    let Some(day) = text_at(value, "day") else {
+        return Ok(Request::BadCommand);
+    };
+    let Some(text) = text_at(value, "text") else {
+        return Ok(Request::BadCommand);
+    };
+    let day = Text::of(alloc, day)?;
+    let text = Text::of(alloc, text)?;
+    Ok(Request::Act(Command::Meet { duty, day, text }))
+}
+
+fn read_duties(alloc: Global, value: &Value) -> Result<Request, AllocError>
+    ensures { IfOk result (λ r. r ≡ duties_request (view value.now)) }
+{
+    if size_of(value) != 2 {
+        return Ok(Request::BadCommand);
+    }
+    let Some(release) = text_at(value, "release") else {
+        return Ok(Request::BadCommand);
+    };
+    let release = Text::of(alloc, release)?;
+    Ok(Request::Ask(Query::Duties { release }))
+}
+
+fn read_totals(alloc: Global, value: &Value) -> Result<Request, AllocError>
+    ensures { IfOk result (λ r. r ≡ totals_request (view value.now)) }
+{
+    if size_of(value) != 2 {
+        return Ok(Request::BadCommand);
+    }
+    let Some(release) = text_at(value, "release") else {
+        return Ok(Request::BadCommand);
+    };
+    let release = Text::of(alloc, release)?;
+    Ok(Request::Ask(Query::Totals { release }))
+}
+
+fn read_act(alloc: Global, word: &str, value: &Value) -> Result<Request, AllocError>
+    ensures { IfOk result (λ r. r ≡ command_request word.now (view value.now)) }
+{
+    match word {
+        "catalogue" => read_catalogue(alloc, value),
+        "import" => read_import(alloc, value),
+        "open" => read_open(alloc, value),
+        "attach" => read_attach(alloc, value),
+        "choose" => read_choose(alloc, value),
+        "freeze" => read_freeze(alloc, value),
+        "meet" => read_meet(alloc, value),
+        _ => Ok(Request::BadCommand),
+    }
+}
+
+fn read_ask(alloc: Global, word: &str, value: &Value) -> Result<Request, AllocError>
+    ensures { IfOk result (λ r. r ≡ query_request word.now (view value.now)) }
+{
+    match word {
+        "duties" => read_duties(alloc, value),
+        "totals" => read_totals(alloc, value),
+        _ => Ok(Request::BadCommand),
+    }
+}
+
+fn read_value(alloc: Global, value: &Value) -> Result<Request, AllocError>
+    ensures { IfOk result (λ r. r ≡ request_of (view value.now)) }
+{
+    if let Some(word) = text_at(value, "do") {
+        return read_act(alloc, word, value);
+    }
+    match text_at(value, "ask") {
+        Some(word) => read_ask(alloc, word, value),
+        None => Ok(Request::BadCommand),
+    }
+}
+
+/// The request that the bytes are, or `BadCommand` where they are none.
+pub fn read_command(alloc: Global, bytes: &[u8]) -> Result<Request, AllocError>
+    ensures { IfOk result (λ request. request ≡ request_in bytes.now) }
+{
+    match Value::from_slice(alloc, bytes) {
+        Ok(value) => read_value(alloc, &value),
+        Err(error) if error.is_memory() => Err(AllocError),
+        Err(_) => Ok(Request::BadCommand),
+    }
+}

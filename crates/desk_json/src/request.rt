@@ -1,0 +1,14 @@
+//! What a client asks for.
+
+use desk_rows::{Command, Query};
+
+/// What a text asks of the desk.
+#[derive(Debug, Drop)]
+pub enum Request {
+    /// The command is to be applied.
+    Act(Command),
+    /// The query is to be answered.
+    Ask(Query),
+    /// The text is no request.
+    BadCommand,
+}

@@ -1,0 +1,62 @@
+//! The rows of answers as JSON.
+
+ghost use Rattle.std.specs.Prelude.{◌≡◌, IfOk, map};
+ghost use Rattle.serde_json.specs.View.{view, items_view, items_of};
+ghost use Rattle.desk_json.specs.Parts.{day_text, duty_row, totals_row};
+
+use desk_base::Day;
+use desk_rows::{DutyLine, Totals};
+use serde_json::{Value, json};
+use std::alloc::{AllocError, Global};
+
+/// The day as it is written, and an empty text where there is none.
+fn day_text(day: &Option<Day>) -> &str
+    ensures { result.now ≡ day_text day.now }
+{
+    match day {
+        // The bytes of a day are digits and hyphens, so they are text.
+        Some(day) => match str::from_utf8(day.as_bytes()) {
+            Ok(text) => text,
+            Err(_) => "",
+        },
+        None => "",
+    }
+}
+
+fn duty_row(alloc: Global, line: &DutyLine) -> Result<Value, AllocError>
+    ensures { IfOk result (λ v. view v ≡ duty_row line.now) }
+{
+    let number = line.number;
+    let document = line.document;
+    let package_id = line.package_id.as_str();
+    let term = line.term.as_str();
+    let rule = line.rule.as_str();
+    let code = line.code.as_str();
+    let state = line.state.name();
+    let day = day_text(&line.day);
+    json!(in alloc; [number, document, package_id, term, rule, code, state, day])
+}
+
+/// A row for each line.
+pub(crate) fn duty_rows(alloc: Global, lines: &[DutyLine]) -> Result<Vec<Value>, AllocError>
+    ensures { IfOk result (λ rows. items_view rows.items ≡ items_of (map duty_row lines.now)) }
+{
+    let mut rows = Vec::new(alloc);
+    for line in lines {
+        rows.push(duty_row(alloc, line)?)?;
+    }
+    Ok(rows)
+}
+
+pub(crate) fn totals_row(alloc: Global, totals: &Totals) -> Result<Value, AllocError>
+    ensures { IfOk result (λ v. view v ≡ totals_row totals.now) }
+{
+    let Totals {
+        raised,
+        still_open,
+        met,
+        waived,
+        withdrawn,
+    } = *totals;
+    json!(in alloc; [raised, still_open, met, waived, withdrawn])
+}
