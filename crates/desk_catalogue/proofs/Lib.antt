@@ -1,0 +1,5 @@
+pub mod TermsRead
+pub mod EntryLemmas
+pub mod KeptLemmas
+pub mod SetLemmas
+pub mod ReadingLemmas
