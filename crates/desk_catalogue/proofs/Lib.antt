@@ -3,3 +3,4 @@ pub mod EntryLemmas
 pub mod KeptLemmas
 pub mod SetLemmas
 pub mod ReadingLemmas
+pub mod PrintedLemmas

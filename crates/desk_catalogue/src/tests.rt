@@ -1,4 +1,5 @@
 use crate::{has_form, limits, read, rule, spelled};
+use desk_expr::parse_term;
 use desk_rows::{Catalogue, CatalogueFault, CataloguePart};
 use std::alloc::{AllocError, Global};
 use std::process::Abort;
@@ -87,24 +88,41 @@ fn finds_what_a_catalogue_says(rt: HostRuntime) -> Result<(), Fail> {
     let Ok(catalogue) = read(rt.alloc(), SMALL)? else {
         panic!(rt; "the small catalogue is one");
     };
-    let Some(codes) = rule(&catalogue, "mit", "binary") else {
+    let term = parse_term(rt.alloc(), "Mit")?;
+    let Some(codes) = rule(&catalogue, &term, "binary") else {
         panic!(rt; "it has a rule for MIT");
     };
     assert_eq!(rt; codes.len(), 1);
     assert_eq!(rt; codes[0].as_str(), "include-text");
-    assert_eq!(rt; spelled(&catalogue, "mit", "binary"), Some("MIT"));
-    assert!(rt;
-        rule(&catalogue, "MIT", "binary").is_none(),
-        "terms are printed in small letters"
-    );
-    assert!(rt; rule(&catalogue, "mit", "source").is_none());
-    assert_eq!(rt; spelled(&catalogue, "zlib", "binary"), None);
+    assert_eq!(rt; spelled(&catalogue, &term, "binary"), Some("MIT"));
+    assert!(rt; rule(&catalogue, &term, "source").is_none());
     assert!(rt; has_form(&catalogue, "binary"));
     assert!(rt;
         !has_form(&catalogue, "Binary"),
         "forms compare byte for byte"
     );
     assert!(rt; !has_form(&catalogue, ""));
+    Ok(())
+}
+
+#[test]
+fn tells_terms_apart(rt: HostRuntime) -> Result<(), Fail> {
+    let alloc = rt.alloc();
+    let text = "forms = [\"a\"]\n[[rule]]\nterm = \"X\"\nform = \"a\"\nduties = []\n\
+        [[rule]]\nterm = \"X+\"\nform = \"a\"\nduties = []\n\
+        [[rule]]\nterm = \"X WITH Y\"\nform = \"a\"\nduties = []\n\
+        [[rule]]\nterm = \"X+ WITH Y\"\nform = \"a\"\nduties = []\n";
+    let Ok(catalogue) = read(alloc, text)? else {
+        panic!(rt; "it is a catalogue");
+    };
+    for spelling in ["X", "X+", "X WITH Y", "X+ WITH Y"] {
+        let term = parse_term(alloc, spelling)?;
+        assert_eq!(rt; spelled(&catalogue, &term, "a"), Some(spelling));
+    }
+    for spelling in ["XX", "Y", "X WITH Z", "X WITH YY", "LicenseRef-X"] {
+        let term = parse_term(alloc, spelling)?;
+        assert_eq!(rt; spelled(&catalogue, &term, "a"), None, "{spelling}");
+    }
     Ok(())
 }
 
