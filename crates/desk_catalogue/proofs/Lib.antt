@@ -1,0 +1,6 @@
+pub mod TermsRead
+pub mod EntryLemmas
+pub mod KeptLemmas
+pub mod SetLemmas
+pub mod ReadingLemmas
+pub mod PrintedLemmas

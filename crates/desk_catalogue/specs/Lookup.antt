@@ -1,0 +1,23 @@
+-- What is found in a catalogue.
+use Rattle.std.specs.Prelude.{ℕ, List, Bool, Option, option_map, find}
+use Rattle.desk_expr.specs.declared.term.Term.{Term}
+use Rattle.desk_expr.specs.Printing.{printed_term}
+use Rattle.desk_rows.specs.Keys.{is_rule}
+use Rattle.desk_rows.specs.declared.reading.Catalogue.{Catalogue}
+use Rattle.desk_rows.specs.declared.reading.Rule.{Rule}
+use Rattle.desk_catalogue.specs.Values.{is_among}
+
+-- the rule for a term, which the catalogue keeps as it is printed, in a form
+abbrev pub rule_for : Catalogue → Term → List ℕ → Option Rule
+rule_for catalogue term form = find (is_rule (printed_term term) form) catalogue.rules
+
+-- the codes owed
+abbrev pub codes_for : Catalogue → Term → List ℕ → Option (List (List ℕ))
+codes_for catalogue term form = option_map (λ rule. rule.codes) (rule_for catalogue term form)
+
+-- the term as the catalogue spells it
+abbrev pub spelled_for : Catalogue → Term → List ℕ → Option (List ℕ)
+spelled_for catalogue term form = option_map (λ rule. rule.spelled) (rule_for catalogue term form)
+
+abbrev pub has_form : Catalogue → List ℕ → Bool
+has_form catalogue form = is_among catalogue.forms form

@@ -1,0 +1,37 @@
+-- What the values of a catalogue may be, as TOML gives them.
+use Rattle.std.specs.Prelude.{ℕ, ◌&&◌, nat_le, Bool, List, [], ◌∷◌, length, Option, Some, None, option_map, option_and_then, if◌then◌else◌}
+use Rattle.std.specs.List.{list_all, list_any}
+use Rattle.std.specs.Str.{bytes_eq}
+use Rattle.toml.specs.Data.{Data, as_str, as_array, Items, no_items, item}
+use Rattle.desk_base.specs.Idstring.{is_idstring}
+use Rattle.desk_rows.specs.Texts.{is_shown}
+use Rattle.desk_catalogue.specs.declared.limits.TheConstants as limit
+
+-- a form, or the code of a duty: an idstring (SPDX 2.3, Annex D.2) of at most 64 bytes
+abbrev pub is_id : List ℕ → Bool
+is_id text = is_idstring text && nat_le (length text) limit.ID_BYTES
+
+-- a title: 1 to 256 bytes without control bytes
+abbrev pub is_title : List ℕ → Bool
+is_title text = nat_le 1 (length text) && nat_le (length text) limit.TITLE_BYTES && list_all is_shown text
+
+abbrev pub if_passes : (List ℕ → Bool) → List ℕ → Option (List ℕ)
+if_passes test text = if test text then Some text else None
+
+abbrev pub id_of : Data → Option (List ℕ)
+id_of d = option_and_then (if_passes is_id) (as_str d)
+
+abbrev pub title_of : Data → Option (List ℕ)
+title_of d = option_and_then (if_passes is_title) (as_str d)
+
+-- the texts of a list that holds nothing else
+abbrev pub strings : Items → Option (List (List ℕ))
+strings no_items = Some []
+strings (item d ds) = option_and_then (λ text. option_map (λ more. text ∷ more) (strings ds)) (as_str d)
+
+abbrev pub texts_of : Data → Option (List (List ℕ))
+texts_of d = option_and_then strings (as_array d)
+
+-- a text is among some
+abbrev pub is_among : List (List ℕ) → List ℕ → Bool
+is_among texts text = list_any (λ t. bytes_eq t text) texts

@@ -1,0 +1,78 @@
+//! The duties of a catalogue, of which the codes are kept.
+
+ghost use Rattle.std.specs.Prelude.{◌≡◌, IfOk, codes};
+ghost use Rattle.toml.specs.Data.{get_member};
+ghost use Rattle.toml.specs.View.{view, table_view, items_view};
+ghost use Rattle.desk_catalogue.specs.Reading.{each, duty_at, duties_of};
+ghost use Rattle.desk_catalogue.specs.Shown.{Gives, texts, texts_in, IsSetOf};
+
+use crate::entries::{place, tables_of};
+use crate::values::{id_of, member, title_of};
+use desk_rows::{CatalogueFault, CataloguePart};
+use std::alloc::{AllocError, Global};
+use std::collections::BTreeSet;
+use toml::{Table, Value};
+
+// The code of a duty.
+fn duty_at(value: &Value, index: u32) -> Result<&str, CatalogueFault>
+    ensures { Gives (duty_at index (view value.now)) (λ text. text.now) result }
+{
+    let Some(table) = value.as_table() else {
+        return Err(CatalogueFault::BadKind(CataloguePart::Duty, index));
+    };
+    let Some(code) = member(table, "code") else {
+        return Err(CatalogueFault::Missing(CataloguePart::Duty, index));
+    };
+    let Some(title) = member(table, "title") else {
+        return Err(CatalogueFault::Missing(CataloguePart::Duty, index));
+    };
+    let Some(code) = id_of(code) else {
+        return Err(CatalogueFault::BadKind(CataloguePart::Duty, index));
+    };
+    match title_of(title) {
+        Some(_) => Ok(code),
+        None => Err(CatalogueFault::BadKind(CataloguePart::Duty, index)),
+    }
+}
+
+// The codes of a list of duties.
+fn each_duty<'a>(
+    alloc: Global,
+    values: &'a [Value],
+) -> Result<Result<Vec<&'a str>, CatalogueFault>, AllocError>
+    ensures { IfOk result (Gives (each duty_at 0 (items_view values.now)) texts_in) }
+{
+    let mut duties = Vec::new(alloc);
+    for (i, value) in values.iter().enumerate() {
+        let index = place(i)?;
+        match duty_at(value, index) {
+            Ok(code) => duties.push(code)?,
+            Err(fault) => return Ok(Err(fault)),
+        }
+    }
+    Ok(Ok(duties))
+}
+
+/// The codes of the duties, as they are listed.
+pub(crate) fn duties_of(
+    alloc: Global,
+    table: &Table,
+) -> Result<Result<Vec<&str>, CatalogueFault>, AllocError>
+    ensures { IfOk result (Gives (duties_of (get_member (codes "duty") (table_view table.now))) texts_in) }
+{
+    match tables_of(table, "duty", CataloguePart::Duty) {
+        Ok(values) => each_duty(alloc, values),
+        Err(fault) => Ok(Err(fault)),
+    }
+}
+
+/// The set of some texts.
+pub(crate) fn set_of<'a>(alloc: Global, listed: &[&'a str]) -> Result<BTreeSet<&'a str>, AllocError>
+    ensures { IfOk result (IsSetOf (texts listed.now)) }
+{
+    let mut set = BTreeSet::new(alloc);
+    for text in listed {
+        set.insert(*text)?;
+    }
+    Ok(set)
+}

@@ -1,0 +1,39 @@
+//! The tables of a part of a catalogue.
+
+ghost use Rattle.std.specs.Prelude.{◌≡◌, IfOk};
+ghost use Rattle.toml.specs.Data.{get_member};
+ghost use Rattle.toml.specs.View.{table_view, items_view};
+ghost use Rattle.desk_catalogue.specs.Reading.{tables_of};
+ghost use Rattle.desk_catalogue.specs.Shown.{Gives};
+
+use crate::values::member;
+use desk_rows::{CatalogueFault, CataloguePart};
+use std::alloc::AllocError;
+use toml::{Table, Value};
+
+/// An index as faults name it. A text of 4 MiB has fewer entries than 32 bits count.
+pub(crate) fn place(index: usize) -> Result<u32, AllocError>
+    ensures { IfOk result (λ n. n ≡ index) }
+{
+    match u32::try_from(index) {
+        Ok(place) => Ok(place),
+        Err(_) => Err(AllocError),
+    }
+}
+
+/// The entries of a part; a part that is absent has none.
+pub(crate) fn tables_of<'a>(
+    table: &'a Table,
+    key: &str,
+    part: CataloguePart,
+) -> Result<&'a [Value], CatalogueFault>
+    ensures { Gives (tables_of part (get_member key.now (table_view table.now))) (λ values. items_view values.now) result }
+{
+    match member(table, key) {
+        None => Ok(&[]),
+        Some(value) => match value.as_array() {
+            Some(values) => Ok(values.as_slice()),
+            None => Err(CatalogueFault::BadKind(part, 0)),
+        },
+    }
+}

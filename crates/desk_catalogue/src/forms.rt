@@ -1,0 +1,71 @@
+//! The forms of a catalogue.
+
+ghost use Rattle.std.specs.Prelude.{◌≡◌, IfOk, Some, codes};
+ghost use Rattle.toml.specs.Data.{get_member};
+ghost use Rattle.toml.specs.View.{table_view, items_view};
+ghost use Rattle.desk_catalogue.specs.Reading.{each, form_at, is_form_count, forms_listed, forms_of};
+ghost use Rattle.desk_catalogue.specs.Shown.{Gives, texts_in};
+
+use crate::entries::place;
+use crate::limits;
+use crate::values::{id_of, member};
+use desk_rows::{CatalogueFault, CataloguePart};
+use std::alloc::{AllocError, Global};
+use toml::{Table, Value};
+
+// The forms of a list.
+fn each_form<'a>(
+    alloc: Global,
+    values: &'a [Value],
+) -> Result<Result<Vec<&'a str>, CatalogueFault>, AllocError>
+    ensures { IfOk result (Gives (each form_at 0 (items_view values.now)) texts_in) }
+{
+    let mut forms = Vec::new(alloc);
+    for (i, value) in values.iter().enumerate() {
+        match id_of(value) {
+            Some(form) => forms.push(form)?,
+            None => {
+                let index = place(i)?;
+                return Ok(Err(CatalogueFault::BadKind(CataloguePart::Forms, index)));
+            }
+        }
+    }
+    Ok(Ok(forms))
+}
+
+// Whether a catalogue may list so many forms.
+fn is_form_count(number: usize) -> bool
+    ensures { result ≡ is_form_count number }
+{
+    1 <= number && number <= limits::FORMS
+}
+
+// The forms of a list, where they are as many as there may be.
+fn forms_listed<'a>(
+    alloc: Global,
+    values: &'a [Value],
+) -> Result<Result<Vec<&'a str>, CatalogueFault>, AllocError>
+    ensures { IfOk result (Gives (forms_listed (Some (items_view values.now))) texts_in) }
+{
+    if is_form_count(values.len()) {
+        each_form(alloc, values)
+    } else {
+        Ok(Err(CatalogueFault::BadKind(CataloguePart::Forms, 0)))
+    }
+}
+
+/// The forms as they are listed.
+pub(crate) fn forms_of(
+    alloc: Global,
+    table: &Table,
+) -> Result<Result<Vec<&str>, CatalogueFault>, AllocError>
+    ensures { IfOk result (Gives (forms_of (get_member (codes "forms") (table_view table.now))) texts_in) }
+{
+    let Some(value) = member(table, "forms") else {
+        return Ok(Err(CatalogueFault::Missing(CataloguePart::Forms, 0)));
+    };
+    match value.as_array() {
+        Some(values) => forms_listed(alloc, values.as_slice()),
+        None => Ok(Err(CatalogueFault::BadKind(CataloguePart::Forms, 0))),
+    }
+}

@@ -1,0 +1,200 @@
+//! The rules of a catalogue.
+
+ghost use Rattle.std.specs.Prelude.{◌≡◌, ℕ, List, Option, IfOk, codes};
+ghost use Rattle.std.specs.List.{list_all, starts_with};
+ghost use Rattle.toml.specs.Data.{as_str, get_member};
+ghost use Rattle.toml.specs.View.{view, table_view, items_view};
+ghost use Rattle.desk_expr.specs.Words.{begins_like_reference};
+ghost use Rattle.desk_catalogue.specs.Terms.{ReadsTerms, licence_of};
+ghost use Rattle.desk_catalogue.specs.Values.{is_among, texts_of};
+ghost use Rattle.desk_catalogue.specs.Reading.{each, rule_texts, rule_written, rule_of, rule_at, rules_of};
+ghost use Rattle.desk_catalogue.specs.Shown.{Gives, texts, rule_texts_in, IsSetOf, Knows};
+
+use crate::entries::{place, tables_of};
+use crate::order::{is_among, sorted_set};
+use crate::values::{member, texts_of};
+use desk_base::Text;
+use desk_expr::{ParseFault, parse_term, print_term};
+use desk_rows::{CatalogueFault, CataloguePart, Rule};
+use std::alloc::{AllocError, Global};
+use std::collections::BTreeSet;
+use toml::{Table, Value};
+
+/// The texts of a rule.
+#[derive(Drop)]
+pub(crate) struct Written<'a> {
+    pub(crate) term: &'a str,
+    pub(crate) form: &'a str,
+    pub(crate) duties: Vec<&'a str>,
+}
+
+/// What rules may name: the forms, and the codes of duties.
+#[derive(Drop)]
+pub(crate) struct Known<'a> {
+    pub(crate) forms: Vec<&'a str>,
+    pub(crate) duties: BTreeSet<&'a str>,
+}
+
+// The texts of a rule, where each of its keys has a value of its kind.
+fn rule_written(
+    alloc: Global,
+    value: &Value,
+    index: u32,
+) -> Result<Result<Written<'_>, CatalogueFault>, AllocError>
+    ensures { IfOk result (Gives (rule_written index (view value.now)) rule_texts_in) }
+{
+    let Some(table) = value.as_table() else {
+        return Ok(Err(CatalogueFault::BadKind(CataloguePart::Rule, index)));
+    };
+    let Some(term) = member(table, "term") else {
+        return Ok(Err(CatalogueFault::Missing(CataloguePart::Rule, index)));
+    };
+    let Some(form) = member(table, "form") else {
+        return Ok(Err(CatalogueFault::Missing(CataloguePart::Rule, index)));
+    };
+    let Some(duties) = member(table, "duties") else {
+        return Ok(Err(CatalogueFault::Missing(CataloguePart::Rule, index)));
+    };
+    rule_texts(alloc, term, form, duties, index)
+}
+
+// The texts of a rule's keys.
+fn rule_texts<'a>(
+    alloc: Global,
+    term: &'a Value,
+    form: &'a Value,
+    duties: &'a Value,
+    index: u32,
+) -> Result<Result<Written<'a>, CatalogueFault>, AllocError>
+    ensures { IfOk result (Gives (rule_texts index (as_str (view term.now)) (as_str (view form.now)) (texts_of (view duties.now))) rule_texts_in) }
+{
+    let Some(term) = term.as_str() else {
+        return Ok(Err(CatalogueFault::BadKind(CataloguePart::Rule, index)));
+    };
+    let Some(form) = form.as_str() else {
+        return Ok(Err(CatalogueFault::BadKind(CataloguePart::Rule, index)));
+    };
+    match texts_of(alloc, duties)? {
+        Some(duties) => Ok(Ok(Written { term, form, duties })),
+        None => Ok(Err(CatalogueFault::BadKind(CataloguePart::Rule, index))),
+    }
+}
+
+// Whether a printed term is a reference.
+fn is_reference(printed: &str) -> bool
+    ensures { result ≡ begins_like_reference printed.now }
+{
+    let bytes = printed.as_bytes();
+    bytes.starts_with(b"LicenseRef-") || bytes.starts_with(b"DocumentRef-")
+}
+
+// The printed term of a text that spells one that is no reference.
+fn licence_of(alloc: Global, text: &str) -> Result<Option<Text>, AllocError>
+    ensures { (terms : List ℕ → Option (List ℕ)) → ReadsTerms terms → IfOk result (λ term. term ≡ licence_of terms text.now) }
+{
+    match parse_term(alloc, text) {
+        Ok(term) => {
+            let printed = print_term(alloc, &term)?;
+            if is_reference(printed.as_str()) {
+                return Ok(None);
+            }
+            let printed = Text::of(alloc, printed.as_str())?;
+            Ok(Some(printed))
+        }
+        Err(fault) => match fault {
+            ParseFault::Memory(error) => Err(error),
+            _ => Ok(None),
+        },
+    }
+}
+
+// Whether each code is one of a duty.
+fn are_duties(listed: &[&str], duties: &BTreeSet<&str>) -> bool
+    ensures { (known : List (List ℕ)) → IsSetOf known duties.now → result ≡ list_all (is_among known) (texts listed.now) }
+{
+    for code in listed {
+        if !duties.contains(*code) {
+            return false;
+        }
+    }
+    true
+}
+
+// The rule of a term, where its form and its codes are known.
+fn rule_of(
+    alloc: Global,
+    known: &Known<'_>,
+    index: u32,
+    written: Written<'_>,
+    term: Text,
+) -> Result<Result<Rule, CatalogueFault>, AllocError>
+    ensures { (forms duties : List (List ℕ)) → Knows forms duties known.now → IfOk result (λ rule. rule ≡ rule_of forms duties index (rule_texts_in written.entry) term) }
+{
+    if !is_among(known.forms.as_slice(), written.form) {
+        return Ok(Err(CatalogueFault::UnknownForm(CataloguePart::Rule, index)));
+    }
+    if !are_duties(written.duties.as_slice(), &known.duties) {
+        return Ok(Err(CatalogueFault::UnknownDuty(CataloguePart::Rule, index)));
+    }
+    let form = Text::of(alloc, written.form)?;
+    let spelled = Text::of(alloc, written.term)?;
+    let codes = sorted_set(alloc, written.duties)?;
+    Ok(Ok(Rule {
+        term,
+        form,
+        spelled,
+        codes,
+    }))
+}
+
+// The rule of a table.
+fn rule_at(
+    alloc: Global,
+    known: &Known<'_>,
+    index: u32,
+    value: &Value,
+) -> Result<Result<Rule, CatalogueFault>, AllocError>
+    ensures { (terms : List ℕ → Option (List ℕ)) → ReadsTerms terms → (forms duties : List (List ℕ)) → Knows forms duties known.now → IfOk result (λ rule. rule ≡ rule_at terms forms duties index (view value.now)) }
+{
+    let written = match rule_written(alloc, value, index)? {
+        Ok(written) => written,
+        Err(fault) => return Ok(Err(fault)),
+    };
+    match licence_of(alloc, written.term)? {
+        Some(term) => rule_of(alloc, known, index, written, term),
+        None => Ok(Err(CatalogueFault::BadTerm(CataloguePart::Rule, index))),
+    }
+}
+
+// The rules of a list, in its order.
+fn each_rule(
+    alloc: Global,
+    known: &Known<'_>,
+    values: &[Value],
+) -> Result<Result<Vec<Rule>, CatalogueFault>, AllocError>
+    ensures { (terms : List ℕ → Option (List ℕ)) → ReadsTerms terms → (forms duties : List (List ℕ)) → Knows forms duties known.now → IfOk result (Gives (each (rule_at terms forms duties) 0 (items_view values.now)) (λ rules. rules.items)) }
+{
+    let mut rules = Vec::new(alloc);
+    for (i, value) in values.iter().enumerate() {
+        let index = place(i)?;
+        match rule_at(alloc, known, index, value)? {
+            Ok(rule) => rules.push(rule)?,
+            Err(fault) => return Ok(Err(fault)),
+        }
+    }
+    Ok(Ok(rules))
+}
+
+/// The rules, as they are listed.
+pub(crate) fn rules_of(
+    alloc: Global,
+    known: &Known<'_>,
+    table: &Table,
+) -> Result<Result<Vec<Rule>, CatalogueFault>, AllocError>
+    ensures { (terms : List ℕ → Option (List ℕ)) → ReadsTerms terms → (forms duties : List (List ℕ)) → Knows forms duties known.now → IfOk result (Gives (rules_of terms forms duties (get_member (codes "rule") (table_view table.now))) (λ rules. rules.items)) }
+{
+    match tables_of(table, "rule", CataloguePart::Rule) {
+        Ok(values) => each_rule(alloc, known, values),
+        Err(fault) => Ok(Err(fault)),
+    }
+}

@@ -1,0 +1,89 @@
+//! The values of a catalogue's tables.
+
+ghost use Rattle.std.specs.Prelude.{◌≡◌, IfOk, option_map, map};
+ghost use Rattle.std.specs.List.{list_all};
+ghost use Rattle.toml.specs.Data.{get_member};
+ghost use Rattle.toml.specs.View.{view, table_view, items_view};
+ghost use Rattle.desk_rows.specs.Texts.{is_shown};
+ghost use Rattle.desk_catalogue.specs.Values.{is_id, is_title, id_of, title_of, strings, texts_of};
+
+use crate::limits;
+use desk_base::is_idstring_of_bytes;
+use std::alloc::{AllocError, Global};
+use toml::{Table, Value};
+
+/// The value at a key.
+pub(crate) fn member<'a>(table: &'a Table, key: &str) -> Option<&'a Value>
+    ensures { option_map (λ v. view v.now) result ≡ get_member key.now (table_view table.now) }
+{
+    table.get(key)
+}
+
+fn is_id(text: &str) -> bool
+    ensures { result ≡ is_id text.now }
+{
+    is_idstring_of_bytes(text.as_bytes()) && text.len() <= limits::ID_BYTES
+}
+
+// Whether the byte is no control byte.
+fn is_shown(byte: u8) -> bool
+    ensures { result ≡ is_shown byte }
+{
+    byte >= 32 && byte != 127
+}
+
+// Whether no byte is a control byte.
+fn are_shown(bytes: &[u8]) -> bool
+    ensures { result ≡ list_all is_shown bytes.now }
+{
+    bytes.iter().all(|byte| is_shown(*byte))
+}
+
+fn is_title(text: &str) -> bool
+    ensures { result ≡ is_title text.now }
+{
+    1 <= text.len() && text.len() <= limits::TITLE_BYTES && are_shown(text.as_bytes())
+}
+
+/// The idstring of a form or of a duty's code.
+pub(crate) fn id_of(value: &Value) -> Option<&str>
+    ensures { option_map (λ text. text.now) result ≡ id_of (view value.now) }
+{
+    match value.as_str() {
+        Some(text) if is_id(text) => Some(text),
+        _ => None,
+    }
+}
+
+/// The title of a duty.
+pub(crate) fn title_of(value: &Value) -> Option<&str>
+    ensures { option_map (λ text. text.now) result ≡ title_of (view value.now) }
+{
+    match value.as_str() {
+        Some(text) if is_title(text) => Some(text),
+        _ => None,
+    }
+}
+
+fn strings<'a>(alloc: Global, values: &'a [Value]) -> Result<Option<Vec<&'a str>>, AllocError>
+    ensures { IfOk result (λ r. option_map (λ v. map (λ text. text.now) v.items) r ≡ strings (items_view values.now)) }
+{
+    let mut texts = Vec::new(alloc);
+    for value in values {
+        match value.as_str() {
+            Some(text) => texts.push(text)?,
+            None => return Ok(None),
+        }
+    }
+    Ok(Some(texts))
+}
+
+/// The texts of a list that holds nothing else.
+pub(crate) fn texts_of(alloc: Global, value: &Value) -> Result<Option<Vec<&str>>, AllocError>
+    ensures { IfOk result (λ r. option_map (λ v. map (λ text. text.now) v.items) r ≡ texts_of (view value.now)) }
+{
+    match value.as_array() {
+        Some(values) => strings(alloc, values.as_slice()),
+        None => Ok(None),
+    }
+}
