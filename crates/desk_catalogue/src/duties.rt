@@ -6,7 +6,7 @@ ghost use Rattle.toml.specs.View.{view, table_view, items_view};
 ghost use Rattle.desk_catalogue.specs.Reading.{each, duty_at, duties_of};
 ghost use Rattle.desk_catalogue.specs.Shown.{Gives, texts, texts_in, IsSetOf};
 
-use crate::entries::{place, tables_of};
+use crate::entries::tables_of;
 use crate::values::{id_of, member, title_of};
 use desk_rows::{CatalogueFault, CataloguePart};
 use std::alloc::{AllocError, Global};
@@ -14,7 +14,7 @@ use std::collections::BTreeSet;
 use toml::{Table, Value};
 
 // The code of a duty.
-fn duty_at(value: &Value, index: u32) -> Result<&str, CatalogueFault>
+fn duty_at(value: &Value, index: usize) -> Result<&str, CatalogueFault>
     ensures { Gives (duty_at index (view value.now)) (λ text. text.now) result }
 {
     let Some(table) = value.as_table() else {
@@ -44,8 +44,7 @@ fn each_duty<'a>(
 {
     let mut duties = Vec::new(alloc);
     for (i, value) in values.iter().enumerate() {
-        let index = place(i)?;
-        match duty_at(value, index) {
+        match duty_at(value, i) {
             Ok(code) => duties.push(code)?,
             Err(fault) => return Ok(Err(fault)),
         }

@@ -1,6 +1,6 @@
 //! The tables of a part of a catalogue.
 
-ghost use Rattle.std.specs.Prelude.{◌≡◌, IfOk};
+ghost use Rattle.std.specs.Prelude.{◌≡◌};
 ghost use Rattle.toml.specs.Data.{get_member};
 ghost use Rattle.toml.specs.View.{table_view, items_view};
 ghost use Rattle.desk_catalogue.specs.Reading.{tables_of};
@@ -8,18 +8,7 @@ ghost use Rattle.desk_catalogue.specs.Shown.{Gives};
 
 use crate::values::member;
 use desk_rows::{CatalogueFault, CataloguePart};
-use std::alloc::AllocError;
 use toml::{Table, Value};
-
-/// An index as faults name it. A text of 4 MiB has fewer entries than 32 bits count.
-pub(crate) fn place(index: usize) -> Result<u32, AllocError>
-    ensures { IfOk result (λ n. n ≡ index) }
-{
-    match u32::try_from(index) {
-        Ok(place) => Ok(place),
-        Err(_) => Err(AllocError),
-    }
-}
 
 /// The entries of a part; a part that is absent has none.
 pub(crate) fn tables_of<'a>(

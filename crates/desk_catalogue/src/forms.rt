@@ -6,7 +6,6 @@ ghost use Rattle.toml.specs.View.{table_view, items_view};
 ghost use Rattle.desk_catalogue.specs.Reading.{each, form_at, is_form_count, forms_listed, forms_of};
 ghost use Rattle.desk_catalogue.specs.Shown.{Gives, texts_in};
 
-use crate::entries::place;
 use crate::limits;
 use crate::values::{id_of, member};
 use desk_rows::{CatalogueFault, CataloguePart};
@@ -25,8 +24,7 @@ fn each_form<'a>(
         match id_of(value) {
             Some(form) => forms.push(form)?,
             None => {
-                let index = place(i)?;
-                return Ok(Err(CatalogueFault::BadKind(CataloguePart::Forms, index)));
+                return Ok(Err(CatalogueFault::BadKind(CataloguePart::Forms, i)));
             }
         }
     }

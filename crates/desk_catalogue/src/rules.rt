@@ -10,7 +10,7 @@ ghost use Rattle.desk_catalogue.specs.Values.{is_among, texts_of};
 ghost use Rattle.desk_catalogue.specs.Reading.{each, rule_texts, rule_written, rule_of, rule_at, rules_of};
 ghost use Rattle.desk_catalogue.specs.Shown.{Gives, texts, rule_texts_in, IsSetOf, Knows};
 
-use crate::entries::{place, tables_of};
+use crate::entries::tables_of;
 use crate::order::{is_among, sorted_set};
 use crate::values::{member, texts_of};
 use desk_base::Text;
@@ -39,7 +39,7 @@ pub(crate) struct Known<'a> {
 fn rule_written(
     alloc: Global,
     value: &Value,
-    index: u32,
+    index: usize,
 ) -> Result<Result<Written<'_>, CatalogueFault>, AllocError>
     ensures { IfOk result (Gives (rule_written index (view value.now)) rule_texts_in) }
 {
@@ -64,7 +64,7 @@ fn rule_texts<'a>(
     term: &'a Value,
     form: &'a Value,
     duties: &'a Value,
-    index: u32,
+    index: usize,
 ) -> Result<Result<Written<'a>, CatalogueFault>, AllocError>
     ensures { IfOk result (Gives (rule_texts index (as_str (view term.now)) (as_str (view form.now)) (texts_of (view duties.now))) rule_texts_in) }
 {
@@ -124,7 +124,7 @@ fn are_duties(listed: &[&str], duties: &BTreeSet<&str>) -> bool
 fn rule_of(
     alloc: Global,
     known: &Known<'_>,
-    index: u32,
+    index: usize,
     written: Written<'_>,
     term: Text,
 ) -> Result<Result<Rule, CatalogueFault>, AllocError>
@@ -151,7 +151,7 @@ fn rule_of(
 fn rule_at(
     alloc: Global,
     known: &Known<'_>,
-    index: u32,
+    index: usize,
     value: &Value,
 ) -> Result<Result<Rule, CatalogueFault>, AllocError>
     ensures { (terms : List ℕ → Option (List ℕ)) → ReadsTerms terms → (forms duties : List (List ℕ)) → Knows forms duties known.now → IfOk result (λ rule. rule ≡ rule_at terms forms duties index (view value.now)) }
@@ -176,8 +176,7 @@ fn each_rule(
 {
     let mut rules = Vec::new(alloc);
     for (i, value) in values.iter().enumerate() {
-        let index = place(i)?;
-        match rule_at(alloc, known, index, value)? {
+        match rule_at(alloc, known, i, value)? {
             Ok(rule) => rules.push(rule)?,
             Err(fault) => return Ok(Err(fault)),
         }
