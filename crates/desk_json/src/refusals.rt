@@ -63,7 +63,7 @@ fn expression_fault(alloc: Global, fault: &ExpressionFault) -> Result<Value, All
     numbers(alloc, fault.number(), place_of(fault) as u64)
 }
 
-fn number_line_and_tag(alloc: Global, number: u8, line: u32, tag: &str) -> Result<Value, AllocError>
+fn number_line_and_tag(alloc: Global, number: u8, line: u64, tag: &str) -> Result<Value, AllocError>
     ensures { IfOk result (λ v. view v ≡ list (whole number ∷ whole line ∷ string tag.now ∷ [])) }
 {
     json!(in alloc; [number, line, tag])
@@ -85,7 +85,7 @@ fn document_fault(alloc: Global, fault: &DocumentFault) -> Result<Value, AllocEr
         | DocumentFault::BadId(line)
         | DocumentFault::DuplicateId(line)
         | DocumentFault::BadRelationship(line)
-        | DocumentFault::TooManyElements(line) => numbers(alloc, number, u64::from(*line)),
+        | DocumentFault::TooManyElements(line) => numbers(alloc, number, *line),
     }
 }
 
@@ -93,11 +93,12 @@ fn number_part_and_index(
     alloc: Global,
     number: u8,
     part: &CataloguePart,
-    index: u32,
+    index: usize,
 ) -> Result<Value, AllocError>
     ensures { IfOk result (λ v. view v ≡ list (whole number ∷ string (part_name part.now) ∷ whole index ∷ [])) }
 {
     let part = part.name();
+    let index = index as u64;
     json!(in alloc; [number, part, index])
 }
 
