@@ -14,7 +14,7 @@ abbrev pub list : List Data → Data
 list ds = array (items_of ds)
 
 -- The day of a line as it is written. It is empty where a line has no day, which no history gives, and where bytes are no text, which
--- no day is.
+-- no written day is.
 abbrev pub day_text : Option (List ℕ) → List ℕ
 day_text None = []
 day_text (Some day) = if is_utf8 day then day else []

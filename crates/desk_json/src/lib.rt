@@ -1,4 +1,29 @@
 //! Requests and replies of the desk as JSON (RFC 8259), read and written by `serde_json`.
+//!
+//! A request is one JSON object with exactly the members of its form: `do` and the name of a command, or `ask` and the name of a
+//! query, and the values that it needs.
+//!
+//! | `do` | Other members |
+//! |---|---|
+//! | `catalogue`, `import` | `text` |
+//! | `open` | `release`, `form` |
+//! | `attach` | `release`, `document` |
+//! | `choose` | `release`, `document`, `package`, `terms` |
+//! | `freeze` | `release`, `day` |
+//! | `meet` | `duty`, `day`, `text` |
+//!
+//! | `ask` | Other members |
+//! |---|---|
+//! | `duties`, `totals` | `release` |
+//!
+//! `document` and `duty` are whole numbers from 0 to 9,223,372,036,854,775,807, `terms` is a list of texts, the others are texts.
+//! Anything else is `Request::BadCommand`. What a text, a day or a name may be is not looked at here: the desk decides that.
+//!
+//! - `read_command` gives the request that the bytes are, which is a function of the bytes: `request_in` of `specs/Requests.antt`.
+//! - `reply_line` gives the text of the reply to an outcome: `reply_text` of `specs/Replies.antt`. It is compact, the keys of each
+//!   object stand in the order of their bytes, and it has no line end.
+//!
+//! Want of memory is the only error of both.
 #![tactic(auto)]
 
 mod fields;
@@ -11,6 +36,7 @@ mod rows;
 pub use reading::read_command;
 pub use replies::{bad_command_line, memory_line, reply_line};
 pub use request::Request;
+pub use rows::written_days_are_told;
 
 #[cfg(test)]
 mod reply_tests;

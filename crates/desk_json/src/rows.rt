@@ -1,7 +1,8 @@
 //! The rows of answers as JSON.
 
-ghost use Rattle.std.specs.Prelude.{◌≡◌, IfOk, map};
+ghost use Rattle.std.specs.Prelude.{◌≡◌, ℕ, List, IfOk, IsTrue, map};
 ghost use Rattle.serde_json.specs.View.{view, items_view, items_of};
+ghost use Rattle.desk_base.specs.Day.{is_day};
 ghost use Rattle.desk_json.specs.Parts.{day_text, duty_row, totals_row};
 
 use desk_base::Day;
@@ -60,3 +61,8 @@ pub(crate) fn totals_row(alloc: Global, totals: &Totals) -> Result<Value, AllocE
     } = *totals;
     json!(in alloc; [raised, still_open, met, waived, withdrawn])
 }
+
+/// A written day stands in the row of its duty as it is written: its bytes are text.
+pub fn written_days_are_told()
+    ensures { (day : List ℕ) → IsTrue (is_day day) → day_text (Some day) ≡ day }
+{}
