@@ -13,11 +13,13 @@
 
 mod fault;
 mod scan;
+mod scanner;
 mod tag;
 mod text;
 
 pub use fault::DocFault;
-pub use scan::{Field, fields, one_reading};
+pub use scan::Field;
+pub use scanner::{Scanner, fields, one_reading};
 pub use tag::Tag;
 pub use text::{skip_blanks, split_word};
 

@@ -72,7 +72,7 @@ pub(crate) fn snippets<'a>(
     for entry in entries {
         if entry.tag.is(Tag::SnippetIdentifier) {
             found.push(Snippet {
-                line: entry.line,
+                line: u64::from(entry.line),
                 id: entry.value,
             })?;
         }
