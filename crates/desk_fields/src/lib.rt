@@ -6,6 +6,7 @@
 //!
 //! - the definition `Reads` of `specs/Cutting.antt` holds the cutting, the fields and the fault;
 //! - `one_reading` says that a text has only one;
+//! - a `Scanner` gives the same field by field, and takes no memory (`specs/NextField.antt`);
 //! - `Tag` says which fields are read, and `DocFault` why bytes are no document.
 //!
 //! Lines are numbered from 1. Each tag and each value is a slice of the text.

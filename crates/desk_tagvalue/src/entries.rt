@@ -8,6 +8,7 @@ ghost use Rattle.desk_tagvalue.specs.Documents.{limit};
 ghost use Rattle.desk_tagvalue.specs.Entries.{AreEntries, entry_text, read_entry, value_text, value_of};
 
 use desk_fields::{DocFault, Field, Scanner, Tag};
+use memchr::memchr_iter;
 use std::alloc::Global;
 
 /// A field whose tag is read.
@@ -33,23 +34,16 @@ fn entry_of<'a>(field: &Field<'a>) -> Entry<'a>
     }
 }
 
-fn count_of(bytes: &[u8], byte: u8) -> usize
-    ensures { result ≤ length bytes.now }
-{
-    bytes.iter().filter(|b| **b == byte).count()
-}
-
-// How many fields a text has at most. Each has a line, a colon and three bytes, of which only the last may lack its line's end.
+// How many fields a text has at most: each has a line and three bytes, of which the last alone may lack its line's end.
 fn most_fields(text: &str) -> usize
     ensures { result ≤ length text.now / 3 + 1 }
 {
     let bytes = text.as_bytes();
-    let colons = count_of(bytes, b':');
-    let ends = count_of(bytes, b'\n');
-    colons.min(ends + 1).min(bytes.len() / 3 + 1)
+    let ends = memchr_iter(b'\n', bytes).count();
+    (ends + 1).min(bytes.len() / 3 + 1)
 }
 
-/// All fields of a text with their tags read. Room for them is taken once.
+/// All fields of a text with their tags read. Room for the most of them is taken once, and what they don't need given back.
 pub(crate) fn entries_of<'a>(alloc: Global, text: &'a str) -> Result<Vec<Entry<'a>>, DocFault>
     requires { length text.now ≤ limit }
     ensures ok { IfOk result (λ v. AreEntries text.now (map entry_text v.items)) }
@@ -62,6 +56,7 @@ pub(crate) fn entries_of<'a>(alloc: Global, text: &'a str) -> Result<Vec<Entry<'
             Err(fault) => return Err(fault),
         }
     }
+    entries.shrink_to_fit();
     Ok(entries)
 }
 

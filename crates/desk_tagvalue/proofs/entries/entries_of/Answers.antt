@@ -30,4 +30,4 @@ returns-clause-ok c =
     let it = c.loop-field.field-iterator in
     let step = c.in-None.ensures.steps in
     let old = c.loop-field.invariant in
-    (old.1, rw append-nil at (old.3 (Ok []) (reads_end it.line it.rest.now step.0 step.1)), old.2)
+    (old.1, rw append-nil at (old.3 (Ok []) (reads_end it.line it.rest.now step.0 step.1)), ap (map entry_text) c.shrink_to_fit.ensures.items ∙ old.2)
