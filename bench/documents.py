@@ -4,7 +4,9 @@
 `python3 bench/documents.py PROGRAM FOLDER`: PROGRAM is desk_documents_bench as LLVM builds it (`rt run` in its crate leaves it in `out/`).
 The peak is that of the whole process behind one reading, the document itself included, as a multiple of the document's bytes; what the
 process takes with an empty document is left out."""
+import itertools
 import os
+import string
 import subprocess
 import sys
 import time
@@ -30,6 +32,14 @@ def many():
         yield f"Relationship: SPDXRef-F{k % 10000} DEPENDS_ON SPDXRef-F{k * 7 % 10000}\n"
 
 
+def short_packages():
+    """Packages of as few bytes as there may be, which take the most memory for their bytes."""
+    digits = string.ascii_letters + string.digits + "-."
+    short = ["".join(word) for length in (1, 2, 3) for word in itertools.product(digits, repeat=length)]
+    for name in short[:9999]:
+        yield f"PackageName:\nSPDXID:SPDXRef-{name}\n"
+
+
 LIMIT = 4 << 20
 
 
@@ -43,6 +53,7 @@ DOCUMENTS = {
     "packages-2": lambda: packages(5000),
     "packages-4": lambda: packages(9900),
     "many-edges": many,
+    "short-ones": short_packages,
     "three-bytes": lambda: full("A:\n"),
     "four-bytes": lambda: full("a:b\n"),
     "edges-alone": lambda: full("Relationship:SPDXRef-a A NONE\n"),
