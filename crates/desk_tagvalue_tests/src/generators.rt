@@ -209,9 +209,24 @@ fn expect_package(rt: &impl Abort, package: &Package, want: &Package) {
     assert_eq!(rt; package.name, want.name);
     assert_eq!(rt; package.id, want.id);
     assert_eq!(rt; package.version, want.version, "{}", want.name);
-    assert_eq!(rt; package.download_location, want.download_location, "{}", want.name);
-    assert_eq!(rt; package.files_analyzed, want.files_analyzed, "{}", want.name);
-    assert_eq!(rt; package.verification_code, want.verification_code, "{}", want.name);
+    assert_eq!(rt;
+        package.download_location,
+        want.download_location,
+        "{}",
+        want.name
+    );
+    assert_eq!(rt;
+        package.files_analyzed,
+        want.files_analyzed,
+        "{}",
+        want.name
+    );
+    assert_eq!(rt;
+        package.verification_code,
+        want.verification_code,
+        "{}",
+        want.name
+    );
     assert_eq!(rt; package.concluded, want.concluded, "{}", want.name);
     assert_eq!(rt; package.declared, want.declared, "{}", want.name);
     assert_eq!(rt; package.copyright, want.copyright, "{}", want.name);
@@ -296,7 +311,9 @@ const WICK: Package = Package {
     verification_code: None,
     concluded: Some("NOASSERTION"),
     declared: Some("(Apache-2.0 OR LicenseRef-Lantern-Terms) AND LicenseRef-wick-notice"),
-    copyright: Some("Copyright (c) 2021-2024 Lantern\nCopyright (c) 2020 B. Burner: all rights reserved"),
+    copyright: Some(
+        "Copyright (c) 2021-2024 Lantern\nCopyright (c) 2020 B. Burner: all rights reserved",
+    ),
 };
 
 const CONFIGURATION: FileEntry = FileEntry {
@@ -329,7 +346,8 @@ const TERMS: &str = "Lantern Terms, version 2
 fn reads_a_scanner_of_container_images(rt: HostRuntime) -> Result<(), Fail> {
     let document = read(rt.alloc(), SCANNER.as_bytes())?;
     assert_eq!(rt; document.name, "registry.example.org/lantern");
-    let namespace = "https://example.org/sbom/image/registry.example.org/lantern-0d9b6c1e-52a7-4f43-8a53-6d5f0a1b7c22";
+    let namespace =
+        "https://example.org/sbom/image/registry.example.org/lantern-0d9b6c1e-52a7-4f43-8a53-6d5f0a1b7c22";
     assert_eq!(rt; document.namespace, namespace);
     expect_packages(&rt, &document, &[MUSL, LANTERND, WICK]);
     expect_files(&rt, &document, &[CONFIGURATION, DAEMON]);
@@ -343,7 +361,11 @@ fn reads_a_scanner_of_container_images(rt: HostRuntime) -> Result<(), Fail> {
     expect_edges(&rt, &document, &edges);
     let extracted = [
         (88, "LicenseRef-Lantern-Terms", TERMS),
-        (99, "LicenseRef-wick-notice", "Keep this notice\nwith the wick."),
+        (
+            99,
+            "LicenseRef-wick-notice",
+            "Keep this notice\nwith the wick.",
+        ),
     ];
     expect_extracted(&rt, &document, &extracted);
     assert_eq!(rt; document.snippets.as_slice().len(), 0);
@@ -408,19 +430,30 @@ fn reads_a_maker_of_builds(rt: HostRuntime) -> Result<(), Fail> {
     let text = with_carriage_returns(rt.alloc(), BUILD)?;
     let document = read(rt.alloc(), text.as_bytes())?;
     assert_eq!(rt; document.name, "pump.spdx");
-    assert_eq!(rt; document.namespace, "http://spdx.org/spdxdocs/pump-4c2e-8a1b2c3d");
+    assert_eq!(rt;
+        document.namespace,
+        "http://spdx.org/spdxdocs/pump-4c2e-8a1b2c3d"
+    );
     expect_packages(&rt, &document, &[SOURCES, PROGRAM]);
     expect_files(&rt, &document, &[MAIN, QUEUE, VERSION]);
     let edges = [
         (13, "SPDXRef-DOCUMENT", "DESCRIBES", SOURCES.id),
         (53, VERSION.id, "GENERATED_FROM", MAIN.id),
         (65, PROGRAM.id, "GENERATED_FROM", SOURCES.id),
-        (67, PROGRAM.id, "STATIC_LINK", "DocumentRef-sdk:SPDXRef-libdriver"),
+        (
+            67,
+            PROGRAM.id,
+            "STATIC_LINK",
+            "DocumentRef-sdk:SPDXRef-libdriver",
+        ),
         (68, SOURCES.id, "CONTAINS", QUEUE.id),
     ];
     expect_edges(&rt, &document, &edges);
     expect_extracted(&rt, &document, &[]);
     let tags = document.entries.as_slice().iter();
-    assert_eq!(rt; tags.filter(|entry| entry.tag == Tag::FileLicense).count(), 5);
+    assert_eq!(rt;
+        tags.filter(|entry| entry.tag == Tag::FileLicense).count(),
+        5
+    );
     Ok(())
 }
