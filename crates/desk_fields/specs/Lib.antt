@@ -4,3 +4,4 @@ pub mod Text
 pub mod Pieces
 pub mod Cutting
 pub mod Found
+pub mod NextField

@@ -6,6 +6,7 @@
 //!
 //! - the definition `Reads` of `specs/Cutting.antt` holds the cutting, the fields and the fault;
 //! - `one_reading` says that a text has only one;
+//! - a `Scanner` gives the same field by field, and takes no memory (`specs/NextField.antt`);
 //! - `Tag` says which fields are read, and `DocFault` why bytes are no document.
 //!
 //! Lines are numbered from 1. Each tag and each value is a slice of the text.
@@ -13,11 +14,13 @@
 
 mod fault;
 mod scan;
+mod scanner;
 mod tag;
 mod text;
 
 pub use fault::DocFault;
-pub use scan::{Field, fields, one_reading};
+pub use scan::Field;
+pub use scanner::{Scanner, fields, one_reading};
 pub use tag::Tag;
 pub use text::{skip_blanks, split_word};
 

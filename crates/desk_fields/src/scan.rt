@@ -1,16 +1,16 @@
-//! The pieces of a text, and its fields.
+//! The pieces of a text.
 
 ghost use Rattle.std.specs.Prelude.{◌≡◌, ◌≢◌, ◌+◌, ◌≤◌, ◌<◌, ◌^◌, ◌==◌, ℕ, List, ◌++◌, ◌∷◌, length, take, drop, count_by, codes, All, IsTrue, IfOk, IfErr, IfSome, IfNone, None, Some, Ok, Err, false, true, map, slice_index, ◌⊎◌, IsUtf8, Result};
 ghost use Rattle.desk_fields.specs.declared.fault.DocFault.{DocFault};
 ghost use Rattle.desk_base.specs.Lines.{IsLine};
 ghost use Rattle.desk_fields.specs.Text.{trimmed, skip_blanks};
 ghost use Rattle.desk_fields.specs.Pieces.{is_bare, IsTagged, Opens, opened, AllBlank, NoLf, IsFirstEnd};
-ghost use Rattle.desk_fields.specs.Cutting.{Fails, Reads, behind_mark, FieldText};
-ghost use Rattle.desk_fields.specs.Found.{IsFound, field_text};
+ghost use Rattle.desk_fields.specs.Cutting.{Fails};
+ghost use Rattle.desk_fields.specs.Found.{IsFound};
+ghost use Rattle.desk_fields.specs.NextField.{Reaches, FailsNext};
 
 use crate::DocFault;
 use crate::text::{first_line, skip_blanks, trimmed};
-use std::alloc::Global;
 
 /// A field of a document.
 #[derive(Debug, Clone, Copy)]
@@ -166,39 +166,27 @@ fn first_piece<'a>(text: &'a str, line: u64) -> Result<Found<'a>, DocFault>
     })
 }
 
-// The text without a byte order mark at its start.
-fn behind_mark(text: &str) -> &str
-    ensures { result.now ≡ behind_mark text.now }
+// The first field of a text and where the text goes on behind it, or where the text ends without one.
+pub(crate) fn first_field<'a>(text: &'a str, line: u64) -> Result<Found<'a>, DocFault>
+    requires room { line + length text.now < 2 ^ 64 }
+    ensures ok { IfOk result (λ f. Reaches line text.now f.field f.line f.rest.now) }
+    ensures ends { IfOk result (λ f. IfNone f.field (length f.rest.now ≡ 0)) }
+    ensures room { IfOk result (λ f. f.line + length f.rest.now ≤ line + length text.now) }
+    ensures less { IfOk result (λ f. IfSome f.field (λ _. length f.rest.now < length text.now)) }
+    ensures utf8 { IfOk result (λ f. IsUtf8 f.rest.now) }
+    ensures err { IfErr result (λ e. FailsNext line text.now e) }
+    ensures some { IfErr result (λ _. 0 < length text.now) }
 {
-    match text.strip_prefix("\u{feff}") {
-        Some(rest) => rest,
-        None => text,
-    }
-}
-
-/// The fields of a text, each with the line on which it begins.
-pub fn fields<'a>(alloc: Global, text: &'a str) -> Result<Vec<Field<'a>>, DocFault>
-    ensures ok { IfOk result (λ v. Reads 1 (behind_mark text.now) (Ok (map field_text v.items))) }
-    ensures err { IfErr result (λ e. (e ≡ DocFault.Memory) ⊎ Reads 1 (behind_mark text.now) (Err e)) }
-{
-    let mut rest = behind_mark(text);
-    let mut line = 1;
-    let mut found = Vec::new(alloc);
-    while !rest.is_empty() {
-        let piece = match first_piece(rest, line) {
+    let mut found = Found {
+        field: None,
+        rest: text,
+        line,
+    };
+    while found.field.is_none() && !found.rest.is_empty() {
+        found = match first_piece(found.rest, found.line) {
             Ok(piece) => piece,
             Err(fault) => return Err(fault),
         };
-        if let Some(field) = piece.field {
-            found.push(field)?;
-        }
-        rest = piece.rest;
-        line = piece.line;
     }
     Ok(found)
 }
-
-/// A text is read in one way: as one list of fields, or with one fault.
-pub fn one_reading()
-    ensures { (text : List ℕ) (a b : Result (List FieldText) DocFault) → Reads 1 text a → Reads 1 text b → a ≡ b }
-{}

@@ -1,29 +1,32 @@
 -- Bytes spell one document.
-use Rattle.std.proofs.Common.{◌≡◌, ◌∙◌, ℕ, ◌<◌, ◌≤◌, List, [], ◌∷◌, length, sym, subst, ap, refl, arith, Bool, true, false, cond, Option, Some, None, Result, Ok, Err, ◌⊎◌, inl, inr, IsUtf8}
+use Rattle.std.proofs.Common.{◌≡◌, ◌∙◌, ℕ, ◌<◌, ◌≤◌, List, [], ◌∷◌, ◌++◌, length, sym, subst, ap, refl, arith, Bool, true, false, cond, Option, Some, None, Result, Ok, Err, ◌⊎◌, inl, inr, IsUtf8}
 use Rattle.std.specs.Prelude.{map, not, ◌&&◌, IfOk, IfErr}
 use Rattle.desk_fields.specs.declared.tag.Tag.TheVariants as tags
 use Rattle.desk_fields.specs.Tags.{same_tag}
 use Rattle.desk_tagvalue.specs.Relationships.{is_relationship}
 use Rattle.desk_fields.specs.declared.fault.DocFault.{DocFault}
 use Rattle.desk_fields.specs.declared.fault.DocFault.TheVariants as faults
-use Rattle.desk_fields.specs.declared.scan.Field.{Field}
 use Rattle.desk_fields.specs.Cutting.{Reads, done, more, fails, Fails, FieldText, behind_mark, with_piece, line_after}
 use Rattle.desk_fields.specs.Pieces.{Piece}
-use Rattle.desk_fields.specs.Found.{field_text}
 use Rattle.desk_fields.proofs.OneReading.{reads_once}
+use Rattle.std.proofs.lemmas.List.{map-append}
 use Rattle.desk_tagvalue.specs.declared.entries.Entry.{Entry}
 use Rattle.desk_tagvalue.specs.declared.reading.Document.{Document}
-use Rattle.desk_tagvalue.specs.Entries.{EntryText, entry_text, read_entry}
+use Rattle.desk_tagvalue.specs.Entries.{EntryText, AreEntries, entry_text, read_entry}
 use Rattle.desk_tagvalue.specs.Faults.{first_fault, first_of, field_fault, place_fault, double_fault, value_fault, is_too_many, is_again, is_misspelt, names, is_taken, is_version}
 use Rattle.desk_tagvalue.specs.Missing.{missing_of, missing_of_document, missing_of_elements, is_absent, is_unnamed}
 use Rattle.desk_tagvalue.specs.Parts.{DocumentText, document_of, head_of}
 use Rattle.desk_tagvalue.specs.Documents.{document_text, limit, judged, unless, Spells, too_large, no_text, no_fields, fields}
 
+pub one_entry_more : (es : List Entry) (e : Entry) (fs : List FieldText) (f : FieldText) → map entry_text es ≡ map read_entry fs → entry_text e ≡ read_entry f
+    → map entry_text (es ++ (e ∷ [])) ≡ map read_entry (fs ++ (f ∷ []))
+one_entry_more es e fs f h k = map-append entry_text es (e ∷ []) ∙ (λ i. h i ++ (k i ∷ [])) ∙ sym (map-append read_entry fs (f ∷ []))
+
 -- what the fields that were cut are judged to be
-pub spells_judged : (bytes text : List ℕ) (fs : List Field) (es : List Entry) (r : Result DocumentText DocFault) → length bytes ≤ limit → IsUtf8 bytes → text ≡ bytes → Reads 1 (behind_mark text) (Ok (map field_text fs))
-    → map entry_text es ≡ map read_entry (map field_text fs) → judged (map entry_text es) ≡ r → Spells bytes r
-spells_judged bytes text fs es r small utf8 same reads entries is =
-    subst (Spells bytes) (ap judged (sym entries) ∙ is) (fields bytes (map field_text fs) small utf8 (subst (λ t. Reads 1 (behind_mark t) (Ok (map field_text fs))) same reads))
+pub spells_judged : (bytes text : List ℕ) (es : List EntryText) (r : Result DocumentText DocFault) → length bytes ≤ limit → IsUtf8 bytes → text ≡ bytes → AreEntries text es
+    → judged es ≡ r → Spells bytes r
+spells_judged bytes text es r small utf8 same h is =
+    subst (Spells bytes) (ap judged (sym h.2) ∙ is) (fields bytes h.0 small utf8 (subst (λ t. Reads 1 (behind_mark t) (Ok h.0)) same h.1))
 
 pub ok_from : (bytes : List ℕ) (es : List EntryText) (r : Result Document DocFault) → ((x : Result DocumentText DocFault) → judged es ≡ x → Spells bytes x)
     → IfOk r (λ d. judged es ≡ Ok (document_text d)) → IfOk r (λ d. Spells bytes (Ok (document_text d)))

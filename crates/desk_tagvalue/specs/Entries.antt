@@ -1,9 +1,9 @@
 -- Fields whose tags are read.
-use Rattle.std.specs.Prelude.{ℕ, List, [], ◌∷◌, Option, Some, None, if◌then◌else◌}
+use Rattle.std.specs.Prelude.{◌≡◌, ℕ, List, [], ◌∷◌, map, Option, Some, None, Ok, if◌then◌else◌}
 use denote.Ref.{Bor}
 use Rattle.desk_fields.specs.declared.tag.Tag.{Tag}
 use Rattle.desk_fields.specs.Tags.{tag_of, same_tag}
-use Rattle.desk_fields.specs.Cutting.{FieldText}
+use Rattle.desk_fields.specs.Cutting.{FieldText, Reads, behind_mark}
 use Rattle.desk_tagvalue.specs.declared.entries.Entry.{Entry}
 
 -- a field whose tag is read, without where it lies in memory
@@ -17,6 +17,10 @@ entry_text e = record { line = e.line; tag = e.tag; value = e.value.now }
 
 abbrev pub read_entry : FieldText → EntryText
 read_entry f = record { line = f.line; tag = tag_of f.tag; value = f.value }
+
+-- the fields of a text, with their tags read
+abbrev pub AreEntries : List ℕ → List EntryText → Type 0
+AreEntries text es = (fs : List FieldText) × Reads 1 (behind_mark text) (Ok fs) × (es ≡ map read_entry fs)
 
 -- the bytes of a text, where it is there
 abbrev pub value_text : Option (Bor (List ℕ)) → Option (List ℕ)

@@ -1,17 +1,21 @@
 //! Fields whose tags are read.
 
-ghost use Rattle.std.specs.Prelude.{◌≡◌, IfOk, map};
-ghost use Rattle.desk_tagvalue.specs.Entries.{entry_text, read_entry, value_text, value_of};
+ghost use Rattle.std.specs.Prelude.{◌≡◌, ◌≤◌, ◌<◌, ◌+◌, ◌^◌, ◌/◌, ◌⊎◌, length, IfOk, IfErr, Err, map};
+ghost use Rattle.desk_fields.specs.declared.fault.DocFault.{DocFault};
+ghost use Rattle.desk_fields.specs.Cutting.{Reads, behind_mark};
 ghost use Rattle.desk_fields.specs.Found.{field_text};
+ghost use Rattle.desk_tagvalue.specs.Documents.{limit};
+ghost use Rattle.desk_tagvalue.specs.Entries.{AreEntries, entry_text, read_entry, value_text, value_of};
 
-use desk_fields::{Field, Tag};
-use std::alloc::{AllocError, Global};
+use desk_fields::{DocFault, Field, Scanner, Tag};
+use memchr::memchr_iter;
+use std::alloc::Global;
 
 /// A field whose tag is read.
 #[derive(Debug, Clone, Copy)]
 pub struct Entry<'a> {
-    /// The line on which it begins, from 1.
-    pub line: u64,
+    /// The line on which it begins, from 1. A document of 4 MiB has fewer than 32 bits count.
+    pub line: u32,
     /// What its tag is read as.
     pub tag: Tag,
     /// Its value, a slice of the source.
@@ -20,26 +24,39 @@ pub struct Entry<'a> {
 
 // A field with its tag read.
 fn entry_of<'a>(field: &Field<'a>) -> Entry<'a>
+    requires { field.now.line < 2 ^ 32 }
     ensures { entry_text result ≡ read_entry (field_text field.now) }
 {
     Entry {
-        line: field.line,
+        line: field.line as u32,
         tag: Tag::of(field.tag),
         value: field.value,
     }
 }
 
-/// All fields with their tags read.
-pub(crate) fn entries_of<'a>(
-    alloc: Global,
-    fields: &[Field<'a>],
-) -> Result<Vec<Entry<'a>>, AllocError>
-    ensures { IfOk result (λ v. map entry_text v.items ≡ map read_entry (map field_text fields.now)) }
+// How many fields a text has at most: each has a line and three bytes, of which the last alone may lack its line's end.
+fn most_fields(text: &str) -> usize
+    ensures { result ≤ length text.now / 3 + 1 }
 {
-    let mut entries = Vec::with_capacity(alloc, fields.len())?;
-    for field in fields {
-        entries.push(entry_of(field))?;
+    let bytes = text.as_bytes();
+    let ends = memchr_iter(b'\n', bytes).count();
+    (ends + 1).min(bytes.len() / 3 + 1)
+}
+
+/// All fields of a text with their tags read. Room for the most of them is taken once, and what they don't need given back.
+pub(crate) fn entries_of<'a>(alloc: Global, text: &'a str) -> Result<Vec<Entry<'a>>, DocFault>
+    requires { length text.now ≤ limit }
+    ensures ok { IfOk result (λ v. AreEntries text.now (map entry_text v.items)) }
+    ensures err { IfErr result (λ e. (e ≡ DocFault.Memory) ⊎ Reads 1 (behind_mark text.now) (Err e)) }
+{
+    let mut entries = Vec::with_capacity(alloc, most_fields(text))?;
+    for field in Scanner::of(text) {
+        match field {
+            Ok(field) => entries.push(entry_of(&field))?,
+            Err(fault) => return Err(fault),
+        }
     }
+    entries.shrink_to_fit();
     Ok(entries)
 }
 

@@ -98,14 +98,15 @@ fn place_fault(seen: &Seen, before: &[Entry], entry: &Entry) -> Option<DocFault>
     requires { Knows before.now seen.now }
     ensures { result ≡ place_fault (newest before.now) (entry_text entry.now) }
 {
+    let line = u64::from(entry.line);
     if is_too_many(seen, before, entry.tag) {
-        return Some(DocFault::TooManyElements(entry.line));
+        return Some(DocFault::TooManyElements(line));
     }
     if is_again(seen, before, entry.tag) {
-        return Some(DocFault::Repeated(entry.line, entry.tag));
+        return Some(DocFault::Repeated(line, entry.tag));
     }
     if is_misspelt(id_form(seen.kind, entry.tag), entry.value) {
-        return Some(DocFault::BadId(entry.line));
+        return Some(DocFault::BadId(line));
     }
     None
 }
@@ -115,10 +116,10 @@ fn value_fault(entry: &Entry) -> Option<DocFault>
     ensures { result ≡ value_fault (entry_text entry.now) }
 {
     if entry.tag.is(Tag::Version) && !is_version(entry.value) {
-        return Some(DocFault::BadVersion(entry.line));
+        return Some(DocFault::BadVersion(u64::from(entry.line)));
     }
     if entry.tag.is(Tag::Relationship) && !is_relationship(entry.value) {
-        return Some(DocFault::BadRelationship(entry.line));
+        return Some(DocFault::BadRelationship(u64::from(entry.line)));
     }
     None
 }
@@ -131,7 +132,7 @@ fn add<'a>(ids: &mut BTreeSet<&'a str>, entry: &Entry<'a>) -> Result<(), DocFaul
 {
     match ids.insert(entry.value) {
         Ok(true) => Ok(()),
-        Ok(false) => Err(DocFault::DuplicateId(entry.line)),
+        Ok(false) => Err(DocFault::DuplicateId(u64::from(entry.line))),
         Err(_) => Err(DocFault::Memory),
     }
 }

@@ -49,7 +49,7 @@ fn missing_of_elements(entries: &[Entry]) -> Option<DocFault>
 {
     for (i, entry) in entries.iter().enumerate() {
         if is_unnamed(entry, &entries[i + 1..]) {
-            return Some(DocFault::Missing(entry.line, Tag::Identifier));
+            return Some(DocFault::Missing(u64::from(entry.line), Tag::Identifier));
         }
     }
     None

@@ -117,7 +117,7 @@ pub(crate) fn package_of<'a>(start: &Entry<'a>, rest: &[Entry<'a>]) -> Package<'
 {
     let fields = head_of(rest);
     Package {
-        line: start.line,
+        line: u64::from(start.line),
         name: start.value,
         id: text_of(fields, Tag::Identifier),
         version: value_of(fields, Tag::PackageVersion),
@@ -182,7 +182,7 @@ pub(crate) fn file_of<'a>(start: &Entry<'a>, rest: &[Entry<'a>]) -> FileEntry<'a
 {
     let fields = head_of(rest);
     FileEntry {
-        line: start.line,
+        line: u64::from(start.line),
         name: start.value,
         id: text_of(fields, Tag::Identifier),
         sha1: sha1_of(fields),
@@ -196,7 +196,7 @@ pub(crate) fn extracted_of<'a>(start: &Entry<'a>, rest: &[Entry<'a>]) -> Extract
     ensures { extracted_text result ≡ extracted_of (section_at (entry_text start.now) (map entry_text rest.now)) }
 {
     Extracted {
-        line: start.line,
+        line: u64::from(start.line),
         id: start.value,
         text: value_of(head_of(rest), Tag::ExtractedText),
     }
@@ -210,7 +210,7 @@ pub(crate) fn edge_of<'a>(entry: &Entry<'a>) -> Edge<'a>
     let (kind, rest) = split_word(rest);
     let (right, _) = split_word(rest);
     Edge {
-        line: entry.line,
+        line: u64::from(entry.line),
         left,
         kind,
         right,

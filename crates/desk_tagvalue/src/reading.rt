@@ -14,7 +14,7 @@ use crate::parts::text_of;
 use crate::{Edge, Entry, Extracted, FileEntry, Package, Snippet};
 use desk_base::Items;
 use desk_base::limits::DOCUMENT_BYTES;
-use desk_fields::{DocFault, Tag, fields};
+use desk_fields::{DocFault, Tag};
 use std::alloc::{AllocError, Global};
 use std::str;
 
@@ -91,16 +91,10 @@ pub fn read<'a>(alloc: Global, bytes: &'a [u8]) -> Result<Document<'a>, DocFault
     let Ok(text) = str::from_utf8(bytes) else {
         return Err(DocFault::NotUtf8);
     };
-    let found = match fields(alloc, text) {
-        Ok(found) => found,
-        Err(fault) => return Err(fault),
-    };
-    let entries = match entries_of(alloc, &found) {
-        Ok(entries) => entries,
-        Err(_) => return Err(DocFault::Memory),
-    };
-    drop(found);
-    judged(alloc, entries)
+    match entries_of(alloc, text) {
+        Ok(entries) => judged(alloc, entries),
+        Err(fault) => Err(fault),
+    }
 }
 
 /// Bytes spell one document, or have one fault, which is never want of memory.

@@ -5,6 +5,8 @@
 #[cfg(test)]
 mod faults;
 #[cfg(test)]
+mod generators;
+#[cfg(test)]
 mod hostile;
 #[cfg(test)]
 mod support;
