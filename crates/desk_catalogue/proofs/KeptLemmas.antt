@@ -61,7 +61,7 @@ put_rules-last (y ∷ ys) x sorted = ap (put_rule y) (put_rules-last ys x sorted
 abbrev pub subject_cmp : Subject → Subject → Ordering
 subject_cmp = then_cmp (on (λ s. s.term) (slice_cmp nat_cmp)) (on (λ s. s.form) (slice_cmp nat_cmp))
 
-both_equal : (o p : Ordering) → ordering_then o p ≡ Equal → (o ≡ Equal) × (p ≡ Equal)
+pub both_equal : (o p : Ordering) → ordering_then o p ≡ Equal → (o ≡ Equal) × (p ≡ Equal)
 both_equal Less p is = absurd cc
 both_equal Equal p is = (refl, is)
 both_equal Greater p is = absurd cc

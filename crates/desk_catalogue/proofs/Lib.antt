@@ -4,3 +4,4 @@ pub mod KeptLemmas
 pub mod SetLemmas
 pub mod ReadingLemmas
 pub mod PrintedLemmas
+pub mod OrderLaws

@@ -19,7 +19,7 @@
 //! is one (`terms_are_read`), and they all give one answer (`one_catalogue`).
 //!
 //! A catalogue keeps equal forms once, of two rules for one term and form the first, and the codes
-//! of a rule sorted, each once. Licence texts aren't read.
+//! of a rule sorted, each once (`first_rule_counts`). Licence texts aren't read.
 #![tactic(auto)]
 
 mod duties;
@@ -33,7 +33,7 @@ mod reading;
 mod rules;
 mod values;
 
-pub use laws::{one_catalogue, terms_are_read};
+pub use laws::{first_rule_counts, one_catalogue, terms_are_read};
 pub use lookup::{has_form, rule, spelled};
 pub use reading::read;
 
