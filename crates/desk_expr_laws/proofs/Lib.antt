@@ -1,0 +1,5 @@
+pub mod Decide
+pub mod Trees
+pub mod Limits
+pub mod Texts
+pub mod Verdicts

@@ -1,0 +1,28 @@
+//! Laws of licence expressions that hold of the definitions alone, each the contract of a function
+//! with an empty body.
+//!
+//! What a text spells (`SpellsWithin`) and what a choice of terms is worth (`Holds`, `CanGo`,
+//! `IsMinimal`) are relations of `desk_expr`, and a relation may hold of nothing. A contract that
+//! speaks of whatever tree a text spells says something only where each text is known to spell a
+//! tree or to spell none. `tree_or_none` says that, and `verdict_exists` says that each choice is
+//! worth something. Both are constructive: each is a function that decides, so there is a reader of
+//! texts and a judge of choices that fit the definitions, whatever memory is at hand.
+//!
+//! That a text spells one tree at most is the clause `only` of `desk_expr::parse`.
+#![tactic(auto)]
+
+ghost use Rattle.std.specs.Prelude.{◌⊎◌, ℕ, List, Contains};
+ghost use Rattle.desk_expr.specs.declared.term.Term.{Term};
+ghost use Rattle.desk_expr.specs.Meaning.{Holds, CanGo, IsFirst, IsMinimal};
+ghost use Rattle.desk_expr.specs.Tree.{Tree};
+ghost use Rattle.desk_expr.specs.Spelling.{SpellsWithin};
+
+/// Each text spells a tree within the limits, or spells none.
+pub fn tree_or_none()
+    ensures { (text : List ℕ) → ((e : Tree) × SpellsWithin text e) ⊎ ((e : Tree) → SpellsWithin text e → ⊥) }
+{}
+
+/// A list of terms doesn't satisfy a tree; or it does, and there is a first place whose term can go; or it is minimal.
+pub fn verdict_exists()
+    ensures { (e : Tree) (chosen : List Term) → (¬ Holds (Contains chosen) e) ⊎ ((Holds (Contains chosen) e × (i : ℕ) × IsFirst (CanGo chosen e) i) ⊎ IsMinimal chosen e) }
+{}
