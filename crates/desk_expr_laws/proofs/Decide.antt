@@ -52,3 +52,10 @@ decided_all P known n later = elim (first_below (λ k. P k → ⊥) (λ k. decid
   where
     holds : ((k : ℕ) → k < suc n → (P k → ⊥) → ⊥) → (k : ℕ) → k < suc n → P k
     holds none k low = elim (known k) [ inl h ↦ h | inr fails ↦ absurd (none k low fails) ]
+
+pub same_first : (P : ℕ → Type 0) (i j : ℕ) → IsFirst P i → IsFirst P j → i ≡ j
+same_first P i j (here, none) (there, none') =
+    elim (order i j) [
+      | inl before ↦ absurd (none' i before here)
+      | inr from ↦ elim (order j i) [ inl before ↦ absurd (none j before there) | inr until ↦ omega (arith, from, until) ]
+    ]

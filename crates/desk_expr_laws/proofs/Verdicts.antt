@@ -5,7 +5,7 @@ use Rattle.desk_expr.specs.declared.term.Term.{Term}
 use Rattle.desk_expr.specs.Tree.{Tree, Trees, one, all, any, no_more, more}
 use Rattle.desk_expr.specs.Meaning.{Holds, AllHold, SomeHolds, IsMinimal, Without, CanGo, IsFirst}
 use Rattle.desk_expr.proofs.SameTerms.{same_term, contains_cases, contains_here, contains_there}
-use Rattle.desk_expr.proofs.Minimal.{minimal_if_none_can_go}
+use Rattle.desk_expr.proofs.Minimal.{holds_more, minimal_if_none_can_go}
 use Rattle.desk_expr_laws.proofs.Decide.{Decided, decided_not, decided_both, first_below}
 
 module _ (set : Term → Type 0) (known : (t : Term) → Decided (set t)) where
@@ -64,3 +64,7 @@ verdict e chosen =
         | inr none ↦ inr (inr (minimal_if_none_can_go chosen e h none))
       ]
     ]
+
+-- a choice that has a term to spare is enough
+pub enough_if_can_go : (e : Tree) (chosen : List Term) (i : ℕ) → CanGo chosen e i → Holds (Contains chosen) e
+enough_if_can_go e chosen i (t, at, h) = holds_more (Without chosen t) (Contains chosen) (λ u w. w.0) e h

@@ -8,10 +8,11 @@
 //! worth something. Both are constructive: each is a function that decides, so there is a reader of
 //! texts and a judge of choices that fit the definitions, whatever memory is at hand.
 //!
-//! That a text spells one tree at most is the clause `only` of `desk_expr::parse`.
+//! Neither has a second answer: that a text spells one tree at most is the clause `only` of
+//! `desk_expr::parse`, and that a choice has one verdict is `one_verdict`.
 #![tactic(auto)]
 
-ghost use Rattle.std.specs.Prelude.{◌⊎◌, ℕ, List, Contains};
+ghost use Rattle.std.specs.Prelude.{◌≡◌, ◌⊎◌, ℕ, List, Contains};
 ghost use Rattle.desk_expr.specs.declared.term.Term.{Term};
 ghost use Rattle.desk_expr.specs.Meaning.{Holds, CanGo, IsFirst, IsMinimal};
 ghost use Rattle.desk_expr.specs.Tree.{Tree};
@@ -25,4 +26,11 @@ pub fn tree_or_none()
 /// A list of terms doesn't satisfy a tree; or it does, and there is a first place whose term can go; or it is minimal.
 pub fn verdict_exists()
     ensures { (e : Tree) (chosen : List Term) → (¬ Holds (Contains chosen) e) ⊎ ((Holds (Contains chosen) e × (i : ℕ) × IsFirst (CanGo chosen e) i) ⊎ IsMinimal chosen e) }
+{}
+
+/// It has one such verdict: where a term can go, the list satisfies the tree and isn't minimal, and there is one first place.
+pub fn one_verdict()
+    ensures enough { (e : Tree) (chosen : List Term) (i : ℕ) → CanGo chosen e i → Holds (Contains chosen) e }
+    ensures needless { (e : Tree) (chosen : List Term) (i : ℕ) → CanGo chosen e i → ¬ IsMinimal chosen e }
+    ensures first { (e : Tree) (chosen : List Term) (i j : ℕ) → IsFirst (CanGo chosen e) i → IsFirst (CanGo chosen e) j → i ≡ j }
 {}
