@@ -1,0 +1,4 @@
+pub mod FirstLine
+pub mod Closing
+pub mod FirstPiece
+pub mod EachText
