@@ -2,3 +2,4 @@ pub mod FirstLine
 pub mod Closing
 pub mod FirstPiece
 pub mod EachText
+pub mod EachDocument
