@@ -1,0 +1,5 @@
+pub mod FirstLine
+pub mod Closing
+pub mod FirstPiece
+pub mod EachText
+pub mod EachDocument
