@@ -1,0 +1,115 @@
+-- A reading that is right, from what decides whether a text is an expression, what terms are to one, and what reads all bytes.
+use Rattle.std.proofs.Common.{◌≡◌, ◌∙◌, ◌⊎◌, inl, inr, ℕ, Bool, true, false, List, [], ◌∷◌, Option, Some, None, sym, subst, ap, refl}
+use Rattle.std.proofs.lemmas.Bool.{cases_Bool}
+use Rattle.std.specs.Prelude.{is_some, Result, Contains}
+use Rattle.desk_fields.specs.declared.fault.DocFault.{DocFault}
+use Rattle.desk_expr.specs.declared.term.Term.{Term}
+use Rattle.desk_expr.specs.Tree.{Tree}
+use Rattle.desk_expr.specs.Spelling.{SpellsWithin, SpellsTermWithin}
+use Rattle.desk_rows.specs.Readings.{Readings}
+use Rattle.desk_rows.specs.declared.reading.Profile.{Profile}
+use Rattle.desk_rows.specs.declared.reading.Verdict.{Verdict}
+use Rattle.desk_rows.specs.declared.reading.Verdict.TheVariants.{NotEnough, Superfluous, Minimal}
+use Rattle.desk_catalogue.specs.Reading.{catalogue_of}
+use Rattle.desk_catalogue.specs.Terms.{IsTermOf}
+use Rattle.desk_catalogue.proofs.TermsRead.{reading, terms_read}
+use Rattle.desk_tagvalue.specs.Documents.{Spells}
+use Rattle.desk_tagvalue.specs.Parts.{DocumentText}
+use Rattle.desk_tagvalue.proofs.ReadLemmas.{spells_once}
+use Rattle.desk_texts.specs.Documents.{kept}
+use Rattle.desk_texts.specs.Expressions.{is_no_licence, IsExpression, IsRead, Tells, IsVerdict, Judges}
+use Rattle.desk_texts.specs.Terms.{IsTerm, AreTerms, AreAllTerms, reference_in}
+use Rattle.desk_texts.specs.Right.{AreRight}
+use Rattle.desk_right.proofs.Verdicts.{judged_once}
+
+-- ---- terms
+
+term_in : (text : List ℕ) (p : Option (List ℕ)) → IsTermOf text p → (o : Option Term) × IsTerm text o
+term_in text (Some printed) is = (Some is.0, is.1)
+term_in text None is = (None, is)
+
+term_read : (text : List ℕ) → (o : Option Term) × IsTerm text o
+term_read text = let found = reading text in term_in text found.0 found.1
+
+more_terms : (text : List ℕ) (texts : List (List ℕ)) (o : Option Term) (p : Option (List Term)) → IsTerm text o → AreAllTerms texts p → (q : Option (List Term)) × AreAllTerms (text ∷ texts) q
+more_terms text texts (Some t) (Some ts) is are = (Some (t ∷ ts), (is, are))
+more_terms text texts (Some t) None is are = (None, λ us h. no_more us h)
+  where
+    no_more : (us : List Term) → AreTerms (text ∷ texts) us → ⊥
+    no_more [] h = h
+    no_more (u ∷ us) h = are us h.1
+more_terms text texts None p is are = (None, λ us h. no_first us h)
+  where
+    no_first : (us : List Term) → AreTerms (text ∷ texts) us → ⊥
+    no_first [] h = h
+    no_first (u ∷ us) h = is u h.0
+
+terms_of : (texts : List (List ℕ)) → (o : Option (List Term)) × AreAllTerms texts o
+terms_of [] = (Some [], tt)
+terms_of (text ∷ texts) = let first = term_read text in let rest = terms_of texts in more_terms text texts first.0 rest.0 first.1 rest.1
+
+-- ---- expressions, documents
+
+abbrev pub Decides : List ℕ → Type 0
+Decides text = ((e : Tree) × SpellsWithin text e) ⊎ ((e : Tree) → SpellsWithin text e → ⊥)
+
+tells_once : (text : List ℕ) (o : Option Tree) (tells : Bool) → IsRead text o → Tells text tells → is_some o ≡ tells
+tells_once text (Some e) true is says = refl
+tells_once text (Some e) false is says = absurd (says e is)
+tells_once text None true is says = absurd (is says.0 says.1)
+tells_once text None false is says = refl
+
+module _
+  (tree : (text : List ℕ) → Decides text)
+  (verdict : (e : Tree) (ts : List Term) → (v : Verdict) × IsVerdict e ts v)
+  (document : (bytes : List ℕ) → (r : Result DocumentText DocFault) × Spells bytes r)
+  where
+  expression_in : (text : List ℕ) → is_no_licence text ≡ false → Decides text → (o : Option Tree) × IsRead text o
+  expression_in text some (inl (e, spells)) = (Some e, (some, spells))
+  expression_in text some (inr none) = (None, λ e is. none e is.1)
+
+  no_expression : (text : List ℕ) → is_no_licence text ≡ true → (e : Tree) → IsExpression text e → ⊥
+  no_expression text none e is = let both = sym none ∙ is.0 in cc
+
+  pub expression_read : (text : List ℕ) → (o : Option Tree) × IsRead text o
+  expression_read text = elim (cases_Bool (is_no_licence text)) [
+    | inl none ↦ (None, no_expression text none)
+    | inr some ↦ expression_in text some (tree text)
+  ]
+
+  told_by : (text : List ℕ) (o : Option Tree) → IsRead text o → (tells : Bool) × Tells text tells
+  told_by text (Some e) is = (true, (e, is))
+  told_by text None none = (false, none)
+
+  -- whether a text is an expression
+  pub told : (text : List ℕ) → (tells : Bool) × Tells text tells
+  told text = let found = expression_read text in told_by text found.0 found.1
+
+  judge : (text : List ℕ) (words : List (List ℕ)) (o : Option Tree) (p : Option (List Term)) → IsRead text o → AreAllTerms words p → (v : Verdict) × Judges text words v
+  judge text words (Some e) (Some ts) is are = let found = verdict e ts in (found.0, inl (e, ts, is, are, found.1))
+  judge text words (Some e) None is none = (NotEnough, inr (λ f ts other are. none ts are, refl))
+  judge text words None p none are = (NotEnough, inr (λ e ts is these. none e is, refl))
+
+  pub judged : (text : List ℕ) (words : List (List ℕ)) → (v : Verdict) × Judges text words v
+  judged text words = let e = expression_read text in let ts = terms_of words in judge text words e.0 ts.0 e.1 ts.1
+
+  pub standard : Readings
+  standard = record {
+    catalogue = λ text. catalogue_of terms_read.0 text;
+    document = λ bytes. kept (document bytes).0;
+    term = terms_read.0;
+    reference = reference_in;
+    is_expression = λ profile text. is_some (expression_read text).0;
+    verdict = λ profile text words. (judged text words).0;
+  }
+
+  pub standard_is_right : AreRight standard
+  unfolding standard expression_read judged
+  standard_is_right = record {
+    term = terms_read.1;
+    catalogue = λ text. refl;
+    document = λ bytes read spells. ap kept (spells_once bytes (document bytes).0 read (document bytes).1 spells);
+    reference = λ term. refl;
+    expression = λ profile text tells says. tells_once text (expression_read text).0 tells (expression_read text).1 says;
+    verdict = λ profile text words v judges. judged_once text words (judged text words).0 v (judged text words).1 judges;
+  }

@@ -1,0 +1,69 @@
+-- Right readings: there is one, and all tell the same.
+use Rattle.std.proofs.Common.{◌≡◌, ◌∙◌, ◌⊎◌, inl, inr, ℕ, List, sym, subst, ap, refl}
+use Rattle.std.specs.Prelude.{Result, Contains}
+use Rattle.desk_fields.specs.declared.fault.DocFault.{DocFault}
+use Rattle.desk_expr.specs.declared.term.Term.{Term}
+use Rattle.desk_expr.specs.Tree.{Tree}
+use Rattle.desk_expr.specs.Meaning.{Holds, CanGo, IsFirst, IsMinimal}
+use Rattle.desk_expr_laws.proofs.Texts.{tree_of_text}
+use Rattle.desk_expr_laws.proofs.Verdicts as choices
+use Rattle.desk_document_laws.proofs.EachDocument.{each_document}
+use Rattle.desk_rows.specs.Readings.{Readings}
+use Rattle.desk_rows.specs.declared.reading.Profile.{Profile}
+use Rattle.desk_rows.specs.declared.reading.Verdict.{Verdict}
+use Rattle.desk_rows.specs.declared.reading.Verdict.TheVariants.{NotEnough, Superfluous, Minimal}
+use Rattle.desk_catalogue.specs.Reading.{catalogue_of}
+use Rattle.desk_catalogue.proofs.TermsRead.{same_term, reading}
+use Rattle.desk_texts.specs.Expressions.{IsExpression, IsVerdict, Judges}
+use Rattle.desk_texts.specs.Terms.{AreTerms}
+use Rattle.desk_texts.specs.Right.{AreRight}
+use Rattle.desk_right.proofs.Reading.{standard, standard_is_right, judged, told}
+
+verdict_by : (e : Tree) (ts : List Term) → (Holds (Contains ts) e → ⊥) ⊎ ((Holds (Contains ts) e × (i : ℕ) × IsFirst (CanGo ts e) i) ⊎ IsMinimal ts e) → (v : Verdict) × IsVerdict e ts v
+verdict_by e ts (inl none) = (NotEnough, none)
+verdict_by e ts (inr (inl (holds, i, first))) = (Superfluous i, first)
+verdict_by e ts (inr (inr minimal)) = (Minimal, minimal)
+
+verdict_of : (e : Tree) (ts : List Term) → (v : Verdict) × IsVerdict e ts v
+verdict_of e ts = verdict_by e ts (choices.verdict e ts)
+
+pub right_reading : (w : Readings) × AreRight w
+right_reading = (standard tree_of_text verdict_of each_document, standard_is_right tree_of_text verdict_of each_document)
+
+-- what a value and texts are judged to be
+abbrev judgement : (text : List ℕ) (words : List (List ℕ)) → (v : Verdict) × Judges text words v
+judgement text words = judged tree_of_text verdict_of each_document text words
+
+-- what is judged minimal is a minimal set
+minimal_by : (text : List ℕ) (words : List (List ℕ)) → Judges text words Minimal → (e : Tree) × (ts : List Term) × IsExpression text e × AreTerms words ts × IsMinimal ts e
+minimal_by text words (inl (e, ts, is, are, minimal)) = (e, ts, is, are, minimal)
+minimal_by text words (inr (none, is)) = cc
+
+pub minimal_choice : (w : Readings) → AreRight w → (profile : Profile) (text : List ℕ) (words : List (List ℕ)) → w.verdict profile text words ≡ Minimal → (e : Tree) × (ts : List Term) × IsExpression text e × AreTerms words ts × IsMinimal ts e
+minimal_choice w right profile text words is =
+    let found = judgement text words in
+    minimal_by text words (subst (Judges text words) (sym (right.verdict profile text words found.0 found.1) ∙ is) found.1)
+
+-- all right readings tell the same
+
+pub same_terms_told : (v w : Readings) → AreRight v → AreRight w → (text : List ℕ) → v.term text ≡ w.term text
+same_terms_told v w a b text = same_term text (v.term text) (w.term text) (a.term text) (b.term text)
+
+pub same_catalogue : (v w : Readings) → AreRight v → AreRight w → (text : List ℕ) → v.catalogue text ≡ w.catalogue text
+same_catalogue v w a b text = a.catalogue text ∙ (ap (λ terms. catalogue_of terms text) (λ i t. same_terms_told v w a b t i) ∙ sym (b.catalogue text))
+
+pub same_document : (v w : Readings) → AreRight v → AreRight w → (bytes : List ℕ) → v.document bytes ≡ w.document bytes
+same_document v w a b bytes = let read = each_document bytes in a.document bytes read.0 read.1 ∙ sym (b.document bytes read.0 read.1)
+
+pub same_verdict : (v w : Readings) → AreRight v → AreRight w → (profile : Profile) (text : List ℕ) (words : List (List ℕ)) → v.verdict profile text words ≡ w.verdict profile text words
+same_verdict v w a b profile text words =
+    let found = judgement text words in
+    a.verdict profile text words found.0 found.1 ∙ sym (b.verdict profile text words found.0 found.1)
+
+pub same_reference : (v w : Readings) → AreRight v → AreRight w → (term : List ℕ) → v.reference term ≡ w.reference term
+same_reference v w a b term = a.reference term ∙ sym (b.reference term)
+
+pub same_expression : (v w : Readings) → AreRight v → AreRight w → (profile : Profile) (text : List ℕ) → v.is_expression profile text ≡ w.is_expression profile text
+same_expression v w a b profile text =
+    let found = told tree_of_text verdict_of each_document text in
+    a.expression profile text found.0 found.1 ∙ sym (b.expression profile text found.0 found.1)

@@ -1,0 +1,20 @@
+use Rattle.desk_right.proofs.Rights.{same_terms_told, same_reference, same_catalogue, same_document, same_expression, same_verdict}
+use Rattle.desk_right.proofs.laws.one_right_reading.Goals as goal
+
+pub returns-clause-terms : goal.returns-clause-terms
+returns-clause-terms c = same_terms_told
+
+pub returns-clause-references : goal.returns-clause-references
+returns-clause-references c = same_reference
+
+pub returns-clause-catalogues : goal.returns-clause-catalogues
+returns-clause-catalogues c = same_catalogue
+
+pub returns-clause-documents : goal.returns-clause-documents
+returns-clause-documents c = same_document
+
+pub returns-clause-expressions : goal.returns-clause-expressions
+returns-clause-expressions c = same_expression
+
+pub returns-clause-verdicts : goal.returns-clause-verdicts
+returns-clause-verdicts c = same_verdict

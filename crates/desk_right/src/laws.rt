@@ -1,0 +1,32 @@
+//! Laws of right readings, each the contract of a function with an empty body.
+
+ghost use Rattle.std.specs.Prelude.{◌≡◌, ℕ, List};
+ghost use Rattle.desk_expr.specs.declared.term.Term.{Term};
+ghost use Rattle.desk_expr.specs.Tree.{Tree};
+ghost use Rattle.desk_expr.specs.Meaning.{IsMinimal};
+ghost use Rattle.desk_rows.specs.Readings.{Readings};
+ghost use Rattle.desk_rows.specs.declared.reading.Profile.{Profile};
+ghost use Rattle.desk_rows.specs.declared.reading.Verdict.TheVariants.{Minimal};
+ghost use Rattle.desk_texts.specs.Expressions.{IsExpression};
+ghost use Rattle.desk_texts.specs.Terms.{AreTerms};
+ghost use Rattle.desk_texts.specs.Right.{AreRight};
+
+/// There is a right reading of texts.
+pub fn right_reading_exists()
+    ensures { (w : Readings) × AreRight w }
+{}
+
+/// All right readings tell the same of each text.
+pub fn one_right_reading()
+    ensures terms { (v w : Readings) → AreRight v → AreRight w → (text : List ℕ) → v.term text ≡ w.term text }
+    ensures references { (v w : Readings) → AreRight v → AreRight w → (term : List ℕ) → v.reference term ≡ w.reference term }
+    ensures catalogues { (v w : Readings) → AreRight v → AreRight w → (text : List ℕ) → v.catalogue text ≡ w.catalogue text }
+    ensures documents { (v w : Readings) → AreRight v → AreRight w → (bytes : List ℕ) → v.document bytes ≡ w.document bytes }
+    ensures expressions { (v w : Readings) → AreRight v → AreRight w → (profile : Profile) (text : List ℕ) → v.is_expression profile text ≡ w.is_expression profile text }
+    ensures verdicts { (v w : Readings) → AreRight v → AreRight w → (profile : Profile) (text : List ℕ) (words : List (List ℕ)) → v.verdict profile text words ≡ w.verdict profile text words }
+{}
+
+/// What a right reading calls minimal is a minimal set of terms for the expression that the value spells.
+pub fn choices_are_minimal_sets()
+    ensures { (w : Readings) → AreRight w → (profile : Profile) (text : List ℕ) (words : List (List ℕ)) → w.verdict profile text words ≡ Minimal → (e : Tree) × (ts : List Term) × IsExpression text e × AreTerms words ts × IsMinimal ts e }
+{}

@@ -1,0 +1,13 @@
+//! There is one right reading of texts.
+//!
+//! The desk's contracts hold for each reading of documents, catalogues, terms and expressions that is right (`AreRight` of
+//! `desk_texts`). They would say nothing if no reading were. `right_reading_exists` says that there is one, `one_right_reading`
+//! that all tell the same, and `choices_are_minimal_sets` what a right reading's verdict means in the words of the expressions.
+//!
+//! The reading is put together from what decides each part: each text spells a term or none (`desk_catalogue`), a tree or none,
+//! and each choice has a verdict (`desk_expr_laws`); all bytes spell a document or have a fault (`desk_document_laws`).
+#![tactic(auto)]
+
+mod laws;
+
+pub use laws::{choices_are_minimal_sets, one_right_reading, right_reading_exists};
