@@ -140,6 +140,7 @@ pub fn run_in_memory<T: Texts + Drop>(
 ) -> Result<(Vec<Outcome>, MemDesk<T>), AllocError>
     ensures answers { (w : Readings) → T.are_right w → IfOk result (λ done. AreAnswers w [] commands.now done.0.items) }
     ensures content { (w : Readings) → T.are_right w → IfOk result (λ done. ⟦<MemStore as Store>⟧.rows done.1.store ≡ tables w (history_after [] commands.now done.0.items)) }
+    ensures count { IfOk result (λ done. length done.0.items ≡ length commands.now) }
 {
     let mut desk = TableDesk::new(alloc, texts);
     let outcomes = run(alloc, &mut desk, commands)?;

@@ -10,5 +10,3 @@
 #![tactic(auto)]
 
 pub mod desk;
-#[cfg(test)]
-mod tests;

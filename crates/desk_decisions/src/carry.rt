@@ -43,4 +43,3 @@ pub fn carry_out<T: Texts, S: Store>(
         Command::Meet { duty, day, text } => meet(store, *duty, day, text),
     }
 }
-

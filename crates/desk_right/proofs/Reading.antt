@@ -60,56 +60,56 @@ tells_once text None true is says = absurd (is says.0 says.1)
 tells_once text None false is says = refl
 
 module _
-  (tree : (text : List ℕ) → Decides text)
-  (verdict : (e : Tree) (ts : List Term) → (v : Verdict) × IsVerdict e ts v)
-  (document : (bytes : List ℕ) → (r : Result DocumentText DocFault) × Spells bytes r)
+    (tree : (text : List ℕ) → Decides text)
+    (verdict : (e : Tree) (ts : List Term) → (v : Verdict) × IsVerdict e ts v)
+    (document : (bytes : List ℕ) → (r : Result DocumentText DocFault) × Spells bytes r)
   where
-  expression_in : (text : List ℕ) → is_no_licence text ≡ false → Decides text → (o : Option Tree) × IsRead text o
-  expression_in text some (inl (e, spells)) = (Some e, (some, spells))
-  expression_in text some (inr none) = (None, λ e is. none e is.1)
+    expression_in : (text : List ℕ) → is_no_licence text ≡ false → Decides text → (o : Option Tree) × IsRead text o
+    expression_in text some (inl (e, spells)) = (Some e, (some, spells))
+    expression_in text some (inr none) = (None, λ e is. none e is.1)
 
-  no_expression : (text : List ℕ) → is_no_licence text ≡ true → (e : Tree) → IsExpression text e → ⊥
-  no_expression text none e is = let both = sym none ∙ is.0 in cc
+    no_expression : (text : List ℕ) → is_no_licence text ≡ true → (e : Tree) → IsExpression text e → ⊥
+    no_expression text none e is = let both = sym none ∙ is.0 in cc
 
-  pub expression_read : (text : List ℕ) → (o : Option Tree) × IsRead text o
-  expression_read text = elim (cases_Bool (is_no_licence text)) [
-    | inl none ↦ (None, no_expression text none)
-    | inr some ↦ expression_in text some (tree text)
-  ]
+    pub expression_read : (text : List ℕ) → (o : Option Tree) × IsRead text o
+    expression_read text = elim (cases_Bool (is_no_licence text)) [
+      | inl none ↦ (None, no_expression text none)
+      | inr some ↦ expression_in text some (tree text)
+    ]
 
-  told_by : (text : List ℕ) (o : Option Tree) → IsRead text o → (tells : Bool) × Tells text tells
-  told_by text (Some e) is = (true, (e, is))
-  told_by text None none = (false, none)
+    told_by : (text : List ℕ) (o : Option Tree) → IsRead text o → (tells : Bool) × Tells text tells
+    told_by text (Some e) is = (true, (e, is))
+    told_by text None none = (false, none)
 
-  -- whether a text is an expression
-  pub told : (text : List ℕ) → (tells : Bool) × Tells text tells
-  told text = let found = expression_read text in told_by text found.0 found.1
+    -- whether a text is an expression
+    pub told : (text : List ℕ) → (tells : Bool) × Tells text tells
+    told text = let found = expression_read text in told_by text found.0 found.1
 
-  judge : (text : List ℕ) (words : List (List ℕ)) (o : Option Tree) (p : Option (List Term)) → IsRead text o → AreAllTerms words p → (v : Verdict) × Judges text words v
-  judge text words (Some e) (Some ts) is are = let found = verdict e ts in (found.0, inl (e, ts, is, are, found.1))
-  judge text words (Some e) None is none = (NotEnough, inr (λ f ts other are. none ts are, refl))
-  judge text words None p none are = (NotEnough, inr (λ e ts is these. none e is, refl))
+    judge : (text : List ℕ) (words : List (List ℕ)) (o : Option Tree) (p : Option (List Term)) → IsRead text o → AreAllTerms words p → (v : Verdict) × Judges text words v
+    judge text words (Some e) (Some ts) is are = let found = verdict e ts in (found.0, inl (e, ts, is, are, found.1))
+    judge text words (Some e) None is none = (NotEnough, inr (λ f ts other are. none ts are, refl))
+    judge text words None p none are = (NotEnough, inr (λ e ts is these. none e is, refl))
 
-  pub judged : (text : List ℕ) (words : List (List ℕ)) → (v : Verdict) × Judges text words v
-  judged text words = let e = expression_read text in let ts = terms_of words in judge text words e.0 ts.0 e.1 ts.1
+    pub judged : (text : List ℕ) (words : List (List ℕ)) → (v : Verdict) × Judges text words v
+    judged text words = let e = expression_read text in let ts = terms_of words in judge text words e.0 ts.0 e.1 ts.1
 
-  pub standard : Readings
-  standard = record {
-    catalogue = λ text. catalogue_of terms_read.0 text;
-    document = λ bytes. kept (document bytes).0;
-    term = terms_read.0;
-    reference = reference_in;
-    is_expression = λ profile text. is_some (expression_read text).0;
-    verdict = λ profile text words. (judged text words).0;
-  }
+    pub standard : Readings
+    standard = record {
+      catalogue = λ text. catalogue_of terms_read.0 text;
+      document = λ bytes. kept (document bytes).0;
+      term = terms_read.0;
+      reference = reference_in;
+      is_expression = λ profile text. is_some (expression_read text).0;
+      verdict = λ profile text words. (judged text words).0;
+    }
 
-  pub standard_is_right : AreRight standard
-  unfolding standard expression_read judged
-  standard_is_right = record {
-    term = terms_read.1;
-    catalogue = λ text. refl;
-    document = λ bytes read spells. ap kept (spells_once bytes (document bytes).0 read (document bytes).1 spells);
-    reference = λ term. refl;
-    expression = λ profile text tells says. tells_once text (expression_read text).0 tells (expression_read text).1 says;
-    verdict = λ profile text words v judges. judged_once text words (judged text words).0 v (judged text words).1 judges;
-  }
+    pub standard_is_right : AreRight standard
+    unfolding standard expression_read judged
+    standard_is_right = record {
+      term = terms_read.1;
+      catalogue = λ text. refl;
+      document = λ bytes read spells. ap kept (spells_once bytes (document bytes).0 read (document bytes).1 spells);
+      reference = λ term. refl;
+      expression = λ profile text tells says. tells_once text (expression_read text).0 tells (expression_read text).1 says;
+      verdict = λ profile text words v judges. judged_once text words (judged text words).0 v (judged text words).1 judges;
+    }

@@ -62,5 +62,3 @@ judged_once text words a b (inl (e, ts, is, are, v)) (inl (f, us, is', are', v')
 judged_once text words a b (inl (e, ts, is, are, v)) (inr (none, is')) = absurd (none e ts is are)
 judged_once text words a b (inr (none, is)) (inl (e, ts, is', are, v)) = absurd (none e ts is' are)
 judged_once text words a b (inr (none, is)) (inr (none', is')) = is ∙ sym is'
-
-

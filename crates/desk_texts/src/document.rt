@@ -100,10 +100,7 @@ fn reference_copies(
     Ok(kept)
 }
 
-fn references_of(
-    alloc: Global,
-    extracted: &[Extracted<'_>],
-) -> Result<Items<Reference>, AllocError>
+fn references_of(alloc: Global, extracted: &[Extracted<'_>]) -> Result<Items<Reference>, AllocError>
     ensures { IfOk result (λ kept. kept ≡ map reference_of (sorted_by (λ x. x.id) (map extracted_text extracted.now))) }
 {
     let sorted = sorted_by(alloc, extracted)?;
