@@ -44,9 +44,10 @@ try:
 	@echo 'Trying the program with no proof: this says nothing of its contracts.'
 	@cd $(program) && rt try -- $(ARGS)
 
-# Times the program and the reading of documents, each beside another program.
+# Times the program, beside another one, its scripts, and the reading of documents.
 bench: build
 	@python3 bench/bench.py build/desk
+	@python3 bench/script.py build/desk build/scripts
 	@echo 'Building the program that reads documents.'
 	@cd $(documents) && { rt run >../../build/log 2>&1 || { cat ../../build/log; exit 1; }; }
 	@python3 bench/documents.py $(documents)/out/desk_documents_bench build/documents

@@ -1,5 +1,5 @@
 #!/bin/sh
-# Asks the desk about choices for the licences of real packages: examples/demo.sh PROGRAM
+# Asks the desk about choices for the licences of real packages, and runs a first release: examples/demo.sh PROGRAM
 set -eu
 
 desk=${1:?the program to run}
@@ -38,3 +38,14 @@ echo
 IFS= read -r licence <"$here/unicode-ident/expression"
 ask "$licence" MIT Apache-2.0 Unicode-3.0
 ask "$licence" MIT
+
+echo 'A first release: load a catalogue, import a document, choose, freeze, meet the duty, and count:'
+echo
+echo '$ desk script < examples/first-release/script.jsonl'
+"$desk" script <"$here/first-release/script.jsonl"
+echo '(status 0)'
+echo
+echo 'The duties of that release:'
+echo
+echo '$ (cat examples/first-release/script.jsonl; cat examples/first-release/duties.jsonl) | desk script | tail -n 1'
+cat "$here/first-release/script.jsonl" "$here/first-release/duties.jsonl" | "$desk" script | tail -n 1

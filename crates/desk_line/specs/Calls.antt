@@ -1,5 +1,5 @@
 -- The call that the words of a command line hold.
-use Rattle.std.specs.Prelude.{◌≡◌, ◌≢◌, [], ◌∷◌, List, codes, if◌then◌else◌, Option, None, option_map, option_and_then}
+use Rattle.std.specs.Prelude.{◌≡◌, ◌≢◌, [], ◌∷◌, List, codes, if◌then◌else◌, Option, None, Some, option_map, option_and_then}
 use Rattle.std.specs.Str.{bytes_eq}
 use Rattle.clap.specs.Words.{IsAmong, Kinds, Row, Text, all_of, fault_of, first_of, kind_of, subcommand_of}
 use Rattle.clap.specs.Kinds.{or_else}
@@ -7,7 +7,7 @@ use Rattle.clap.specs.declared.error.kind.ErrorKind.TheVariants.{MissingSubcomma
 use Rattle.clap.specs.declared.error.Error.{Error}
 use Rattle.desk_line.specs.Words.{desk_app}
 use Rattle.desk_line.specs.declared.call.Call.{Call}
-use Rattle.desk_line.specs.declared.call.Call.TheVariants.{Check}
+use Rattle.desk_line.specs.declared.call.Call.TheVariants.{Check, Script}
 use Rattle.desk_line.specs.declared.call.LineFault.{LineFault}
 use Rattle.desk_line.specs.declared.call.LineFault.TheVariants.{Memory, Usage}
 
@@ -18,7 +18,10 @@ check_in rows = option_and_then (λ expression. option_map (λ terms. Check expr
 
 -- the call of a subcommand with these values
 abbrev pub call_in : Text → List Row → Option Call
-call_in name rows = if bytes_eq name (codes "check") then check_in rows else None
+call_in name rows =
+    if bytes_eq name (codes "check") then check_in rows
+    else if bytes_eq name (codes "script") then Some Script
+    else None
 
 -- the call of the subcommand that was met, if any
 abbrev pub call_at : Option (Text × List Row) → Option Call

@@ -16,10 +16,14 @@ words name = record (word name) { range = Some (record { start_inclusive = 1; en
 abbrev pub check_app : App
 check_app = with_rule (with_rule (new_app (codes "check")) (word (codes "EXPR"))) (words (codes "TERM"))
 
+-- `script`, which has no values
+abbrev pub script_app : App
+script_app = new_app (codes "script")
+
 -- `desk`, which has a version, asks for a subcommand, and shows its help where there are no words
 abbrev pub desk_alone : App
 desk_alone = on_top (λ s. record s { has_version = true; subcommand_required = true; arg_required_else_help = true })
     (new_app (codes "desk"))
 
 abbrev pub desk_app : App
-desk_app = with_subcommand desk_alone check_app.top
+desk_app = with_subcommand (with_subcommand desk_alone check_app.top) script_app.top

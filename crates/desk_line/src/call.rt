@@ -12,6 +12,8 @@ pub enum Call {
         expression: Text,
         terms: Items<Text>,
     },
+    /// Replies to the requests of standard input, a line each.
+    Script,
 }
 
 /// Why a command line gave no call.

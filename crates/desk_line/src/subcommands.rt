@@ -3,7 +3,7 @@
 ghost use Rattle.std.specs.Prelude.{◌≡◌, IfOk, false};
 ghost use Rattle.clap.specs.Words.{app_of};
 ghost use Rattle.clap.specs.declared.builder.command.Command.TheViews.{out-Command};
-ghost use Rattle.desk_line.specs.Words.{check_app, desk_app};
+ghost use Rattle.desk_line.specs.Words.{check_app, desk_app, script_app};
 
 use crate::arguments::{word_arg, words_arg};
 use clap::Command;
@@ -51,6 +51,43 @@ Statuses:
   2  the command line is wrong
   3  no memory, or the line could not be written";
 
+const SCRIPT_ABOUT: &str = "Replies to requests, a line each, over a desk in memory";
+
+const SCRIPT_LONG_ABOUT: &str = "\
+Replies to requests, a line each, over a desk in memory
+
+Reads requests from standard input, one JSON object on each line, and writes one line of JSON for
+each line that is not blank, before it reads on. It starts with an empty desk, and goes on past
+what is refused. A line of more than 8 MiB is no request.
+
+Requests, with an example of each:
+
+  load a catalogue of duties, as TOML
+    {\"do\":\"catalogue\",\"text\":\"forms = [\\\"binary\\\"]\"}
+  import an SPDX 2.3 document, as tag-value
+    {\"do\":\"import\",\"text\":\"SPDXVersion: SPDX-2.3\\n..\"}
+  open a release that ships in a form of the catalogue
+    {\"do\":\"open\",\"form\":\"binary\",\"release\":\"r1\"}
+  attach a document to it
+    {\"do\":\"attach\",\"document\":1,\"release\":\"r1\"}
+  choose terms for a package of the document
+    {\"do\":\"choose\",\"document\":1,\"package\":\"SPDXRef-p\",\"release\":\"r1\",\"terms\":[\"MIT\"]}
+  freeze the release, which raises its duties
+    {\"do\":\"freeze\",\"day\":\"2025-03-03\",\"release\":\"r1\"}
+  meet a duty
+    {\"do\":\"meet\",\"day\":\"2025-03-04\",\"duty\":1,\"text\":\"notices.txt\"}
+  list the duties of a release
+    {\"ask\":\"duties\",\"release\":\"r1\"}
+  count them: raised, open, met, waived, withdrawn
+    {\"ask\":\"totals\",\"release\":\"r1\"}";
+
+const SCRIPT_AFTER_HELP: &str = "\
+Statuses:
+  0  every request was answered
+  1  a line was refused, or was no request
+  2  the command line is wrong
+  3  no memory, or a stream failed";
+
 fn check_command<'a>(alloc: Global) -> Result<Command<'a>, AllocError>
     ensures shape { IfOk result (λ c. app_of c ≡ check_app) }
     ensures local { IfOk result (λ c. (out-Command c).has_globals ≡ false) }
@@ -61,6 +98,18 @@ fn check_command<'a>(alloc: Global) -> Result<Command<'a>, AllocError>
         .after_help(CHECK_AFTER_HELP)
         .arg(word_arg(alloc, "EXPR", "The licence expression, one word: quote it"))?
         .arg(words_arg(alloc, "TERM", "The terms that were chosen, a word each"))
+}
+
+fn script_command<'a>(alloc: Global) -> Result<Command<'a>, AllocError>
+    ensures shape { IfOk result (λ c. app_of c ≡ script_app) }
+    ensures local { IfOk result (λ c. (out-Command c).has_globals ≡ false) }
+{
+    Ok(
+        Command::new(alloc, "script")
+            .about(SCRIPT_ABOUT)
+            .long_about(SCRIPT_LONG_ABOUT)
+            .after_help(SCRIPT_AFTER_HELP),
+    )
 }
 
 /// The whole command.
@@ -74,5 +123,6 @@ pub fn desk_command<'a>(alloc: Global) -> Result<Command<'a>, AllocError>
         .after_help(STATUSES)
         .subcommand_required(true)
         .arg_required_else_help(true)
-        .subcommand(check_command(alloc)?)
+        .subcommand(check_command(alloc)?)?
+        .subcommand(script_command(alloc)?)
 }

@@ -63,6 +63,8 @@ pub fn call_from(
 {
     if name == "check" {
         check_from(alloc, matches)
+    } else if name == "script" {
+        Ok(Some(Call::Script))
     } else {
         Ok(None)
     }

@@ -1,16 +1,19 @@
 //! The subcommands, each a function over what it reads and writes.
 
-ghost use Rattle.std.specs.Prelude.{◌≡◌, ◌++◌, ◌∷◌, [], ℕ, ◌<◌, IfOk, IfErr, OnErr, List, map};
+ghost use Rattle.std.specs.Prelude.{◌≡◌, ◌==◌, if◌then◌else◌, ◌++◌, ◌∷◌, [], ℕ, ◌<◌, IfOk, IfErr, OnErr, List, map};
 ghost use Rattle.std.specs.Io.KnownBytes.{Appends, Keeps};
 ghost use Rattle.desk_expr.specs.Faults.{fault_number};
-ghost use Rattle.desk_program.specs.Failures.{IfMemory};
+ghost use Rattle.desk_script.specs.Script.{AreLeft, IsFront, IsScript};
+ghost use Rattle.desk_script.specs.declared.serving.ScriptEnd.{ScriptEnd};
+ghost use Rattle.desk_program.specs.Failures.{IfMemory, OfScript};
 ghost use Rattle.desk_program.specs.Report.{IsReadTo, IsReport, IsVerdict, SpellTerms, Tells, TellsOnce};
 
 use crate::failure::Failure;
 use crate::report::Report;
+use desk_core::desk::Desk;
 use desk_expr::{Expr, ParseFault, Term, Verdict, check_choice, parse, parse_term};
 use std::alloc::{AllocError, Global};
-use std::io::Write;
+use std::io::{Read, Write};
 
 /// What a list of words spells.
 #[derive(Drop)]
@@ -101,6 +104,32 @@ pub fn check<W: Write>(
     writer.write_all(line.as_bytes())?;
     writer.flush()?;
     Ok(report.status())
+}
+
+/// Replies to the requests that the reader gives, a line each, and answers the program's status.
+pub fn script<D: Desk, R: Read, W: Write>(
+    alloc: Global,
+    desk: &mut D,
+    reader: &mut R,
+    writer: &mut W,
+) -> Result<u8, Failure>
+    ensures done { IfOk result (λ status. (bytes : List ℕ) × AreLeft (R.remaining reader.old) bytes × (end : ScriptEnd)
+        × IsScript D.are_right D.tells (D.content desk.old) bytes (D.content desk.new) (W.contents writer.old) (W.contents writer.new) end
+        × (end.failed ≡ 0) × (status ≡ (if end.refused == 0 then 0 else 1))) }
+    ensures failed { IfErr result (OfScript
+        ((bytes : List ℕ) × AreLeft (R.remaining reader.old) bytes × IsFront D.are_right D.tells (D.content desk.old) bytes (D.content desk.new))
+        (λ count. (bytes : List ℕ) × AreLeft (R.remaining reader.old) bytes × (end : ScriptEnd)
+        × IsScript D.are_right D.tells (D.content desk.old) bytes (D.content desk.new) (W.contents writer.old) (W.contents writer.new) end
+        × (end.failed ≡ count) × (0 < count))) }
+{
+    let end = match desk_script::script(alloc, desk, reader, writer) {
+        Ok(end) => end,
+        Err(fault) => return Err(Failure::Script(fault)),
+    };
+    if end.failed > 0 {
+        return Err(Failure::Failed(end.failed));
+    }
+    Ok(if end.refused == 0 { 0 } else { 1 })
 }
 
 #[cfg(test)]

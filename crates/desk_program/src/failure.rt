@@ -1,5 +1,6 @@
 //! Why a subcommand could not do its work.
 
+use desk_script::ScriptFault;
 use std::alloc::AllocError;
 use std::io;
 use thiserror::Error;
@@ -11,6 +12,12 @@ pub enum Failure {
     Memory(AllocError),
     #[error("cannot write: {0}")]
     Write(io::Error),
+    /// A script stopped before its end.
+    #[error("the script stopped: {0}")]
+    Script(ScriptFault),
+    /// So many requests of a script failed.
+    #[error("requests that failed: {0}")]
+    Failed(u64),
 }
 
 impl From<AllocError> for Failure {

@@ -8,10 +8,15 @@
 mod commands;
 mod failure;
 mod report;
+#[cfg(test)]
+mod script_tests;
 
 use crate::failure::Failure;
+use desk_core::desk::MemDesk;
 use desk_line::{Call, LineFault, line};
+use desk_texts::Standard;
 use std::alloc::{AllocError, Global};
+use std::io::BufWriter;
 use std::process::ExitCode;
 use std::rt::Env;
 use std::{env, io};
@@ -21,7 +26,7 @@ const USAGE: u8 = 2;
 const FAILED: u8 = 3;
 
 /// Does what the words ask for, and answers the status.
-fn run(rt: &(impl Env + Print + Eprint + AllocGlobal)) -> Result<u8, Failure> {
+fn run(rt: &(impl Env + Print + Input + Eprint + AllocGlobal)) -> Result<u8, Failure> {
     let alloc = rt.alloc();
     let owned = match env::args(rt) {
         Ok(owned) => owned.collect::<Vec<String>>(alloc)?,
@@ -49,7 +54,7 @@ fn untold(rt: &impl Eprint, error: io::Error) -> Result<u8, Failure> {
     }
 }
 
-fn answer(rt: &impl Print, alloc: Global, call: &Call) -> Result<u8, Failure> {
+fn answer(rt: &(impl Print + Input), alloc: Global, call: &Call) -> Result<u8, Failure> {
     match call {
         Call::Check { expression, terms } => {
             let terms = terms.as_slice().iter();
@@ -60,6 +65,11 @@ fn answer(rt: &impl Print, alloc: Global, call: &Call) -> Result<u8, Failure> {
                 words.as_slice(),
                 &mut io::writer(rt),
             )
+        }
+        Call::Script => {
+            let mut desk = MemDesk::new(alloc, Standard);
+            let mut writer = BufWriter::new(alloc, io::writer(rt))?;
+            commands::script(alloc, &mut desk, &mut rt.reader(), &mut writer)
         }
     }
 }

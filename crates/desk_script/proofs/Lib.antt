@@ -1,0 +1,6 @@
+mod Cutting
+mod Chains
+mod Gathering
+mod OneLine
+mod Progress
+mod Results

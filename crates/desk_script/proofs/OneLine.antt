@@ -1,0 +1,85 @@
+-- The reply to one line.
+use Rattle.std.proofs.Common.{◌≡◌, ℕ, ◌+◌, ◌<◌, ◌≤◌, Bool, true, false, List, [], ◌∷◌, ◌++◌, Option, length, take, refl, sym, ap, ◌∙◌, subst, arith, append-nil}
+use Rattle.std.specs.Prelude.{if◌then◌else◌, nat_lt, sum_by}
+use Rattle.std.specs.Io.KnownBytes.{Appends}
+use Rattle.std.proofs.lemmas.List.{take_all}
+use Rattle.std.proofs.lemmas.List.Sums.{sum_by-append}
+use Rattle.std.proofs.lemmas.Bool.{lt-ltb}
+use Rattle.desk_rows.specs.Readings.{Readings}
+use Rattle.desk_rows.specs.Tables.{Tables}
+use Rattle.desk_rows.specs.declared.command.Fault.TheVariants.{Memory}
+use Rattle.desk_rows.specs.declared.command.Outcome.TheVariants.{Failed}
+use Rattle.desk_rows.specs.declared.command.StoreFault.{StoreFault}
+use Rattle.desk_json.specs.Requests.{request_in}
+use Rattle.desk_json.specs.declared.request.Request.{Request}
+use Rattle.desk_json.specs.declared.request.Request.TheVariants.{Act, Ask, BadCommand}
+use Rattle.desk_script.specs.Gathered.{HasCome}
+use Rattle.desk_script.specs.Lines.{is_blank_line, line_bytes, request_at, request_of}
+use Rattle.desk_script.specs.Replies.{AreReplied, Replies}
+use Rattle.desk_script.specs.Script.{Serves}
+use Rattle.desk_script.specs.Texts.{line_of, lines_of, count_refused, count_failed}
+use Rattle.desk_script.specs.declared.answer.Reply.{Reply}
+use Rattle.desk_script.specs.declared.answer.Reply.TheVariants.{Became, NoRequest}
+use Rattle.desk_script.specs.declared.line.Line.{Line}
+use Rattle.desk_script.specs.declared.serving.ScriptEnd.{ScriptEnd}
+use Rattle.desk_script.proofs.Chains.{Serves-none}
+
+-- a text within the limit is kept whole
+kept_whole : (n : ℕ) (text : List ℕ) → nat_lt n (length text) ≡ false → take n text ≡ text
+kept_whole n text short = take_all n text (grind (arith, short))
+
+pub request_of-kept : (line : Line) (text : List ℕ) → HasCome line text → line.is_long ≡ false → request_of text ≡ request_in line.kept.items
+request_of-kept line text h short =
+    let at : nat_lt line_bytes (length text) ≡ false = sym h.long ∙ short in
+    ap (λ (b : Bool). if b then BadCommand else request_in text) at ∙ ap request_in (sym (h.kept ∙ kept_whole line_bytes text at))
+
+pub request_at-blank : (line : Line) (text : List ℕ) → HasCome line text → line.is_blank ≡ true → request_at text ≡ []
+request_at-blank line text h blank = ap (λ (b : Bool). if b then [] else request_of text ∷ []) (sym h.blank ∙ blank)
+
+pub request_at-one : (line : Line) (text : List ℕ) → HasCome line text → line.is_blank ≡ false → request_at text ≡ request_of text ∷ []
+request_at-one line text h blank = ap (λ (b : Bool). if b then [] else request_of text ∷ []) (sym h.blank ∙ blank)
+
+module _ (is_right : Readings → Type 0) (tells : StoreFault → Type 0) where
+  -- memory is wanting to read a request
+  pub Replies-memory : (now : Tables) (request : Request) → Replies is_right tells now request (Became (Failed Memory)) now
+  Replies-memory now (Act c) = record { fits = tt; keeps = refl; answer = λ w right h ok e. tt; content = λ w right h ok e. e }
+  Replies-memory now (Ask q) = record { fits = tt; keeps = refl; answer = λ w right h ok e. tt; content = λ w right h ok e. e }
+  Replies-memory now BadCommand = record { fits = tt; keeps = refl; answer = λ w right h ok e. tt; content = λ w right h ok e. e }
+
+  no_request : (now : Tables) → Replies is_right tells now BadCommand NoRequest now
+  no_request now = record { fits = tt; keeps = refl; answer = λ w right h ok e. tt; content = λ w right h ok e. e }
+
+  -- a long line is no request
+  pub Replies-long : (now : Tables) (line : Line) (text : List ℕ) → HasCome line text → line.is_long ≡ true → Replies is_right tells now (request_of text) NoRequest now
+  Replies-long now line text h long =
+      subst (λ (b : Bool). Replies is_right tells now (if b then BadCommand else request_in text) NoRequest now) (sym (sym h.long ∙ long)) (no_request now)
+
+  pub AreReplied-blank : (now : Tables) (line : Line) (text : List ℕ) → HasCome line text → line.is_blank ≡ true
+      → (replies : List Reply) × AreReplied is_right tells now (request_at text) replies now
+  AreReplied-blank now line text h blank =
+      ([], subst (λ (rs : List Request). AreReplied is_right tells now rs [] now) (sym (request_at-blank line text h blank)) refl)
+
+  pub Serves-blank : (now : Tables) (w : Option (List ℕ)) (from : ScriptEnd) (line : Line) (text : List ℕ) → HasCome line text → line.is_blank ≡ true
+      → Serves is_right tells now (request_at text) now w w from from
+  Serves-blank now w from line text h blank =
+      subst (λ (rs : List Request). Serves is_right tells now rs now w w from from) (sym (request_at-blank line text h blank)) (Serves-none is_right tells now w from)
+
+  pub AreReplied-one : (now after : Tables) (line : Line) (text : List ℕ) (reply : Reply) → HasCome line text → line.is_blank ≡ false
+      → Replies is_right tells now (request_of text) reply after
+      → (replies : List Reply) × AreReplied is_right tells now (request_at text) replies after
+  AreReplied-one now after line text reply h blank replies =
+      (reply ∷ [], subst (λ (rs : List Request). AreReplied is_right tells now rs (reply ∷ []) after) (sym (request_at-one line text h blank)) (after, replies, refl))
+
+  pub Serves-one : (now after : Tables) (u v : Option (List ℕ)) (from to : ScriptEnd) (line : Line) (text : List ℕ) (reply : Reply) → HasCome line text → line.is_blank ≡ false
+      → Replies is_right tells now (request_of text) reply after
+      → Appends u v (line_of reply) → to.refused ≡ from.refused + count_refused reply → to.failed ≡ from.failed + count_failed reply
+      → Serves is_right tells now (request_at text) after u v from to
+  Serves-one now after u v from to line text reply h blank replies written refused failed =
+      subst (λ (rs : List Request). Serves is_right tells now rs after u v from to) (sym (request_at-one line text h blank))
+      (record {
+        replies = reply ∷ [];
+        replied = (after, replies, refl);
+        written = subst (λ (bs : List ℕ). Appends u v bs) (sym (append-nil (line_of reply))) written;
+        refused = omega (arith, refused);
+        failed = omega (arith, failed);
+      })

@@ -1,0 +1,83 @@
+use Rattle.std.proofs.Common.{◌≡◌, ℕ, List, ◌++◌, [], take, length, min, sym, subst, ap, ◌∙◌, arith, append_assoc}
+use Rattle.std.proofs.KnownBytes.{Consumes-nil, Consumes-trans}
+use Rattle.std.proofs.lemmas.List.{length-take}
+use Rattle.desk_script.specs.Script.{AreLeft}
+use Rattle.desk_script.proofs.Progress.{AreLeft-all, AreLeft-front, HasServed-none, IsFront-of}
+use Rattle.desk_script.proofs.Results.{OnErr-always}
+use Rattle.desk_script.proofs.stream.script.Goals as goal
+
+pub loop-turn-init : goal.loop-turn-init
+loop-turn-init g c = record {
+  front = [];
+  read = Consumes-nil (g.R.Read.remaining c.args.reader.now);
+  served = HasServed-none g.D.Desk.are_right g.D.Desk.tells (g.D.Desk.content c.args.desk.now) (g.W.Write.contents c.args.writer.now) (record { refused = 0; failed = 0 }) c.new-line.result c.new-line.ensures;
+  refused = omega arith;
+  failed = omega arith;
+}
+
+pub returns-in_default-clause-err : goal.returns-in_default-clause-err
+returns-in_default-clause-err g c =
+    let at = c.loop-turn.invariant in
+    let left = AreLeft-front (g.R.Read.remaining c.args.reader.now) (g.R.Read.remaining c.loop-turn.reader) at.front at.read in (
+      at.front ++ left.0,
+      left.1,
+      IsFront-of g.D.Desk.are_right g.D.Desk.tells (g.D.Desk.content c.args.desk.now) at.front left.0 (g.D.Desk.content c.loop-turn.desk)
+          (g.W.Write.contents c.args.writer.now) (g.W.Write.contents c.loop-turn.writer) (record { refused = 0; failed = 0 }) c.loop-turn.end c.loop-turn.line at.served,
+    )
+
+pub returns-clause-err : goal.returns-clause-err
+returns-clause-err g c =
+    let at = c.loop-turn.invariant in
+    let left = AreLeft-front (g.R.Read.remaining c.args.reader.now) (g.R.Read.remaining c.loop-turn.reader) at.front at.read in (
+      at.front ++ left.0,
+      left.1,
+      IsFront-of g.D.Desk.are_right g.D.Desk.tells (g.D.Desk.content c.args.desk.now) at.front left.0 (g.D.Desk.content c.loop-turn.desk)
+          (g.W.Write.contents c.args.writer.now) (g.W.Write.contents c.loop-turn.writer) (record { refused = 0; failed = 0 }) c.loop-turn.end c.loop-turn.line at.served,
+    )
+
+pub returns-in_err-finish-clause-err : goal.returns-in_err-finish-clause-err
+returns-in_err-finish-clause-err g c =
+    let at = c.loop-turn.invariant in
+    let none : take c.in-Ok.taken c.read.new.buf ≡ [] = ap (λ (n : ℕ). take n c.read.new.buf) c.if-taken-eq0.true in
+    OnErr-always c.from_residual.result (
+      at.front,
+      AreLeft-all (g.R.Read.remaining c.args.reader.now) (g.R.Read.remaining c.loop-turn.reader) (g.R.Read.remaining c.read.new.self) at.front
+          (take c.in-Ok.taken c.read.new.buf) at.read c.in-Ok.ensures.bytes.0 none (c.in-Ok.ensures.bytes.1 c.if-taken-eq0.true (omega arith)),
+      c.in_err-finish.ensures.err (g.D.Desk.content c.args.desk.now) (g.W.Write.contents c.args.writer.now) at.front at.served,
+    )
+
+pub returns-then-taken-eq0-clause-ok : goal.returns-then-taken-eq0-clause-ok
+returns-then-taken-eq0-clause-ok g c =
+    let at = c.loop-turn.invariant in
+    let none : take c.in-Ok.taken c.read.new.buf ≡ [] = ap (λ (n : ℕ). take n c.read.new.buf) c.if-taken-eq0.true in (
+      at.front,
+      AreLeft-all (g.R.Read.remaining c.args.reader.now) (g.R.Read.remaining c.loop-turn.reader) (g.R.Read.remaining c.read.new.self) at.front
+          (take c.in-Ok.taken c.read.new.buf) at.read c.in-Ok.ensures.bytes.0 none (c.in-Ok.ensures.bytes.1 c.if-taken-eq0.true (omega arith)),
+      c.in_ok-finish.ensures.ok (g.D.Desk.content c.args.desk.now) (g.W.Write.contents c.args.writer.now) at.front at.served,
+    )
+
+pub returns-in_err-feed-clause-err : goal.returns-in_err-feed-clause-err
+returns-in_err-feed-clause-err g c =
+    let at = c.loop-turn.invariant in
+    let left = AreLeft-front (g.R.Read.remaining c.args.reader.now) (g.R.Read.remaining c.read.new.self) (at.front ++ take c.in-Ok.taken c.read.new.buf)
+    (Consumes-trans (g.R.Read.remaining c.args.reader.now) (g.R.Read.remaining c.loop-turn.reader) (g.R.Read.remaining c.read.new.self) at.front
+    (take c.in-Ok.taken c.read.new.buf) at.read c.in-Ok.ensures.bytes.0) in
+    OnErr-always c.from_residual-in_err-feed.result (
+      at.front ++ (take c.in-Ok.taken c.read.new.buf ++ left.0),
+      subst (AreLeft (g.R.Read.remaining c.args.reader.now)) (append_assoc at.front (take c.in-Ok.taken c.read.new.buf) left.0) left.1,
+      c.in_err-feed.ensures.err (g.D.Desk.content c.args.desk.now) (g.W.Write.contents c.args.writer.now) (record { refused = 0; failed = 0 }) at.front left.0 at.served,
+    )
+
+pub loop-turn-preserved : goal.loop-turn-preserved
+loop-turn-preserved g c =
+    let at = c.loop-turn.invariant in
+    let few = c.in_ok-feed.ensures.few in
+    let taken : length (take c.in-Ok.taken c.read.new.buf) ≡ min c.in-Ok.taken (length c.read.new.buf) = length-take c.in-Ok.taken c.read.new.buf in
+    record {
+      front = at.front ++ take c.in-Ok.taken c.read.new.buf;
+      read = Consumes-trans (g.R.Read.remaining c.args.reader.now) (g.R.Read.remaining c.loop-turn.reader) (g.R.Read.remaining c.read.new.self) at.front
+          (take c.in-Ok.taken c.read.new.buf) at.read c.in-Ok.ensures.bytes.0;
+      served = c.in_ok-feed.ensures.ok (g.D.Desk.content c.args.desk.now) (g.W.Write.contents c.args.writer.now) (record { refused = 0; failed = 0 }) at.front at.served;
+      refused = omega (arith, at.refused, few.0, taken);
+      failed = omega (arith, at.failed, few.1, taken);
+    }

@@ -1,0 +1,5 @@
+pub mod Lines
+pub mod Replies
+pub mod Texts
+pub mod Gathered
+pub mod Script

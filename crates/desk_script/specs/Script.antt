@@ -1,0 +1,61 @@
+-- What a script does: to the desk, to what is written and to what is counted.
+use Rattle.std.specs.Prelude.{◌≡◌, ◌≢◌, ℕ, ◌+◌, List, [], ◌∷◌, ◌++◌, Option, IfSome, All, sum_by}
+use Rattle.std.specs.Io.KnownBytes.{Appends}
+use Rattle.desk_base.specs.Lines.{CutsInto, LineText}
+use Rattle.desk_base.specs.declared.lines.LineEnd.{LineEnd}
+use Rattle.desk_base.specs.declared.lines.LineEnd.TheVariants.{Lf, CrLf, Nothing}
+use Rattle.desk_rows.specs.Readings.{Readings}
+use Rattle.desk_rows.specs.Tables.{Tables}
+use Rattle.desk_rows.specs.declared.command.StoreFault.{StoreFault}
+use Rattle.desk_json.specs.declared.request.Request.{Request}
+use Rattle.desk_script.specs.Gathered.{Shows}
+use Rattle.desk_script.specs.Lines.{BeginsWith, requests_of}
+use Rattle.desk_script.specs.Replies.{AreReplied, IsRun}
+use Rattle.desk_script.specs.Texts.{lines_of, count_refused, count_failed}
+use Rattle.desk_script.specs.declared.answer.Reply.{Reply}
+use Rattle.desk_script.specs.declared.line.Line.{Line}
+use Rattle.desk_script.specs.declared.serving.ScriptEnd.{ScriptEnd}
+
+-- the bytes that a reader has left; of one that doesn't tell them, any
+abbrev pub AreLeft : Option (List ℕ) → List ℕ → Type 0
+AreLeft remaining bytes = IfSome remaining (λ told. told ≡ bytes)
+
+module _ (is_right : Readings → Type 0) (tells : StoreFault → Type 0) (before : Tables) where
+  -- requests were replied, the replies written as lines, and counted
+  pub record Serves (requests : List Request) (after : Tables) (old new : Option (List ℕ)) (from to : ScriptEnd) : Type 0 where
+    pub replies : List Reply
+    pub replied : AreReplied is_right tells before requests replies after
+    pub written : Appends old new (lines_of replies)
+    pub refused : to.refused ≡ from.refused + sum_by count_refused replies
+    pub failed : to.failed ≡ from.failed + sum_by count_failed replies
+
+  -- A whole script: the bytes are cut into lines, the request of each line that isn't blank is replied, the commands among them are a
+  -- run, the replies are written, a line each, and counted.
+  pub record IsScript (bytes : List ℕ) (after : Tables) (old new : Option (List ℕ)) (end : ScriptEnd) : Type 0 where
+    pub lines : List LineText
+    pub replies : List Reply
+    pub cut : CutsInto 1 bytes lines
+    pub replied : AreReplied is_right tells before (requests_of lines) replies after
+    pub run : IsRun is_right before (requests_of lines) replies after
+    pub written : Appends old new (lines_of replies)
+    pub refused : end.refused ≡ sum_by count_refused replies
+    pub failed : end.failed ≡ sum_by count_failed replies
+
+  -- a script that stopped: of the lines that the bytes begin with some front was replied, and nothing else
+  pub record IsFront (bytes : List ℕ) (after : Tables) : Type 0 where
+    pub lines : List LineText
+    pub rest : List ℕ
+    pub replies : List Reply
+    pub begins : BeginsWith 1 bytes lines rest
+    pub replied : AreReplied is_right tells before (requests_of lines) replies after
+    pub run : IsRun is_right before (requests_of lines) replies after
+
+  -- as far as the bytes of a script came: the lines that an LF ended are served, and what came after them is the line so far
+  pub record HasServed (front : List ℕ) (after : Tables) (old new : Option (List ℕ)) (from to : ScriptEnd) (line : Line) : Type 0 where
+    pub lines : List LineText
+    pub came : List ℕ
+    pub begins : BeginsWith 1 front lines came
+    pub fed : All (λ l. l.end ≢ Nothing) lines
+    pub no_lf : All (λ b. b ≢ 10) came
+    pub shows : Shows line came
+    pub serves : Serves (requests_of lines) after old new from to

@@ -1,0 +1,58 @@
+//! Answers the request of a line.
+
+ghost use Rattle.std.specs.Prelude.{◌≡◌, List};
+ghost use Rattle.desk_rows.specs.Readings.{Readings};
+ghost use Rattle.desk_rows.specs.Tables.{tables};
+ghost use Rattle.desk_rows.specs.Answers.{IsHistory};
+ghost use Rattle.desk_rows.specs.declared.command.Command.{Command};
+ghost use Rattle.desk_json.specs.Requests.{request_in};
+ghost use Rattle.desk_json.specs.declared.request.Request.TheVariants.{Act, Ask};
+ghost use Rattle.desk_script.specs.Replies.{Replies};
+
+use desk_core::desk::Desk;
+use desk_json::{Request, read_command};
+use desk_rows::{Command, Fault, Outcome, Query};
+use std::alloc::Global;
+
+/// What a line is replied.
+#[derive(Debug, Drop)]
+pub enum Reply {
+    /// What became of its request.
+    Became(Outcome),
+    /// It is no request.
+    NoRequest,
+}
+
+/// Applies a command.
+fn applied<D: Desk>(desk: &mut D, command: &Command) -> Reply
+    ensures { Replies D.are_right D.tells (D.content desk.old) (Act command.now) result (D.content desk.new) }
+{
+    match desk.apply(command) {
+        Ok(answer) => Reply::Became(Outcome::Answered(answer)),
+        Err(fault) => Reply::Became(Outcome::Failed(fault)),
+    }
+}
+
+/// Asks a question.
+fn asked<D: Desk>(desk: &mut D, query: &Query) -> Reply
+    ensures { Replies D.are_right D.tells (D.content desk.old) (Ask query.now) result (D.content desk.new) }
+{
+    match desk.ask(query) {
+        Ok(answer) => Reply::Became(Outcome::Answered(answer)),
+        Err(fault) => Reply::Became(Outcome::Failed(fault)),
+    }
+}
+
+/// Answers the request that the text of a line is. Where memory is wanting to read it, it failed.
+pub fn answer_line<D: Desk>(alloc: Global, desk: &mut D, text: &[u8]) -> Reply
+    ensures { Replies D.are_right D.tells (D.content desk.old) (request_in text.now) result (D.content desk.new) }
+{
+    let Ok(request) = read_command(alloc, text) else {
+        return Reply::Became(Outcome::Failed(Fault::Memory));
+    };
+    match request {
+        Request::Act(command) => applied(desk, &command),
+        Request::Ask(query) => asked(desk, &query),
+        Request::BadCommand => Reply::NoRequest,
+    }
+}

@@ -1,0 +1,128 @@
+//! Serves a line: answers its request, writes the reply and counts it.
+
+ghost use Rattle.std.specs.Prelude.{◌≡◌, ◌∷◌, ◌++◌, ◌+◌, ◌≤◌, ◌<◌, ◌^◌, [], List, ℕ, OnOk};
+ghost use Rattle.std.specs.Io.KnownBytes.{Appends};
+ghost use Rattle.desk_script.specs.Gathered.{HasCome};
+ghost use Rattle.desk_script.specs.Texts.{line_of, count_refused, count_failed};
+ghost use Rattle.desk_script.specs.Lines.{request_at, request_of};
+ghost use Rattle.desk_script.specs.Replies.{AreReplied, Replies};
+ghost use Rattle.desk_script.specs.Script.{Serves};
+ghost use Rattle.desk_script.specs.declared.answer.Reply.{Reply};
+
+use crate::answer::{Reply, answer_line};
+use crate::line::Line;
+use desk_core::desk::Desk;
+use desk_json::{bad_command_line, memory_line, reply_line};
+use desk_rows::{Answer, Fault, Outcome};
+use std::alloc::{AllocError, Global};
+use std::io::Write;
+use thiserror::Error;
+
+/// How many lines of a script were refused, and how many failed.
+#[derive(Clone, Copy, Debug, PartialEq, Eq)]
+pub struct ScriptEnd {
+    /// The lines that are no request, and those whose request was refused.
+    pub refused: u64,
+    /// The lines whose request had a fault.
+    pub failed: u64,
+}
+
+/// Why a script stopped before its end.
+#[derive(Clone, Copy, Debug, Drop, PartialEq, Eq, Error)]
+pub enum ScriptFault {
+    #[error("cannot read a line")]
+    Read,
+    #[error("cannot write a reply")]
+    Write,
+    #[error("too many turns of reading")]
+    Turns,
+    #[error("no memory is left for a line or a reply")]
+    Memory,
+}
+
+impl From<AllocError> for ScriptFault {
+    ghost use Rattle.desk_script.specs.declared.serving.ScriptFault.TheVariants.{Memory};
+
+    ghost from_gives = { λ _ fault. fault ≡ Memory };
+
+    fn from(_error: AllocError) -> ScriptFault {
+        ScriptFault::Memory
+    }
+}
+
+impl ScriptEnd {
+    /// Counts a reply.
+    fn count(&mut self, reply: &Reply)
+        requires room { (self.old.refused + 1 < 2 ^ 64) × (self.old.failed + 1 < 2 ^ 64) }
+        ensures refused { self.new.refused ≡ self.old.refused + count_refused reply.now }
+        ensures failed { self.new.failed ≡ self.old.failed + count_failed reply.now }
+    {
+        match reply {
+            Reply::NoRequest | Reply::Became(Outcome::Answered(Answer::Refused(_))) => {
+                self.refused += 1
+            }
+            Reply::Became(Outcome::Failed(_)) => self.failed += 1,
+            Reply::Became(Outcome::Answered(_)) => {}
+        }
+    }
+}
+
+/// Writes a text as a line.
+fn write_line<W: Write>(writer: &mut W, text: &str) -> Result<(), ScriptFault>
+    ensures { OnOk result (Appends (W.contents writer.old) (W.contents writer.new) (text.now ++ 10 ∷ [])) }
+{
+    if writer.write_all(text.as_bytes()).is_err() {
+        return Err(ScriptFault::Write);
+    }
+    if writer.write_all(b"\n").is_err() || writer.flush().is_err() {
+        return Err(ScriptFault::Write);
+    }
+    Ok(())
+}
+
+/// Writes a reply as a line. That memory was wanting, and that there was no request, is told without taking memory.
+fn write_reply<W: Write>(alloc: Global, writer: &mut W, reply: &Reply) -> Result<(), ScriptFault>
+    ensures { OnOk result (Appends (W.contents writer.old) (W.contents writer.new) (line_of reply.now)) }
+{
+    match reply {
+        Reply::NoRequest => write_line(writer, bad_command_line()),
+        Reply::Became(Outcome::Failed(Fault::Memory)) => write_line(writer, memory_line()),
+        Reply::Became(outcome) => {
+            let text = reply_line(alloc, outcome)?;
+            write_line(writer, text.as_str())
+        }
+    }
+}
+
+/// The reply to a line that isn't blank.
+fn answer_kept<D: Desk>(alloc: Global, desk: &mut D, line: &Line) -> Reply
+    ensures { (text : List ℕ) → HasCome line.now text → Replies D.are_right D.tells (D.content desk.old) (request_of text) result (D.content desk.new) }
+{
+    if line.is_long {
+        return Reply::NoRequest;
+    }
+    answer_line(alloc, desk, line.kept.as_slice())
+}
+
+/// Serves a line of which these bytes came: a blank one is passed over; of any other the reply is written and counted., writes the reply and counts it.
+pub fn serve<D: Desk, W: Write>(
+    alloc: Global,
+    desk: &mut D,
+    writer: &mut W,
+    end: &mut ScriptEnd,
+    line: &Line,
+) -> Result<(), ScriptFault>
+    requires room { (end.old.refused + 1 < 2 ^ 64) × (end.old.failed + 1 < 2 ^ 64) }
+    ensures ok { (text : List ℕ) → HasCome line.now text → OnOk result (Serves D.are_right D.tells (D.content desk.old)
+        (request_at text) (D.content desk.new) (W.contents writer.old) (W.contents writer.new) end.old end.new) }
+    ensures replied { (text : List ℕ) → HasCome line.now text → (replies : List Reply)
+        × AreReplied D.are_right D.tells (D.content desk.old) (request_at text) replies (D.content desk.new) }
+    ensures few { (end.new.refused ≤ end.old.refused + 1) × (end.new.failed ≤ end.old.failed + 1) }
+{
+    if line.is_blank {
+        return Ok(());
+    }
+    let reply = answer_kept(alloc, desk, line);
+    end.count(&reply);
+    write_reply(alloc, writer, &reply)
+}

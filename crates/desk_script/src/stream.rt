@@ -1,0 +1,124 @@
+//! Cuts what is read into lines, and serves each as soon as it is whole.
+
+ghost use Rattle.std.specs.Prelude.{◌≡◌, ◌≢◌, ◌∷◌, ◌++◌, ◌+◌, ◌≤◌, ◌<◌, ◌^◌, [], List, ℕ, OnOk, OnErr, IfOk, Option, length};
+ghost use Rattle.desk_rows.specs.Tables.{Tables};
+ghost use Rattle.desk_script.specs.Script.{AreLeft, HasServed, IsFront, IsScript};
+ghost use Rattle.desk_script.specs.declared.serving.ScriptEnd.{ScriptEnd};
+
+use crate::line::Line;
+use crate::serving::{ScriptEnd, ScriptFault, serve};
+use desk_core::desk::Desk;
+use std::alloc::Global;
+use std::io::{Read, Write};
+
+/// How often a script reads.
+const TURNS: u32 = 1_048_576;
+
+/// The bytes that are read at once.
+const PIECE_BYTES: usize = 65_536;
+
+/// Takes a byte, and serves the line that it ends.
+fn step<D: Desk, W: Write>(
+    alloc: Global,
+    desk: &mut D,
+    writer: &mut W,
+    end: &mut ScriptEnd,
+    line: &mut Line,
+    byte: u8,
+) -> Result<(), ScriptFault>
+    requires room { (end.old.refused + 1 < 2 ^ 64) × (end.old.failed + 1 < 2 ^ 64) }
+    ensures ok { (before : Tables) (old : Option (List ℕ)) (from : ScriptEnd) (front : List ℕ)
+        → HasServed D.are_right D.tells before front (D.content desk.old) old (W.contents writer.old) from end.old line.old
+        → OnOk result (HasServed D.are_right D.tells before (front ++ byte ∷ []) (D.content desk.new) old (W.contents writer.new) from end.new line.new) }
+    ensures err { (before : Tables) (old : Option (List ℕ)) (from : ScriptEnd) (front more : List ℕ)
+        → HasServed D.are_right D.tells before front (D.content desk.old) old (W.contents writer.old) from end.old line.old
+        → OnErr result (IsFront D.are_right D.tells before (front ++ byte ∷ more) (D.content desk.new)) }
+    ensures few { (end.new.refused ≤ end.old.refused + 1) × (end.new.failed ≤ end.old.failed + 1) }
+{
+    if byte == b'\n' {
+        serve(alloc, desk, writer, end, line)?;
+        line.clear();
+    } else {
+        line.push(byte)?;
+    }
+    Ok(())
+}
+
+/// Takes the bytes of a piece, and serves the lines that end in it.
+fn feed<D: Desk, W: Write>(
+    alloc: Global,
+    desk: &mut D,
+    writer: &mut W,
+    end: &mut ScriptEnd,
+    line: &mut Line,
+    piece: &[u8],
+) -> Result<(), ScriptFault>
+    requires room { (end.old.refused + length piece.now < 2 ^ 64) × (end.old.failed + length piece.now < 2 ^ 64) }
+    ensures ok { (before : Tables) (old : Option (List ℕ)) (from : ScriptEnd) (front : List ℕ)
+        → HasServed D.are_right D.tells before front (D.content desk.old) old (W.contents writer.old) from end.old line.old
+        → OnOk result (HasServed D.are_right D.tells before (front ++ piece.now) (D.content desk.new) old (W.contents writer.new) from end.new line.new) }
+    ensures err { (before : Tables) (old : Option (List ℕ)) (from : ScriptEnd) (front more : List ℕ)
+        → HasServed D.are_right D.tells before front (D.content desk.old) old (W.contents writer.old) from end.old line.old
+        → OnErr result (IsFront D.are_right D.tells before (front ++ (piece.now ++ more)) (D.content desk.new)) }
+    ensures few { (end.new.refused ≤ end.old.refused + length piece.now) × (end.new.failed ≤ end.old.failed + length piece.now) }
+{
+    for byte in piece {
+        step(alloc, desk, writer, end, line, *byte)?;
+    }
+    Ok(())
+}
+
+/// Serves the last line, where it has no end of its own.
+fn finish<D: Desk, W: Write>(
+    alloc: Global,
+    desk: &mut D,
+    writer: &mut W,
+    end: &mut ScriptEnd,
+    line: &mut Line,
+) -> Result<(), ScriptFault>
+    requires room { (end.old.refused + 1 < 2 ^ 64) × (end.old.failed + 1 < 2 ^ 64) }
+    ensures ok { (before : Tables) (old : Option (List ℕ)) (front : List ℕ)
+        → HasServed D.are_right D.tells before front (D.content desk.old) old (W.contents writer.old) (record { refused = 0; failed = 0 }) end.old line.old
+        → OnOk result (IsScript D.are_right D.tells before front (D.content desk.new) old (W.contents writer.new) end.new) }
+    ensures err { (before : Tables) (old : Option (List ℕ)) (front : List ℕ)
+        → HasServed D.are_right D.tells before front (D.content desk.old) old (W.contents writer.old) (record { refused = 0; failed = 0 }) end.old line.old
+        → OnErr result (IsFront D.are_right D.tells before front (D.content desk.new)) }
+{
+    line.keep_cr()?;
+    serve(alloc, desk, writer, end, line)
+}
+
+/// Reads requests, a line each, and writes a reply line for each line that isn't blank. Replies go out line by line: each is
+/// written and flushed before the next line is served.
+///
+/// It goes on past refusals and faults, and counts them. At most 1,048,576 times the reader is asked for bytes. After a fault of
+/// the reader, of the writer or of memory for a line or a reply, what was accepted stands.
+pub fn script<D: Desk, R: Read, W: Write>(
+    alloc: Global,
+    desk: &mut D,
+    reader: &mut R,
+    writer: &mut W,
+) -> Result<ScriptEnd, ScriptFault>
+    ensures ok { IfOk result (λ end. (bytes : List ℕ) × AreLeft (R.remaining reader.old) bytes
+        × IsScript D.are_right D.tells (D.content desk.old) bytes (D.content desk.new) (W.contents writer.old) (W.contents writer.new) end) }
+    ensures err { OnErr result ((bytes : List ℕ) × AreLeft (R.remaining reader.old) bytes
+        × IsFront D.are_right D.tells (D.content desk.old) bytes (D.content desk.new)) }
+{
+    let mut end = ScriptEnd {
+        refused: 0,
+        failed: 0,
+    };
+    let mut line = Line::new(alloc);
+    let mut piece = [0u8; PIECE_BYTES];
+    for turn in 0..TURNS {
+        let Ok(taken) = reader.read(&mut piece) else {
+            return Err(ScriptFault::Read);
+        };
+        if taken == 0 {
+            finish(alloc, desk, writer, &mut end, &mut line)?;
+            return Ok(end);
+        }
+        feed(alloc, desk, writer, &mut end, &mut line, &piece[..taken])?;
+    }
+    Err(ScriptFault::Turns)
+}
