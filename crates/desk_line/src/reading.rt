@@ -88,6 +88,14 @@ mod tests {
     }
 
     #[test]
+    fn reads_script(rt: HostRuntime) {
+        let call = line(rt.alloc(), ["desk", "script"].as_slice());
+        assert!(rt; matches!(call, Ok(Call::Script)));
+        let kind = fault_kind(rt.alloc(), ["desk", "script", "x"].as_slice());
+        assert_eq!(rt; kind, Some(ErrorKind::UnknownArgument));
+    }
+
+    #[test]
     fn takes_words_that_begin_with_a_hyphen_behind_two(rt: HostRuntime) {
         let words = ["desk", "check", "--", "-x", "-x"];
         assert!(rt; line(rt.alloc(), words.as_slice()).is_ok());

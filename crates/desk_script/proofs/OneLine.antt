@@ -1,10 +1,8 @@
 -- The reply to one line.
-use Rattle.std.proofs.Common.{◌≡◌, ℕ, ◌+◌, ◌<◌, ◌≤◌, Bool, true, false, List, [], ◌∷◌, ◌++◌, Option, length, take, refl, sym, ap, ◌∙◌, subst, arith, append-nil}
-use Rattle.std.specs.Prelude.{if◌then◌else◌, nat_lt, sum_by}
+use Rattle.std.proofs.Common.{◌≡◌, ℕ, ◌+◌, Bool, true, false, List, [], ◌∷◌, Option, length, take, refl, sym, ap, ◌∙◌, subst, arith, append-nil}
+use Rattle.std.specs.Prelude.{if◌then◌else◌, nat_lt}
 use Rattle.std.specs.Io.KnownBytes.{Appends}
 use Rattle.std.proofs.lemmas.List.{take_all}
-use Rattle.std.proofs.lemmas.List.Sums.{sum_by-append}
-use Rattle.std.proofs.lemmas.Bool.{lt-ltb}
 use Rattle.desk_rows.specs.Readings.{Readings}
 use Rattle.desk_rows.specs.Tables.{Tables}
 use Rattle.desk_rows.specs.declared.command.Fault.TheVariants.{Memory}
@@ -14,10 +12,10 @@ use Rattle.desk_json.specs.Requests.{request_in}
 use Rattle.desk_json.specs.declared.request.Request.{Request}
 use Rattle.desk_json.specs.declared.request.Request.TheVariants.{Act, Ask, BadCommand}
 use Rattle.desk_script.specs.Gathered.{HasCome}
-use Rattle.desk_script.specs.Lines.{is_blank_line, line_bytes, request_at, request_of}
+use Rattle.desk_script.specs.Lines.{line_bytes, request_at, request_of}
 use Rattle.desk_script.specs.Replies.{AreReplied, Replies}
 use Rattle.desk_script.specs.Script.{Serves}
-use Rattle.desk_script.specs.Texts.{line_of, lines_of, count_refused, count_failed}
+use Rattle.desk_script.specs.Texts.{line_of, count_refused, count_failed}
 use Rattle.desk_script.specs.declared.answer.Reply.{Reply}
 use Rattle.desk_script.specs.declared.answer.Reply.TheVariants.{Became, NoRequest}
 use Rattle.desk_script.specs.declared.line.Line.{Line}

@@ -1,18 +1,18 @@
 -- What more bytes make of a script.
-use Rattle.std.proofs.Common.{◌≡◌, ◌≢◌, ℕ, ◌+◌, ◌<◌, Bool, true, false, List, [], ◌∷◌, ◌++◌, Option, None, Some, length, refl, sym, ap, ◌∙◌, subst, arith, append_assoc, append-nil}
-use Rattle.std.specs.Prelude.{All, slice_index, sum_by, if◌then◌else◌}
-use Rattle.std.specs.Io.KnownBytes.{Appends, Consumes, IsAtEnd, Keeps}
+use Rattle.std.proofs.Common.{◌≡◌, ◌≢◌, ℕ, ◌+◌, List, [], ◌∷◌, ◌++◌, Option, None, Some, length, refl, sym, ap, ◌∙◌, subst, arith, append_assoc, append-nil}
+use Rattle.std.specs.Prelude.{All}
+use Rattle.std.specs.Io.KnownBytes.{Consumes, IsAtEnd}
 use Rattle.std.proofs.lemmas.List.Elements.{All-nil, All-cons, All-append}
 use Rattle.desk_base.specs.Lines.{CutsInto, IsLine, LineText}
 use Rattle.desk_base.specs.declared.lines.LineEnd.{LineEnd}
-use Rattle.desk_base.specs.declared.lines.LineEnd.TheVariants.{Lf, CrLf, Nothing}
+use Rattle.desk_base.specs.declared.lines.LineEnd.TheVariants.{Nothing}
 use Rattle.desk_rows.specs.Readings.{Readings}
 use Rattle.desk_rows.specs.Tables.{Tables}
 use Rattle.desk_rows.specs.declared.command.StoreFault.{StoreFault}
 use Rattle.desk_json.specs.declared.request.Request.{Request}
-use Rattle.desk_script.specs.Gathered.{HasCome, Shows, with_cr}
+use Rattle.desk_script.specs.Gathered.{Shows}
 use Rattle.desk_script.specs.Lines.{BeginsWith, request_at, requests_of}
-use Rattle.desk_script.specs.Replies.{AreReplied, IsRun}
+use Rattle.desk_script.specs.Replies.{AreReplied}
 use Rattle.desk_script.specs.Script.{AreLeft, HasServed, IsFront, IsScript, Serves}
 use Rattle.desk_script.specs.declared.answer.Reply.{Reply}
 use Rattle.desk_script.specs.declared.line.Line.{Line}

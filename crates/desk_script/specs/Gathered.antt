@@ -1,5 +1,5 @@
 -- What is kept of a line as far as it came.
-use Rattle.std.specs.Prelude.{◌≡◌, ◌≢◌, ℕ, ◌-◌, ◌≤◌, Bool, true, false, List, [], ◌∷◌, ◌++◌, nat_lt, length, take, slice_index}
+use Rattle.std.specs.Prelude.{◌≡◌, ◌≢◌, ℕ, ◌-◌, Bool, true, false, List, [], ◌∷◌, ◌++◌, nat_lt, length, take, slice_index}
 use Rattle.desk_script.specs.Lines.{line_bytes, is_blank_line}
 use Rattle.desk_script.specs.declared.line.Line.{Line}
 

@@ -1,5 +1,5 @@
 -- What requests are replied, one after the other.
-use Rattle.std.specs.Prelude.{◌≡◌, List, [], ◌∷◌, if◌then◌else◌}
+use Rattle.std.specs.Prelude.{◌≡◌, List, [], ◌∷◌}
 use Rattle.desk_rows.specs.Readings.{Readings}
 use Rattle.desk_rows.specs.Tables.{Tables, tables}
 use Rattle.desk_rows.specs.Answers.{IsHistory}

@@ -1,9 +1,8 @@
 -- What a script does: to the desk, to what is written and to what is counted.
-use Rattle.std.specs.Prelude.{◌≡◌, ◌≢◌, ℕ, ◌+◌, List, [], ◌∷◌, ◌++◌, Option, IfSome, All, sum_by}
+use Rattle.std.specs.Prelude.{◌≡◌, ◌≢◌, ℕ, ◌+◌, List, Option, IfSome, All, sum_by}
 use Rattle.std.specs.Io.KnownBytes.{Appends}
 use Rattle.desk_base.specs.Lines.{CutsInto, LineText}
-use Rattle.desk_base.specs.declared.lines.LineEnd.{LineEnd}
-use Rattle.desk_base.specs.declared.lines.LineEnd.TheVariants.{Lf, CrLf, Nothing}
+use Rattle.desk_base.specs.declared.lines.LineEnd.TheVariants.{Nothing}
 use Rattle.desk_rows.specs.Readings.{Readings}
 use Rattle.desk_rows.specs.Tables.{Tables}
 use Rattle.desk_rows.specs.declared.command.StoreFault.{StoreFault}

@@ -1,4 +1,4 @@
-use Rattle.std.proofs.Common.{◌≡◌, ◌++◌, [], List, ℕ, append-nil, subst}
+use Rattle.std.proofs.Common.{[], List, ℕ, append-nil, subst}
 use Rattle.std.proofs.lemmas.Result.{on_ok_weaker}
 use Rattle.desk_script.specs.Script.{IsFront}
 use Rattle.desk_script.proofs.Progress.{IsFront-end, IsFront-of, IsScript-end}

@@ -1,4 +1,4 @@
-use Rattle.std.proofs.Common.{◌≡◌, ℕ, ◌++◌, ◌∷◌, [], sym, subst}
+use Rattle.std.proofs.Common.{ℕ, ◌++◌, ◌∷◌, [], sym, subst}
 use Rattle.desk_script.specs.Script.{HasServed, IsFront}
 use Rattle.desk_script.proofs.Progress.{HasServed-byte, HasServed-line, IsFront-line, IsFront-of}
 use Rattle.desk_script.proofs.Results.{OnErr-always}

@@ -1,4 +1,3 @@
-use Rattle.desk_script.specs.Gathered.{HasCome}
 use Rattle.desk_script.proofs.Gathering.{HasCome-whole}
 use Rattle.desk_script.proofs.line.Line.keep_cr.Goals as goal
 

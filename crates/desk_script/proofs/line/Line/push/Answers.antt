@@ -1,4 +1,4 @@
-use Rattle.std.proofs.Common.{◌≡◌, ◌∙◌, ap, sym, subst}
+use Rattle.std.proofs.Common.{◌∙◌}
 use Rattle.std.proofs.lemmas.Result.{on_ok_weaker}
 use Rattle.desk_script.proofs.Gathering.{Shows-byte, Shows-cr}
 use Rattle.desk_script.proofs.line.Line.push.Goals as goal

@@ -1,4 +1,4 @@
-use Rattle.std.proofs.Common.{◌∙◌, ap, sym, arith}
+use Rattle.std.proofs.Common.{◌∙◌, arith}
 use Rattle.desk_script.specs.Lines.{line_bytes}
 use Rattle.desk_script.proofs.Gathering.{kept_more, long_more, kept_full, long_full, blank_more}
 use Rattle.desk_script.proofs.line.Line.put.Goals as goal
