@@ -197,7 +197,7 @@ fn shipping(alloc: Global, count: usize) -> Result<Command, AllocError> {
     import(alloc, text.as_str())
 }
 
-/// Opens a release of document 1 and chooses MIT for each of its packages.
+/// Opens a release of the first document and chooses MIT for each of its packages.
 fn choose_all(
     rt: &impl Abort,
     alloc: Global,

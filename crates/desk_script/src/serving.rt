@@ -104,7 +104,7 @@ fn answer_kept<D: Desk>(alloc: Global, desk: &mut D, line: &Line) -> Reply
     answer_line(alloc, desk, line.kept.as_slice())
 }
 
-/// Serves a line of which these bytes came: a blank one is passed over; of any other the reply is written and counted., writes the reply and counts it.
+/// Serves a line of which these bytes came: a blank one is passed over; of any other the reply is written and counted.
 pub fn serve<D: Desk, W: Write>(
     alloc: Global,
     desk: &mut D,
