@@ -36,6 +36,3 @@ mod values;
 pub use laws::{first_rule_counts, one_catalogue, terms_are_read};
 pub use lookup::{has_form, rule, spelled};
 pub use reading::read;
-
-#[cfg(test)]
-mod tests;

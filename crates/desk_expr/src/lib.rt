@@ -32,6 +32,3 @@ pub use term::Term;
 pub use term_reader::parse_term;
 pub use token::{Kind, Token, tokens};
 pub use truth::{Verdict, check_choice, holds};
-
-#[cfg(test)]
-mod tests;

@@ -23,6 +23,3 @@ pub use scan::Field;
 pub use scanner::{Scanner, fields, one_reading};
 pub use tag::Tag;
 pub use text::{skip_blanks, split_word};
-
-#[cfg(test)]
-mod tests;

@@ -37,8 +37,3 @@ pub use reading::read_command;
 pub use replies::{bad_command_line, memory_line, reply_line};
 pub use request::Request;
 pub use rows::written_days_are_told;
-
-#[cfg(test)]
-mod reply_tests;
-#[cfg(test)]
-mod request_tests;

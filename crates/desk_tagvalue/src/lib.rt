@@ -36,6 +36,3 @@ pub use parts::{Edge, Extracted, FileEntry, Package, Snippet};
 pub use reading::{Document, one_document, read};
 pub use sections::{SectionKind, is_placed, section_begun};
 pub use writing::{WriteFault, one_digest, write};
-
-#[cfg(test)]
-mod tests;

@@ -1,7 +1,7 @@
 //! Requests as clients write them, and texts that are none.
 
-use crate::{Request, read_command};
 use desk_base::Text;
+use desk_json::{Request, read_command};
 use desk_rows::{Command, Profile, Query};
 use std::alloc::{AllocError, Global};
 use std::process::Abort;

@@ -1,4 +1,4 @@
-use crate::{has_form, limits, read, rule, spelled};
+use desk_catalogue::{has_form, limits, read, rule, spelled};
 use desk_expr::parse_term;
 use desk_rows::{Catalogue, CatalogueFault, CataloguePart};
 use std::alloc::{AllocError, Global};

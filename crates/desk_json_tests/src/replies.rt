@@ -1,7 +1,7 @@
 //! Replies, byte for byte.
 
-use crate::{bad_command_line, memory_line, reply_line};
 use desk_base::{Day, Items, Text};
+use desk_json::{bad_command_line, memory_line, reply_line};
 use desk_rows::{
     Answer, CatalogueFault, CataloguePart, DocumentFault, DutyLine, DutyState, ExpressionFault,
     Fault, Limit, Outcome, Refusal, ReleaseState, StoreFault, Totals,

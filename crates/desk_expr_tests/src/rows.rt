@@ -1,10 +1,10 @@
 //! Worked examples: verdicts and the faults of texts, one by one.
 
-use crate::{
+use desk_base::Key;
+use desk_expr::{
     ParseFault, Shape, Term, Verdict, check_choice, holds, parse, parse_term, print, print_term,
     terms, tokens,
 };
-use desk_base::Key;
 use std::alloc::{AllocError, Global};
 use std::process::Abort;
 use std::test::Fail;
