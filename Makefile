@@ -5,6 +5,7 @@
 PREFIX = /usr/local
 DESTDIR =
 ARGS = check MIT mit
+CRATES =
 
 program = crates/desk_program
 documents = crates/desk_documents_bench
@@ -39,15 +40,21 @@ test:
 acceptance: build
 	@sh tests/acceptance/run.sh build/desk
 
+# More edits that the prover must refuse: make edits CRATES='desk_expr'
+edits:
+	@echo 'Trying edits that turn a meaning: minutes for each crate.'
+	@sh tests/edits.sh $(CRATES)
+
 # Runs the program with no proof: make try ARGS='check MIT mit'
 try:
 	@echo 'Trying the program with no proof: this says nothing of its contracts.'
 	@cd $(program) && rt try -- $(ARGS)
 
-# Times the program, beside another one, its scripts, and the reading of documents.
+# Times the program, beside another one, its scripts, by the rows that a desk holds, and the reading of documents.
 bench: build
 	@python3 bench/bench.py build/desk
 	@python3 bench/script.py build/desk build/scripts
+	@python3 bench/rows.py build/desk
 	@echo 'Building the program that reads documents.'
 	@cd $(documents) && { rt run >../../build/log 2>&1 || { cat ../../build/log; exit 1; }; }
 	@python3 bench/documents.py $(documents)/out/desk_documents_bench build/documents
@@ -59,4 +66,4 @@ install: build
 clean:
 	rm -rf build
 
-.PHONY: all build demo test acceptance try bench install clean
+.PHONY: all build demo test acceptance edits try bench install clean
