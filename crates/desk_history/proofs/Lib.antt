@@ -9,6 +9,10 @@ mod Freezing
 pub mod Steps
 pub mod Queries
 pub mod Running
+mod Members
 mod RaisedLaw
 mod Counting
 mod Minimal
+mod Told
+mod Distinct
+pub mod OwnKeys

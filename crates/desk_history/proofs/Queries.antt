@@ -26,7 +26,7 @@ in_all : (n l k : ℕ) → 1 ≤ n → n + (k + 1) ≡ 1 + l → in_range 1 n l 
 in_all n l k le e = grind (arith, nat_tests)
 
 -- the changes of a duty that is raised are its rows in the table
-changes-found : (w : Readings) (h : List Command) (n : ℕ) → in_range 1 n (length (raised w h)) ≡ true → filter (is_change_of n) (all_changes w h) ≡ changes w h n
+pub changes-found : (w : Readings) (h : List Command) (n : ℕ) → in_range 1 n (length (raised w h)) ≡ true → filter (is_change_of n) (all_changes w h) ≡ changes w h n
 changes-found w h n e = changes-numbered w h n 1 (raised w h) ∙ rw e refl
 
 lines_from : (w : Readings) (h : List Command) (r : List ℕ) (n : ℕ) (xs : List Owed) → 1 ≤ n → n + length xs ≡ 1 + length (raised w h) → map (duty_line (λ q. filter (is_change_of q) (all_changes w h))) (filter (is_duty_of r) (map (λ (d : ℕ × Owed). duty_row (place w h d.0) d) (enumerate_from n xs))) ≡ map (duty_line (changes w h)) (filter (is_duty_of r) (map (λ (d : ℕ × Owed). duty_row (place w h d.0) d) (enumerate_from n xs)))

@@ -1,44 +1,16 @@
 -- A duty is raised exactly where a freeze of its release raises it.
 use Rattle.std.proofs.Common.{◌≡◌, ℕ, List, [], ◌∷◌, ◌++◌, map, Option, Some, None, sym, refl, ap, ◌∙◌, subst, inl, inr}
-use Rattle.std.specs.Prelude.{◌⊎◌, unwrap_or}
-use Rattle.std.specs.List.{flat_map}
+use Rattle.std.specs.Prelude.{unwrap_or}
 use Rattle.desk_rows.specs.Lists.{IsIn}
 use Rattle.desk_rows.specs.Readings.{Readings}
 use Rattle.desk_rows.specs.History.{in_force, rules_in, form_of, choice}
 use Rattle.desk_rows.specs.Raised.{IsRaised, raised, owed_at, owed_for_terms, owed_under, owed_code, rule_adopted, shipped, chosen_in}
+use Rattle.desk_history.proofs.Members.{in_left, in_right, in_cases, in_map, from_map, in_flat_map, from_flat_map}
 use Rattle.desk_rows.specs.declared.reading.Rule.{Rule}
 use Rattle.desk_rows.specs.declared.row.PackageRow.{PackageRow}
 use Rattle.desk_rows.specs.declared.row.Owed.{Owed}
 use Rattle.desk_rows.specs.declared.command.Command.{Command}
 use Rattle.desk_rows.specs.declared.command.Command.TheVariants.{LoadCatalogue, Import, OpenRelease, Attach, Choose, Freeze, Meet}
-
-in_left : {A : Type 0} (x : A) (xs ys : List A) → IsIn x xs → IsIn x (xs ++ ys)
-in_left x [] ys h = absurd h
-in_left x (y ∷ xs) ys h = elim h [ inl e ↦ inl e | inr m ↦ inr (in_left x xs ys m) ]
-
-in_right : {A : Type 0} (x : A) (xs ys : List A) → IsIn x ys → IsIn x (xs ++ ys)
-in_right x [] ys h = h
-in_right x (y ∷ xs) ys h = inr (in_right x xs ys h)
-
-in_cases : {A : Type 0} (x : A) (xs ys : List A) → IsIn x (xs ++ ys) → IsIn x xs ⊎ IsIn x ys
-in_cases x [] ys h = inr h
-in_cases x (y ∷ xs) ys h = elim h [ inl e ↦ inl (inl e) | inr m ↦ (elim (in_cases x xs ys m) [ inl l ↦ inl (inr l) | inr r ↦ inr r ]) ]
-
-in_map : {A B : Type 0} (f : A → B) (x : A) (xs : List A) → IsIn x xs → IsIn (f x) (map f xs)
-in_map f x [] h = absurd h
-in_map f x (y ∷ xs) h = elim h [ inl e ↦ inl (ap f e) | inr m ↦ inr (in_map f x xs m) ]
-
-from_map : {A B : Type 0} (f : A → B) (z : B) (xs : List A) → IsIn z (map f xs) → (x : A) × IsIn x xs × (f x ≡ z)
-from_map f z [] h = absurd h
-from_map f z (y ∷ xs) h = elim h [ inl e ↦ (y, inl refl, e) | inr m ↦ (let w = from_map f z xs m in (w.0, inr w.1, w.2)) ]
-
-in_flat_map : {A B : Type 0} (f : A → List B) (x : A) (z : B) (xs : List A) → IsIn x xs → IsIn z (f x) → IsIn z (flat_map f xs)
-in_flat_map f x z [] h g = absurd h
-in_flat_map f x z (y ∷ xs) h g = elim h [ inl e ↦ in_left z (f y) (flat_map f xs) (subst (λ u. IsIn z (f u)) (sym e) g) | inr m ↦ in_right z (f y) (flat_map f xs) (in_flat_map f x z xs m g) ]
-
-from_flat_map : {A B : Type 0} (f : A → List B) (z : B) (xs : List A) → IsIn z (flat_map f xs) → (x : A) × IsIn x xs × IsIn z (f x)
-from_flat_map f z [] h = absurd h
-from_flat_map f z (y ∷ xs) h = elim (in_cases z (f y) (flat_map f xs) h) [ inl l ↦ (y, inl refl, l) | inr r ↦ (let w = from_flat_map f z xs r in (w.0, inr w.1, w.2)) ]
 
 -- what is raised stays raised
 raised_grows : (w : Readings) (c : Command) (h : List Command) (d : Owed) → IsIn d (raised w h) → IsIn d (raised w (c ∷ h))

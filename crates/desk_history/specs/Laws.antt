@@ -1,12 +1,23 @@
 -- Laws of the recorded history, in the subject's own words.
-use Rattle.std.specs.Prelude.{◌≡◌, ℕ, List, find, Some}
-use Rattle.std.specs.List.{filter_map}
+use Rattle.std.specs.Prelude.{◌≡◌, ℕ, List, [], ◌∷◌, map, filter, find, Some, None, Ok}
+use Rattle.std.specs.List.{filter_map, last_or}
+use Rattle.std.specs.Option.{option_map}
+use Rattle.desk_rows.specs.Lists.{IsIn}
 use Rattle.desk_rows.specs.Readings.{Readings}
-use Rattle.desk_rows.specs.Keys.{is_package, is_document}
+use Rattle.desk_rows.specs.Keys.{is_package, is_document, is_change_of}
 use Rattle.desk_rows.specs.History.{documents, packages, expression_in}
+use Rattle.desk_rows.specs.declared.reading.Catalogue.{Catalogue}
+use Rattle.desk_rows.specs.declared.reading.Document.{Document}
+use Rattle.desk_rows.specs.declared.reading.Rule.{Rule}
 use Rattle.desk_rows.specs.declared.reading.Verdict.TheVariants.{Minimal}
 use Rattle.desk_rows.specs.declared.row.DocumentRow.{DocumentRow}
 use Rattle.desk_rows.specs.declared.row.PackageRow.{PackageRow}
+use Rattle.desk_rows.specs.declared.row.DutyRow.{DutyRow}
+use Rattle.desk_rows.specs.declared.row.ChangeRow.{ChangeRow}
+use Rattle.desk_rows.specs.declared.state.DutyState.{DutyState}
+use Rattle.desk_rows.specs.declared.state.DutyState.TheVariants as stands
+use Rattle.desk_rows.specs.declared.state.Word.{Word}
+use Rattle.desk_rows.specs.declared.state.Word.TheVariants as word
 use Rattle.desk_rows.specs.declared.command.Command.{Command}
 
 -- a choice that was recorded after these commands: the package has a concluded expression, of which the terms are a minimal set
@@ -18,3 +29,30 @@ pub record IsMinimalChoice (w : Readings) (before : List Command) (d : ℕ) (p :
   pub has : find (is_package d p) (packages w before) ≡ Some row
   pub concludes : expression_in w document.profile row.concluded ≡ Some expression
   pub minimal : w.verdict document.profile expression (filter_map w.term texts) ≡ Minimal
+
+-- no two of some are the same
+abbrev pub AreDistinct : {A : Type 0} → List A → Type 0
+AreDistinct [] = Unit {0}
+AreDistinct (x ∷ xs) = (¬ IsIn x xs) × AreDistinct xs
+
+-- what a duty is owed for: its release, document, package, term and code
+abbrev pub key_of : DutyRow → List ℕ × ℕ × List ℕ × List ℕ × List ℕ
+key_of duty = (duty.release, duty.document, duty.package_id, duty.term, duty.code)
+
+-- a reading that lists nothing twice: the packages of a document have different ids, the codes of a rule are different
+pub record ListsOnce (w : Readings) : Type 0 where
+  pub packages : (bytes : List ℕ) (document : Document) → w.document bytes ≡ Ok document → AreDistinct (map (λ p. p.id) document.packages)
+  pub codes : (text : List ℕ) (catalogue : Catalogue) (rule : Rule) → w.catalogue text ≡ Ok catalogue → IsIn rule catalogue.rules → AreDistinct rule.codes
+
+-- where a change with this word leaves a duty
+abbrev pub state_after : Word → DutyState
+state_after word.Raised = stands.IsOpen
+state_after word.Met = stands.Met
+state_after word.Waived = stands.Waived
+state_after word.Reopened = stands.IsOpen
+state_after word.Withdrawn = stands.Withdrawn
+state_after word.Ended = stands.IsOpen
+
+-- a duty stands where the last of its changes left it
+abbrev pub IsToldBy : List ChangeRow → DutyRow → Type 0
+IsToldBy changes duty = option_map (λ change. state_after change.word) (last_or None (filter (is_change_of duty.number) changes)) ≡ Some duty.state

@@ -9,11 +9,12 @@ ghost use Rattle.desk_rows.specs.Readings.{Readings};
 ghost use Rattle.desk_rows.specs.Keys.{is_choice_of};
 ghost use Rattle.desk_rows.specs.History.{choice};
 ghost use Rattle.desk_rows.specs.Raised.{raised, IsRaised};
-ghost use Rattle.desk_rows.specs.Tables.{standing, choice_row};
+ghost use Rattle.desk_rows.specs.Tables.{tables, standing, choice_row};
 ghost use Rattle.desk_rows.specs.Answers.{answer, noted, IsHistory};
 ghost use Rattle.desk_rows.specs.Queries.{duties_of, totals_of};
-ghost use Rattle.desk_history.specs.Laws.{IsMinimalChoice};
+ghost use Rattle.desk_history.specs.Laws.{IsMinimalChoice, AreDistinct, key_of, ListsOnce, IsToldBy};
 ghost use Rattle.desk_rows.specs.declared.row.Owed.{Owed};
+ghost use Rattle.desk_rows.specs.declared.row.DutyRow.{DutyRow};
 ghost use Rattle.desk_rows.specs.declared.command.Command.{Command};
 ghost use Rattle.desk_rows.specs.declared.command.Command.TheVariants.{Choose};
 
@@ -37,6 +38,17 @@ pub fn last_choice_stands()
 /// Each duty that was raised is open, met, waived or withdrawn, and only one of these.
 pub fn each_duty_stands_once()
     ensures { (w : Readings) (h : List Command) (r : List ℕ) → let totals = totals_of (duties_of w h r) in totals.raised ≡ totals.still_open + totals.met + totals.waived + totals.withdrawn }
+{}
+
+/// No two duties of the table have the same key, where the reading of texts lists no package of a document and no code of a rule
+/// twice: a release is frozen once, a document attached once, and a choice is a set of terms.
+pub fn keys_are_distinct()
+    ensures { (w : Readings) (h : List Command) → ListsOnce w → IsHistory w h → let t = tables w h in AreDistinct (map key_of t.duty) }
+{}
+
+/// A duty of the table stands where the last of its changes in the table left it: open after it was raised, met after a Meet.
+pub fn each_place_is_told()
+    ensures { (w : Readings) (h : List Command) (duty : DutyRow) → let t = tables w h in IsIn duty t.duty → IsToldBy t.changes duty }
 {}
 
 /// A recorded history with a recorded command is a recorded history.
