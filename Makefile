@@ -27,7 +27,7 @@ build:
 demo: build
 	@sh examples/demo.sh build/desk
 
-# The merge gate, and then the acceptance cases on the built program.
+# The merge gate, and then the acceptance cases and refused allocations on the built program.
 test:
 	@echo 'Running the gate: every proof from nothing, every must-fail edit, every test.'
 	@echo 'That takes minutes to hours: docs/GATE.md has the times of each machine.'
@@ -35,10 +35,16 @@ test:
 	@$(MAKE) build
 	@echo 'Running the acceptance cases on build/desk.'
 	@sh tests/acceptance/run.sh build/desk
+	@echo 'Refusing each allocation of build/desk in turn.'
+	@python3 tests/allocations/sweep.py build/desk
 
 # The acceptance cases alone.
 acceptance: build
 	@sh tests/acceptance/run.sh build/desk
+
+# Refuses each allocation of the program in turn, over the acceptance cases. It needs a C compiler and Python.
+allocations: build
+	@python3 tests/allocations/sweep.py build/desk
 
 # More edits that the prover must refuse: make edits CRATES='desk_expr'
 edits:
@@ -66,4 +72,4 @@ install: build
 clean:
 	rm -rf build
 
-.PHONY: all build demo test acceptance edits try bench install clean
+.PHONY: all build demo test acceptance allocations edits try bench install clean

@@ -1,3 +1,4 @@
 mod Verdicts
 mod Reading
 mod Rights
+mod Once

@@ -7,6 +7,7 @@ ghost use Rattle.desk_expr.specs.Meaning.{IsMinimal};
 ghost use Rattle.desk_rows.specs.Readings.{Readings};
 ghost use Rattle.desk_rows.specs.declared.reading.Profile.{Profile};
 ghost use Rattle.desk_rows.specs.declared.reading.Verdict.TheVariants.{Minimal};
+ghost use Rattle.desk_history.specs.Laws.{ListsOnce};
 ghost use Rattle.desk_texts.specs.Expressions.{IsExpression};
 ghost use Rattle.desk_texts.specs.Terms.{AreTerms};
 ghost use Rattle.desk_texts.specs.Right.{AreRight};
@@ -29,4 +30,10 @@ pub fn one_right_reading()
 /// What a right reading calls minimal is a minimal set of terms for the expression that the value spells.
 pub fn choices_are_minimal_sets()
     ensures { (w : Readings) → AreRight w → (profile : Profile) (text : List ℕ) (words : List (List ℕ)) → w.verdict profile text words ≡ Minimal → (e : Tree) × (ts : List Term) × IsExpression text e × AreTerms words ts × IsMinimal ts e }
+{}
+
+/// A right reading lists no package of a document and no code of a rule twice, so no two duties of a desk have the same key
+/// (`keys_are_distinct` of `desk_history`).
+pub fn right_readings_list_once()
+    ensures { (w : Readings) → AreRight w → ListsOnce w }
 {}

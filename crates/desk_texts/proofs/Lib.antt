@@ -1,4 +1,4 @@
 mod Faults
 mod Terms
-mod Orders
-mod Halving
+pub mod Orders
+pub mod Halving
