@@ -35,95 +35,63 @@ fn term_fault(alloc: Global, text: &str) -> Option<ParseFault> {
 }
 
 #[test]
-fn one_licence_in_two_spellings(rt: HostRuntime) -> Result<(), Fail> {
-    assert_eq!(rt; verdict(rt.alloc(), "MIT", &["mit"])?, Verdict::Minimal);
-    Ok(())
-}
-
-#[test]
-fn binding_and_superfluous_terms(rt: HostRuntime) -> Result<(), Fail> {
-    let text = "A AND B OR C";
-    assert_eq!(rt; verdict(rt.alloc(), text, &["C"])?, Verdict::Minimal);
-    assert_eq!(rt;
-        verdict(rt.alloc(), text, &["A", "C"])?,
-        Verdict::Superfluous(0)
-    );
-    assert_eq!(rt; verdict(rt.alloc(), text, &["A"])?, Verdict::NotEnough);
-    assert_eq!(rt;
-        verdict(rt.alloc(), "A OR B", &["b", "a", "A"])?,
-        Verdict::Superfluous(0)
-    );
-    assert_eq!(rt;
-        verdict(rt.alloc(), "MIT", &["mit", "MIT"])?,
-        Verdict::Minimal
-    );
+fn verdicts(rt: HostRuntime) -> Result<(), Fail> {
+    let rows: [(&str, &[&str], Verdict); 6] = [
+        ("MIT", &["mit"], Verdict::Minimal),
+        ("A AND B OR C", &["C"], Verdict::Minimal),
+        ("A AND B OR C", &["A", "C"], Verdict::Superfluous(0)),
+        ("A AND B OR C", &["A"], Verdict::NotEnough),
+        ("A OR B", &["b", "a", "A"], Verdict::Superfluous(0)),
+        ("MIT", &["mit", "MIT"], Verdict::Minimal),
+    ];
+    for (text, words, expected) in rows {
+        assert_eq!(rt; verdict(rt.alloc(), text, words)?, expected, "{text}");
+    }
     Ok(())
 }
 
 #[test]
 fn faults_and_places(rt: HostRuntime) {
-    let alloc = rt.alloc();
-    assert_eq!(rt; fault(alloc, "GPL-2.0 +"), Some(ParseFault::BadToken(8)));
-    assert_eq!(rt; fault(alloc, "MIT AND"), Some(ParseFault::Unexpected(7)));
-    assert_eq!(rt; fault(alloc, ""), Some(ParseFault::Empty(0)));
-    assert_eq!(rt; fault(alloc, " \t"), Some(ParseFault::Empty(0)));
-    assert_eq!(rt; fault(alloc, "(MIT"), Some(ParseFault::Unclosed(0)));
-    assert_eq!(rt; fault(alloc, "()"), Some(ParseFault::Unexpected(1)));
-    assert_eq!(rt;
-        fault(alloc, "((MIT) AND (A OR B"),
-        Some(ParseFault::Unclosed(11))
-    );
-    assert_eq!(rt;
-        fault(alloc, "(MIT) AND ((A OR B)"),
-        Some(ParseFault::Unclosed(10))
-    );
-    assert_eq!(rt; fault(alloc, "MIT)"), Some(ParseFault::Unexpected(3)));
-    assert_eq!(rt;
-        fault(alloc, "MIT or Zlib"),
-        Some(ParseFault::Unexpected(4))
-    );
-    assert_eq!(rt; fault(alloc, "A WITH b+"), Some(ParseFault::Unexpected(7)));
-    assert_eq!(rt;
-        fault(alloc, "A WITH LicenseRef-b"),
-        Some(ParseFault::Unexpected(7))
-    );
-    assert_eq!(rt; fault(alloc, "(A) WITH b"), Some(ParseFault::Unexpected(4)));
-    assert_eq!(rt;
-        fault(alloc, "A WITH b WITH c"),
-        Some(ParseFault::Unexpected(9))
-    );
-    assert_eq!(rt;
-        fault(alloc, "LicenseRef-a+"),
-        Some(ParseFault::BadToken(0))
-    );
-    assert_eq!(rt;
-        fault(alloc, "DocumentRef-a"),
-        Some(ParseFault::BadToken(0))
-    );
-    assert_eq!(rt; fault(alloc, "DocumentRef-LicenseRef-a:LicenseRef-b"), None);
-    assert_eq!(rt; fault(alloc, "licenseref-x"), None);
-    assert_eq!(rt; fault(alloc, "A AND é"), Some(ParseFault::BadToken(6)));
+    let rows = [
+        ("GPL-2.0 +", Some(ParseFault::BadToken(8))),
+        ("MIT AND", Some(ParseFault::Unexpected(7))),
+        ("", Some(ParseFault::Empty(0))),
+        (" \t", Some(ParseFault::Empty(0))),
+        ("(MIT", Some(ParseFault::Unclosed(0))),
+        ("()", Some(ParseFault::Unexpected(1))),
+        ("((MIT) AND (A OR B", Some(ParseFault::Unclosed(11))),
+        ("(MIT) AND ((A OR B)", Some(ParseFault::Unclosed(10))),
+        ("MIT)", Some(ParseFault::Unexpected(3))),
+        ("MIT or Zlib", Some(ParseFault::Unexpected(4))),
+        ("A WITH b+", Some(ParseFault::Unexpected(7))),
+        ("A WITH LicenseRef-b", Some(ParseFault::Unexpected(7))),
+        ("(A) WITH b", Some(ParseFault::Unexpected(4))),
+        ("A WITH b WITH c", Some(ParseFault::Unexpected(9))),
+        ("LicenseRef-a+", Some(ParseFault::BadToken(0))),
+        ("DocumentRef-a", Some(ParseFault::BadToken(0))),
+        ("DocumentRef-LicenseRef-a:LicenseRef-b", None),
+        ("licenseref-x", None),
+        ("A AND é", Some(ParseFault::BadToken(6))),
+    ];
+    for (text, expected) in rows {
+        assert_eq!(rt; fault(rt.alloc(), text), expected, "{text}");
+    }
 }
 
 #[test]
 fn faults_of_terms(rt: HostRuntime) {
-    let alloc = rt.alloc();
-    assert_eq!(rt;
-        term_fault(alloc, "GPL-2.0-only WITH"),
-        Some(ParseFault::Unexpected(17))
-    );
-    assert_eq!(rt;
-        term_fault(alloc, "A AND +"),
-        Some(ParseFault::Unexpected(2))
-    );
-    assert_eq!(rt; term_fault(alloc, "A +"), Some(ParseFault::BadToken(2)));
-    assert_eq!(rt; term_fault(alloc, "("), Some(ParseFault::Unexpected(0)));
-    assert_eq!(rt; term_fault(alloc, "AND"), Some(ParseFault::Unexpected(0)));
-    assert_eq!(rt; term_fault(alloc, ""), Some(ParseFault::Empty(0)));
-    assert_eq!(rt;
-        term_fault(alloc, "A WITH b C"),
-        Some(ParseFault::Unexpected(9))
-    );
+    let rows = [
+        ("GPL-2.0-only WITH", Some(ParseFault::Unexpected(17))),
+        ("A AND +", Some(ParseFault::Unexpected(2))),
+        ("A +", Some(ParseFault::BadToken(2))),
+        ("(", Some(ParseFault::Unexpected(0))),
+        ("AND", Some(ParseFault::Unexpected(0))),
+        ("", Some(ParseFault::Empty(0))),
+        ("A WITH b C", Some(ParseFault::Unexpected(9))),
+    ];
+    for (text, expected) in rows {
+        assert_eq!(rt; term_fault(rt.alloc(), text), expected, "{text}");
+    }
 }
 
 #[test]
