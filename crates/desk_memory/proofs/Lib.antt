@@ -2,3 +2,5 @@ mod Days
 mod PutAll
 mod Founds
 mod Ledgering
+mod Ascending
+mod Halving

@@ -1,1 +1,4 @@
 pub mod Ledgers
+pub mod Sorted
+pub mod Sides
+pub mod Splitting

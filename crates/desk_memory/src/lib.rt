@@ -4,7 +4,9 @@
 //! taken, or not at all.
 #![tactic(auto)]
 
+mod keys;
 mod ledger;
+mod sorted;
 mod store;
 
 pub use store::MemStore;

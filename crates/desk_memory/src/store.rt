@@ -1,18 +1,20 @@
 //! Rows kept in memory.
 
-ghost use Rattle.std.specs.Prelude.{◌≡◌, ℕ, Bool, ◌+◌, ◌<◌, ◌≤◌, ◌++◌, [], ◌∷◌, ◌&&◌, not, find, filter, map, IfOk, IfErr, OnOk, OnErr, IfSome, IfNone, MatchOption, length, if◌then◌else◌, Option, vec_len, insert, Some, None};
+ghost use Rattle.std.specs.Prelude.{◌≡◌, ℕ, Bool, ◌+◌, ◌<◌, ◌≤◌, ◌++◌, [], ◌∷◌, ◌&&◌, not, find, filter, map, IfOk, IfErr, OnOk, OnErr, IfSome, IfNone, MatchOption, length, if◌then◌else◌, Option, vec_len, Some, None};
 ghost use Rattle.std.specs.Vec.{vec_capacity};
 ghost use Rattle.std.specs.Option.{option_copied, option_map};
 ghost use Rattle.std.specs.List.{list_any};
 ghost use Rattle.std.specs.Str.{bytes_eq};
-ghost use Rattle.desk_rows.specs.Lists.{put, put_all, updated};
-ghost use Rattle.desk_rows.specs.Keys.{below_by, release_below, attached_order, choice_order, frozen_order, is_release, is_document, has_namespace, is_package, is_shipped_by, is_attached_to, is_attachment, is_choice_of, is_duty, is_duty_of, is_change_of, is_rule, is_rule_of};
-ghost use Rattle.desk_rows.specs.Tables.{Tables, applied, with_release_state, with_duty_state, is_other_choice};
+ghost use Rattle.desk_rows.specs.Lists.{updated};
+ghost use Rattle.desk_rows.specs.Keys.{is_release, is_document, has_namespace, is_package, is_shipped_by, is_attached_to, is_attachment, is_choice_of, is_duty, is_duty_of, is_change_of, is_rule, is_rule_of};
+ghost use Rattle.desk_rows.specs.Tables.{Tables, applied, with_release_state, with_duty_state};
 ghost use Rattle.desk_rows.specs.declared.state.ReleaseState.TheVariants.{Frozen};
 ghost use Rattle.desk_memory.specs.Ledgers.{all_of};
 ghost use Rattle.desk_history.specs.FromTables.{rule_of};
 
+use crate::keys::{ByAttachment, ByName, ByPackage, ByRelease};
 use crate::ledger::Ledger;
+use crate::sorted::{Sorted, reserve, run_of};
 use desk_access::store::Store;
 use desk_base::{Day, Items, Text};
 use desk_rows::{
@@ -101,12 +103,6 @@ fn rule_copy(alloc: Global, row: &RuleRow) -> Result<Rule, AllocError>
     })
 }
 
-fn find_release<'a>(rows: &'a Vec<ReleaseRow>, name: &str) -> Option<&'a ReleaseRow>
-    ensures { option_copied result ≡ find (is_release name.now) rows.now.items }
-{
-    rows.iter().find(|row| row.name.as_str() == name)
-}
-
 fn find_document(rows: &Vec<DocumentRow>, number: u64) -> Option<&DocumentRow>
     ensures { option_copied result ≡ find (is_document number) rows.now.items }
 {
@@ -155,41 +151,24 @@ fn shipped_rows(
     Ok(found)
 }
 
-fn attached_rows(
-    alloc: Global,
-    rows: &[AttachedRow],
-    release: &str,
-) -> Result<Vec<AttachedRow>, AllocError>
-    ensures { IfOk result (λ found. found.items ≡ filter (is_attached_to release.now) rows.now) }
+fn attached_copies(alloc: Global, rows: &[AttachedRow]) -> Result<Vec<AttachedRow>, AllocError>
+    ensures { IfOk result (λ copies. copies.items ≡ rows.now) }
 {
-    let mut found = Vec::new(alloc);
+    let mut copies = Vec::new(alloc);
     for row in rows {
-        if row.release.as_str() == release {
-            found.push(attached_copy(row)?)?;
-        }
+        copies.push(attached_copy(row)?)?;
     }
-    Ok(found)
+    Ok(copies)
 }
 
-fn chosen_terms(
-    alloc: Global,
-    rows: &[ChoiceRow],
-    release: &str,
-    document: u32,
-    id: &str,
-) -> Result<Vec<Text>, AllocError>
-    ensures { IfOk result (λ found. found.items ≡ map (λ row. row.term) (filter (is_choice_of release.now document id.now) rows.now)) }
+fn terms_of(alloc: Global, rows: &[ChoiceRow]) -> Result<Vec<Text>, AllocError>
+    ensures { IfOk result (λ terms. terms.items ≡ map (λ row. row.term) rows.now) }
 {
-    let mut found = Vec::new(alloc);
+    let mut terms = Vec::new(alloc);
     for row in rows {
-        if row.release.as_str() == release
-            && row.document == document
-            && row.package_id.as_str() == id
-        {
-            found.push(row.term.clone()?)?;
-        }
+        terms.push(row.term.clone()?)?;
     }
-    Ok(found)
+    Ok(terms)
 }
 
 fn duties_of(alloc: Global, rows: &[DutyRow], release: &str) -> Result<Vec<DutyRow>, AllocError>
@@ -204,161 +183,29 @@ fn duties_of(alloc: Global, rows: &[DutyRow], release: &str) -> Result<Vec<DutyR
     Ok(found)
 }
 
-fn attached_count(rows: &[AttachedRow], release: &str) -> u64
-    ensures { result ≡ length (filter (is_attached_to release.now) rows.now) }
-{
-    rows.iter()
-        .filter(|row| row.release.as_str() == release)
-        .count() as u64
-}
-
-fn is_attached(rows: &[AttachedRow], release: &str, document: u64) -> bool
-    ensures { result ≡ list_any (is_attachment release.now document) rows.now }
-{
-    rows.iter().any(|row| row.release.as_str() == release && u64::from(row.document) == document)
-}
-
 fn has_form(forms: &[Text], form: &str) -> bool
     ensures { result ≡ list_any (bytes_eq form.now) forms.now }
 {
     forms.iter().any(|other| form == other.as_str())
 }
 
-/// A row with its place among others.
-trait Keyed {
-    ghost below: { Self → Self → Bool };
-
-    fn is_below(&self, other: &Self) -> bool
-        ensures { result ≡ below self.now other.now };
-}
-
-impl Keyed for ReleaseRow {
-    ghost below = { release_below };
-
-    fn is_below(&self, other: &Self) -> bool {
-        self.name.as_str() < other.name.as_str()
-    }
-}
-
-impl Keyed for AttachedRow {
-    ghost below = { below_by attached_order };
-
-    fn is_below(&self, other: &Self) -> bool {
-        self.release
-            .as_str()
-            .cmp(other.release.as_str())
-            .then(self.document.cmp(&other.document))
-            .is_lt()
-    }
-}
-
-impl Keyed for ChoiceRow {
-    ghost below = { below_by choice_order };
-
-    fn is_below(&self, other: &Self) -> bool {
-        self.release
-            .as_str()
-            .cmp(other.release.as_str())
-            .then(self.document.cmp(&other.document))
-            .then(self.package_id.as_str().cmp(other.package_id.as_str()))
-            .then(self.term.as_str().cmp(other.term.as_str()))
-            .is_lt()
-    }
-}
-
-impl Keyed for FrozenRow {
-    ghost below = { below_by frozen_order };
-
-    fn is_below(&self, other: &Self) -> bool {
-        self.release
-            .as_str()
-            .cmp(other.release.as_str())
-            .then(self.document.cmp(&other.document))
-            .then(self.package_id.as_str().cmp(other.package_id.as_str()))
-            .then(self.term.as_str().cmp(other.term.as_str()))
-            .is_lt()
-    }
-}
-
-fn place_of<R: Keyed>(rows: &Vec<R>, row: &R) -> usize
-    ensures within { result ≤ vec_len rows.now }
-    ensures place { put R.below row.now rows.now.items ≡ insert rows.now.items result row.now }
+fn freeze_rows(rows: &mut [ReleaseRow], revision: u64)
+    ensures { rows.new ≡ map (with_release_state Frozen revision) rows.old }
 {
-    for (place, other) in rows.iter().enumerate() {
-        if row.is_below(other) {
-            return place;
-        }
-    }
-    rows.len()
-}
-
-/// Puts a row in its place. There is room.
-fn put_row<R: Keyed + Drop>(rows: &mut Vec<R>, row: R)
-    requires { vec_len rows.old < vec_capacity rows.old }
-    ensures items { rows.new.items ≡ put R.below row rows.old.items }
-    ensures len { vec_len rows.new ≡ vec_len rows.old + 1 }
-    ensures capacity { vec_capacity rows.old ≤ vec_capacity rows.new }
-{
-    let place = place_of(rows, &row);
-    let Ok(()) = rows.insert(place, row) else {
-        unreachable!()
-    };
-}
-
-/// Puts rows in their places. There is room.
-fn put_rows<R: Keyed + Drop>(rows: &mut Vec<R>, mut more: Vec<R>)
-    requires { vec_len rows.old + vec_len more ≤ vec_capacity rows.old }
-    ensures { rows.new.items ≡ put_all R.below more.items rows.old.items }
-{
-    while let Some(row) = more.pop() {
-        put_row(rows, row);
-    }
-}
-
-fn reserve<R>(rows: &mut Vec<R>, count: usize) -> Result<(), Fault>
-    ensures items { rows.new.items ≡ rows.old.items }
-    ensures len { vec_len rows.new ≡ vec_len rows.old }
-    ensures room { OnOk result (vec_len rows.new + count ≤ vec_capacity rows.new) }
-    ensures fault { IfErr result (λ fault. fault ≡ Fault.Memory) }
-{
-    match rows.reserve(count) {
-        Ok(()) => Ok(()),
-        Err(_) => Err(Fault::Memory),
-    }
-}
-
-/// The release as it is after the freeze of the one with this name.
-fn freeze_one(row: &mut ReleaseRow, name: &str, revision: u64)
-    ensures { row.new ≡ (if is_release name.now row.old then with_release_state Frozen revision row.old else row.old) }
-{
-    if row.name.as_str() == name {
+    for row in rows.iter_mut() {
         row.state = ReleaseState::Frozen;
         row.revision = revision;
     }
 }
 
-fn freeze_release(rows: &mut Vec<ReleaseRow>, name: &str, revision: u64)
-    ensures { rows.new.items ≡ updated (is_release name.now) (with_release_state Frozen revision) rows.old.items }
-{
-    for row in rows.iter_mut() {
-        freeze_one(row, name, revision);
+impl Sorted<ReleaseRow> {
+    /// Freezes the release with a name.
+    fn freeze(&mut self, name: &str, revision: u64)
+        ensures { self.new.rows.items ≡ updated (is_release name.now) (with_release_state Frozen revision) self.old.rows.items }
+    {
+        let run = run_of(self.rows.as_slice(), &ByName { name });
+        freeze_rows(&mut self.rows[run.start..run.end], revision);
     }
-}
-
-fn is_other(row: &ChoiceRow, release: &Text, document: u32, package_id: &Text) -> bool
-    ensures { result ≡ is_other_choice release.now document package_id.now row.now }
-{
-    !(row.release.as_str() == release.as_str()
-        && row.document == document
-        && row.package_id.as_str() == package_id.as_str())
-}
-
-fn drop_choice(rows: &mut Vec<ChoiceRow>, release: &Text, document: u32, package_id: &Text)
-    ensures items { rows.new.items ≡ filter (is_other_choice release.now document package_id.now) rows.old.items }
-    ensures len { vec_len rows.new ≤ vec_len rows.old }
-    ensures capacity { vec_capacity rows.new ≡ vec_capacity rows.old }
-{
-    rows.retain(|row| is_other(row, release, document, package_id));
 }
 
 /// Rows in memory, each list by its key.
@@ -371,10 +218,10 @@ pub struct MemStore {
     documents: Vec<DocumentRow>,
     packages: Vec<PackageRow>,
     extracted: Vec<ExtractedRow>,
-    releases: Vec<ReleaseRow>,
-    attached: Vec<AttachedRow>,
-    choices: Vec<ChoiceRow>,
-    frozen: Vec<FrozenRow>,
+    releases: Sorted<ReleaseRow>,
+    attached: Sorted<AttachedRow>,
+    choices: Sorted<ChoiceRow>,
+    frozen: Sorted<FrozenRow>,
     ledger: Ledger,
 }
 
@@ -394,10 +241,10 @@ impl MemStore {
             documents: Vec::new(alloc),
             packages: Vec::new(alloc),
             extracted: Vec::new(alloc),
-            releases: Vec::new(alloc),
-            attached: Vec::new(alloc),
-            choices: Vec::new(alloc),
-            frozen: Vec::new(alloc),
+            releases: Sorted::new(alloc),
+            attached: Sorted::new(alloc),
+            choices: Sorted::new(alloc),
+            frozen: Sorted::new(alloc),
             ledger: Ledger::new(alloc),
         }
     }
@@ -458,9 +305,13 @@ impl MemStore {
         ensures fault { IfErr result (λ fault. fault ≡ Fault.Memory) }
     {
         let rows = rows.into_vec();
-        reserve(&mut self.choices, rows.len())?;
-        drop_choice(&mut self.choices, release, document, package_id);
-        put_rows(&mut self.choices, rows);
+        self.choices.reserve(rows.len())?;
+        self.choices.cut(&ByPackage {
+            release: release.as_str(),
+            document,
+            id: package_id.as_str(),
+        });
+        self.choices.put_all(rows);
         Ok(())
     }
 
@@ -477,10 +328,10 @@ impl MemStore {
         ensures fault { IfErr result (λ fault. fault ≡ Fault.Memory) }
     {
         let frozen = frozen.into_vec();
-        reserve(&mut self.frozen, frozen.len())?;
+        self.frozen.reserve(frozen.len())?;
         self.ledger.append(duties.into_vec(), changes.into_vec())?;
-        put_rows(&mut self.frozen, frozen);
-        freeze_release(&mut self.releases, release.as_str(), revision);
+        self.frozen.put_all(frozen);
+        self.releases.freeze(release.as_str(), revision);
         Ok(())
     }
 
@@ -495,7 +346,7 @@ impl MemStore {
 }
 
 impl Store for MemStore {
-    ghost rows = { λ s. record { catalogue = s.catalogue.items; forms = s.forms; rule = s.rules.items; document = s.documents.items; packages = s.packages.items; extracted = s.extracted.items; conclusion = []; adoption = []; releases = s.releases.items; attached = s.attached.items; choice = s.choices.items; frozen = s.frozen.items; duty = s.ledger.duties.items; changes = all_of s.ledger.groups.items } };
+    ghost rows = { λ s. record { catalogue = s.catalogue.items; forms = s.forms; rule = s.rules.items; document = s.documents.items; packages = s.packages.items; extracted = s.extracted.items; conclusion = []; adoption = []; releases = s.releases.rows.items; attached = s.attached.rows.items; choice = s.choices.rows.items; frozen = s.frozen.rows.items; duty = s.ledger.duties.items; changes = all_of s.ledger.groups.items } };
 
     ghost tells = { λ _. ⊥ };
 
@@ -558,7 +409,7 @@ impl Store for MemStore {
     }
 
     fn release(&mut self, name: &str) -> Result<Option<ReleaseRow>, Fault> {
-        match find_release(&self.releases, name) {
+        match self.releases.find(&ByName { name }) {
             Some(row) => match release_copy(row) {
                 Ok(row) => Ok(Some(row)),
                 Err(_) => Err(Fault::Memory),
@@ -572,22 +423,27 @@ impl Store for MemStore {
     }
 
     fn attached(&mut self, release: &str) -> Result<Vec<AttachedRow>, Fault> {
-        match attached_rows(self.alloc, self.attached.as_slice(), release) {
+        match attached_copies(self.alloc, self.attached.run(&ByRelease { release })) {
             Ok(rows) => Ok(rows),
             Err(_) => Err(Fault::Memory),
         }
     }
 
     fn is_attached(&mut self, release: &str, document: u64) -> Result<bool, Fault> {
-        Ok(is_attached(self.attached.as_slice(), release, document))
+        Ok(self.attached.contains(&ByAttachment { release, document }))
     }
 
     fn attached_count(&mut self, release: &str) -> Result<u64, Fault> {
-        Ok(attached_count(self.attached.as_slice(), release))
+        Ok(self.attached.run(&ByRelease { release }).len() as u64)
     }
 
     fn chosen(&mut self, release: &str, document: u32, id: &str) -> Result<Vec<Text>, Fault> {
-        match chosen_terms(self.alloc, self.choices.as_slice(), release, document, id) {
+        let rows = self.choices.run(&ByPackage {
+            release,
+            document,
+            id,
+        });
+        match terms_of(self.alloc, rows) {
             Ok(terms) => Ok(terms),
             Err(_) => Err(Fault::Memory),
         }
@@ -635,13 +491,13 @@ impl Store for MemStore {
                 references,
             } => self.import(document, packages, references),
             Change::Opened(row) => {
-                reserve(&mut self.releases, 1)?;
-                put_row(&mut self.releases, row);
+                self.releases.reserve(1)?;
+                self.releases.put(row);
                 Ok(())
             }
             Change::Attached(row) => {
-                reserve(&mut self.attached, 1)?;
-                put_row(&mut self.attached, row);
+                self.attached.reserve(1)?;
+                self.attached.put(row);
                 Ok(())
             }
             Change::Chosen {

@@ -1,0 +1,41 @@
+-- Rows in the order of their keys.
+use Rattle.std.specs.Prelude.{◌≡◌, ℕ, ◌+◌, ◌≤◌, ◌&&◌, not, Bool, true, false, List, [], ◌∷◌, length, take, drop}
+use Rattle.std.specs.List.{list_all, list_any, AllWithin, AllAdjacentBelow}
+use Rattle.std.specs.List.Sorted.{IsNonDecreasingBy}
+use Rattle.std.specs.Ordering.{is_lt, ordering_index}
+use Rattle.std.specs.declared.cmp.Ordering.{Ordering}
+use Rattle.std.specs.declared.cmp.Ordering.TheVariants.{Less, Equal, Greater}
+
+-- none of some is below y
+abbrev pub over : {A : Type 0} → (A → A → Bool) → A → List A → Bool
+over below y zs = list_all (λ z. not (below z y)) zs
+
+-- no row is below one before it
+abbrev pub ascends : {A : Type 0} → (A → A → Bool) → List A → Bool
+ascends below [] = true
+ascends below (y ∷ ys) = over below y ys && ascends below ys
+
+-- each row is below the next
+abbrev pub Climbs : {A : Type 0} → (A → A → Bool) → List A → Type 0
+Climbs below xs = AllAdjacentBelow (λ x y. below x y ≡ true) xs (length xs)
+
+-- along rows that ascend, the sides on which they stand do not fall
+abbrev pub IsSideOf : {A : Type 0} → (A → A → Ordering) → (A → Ordering) → Type 0
+IsSideOf {A} order side = (x y : A) → is_lt (order y x) ≡ false → ordering_index (side x) ≤ ordering_index (side y)
+
+abbrev pub Rises : {A : Type 0} → (A → Ordering) → List A → Type 0
+Rises side xs = IsNonDecreasingBy (λ x. ordering_index (side x)) xs
+
+-- from low up to high stand the rows that are sought, and no others
+pub record IsRun {A : Type 0} (side : A → Ordering) (xs : List A) (low high : ℕ) : Type 0 where
+  pub ordered : low ≤ high
+  pub within : high ≤ length xs
+  pub before : AllWithin (λ x. side x ≡ Less) xs 0 low
+  pub sought : AllWithin (λ x. side x ≡ Equal) xs low high
+  pub behind : AllWithin (λ x. side x ≡ Greater) xs high (length xs)
+
+-- x goes in at n: behind those that it isn't below, and before those that it is below
+pub record IsPlace {A : Type 0} (below : A → A → Bool) (x : A) (xs : List A) (n : ℕ) : Type 0 where
+  pub within : n ≤ length xs
+  pub front : list_any (below x) (take n xs) ≡ false
+  pub back : list_all (below x) (drop n xs) ≡ true
