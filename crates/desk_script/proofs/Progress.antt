@@ -13,7 +13,7 @@ use Rattle.desk_json.specs.declared.request.Request.{Request}
 use Rattle.desk_script.specs.Gathered.{Shows}
 use Rattle.desk_script.specs.Lines.{BeginsWith, request_at, requests_of}
 use Rattle.desk_script.specs.Replies.{AreReplied}
-use Rattle.desk_script.specs.Script.{AreLeft, HasServed, IsFront, IsScript, Serves}
+use Rattle.desk_script.specs.Script.{AreLeft, HasServed, IsCutOff, IsFront, IsScript, Serves}
 use Rattle.desk_script.specs.declared.answer.Reply.{Reply}
 use Rattle.desk_script.specs.declared.line.Line.{Line}
 use Rattle.desk_script.specs.declared.serving.ScriptEnd.{ScriptEnd}
@@ -35,6 +35,18 @@ module _ (is_right : Readings → Type 0) (tells : StoreFault → Type 0) (befor
     begins = BeginsWith-more 1 front h.lines h.came more h.begins h.fed;
     replied = h.serves.replied;
     run = IsRun-of is_right tells before now (requests_of h.lines) h.serves.replies h.serves.replied;
+  }
+
+  pub IsCutOff-of : (front : List ℕ) (now : Tables) (u v : Option (List ℕ)) (from to : ScriptEnd) (line : Line)
+      → HasServed is_right tells before front now u v from to line → IsCutOff is_right tells before front now u v
+  IsCutOff-of front now u v from to line h = record {
+    lines = h.lines;
+    rest = h.came;
+    replies = h.serves.replies;
+    begins = h.begins;
+    no_lf = h.no_lf;
+    replied = h.serves.replied;
+    written = h.serves.written;
   }
 
   pub HasServed-none : (w : Option (List ℕ)) (from : ScriptEnd) (line : Line) → Shows line [] → HasServed is_right tells before [] before w w from from line

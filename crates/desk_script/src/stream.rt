@@ -1,8 +1,10 @@
 //! Cuts what is read into lines, and serves each as soon as it is whole.
 
-ghost use Rattle.std.specs.Prelude.{◌≡◌, ◌≢◌, ◌∷◌, ◌++◌, ◌+◌, ◌≤◌, ◌<◌, ◌^◌, [], List, ℕ, OnOk, OnErr, IfOk, Option, MatchOption, All, length};
+ghost use Rattle.std.specs.Prelude.{◌≡◌, ◌≢◌, ◌∷◌, ◌++◌, ◌+◌, ◌≤◌, ◌<◌, ◌^◌, [], List, ℕ, OnOk, OnErr, IfOk, IfErr, Option, MatchOption, All, length, ◌⊎◌};
 ghost use Rattle.desk_rows.specs.Tables.{Tables};
-ghost use Rattle.desk_script.specs.Script.{AreLeft, HasServed, IsFront, IsScript};
+ghost use Rattle.std.specs.Io.KnownBytes.{Consumes};
+ghost use Rattle.desk_script.specs.Faults.{IsOfReader, IsOfReply};
+ghost use Rattle.desk_script.specs.Script.{AreLeft, HasServed, IsCutOff, IsFront, IsScript};
 ghost use Rattle.desk_script.specs.declared.serving.ScriptEnd.{ScriptEnd};
 
 use crate::line::Line;
@@ -43,6 +45,7 @@ fn end_line<D: Desk, W: Write>(
         → HasServed D.are_right D.tells before front (D.content desk.old) old (W.contents writer.old) from end.old line.old
         → OnErr result (IsFront D.are_right D.tells before (front ++ 10 ∷ more) (D.content desk.new)) }
     ensures few { (end.new.refused ≤ end.old.refused + 1) × (end.new.failed ≤ end.old.failed + 1) }
+    ensures fault { IfErr result IsOfReply }
 {
     serve(alloc, desk, writer, end, line)?;
     line.clear();
@@ -66,6 +69,7 @@ fn feed<D: Desk, W: Write>(
         → HasServed D.are_right D.tells before front (D.content desk.old) old (W.contents writer.old) from end.old line.old
         → OnErr result (IsFront D.are_right D.tells before (front ++ (piece.now ++ more)) (D.content desk.new)) }
     ensures few { (end.new.refused ≤ end.old.refused + length piece.now) × (end.new.failed ≤ end.old.failed + length piece.now) }
+    ensures fault { IfErr result IsOfReply }
 {
     let mut rest = piece;
     while let Some((text, more)) = cut_at_lf(rest) {
@@ -92,6 +96,7 @@ fn finish<D: Desk, W: Write>(
     ensures err { (before : Tables) (old : Option (List ℕ)) (front : List ℕ)
         → HasServed D.are_right D.tells before front (D.content desk.old) old (W.contents writer.old) (record { refused = 0; failed = 0 }) end.old line.old
         → OnErr result (IsFront D.are_right D.tells before front (D.content desk.new)) }
+    ensures fault { IfErr result IsOfReply }
 {
     line.keep_cr()?;
     serve(alloc, desk, writer, end, line)
@@ -101,7 +106,8 @@ fn finish<D: Desk, W: Write>(
 /// written and flushed before the next line is served.
 ///
 /// It goes on past refusals and faults, and counts them. At most 1,048,576 times the reader is asked for bytes. After a fault of
-/// the reader, of the writer or of memory for a line or a reply, what was accepted stands.
+/// the reader, of the writer or of memory for a line or a reply, what was accepted stands. Where the reader failed, or was asked
+/// too often, each line that ended among the bytes it gave is replied, and each reply written.
 pub fn script<D: Desk, R: Read, W: Write>(
     alloc: Global,
     desk: &mut D,
@@ -112,6 +118,9 @@ pub fn script<D: Desk, R: Read, W: Write>(
         × IsScript D.are_right D.tells (D.content desk.old) bytes (D.content desk.new) (W.contents writer.old) (W.contents writer.new) end) }
     ensures err { OnErr result ((bytes : List ℕ) × AreLeft (R.remaining reader.old) bytes
         × IsFront D.are_right D.tells (D.content desk.old) bytes (D.content desk.new)) }
+    ensures fault { IfErr result (λ fault. IsOfReply fault ⊎ ((bytes : List ℕ) × IsOfReader fault (length bytes)
+        × Consumes (R.remaining reader.old) (R.remaining reader.new) bytes
+        × IsCutOff D.are_right D.tells (D.content desk.old) bytes (D.content desk.new) (W.contents writer.old) (W.contents writer.new))) }
 {
     let mut end = ScriptEnd {
         refused: 0,
