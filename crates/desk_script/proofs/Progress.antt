@@ -13,7 +13,7 @@ use Rattle.desk_json.specs.declared.request.Request.{Request}
 use Rattle.desk_script.specs.Gathered.{Shows}
 use Rattle.desk_script.specs.Lines.{BeginsWith, request_at, requests_of}
 use Rattle.desk_script.specs.Replies.{AreReplied}
-use Rattle.desk_script.specs.Script.{AreLeft, HasServed, IsFront, IsScript, Serves}
+use Rattle.desk_script.specs.Script.{AreLeft, HasServed, IsCutOff, IsFront, IsScript, Serves}
 use Rattle.desk_script.specs.declared.answer.Reply.{Reply}
 use Rattle.desk_script.specs.declared.line.Line.{Line}
 use Rattle.desk_script.specs.declared.serving.ScriptEnd.{ScriptEnd}
@@ -37,6 +37,18 @@ module _ (is_right : Readings → Type 0) (tells : StoreFault → Type 0) (befor
     run = IsRun-of is_right tells before now (requests_of h.lines) h.serves.replies h.serves.replied;
   }
 
+  pub IsCutOff-of : (front : List ℕ) (now : Tables) (u v : Option (List ℕ)) (from to : ScriptEnd) (line : Line)
+      → HasServed is_right tells before front now u v from to line → IsCutOff is_right tells before front now u v
+  IsCutOff-of front now u v from to line h = record {
+    lines = h.lines;
+    rest = h.came;
+    replies = h.serves.replies;
+    begins = h.begins;
+    no_lf = h.no_lf;
+    replied = h.serves.replied;
+    written = h.serves.written;
+  }
+
   pub HasServed-none : (w : Option (List ℕ)) (from : ScriptEnd) (line : Line) → Shows line [] → HasServed is_right tells before [] before w w from from line
   HasServed-none w from line shows = record {
     lines = [];
@@ -48,17 +60,16 @@ module _ (is_right : Readings → Type 0) (tells : StoreFault → Type 0) (befor
     serves = Serves-none is_right tells before w from;
   }
 
-  -- a byte that is no LF
-  pub HasServed-byte : (front : List ℕ) (byte : ℕ) (now : Tables) (u v : Option (List ℕ)) (from to : ScriptEnd) (line next : Line)
-      → (h : HasServed is_right tells before front now u v from to line) → byte ≢ 10 → Shows next (h.came ++ byte ∷ [])
-      → HasServed is_right tells before (front ++ byte ∷ []) now u v from to next
-  HasServed-byte front byte now u v from to line next h ne shows = record {
+  -- bytes among which there is no LF
+  pub HasServed-run : (front run : List ℕ) (now : Tables) (u v : Option (List ℕ)) (from to : ScriptEnd) (line next : Line)
+      → (h : HasServed is_right tells before front now u v from to line) → All (λ b. b ≢ 10) run → Shows next (h.came ++ run)
+      → HasServed is_right tells before (front ++ run) now u v from to next
+  HasServed-run front run now u v from to line next h no_lf shows = record {
     lines = h.lines;
-    came = h.came ++ byte ∷ [];
-    begins = BeginsWith-more 1 front h.lines h.came (byte ∷ []) h.begins h.fed;
+    came = h.came ++ run;
+    begins = BeginsWith-more 1 front h.lines h.came run h.begins h.fed;
     fed = h.fed;
-    no_lf = All-append (λ (b : ℕ). b ≢ 10) h.came (byte ∷ []) h.no_lf
-        (All-cons (λ (b : ℕ). b ≢ 10) byte [] ne (All-nil (λ (b : ℕ). b ≢ 10)));
+    no_lf = All-append (λ (b : ℕ). b ≢ 10) h.came run h.no_lf no_lf;
     shows = shows;
     serves = h.serves;
   }
@@ -189,8 +200,24 @@ AreLeft-front None mid front h = ([], tt)
 AreLeft-front (Some xs) None front h = absurd h
 AreLeft-front (Some xs) (Some ys) front h = (ys, h)
 
--- what stood before a byte of a piece, the byte, and what follows it
-pub piece_at : (front start rest piece more : List ℕ) (byte : ℕ) → piece ≡ (start ++ byte ∷ []) ++ rest → (front ++ start) ++ byte ∷ (rest ++ more) ≡ front ++ (piece ++ more)
-piece_at front start rest piece more byte is =
-    append_assoc front start (byte ∷ (rest ++ more))
-    ∙ ap (λ (l : List ℕ). front ++ l) (sym (ap (λ (l : List ℕ). l ++ more) is ∙ (append_assoc (start ++ byte ∷ []) rest more ∙ append_assoc start (byte ∷ []) (rest ++ more))))
+-- what stood before the rest of a piece, and the rest
+pub piece_rest : (front taken rest piece more : List ℕ) → piece ≡ taken ++ rest → (front ++ taken) ++ (rest ++ more) ≡ front ++ (piece ++ more)
+piece_rest front taken rest piece more is =
+    append_assoc front taken (rest ++ more)
+    ∙ ap (λ (l : List ℕ). front ++ l) (sym (append_assoc taken rest more) ∙ sym (ap (λ (l : List ℕ). l ++ more) is))
+
+-- one more line of a piece
+pub piece_cut : (taken text after rest piece : List ℕ) → piece ≡ taken ++ rest → rest ≡ text ++ 10 ∷ after → piece ≡ (taken ++ (text ++ 10 ∷ [])) ++ after
+piece_cut taken text after rest piece is cut =
+    is ∙ (ap (λ (l : List ℕ). taken ++ l) (cut ∙ sym (append_assoc text (10 ∷ []) after)) ∙ sym (append_assoc taken (text ++ 10 ∷ []) after))
+
+pub front_line : (front taken text : List ℕ) → ((front ++ taken) ++ text) ++ 10 ∷ [] ≡ front ++ (taken ++ (text ++ 10 ∷ []))
+front_line front taken text = append_assoc (front ++ taken) text (10 ∷ []) ∙ append_assoc front taken (text ++ 10 ∷ [])
+
+-- what stood before a line of a piece, the line, and what follows it
+pub piece_line : (front taken text after rest piece more : List ℕ) → piece ≡ taken ++ rest → rest ≡ text ++ 10 ∷ after
+    → ((front ++ taken) ++ text) ++ 10 ∷ (after ++ more) ≡ front ++ (piece ++ more)
+piece_line front taken text after rest piece more is cut =
+    append_assoc (front ++ taken) text (10 ∷ (after ++ more))
+    ∙ (ap (λ (l : List ℕ). (front ++ taken) ++ l) (sym (append_assoc text (10 ∷ after) more) ∙ sym (ap (λ (l : List ℕ). l ++ more) cut))
+    ∙ piece_rest front taken rest piece more is)

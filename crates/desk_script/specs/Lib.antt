@@ -2,4 +2,5 @@ pub mod Lines
 pub mod Replies
 pub mod Texts
 pub mod Gathered
+pub mod Faults
 pub mod Script

@@ -49,6 +49,16 @@ module _ (is_right : Readings → Type 0) (tells : StoreFault → Type 0) (befor
     pub replied : AreReplied is_right tells before (requests_of lines) replies after
     pub run : IsRun is_right before (requests_of lines) replies after
 
+  -- a script whose reader gave no more than these bytes: the lines that an LF ended are replied, their replies written, and nothing else
+  pub record IsCutOff (bytes : List ℕ) (after : Tables) (old new : Option (List ℕ)) : Type 0 where
+    pub lines : List LineText
+    pub rest : List ℕ
+    pub replies : List Reply
+    pub begins : BeginsWith 1 bytes lines rest
+    pub no_lf : All (λ b. b ≢ 10) rest
+    pub replied : AreReplied is_right tells before (requests_of lines) replies after
+    pub written : Appends old new (lines_of replies)
+
   -- as far as the bytes of a script came: the lines that an LF ended are served, and what came after them is the line so far
   pub record HasServed (front : List ℕ) (after : Tables) (old new : Option (List ℕ)) (from to : ScriptEnd) (line : Line) : Type 0 where
     pub lines : List LineText

@@ -1,8 +1,8 @@
 //! A line as far as it came.
 
-ghost use Rattle.std.specs.Prelude.{◌≡◌, ◌∷◌, ◌++◌, ◌&&◌, [], List, ℕ, OnOk, false};
+ghost use Rattle.std.specs.Prelude.{◌≡◌, ◌++◌, ◌&&◌, [], List, ℕ, OnOk, false};
 ghost use Rattle.desk_script.specs.Gathered.{Shows, HasCome};
-ghost use Rattle.desk_script.specs.Lines.{is_blank};
+ghost use Rattle.desk_script.specs.Lines.{is_blank, is_blank_line};
 
 use std::alloc::{AllocError, Global};
 
@@ -22,10 +22,22 @@ pub struct Line {
     pub ends_by_cr: bool,
 }
 
-fn stays_blank(was_blank: bool, byte: u8) -> bool
-    ensures { result ≡ (was_blank && is_blank byte) }
+fn is_blank(byte: u8) -> bool
+    ensures { result ≡ is_blank byte }
 {
-    was_blank && (byte == b' ' || byte == b'\t')
+    byte == b' ' || byte == b'\t'
+}
+
+fn are_blank(bytes: &[u8]) -> bool
+    ensures { result ≡ is_blank_line bytes.now }
+{
+    bytes.iter().all(|byte| is_blank(*byte))
+}
+
+fn stays_blank(was_blank: bool, run: &[u8]) -> bool
+    ensures { result ≡ (was_blank && is_blank_line run.now) }
+{
+    was_blank && are_blank(run)
 }
 
 impl Line {
@@ -51,17 +63,18 @@ impl Line {
         self.ends_by_cr = false;
     }
 
-    fn put(&mut self, byte: u8) -> Result<(), AllocError>
-        ensures came { (text : List ℕ) → HasCome self.old text → OnOk result (HasCome self.new (text ++ byte ∷ [])) }
+    /// Adds bytes as far as there is room for them.
+    fn put(&mut self, run: &[u8]) -> Result<(), AllocError>
+        ensures came { (text : List ℕ) → HasCome self.old text → OnOk result (HasCome self.new (text ++ run.now)) }
         ensures cr { self.new.ends_by_cr ≡ self.old.ends_by_cr }
     {
-        self.is_blank = stays_blank(self.is_blank, byte);
-        if self.kept.len() < LINE_BYTES {
-            self.kept.push(byte)?;
-        } else {
-            self.is_long = true;
+        self.is_blank = stays_blank(self.is_blank, run);
+        let room = LINE_BYTES.saturating_sub(self.kept.len());
+        if run.len() <= room {
+            return self.kept.extend_from_slice(run);
         }
-        Ok(())
+        self.is_long = true;
+        self.kept.extend_from_slice(&run[..room])
     }
 
     /// The CR that came is a byte of the line, since no LF came after it.
@@ -71,20 +84,24 @@ impl Line {
     {
         if self.ends_by_cr {
             self.ends_by_cr = false;
-            self.put(b'\r')?;
+            self.put(b"\r")?;
         }
         Ok(())
     }
 
-    /// Adds a byte that is no LF.
-    pub fn push(&mut self, byte: u8) -> Result<(), AllocError>
-        ensures { (came : List ℕ) → Shows self.old came → OnOk result (Shows self.new (came ++ byte ∷ [])) }
+    /// Adds bytes among which there is no LF.
+    pub fn extend(&mut self, run: &[u8]) -> Result<(), AllocError>
+        ensures { (came : List ℕ) → Shows self.old came → OnOk result (Shows self.new (came ++ run.now)) }
     {
+        let Some((last, before)) = run.split_last() else {
+            return Ok(());
+        };
         self.keep_cr()?;
-        if byte == b'\r' {
+        if *last == b'\r' {
+            self.put(before)?;
             self.ends_by_cr = true;
             return Ok(());
         }
-        self.put(byte)
+        self.put(run)
     }
 }

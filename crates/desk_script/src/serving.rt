@@ -1,7 +1,8 @@
 //! Serves a line: answers its request, writes the reply and counts it.
 
-ghost use Rattle.std.specs.Prelude.{◌≡◌, ◌∷◌, ◌++◌, ◌+◌, ◌≤◌, ◌<◌, ◌^◌, [], List, ℕ, OnOk};
+ghost use Rattle.std.specs.Prelude.{◌≡◌, ◌∷◌, ◌++◌, ◌+◌, ◌≤◌, ◌<◌, ◌^◌, [], List, ℕ, OnOk, IfErr};
 ghost use Rattle.std.specs.Io.KnownBytes.{Appends};
+ghost use Rattle.desk_script.specs.Faults.{IsOfReply};
 ghost use Rattle.desk_script.specs.Gathered.{HasCome};
 ghost use Rattle.desk_script.specs.Texts.{line_of, count_refused, count_failed};
 ghost use Rattle.desk_script.specs.Lines.{request_at, request_of};
@@ -69,7 +70,8 @@ impl ScriptEnd {
 
 /// Writes a text as a line.
 fn write_line<W: Write>(writer: &mut W, text: &str) -> Result<(), ScriptFault>
-    ensures { OnOk result (Appends (W.contents writer.old) (W.contents writer.new) (text.now ++ 10 ∷ [])) }
+    ensures ok { OnOk result (Appends (W.contents writer.old) (W.contents writer.new) (text.now ++ 10 ∷ [])) }
+    ensures fault { IfErr result IsOfReply }
 {
     if writer.write_all(text.as_bytes()).is_err() {
         return Err(ScriptFault::Write);
@@ -82,7 +84,8 @@ fn write_line<W: Write>(writer: &mut W, text: &str) -> Result<(), ScriptFault>
 
 /// Writes a reply as a line. That memory was wanting, and that there was no request, is told without taking memory.
 fn write_reply<W: Write>(alloc: Global, writer: &mut W, reply: &Reply) -> Result<(), ScriptFault>
-    ensures { OnOk result (Appends (W.contents writer.old) (W.contents writer.new) (line_of reply.now)) }
+    ensures ok { OnOk result (Appends (W.contents writer.old) (W.contents writer.new) (line_of reply.now)) }
+    ensures fault { IfErr result IsOfReply }
 {
     match reply {
         Reply::NoRequest => write_line(writer, bad_command_line()),
@@ -118,6 +121,7 @@ pub fn serve<D: Desk, W: Write>(
     ensures replied { (text : List ℕ) → HasCome line.now text → (replies : List Reply)
         × AreReplied D.are_right D.tells (D.content desk.old) (request_at text) replies (D.content desk.new) }
     ensures few { (end.new.refused ≤ end.old.refused + 1) × (end.new.failed ≤ end.old.failed + 1) }
+    ensures fault { IfErr result IsOfReply }
 {
     if line.is_blank {
         return Ok(());

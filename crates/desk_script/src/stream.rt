@@ -1,13 +1,16 @@
 //! Cuts what is read into lines, and serves each as soon as it is whole.
 
-ghost use Rattle.std.specs.Prelude.{◌≡◌, ◌≢◌, ◌∷◌, ◌++◌, ◌+◌, ◌≤◌, ◌<◌, ◌^◌, [], List, ℕ, OnOk, OnErr, IfOk, Option, length};
+ghost use Rattle.std.specs.Prelude.{◌≡◌, ◌≢◌, ◌∷◌, ◌++◌, ◌+◌, ◌≤◌, ◌<◌, ◌^◌, [], List, ℕ, OnOk, OnErr, IfOk, IfErr, Option, MatchOption, All, length, ◌⊎◌};
 ghost use Rattle.desk_rows.specs.Tables.{Tables};
-ghost use Rattle.desk_script.specs.Script.{AreLeft, HasServed, IsFront, IsScript};
+ghost use Rattle.std.specs.Io.KnownBytes.{Consumes};
+ghost use Rattle.desk_script.specs.Faults.{IsOfReader, IsOfReply};
+ghost use Rattle.desk_script.specs.Script.{AreLeft, HasServed, IsCutOff, IsFront, IsScript};
 ghost use Rattle.desk_script.specs.declared.serving.ScriptEnd.{ScriptEnd};
 
 use crate::line::Line;
 use crate::serving::{ScriptEnd, ScriptFault, serve};
 use desk_core::desk::Desk;
+use memchr::memchr;
 use std::alloc::Global;
 use std::io::{Read, Write};
 
@@ -17,30 +20,35 @@ const TURNS: u32 = 1_048_576;
 /// The bytes that are read at once.
 const PIECE_BYTES: usize = 65_536;
 
-/// Takes a byte, and serves the line that it ends.
-fn step<D: Desk, W: Write>(
+/// What stands before the first LF of some bytes, and what follows it.
+fn cut_at_lf(bytes: &[u8]) -> Option<(&[u8], &[u8])>
+    ensures { MatchOption result (All (λ b. b ≢ 10) bytes.now)
+        (λ p. All (λ b. b ≢ 10) p.0.now × (bytes.now ≡ p.0.now ++ 10 ∷ p.1.now)) }
+{
+    let place = memchr(b'\n', bytes)?;
+    Some((&bytes[..place], &bytes[place + 1..]))
+}
+
+/// Serves the line that an LF ends, and begins the next one.
+fn end_line<D: Desk, W: Write>(
     alloc: Global,
     desk: &mut D,
     writer: &mut W,
     end: &mut ScriptEnd,
     line: &mut Line,
-    byte: u8,
 ) -> Result<(), ScriptFault>
     requires room { (end.old.refused + 1 < 2 ^ 64) × (end.old.failed + 1 < 2 ^ 64) }
     ensures ok { (before : Tables) (old : Option (List ℕ)) (from : ScriptEnd) (front : List ℕ)
         → HasServed D.are_right D.tells before front (D.content desk.old) old (W.contents writer.old) from end.old line.old
-        → OnOk result (HasServed D.are_right D.tells before (front ++ byte ∷ []) (D.content desk.new) old (W.contents writer.new) from end.new line.new) }
+        → OnOk result (HasServed D.are_right D.tells before (front ++ 10 ∷ []) (D.content desk.new) old (W.contents writer.new) from end.new line.new) }
     ensures err { (before : Tables) (old : Option (List ℕ)) (from : ScriptEnd) (front more : List ℕ)
         → HasServed D.are_right D.tells before front (D.content desk.old) old (W.contents writer.old) from end.old line.old
-        → OnErr result (IsFront D.are_right D.tells before (front ++ byte ∷ more) (D.content desk.new)) }
+        → OnErr result (IsFront D.are_right D.tells before (front ++ 10 ∷ more) (D.content desk.new)) }
     ensures few { (end.new.refused ≤ end.old.refused + 1) × (end.new.failed ≤ end.old.failed + 1) }
+    ensures fault { IfErr result IsOfReply }
 {
-    if byte == b'\n' {
-        serve(alloc, desk, writer, end, line)?;
-        line.clear();
-    } else {
-        line.push(byte)?;
-    }
+    serve(alloc, desk, writer, end, line)?;
+    line.clear();
     Ok(())
 }
 
@@ -61,10 +69,15 @@ fn feed<D: Desk, W: Write>(
         → HasServed D.are_right D.tells before front (D.content desk.old) old (W.contents writer.old) from end.old line.old
         → OnErr result (IsFront D.are_right D.tells before (front ++ (piece.now ++ more)) (D.content desk.new)) }
     ensures few { (end.new.refused ≤ end.old.refused + length piece.now) × (end.new.failed ≤ end.old.failed + length piece.now) }
+    ensures fault { IfErr result IsOfReply }
 {
-    for byte in piece {
-        step(alloc, desk, writer, end, line, *byte)?;
+    let mut rest = piece;
+    while let Some((text, more)) = cut_at_lf(rest) {
+        line.extend(text)?;
+        end_line(alloc, desk, writer, end, line)?;
+        rest = more;
     }
+    line.extend(rest)?;
     Ok(())
 }
 
@@ -83,6 +96,7 @@ fn finish<D: Desk, W: Write>(
     ensures err { (before : Tables) (old : Option (List ℕ)) (front : List ℕ)
         → HasServed D.are_right D.tells before front (D.content desk.old) old (W.contents writer.old) (record { refused = 0; failed = 0 }) end.old line.old
         → OnErr result (IsFront D.are_right D.tells before front (D.content desk.new)) }
+    ensures fault { IfErr result IsOfReply }
 {
     line.keep_cr()?;
     serve(alloc, desk, writer, end, line)
@@ -92,7 +106,8 @@ fn finish<D: Desk, W: Write>(
 /// written and flushed before the next line is served.
 ///
 /// It goes on past refusals and faults, and counts them. At most 1,048,576 times the reader is asked for bytes. After a fault of
-/// the reader, of the writer or of memory for a line or a reply, what was accepted stands.
+/// the reader, of the writer or of memory for a line or a reply, what was accepted stands. Where the reader failed, or was asked
+/// too often, each line that ended among the bytes it gave is replied, and each reply written.
 pub fn script<D: Desk, R: Read, W: Write>(
     alloc: Global,
     desk: &mut D,
@@ -103,6 +118,9 @@ pub fn script<D: Desk, R: Read, W: Write>(
         × IsScript D.are_right D.tells (D.content desk.old) bytes (D.content desk.new) (W.contents writer.old) (W.contents writer.new) end) }
     ensures err { OnErr result ((bytes : List ℕ) × AreLeft (R.remaining reader.old) bytes
         × IsFront D.are_right D.tells (D.content desk.old) bytes (D.content desk.new)) }
+    ensures fault { IfErr result (λ fault. IsOfReply fault ⊎ ((bytes : List ℕ) × IsOfReader fault (length bytes)
+        × Consumes (R.remaining reader.old) (R.remaining reader.new) bytes
+        × IsCutOff D.are_right D.tells (D.content desk.old) bytes (D.content desk.new) (W.contents writer.old) (W.contents writer.new))) }
 {
     let mut end = ScriptEnd {
         refused: 0,

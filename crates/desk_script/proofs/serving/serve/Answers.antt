@@ -15,7 +15,7 @@ returns-clause-ok g c = λ text h.
     on_ok_weaker c.write_reply.result (λ written.
     Serves-one g.D.Desk.are_right g.D.Desk.tells (g.D.Desk.content c.args.desk.now) (g.D.Desk.content c.answer_kept-reply.new.desk)
     (g.W.Write.contents c.args.writer.now) (g.W.Write.contents c.write_reply.new.writer) c.args.end.now c.count.new.self c.args.line.now text
-    c.answer_kept-reply.result h c.if-line.false (c.answer_kept-reply.ensures text h) written c.count.ensures.refused c.count.ensures.failed) c.write_reply.ensures
+    c.answer_kept-reply.result h c.if-line.false (c.answer_kept-reply.ensures text h) written c.count.ensures.refused c.count.ensures.failed) c.write_reply.ensures.ok
 
 pub returns-clause-replied : goal.returns-clause-replied
 returns-clause-replied g c = λ text h.

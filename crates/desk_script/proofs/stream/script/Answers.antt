@@ -1,8 +1,8 @@
-use Rattle.std.proofs.Common.{◌≡◌, ℕ, ◌++◌, [], take, length, min, subst, ap, arith, append_assoc}
-use Rattle.std.proofs.KnownBytes.{Consumes-nil, Consumes-trans}
+use Rattle.std.proofs.Common.{◌≡◌, ℕ, ◌+◌, ◌++◌, [], take, length, min, subst, ap, inr, arith, append_assoc, length-append}
+use Rattle.std.proofs.KnownBytes.{Consumes-kept, Consumes-nil, Consumes-trans}
 use Rattle.std.proofs.lemmas.List.{length-take}
 use Rattle.desk_script.specs.Script.{AreLeft}
-use Rattle.desk_script.proofs.Progress.{AreLeft-all, AreLeft-front, HasServed-none, IsFront-of}
+use Rattle.desk_script.proofs.Progress.{AreLeft-all, AreLeft-front, HasServed-none, IsCutOff-of, IsFront-of}
 use Rattle.desk_script.proofs.Results.{OnErr-always}
 use Rattle.desk_script.proofs.stream.script.Goals as goal
 
@@ -11,9 +11,32 @@ loop-turn-init g c = record {
   front = [];
   read = Consumes-nil (g.R.Read.remaining c.args.reader.now);
   served = HasServed-none g.D.Desk.are_right g.D.Desk.tells (g.D.Desk.content c.args.desk.now) (g.W.Write.contents c.args.writer.now) (record { refused = 0; failed = 0 }) c.new-line.result c.new-line.ensures;
+  turns = omega arith;
   refused = omega arith;
   failed = omega arith;
 }
+
+pub returns-in_default-clause-fault : goal.returns-in_default-clause-fault
+returns-in_default-clause-fault g c =
+    let at = c.loop-turn.invariant in
+    inr (
+      at.front,
+      tt,
+      Consumes-kept (g.R.Read.remaining c.args.reader.now) (g.R.Read.remaining c.loop-turn.reader) (g.R.Read.remaining c.read.new.self) at.front at.read c.in_default.ensures.bytes,
+      IsCutOff-of g.D.Desk.are_right g.D.Desk.tells (g.D.Desk.content c.args.desk.now) at.front (g.D.Desk.content c.loop-turn.desk)
+          (g.W.Write.contents c.args.writer.now) (g.W.Write.contents c.loop-turn.writer) (record { refused = 0; failed = 0 }) c.loop-turn.end c.loop-turn.line at.served,
+    )
+
+pub returns-clause-fault : goal.returns-clause-fault
+returns-clause-fault g c =
+    let at = c.loop-turn.invariant in
+    inr (
+      at.front,
+      omega (arith, at.turns, c.loop-turn-test.false),
+      at.read,
+      IsCutOff-of g.D.Desk.are_right g.D.Desk.tells (g.D.Desk.content c.args.desk.now) at.front (g.D.Desk.content c.loop-turn.desk)
+          (g.W.Write.contents c.args.writer.now) (g.W.Write.contents c.loop-turn.writer) (record { refused = 0; failed = 0 }) c.loop-turn.end c.loop-turn.line at.served,
+    )
 
 pub returns-in_default-clause-err : goal.returns-in_default-clause-err
 returns-in_default-clause-err g c =
@@ -73,11 +96,14 @@ loop-turn-preserved g c =
     let at = c.loop-turn.invariant in
     let few = c.in_ok-feed.ensures.few in
     let taken : length (take c.in-Ok.taken c.read.new.buf) ≡ min c.in-Ok.taken (length c.read.new.buf) = length-take c.in-Ok.taken c.read.new.buf in
+    let front : length (at.front ++ take c.in-Ok.taken c.read.new.buf) ≡ length at.front + length (take c.in-Ok.taken c.read.new.buf) =
+    length-append at.front (take c.in-Ok.taken c.read.new.buf) in
     record {
       front = at.front ++ take c.in-Ok.taken c.read.new.buf;
       read = Consumes-trans (g.R.Read.remaining c.args.reader.now) (g.R.Read.remaining c.loop-turn.reader) (g.R.Read.remaining c.read.new.self) at.front
           (take c.in-Ok.taken c.read.new.buf) at.read c.in-Ok.ensures.bytes.0;
       served = c.in_ok-feed.ensures.ok (g.D.Desk.content c.args.desk.now) (g.W.Write.contents c.args.writer.now) (record { refused = 0; failed = 0 }) at.front at.served;
+      turns = omega (arith, at.turns, taken, front, c.if-taken-eq0.false);
       refused = omega (arith, at.refused, few.0, taken);
       failed = omega (arith, at.failed, few.1, taken);
     }

@@ -1,4 +1,4 @@
-use Rattle.std.proofs.Common.{◌≤◌, ◌*◌, ℕ, List}
+use Rattle.std.proofs.Common.{◌≤◌, ◌*◌, ℕ, List, length}
 use Rattle.std.specs.Io.KnownBytes.{Consumes}
 use Rattle.desk_script.specs.Script.{HasServed}
 use Rattle.desk_script.proofs.stream.script.Given as goal
@@ -9,6 +9,7 @@ invariant-loop-turn g l = record {
   read : Consumes (g.R.Read.remaining l.fn.reader) (g.R.Read.remaining l.reader) front;
   served : HasServed g.D.Desk.are_right g.D.Desk.tells (g.D.Desk.content l.fn.desk) front (g.D.Desk.content l.desk) (g.W.Write.contents l.fn.writer)
       (g.W.Write.contents l.writer) (record { refused = 0; failed = 0 }) l.end l.line;
+  turns : l.turn ≤ length front;
   refused : l.end.refused ≤ l.turn * 65536;
   failed : l.end.failed ≤ l.turn * 65536;
 }

@@ -1,0 +1,18 @@
+-- Why a script stopped.
+use Rattle.std.specs.Prelude.{ℕ, ◌≤◌}
+use Rattle.desk_script.specs.declared.serving.ScriptFault.{ScriptFault}
+use Rattle.desk_script.specs.declared.serving.ScriptFault.TheVariants.{Read, Write, Turns, Memory}
+
+-- a reply that couldn't be written, or no memory for a line or a reply
+abbrev pub IsOfReply : ScriptFault → Type 0
+IsOfReply Write = Unit {0}
+IsOfReply Memory = Unit {0}
+IsOfReply Read = ⊥
+IsOfReply Turns = ⊥
+
+-- a reader that gave so many bytes and failed, or was asked too often: each time it gave a byte at least
+abbrev pub IsOfReader : ScriptFault → ℕ → Type 0
+IsOfReader Read count = Unit {0}
+IsOfReader Turns count = 1048576 ≤ count
+IsOfReader Write count = ⊥
+IsOfReader Memory count = ⊥
