@@ -33,7 +33,7 @@ fn read_import(alloc: Global, value: &Value) -> Result<Request, AllocError>
     let Some(text) = text_at(value, "text") else {
         return Ok(Request::BadCommand);
     };
-    let bytes = Items::from_vec(text.as_bytes().to_vec(alloc)?);
+    let bytes = Items::from_vec(Vec::from_slice(alloc, text.as_bytes())?);
     Ok(Request::Act(Command::Import {
         bytes,
         profile: Profile::Capitals,
