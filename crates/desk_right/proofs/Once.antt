@@ -104,7 +104,7 @@ then_by (Ok x) next y e = (x, e)
 then_by (Err fault) next y e = cc
 
 -- what was read
-out : {A : Type 0} → A → Read A → A
+abbrev out : {A : Type 0} → A → Read A → A
 out d (Ok x) = x
 out d (Err fault) = d
 
@@ -141,9 +141,9 @@ entry_has terms forms duties index d rule e =
     let term = then_by (ok_or (licence_of terms written.0.term) (BadTerm part.Rule index)) (rule_of forms duties index written.0) rule written.1 in
     rule_has forms duties index written.0 term.0 rule term.1
 
-rules_have : (terms : List ℕ → Option (List ℕ)) (forms duties : List (List ℕ)) (data : Option Data) (rules : List Rule) → rules_of terms forms duties data ≡ Ok rules → Each HasSet rules
-rules_have terms forms duties data rules e =
-    let items = then_by (tables_of part.Rule data) (each (rule_at terms forms duties) 0) rules e in
+rules_have : (terms : List ℕ → Option (List ℕ)) (forms duties : List (List ℕ)) (listed : Option Data) (rules : List Rule) → rules_of terms forms duties listed ≡ Ok rules → Each HasSet rules
+rules_have terms forms duties listed rules e =
+    let items = then_by (tables_of part.Rule listed) (each (rule_at terms forms duties) 0) rules e in
     each_read HasSet (rule_at terms forms duties) (entry_has terms forms duties) 0 items.0 rules items.1
 
 put_keeps : (P : Rule → Type 0) (x : Rule) (rs : List Rule) → P x → Each P rs → Each P (put_rule x rs)
