@@ -206,7 +206,7 @@ all_drop test (x ∷ xs) zero h =
 all_drop test [] (suc n) h = refl
 all_drop test (x ∷ xs) (suc n) h = all_drop test xs n (λ k d a b. h (suc k) d (omega (arith, a)) (omega (arith, b)))
 
-turned_le : (o p : Ordering) → o ≡ ordering_reverse p → is_le p ≡ true → is_lt o ≡ false
+pub turned_le : (o p : Ordering) → o ≡ ordering_reverse p → is_le p ≡ true → is_lt o ≡ false
 turned_le o Less e f = ap is_lt e
 turned_le o Equal e f = ap is_lt e
 turned_le o Greater e f = cc

@@ -4,3 +4,5 @@ mod Founds
 mod Ledgering
 mod Ascending
 mod Halving
+mod Placing
+mod Naming

@@ -10,13 +10,20 @@ use Rattle.std.specs.declared.cmp.Ordering.TheVariants.{Less, Equal, Greater}
 use Rattle.std.proofs.lemmas.Cmp.{on_total, then_total, nat_list_cmp_total, nat_cmp_total}
 use Rattle.std.proofs.lemmas.Map.Text.{is_eq-slice_cmp}
 use Rattle.std.proofs.lemmas.Bool.Decides.{nat_tests}
-use Rattle.desk_rows.specs.Keys.{attached_order, choice_order, frozen_order, is_attachment, is_choice_of}
+use Rattle.desk_rows.specs.Keys.{attached_order, choice_order, frozen_order, is_package, is_attachment, is_choice_of}
+use Rattle.desk_rows.specs.declared.row.PackageRow.{PackageRow}
 use Rattle.desk_rows.specs.declared.row.AttachedRow.{AttachedRow}
 use Rattle.desk_rows.specs.declared.row.ChoiceRow.{ChoiceRow}
 use Rattle.desk_memory.specs.Sorted.{IsSideOf}
-use Rattle.desk_memory.specs.Sides.{release_order, release_side, attached_side, attachment_side, choice_side}
+use Rattle.desk_memory.specs.Sides.{document_order, document_side, package_order, packages_side, package_side, release_order, release_side, attached_side, attachment_side, choice_side}
 
 -- the orders of the tables
+
+pub document_total : IsTotalOrder document_order
+document_total = on_total (λ row. row.number) nat_cmp_total
+
+pub package_total : IsTotalOrder package_order
+package_total = then_total (on_total (λ row. row.document) nat_cmp_total) (on_total (λ row. row.id) nat_list_cmp_total)
 
 pub release_total : IsTotalOrder release_order
 release_total = on_total (λ row. row.name) nat_list_cmp_total
@@ -79,6 +86,20 @@ pair_cmp = then_cmp (on (λ p. p.0) (slice_cmp nat_cmp)) (on (λ p. p.1) nat_cmp
 abbrev three_cmp : List ℕ × ℕ × List ℕ → List ℕ × ℕ × List ℕ → Ordering
 three_cmp = then_cmp (then_cmp (on (λ p. p.0) (slice_cmp nat_cmp)) (on (λ p. p.1) nat_cmp)) (on (λ p. p.2) (slice_cmp nat_cmp))
 
+abbrev number_cmp : ℕ × List ℕ → ℕ × List ℕ → Ordering
+number_cmp = then_cmp (on (λ p. p.0) nat_cmp) (on (λ p. p.1) (slice_cmp nat_cmp))
+
+pub document_splits : (number : ℕ) → IsSideOf document_order (document_side number)
+document_splits number = side_by document_order (λ row. row.number) nat_cmp nat_cmp_total (λ x y e. e) number
+
+pub packages_splits : (document : ℕ) → IsSideOf package_order (packages_side document)
+packages_splits document =
+    side_by package_order (λ row. row.document) nat_cmp nat_cmp_total (λ x y e. first_less (nat_cmp y.document x.document) (slice_cmp nat_cmp y.id x.id) e) document
+
+pub package_splits : (document : ℕ) (id : List ℕ) → IsSideOf package_order (package_side document id)
+package_splits document id =
+    side_by package_order (λ row. (row.document, row.id)) number_cmp (then_total (on_total (λ p. p.0) nat_cmp_total) (on_total (λ p. p.1) nat_list_cmp_total)) (λ x y e. e) (document, id)
+
 pub release_splits : (name : List ℕ) → IsSideOf release_order (release_side name)
 release_splits name = side_by release_order (λ row. row.name) (slice_cmp nat_cmp) nat_list_cmp_total (λ x y e. e) name
 
@@ -102,13 +123,17 @@ choice_splits release document id =
 pub texts_meet : (a b : List ℕ) → bytes_eq a b ≡ is_eq (slice_cmp nat_cmp a b)
 texts_meet a b = sym (is_eq-slice_cmp a b)
 
-numbers_meet : (m n : ℕ) → (m == n) ≡ is_eq (nat_cmp m n)
+pub numbers_meet : (m n : ℕ) → (m == n) ≡ is_eq (nat_cmp m n)
 numbers_meet m n = grind (arith, nat_tests)
 
 then_meets : (o p : Ordering) (a b : Bool) → a ≡ is_eq o → b ≡ is_eq p → (a && b) ≡ is_eq (ordering_then o p)
 then_meets Less p a b e f = rw e refl
 then_meets Equal p a b e f = rw e f
 then_meets Greater p a b e f = rw e refl
+
+pub package_meets : (document : ℕ) (id : List ℕ) (row : PackageRow) → is_package document id row ≡ is_eq (package_side document id row)
+package_meets document id row =
+    then_meets (nat_cmp row.document document) (slice_cmp nat_cmp row.id id) (row.document == document) (bytes_eq row.id id) (numbers_meet row.document document) (texts_meet row.id id)
 
 pub attachment_meets : (release : List ℕ) (document : ℕ) (row : AttachedRow) → is_attachment release document row ≡ is_eq (attachment_side release document row)
 attachment_meets release document row =
@@ -120,3 +145,15 @@ choice_meets release document id row =
     (bytes_eq row.release release && (row.document == document)) (bytes_eq row.package_id id)
     (then_meets (slice_cmp nat_cmp row.release release) (nat_cmp row.document document) (bytes_eq row.release release) (row.document == document) (texts_meet row.release release) (numbers_meet row.document document))
     (texts_meet row.package_id id)
+
+-- Rows at one key stand on no side of each other
+
+equal_of : (o : Ordering) → is_eq o ≡ true → o ≡ Equal
+equal_of Less e = cc
+equal_of Equal e = refl
+equal_of Greater e = cc
+
+pub alike : {A K : Type 0} (key : A → K) (R : K → K → Ordering) → IsTotalOrder R → (k : K) (x y : A) → is_eq (R (key x) k) ≡ true → is_eq (R (key y) k) ≡ true → is_lt (R (key x) (key y)) ≡ false
+alike key R t k x y e f =
+    let turned : R k (key y) ≡ Equal = t.antisymm k (key y) ∙ ap ordering_reverse (equal_of (R (key y) k) f) in
+    ap is_lt (t.congr (key x) k (key y) (equal_of (R (key x) k) e) ∙ turned)

@@ -1,12 +1,37 @@
 //! The keys of rows, and what rows are looked up by.
 
-ghost use Rattle.desk_rows.specs.Keys.{attached_order, choice_order, frozen_order, is_release, is_attached_to, is_attachment, is_choice_of};
-ghost use Rattle.desk_memory.specs.Sides.{release_order, release_side, attached_side, attachment_side, choice_side};
-ghost use Rattle.desk_memory.specs.Splitting.{release_total, attached_total, choice_total, frozen_total, release_splits, attached_splits, attachment_splits, choice_splits, texts_meet, attachment_meets, choice_meets};
+ghost use Rattle.desk_rows.specs.Keys.{is_document, is_package, attached_order, choice_order, frozen_order, is_release, is_attached_to, is_attachment, is_choice_of};
+ghost use Rattle.desk_memory.specs.Sides.{document_order, document_side, package_order, is_package_of, packages_side, package_side, release_order, release_side, attached_side, attachment_side, choice_side};
+ghost use Rattle.desk_memory.specs.Splitting.{document_total, package_total, document_splits, packages_splits, package_splits, numbers_meet, package_meets, release_total, attached_total, choice_total, frozen_total, release_splits, attached_splits, attachment_splits, choice_splits, texts_meet, attachment_meets, choice_meets};
+ghost use Rattle.desk_memory.specs.Namespaces.{is_named, namespace_order, namespace_side};
+ghost use Rattle.desk_memory.specs.NamespaceLaws.{namespace_total, namespace_splits};
 
 use crate::sorted::{Keyed, Sought};
-use desk_rows::{AttachedRow, ChoiceRow, FrozenRow, ReleaseRow};
+use desk_base::Text;
+use desk_rows::{AttachedRow, ChoiceRow, DocumentRow, FrozenRow, PackageRow, ReleaseRow};
 use std::cmp::Ordering;
+
+impl Keyed for DocumentRow {
+    ghost order = { document_order };
+
+    ghost total = { document_total };
+
+    fn compare(&self, other: &Self) -> Ordering {
+        self.number.cmp(&other.number)
+    }
+}
+
+impl Keyed for PackageRow {
+    ghost order = { package_order };
+
+    ghost total = { package_total };
+
+    fn compare(&self, other: &Self) -> Ordering {
+        self.document
+            .cmp(&other.document)
+            .then(self.id.as_str().cmp(other.id.as_str()))
+    }
+}
 
 impl Keyed for ReleaseRow {
     ghost order = { release_order };
@@ -58,6 +83,106 @@ impl Keyed for FrozenRow {
             .then(self.document.cmp(&other.document))
             .then(self.package_id.as_str().cmp(other.package_id.as_str()))
             .then(self.term.as_str().cmp(other.term.as_str()))
+    }
+}
+
+/// Where the document with a namespace stands.
+#[derive(Drop)]
+pub(crate) struct NamespacePlace {
+    pub(crate) namespace: Text,
+    pub(crate) place: usize,
+}
+
+impl Keyed for NamespacePlace {
+    ghost order = { namespace_order };
+
+    ghost total = { namespace_total };
+
+    fn compare(&self, other: &Self) -> Ordering {
+        self.namespace.as_str().cmp(other.namespace.as_str())
+    }
+}
+
+/// A document by its number.
+#[derive(Clone, Copy)]
+pub(crate) struct ByNumber {
+    pub(crate) number: u64,
+}
+
+impl Sought<DocumentRow> for ByNumber {
+    ghost side = { λ key. document_side key.number };
+
+    ghost is_at = { λ key. is_document key.number };
+
+    ghost splits = { λ key. document_splits key.number };
+
+    ghost meets = { λ key row. numbers_meet row.number key.number };
+
+    fn side_of(&self, row: &DocumentRow) -> Ordering {
+        u64::from(row.number).cmp(&self.number)
+    }
+}
+
+/// A document by its namespace.
+#[derive(Clone, Copy)]
+pub(crate) struct ByNamespace<'a> {
+    pub(crate) namespace: &'a str,
+}
+
+impl Sought<NamespacePlace> for ByNamespace<'_> {
+    ghost side = { λ key. namespace_side key.namespace.now };
+
+    ghost is_at = { λ key. is_named key.namespace.now };
+
+    ghost splits = { λ key. namespace_splits key.namespace.now };
+
+    ghost meets = { λ key row. texts_meet row.namespace key.namespace.now };
+
+    fn side_of(&self, row: &NamespacePlace) -> Ordering {
+        row.namespace.as_str().cmp(self.namespace)
+    }
+}
+
+/// The packages of a document.
+#[derive(Clone, Copy)]
+pub(crate) struct ByDocument {
+    pub(crate) document: u32,
+}
+
+impl Sought<PackageRow> for ByDocument {
+    ghost side = { λ key. packages_side key.document };
+
+    ghost is_at = { λ key. is_package_of key.document };
+
+    ghost splits = { λ key. packages_splits key.document };
+
+    ghost meets = { λ key row. numbers_meet row.document key.document };
+
+    fn side_of(&self, row: &PackageRow) -> Ordering {
+        row.document.cmp(&self.document)
+    }
+}
+
+/// A package of a document by its id.
+#[derive(Clone, Copy)]
+pub(crate) struct ById<'a> {
+    pub(crate) document: u64,
+    pub(crate) id: &'a str,
+}
+
+impl Sought<PackageRow> for ById<'_> {
+    ghost side = { λ key. package_side key.document key.id.now };
+
+    ghost is_at = { λ key. is_package key.document key.id.now };
+
+    ghost splits = { λ key. package_splits key.document key.id.now };
+
+    ghost meets = { λ key row. package_meets key.document key.id.now row };
+
+    fn side_of(&self, row: &PackageRow) -> Ordering {
+        u64::from(row.document)
+            .cmp(&self.document)
+            .then(row.id.as_str().cmp(self.id))
     }
 }
 

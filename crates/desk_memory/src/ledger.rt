@@ -22,7 +22,7 @@ pub(crate) struct Ledger {
     ghost changes_grouped: { grouped 1 groups.items ≡ true },
 }
 
-fn item_at<T>(items: &[T], place: usize) -> Option<&T>
+pub(crate) fn item_at<T>(items: &[T], place: usize) -> Option<&T>
     ensures { option_copied result ≡ slice_get items.now place }
 {
     items.get(place)

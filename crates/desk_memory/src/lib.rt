@@ -4,6 +4,8 @@
 //! taken, or not at all.
 #![tactic(auto)]
 
+mod appended;
+mod documents;
 mod keys;
 mod ledger;
 mod sorted;

@@ -12,7 +12,9 @@ ghost use Rattle.desk_rows.specs.declared.state.ReleaseState.TheVariants.{Frozen
 ghost use Rattle.desk_memory.specs.Ledgers.{all_of};
 ghost use Rattle.desk_history.specs.FromTables.{rule_of};
 
-use crate::keys::{ByAttachment, ByName, ByPackage, ByRelease};
+use crate::appended::Appended;
+use crate::documents::Documents;
+use crate::keys::{ByAttachment, ByDocument, ById, ByName, ByNumber, ByPackage, ByRelease};
 use crate::ledger::Ledger;
 use crate::sorted::{Sorted, reserve, run_of};
 use desk_access::store::Store;
@@ -101,24 +103,6 @@ fn rule_copy(alloc: Global, row: &RuleRow) -> Result<Rule, AllocError>
         spelled: row.spelled.clone()?,
         codes: codes_copy(alloc, row.codes.as_slice())?,
     })
-}
-
-fn find_document(rows: &Vec<DocumentRow>, number: u64) -> Option<&DocumentRow>
-    ensures { option_copied result ≡ find (is_document number) rows.now.items }
-{
-    rows.iter().find(|row| u64::from(row.number) == number)
-}
-
-fn find_namespace<'a>(rows: &'a Vec<DocumentRow>, namespace: &str) -> Option<&'a DocumentRow>
-    ensures { option_copied result ≡ find (has_namespace namespace.now) rows.now.items }
-{
-    rows.iter().find(|row| row.namespace.as_str() == namespace)
-}
-
-fn find_package<'a>(rows: &'a Vec<PackageRow>, document: u64, id: &str) -> Option<&'a PackageRow>
-    ensures { option_copied result ≡ find (is_package document id.now) rows.now.items }
-{
-    rows.iter().find(|row| u64::from(row.document) == document && row.id.as_str() == id)
 }
 
 fn find_rule<'a>(rows: &'a [RuleRow], revision: u64, term: &str, form: &str) -> Option<&'a RuleRow>
@@ -215,8 +199,8 @@ pub struct MemStore {
     catalogue: Vec<CatalogueRow>,
     forms: Items<Text>,
     rules: Vec<RuleRow>,
-    documents: Vec<DocumentRow>,
-    packages: Vec<PackageRow>,
+    documents: Documents,
+    packages: Appended<PackageRow>,
     extracted: Vec<ExtractedRow>,
     releases: Sorted<ReleaseRow>,
     attached: Sorted<AttachedRow>,
@@ -238,8 +222,8 @@ impl MemStore {
             catalogue: Vec::new(alloc),
             forms: Items::new(alloc),
             rules: Vec::new(alloc),
-            documents: Vec::new(alloc),
-            packages: Vec::new(alloc),
+            documents: Documents::new(alloc),
+            packages: Appended::new(alloc),
             extracted: Vec::new(alloc),
             releases: Sorted::new(alloc),
             attached: Sorted::new(alloc),
@@ -279,17 +263,15 @@ impl MemStore {
         ensures err { OnErr result (⟦<MemStore as Store>⟧.rows self.new ≡ ⟦<MemStore as Store>⟧.rows self.old) }
         ensures fault { IfErr result (λ fault. fault ≡ Fault.Memory) }
     {
-        let mut packages = packages.into_vec();
+        let packages = packages.into_vec();
         let mut references = references.into_vec();
-        reserve(&mut self.documents, 1)?;
+        self.packages.reserve(packages.len())?;
         reserve(&mut self.extracted, references.len())?;
-        let Ok(()) = self.packages.append(&mut packages) else {
-            return Err(Fault::Memory);
-        };
+        self.documents.push(row)?;
+        self.packages.append(packages);
         let Ok(()) = self.extracted.append(&mut references) else {
             unreachable!()
         };
-        self.documents.push_reserved(row);
         Ok(())
     }
 
@@ -346,7 +328,7 @@ impl MemStore {
 }
 
 impl Store for MemStore {
-    ghost rows = { λ s. record { catalogue = s.catalogue.items; forms = s.forms; rule = s.rules.items; document = s.documents.items; packages = s.packages.items; extracted = s.extracted.items; conclusion = []; adoption = []; releases = s.releases.rows.items; attached = s.attached.rows.items; choice = s.choices.rows.items; frozen = s.frozen.rows.items; duty = s.ledger.duties.items; changes = all_of s.ledger.groups.items } };
+    ghost rows = { λ s. record { catalogue = s.catalogue.items; forms = s.forms; rule = s.rules.items; document = s.documents.rows.rows.items; packages = s.packages.rows.items; extracted = s.extracted.items; conclusion = []; adoption = []; releases = s.releases.rows.items; attached = s.attached.rows.items; choice = s.choices.rows.items; frozen = s.frozen.rows.items; duty = s.ledger.duties.items; changes = all_of s.ledger.groups.items } };
 
     ghost tells = { λ _. ⊥ };
 
@@ -374,25 +356,25 @@ impl Store for MemStore {
     }
 
     fn document_count(&mut self) -> Result<u64, Fault> {
-        Ok(self.documents.len() as u64)
+        Ok(self.documents.rows.len() as u64)
     }
 
     fn import_of(&mut self, namespace: &str, bytes: &[u8]) -> Result<Option<(u32, bool)>, Fault> {
-        match find_namespace(&self.documents, namespace) {
+        match self.documents.find_namespace(namespace) {
             Some(row) => Ok(Some((row.number, row.bytes.as_slice() == bytes))),
             None => Ok(None),
         }
     }
 
     fn document(&mut self, number: u64) -> Result<Option<(u32, Profile)>, Fault> {
-        match find_document(&self.documents, number) {
+        match self.documents.rows.find(&ByNumber { number }) {
             Some(row) => Ok(Some((row.number, row.profile))),
             None => Ok(None),
         }
     }
 
     fn package_row(&mut self, document: u64, id: &str) -> Result<Option<PackageRow>, Fault> {
-        match find_package(&self.packages, document, id) {
+        match self.packages.find(&ById { document, id }) {
             Some(row) => match package_copy(row) {
                 Ok(row) => Ok(Some(row)),
                 Err(_) => Err(Fault::Memory),
@@ -402,7 +384,8 @@ impl Store for MemStore {
     }
 
     fn shipped(&mut self, document: u32) -> Result<Vec<PackageRow>, Fault> {
-        match shipped_rows(self.alloc, self.packages.as_slice(), document) {
+        let rows = self.packages.among(&ByDocument { document });
+        match shipped_rows(self.alloc, rows, document) {
             Ok(rows) => Ok(rows),
             Err(_) => Err(Fault::Memory),
         }

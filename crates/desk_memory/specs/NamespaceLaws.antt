@@ -1,0 +1,22 @@
+-- Places by namespaces ascend.
+use Rattle.std.specs.Prelude.{◌≡◌, ℕ, Bool, true, false, List}
+use Rattle.std.specs.Ordering.{nat_cmp, is_lt}
+use Rattle.std.specs.Cmp.{IsTotalOrder}
+use Rattle.std.specs.Cmp.Lexicographic.{slice_cmp}
+use Rattle.std.proofs.Common.{sym, ◌∙◌}
+use Rattle.std.proofs.lemmas.Cmp.{on_total, nat_list_cmp_total}
+use Rattle.desk_rows.specs.Keys.{below_by}
+use Rattle.desk_memory.specs.declared.keys.NamespacePlace.{NamespacePlace}
+use Rattle.desk_memory.specs.Sorted.{IsSideOf}
+use Rattle.desk_memory.specs.Splitting.{side_by, alike, texts_meet}
+use Rattle.desk_memory.specs.Namespaces.{is_named, namespace_order, namespace_side}
+
+pub namespace_total : IsTotalOrder namespace_order
+namespace_total = on_total (λ entry. entry.namespace) nat_list_cmp_total
+
+pub namespace_splits : (namespace : List ℕ) → IsSideOf namespace_order (namespace_side namespace)
+namespace_splits namespace = side_by namespace_order (λ entry. entry.namespace) (slice_cmp nat_cmp) nat_list_cmp_total (λ x y e. e) namespace
+
+pub named_alike : (namespace : List ℕ) (x y : NamespacePlace) → is_named namespace x ≡ true → is_named namespace y ≡ true → below_by namespace_order x y ≡ false
+named_alike namespace x y e f =
+    alike (λ entry. entry.namespace) (slice_cmp nat_cmp) nat_list_cmp_total namespace x y (sym (texts_meet x.namespace namespace) ∙ e) (sym (texts_meet y.namespace namespace) ∙ f)
