@@ -32,12 +32,19 @@ class Program:
 
 
 def lines(text):
-    return text.splitlines(keepends=True)
+    """The lines of a text, each with its LF."""
+    parts = text.split(b"\n")
+    return [part + b"\n" for part in parts[:-1]] + parts[-1:]
+
+
+def is_blank(line):
+    end = b"\r\n" if line.endswith(b"\r\n") else b"\n"
+    return not line.removesuffix(end).strip(b" \t")
 
 
 def without(requests, place):
     """The requests but for the one whose reply stands at this place: a blank line has none."""
-    replied = [n for n, line in enumerate(requests) if line.strip(b" \t\r\n")]
+    replied = [n for n, line in enumerate(requests) if not is_blank(line)]
     return b"".join(line for n, line in enumerate(requests) if n != replied[place])
 
 
@@ -58,7 +65,7 @@ def is_right_script(program, text, whole, stdout, status, stderr):
         return whole[0].startswith(stdout)
     if len(failed) > 1:
         return False
-    rest = program.run(["script"], without(text.splitlines(keepends=True), failed[0]))[0]
+    rest = program.run(["script"], without(lines(text), failed[0]))[0]
     return b"".join(replies[: failed[0]] + replies[failed[0] + 1 :]) == rest
 
 
