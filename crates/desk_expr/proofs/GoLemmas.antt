@@ -43,3 +43,13 @@ module _ (chosen : List Term) (e : Tree) (from size : ℕ) where
 
   pub none_goes : ((j : ℕ) → j < from → CanGo chosen e j → ⊥) → ((j : ℕ) (t : Term) → slice_get (window chosen from size) j ≡ Some t → Holds (Without chosen t) e → ⊥) → (j : ℕ) → j < from + size → CanGo chosen e j → ⊥
   none_goes before round = stays_until size (omega arith) before (λ j t low at holds. round j t at holds)
+
+-- a copy of a term that stays stays
+pub copy_stays : (chosen : List Term) (e : Tree) (from first : ℕ) → first < from → slice_get chosen first ≡ slice_get chosen from → ((j : ℕ) → j < from → CanGo chosen e j → ⊥) → (j : ℕ) → j < from + 1 → CanGo chosen e j → ⊥
+copy_stays chosen e from first earlier same before j early (t, at, holds) =
+    ⊎_elim
+    (λ below. before j below (t, at, holds))
+    (λ above.
+    let is : j ≡ from = omega arith in
+    before first earlier (t, same ∙ (ap (slice_get chosen) (sym is) ∙ at), holds))
+    (order j from)

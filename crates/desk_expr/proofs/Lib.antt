@@ -8,6 +8,7 @@ pub mod Residual
 pub mod Steps
 pub mod SymbolLemmas
 pub mod MarkLemmas
+mod ListedLemmas
 pub mod GoLemmas
 pub mod Lexing
 pub mod Unambiguous

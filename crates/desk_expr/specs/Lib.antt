@@ -19,3 +19,4 @@ pub mod TermReading
 pub mod Halting
 pub mod Occurring
 pub mod Printing
+pub mod Listed

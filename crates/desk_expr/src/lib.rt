@@ -12,6 +12,7 @@ mod counts;
 mod cut;
 mod expr;
 mod fault;
+mod listed;
 mod listing;
 mod printing;
 mod progress;

@@ -212,6 +212,45 @@ fn a_long_choice(rt: HostRuntime) -> Result<(), Fail> {
     Ok(())
 }
 
+fn numbered(alloc: Global, count: usize, between: &str) -> Result<String, AllocError> {
+    let mut text = String::new(alloc);
+    for k in 0..count {
+        if k > 0 {
+            text.push_str(between)?;
+        }
+        text.push_str(format!(in alloc; "a{k}")?.as_str())?;
+    }
+    Ok(text)
+}
+
+// Long lists of copies and of other terms, which took minutes when every listed term was compared with every leaf.
+#[test]
+fn hostile_lists(rt: HostRuntime) -> Result<(), Fail> {
+    let alloc = rt.alloc();
+    let all = parse(alloc, numbered(alloc, 1024, " AND ")?.as_str())?;
+    let any = parse(alloc, numbered(alloc, 1024, " OR ")?.as_str())?;
+    let mut chosen = Vec::new(alloc);
+    for _ in 0..100_000u32 {
+        chosen.push(parse_term(alloc, "A0")?)?;
+    }
+    assert_eq!(rt; check_choice(&any, chosen.as_slice()), Verdict::Minimal);
+    for k in 1..1024u32 {
+        chosen.push(parse_term(alloc, format!(in alloc; "a{k}")?.as_str())?)?;
+    }
+    assert_eq!(rt; check_choice(&all, chosen.as_slice()), Verdict::Minimal);
+    assert_eq!(rt;
+        check_choice(&any, chosen.as_slice()),
+        Verdict::Superfluous(0)
+    );
+    let mut others = Vec::new(alloc);
+    for k in 0..100_000u32 {
+        others.push(parse_term(alloc, format!(in alloc; "b{k}")?.as_str())?)?;
+    }
+    assert_eq!(rt; check_choice(&any, others.as_slice()), Verdict::NotEnough);
+    assert!(rt; !holds(&any, others.as_slice()));
+    Ok(())
+}
+
 #[test]
 fn tokens_stand_at_their_spans(rt: HostRuntime) {
     let text = " (MIT AND\tX+) é";

@@ -23,12 +23,12 @@ module _ (candidates : List Term) (marks : ℕ) (P : Term → Type 0) (told : Ma
 
 pub returns-clause-found : goal.returns-clause-found
 returns-clause-found c =
-    found c.args.candidates.now c.holds_without-marks.result (λ gone. Holds (Without c.args.chosen.now gone) c.args.expr.now) c.holds_without-marks.ensures c.first_mark.result c.first_mark.ensures.found
+    found c.args.candidates.now c.holds_without-marks.result (λ gone. Holds (Without c.args.listed.chosen.now gone) c.args.expr.now) c.holds_without-marks.ensures c.first_mark.result c.first_mark.ensures.found
 
 pub returns-clause-first : goal.returns-clause-first
 returns-clause-first c =
-    first c.args.candidates.now c.holds_without-marks.result (λ gone. Holds (Without c.args.chosen.now gone) c.args.expr.now) c.holds_without-marks.ensures c.first_mark.result c.first_mark.ensures.first
+    first c.args.candidates.now c.holds_without-marks.result (λ gone. Holds (Without c.args.listed.chosen.now gone) c.args.expr.now) c.holds_without-marks.ensures c.first_mark.result c.first_mark.ensures.first
 
 pub returns-clause-none : goal.returns-clause-none
 returns-clause-none c =
-    none c.args.candidates.now c.holds_without-marks.result (λ gone. Holds (Without c.args.chosen.now gone) c.args.expr.now) c.holds_without-marks.ensures c.first_mark.result c.first_mark.ensures.none
+    none c.args.candidates.now c.holds_without-marks.result (λ gone. Holds (Without c.args.listed.chosen.now gone) c.args.expr.now) c.holds_without-marks.ensures c.first_mark.result c.first_mark.ensures.none

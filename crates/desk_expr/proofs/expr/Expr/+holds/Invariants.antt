@@ -7,10 +7,10 @@ use Rattle.desk_expr.proofs.expr.Expr.+holds.Given as goal
 -- all parts hold where those from the index on do
 abbrev pub invariant-loop-part : goal.invariant-loop-part
 invariant-loop-part l =
-    AllHold (Contains l.chosen) (parts_of l.part-items)
-    ↔ AllHold (Contains l.chosen) (parts_of (drop l.part-index l.part-items))
+    AllHold (Contains l.listed.chosen.now) (parts_of l.part-items)
+    ↔ AllHold (Contains l.listed.chosen.now) (parts_of (drop l.part-index l.part-items))
 
 abbrev pub invariant-loop-part-2 : goal.invariant-loop-part-2
 invariant-loop-part-2 l =
-    SomeHolds (Contains l.chosen) (parts_of l.part-items)
-    ↔ SomeHolds (Contains l.chosen) (parts_of (drop l.part-index l.part-items))
+    SomeHolds (Contains l.listed.chosen.now) (parts_of l.part-items)
+    ↔ SomeHolds (Contains l.listed.chosen.now) (parts_of (drop l.part-index l.part-items))

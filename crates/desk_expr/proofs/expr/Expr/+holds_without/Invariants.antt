@@ -10,11 +10,11 @@ use Rattle.desk_expr.proofs.expr.Expr.+holds_without.Given as goal
 abbrev pub invariant-loop-part : goal.invariant-loop-part
 invariant-loop-part l =
     (k : ℕ) (gone : Term) → slice_get l.candidates k ≡ Some gone →
-    AllHold (Without l.chosen gone) (parts_of l.part-items)
-    ↔ ((bit_at l.marks k ≡ 1) × AllHold (Without l.chosen gone) (parts_of (drop l.part-index l.part-items)))
+    AllHold (Without l.listed.chosen.now gone) (parts_of l.part-items)
+    ↔ ((bit_at l.marks k ≡ 1) × AllHold (Without l.listed.chosen.now gone) (parts_of (drop l.part-index l.part-items)))
 
 abbrev pub invariant-loop-part-2 : goal.invariant-loop-part-2
 invariant-loop-part-2 l =
     (k : ℕ) (gone : Term) → slice_get l.candidates k ≡ Some gone →
-    SomeHolds (Without l.chosen gone) (parts_of l.part-items)
-    ↔ ((bit_at l.marks k ≡ 1) ⊎ SomeHolds (Without l.chosen gone) (parts_of (drop l.part-index l.part-items)))
+    SomeHolds (Without l.listed.chosen.now gone) (parts_of l.part-items)
+    ↔ ((bit_at l.marks k ≡ 1) ⊎ SomeHolds (Without l.listed.chosen.now gone) (parts_of (drop l.part-index l.part-items)))
