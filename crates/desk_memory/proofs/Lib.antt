@@ -6,3 +6,4 @@ mod Ascending
 mod Halving
 mod Placing
 mod Naming
+mod Ruling

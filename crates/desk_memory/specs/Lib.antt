@@ -4,3 +4,5 @@ pub mod Sides
 pub mod Namespaces
 pub mod Splitting
 pub mod NamespaceLaws
+pub mod RulePlaces
+pub mod RuleLaws

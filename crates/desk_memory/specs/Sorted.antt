@@ -3,6 +3,7 @@ use Rattle.std.specs.Prelude.{◌≡◌, ℕ, ◌+◌, ◌≤◌, ◌&&◌, not,
 use Rattle.std.specs.List.{list_all, list_any, AllWithin, AllAdjacentBelow}
 use Rattle.std.specs.List.Sorted.{IsNonDecreasingBy}
 use Rattle.std.specs.Ordering.{is_lt, ordering_index}
+use Rattle.desk_rows.specs.Lists.{put}
 use Rattle.std.specs.declared.cmp.Ordering.{Ordering}
 use Rattle.std.specs.declared.cmp.Ordering.TheVariants.{Less, Equal, Greater}
 
@@ -14,6 +15,11 @@ over below y zs = list_all (λ z. not (below z y)) zs
 abbrev pub ascends : {A : Type 0} → (A → A → Bool) → List A → Bool
 ascends below [] = true
 ascends below (y ∷ ys) = over below y ys && ascends below ys
+
+-- each of some in its place, one after another
+abbrev pub put_in_turn : {A : Type 0} → (A → A → Bool) → List A → List A → List A
+put_in_turn below [] ys = ys
+put_in_turn below (x ∷ xs) ys = put_in_turn below xs (put below x ys)
 
 -- each row is below the next
 abbrev pub Climbs : {A : Type 0} → (A → A → Bool) → List A → Type 0

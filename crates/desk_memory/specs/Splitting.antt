@@ -126,7 +126,7 @@ texts_meet a b = sym (is_eq-slice_cmp a b)
 pub numbers_meet : (m n : ℕ) → (m == n) ≡ is_eq (nat_cmp m n)
 numbers_meet m n = grind (arith, nat_tests)
 
-then_meets : (o p : Ordering) (a b : Bool) → a ≡ is_eq o → b ≡ is_eq p → (a && b) ≡ is_eq (ordering_then o p)
+pub then_meets : (o p : Ordering) (a b : Bool) → a ≡ is_eq o → b ≡ is_eq p → (a && b) ≡ is_eq (ordering_then o p)
 then_meets Less p a b e f = rw e refl
 then_meets Equal p a b e f = rw e f
 then_meets Greater p a b e f = rw e refl

@@ -5,6 +5,8 @@ ghost use Rattle.desk_memory.specs.Sides.{document_order, document_side, package
 ghost use Rattle.desk_memory.specs.Splitting.{document_total, package_total, document_splits, packages_splits, package_splits, numbers_meet, package_meets, release_total, attached_total, choice_total, frozen_total, release_splits, attached_splits, attachment_splits, choice_splits, texts_meet, attachment_meets, choice_meets};
 ghost use Rattle.desk_memory.specs.Namespaces.{is_named, namespace_order, namespace_side};
 ghost use Rattle.desk_memory.specs.NamespaceLaws.{namespace_total, namespace_splits};
+ghost use Rattle.desk_memory.specs.RulePlaces.{is_placed, rule_order, rule_side};
+ghost use Rattle.desk_memory.specs.RuleLaws.{rule_total, rule_splits, rule_meets};
 
 use crate::sorted::{Keyed, Sought};
 use desk_base::Text;
@@ -100,6 +102,53 @@ impl Keyed for NamespacePlace {
 
     fn compare(&self, other: &Self) -> Ordering {
         self.namespace.as_str().cmp(other.namespace.as_str())
+    }
+}
+
+/// Where the rule for a term and a form stands.
+#[derive(Drop)]
+pub(crate) struct RulePlace {
+    pub(crate) revision: u32,
+    pub(crate) term: Text,
+    pub(crate) form: Text,
+    pub(crate) place: usize,
+}
+
+impl Keyed for RulePlace {
+    ghost order = { rule_order };
+
+    ghost total = { rule_total };
+
+    fn compare(&self, other: &Self) -> Ordering {
+        self.revision
+            .cmp(&other.revision)
+            .then(self.term.as_str().cmp(other.term.as_str()))
+            .then(self.form.as_str().cmp(other.form.as_str()))
+    }
+}
+
+/// A rule by its revision, term and form.
+#[derive(Clone, Copy)]
+pub(crate) struct ByRule<'a> {
+    pub(crate) revision: u64,
+    pub(crate) term: &'a str,
+    pub(crate) form: &'a str,
+}
+
+impl Sought<RulePlace> for ByRule<'_> {
+    ghost side = { λ key. rule_side key.revision key.term.now key.form.now };
+
+    ghost is_at = { λ key. is_placed key.revision key.term.now key.form.now };
+
+    ghost splits = { λ key. rule_splits key.revision key.term.now key.form.now };
+
+    ghost meets = { λ key row. rule_meets key.revision key.term.now key.form.now row };
+
+    fn side_of(&self, row: &RulePlace) -> Ordering {
+        u64::from(row.revision)
+            .cmp(&self.revision)
+            .then(row.term.as_str().cmp(self.term))
+            .then(row.form.as_str().cmp(self.form))
     }
 }
 

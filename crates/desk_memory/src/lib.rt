@@ -8,6 +8,7 @@ mod appended;
 mod documents;
 mod keys;
 mod ledger;
+mod rules;
 mod sorted;
 mod store;
 

@@ -9,7 +9,7 @@ ghost use Rattle.std.specs.Ordering.{is_eq, is_lt};
 ghost use Rattle.std.specs.declared.cmp.Ordering.{Ordering};
 ghost use Rattle.desk_rows.specs.Lists.{put, put_all};
 ghost use Rattle.desk_rows.specs.Keys.{below_by};
-ghost use Rattle.desk_memory.specs.Sorted.{ascends, Climbs, IsSideOf, IsRun, IsPlace, Rises};
+ghost use Rattle.desk_memory.specs.Sorted.{ascends, put_in_turn, Climbs, IsSideOf, IsRun, IsPlace, Rises};
 
 use desk_rows::Fault;
 use std::alloc::Global;
@@ -209,6 +209,16 @@ impl<R: Keyed + Drop> Sorted<R> {
         match place_of_all(self.rows.as_slice(), more.as_slice()) {
             Some(place) => insert_all(&mut self.rows, place, more),
             None => self.put_each(more),
+        }
+    }
+
+    /// Puts rows in their places, one after another: alike ones stay in their order. There is room.
+    pub(crate) fn put_in_turn(&mut self, more: Vec<R>)
+        requires { vec_len self.old.rows + vec_len more ≤ vec_capacity self.old.rows }
+        ensures { self.new.rows.items ≡ put_in_turn (below_by R.order) more.items self.old.rows.items }
+    {
+        for row in more {
+            self.put(row);
         }
     }
 }

@@ -16,6 +16,7 @@ use crate::appended::Appended;
 use crate::documents::Documents;
 use crate::keys::{ByAttachment, ByDocument, ById, ByName, ByNumber, ByPackage, ByRelease};
 use crate::ledger::Ledger;
+use crate::rules::Rules;
 use crate::sorted::{Sorted, reserve, run_of};
 use desk_access::store::Store;
 use desk_base::{Day, Items, Text};
@@ -105,20 +106,6 @@ fn rule_copy(alloc: Global, row: &RuleRow) -> Result<Rule, AllocError>
     })
 }
 
-fn find_rule<'a>(rows: &'a [RuleRow], revision: u64, term: &str, form: &str) -> Option<&'a RuleRow>
-    ensures { option_map rule_of (option_copied result) ≡ find (is_rule term.now form.now) (map rule_of (filter (is_rule_of revision) rows.now)) }
-{
-    for row in rows {
-        if u64::from(row.revision) == revision
-            && row.term.as_str() == term
-            && row.form.as_str() == form
-        {
-            return Some(row);
-        }
-    }
-    None
-}
-
 fn shipped_rows(
     alloc: Global,
     rows: &[PackageRow],
@@ -198,7 +185,7 @@ pub struct MemStore {
     alloc: Global,
     catalogue: Vec<CatalogueRow>,
     forms: Items<Text>,
-    rules: Vec<RuleRow>,
+    rules: Rules,
     documents: Documents,
     packages: Appended<PackageRow>,
     extracted: Vec<ExtractedRow>,
@@ -221,7 +208,7 @@ impl MemStore {
             alloc,
             catalogue: Vec::new(alloc),
             forms: Items::new(alloc),
-            rules: Vec::new(alloc),
+            rules: Rules::new(alloc),
             documents: Documents::new(alloc),
             packages: Appended::new(alloc),
             extracted: Vec::new(alloc),
@@ -244,10 +231,7 @@ impl MemStore {
         ensures fault { IfErr result (λ fault. fault ≡ Fault.Memory) }
     {
         reserve(&mut self.catalogue, 1)?;
-        let mut rules = rules.into_vec();
-        let Ok(()) = self.rules.append(&mut rules) else {
-            return Err(Fault::Memory);
-        };
+        self.rules.append(rules.into_vec())?;
         self.catalogue.push_reserved(row);
         self.forms = forms;
         Ok(())
@@ -328,7 +312,7 @@ impl MemStore {
 }
 
 impl Store for MemStore {
-    ghost rows = { λ s. record { catalogue = s.catalogue.items; forms = s.forms; rule = s.rules.items; document = s.documents.rows.rows.items; packages = s.packages.rows.items; extracted = s.extracted.items; conclusion = []; adoption = []; releases = s.releases.rows.items; attached = s.attached.rows.items; choice = s.choices.rows.items; frozen = s.frozen.rows.items; duty = s.ledger.duties.items; changes = all_of s.ledger.groups.items } };
+    ghost rows = { λ s. record { catalogue = s.catalogue.items; forms = s.forms; rule = s.rules.rows.items; document = s.documents.rows.rows.items; packages = s.packages.rows.items; extracted = s.extracted.items; conclusion = []; adoption = []; releases = s.releases.rows.items; attached = s.attached.rows.items; choice = s.choices.rows.items; frozen = s.frozen.rows.items; duty = s.ledger.duties.items; changes = all_of s.ledger.groups.items } };
 
     ghost tells = { λ _. ⊥ };
 
@@ -341,12 +325,8 @@ impl Store for MemStore {
     }
 
     fn rule(&mut self, term: &str, form: &str) -> Result<Option<Rule>, Fault> {
-        match find_rule(
-            self.rules.as_slice(),
-            self.catalogue.len() as u64,
-            term,
-            form,
-        ) {
+        let revision = self.catalogue.len() as u64;
+        match self.rules.find(revision, term, form) {
             Some(row) => match rule_copy(self.alloc, row) {
                 Ok(rule) => Ok(Some(rule)),
                 Err(_) => Err(Fault::Memory),
