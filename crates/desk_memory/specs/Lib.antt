@@ -1,5 +1,4 @@
 pub mod Ledgers
-pub mod Sorted
 pub mod Sides
 pub mod Namespaces
 pub mod Splitting

@@ -7,8 +7,8 @@ use Rattle.std.proofs.Common.{sym, ◌∙◌}
 use Rattle.std.proofs.lemmas.Cmp.{on_total, nat_list_cmp_total}
 use Rattle.desk_rows.specs.Keys.{below_by}
 use Rattle.desk_memory.specs.declared.keys.NamespacePlace.{NamespacePlace}
-use Rattle.desk_memory.specs.Sorted.{IsSideOf}
-use Rattle.desk_memory.specs.Splitting.{side_by, alike, texts_meet}
+use Rattle.desk_sorted.specs.Sorted.{IsSideOf}
+use Rattle.desk_sorted.specs.Sides.{side_by, alike, texts_meet}
 use Rattle.desk_memory.specs.Namespaces.{is_named, namespace_order, namespace_side}
 
 pub namespace_total : IsTotalOrder namespace_order

@@ -9,8 +9,8 @@ use Rattle.std.proofs.Common.{sym, ◌∙◌}
 use Rattle.std.proofs.lemmas.Cmp.{on_total, then_total, nat_list_cmp_total, nat_cmp_total}
 use Rattle.desk_rows.specs.Keys.{below_by}
 use Rattle.desk_memory.specs.declared.keys.RulePlace.{RulePlace}
-use Rattle.desk_memory.specs.Sorted.{IsSideOf}
-use Rattle.desk_memory.specs.Splitting.{side_by, alike, texts_meet, numbers_meet, then_meets}
+use Rattle.desk_sorted.specs.Sorted.{IsSideOf}
+use Rattle.desk_sorted.specs.Sides.{side_by, alike, texts_meet, numbers_meet, then_meets}
 use Rattle.desk_memory.specs.RulePlaces.{is_placed, rule_order, rule_side}
 
 abbrev key_cmp : ℕ × List ℕ × List ℕ → ℕ × List ℕ × List ℕ → Ordering

@@ -1,6 +1,6 @@
 -- The keys that rows are looked up by: on which side of them a row stands.
 use Rattle.std.specs.Prelude.{ℕ, ◌==◌, Bool, List}
-use Rattle.std.specs.Ordering.{nat_cmp, ordering_then, on, then_cmp}
+use Rattle.std.specs.Ordering.{nat_cmp, ordering_then}
 use Rattle.std.specs.Cmp.Lexicographic.{slice_cmp}
 use Rattle.std.specs.declared.cmp.Ordering.{Ordering}
 use Rattle.desk_rows.specs.declared.row.DocumentRow.{DocumentRow}
@@ -9,14 +9,8 @@ use Rattle.desk_rows.specs.declared.row.ReleaseRow.{ReleaseRow}
 use Rattle.desk_rows.specs.declared.row.AttachedRow.{AttachedRow}
 use Rattle.desk_rows.specs.declared.row.ChoiceRow.{ChoiceRow}
 
-abbrev pub document_order : DocumentRow → DocumentRow → Ordering
-document_order = on (λ row. row.number) nat_cmp
-
 abbrev pub document_side : ℕ → DocumentRow → Ordering
 document_side number row = nat_cmp row.number number
-
-abbrev pub package_order : PackageRow → PackageRow → Ordering
-package_order = then_cmp (on (λ row. row.document) nat_cmp) (on (λ row. row.id) (slice_cmp nat_cmp))
 
 abbrev pub is_package_of : ℕ → PackageRow → Bool
 is_package_of document row = row.document == document
@@ -26,9 +20,6 @@ packages_side document row = nat_cmp row.document document
 
 abbrev pub package_side : ℕ → List ℕ → PackageRow → Ordering
 package_side document id row = ordering_then (nat_cmp row.document document) (slice_cmp nat_cmp row.id id)
-
-abbrev pub release_order : ReleaseRow → ReleaseRow → Ordering
-release_order = on (λ row. row.name) (slice_cmp nat_cmp)
 
 abbrev pub release_side : List ℕ → ReleaseRow → Ordering
 release_side name row = slice_cmp nat_cmp row.name name

@@ -6,11 +6,10 @@ ghost use Rattle.std.specs.Option.{option_copied, option_map};
 ghost use Rattle.desk_rows.specs.Keys.{has_namespace};
 ghost use Rattle.desk_memory.specs.Namespaces.{is_named};
 
-use crate::appended::Appended;
 use crate::keys::{ByNamespace, NamespacePlace};
 use crate::ledger::item_at;
-use crate::sorted::Sorted;
 use desk_rows::{DocumentRow, Fault};
+use desk_sorted::{Appended, Sorted};
 use std::alloc::Global;
 
 /// The documents in the order of import, and the place of each by its namespace.

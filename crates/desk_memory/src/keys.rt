@@ -1,92 +1,18 @@
-//! The keys of rows, and what rows are looked up by.
+//! What rows are looked up by.
 
-ghost use Rattle.desk_rows.specs.Keys.{is_document, is_package, attached_order, choice_order, frozen_order, is_release, is_attached_to, is_attachment, is_choice_of};
-ghost use Rattle.desk_memory.specs.Sides.{document_order, document_side, package_order, is_package_of, packages_side, package_side, release_order, release_side, attached_side, attachment_side, choice_side};
-ghost use Rattle.desk_memory.specs.Splitting.{document_total, package_total, document_splits, packages_splits, package_splits, numbers_meet, package_meets, release_total, attached_total, choice_total, frozen_total, release_splits, attached_splits, attachment_splits, choice_splits, texts_meet, attachment_meets, choice_meets};
+ghost use Rattle.desk_rows.specs.Keys.{is_document, is_package, is_release, is_attached_to, is_attachment, is_choice_of};
+ghost use Rattle.desk_memory.specs.Sides.{document_side, is_package_of, packages_side, package_side, release_side, attached_side, attachment_side, choice_side};
+ghost use Rattle.desk_memory.specs.Splitting.{document_splits, packages_splits, package_splits, package_meets, release_splits, attached_splits, attachment_splits, choice_splits, attachment_meets, choice_meets};
+ghost use Rattle.desk_sorted.specs.Sides.{texts_meet, numbers_meet};
 ghost use Rattle.desk_memory.specs.Namespaces.{is_named, namespace_order, namespace_side};
 ghost use Rattle.desk_memory.specs.NamespaceLaws.{namespace_total, namespace_splits};
 ghost use Rattle.desk_memory.specs.RulePlaces.{is_placed, rule_order, rule_side};
 ghost use Rattle.desk_memory.specs.RuleLaws.{rule_total, rule_splits, rule_meets};
 
-use crate::sorted::{Keyed, Sought};
 use desk_base::Text;
-use desk_rows::{AttachedRow, ChoiceRow, DocumentRow, FrozenRow, PackageRow, ReleaseRow};
+use desk_rows::{AttachedRow, ChoiceRow, DocumentRow, PackageRow, ReleaseRow};
+use desk_sorted::{Keyed, Sought};
 use std::cmp::Ordering;
-
-impl Keyed for DocumentRow {
-    ghost order = { document_order };
-
-    ghost total = { document_total };
-
-    fn compare(&self, other: &Self) -> Ordering {
-        self.number.cmp(&other.number)
-    }
-}
-
-impl Keyed for PackageRow {
-    ghost order = { package_order };
-
-    ghost total = { package_total };
-
-    fn compare(&self, other: &Self) -> Ordering {
-        self.document
-            .cmp(&other.document)
-            .then(self.id.as_str().cmp(other.id.as_str()))
-    }
-}
-
-impl Keyed for ReleaseRow {
-    ghost order = { release_order };
-
-    ghost total = { release_total };
-
-    fn compare(&self, other: &Self) -> Ordering {
-        self.name.as_str().cmp(other.name.as_str())
-    }
-}
-
-impl Keyed for AttachedRow {
-    ghost order = { attached_order };
-
-    ghost total = { attached_total };
-
-    fn compare(&self, other: &Self) -> Ordering {
-        self.release
-            .as_str()
-            .cmp(other.release.as_str())
-            .then(self.document.cmp(&other.document))
-    }
-}
-
-impl Keyed for ChoiceRow {
-    ghost order = { choice_order };
-
-    ghost total = { choice_total };
-
-    fn compare(&self, other: &Self) -> Ordering {
-        self.release
-            .as_str()
-            .cmp(other.release.as_str())
-            .then(self.document.cmp(&other.document))
-            .then(self.package_id.as_str().cmp(other.package_id.as_str()))
-            .then(self.term.as_str().cmp(other.term.as_str()))
-    }
-}
-
-impl Keyed for FrozenRow {
-    ghost order = { frozen_order };
-
-    ghost total = { frozen_total };
-
-    fn compare(&self, other: &Self) -> Ordering {
-        self.release
-            .as_str()
-            .cmp(other.release.as_str())
-            .then(self.document.cmp(&other.document))
-            .then(self.package_id.as_str().cmp(other.package_id.as_str()))
-            .then(self.term.as_str().cmp(other.term.as_str()))
-    }
-}
 
 /// Where the document with a namespace stands.
 #[derive(Drop)]

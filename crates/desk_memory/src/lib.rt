@@ -4,12 +4,10 @@
 //! taken, or not at all.
 #![tactic(auto)]
 
-mod appended;
 mod documents;
 mod keys;
 mod ledger;
 mod rules;
-mod sorted;
 mod store;
 
 pub use store::MemStore;

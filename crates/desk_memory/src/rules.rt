@@ -9,8 +9,8 @@ ghost use Rattle.desk_memory.specs.RulePlaces.{is_placed, is_rule_row, rule_plac
 
 use crate::keys::{ByRule, RulePlace};
 use crate::ledger::item_at;
-use crate::sorted::Sorted;
 use desk_rows::{Fault, RuleRow};
+use desk_sorted::Sorted;
 use std::alloc::{AllocError, Global};
 
 /// The rules in the order in which they came, and the place of each.

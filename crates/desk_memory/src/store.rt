@@ -12,18 +12,17 @@ ghost use Rattle.desk_rows.specs.declared.state.ReleaseState.TheVariants.{Frozen
 ghost use Rattle.desk_memory.specs.Ledgers.{all_of};
 ghost use Rattle.desk_history.specs.FromTables.{rule_of};
 
-use crate::appended::Appended;
 use crate::documents::Documents;
 use crate::keys::{ByAttachment, ByDocument, ById, ByName, ByNumber, ByPackage, ByRelease};
 use crate::ledger::Ledger;
 use crate::rules::Rules;
-use crate::sorted::{Sorted, reserve, run_of};
 use desk_access::store::Store;
 use desk_base::{Day, Items, Text};
 use desk_rows::{
     AttachedRow, CatalogueRow, Change, ChangeRow, ChoiceRow, DocumentRow, DutyRow, DutyState,
     ExtractedRow, Fault, FrozenRow, PackageRow, Profile, ReleaseRow, ReleaseState, Rule, RuleRow,
 };
+use desk_sorted::{Appended, Sorted, reserve, run_of};
 use std::alloc::{AllocError, Global};
 
 fn copy_of(text: &Option<Text>) -> Result<Option<Text>, AllocError>
@@ -169,14 +168,12 @@ fn freeze_rows(rows: &mut [ReleaseRow], revision: u64)
     }
 }
 
-impl Sorted<ReleaseRow> {
-    /// Freezes the release with a name.
-    fn freeze(&mut self, name: &str, revision: u64)
-        ensures { self.new.rows.items ≡ updated (is_release name.now) (with_release_state Frozen revision) self.old.rows.items }
-    {
-        let run = run_of(self.rows.as_slice(), &ByName { name });
-        freeze_rows(&mut self.rows[run.start..run.end], revision);
-    }
+/// Freezes the release with a name.
+fn freeze_release(releases: &mut Sorted<ReleaseRow>, name: &str, revision: u64)
+    ensures { releases.new.rows.items ≡ updated (is_release name.now) (with_release_state Frozen revision) releases.old.rows.items }
+{
+    let run = run_of(releases.rows.as_slice(), &ByName { name });
+    freeze_rows(&mut releases.rows[run.start..run.end], revision);
 }
 
 /// Rows in memory, each list by its key.
@@ -297,7 +294,7 @@ impl MemStore {
         self.frozen.reserve(frozen.len())?;
         self.ledger.append(duties.into_vec(), changes.into_vec())?;
         self.frozen.put_all(frozen);
-        self.releases.freeze(release.as_str(), revision);
+        freeze_release(&mut self.releases, release.as_str(), revision);
         Ok(())
     }
 

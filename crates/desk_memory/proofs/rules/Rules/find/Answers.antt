@@ -4,7 +4,7 @@ use Rattle.std.specs.Option.{option_map}
 use Rattle.desk_history.specs.FromTables.{rule_of}
 use Rattle.desk_memory.specs.declared.keys.RulePlace.{RulePlace}
 use Rattle.desk_memory.specs.RulePlaces.{is_rule_row}
-use Rattle.desk_memory.proofs.Placing.{row_at, no_row}
+use Rattle.desk_sorted.proofs.Placing.{row_at, no_row}
 use Rattle.desk_memory.proofs.Ruling.{rule_found}
 use Rattle.desk_memory.proofs.rules.Rules.find.Goals as goal
 

@@ -2,8 +2,8 @@ use Rattle.std.proofs.Common.{◌∙◌}
 use Rattle.std.specs.Prelude.{◌==◌}
 use Rattle.desk_rows.specs.Keys.{is_shipped_by}
 use Rattle.desk_memory.specs.Sides.{is_package_of}
-use Rattle.desk_memory.proofs.Ascending.{and_left}
-use Rattle.desk_memory.proofs.Placing.{filter_within}
+use Rattle.desk_sorted.proofs.Ascending.{and_left}
+use Rattle.desk_sorted.proofs.Placing.{filter_within}
 use Rattle.desk_memory.proofs.store.MemStoreStore.shipped.Goals as goal
 
 pub returns-in-Ok-clause-found : goal.returns-in-Ok-clause-found

@@ -1,0 +1,4 @@
+pub mod Ascending
+pub mod Halving
+pub mod Placing
+mod PutAll

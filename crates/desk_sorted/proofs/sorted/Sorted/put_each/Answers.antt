@@ -1,0 +1,16 @@
+use Rattle.std.proofs.Common.{◌∙◌, ap, sym, arith}
+use Rattle.desk_rows.specs.Lists.{put_all}
+use Rattle.desk_rows.specs.Keys.{below_by}
+use Rattle.desk_sorted.proofs.PutAll.{put_all-push}
+use Rattle.desk_sorted.proofs.sorted.Sorted.put_each.Goals as goal
+
+pub loop-row-preserved : goal.loop-row-preserved
+loop-row-preserved g c =
+    let below = below_by g.R.Keyed.order in
+    record {
+      room = omega (arith, c.in-Some.ensures.cases, c.put.ensures.len, c.put.ensures.capacity, c.loop-row.invariant.room);
+      put =
+          ap (put_all below c.pop.new.self.items) c.put.ensures.items
+          ∙ (sym (put_all-push below c.pop.new.self.items c.in-Some.row c.loop-row.self.rows.items)
+          ∙ (ap (λ xs. put_all below xs c.loop-row.self.rows.items) (sym c.in-Some.ensures.items) ∙ c.loop-row.invariant.put));
+    }

@@ -1,0 +1,3 @@
+pub mod Sorted
+pub mod Sides
+pub mod Orders

@@ -1,0 +1,41 @@
+-- The orders of the tables.
+use Rattle.std.specs.Ordering.{nat_cmp, on, then_cmp}
+use Rattle.std.specs.Cmp.{IsTotalOrder}
+use Rattle.std.specs.Cmp.Lexicographic.{slice_cmp}
+use Rattle.std.specs.declared.cmp.Ordering.{Ordering}
+use Rattle.std.proofs.lemmas.Cmp.{on_total, then_total, nat_list_cmp_total, nat_cmp_total}
+use Rattle.desk_rows.specs.Keys.{attached_order, choice_order, frozen_order}
+use Rattle.desk_rows.specs.declared.row.DocumentRow.{DocumentRow}
+use Rattle.desk_rows.specs.declared.row.PackageRow.{PackageRow}
+use Rattle.desk_rows.specs.declared.row.ReleaseRow.{ReleaseRow}
+
+abbrev pub document_order : DocumentRow → DocumentRow → Ordering
+document_order = on (λ row. row.number) nat_cmp
+
+abbrev pub package_order : PackageRow → PackageRow → Ordering
+package_order = then_cmp (on (λ row. row.document) nat_cmp) (on (λ row. row.id) (slice_cmp nat_cmp))
+
+abbrev pub release_order : ReleaseRow → ReleaseRow → Ordering
+release_order = on (λ row. row.name) (slice_cmp nat_cmp)
+
+pub document_total : IsTotalOrder document_order
+document_total = on_total (λ row. row.number) nat_cmp_total
+
+pub package_total : IsTotalOrder package_order
+package_total = then_total (on_total (λ row. row.document) nat_cmp_total) (on_total (λ row. row.id) nat_list_cmp_total)
+
+pub release_total : IsTotalOrder release_order
+release_total = on_total (λ row. row.name) nat_list_cmp_total
+
+pub attached_total : IsTotalOrder attached_order
+attached_total = then_total (on_total (λ row. row.release) nat_list_cmp_total) (on_total (λ row. row.document) nat_cmp_total)
+
+pub choice_total : IsTotalOrder choice_order
+choice_total =
+    then_total (on_total (λ row. row.release) nat_list_cmp_total) (then_total (on_total (λ row. row.document) nat_cmp_total)
+    (then_total (on_total (λ row. row.package_id) nat_list_cmp_total) (on_total (λ row. row.term) nat_list_cmp_total)))
+
+pub frozen_total : IsTotalOrder frozen_order
+frozen_total =
+    then_total (on_total (λ row. row.release) nat_list_cmp_total) (then_total (on_total (λ row. row.document) nat_cmp_total)
+    (then_total (on_total (λ row. row.package_id) nat_list_cmp_total) (on_total (λ row. row.term) nat_list_cmp_total)))

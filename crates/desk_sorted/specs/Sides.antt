@@ -1,0 +1,69 @@
+-- The sides on which rows stand of what is sought.
+use Rattle.std.specs.Prelude.{◌≡◌, ℕ, ◌≤◌, ◌&&◌, ◌==◌, Bool, true, false, List, refl}
+use Rattle.std.specs.Ordering.{nat_cmp, is_lt, is_eq, ordering_index, ordering_reverse, ordering_then}
+use Rattle.std.specs.Cmp.{IsTotalOrder}
+use Rattle.std.specs.Cmp.Lexicographic.{slice_cmp}
+use Rattle.std.specs.Str.{bytes_eq}
+use Rattle.std.specs.declared.cmp.Ordering.{Ordering}
+use Rattle.std.specs.declared.cmp.Ordering.TheVariants.{Less, Equal, Greater}
+use Rattle.std.proofs.Common.{sym, ap, ◌∙◌, arith}
+use Rattle.std.proofs.lemmas.Map.Text.{is_eq-slice_cmp}
+use Rattle.std.proofs.lemmas.Bool.Decides.{nat_tests}
+use Rattle.desk_sorted.specs.Sorted.{IsSideOf}
+
+-- A side by what a key begins with
+
+not_less : (o : Ordering) → o ≡ Less → is_lt o ≡ false → ⊥
+not_less o e f = let t : is_lt o ≡ true = ap is_lt e in cc
+
+module _ {K : Type 0} (R : K → K → Ordering) (t : IsTotalOrder R) where
+  sides_of : (a b k : K) (o p : Ordering) → R a k ≡ o → R b k ≡ p → is_lt (R b a) ≡ false → ordering_index o ≤ ordering_index p
+  sides_of a b k Less p e f n = omega arith
+  sides_of a b k Equal Less e f n =
+      let turned : R k b ≡ Greater = t.antisymm k b ∙ ap ordering_reverse f in
+      absurd (not_less (R b a) (t.antisymm b a ∙ ap ordering_reverse (t.congr a k b e ∙ turned)) n)
+  sides_of a b k Equal Equal e f n = omega arith
+  sides_of a b k Equal Greater e f n = omega arith
+  sides_of a b k Greater Less e f n =
+      absurd (not_less (R b a) (t.trans b k a f (t.antisymm k a ∙ ap ordering_reverse e)) n)
+  sides_of a b k Greater Equal e f n =
+      absurd (not_less (R b a) (t.congr b k a f ∙ (t.antisymm k a ∙ ap ordering_reverse e)) n)
+  sides_of a b k Greater Greater e f n = omega arith
+
+untrue : (a b : Bool) → (a ≡ true → b ≡ true) → b ≡ false → a ≡ false
+untrue true b f e = sym (f refl) ∙ e
+untrue false b f e = refl
+
+pub side_by : {A K : Type 0} (order : A → A → Ordering) (key : A → K) (R : K → K → Ordering) → IsTotalOrder R → ((x y : A) → is_lt (R (key y) (key x)) ≡ true → is_lt (order y x) ≡ true) → (k : K) → IsSideOf order (λ x. R (key x) k)
+side_by order key R t begins k =
+    λ x y h. sides_of R t (key x) (key y) k (R (key x) k) (R (key y) k) refl refl (untrue (is_lt (R (key y) (key x))) (is_lt (order y x)) (begins x y) h)
+
+pub first_less : (o p : Ordering) → is_lt o ≡ true → is_lt (ordering_then o p) ≡ true
+first_less Less p e = refl
+first_less Equal p e = cc
+first_less Greater p e = cc
+
+-- The rows at a key are those on neither side of it
+
+pub texts_meet : (a b : List ℕ) → bytes_eq a b ≡ is_eq (slice_cmp nat_cmp a b)
+texts_meet a b = sym (is_eq-slice_cmp a b)
+
+pub numbers_meet : (m n : ℕ) → (m == n) ≡ is_eq (nat_cmp m n)
+numbers_meet m n = grind (arith, nat_tests)
+
+pub then_meets : (o p : Ordering) (a b : Bool) → a ≡ is_eq o → b ≡ is_eq p → (a && b) ≡ is_eq (ordering_then o p)
+then_meets Less p a b e f = rw e refl
+then_meets Equal p a b e f = rw e f
+then_meets Greater p a b e f = rw e refl
+
+-- Rows at one key stand on no side of each other
+
+equal_of : (o : Ordering) → is_eq o ≡ true → o ≡ Equal
+equal_of Less e = cc
+equal_of Equal e = refl
+equal_of Greater e = cc
+
+pub alike : {A K : Type 0} (key : A → K) (R : K → K → Ordering) → IsTotalOrder R → (k : K) (x y : A) → is_eq (R (key x) k) ≡ true → is_eq (R (key y) k) ≡ true → is_lt (R (key x) (key y)) ≡ false
+alike key R t k x y e f =
+    let turned : R k (key y) ≡ Equal = t.antisymm k (key y) ∙ ap ordering_reverse (equal_of (R (key y) k) f) in
+    ap is_lt (t.congr (key x) k (key y) (equal_of (R (key x) k) e) ∙ turned)

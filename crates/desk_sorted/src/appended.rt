@@ -1,0 +1,101 @@
+//! Rows in the order in which they came.
+
+ghost use Rattle.std.specs.Prelude.{◌≡◌, ℕ, true, ◌+◌, ◌<◌, ◌≤◌, ◌++◌, [], ◌∷◌, filter, find, OnOk, IfErr, length, vec_len};
+ghost use Rattle.std.specs.Vec.{vec_capacity};
+ghost use Rattle.std.specs.Option.{option_copied};
+ghost use Rattle.std.specs.Ordering.{is_eq};
+ghost use Rattle.desk_rows.specs.Keys.{below_by};
+ghost use Rattle.desk_sorted.specs.Sorted.{ascends};
+
+use crate::sorted::{Keyed, Sought, reserve, run_of};
+use desk_rows::Fault;
+use std::alloc::Global;
+
+/// Whether a row goes on behind rows that ascend.
+fn goes_on<R: Keyed>(rows: &[R], row: &R) -> bool
+    ensures { result ≡ true → ascends (below_by R.order) rows.now ≡ true → ascends (below_by R.order) (rows.now ++ row.now ∷ []) ≡ true }
+{
+    match rows.last() {
+        Some(last) => last.compare(row).is_le(),
+        None => true,
+    }
+}
+
+fn first_of<'a, R: Keyed, K: Sought<R>>(rows: &'a [R], key: &K) -> Option<&'a R>
+    ensures { option_copied result ≡ find (λ row. is_eq (K.side key.now row)) rows.now }
+{
+    rows.iter().find(|row| key.side_of(row).is_eq())
+}
+
+/// Rows in the order in which they came, which so far is that of their keys or isn't.
+#[derive(Drop)]
+pub struct Appended<R: Keyed> {
+    pub rows: Vec<R>,
+    in_order: bool,
+    pub ghost ascending: { in_order ≡ true → ascends (below_by R.order) rows.items ≡ true },
+}
+
+impl<R: Keyed + Drop> Appended<R> {
+    pub fn new(alloc: Global) -> Appended<R>
+        ensures { result.rows.items ≡ [] }
+    {
+        Appended {
+            rows: Vec::new(alloc),
+            in_order: true,
+        }
+    }
+
+    pub fn len(&self) -> usize
+        ensures { result ≡ length self.now.rows.items }
+    {
+        self.rows.len()
+    }
+
+    /// Rows among which all stand that are sought: those alone, found by halving, where the rows are in order.
+    pub fn among<K: Sought<R>>(&self, key: &K) -> &[R]
+        ensures { filter (K.is_at key.now) result.now ≡ filter (K.is_at key.now) self.now.rows.items }
+    {
+        if !self.in_order {
+            return self.rows.as_slice();
+        }
+        let run = run_of(self.rows.as_slice(), key);
+        &self.rows[run.start..run.end]
+    }
+
+    /// The first of the rows that are sought.
+    pub fn find<K: Sought<R>>(&self, key: &K) -> Option<&R>
+        ensures { option_copied result ≡ find (K.is_at key.now) self.now.rows.items }
+    {
+        first_of(self.among(key), key)
+    }
+
+    pub fn reserve(&mut self, count: usize) -> Result<(), Fault>
+        ensures items { self.new.rows.items ≡ self.old.rows.items }
+        ensures len { vec_len self.new.rows ≡ vec_len self.old.rows }
+        ensures room { OnOk result (vec_len self.new.rows + count ≤ vec_capacity self.new.rows) }
+        ensures fault { IfErr result (λ fault. fault ≡ Fault.Memory) }
+    {
+        reserve(&mut self.rows, count)
+    }
+
+    /// Appends a row. There is room.
+    pub fn push(&mut self, row: R)
+        requires { vec_len self.old.rows < vec_capacity self.old.rows }
+        ensures items { self.new.rows.items ≡ self.old.rows.items ++ row ∷ [] }
+        ensures len { vec_len self.new.rows ≡ vec_len self.old.rows + 1 }
+        ensures capacity { vec_capacity self.new.rows ≡ vec_capacity self.old.rows }
+    {
+        self.in_order = self.in_order && goes_on(self.rows.as_slice(), &row);
+        self.rows.push_reserved(row);
+    }
+
+    /// Appends rows. There is room.
+    pub fn append(&mut self, more: Vec<R>)
+        requires { vec_len self.old.rows + vec_len more ≤ vec_capacity self.old.rows }
+        ensures { self.new.rows.items ≡ self.old.rows.items ++ more.items }
+    {
+        for row in more {
+            self.push(row);
+        }
+    }
+}

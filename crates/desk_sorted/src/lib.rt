@@ -1,0 +1,12 @@
+//! Lists of rows that are found by halving.
+//!
+//! `Sorted` keeps rows in the order of their keys, and `Appended` in the order in which they came, which mostly is that of their
+//! keys. Either is looked up by a key, or by what a key begins with.
+#![tactic(auto)]
+
+mod appended;
+mod sorted;
+mod tables;
+
+pub use appended::Appended;
+pub use sorted::{Keyed, Run, Sorted, Sought, reserve, run_of};

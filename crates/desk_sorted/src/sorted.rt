@@ -1,0 +1,224 @@
+//! Rows in the order of their keys, found by halving.
+
+ghost use Rattle.std.specs.Prelude.{◌≡◌, ℕ, Bool, true, not, ◌+◌, ◌<◌, ◌≤◌, ◌++◌, [], ◌∷◌, filter, find, OnOk, OnErr, IfSome, IfErr, length, vec_len, List, take, drop};
+ghost use Rattle.std.specs.Vec.{vec_capacity};
+ghost use Rattle.std.specs.Cmp.{IsTotalOrder};
+ghost use Rattle.std.specs.List.{list_any};
+ghost use Rattle.std.specs.Option.{option_copied};
+ghost use Rattle.std.specs.Ordering.{is_eq, is_lt};
+ghost use Rattle.std.specs.declared.cmp.Ordering.{Ordering};
+ghost use Rattle.desk_rows.specs.Lists.{put, put_all};
+ghost use Rattle.desk_rows.specs.Keys.{below_by};
+ghost use Rattle.desk_sorted.specs.Sorted.{ascends, put_in_turn, Climbs, IsSideOf, IsRun, IsPlace, Rises};
+
+use desk_rows::Fault;
+use std::alloc::Global;
+use std::cmp::Ordering;
+
+/// A row with its place among others.
+pub trait Keyed {
+    ghost order: { Self → Self → Ordering };
+
+    fn compare(&self, other: &Self) -> Ordering
+        ensures { result ≡ order self.now other.now };
+
+    ghost total: { IsTotalOrder order };
+}
+
+/// What rows are looked up by: their key, or what it begins with.
+pub trait Sought<R: Keyed> {
+    ghost side: { Self → R → Ordering };
+
+    ghost is_at: { Self → R → Bool };
+
+    /// On which side of what is sought a row stands.
+    fn side_of(&self, row: &R) -> Ordering
+        ensures { result ≡ side self.now row.now };
+
+    ghost splits: { (key : Self) → IsSideOf R.order (side key) };
+
+    ghost meets: { (key : Self) (row : R) → is_at key row ≡ is_eq (side key row) };
+}
+
+/// A run of rows: from one place up to another.
+#[derive(Clone, Copy)]
+pub struct Run {
+    pub start: usize,
+    pub end: usize,
+}
+
+/// The run of the rows that are sought.
+pub fn run_of<R: Keyed, K: Sought<R>>(rows: &[R], key: &K) -> Run
+    requires { ascends (below_by R.order) rows.now ≡ true }
+    ensures { IsRun (K.side key.now) rows.now result.start result.end }
+{
+    Run {
+        start: rows.partition_point(|row| key.side_of(row).is_lt()),
+        end: rows.partition_point(|row| key.side_of(row).is_le()),
+    }
+}
+
+/// Where a row goes in.
+fn place_of<R: Keyed>(rows: &[R], row: &R) -> usize
+    requires { ascends (below_by R.order) rows.now ≡ true }
+    ensures { IsPlace (below_by R.order) row.now rows.now result }
+{
+    rows.partition_point(|other| other.compare(row).is_le())
+}
+
+/// Whether each row is below the next.
+fn climbs<R: Keyed>(rows: &[R]) -> bool
+    ensures { result ≡ true → Climbs (below_by R.order) rows.now }
+{
+    rows.is_sorted_by(|row, next| row.compare(next).is_lt())
+}
+
+/// Where rows go in side by side, if they climb and all go to one place.
+fn place_of_all<R: Keyed>(rows: &[R], more: &[R]) -> Option<usize>
+    requires { ascends (below_by R.order) rows.now ≡ true }
+    ensures within { IfSome result (λ place. place ≤ length rows.now) }
+    ensures place { IfSome result (λ place. put_all (below_by R.order) more.now rows.now ≡ take place rows.now ++ (more.now ++ drop place rows.now)) }
+{
+    let (Some(first), Some(last)) = (more.first(), more.last()) else {
+        return None;
+    };
+    let place = place_of(rows, first);
+    if climbs(more) && place_of(rows, last) == place {
+        Some(place)
+    } else {
+        None
+    }
+}
+
+/// Inserts rows at a place. There is room.
+fn insert_all<R>(rows: &mut Vec<R>, place: usize, mut more: Vec<R>)
+    requires within { place ≤ length rows.old.items }
+    requires room { vec_len rows.old + vec_len more ≤ vec_capacity rows.old }
+    ensures { rows.new.items ≡ take place rows.old.items ++ (more.items ++ drop place rows.old.items) }
+{
+    let count = more.len();
+    let Ok(()) = rows.append(&mut more) else {
+        unreachable!()
+    };
+    rows[place..].rotate_right(count);
+    more.destroy_empty();
+}
+
+pub fn reserve<R>(rows: &mut Vec<R>, count: usize) -> Result<(), Fault>
+    ensures items { rows.new.items ≡ rows.old.items }
+    ensures len { vec_len rows.new ≡ vec_len rows.old }
+    ensures room { OnOk result (vec_len rows.new + count ≤ vec_capacity rows.new) }
+    ensures fault { IfErr result (λ fault. fault ≡ Fault.Memory) }
+{
+    match rows.reserve(count) {
+        Ok(()) => Ok(()),
+        Err(_) => Err(Fault::Memory),
+    }
+}
+
+/// Rows in the order of their keys.
+#[derive(Drop)]
+pub struct Sorted<R: Keyed> {
+    pub rows: Vec<R>,
+    pub ghost ascending: { ascends (below_by R.order) rows.items ≡ true },
+}
+
+impl<R: Keyed + Drop> Sorted<R> {
+    pub fn new(alloc: Global) -> Sorted<R>
+        ensures { result.rows.items ≡ [] }
+    {
+        Sorted {
+            rows: Vec::new(alloc),
+        }
+    }
+
+    pub fn len(&self) -> usize
+        ensures { result ≡ length self.now.rows.items }
+    {
+        self.rows.len()
+    }
+
+    /// The rows that are sought.
+    pub fn run<K: Sought<R>>(&self, key: &K) -> &[R]
+        ensures { result.now ≡ filter (K.is_at key.now) self.now.rows.items }
+    {
+        let run = run_of(self.rows.as_slice(), key);
+        &self.rows[run.start..run.end]
+    }
+
+    /// The first of the rows that are sought.
+    pub fn find<K: Sought<R>>(&self, key: &K) -> Option<&R>
+        ensures { option_copied result ≡ find (K.is_at key.now) self.now.rows.items }
+    {
+        self.run(key).first()
+    }
+
+    /// Whether a row that is sought is there.
+    pub fn contains<K: Sought<R>>(&self, key: &K) -> bool
+        ensures { result ≡ list_any (K.is_at key.now) self.now.rows.items }
+    {
+        !self.run(key).is_empty()
+    }
+
+    pub fn reserve(&mut self, count: usize) -> Result<(), Fault>
+        ensures items { self.new.rows.items ≡ self.old.rows.items }
+        ensures len { vec_len self.new.rows ≡ vec_len self.old.rows }
+        ensures room { OnOk result (vec_len self.new.rows + count ≤ vec_capacity self.new.rows) }
+        ensures fault { IfErr result (λ fault. fault ≡ Fault.Memory) }
+    {
+        reserve(&mut self.rows, count)
+    }
+
+    /// Cuts out the rows that are sought.
+    pub fn cut<K: Sought<R>>(&mut self, key: &K)
+        ensures items { self.new.rows.items ≡ filter (λ row. not (K.is_at key.now row)) self.old.rows.items }
+        ensures len { vec_len self.new.rows ≤ vec_len self.old.rows }
+        ensures capacity { vec_capacity self.new.rows ≡ vec_capacity self.old.rows }
+    {
+        let run = run_of(self.rows.as_slice(), key);
+        drop(self.rows.drain(run.start..run.end));
+    }
+
+    /// Puts a row in its place. There is room.
+    pub fn put(&mut self, row: R)
+        requires { vec_len self.old.rows < vec_capacity self.old.rows }
+        ensures items { self.new.rows.items ≡ put (below_by R.order) row self.old.rows.items }
+        ensures len { vec_len self.new.rows ≡ vec_len self.old.rows + 1 }
+        ensures capacity { vec_capacity self.old.rows ≤ vec_capacity self.new.rows }
+    {
+        let place = place_of(self.rows.as_slice(), &row);
+        let Ok(()) = self.rows.insert(place, row) else {
+            unreachable!()
+        };
+    }
+
+    fn put_each(&mut self, mut more: Vec<R>)
+        requires { vec_len self.old.rows + vec_len more ≤ vec_capacity self.old.rows }
+        ensures { self.new.rows.items ≡ put_all (below_by R.order) more.items self.old.rows.items }
+    {
+        while let Some(row) = more.pop() {
+            self.put(row);
+        }
+    }
+
+    /// Puts rows in their places. There is room.
+    pub fn put_all(&mut self, more: Vec<R>)
+        requires { vec_len self.old.rows + vec_len more ≤ vec_capacity self.old.rows }
+        ensures { self.new.rows.items ≡ put_all (below_by R.order) more.items self.old.rows.items }
+    {
+        match place_of_all(self.rows.as_slice(), more.as_slice()) {
+            Some(place) => insert_all(&mut self.rows, place, more),
+            None => self.put_each(more),
+        }
+    }
+
+    /// Puts rows in their places, one after another: alike ones stay in their order. There is room.
+    pub fn put_in_turn(&mut self, more: Vec<R>)
+        requires { vec_len self.old.rows + vec_len more ≤ vec_capacity self.old.rows }
+        ensures { self.new.rows.items ≡ put_in_turn (below_by R.order) more.items self.old.rows.items }
+    {
+        for row in more {
+            self.put(row);
+        }
+    }
+}
