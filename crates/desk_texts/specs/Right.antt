@@ -1,5 +1,5 @@
 -- Which readings are right: they tell of each text what it spells.
-use Rattle.std.specs.Prelude.{◌≡◌, ℕ, Bool, List, Option, Result}
+use Rattle.std.specs.Prelude.{◌≡◌, ℕ, Bool, List, Result}
 use Rattle.desk_fields.specs.declared.fault.DocFault.{DocFault}
 use Rattle.desk_rows.specs.Readings.{Readings}
 use Rattle.desk_rows.specs.declared.reading.Profile.{Profile}

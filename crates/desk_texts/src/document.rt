@@ -15,6 +15,7 @@ use desk_fields::Tag;
 use desk_rows::{Document, DocumentFault, Package, Reference};
 use desk_tagvalue::{DocFault, Extracted, read};
 use std::alloc::{AllocError, Global};
+use std::collections::VecDeque;
 
 impl Identified for desk_tagvalue::Package<'_> {
     ghost id_of = { λ p. p.id.now };
@@ -65,7 +66,7 @@ fn reference_of(alloc: Global, extracted: &Extracted<'_>) -> Result<Reference, A
 
 fn package_copies(
     alloc: Global,
-    packages: Vec<&desk_tagvalue::Package<'_>>,
+    packages: VecDeque<&desk_tagvalue::Package<'_>>,
 ) -> Result<Items<Package>, AllocError>
     ensures { IfOk result (λ kept. kept ≡ map (λ p. package_of (package_text p.now)) packages.entry.items) }
 {
@@ -89,7 +90,7 @@ fn packages_of(
 
 fn reference_copies(
     alloc: Global,
-    extracted: Vec<&Extracted<'_>>,
+    extracted: VecDeque<&Extracted<'_>>,
 ) -> Result<Items<Reference>, AllocError>
     ensures { IfOk result (λ kept. kept ≡ map (λ x. reference_of (extracted_text x.now)) extracted.entry.items) }
 {

@@ -7,6 +7,7 @@ ghost use Rattle.desk_texts.specs.Documents.{put_by, sorted_by};
 ghost use Rattle.desk_texts.specs.Rising.{Rises, IsLower, is_below_first};
 
 use std::alloc::{AllocError, Global};
+use std::collections::VecDeque;
 
 /// A part of a document that has an id.
 pub(crate) trait Identified {
@@ -18,17 +19,17 @@ pub(crate) trait Identified {
 }
 
 /// Whether the id of a part is below another.
-fn is_below<P: Identified>(sorted: &[&P], place: usize, id: &str) -> bool
-    requires { place < length sorted.now }
-    ensures { (d : Bor P) → result ≡ text_below (P.id_of (get_or sorted.now place d).now) id.now }
+fn is_below<P: Identified>(sorted: &VecDeque<&P>, place: usize, id: &str) -> bool
+    requires { place < length sorted.now.items }
+    ensures { (d : Bor P) → result ≡ text_below (P.id_of (get_or sorted.now.items place d).now) id.now }
 {
     sorted[place].id() < id
 }
 
 /// How many of the ids are below one, by halving.
-fn lower<P: Identified>(sorted: &[&P], id: &str) -> usize
-    requires { Rises (map (λ p. P.id_of p.now) sorted.now) }
-    ensures { IsLower (map (λ p. P.id_of p.now) sorted.now) id.now result }
+fn lower<P: Identified>(sorted: &VecDeque<&P>, id: &str) -> usize
+    requires { Rises (map (λ p. P.id_of p.now) sorted.now.items) }
+    ensures { IsLower (map (λ p. P.id_of p.now) sorted.now.items) id.now result }
 {
     let mut low = 0;
     let mut high = sorted.len();
@@ -44,34 +45,35 @@ fn lower<P: Identified>(sorted: &[&P], id: &str) -> usize
 }
 
 /// Whether a part goes in at a place: there is none with its id.
-fn is_new<P: Identified>(sorted: &[&P], place: usize, id: &str) -> bool
-    requires { place ≤ length sorted.now }
-    ensures { result ≡ is_below_first id.now (drop place (map (λ p. P.id_of p.now) sorted.now)) }
+fn is_new<P: Identified>(sorted: &VecDeque<&P>, place: usize, id: &str) -> bool
+    requires { place ≤ length sorted.now.items }
+    ensures { result ≡ is_below_first id.now (drop place (map (λ p. P.id_of p.now) sorted.now.items)) }
 {
     place == sorted.len() || id < sorted[place].id()
 }
 
-fn put_by<'s, P: Identified>(sorted: &mut Vec<&'s P>, part: &'s P) -> Result<(), AllocError>
+fn put_by<'s, P: Identified>(sorted: &mut VecDeque<&'s P>, part: &'s P) -> Result<(), AllocError>
     requires { Rises (map (λ p. P.id_of p.now) sorted.old.items) }
     ensures items { OnOk result (map (λ p. p.now) sorted.new.items ≡ put_by P.id_of part.now (map (λ p. p.now) sorted.old.items)) }
     ensures rises { OnOk result (Rises (map (λ p. P.id_of p.now) sorted.new.items)) }
 {
     let id = part.id();
-    let place = lower(sorted.as_slice(), id);
-    if is_new(sorted.as_slice(), place, id) {
+    let place = lower(sorted, id);
+    if is_new(sorted, place, id) {
         sorted.insert(place, part)?;
     }
     Ok(())
 }
 
-/// The parts by their ids, each id once.
+/// The parts by their ids, each id once. They are taken from the last, so those of a document that numbers them go in near the
+/// front, where a `VecDeque` moves few.
 pub(crate) fn sorted_by<'s, P: Identified>(
     alloc: Global,
     parts: &'s [P],
-) -> Result<Vec<&'s P>, AllocError>
+) -> Result<VecDeque<&'s P>, AllocError>
     ensures { IfOk result (λ sorted. map (λ p. p.now) sorted.items ≡ sorted_by P.id_of parts.now) }
 {
-    let mut sorted = Vec::new(alloc);
+    let mut sorted = VecDeque::new(alloc);
     let mut rest = parts;
     while let Some((part, front)) = rest.split_last() {
         put_by(&mut sorted, part)?;

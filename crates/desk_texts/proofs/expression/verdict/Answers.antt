@@ -1,6 +1,5 @@
-use Rattle.std.proofs.Common.{refl, subst, inl, inr}
+use Rattle.std.proofs.Common.{refl, subst, inr}
 use Rattle.desk_texts.specs.Expressions.{IsRead}
-use Rattle.desk_texts.specs.Terms.{AreAllTerms}
 use Rattle.desk_texts.proofs.expression.verdict.Goals as goal
 
 pub returns-in-None : goal.returns-in-None

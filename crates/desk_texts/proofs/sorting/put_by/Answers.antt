@@ -1,4 +1,4 @@
-use Rattle.std.proofs.Common.{◌≡◌, ◌∙◌, sym, ap, subst, drop}
+use Rattle.std.proofs.Common.{◌∙◌, sym, ap, subst, drop}
 use Rattle.desk_texts.specs.Rising.{IsLower, is_below_first}
 use Rattle.desk_texts.proofs.Halving.{lent, lent_ids, lent_new, lent_old, lent_rises}
 use Rattle.desk_texts.proofs.sorting.put_by.Goals as goal
@@ -8,8 +8,8 @@ returns-in_ok-insert-clause-items g c =
     let id = g.P.Identified.id_of in
     let n = c.lower-place.result in
     let items = c.args.sorted.now.items in
-    let at = subst (λ t. IsLower (lent_ids id items) t n) c.id-id.ensures (subst (λ l. IsLower (lent_ids id l) c.id-id.result.now n) c.as_slice.ensures.value c.lower-place.ensures) in
-    let new = ap (λ t. is_below_first t (drop n (lent_ids id items))) (sym c.id-id.ensures) ∙ (ap (λ l. is_below_first c.id-id.result.now (drop n (lent_ids id l))) (sym c.as_slice-2.ensures.value) ∙ (sym c.is_new.ensures ∙ c.if-is_new.true)) in
+    let at = subst (λ t. IsLower (lent_ids id items) t n) c.id-id.ensures c.lower-place.ensures in
+    let new = ap (λ t. is_below_first t (drop n (lent_ids id items))) (sym c.id-id.ensures) ∙ (sym c.is_new.ensures ∙ c.if-is_new.true) in
     ap (lent id) c.in_ok-insert.ensures.items ∙ lent_new id c.args.part items n at new
 
 pub returns-in_ok-insert-clause-rises : goal.returns-in_ok-insert-clause-rises
@@ -20,6 +20,6 @@ returns-else-is_new-clause-items g c =
     let id = g.P.Identified.id_of in
     let n = c.lower-place.result in
     let items = c.args.sorted.now.items in
-    let at = subst (λ t. IsLower (lent_ids id items) t n) c.id-id.ensures (subst (λ l. IsLower (lent_ids id l) c.id-id.result.now n) c.as_slice.ensures.value c.lower-place.ensures) in
-    let old = ap (λ t. is_below_first t (drop n (lent_ids id items))) (sym c.id-id.ensures) ∙ (ap (λ l. is_below_first c.id-id.result.now (drop n (lent_ids id l))) (sym c.as_slice-2.ensures.value) ∙ (sym c.is_new.ensures ∙ c.if-is_new.false)) in
+    let at = subst (λ t. IsLower (lent_ids id items) t n) c.id-id.ensures c.lower-place.ensures in
+    let old = ap (λ t. is_below_first t (drop n (lent_ids id items))) (sym c.id-id.ensures) ∙ (sym c.is_new.ensures ∙ c.if-is_new.false) in
     lent_old id c.args.part items n at old

@@ -1,4 +1,4 @@
-use Rattle.std.proofs.Common.{◌≡◌, ◌∙◌, sym, ap, subst, List, [], Bor}
+use Rattle.std.proofs.Common.{◌∙◌, sym, ap, subst}
 use Rattle.desk_texts.specs.Rising.{Rises}
 use Rattle.desk_texts.proofs.Halving.{lent, lent_ids, put_all_by, put_last, put_all_none}
 use Rattle.desk_texts.proofs.sorting.sorted_by.Goals as goal

@@ -1,4 +1,4 @@
-use Rattle.std.proofs.Common.{◌+◌, take, subst, sym, ◌∙◌, ap}
+use Rattle.std.proofs.Common.{◌+◌, take, subst, sym, ◌∙◌}
 use Rattle.desk_texts.specs.Terms.{AreTerms, IsTerm, SpellsNoTerm}
 use Rattle.desk_expr.specs.Spelling.{SpellsTermWithin}
 use Rattle.desk_texts.proofs.Terms.{next_term, bad_term}

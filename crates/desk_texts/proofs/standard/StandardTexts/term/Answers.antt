@@ -1,4 +1,3 @@
-use Rattle.std.specs.Prelude.{◌≡◌}
 use Rattle.std.proofs.lemmas.Result.{IfOk-weaker}
 use Rattle.desk_catalogue.proofs.TermsRead.{same_term}
 use Rattle.desk_texts.proofs.standard.StandardTexts.term.Goals as goal

@@ -1,5 +1,4 @@
 use Rattle.std.proofs.Common.{sym}
-use Rattle.std.specs.Prelude.{◌≡◌}
 use Rattle.std.proofs.lemmas.Result.{IfOk-weaker}
 use Rattle.desk_texts.proofs.standard.StandardTexts.verdict.Goals as goal
 
