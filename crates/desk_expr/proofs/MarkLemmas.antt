@@ -1,5 +1,5 @@
 -- Bits that tell of which candidates a fact holds.
-use Rattle.std.proofs.Common.{◌≡◌, ◌↔◌, ◌∙◌, ◌⊎◌, inl, inr, ℕ, zero, suc, ◌+◌, ◌-◌, ◌<◌, ◌≤◌, ◌^◌, max, ◌*◌, ◌%◌, ⊎_elim, List, [], ◌∷◌, length, take, drop, get_or, sym, ap, refl, arith, Some}
+use Rattle.std.proofs.Common.{◌≡◌, ◌↔◌, ◌∙◌, ◌⊎◌, inl, inr, ℕ, zero, suc, ◌+◌, ◌<◌, ◌≤◌, ◌^◌, max, ◌*◌, ◌%◌, ⊎_elim, List, [], ◌∷◌, length, drop, get_or, sym, ap, refl, arith, Some}
 use Rattle.std.specs.Prelude.{slice_get, ◌≢◌, bit_and, bit_or}
 use Rattle.std.specs.Int.{bit_at}
 use Rattle.std.proofs.lemmas.Nat.Bits.{bit_at_and, bit_at_or, bit_at-lt, bit_at_ones, bit_at_set_same, bit_at_set_other}
@@ -67,57 +67,39 @@ some_marked set parts i d marks more k within so_far here =
       ]),
     )
 
--- ---- a part of a list
-
-slice_get-take : {X : Type 0} (ys : List X) (size k : ℕ) → k < size → slice_get (take size ys) k ≡ slice_get ys k
-slice_get-take [] zero k within = refl
-slice_get-take [] (suc size) k within = refl
-slice_get-take (y ∷ ys) zero k within = absurd (omega arith)
-slice_get-take (y ∷ ys) (suc size) zero within = refl
-slice_get-take (y ∷ ys) (suc size) (suc k) within = slice_get-take ys size k (omega arith)
-
-slice_get-drop : {X : Type 0} (xs : List X) (from k j : ℕ) → j ≡ from + k → slice_get (drop from xs) k ≡ slice_get xs j
-slice_get-drop [] zero k j is = refl
-slice_get-drop [] (suc from) k j is = refl
-slice_get-drop (x ∷ xs) zero k j is = let same : k ≡ j = omega arith in ap (slice_get (x ∷ xs)) same
-slice_get-drop (x ∷ xs) (suc from) k zero is = absurd (omega arith)
-slice_get-drop (x ∷ xs) (suc from) k (suc j) is = slice_get-drop xs from k j (omega arith)
-
-pub slice_get_window : {X : Type 0} (xs : List X) (from size k : ℕ) → k < size → slice_get (take (from + size - from) (drop from xs)) k ≡ slice_get xs (from + k)
-slice_get_window xs from size k within =
-    slice_get-take (drop from xs) (from + size - from) k (omega arith) ∙ slice_get-drop xs from k (from + k) refl
-
 -- ---- one candidate after another
 
 -- what is told below a place
-abbrev pub ToldBelow : List Term → Term → ℕ → ℕ → Type 0
-ToldBelow candidates term marks k = (j : ℕ) (gone : Term) → j < k → slice_get candidates j ≡ Some gone → (bit_at marks j ≡ 1) ↔ (term ≢ gone)
+abbrev pub ToldBelow : List Term → List ℕ → Term → ℕ → ℕ → Type 0
+ToldBelow chosen candidates term marks k = (j place : ℕ) (gone : Term) → j < k → slice_get candidates j ≡ Some place → slice_get chosen place ≡ Some gone → (bit_at marks j ≡ 1) ↔ (term ≢ gone)
 
 abbrev pub UnsetFrom : ℕ → ℕ → Type 0
 UnsetFrom marks k = (j : ℕ) → k < j + 1 → bit_at marks j ≡ 0
 
-same_item : (candidates : List Term) (i j : ℕ) (x y : Term) → i ≡ j → slice_get candidates i ≡ Some x → slice_get candidates j ≡ Some y → x ≡ y
-same_item candidates i j x y same at at' = let is : slice_get candidates i ≡ slice_get candidates j = ap (slice_get candidates) same in cc
+same_item : {X : Type 0} (xs : List X) (i j : ℕ) (x y : X) → i ≡ j → slice_get xs i ≡ Some x → slice_get xs j ≡ Some y → x ≡ y
+same_item xs i j x y same at at' = let is : slice_get xs i ≡ slice_get xs j = ap (slice_get xs) same in cc
 
-pub told_set : (candidates : List Term) (term item : Term) (marks k : ℕ) → k < 64 → slice_get candidates k ≡ Some item → (term ≢ item) → ToldBelow candidates term marks k → ToldBelow candidates term (bit_or marks (1 * 2 ^ k % 2 ^ bits w64)) (k + 1)
-told_set candidates term item marks k low at other told j gone within at' =
+pub told_set : (chosen : List Term) (candidates : List ℕ) (term item : Term) (place marks k : ℕ) → k < 64 → slice_get candidates k ≡ Some place → slice_get chosen place ≡ Some item → (term ≢ item) → ToldBelow chosen candidates term marks k
+    → ToldBelow chosen candidates term (bit_or marks (1 * 2 ^ k % 2 ^ bits w64)) (k + 1)
+told_set chosen candidates term item place marks k low at item_at other told j place' gone within at' gone_at =
     ⊎_elim
-    (λ below. let ne : j ≢ k = omega arith in rw (bit_at_set_other w64 marks k low j ne) (told j gone below at'))
+    (λ below. let ne : j ≢ k = omega arith in rw (bit_at_set_other w64 marks k low j ne) (told j place' gone below at' gone_at))
     (λ above.
     let is : j ≡ k = omega arith in
     let set : bit_at (bit_or marks (1 * 2 ^ k % 2 ^ bits w64)) j ≡ 1 = ap (bit_at (bit_or marks (1 * 2 ^ k % 2 ^ bits w64))) is ∙ bit_at_set_same w64 marks k low in
-    let same : item ≡ gone = same_item candidates k j item gone (sym is) at at' in
+    let same : item ≡ gone = same_item chosen place place' item gone (same_item candidates k j place place' (sym is) at at') item_at gone_at in
     ((λ h e. other (e ∙ sym same)), (λ h. set)))
     (order j k)
 
-pub told_kept : (candidates : List Term) (term item : Term) (marks k : ℕ) → slice_get candidates k ≡ Some item → term ≡ item → ToldBelow candidates term marks k → UnsetFrom marks k → ToldBelow candidates term marks (k + 1)
-told_kept candidates term item marks k at is told unset j gone within at' =
+pub told_kept : (chosen : List Term) (candidates : List ℕ) (term item : Term) (place marks k : ℕ) → slice_get candidates k ≡ Some place → slice_get chosen place ≡ Some item → term ≡ item → ToldBelow chosen candidates term marks k → UnsetFrom marks k
+    → ToldBelow chosen candidates term marks (k + 1)
+told_kept chosen candidates term item place marks k at item_at is told unset j place' gone within at' gone_at =
     ⊎_elim
-    (λ below. told j gone below at')
+    (λ below. told j place' gone below at' gone_at)
     (λ above.
     let j_is : j ≡ k = omega arith in
     let zero_bit : bit_at marks j ≡ 0 = unset j (omega arith) in
-    let same : item ≡ gone = same_item candidates k j item gone (sym j_is) at at' in
+    let same : item ≡ gone = same_item chosen place place' item gone (same_item candidates k j place place' (sym j_is) at at') item_at gone_at in
     ((λ h. absurd (omega (arith, h, zero_bit))), (λ h. absurd (h (is ∙ same)))))
     (order j k)
 
@@ -126,7 +108,7 @@ unset_set marks k low unset j above =
     let ne : j ≢ k = omega arith in
     rw (bit_at_set_other w64 marks k low j ne) (unset j (omega arith))
 
-pub item_at : (candidates : List Term) (k : ℕ) → k < length candidates → (t : Term) × (slice_get candidates k ≡ Some t)
+pub item_at : {X : Type 0} (candidates : List X) (k : ℕ) → k < length candidates → (t : X) × (slice_get candidates k ≡ Some t)
 item_at [] k within = absurd (omega arith)
 item_at (x ∷ xs) zero within = (x, refl)
 item_at (x ∷ xs) (suc k) within = item_at xs k (omega arith)

@@ -20,3 +20,4 @@ pub mod Halting
 pub mod Occurring
 pub mod Printing
 pub mod Listed
+pub mod Rounds

@@ -2,6 +2,7 @@
 
 ghost use Rattle.std.specs.Prelude.{◌≡◌, ◌↔◌, ◌<◌, ◌≤◌, ℕ, length, slice_get, Some, IsTrue, IfSome, IfNone, Contains};
 ghost use Rattle.desk_expr.specs.Listed.{is_below, lower_in, own_at, Names, IsOwn, IsNoted};
+ghost use Rattle.desk_expr.specs.Rounds.{IsCopy, IsRound};
 
 use crate::expr::{Expr, Node};
 use crate::term::Term;
@@ -46,12 +47,30 @@ impl Listed<'_> {
     pub(crate) fn is_copy(self, place: usize) -> bool
         requires noted { IsNoted self.chosen.now self.own.now self.places.now }
         requires within { place < length self.chosen.now }
-        ensures { IsTrue result → (first : ℕ) × (first < place) × (slice_get self.entry.chosen.now first ≡ slice_get self.entry.chosen.now place) }
+        ensures { IsTrue result → IsCopy self.entry.chosen.now place }
     {
         match self.noted(&self.chosen[place]) {
             Some(first) => first < place,
             None => false,
         }
+    }
+
+    /// The places of the next terms that aren't known to be copies, at most 64, and where the list goes on behind them.
+    pub(crate) fn round(self, from: usize) -> (ArrayVec<usize, 64>, usize)
+        requires noted { IsNoted self.chosen.now self.own.now self.places.now }
+        requires within { from < length self.chosen.now }
+        ensures onward { (from < result.1) × (result.1 ≤ length self.entry.chosen.now) }
+        ensures round { IsRound self.entry.chosen.now from result.1 result.0.items }
+    {
+        let mut candidates = ArrayVec::new();
+        let mut next = from;
+        while next < self.chosen.len() && !candidates.is_full() {
+            if !self.is_copy(next) {
+                candidates.push(next);
+            }
+            next += 1;
+        }
+        (candidates, next)
     }
 }
 

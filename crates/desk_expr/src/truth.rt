@@ -1,8 +1,8 @@
 //! Whether a choice of terms satisfies an expression, and each of them is needed.
 //!
 //! No memory is taken. Where each term of the expression is listed is noted first (`listed.rt`), so of `n` leaves, up to 1,024,
-//! and `m` chosen terms `holds` compares some `(n + m) * log n`. `check_choice` leaves the chosen terms out by 64 at once, and
-//! passes over copies: a list of any length costs it no more than `n` rounds over the leaves beside that.
+//! and `m` chosen terms `holds` makes some `(n + m) * log n` comparisons. `check_choice` passes over copies and leaves the other
+//! terms out by 64 at once, up to the first that the expression lacks: some `n * n` comparisons more at most.
 
 ghost use Rattle.std.specs.Prelude.{◌≡◌, ◌↔◌, ◌≢◌, ◌<◌, ◌≤◌, ℕ, length, slice_get, Some, IsTrue, IfSome, IfNone, Contains};
 ghost use Rattle.std.specs.Int.{bit_at};
@@ -10,6 +10,7 @@ ghost use Rattle.desk_expr.specs.declared.term.Term.{Term};
 ghost use Rattle.desk_expr.specs.Meaning.{Holds, Without, CanGo, IsMinimal, IsFirst};
 ghost use Rattle.desk_expr.specs.Marks.{Marks};
 ghost use Rattle.desk_expr.specs.Listed.{IsNoted};
+ghost use Rattle.desk_expr.specs.Rounds.{AreWithin, IsFirstToGo};
 
 use crate::expr::{Expr, Node};
 use crate::listed::{Listed, places_of};
@@ -53,17 +54,18 @@ impl Expr {
         }
     }
 
-    // Bit k tells whether the chosen terms without candidate k satisfy the expression.
-    fn holds_without(&self, listed: Listed<'_>, candidates: &[Term]) -> u64
+    // Bit k tells whether the chosen terms without the one at candidate k satisfy the expression.
+    fn holds_without(&self, listed: Listed<'_>, candidates: &[usize]) -> u64
         requires noted { IsNoted listed.chosen.now listed.own.now listed.places.now }
         requires few { length candidates.now ≤ 64 }
-        ensures { Marks result candidates.now (λ gone. Holds (Without listed.entry.chosen.now gone) self.now) }
+        requires within { AreWithin listed.chosen.now candidates.now }
+        ensures { Marks result listed.entry.chosen.now candidates.now (λ gone. Holds (Without listed.entry.chosen.now gone) self.now) }
     {
         match &self.node {
             Node::One(leaf) => {
                 let term = leaf.term();
                 if listed.contains(term) {
-                    others(candidates, term)
+                    others(listed.chosen, candidates, term)
                 } else {
                     0
                 }
@@ -92,13 +94,15 @@ fn is_same(one: &Term, other: &Term) -> bool
     one == other
 }
 
-// Bit k tells whether candidate k is another term than this one.
-fn others(candidates: &[Term], term: &Term) -> u64
-    requires { length candidates.now ≤ 64 }
-    ensures { Marks result candidates.now (λ gone. term.now ≢ gone) }
+// Bit k tells whether another term than this one stands at candidate k.
+fn others(chosen: &[Term], candidates: &[usize], term: &Term) -> u64
+    requires few { length candidates.now ≤ 64 }
+    requires within { AreWithin chosen.now candidates.now }
+    ensures { Marks result chosen.now candidates.now (λ gone. term.now ≢ gone) }
 {
     let mut marks = 0;
-    for (k, candidate) in candidates.iter().enumerate() {
+    for (k, place) in candidates.iter().enumerate() {
+        let candidate = &chosen[*place];
         if !is_same(term, candidate) {
             marks |= 1 << k;
         }
@@ -121,16 +125,17 @@ fn first_mark(marks: u64, size: usize) -> Option<usize>
     None
 }
 
-// The first candidate without which the chosen terms satisfy the expression.
-fn first_to_go(expr: &Expr, listed: Listed<'_>, candidates: &[Term]) -> Option<usize>
+// The first candidate whose term can go.
+fn first_to_go(expr: &Expr, listed: Listed<'_>, candidates: &[usize]) -> Option<usize>
     requires noted { IsNoted listed.chosen.now listed.own.now listed.places.now }
     requires few { length candidates.now ≤ 64 }
-    ensures found { IfSome result (λ k. (t : Term) × (slice_get candidates.now k ≡ Some t) × Holds (Without listed.entry.chosen.now t) expr.now) }
-    ensures first { IfSome result (λ k. (j : ℕ) (t : Term) → j < k → slice_get candidates.now j ≡ Some t → Holds (Without listed.entry.chosen.now t) expr.now → ⊥) }
-    ensures none { IfNone result ((j : ℕ) (t : Term) → slice_get candidates.now j ≡ Some t → Holds (Without listed.entry.chosen.now t) expr.now → ⊥) }
+    requires within { AreWithin listed.chosen.now candidates.now }
+    ensures found { IfSome result (IsFirstToGo listed.entry.chosen.now expr.now candidates.now) }
+    ensures none { IfNone result ((j place : ℕ) → slice_get candidates.now j ≡ Some place → CanGo listed.entry.chosen.now expr.now place → ⊥) }
 {
     let marks = expr.holds_without(listed, candidates);
-    first_mark(marks, candidates.len())
+    let first = first_mark(marks, candidates.len())?;
+    Some(candidates[first])
 }
 
 /// Whether the chosen terms satisfy the expression. The list stands for the set of its terms.
@@ -166,15 +171,11 @@ pub fn check_choice(expr: &Expr, chosen: &[Term]) -> Verdict
     }
     let mut from = 0;
     while from < chosen.len() {
-        if listed.is_copy(from) {
-            from += 1;
-        } else {
-            let size = (chosen.len() - from).min(64);
-            if let Some(k) = first_to_go(expr, listed, &chosen[from..from + size]) {
-                return Verdict::Superfluous(from + k);
-            }
-            from += size;
+        let (candidates, next) = listed.round(from);
+        if let Some(place) = first_to_go(expr, listed, candidates.as_slice()) {
+            return Verdict::Superfluous(place);
         }
+        from = next;
     }
     Verdict::Minimal
 }

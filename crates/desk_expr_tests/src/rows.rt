@@ -230,7 +230,7 @@ fn hostile_lists(rt: HostRuntime) -> Result<(), Fail> {
     let all = parse(alloc, numbered(alloc, 1024, " AND ")?.as_str())?;
     let any = parse(alloc, numbered(alloc, 1024, " OR ")?.as_str())?;
     let mut chosen = Vec::new(alloc);
-    for _ in 0..100_000u32 {
+    for _ in 0..40_000u32 {
         chosen.push(parse_term(alloc, "A0")?)?;
     }
     assert_eq!(rt; check_choice(&any, chosen.as_slice()), Verdict::Minimal);
@@ -243,7 +243,7 @@ fn hostile_lists(rt: HostRuntime) -> Result<(), Fail> {
         Verdict::Superfluous(0)
     );
     let mut others = Vec::new(alloc);
-    for k in 0..100_000u32 {
+    for k in 0..40_000u32 {
         others.push(parse_term(alloc, format!(in alloc; "b{k}")?.as_str())?)?;
     }
     assert_eq!(rt; check_choice(&any, others.as_slice()), Verdict::NotEnough);

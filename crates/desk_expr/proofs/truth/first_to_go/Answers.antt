@@ -1,34 +1,27 @@
-use Rattle.std.proofs.Common.{◌≡◌, ℕ, ◌<◌, List, length, Option, Some, None}
-use Rattle.std.specs.Prelude.{slice_get, IfSome, IfNone, ◌≢◌}
-use Rattle.std.specs.Int.{bit_at}
-use Rattle.std.proofs.lemmas.Option.{slice_get_within}
-use Rattle.desk_expr.specs.declared.term.Term.{Term}
-use Rattle.desk_expr.specs.Meaning.{Holds, Without}
-use Rattle.desk_expr.specs.Marks.{Marks}
+use Rattle.std.proofs.Common.{◌≡◌, ℕ, get_or, Some, subst, sym}
+use Rattle.std.specs.Prelude.{slice_get, IfNone}
+use Rattle.std.proofs.lemmas.Option.{slice_get_within, slice_get-get_or}
 use Rattle.desk_expr.proofs.MarkLemmas.{item_at}
+use Rattle.desk_expr.specs.Meaning.{CanGo}
 use Rattle.desk_expr.proofs.truth.first_to_go.Goals as goal
 
-module _ (candidates : List Term) (marks : ℕ) (P : Term → Type 0) (told : Marks marks candidates P) where
-  found : (r : Option ℕ) → IfSome r (λ k. (k < length candidates) × (bit_at marks k ≡ 1)) → IfSome r (λ k. (t : Term) × (slice_get candidates k ≡ Some t) × P t)
-  found None h = h
-  found (Some k) h = let at = item_at candidates k h.0 in (at.0, at.1, (told k at.0 at.1).0 h.1)
-
-  first : (r : Option ℕ) → IfSome r (λ k. (j : ℕ) → j < k → bit_at marks j ≢ 1) → IfSome r (λ k. (j : ℕ) (t : Term) → j < k → slice_get candidates j ≡ Some t → P t → ⊥)
-  first None h = h
-  first (Some k) h = λ j t before at holds. h j before ((told j t at).1 holds)
-
-  none : (r : Option ℕ) → IfNone r ((j : ℕ) → j < length candidates → bit_at marks j ≢ 1) → IfNone r ((j : ℕ) (t : Term) → slice_get candidates j ≡ Some t → P t → ⊥)
-  none None h = λ j t at holds. h j (slice_get_within candidates j t at) ((told j t at).1 holds)
-  none (Some k) h = h
+pub returns-in_err-first-clause-none : goal.returns-in_err-first-clause-none
+returns-in_err-first-clause-none c =
+    subst (λ r. IfNone r ((j place : ℕ) → slice_get c.args.candidates.now j ≡ Some place → CanGo c.args.listed.chosen.now c.args.expr.now place → ⊥)) (sym c.from_residual.ensures)
+    (λ j place at go. c.in_err-first.ensures.none j (slice_get_within c.args.candidates.now j place at) ((c.holds_without-marks.ensures j place go.0 at go.1).1 go.2))
 
 pub returns-clause-found : goal.returns-clause-found
 returns-clause-found c =
-    found c.args.candidates.now c.holds_without-marks.result (λ gone. Holds (Without c.args.listed.chosen.now gone) c.args.expr.now) c.holds_without-marks.ensures c.first_mark.result c.first_mark.ensures.found
-
-pub returns-clause-first : goal.returns-clause-first
-returns-clause-first c =
-    first c.args.candidates.now c.holds_without-marks.result (λ gone. Holds (Without c.args.listed.chosen.now gone) c.args.expr.now) c.holds_without-marks.ensures c.first_mark.result c.first_mark.ensures.first
-
-pub returns-clause-none : goal.returns-clause-none
-returns-clause-none c =
-    none c.args.candidates.now c.holds_without-marks.result (λ gone. Holds (Without c.args.listed.chosen.now gone) c.args.expr.now) c.holds_without-marks.ensures c.first_mark.result c.first_mark.ensures.none
+    let candidates = c.args.candidates.now in
+    let chosen = c.args.listed.chosen.now in
+    let k = c.in_ok-first.first in
+    let place = get_or candidates k 0 in
+    let found = c.in_ok-first.ensures.found in
+    let at : slice_get candidates k ≡ Some place = slice_get-get_or candidates k 0 found.0 in
+    let term = item_at chosen place (c.requires.within k place at) in
+    record {
+      k = k;
+      at = at;
+      goes = (term.0, term.1, (c.holds_without-marks.ensures k place term.0 at term.1).0 found.1);
+      first = λ j p before at' go. c.in_ok-first.ensures.first j before ((c.holds_without-marks.ensures j p go.0 at' go.1).1 go.2);
+    }
