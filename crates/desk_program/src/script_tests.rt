@@ -6,6 +6,7 @@ use desk_texts::Standard;
 use std::alloc::Global;
 use std::io;
 use std::io::{Read, Write};
+use std::process::Abort;
 use std::test::Fail;
 
 /// The first release, a request a line.
@@ -103,6 +104,42 @@ impl Read for Blanks {
     }
 }
 
+/// Keeps what is written in room of its own, so that it takes no memory.
+#[derive(Drop)]
+struct Held {
+    room: [u8; 128],
+    held: usize,
+}
+
+impl Held {
+    fn new() -> Held {
+        Held {
+            room: [0; 128],
+            held: 0,
+        }
+    }
+
+    fn written(&self) -> &[u8] {
+        self.room.get(..self.held).unwrap_or_default()
+    }
+}
+
+impl Write for Held {
+    fn write(&mut self, buf: &[u8]) -> io::Result<usize> {
+        let Some(room) = self.room.get_mut(self.held..) else {
+            return Ok(0);
+        };
+        let taken = buf.len().min(room.len());
+        room[..taken].copy_from_slice(&buf[..taken]);
+        self.held = self.held.saturating_add(taken);
+        Ok(taken)
+    }
+
+    fn flush(&mut self) -> io::Result<()> {
+        Ok(())
+    }
+}
+
 /// What the desk writes in reply to the rest of the requests, from one of them on.
 fn goes_on(alloc: Global, desk: &mut MemDesk<Standard>, from: usize) -> Result<Vec<u8>, Fail> {
     let rest = joined(alloc, REQUESTS.get(from..).unwrap_or_default())?;
@@ -184,4 +221,44 @@ fn reads_so_often_and_no_more(rt: HostRuntime) {
     assert!(rt; matches!(end, Err(Failure::Script(ScriptFault::Turns))));
     assert_eq!(rt; reader.0, 1_048_576);
     assert!(rt; written.is_empty());
+}
+
+/// Serves a request, once more where memory was wanting for it: then it was told so, or nothing was written. The reply, and
+/// whether it is that of the first time.
+fn insisted(
+    rt: &impl Abort,
+    alloc: Global,
+    desk: &mut MemDesk<Standard>,
+    request: &str,
+) -> (Held, bool) {
+    let mut held = Held::new();
+    match script(alloc, desk, &mut request.as_bytes(), &mut held) {
+        Ok(_) => return (held, true),
+        Err(Failure::Failed(count)) => {
+            assert_eq!(rt; count, 1);
+            assert_eq!(rt; held.written(), b"{\"fault\":\"memory\"}\n".as_slice());
+        }
+        Err(failure) => {
+            assert!(rt; matches!(failure, Failure::Script(ScriptFault::Memory)));
+            assert_eq!(rt; held.written(), b"".as_slice());
+        }
+    }
+    let mut held = Held::new();
+    let end = script(alloc, desk, &mut request.as_bytes(), &mut held);
+    assert!(rt; end.is_ok());
+    (held, false)
+}
+
+/// The first release, where any one allocation may be refused. A command whose reply was lost may stand, and is then refused or
+/// known when it comes again, so its second reply isn't compared.
+#[test]
+fn goes_on_after_want_of_memory(rt: HostRuntime) {
+    let alloc = rt.alloc();
+    let mut desk = TableDesk::new(alloc, Standard);
+    for (request, reply) in REQUESTS.iter().zip(REPLIES) {
+        let (held, is_first) = insisted(&rt, alloc, &mut desk, request);
+        if is_first || request.starts_with("{\"ask\"") {
+            assert_eq!(rt; held.written(), reply.as_bytes());
+        }
+    }
 }
