@@ -32,8 +32,9 @@ test:
 	@echo 'Running the gate: every proof from nothing, every must-fail edit, every test.'
 	@echo 'That takes minutes to hours: docs/GATE.md has the times of each machine.'
 	rt ci
-	@$(MAKE) build
-	@echo 'Running the acceptance cases on build/desk.'
+	@mkdir -p build
+	@cp $(program)/out/desk_program build/desk
+	@echo 'Running the acceptance cases on the program that the gate proved and built.'
 	@sh tests/acceptance/run.sh build/desk
 	@echo 'Refusing each allocation of build/desk in turn.'
 	@python3 tests/allocations/sweep.py build/desk
