@@ -8,10 +8,11 @@
 #   run         in place of args: a shell script that is given the program as its first word
 #   stdin       standard input (none: empty)
 #   stdout      what standard output must be; or stdout.has, lines that must occur in it (none: empty)
+#   stderr.has  lines that must occur in standard error
 #   status      the exit status that is wanted (none: 0)
 #   data/       files that lie in the folder where the program runs
-# Words on usage and on faults aren't fixed: standard error must hold some where the status is 2 or 3,
-# and must be empty where it is 0 or 1.
+# Standard error must hold some words where the status is 2 or 3, and must be empty where it is 0 or 1. What words isn't
+# fixed but where a case says it.
 set -eu
 
 here=$(unset CDPATH; cd -- "$(dirname -- "$0")" && pwd)
@@ -81,6 +82,9 @@ run_case() {
         expected=/dev/null
         [ ! -f "$folder/stdout" ] || expected=$folder/stdout
         cmp -s "$expected" "$scratch/out" || echo "standard output is: $(head -c 400 "$scratch/out")"
+    fi
+    if [ -f "$folder/stderr.has" ]; then
+        has_lines "$folder/stderr.has" "$scratch/err" || echo "standard error lacks a line of stderr.has"
     fi
     case $wanted in
         2 | 3) [ -s "$scratch/err" ] || echo "standard error is empty" ;;
