@@ -1,6 +1,6 @@
 #!/bin/sh
-# Tries more edits that turn a meaning, each of which the prover must refuse. The gate tries those of crates/NAME/must-fail, one
-# or two for each public function; here are the others.
+# Tries more edits that turn a meaning, each of which the prover must refuse. The gate tries those of crates/NAME/must-fail, a
+# few for what each crate is for; here are the others.
 #
 #   tests/edits.sh [CRATE ...]
 #

@@ -24,18 +24,3 @@ pub fn is_idstring_of_bytes(bytes: &[u8]) -> bool
 {
     !bytes.is_empty() && bytes.iter().all(|byte| is_idstring_byte(*byte))
 }
-
-#[cfg(test)]
-mod tests {
-    use super::is_idstring;
-
-    #[test]
-    fn tells_idstrings(rt: HostRuntime) {
-        for text in ["MIT", "GPL-2.0-only", ".", "-", "0", "NONE"] {
-            assert!(rt; is_idstring(text), "{text}");
-        }
-        for text in ["", "GPL-2.0+", "a b", "a_b", "a:b", "(", "é", "a\n"] {
-            assert!(rt; !is_idstring(text), "{text}");
-        }
-    }
-}

@@ -105,39 +105,3 @@ impl<'a> Iterator for Lines<'a> {
 pub fn one_cutting()
     ensures { (bytes : List ℕ) (a b : List LineText) → CutsInto 1 bytes a → CutsInto 1 bytes b → a ≡ b }
 {}
-
-#[cfg(test)]
-mod tests {
-    use super::{Line, LineEnd, Lines};
-    use std::test::Fail;
-
-    fn end_of(line: &Line) -> &'static str {
-        match line.end {
-            LineEnd::Lf => "lf",
-            LineEnd::CrLf => "crlf",
-            LineEnd::Nothing => "nothing",
-        }
-    }
-
-    #[test]
-    fn cuts_lines(rt: HostRuntime) -> Result<(), Fail> {
-        let bytes = b"a\r\n\nb\rc\r\r\n\r\n\rd";
-        let want = [
-            (1, b"a".as_slice(), "crlf"),
-            (2, b"".as_slice(), "lf"),
-            (3, b"b\rc\r".as_slice(), "crlf"),
-            (4, b"".as_slice(), "crlf"),
-            (5, b"\rd".as_slice(), "nothing"),
-        ];
-        let lines = Lines::listed(rt.alloc(), bytes.as_slice())?;
-        assert_eq!(rt; lines.len(), want.len());
-        for (line, (number, text, end)) in lines.iter().zip(want) {
-            assert_eq!(rt; line.number, number);
-            assert_eq!(rt; line.text, text);
-            assert_eq!(rt; end_of(line), end);
-        }
-        assert_eq!(rt; Lines::of(b"").count(), 0);
-        assert_eq!(rt; Lines::of(b"a\n").count(), 1);
-        Ok(())
-    }
-}

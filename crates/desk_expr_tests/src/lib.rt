@@ -1,5 +1,7 @@
-//! Tests of `desk_expr`: verdicts, printed terms and the faults of texts, one by one.
+//! Tests of `desk_base` and `desk_expr`: days, idstrings and lines, and verdicts, printed terms and the faults of texts, one by one.
 #![tactic(auto)]
 
+#[cfg(test)]
+mod base;
 #[cfg(test)]
 mod rows;
