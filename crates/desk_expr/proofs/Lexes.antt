@@ -1,11 +1,10 @@
 -- Texts put together from tokens and blanks.
-use Rattle.std.proofs.Common.{◌≡◌, ◌∙◌, ◌⊎◌, inl, inr, ℕ, zero, suc, ◌+◌, ◌<◌, List, [], ◌∷◌, ◌++◌, length, sym, subst, ap, refl, arith, Bool, true, false, length-append, append_assoc, add-zero}
+use Rattle.std.proofs.Common.{◌≡◌, ◌∙◌, inl, inr, ℕ, ◌+◌, ◌<◌, List, [], ◌∷◌, ◌++◌, length, sym, subst, ap, refl, arith, true, length-append, append_assoc, add-zero}
 use Rattle.std.specs.Prelude.{IsTrue, All}
-use Rattle.std.proofs.lemmas.List.{append-nil}
 use Rattle.desk_expr.specs.Words.{kind_of}
-use Rattle.desk_expr.specs.Tokens.{is_blank, is_parenthesis, is_run_byte, NoRunBegins, IsPiece, Lexeme, IsFirstToken, AreTokens}
+use Rattle.desk_expr.specs.Tokens.{is_blank, is_parenthesis, is_run_byte, NoRunBegins, IsPiece, Lexeme, AreTokens}
 use Rattle.desk_expr.specs.Grammar.{Symbol}
-use Rattle.desk_expr.specs.Spelling.{symbol, symbol_of, symbols}
+use Rattle.desk_expr.specs.Spelling.{symbol, symbols}
 use Rattle.desk_expr.proofs.Lexing.{all_more}
 
 -- whatever follows, the tokens of the text are those of its front and those of what follows

@@ -1,19 +1,18 @@
 -- A printed tree spells itself.
-use Rattle.std.proofs.Common.{◌≡◌, ◌∙◌, ◌⊎◌, inl, inr, ℕ, ◌+◌, List, [], ◌∷◌, ◌++◌, length, sym, subst, ap, refl, Bool, true, false, Option, Some, None, codes, append_assoc, arith, lit<}
-use Rattle.std.specs.Prelude.{IsTrue, ◌&&◌, ◌||◌, not, if◌then◌else◌}
+use Rattle.std.proofs.Common.{◌≡◌, ◌∙◌, ℕ, List, [], ◌∷◌, ◌++◌, sym, subst, ap, refl, true, false, Option, Some, None, codes, append_assoc, arith, lit<}
+use Rattle.std.specs.Prelude.{◌&&◌, ◌||◌, not}
 use Rattle.std.proofs.lemmas.List.{append-nil}
-use Rattle.desk_expr.specs.declared.printing.Place.{Place}
-use Rattle.desk_expr.specs.declared.printing.Place.TheVariants.{Top, InAll, InAny}
+use Rattle.desk_expr.specs.declared.printing.Place.TheVariants.{InAll, InAny}
 use Rattle.desk_expr.specs.declared.term.Term.{Term}
 use Rattle.desk_expr.specs.Tree.{Tree, Trees, one, all, any, no_more, more, parts_of}
 use Rattle.desk_expr.specs.Words.{is_folded_id, is_reference, is_exception, is_term, with_exception}
 use Rattle.desk_expr.specs.Tokens.{NoRunBegins as NoRun, Lexeme, AreTokens}
 use Rattle.desk_expr.specs.Grammar.{Symbol, opening, closing, and_word, or_word, with_word, word, all_of, any_of, SpellsTerm, bare, excepted, Operand, a_term, a_group, AndList, one_operand, and_more, OrList, one_list, or_more, SpellsTree}
 use Rattle.desk_expr.specs.Spelling.{symbols, Spells, SpellsTermAlone}
-use Rattle.desk_expr.specs.Printing.{printed_exception, printed_word, printed_term, encloses_all, encloses_any, enclosed, printed_in, joined, joined_on, printed, IsSeveral, IsWellFormed, AreWellFormed}
+use Rattle.desk_expr.specs.Printing.{printed_exception, printed_word, printed_term, enclosed, printed_in, joined, printed, IsSeveral, IsWellFormed, AreWellFormed}
 use Rattle.desk_expr.proofs.WordLemmas.{and_true}
 use Rattle.desk_expr.proofs.WordKinds.{IsWord, id_word, plain_word, all_run}
-use Rattle.desk_expr.proofs.Lexes.{Lexes, LexesAlone, EndsRuns, lexes_alone, lexes_none, lexes_then, alone_then, alone_then_alone, then_alone, lexes_blank, lexes_parenthesis, lexes_run}
+use Rattle.desk_expr.proofs.Lexes.{Lexes, LexesAlone, EndsRuns, lexes_alone, lexes_then, alone_then, alone_then_alone, then_alone, lexes_blank, lexes_parenthesis, lexes_run}
 
 -- ---- operators and parentheses
 

@@ -1,7 +1,7 @@
 -- The kinds of printed words.
-use Rattle.std.proofs.Common.{◌≡◌, ◌∙◌, ℕ, zero, suc, ◌+◌, ◌-◌, ◌<◌, List, [], ◌∷◌, ◌++◌, length, take, drop, get_or, Bool, true, false, refl, sym, ap, subst, arith, Option, Some, None, codes, nat_eq, length-append, ◌⊎◌, inl, inr, cond}
+use Rattle.std.proofs.Common.{◌≡◌, ◌∙◌, ℕ, zero, suc, ◌+◌, ◌-◌, ◌<◌, List, [], ◌∷◌, ◌++◌, length, take, drop, Bool, true, false, refl, sym, ap, subst, arith, Option, Some, None, codes, nat_eq, length-append, ◌⊎◌, inl, inr, cond}
 use Rattle.std.proofs.lemmas.Bool.{eqb-true}
-use Rattle.std.specs.Prelude.{IsTrue, All, ◌&&◌, ◌||◌, not, map, if◌then◌else◌, nat_lt, ◌==◌}
+use Rattle.std.specs.Prelude.{IsTrue, All, ◌&&◌, ◌||◌, not, if◌then◌else◌, nat_lt, ◌==◌}
 use Rattle.std.specs.Char.{to_ascii_lowercase}
 use Rattle.std.specs.List.{list_all, starts_with, ends_with, before_first, after_first, position_or_len}
 use Rattle.std.specs.Str.{bytes_eq}
@@ -14,8 +14,8 @@ use Rattle.desk_base.specs.Idstring.{is_idstring_byte, is_idstring}
 use Rattle.desk_base.specs.Folded.{folded}
 use Rattle.desk_expr.specs.declared.term.Term.{Term}
 use Rattle.desk_expr.specs.declared.token.Kind.{Kind}
-use Rattle.desk_expr.specs.declared.token.Kind.TheVariants.{Opening, Closing, And, Or, With, Licence, LicenceOrLater, Reference, Bad}
-use Rattle.desk_expr.specs.Words.{is_local_reference, is_reference_of_document, is_reference, begins_like_reference, is_licence_or_later, without_last, word_kind, kind_of, is_folded_id, is_exception, is_term, licence_term, or_later_term, reference_term}
+use Rattle.desk_expr.specs.declared.token.Kind.TheVariants.{Licence, LicenceOrLater, Reference}
+use Rattle.desk_expr.specs.Words.{is_local_reference, is_reference_of_document, is_reference, begins_like_reference, is_licence_or_later, without_last, word_kind, kind_of, is_folded_id, is_exception, is_term}
 use Rattle.desk_expr.specs.Tokens.{is_run_byte}
 use Rattle.desk_expr.specs.Grammar.{Symbol, word}
 use Rattle.desk_expr.specs.Spelling.{symbol}

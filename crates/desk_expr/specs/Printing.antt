@@ -1,5 +1,5 @@
 -- How terms and trees are printed: one space round each operator, an All under an Any without parentheses, every other All or Any under another node in parentheses.
-use Rattle.std.specs.Prelude.{ℕ, ◌≤◌, Bool, true, false, List, [], ◌∷◌, ◌++◌, Option, Some, None, codes, if◌then◌else◌, IsTrue}
+use Rattle.std.specs.Prelude.{ℕ, Bool, true, false, List, [], ◌++◌, Option, Some, None, codes, if◌then◌else◌, IsTrue}
 use Rattle.desk_expr.specs.declared.printing.Place.{Place}
 use Rattle.desk_expr.specs.declared.printing.Place.TheVariants.{Top, InAll, InAny}
 use Rattle.desk_expr.specs.declared.term.Term.{Term}

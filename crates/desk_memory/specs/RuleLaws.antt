@@ -1,6 +1,6 @@
 -- Places of rules ascend.
-use Rattle.std.specs.Prelude.{◌≡◌, ℕ, ◌==◌, ◌&&◌, Bool, true, false, List}
-use Rattle.std.specs.Ordering.{nat_cmp, is_lt, is_eq, ordering_then, on, then_cmp}
+use Rattle.std.specs.Prelude.{◌≡◌, ℕ, ◌==◌, ◌&&◌, true, false, List}
+use Rattle.std.specs.Ordering.{nat_cmp, is_eq, ordering_then, on, then_cmp}
 use Rattle.std.specs.Cmp.{IsTotalOrder}
 use Rattle.std.specs.Cmp.Lexicographic.{slice_cmp}
 use Rattle.std.specs.Str.{bytes_eq}

@@ -1,5 +1,5 @@
 -- Rows that ascend, and still do after a change.
-use Rattle.std.proofs.Common.{◌≡◌, ℕ, zero, suc, ◌<◌, ◌≤◌, Bool, true, false, cond, List, [], ◌∷◌, length, get_or, sym, refl, ap, ◌∙◌, arith}
+use Rattle.std.proofs.Common.{◌≡◌, ℕ, zero, suc, ◌<◌, ◌≤◌, Bool, true, false, cond, List, [], ◌∷◌, length, get_or, refl, ap, ◌∙◌, arith}
 use Rattle.std.specs.Prelude.{if◌then◌else◌, filter, ◌&&◌, not}
 use Rattle.std.specs.Ordering.{is_lt, ordering_index, ordering_reverse}
 use Rattle.std.specs.Cmp.{IsTotalOrder}

@@ -1,6 +1,6 @@
 -- Runs of rows and places of rows, found by halving.
-use Rattle.std.proofs.Common.{◌≡◌, ℕ, zero, suc, ◌+◌, ◌-◌, ◌<◌, ◌≤◌, Bool, true, false, cond, List, [], ◌∷◌, ◌++◌, length, map, take, drop, get_or, Some, None, sym, refl, ap, subst, ◌∙◌, arith}
-use Rattle.std.specs.Prelude.{if◌then◌else◌, filter, find, ◌&&◌, ◌||◌, ◌==◌, not, slice_get, nat_lt, insert}
+use Rattle.std.proofs.Common.{◌≡◌, ℕ, zero, suc, ◌+◌, ◌-◌, ◌<◌, ◌≤◌, Bool, true, false, cond, List, [], ◌∷◌, ◌++◌, length, map, take, drop, get_or, Some, sym, refl, ap, subst, ◌∙◌, arith}
+use Rattle.std.specs.Prelude.{if◌then◌else◌, filter, find, ◌||◌, ◌==◌, not, slice_get, nat_lt, insert}
 use Rattle.std.specs.List.{list_all, list_any, AllWithin, IsAllAdjacentAnswer}
 use Rattle.std.specs.List.Sorted.{IsPartitionPoint, IsPartitionedBy}
 use Rattle.std.specs.Ordering.{is_lt, is_le, is_eq, ordering_index, ordering_reverse}
@@ -12,7 +12,7 @@ use Rattle.std.proofs.lemmas.List.{take-append-drop}
 use Rattle.desk_rows.specs.Lists.{put, put_all, updated}
 use Rattle.desk_rows.specs.Keys.{below_by}
 use Rattle.desk_sorted.specs.Sorted.{ascends, Rises, Climbs, IsRun, IsPlace}
-use Rattle.desk_sorted.proofs.Ascending.{and_left, and_right, both, IsOrder, ascends-put}
+use Rattle.desk_sorted.proofs.Ascending.{and_left, both, IsOrder, ascends-put}
 
 -- sides that do not fall
 

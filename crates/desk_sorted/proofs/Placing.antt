@@ -1,7 +1,7 @@
 -- The places of rows, kept by their keys.
 use Rattle.std.proofs.Common.{◌≡◌, ℕ, zero, suc, ◌+◌, ◌-◌, Bool, true, false, cond, List, [], ◌∷◌, ◌++◌, length, Some, None, sym, refl, ap, ◌∙◌, arith}
-use Rattle.std.specs.Prelude.{if◌then◌else◌, find, filter, ◌&&◌, not, slice_get, Option}
-use Rattle.std.specs.List.{list_all, position_from}
+use Rattle.std.specs.Prelude.{if◌then◌else◌, find, filter, not, slice_get, Option}
+use Rattle.std.specs.List.{position_from}
 use Rattle.std.specs.Option.{option_map}
 use Rattle.desk_rows.specs.Lists.{put, or_else}
 use Rattle.desk_sorted.specs.Sorted.{over, ascends}

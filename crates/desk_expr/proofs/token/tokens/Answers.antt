@@ -1,4 +1,4 @@
-use Rattle.std.proofs.Common.{◌≡◌, ℕ, List, [], ◌∷◌, subst, sym, refl, None}
+use Rattle.std.proofs.Common.{List, [], ◌∷◌, subst, sym, None}
 use Rattle.std.specs.Prelude.{map}
 use Rattle.std.specs.Iterator.{Yields}
 use Rattle.desk_expr.specs.declared.cut.TokenCuts.{TokenCuts}

@@ -1,4 +1,4 @@
-use Rattle.std.proofs.Common.{ap, sym, subst, ◌∙◌}
+use Rattle.std.proofs.Common.{ap, subst, ◌∙◌}
 use Rattle.std.specs.Prelude.{not}
 use Rattle.desk_rows.specs.Keys.{below_by}
 use Rattle.desk_sorted.specs.Sorted.{ascends, IsRun}
