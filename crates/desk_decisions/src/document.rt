@@ -27,7 +27,7 @@ fn package_rows(
 ) -> Result<Items<PackageRow>, AllocError>
     ensures { IfOk result (λ rows. rows ≡ map (package_row document) packages.items) }
 {
-    let mut rows = Items::new(alloc);
+    let mut rows = Vec::with_capacity(alloc, packages.len())?;
     for package in packages {
         rows.push(PackageRow {
             document,
@@ -39,7 +39,7 @@ fn package_rows(
             shipped: package.shipped,
         })?;
     }
-    Ok(rows)
+    Ok(Items::from_vec(rows))
 }
 
 fn extracted_rows(
@@ -49,7 +49,7 @@ fn extracted_rows(
 ) -> Result<Items<ExtractedRow>, AllocError>
     ensures { IfOk result (λ rows. rows ≡ map (extracted_row document) references.items) }
 {
-    let mut rows = Items::new(alloc);
+    let mut rows = Vec::with_capacity(alloc, references.len())?;
     for reference in references {
         rows.push(ExtractedRow {
             document,
@@ -57,7 +57,7 @@ fn extracted_rows(
             body: reference.body,
         })?;
     }
-    Ok(rows)
+    Ok(Items::from_vec(rows))
 }
 
 /// The rows of a new document.
