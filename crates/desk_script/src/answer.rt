@@ -23,11 +23,15 @@ pub enum Reply {
     NoRequest,
 }
 
-/// Applies a command.
-fn applied<D: Desk>(desk: &mut D, command: &Command) -> Reply
-    ensures { Replies D.are_right D.tells (D.content desk.old) (Act command.now) result (D.content desk.new) }
+/// Applies a command, and hands on the bytes of an import, so that they are not copied.
+fn applied<D: Desk>(desk: &mut D, command: Command) -> Reply
+    ensures { Replies D.are_right D.tells (D.content desk.old) (Act command) result (D.content desk.new) }
 {
-    match desk.apply(command) {
+    let told = match command {
+        Command::Import { bytes, profile } => desk.import(bytes, profile),
+        other => desk.apply(&other),
+    };
+    match told {
         Ok(answer) => Reply::Became(Outcome::Answered(answer)),
         Err(fault) => Reply::Became(Outcome::Failed(fault)),
     }
@@ -51,7 +55,7 @@ pub fn answer_line<D: Desk>(alloc: Global, desk: &mut D, text: Vec<u8>) -> Reply
     let request = read_command(alloc, text.as_slice());
     drop(text);
     match request {
-        Ok(Request::Act(command)) => applied(desk, &command),
+        Ok(Request::Act(command)) => applied(desk, command),
         Ok(Request::Ask(query)) => asked(desk, &query),
         Ok(Request::BadCommand) => Reply::NoRequest,
         Err(_) => Reply::Became(Outcome::Failed(Fault::Memory)),
