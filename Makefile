@@ -65,6 +65,7 @@ bench: build
 	@echo 'Building the program that reads documents.'
 	@cd $(documents) && { rt run >../../build/log 2>&1 || { cat ../../build/log; exit 1; }; }
 	@python3 bench/documents.py $(documents)/out/desk_documents_bench build/documents
+	@python3 bench/import.py build/desk $(documents)/out/desk_documents_bench build/scripts
 
 install: build
 	mkdir -p $(DESTDIR)$(PREFIX)/bin

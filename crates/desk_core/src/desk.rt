@@ -8,14 +8,17 @@ ghost use Rattle.desk_rows.specs.Answers.{answer, noted, IsHistory};
 ghost use Rattle.desk_rows.specs.Queries.{queried};
 ghost use Rattle.desk_rows.specs.Runs.{AreAnswers, IsAnswer, history_after, history_with};
 ghost use Rattle.desk_rows.specs.declared.command.Command.{Command};
+ghost use Rattle.desk_rows.specs.declared.command.Command.TheVariants.{Import};
 ghost use Rattle.desk_rows.specs.declared.command.StoreFault.{StoreFault};
 
 use desk_access::store::Store;
 use desk_access::texts::Texts;
+use desk_base::Items;
 use desk_decisions::ask::answer_to;
 use desk_decisions::carry::carry_out;
+use desk_decisions::document::import;
 use desk_memory::MemStore;
-use desk_rows::{Answer, Command, Fault, Outcome, Query};
+use desk_rows::{Answer, Command, Fault, Outcome, Profile, Query};
 use std::alloc::{AllocError, Global};
 
 /// A desk, seen as its tables.
@@ -36,6 +39,13 @@ pub trait Desk {
     fn apply(&mut self, command: &Command) -> Result<Answer, Fault>
         ensures answer { (w : Readings) → are_right w → (h : List Command) → IsHistory w h → content self.old ≡ tables w h → IfOk result (λ a. a ≡ answer w h command.now) }
         ensures ok { (w : Readings) → are_right w → (h : List Command) → IsHistory w h → content self.old ≡ tables w h → OnOk result (content self.new ≡ tables w (noted w h command.now)) }
+        ensures err { OnErr result (content self.new ≡ content self.old) }
+        ensures fault { IfErr result (MayFail tells) };
+
+    /// Carries out the import of these bytes as `apply` does, and keeps the bytes themselves, where `apply` keeps a copy.
+    fn import(&mut self, bytes: Items<u8>, profile: Profile) -> Result<Answer, Fault>
+        ensures answer { (w : Readings) → are_right w → (h : List Command) → IsHistory w h → content self.old ≡ tables w h → IfOk result (λ a. a ≡ answer w h (Import bytes profile)) }
+        ensures ok { (w : Readings) → are_right w → (h : List Command) → IsHistory w h → content self.old ≡ tables w h → OnOk result (content self.new ≡ tables w (noted w h (Import bytes profile))) }
         ensures err { OnErr result (content self.new ≡ content self.old) }
         ensures fault { IfErr result (MayFail tells) };
 
@@ -89,6 +99,10 @@ impl<T: Texts, S: Store> Desk for TableDesk<T, S> {
 
     fn apply(&mut self, command: &Command) -> Result<Answer, Fault> {
         carry_out(self.alloc, &self.texts, &mut self.store, command)
+    }
+
+    fn import(&mut self, bytes: Items<u8>, profile: Profile) -> Result<Answer, Fault> {
+        import(self.alloc, &self.texts, &mut self.store, bytes, profile)
     }
 
     fn ask(&mut self, query: &Query) -> Result<Answer, Fault> {

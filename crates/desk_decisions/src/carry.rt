@@ -7,7 +7,7 @@ ghost use Rattle.desk_history.specs.FromTables.{answer_from, rows_noted};
 
 use crate::catalogue::load_catalogue;
 use crate::choice::choose;
-use crate::document::import;
+use crate::document::import_copy;
 use crate::duty::meet;
 use crate::freeze::freeze;
 use crate::release::{attach, open_release};
@@ -30,7 +30,7 @@ pub fn carry_out<T: Texts, S: Store>(
 {
     match command {
         Command::LoadCatalogue { text } => load_catalogue(alloc, texts, store, text),
-        Command::Import { bytes, profile } => import(alloc, texts, store, bytes, *profile),
+        Command::Import { bytes, profile } => import_copy(alloc, texts, store, bytes, *profile),
         Command::OpenRelease { release, form } => open_release(store, release, form),
         Command::Attach { release, document } => attach(store, release, *document),
         Command::Choose {

@@ -27,7 +27,7 @@ fn package_rows(
 ) -> Result<Items<PackageRow>, AllocError>
     ensures { IfOk result (λ rows. rows ≡ map (package_row document) packages.items) }
 {
-    let mut rows = Items::new(alloc);
+    let mut rows = Vec::with_capacity(alloc, packages.len())?;
     for package in packages {
         rows.push(PackageRow {
             document,
@@ -39,7 +39,7 @@ fn package_rows(
             shipped: package.shipped,
         })?;
     }
-    Ok(rows)
+    Ok(Items::from_vec(rows))
 }
 
 fn extracted_rows(
@@ -49,7 +49,7 @@ fn extracted_rows(
 ) -> Result<Items<ExtractedRow>, AllocError>
     ensures { IfOk result (λ rows. rows ≡ map (extracted_row document) references.items) }
 {
-    let mut rows = Items::new(alloc);
+    let mut rows = Vec::with_capacity(alloc, references.len())?;
     for reference in references {
         rows.push(ExtractedRow {
             document,
@@ -57,27 +57,26 @@ fn extracted_rows(
             body: reference.body,
         })?;
     }
-    Ok(rows)
+    Ok(Items::from_vec(rows))
 }
 
 /// The rows of a new document.
 fn imported(
     alloc: Global,
     number: u32,
-    bytes: &[u8],
+    bytes: Items<u8>,
     profile: Profile,
     document: Document,
 ) -> Result<Change, AllocError>
-    ensures { IfOk result (λ change. change ≡ imported_as number bytes.now profile (Some document)) }
+    ensures { IfOk result (λ change. change ≡ imported_as number bytes profile (Some document)) }
 {
-    let bytes = Vec::from_slice(alloc, bytes)?;
     let packages = package_rows(alloc, number, document.packages.into_vec())?;
     let references = extracted_rows(alloc, number, document.references.into_vec())?;
     Ok(Change::Imported {
         document: DocumentRow {
             number,
             namespace: document.namespace,
-            bytes: Items::from_vec(bytes),
+            bytes,
             profile,
         },
         packages,
@@ -89,16 +88,19 @@ fn imported(
 fn import_read<S: Store>(
     alloc: Global,
     store: &mut S,
-    bytes: &[u8],
+    bytes: Items<u8>,
     profile: Profile,
     document: Document,
 ) -> Result<Answer, Fault>
-    ensures answer { IfOk result (λ answer. answer ≡ import_answer (Ok document) bytes.now (S.rows store.old).document) }
-    ensures ok { IfOk result (λ answer. S.rows store.new ≡ noted_by answer (imported_change (S.rows store.old) bytes.now profile (Some document)) (S.rows store.old)) }
+    ensures answer { IfOk result (λ answer. answer ≡ import_answer (Ok document) bytes (S.rows store.old).document) }
+    ensures ok { IfOk result (λ answer. S.rows store.new ≡ noted_by answer (imported_change (S.rows store.old) bytes profile (Some document)) (S.rows store.old)) }
     ensures err { OnErr result (S.rows store.new ≡ S.rows store.old) }
     ensures fault { IfErr result (MayFail S.tells) }
 {
-    if let Some((number, is_same)) = store.import_of(document.namespace.as_str(), bytes)? {
+    if let Some((number, is_same)) = store.import_of(
+        document.namespace.as_str(),
+        bytes.as_slice(),
+    )? {
         if is_same {
             return Ok(Answer::Again(number));
         }
@@ -116,8 +118,30 @@ fn import_read<S: Store>(
     Ok(Answer::Imported(number))
 }
 
-/// Imports the document that bytes spell.
+/// Imports the document that bytes spell, and keeps them.
 pub fn import<T: Texts, S: Store>(
+    alloc: Global,
+    texts: &T,
+    store: &mut S,
+    bytes: Items<u8>,
+    profile: Profile,
+) -> Result<Answer, Fault>
+    ensures answer { (w : Readings) → T.are_right w → IfOk result (λ answer. answer ≡ answer_from w (S.rows store.old) (Import bytes profile)) }
+    ensures ok { (w : Readings) → T.are_right w → OnOk result (S.rows store.new ≡ rows_noted w (S.rows store.old) (Import bytes profile)) }
+    ensures err { OnErr result (S.rows store.new ≡ S.rows store.old) }
+    ensures fault { IfErr result (MayFail S.tells) }
+{
+    let Ok(read) = texts.document(alloc, bytes.as_slice()) else {
+        return Err(Fault::Memory);
+    };
+    match read {
+        Err(fault) => Ok(Answer::Refused(Refusal::BadDocument(fault))),
+        Ok(document) => import_read(alloc, store, bytes, profile, document),
+    }
+}
+
+/// Imports the document that bytes spell, and keeps a copy of them.
+pub(crate) fn import_copy<T: Texts, S: Store>(
     alloc: Global,
     texts: &T,
     store: &mut S,
@@ -129,11 +153,8 @@ pub fn import<T: Texts, S: Store>(
     ensures err { OnErr result (S.rows store.new ≡ S.rows store.old) }
     ensures fault { IfErr result (MayFail S.tells) }
 {
-    let Ok(read) = texts.document(alloc, bytes.as_slice()) else {
+    let Ok(copy) = Vec::from_slice(alloc, bytes.as_slice()) else {
         return Err(Fault::Memory);
     };
-    match read {
-        Err(fault) => Ok(Answer::Refused(Refusal::BadDocument(fault))),
-        Ok(document) => import_read(alloc, store, bytes.as_slice(), profile, document),
-    }
+    import(alloc, texts, store, Items::from_vec(copy), profile)
 }

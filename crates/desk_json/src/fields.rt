@@ -1,6 +1,7 @@
 //! Reads the members of a JSON object.
 
 ghost use Rattle.std.specs.Prelude.{◌≡◌, IfOk, option_map};
+ghost use Rattle.std.specs.String.{string_bytes};
 ghost use Rattle.serde_json.specs.View.{view, items_view};
 ghost use Rattle.desk_json.specs.Fields.{size, text_in, number_in, texts, texts_in};
 
@@ -27,6 +28,19 @@ pub(crate) fn text_at<'a>(value: &'a Value, key: &str) -> Option<&'a str>
 {
     match value.get(key) {
         Some(member) => member.as_str(),
+        None => None,
+    }
+}
+
+/// The text of a member, taken out of it, so that a large one is not copied.
+pub(crate) fn take_text(value: &mut Value, key: &str) -> Option<String>
+    ensures { option_map string_bytes result ≡ text_in key.now (view value.old) }
+{
+    match value.get_mut(key) {
+        Some(member) => match member.take() {
+            Value::String(text) => Some(text),
+            _ => None,
+        },
         None => None,
     }
 }

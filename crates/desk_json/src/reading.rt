@@ -1,10 +1,10 @@
 //! Reads a request.
 
-ghost use Rattle.std.specs.Prelude.{◌≡◌, IfOk};
+ghost use Rattle.std.specs.Prelude.{◌≡◌, IfOk, codes};
 ghost use Rattle.serde_json.specs.View.{view};
-ghost use Rattle.desk_json.specs.Requests.{catalogue_request, import_request, open_request, attach_request, choose_request, freeze_request, meet_request, duties_request, totals_request, command_request, query_request, request_of, request_in};
+ghost use Rattle.desk_json.specs.Requests.{catalogue_request, import_request, open_request, attach_request, choose_request, freeze_request, meet_request, duties_request, totals_request, query_request, request_of, request_in, with_text};
 
-use crate::fields::{number_at, size_of, text_at, texts_at};
+use crate::fields::{number_at, size_of, take_text, text_at, texts_at};
 use crate::request::Request;
 use desk_base::{Items, Text};
 use desk_rows::{Command, Profile, Query};
@@ -24,20 +24,19 @@ fn read_catalogue(alloc: Global, value: &Value) -> Result<Request, AllocError>
     Ok(Request::Act(Command::LoadCatalogue { text }))
 }
 
-fn read_import(alloc: Global, value: &Value) -> Result<Request, AllocError>
-    ensures { IfOk result (λ r. r ≡ import_request (view value.now)) }
+fn read_import(value: &mut Value) -> Request
+    ensures { result ≡ import_request (view value.old) }
 {
     if size_of(value) != 2 {
-        return Ok(Request::BadCommand);
+        return Request::BadCommand;
     }
-    let Some(text) = text_at(value, "text") else {
-        return Ok(Request::BadCommand);
+    let Some(text) = take_text(value, "text") else {
+        return Request::BadCommand;
     };
-    let bytes = Items::from_vec(Vec::from_slice(alloc, text.as_bytes())?);
-    Ok(Request::Act(Command::Import {
-        bytes,
+    Request::Act(Command::Import {
+        bytes: Items::from_vec(text.into_bytes()),
         profile: Profile::Capitals,
-    }))
+    })
 }
 
 fn read_open(alloc: Global, value: &Value) -> Result<Request, AllocError>
@@ -164,40 +163,29 @@ fn read_totals(alloc: Global, value: &Value) -> Result<Request, AllocError>
     Ok(Request::Ask(Query::Totals { release }))
 }
 
-fn read_act(alloc: Global, word: &str, value: &Value) -> Result<Request, AllocError>
-    ensures { IfOk result (λ r. r ≡ command_request word.now (view value.now)) }
+fn read_ask(alloc: Global, value: &Value) -> Result<Request, AllocError>
+    ensures { IfOk result (λ r. r ≡ with_text (codes "ask") (view value.now) (λ word. query_request word (view value.now))) }
 {
-    match word {
-        "catalogue" => read_catalogue(alloc, value),
-        "import" => read_import(alloc, value),
-        "open" => read_open(alloc, value),
-        "attach" => read_attach(alloc, value),
-        "choose" => read_choose(alloc, value),
-        "freeze" => read_freeze(alloc, value),
-        "meet" => read_meet(alloc, value),
-        _ => Ok(Request::BadCommand),
-    }
-}
-
-fn read_ask(alloc: Global, word: &str, value: &Value) -> Result<Request, AllocError>
-    ensures { IfOk result (λ r. r ≡ query_request word.now (view value.now)) }
-{
-    match word {
-        "duties" => read_duties(alloc, value),
-        "totals" => read_totals(alloc, value),
-        _ => Ok(Request::BadCommand),
-    }
-}
-
-fn read_value(alloc: Global, value: &Value) -> Result<Request, AllocError>
-    ensures { IfOk result (λ r. r ≡ request_of (view value.now)) }
-{
-    if let Some(word) = text_at(value, "do") {
-        return read_act(alloc, word, value);
-    }
     match text_at(value, "ask") {
-        Some(word) => read_ask(alloc, word, value),
-        None => Ok(Request::BadCommand),
+        Some("duties") => read_duties(alloc, value),
+        Some("totals") => read_totals(alloc, value),
+        _ => Ok(Request::BadCommand),
+    }
+}
+
+fn read_value(alloc: Global, value: &mut Value) -> Result<Request, AllocError>
+    ensures { IfOk result (λ r. r ≡ request_of (view value.old)) }
+{
+    match text_at(value, "do") {
+        Some("catalogue") => read_catalogue(alloc, value),
+        Some("import") => Ok(read_import(value)),
+        Some("open") => read_open(alloc, value),
+        Some("attach") => read_attach(alloc, value),
+        Some("choose") => read_choose(alloc, value),
+        Some("freeze") => read_freeze(alloc, value),
+        Some("meet") => read_meet(alloc, value),
+        Some(_) => Ok(Request::BadCommand),
+        None => read_ask(alloc, value),
     }
 }
 
@@ -206,7 +194,7 @@ pub fn read_command(alloc: Global, bytes: &[u8]) -> Result<Request, AllocError>
     ensures { IfOk result (λ request. request ≡ request_in bytes.now) }
 {
     match Value::from_slice(alloc, bytes) {
-        Ok(value) => read_value(alloc, &value),
+        Ok(mut value) => read_value(alloc, &mut value),
         Err(error) if error.is_memory() => Err(AllocError),
         Err(_) => Ok(Request::BadCommand),
     }

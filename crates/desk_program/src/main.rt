@@ -17,6 +17,7 @@ use desk_line::{Call, LineFault, line};
 use desk_texts::Standard;
 use std::alloc::{AllocError, Global};
 use std::io::BufWriter;
+use std::mem::ManuallyDrop;
 use std::process::ExitCode;
 use std::rt::Env;
 use std::{env, io};
@@ -24,6 +25,9 @@ use std::{env, io};
 const USAGE: u8 = 2;
 
 const FAILED: u8 = 3;
+
+/// The bytes of a block larger than any that one request takes.
+const LARGE_BYTES: usize = 16_777_216;
 
 /// Does what the words ask for, and answers the status.
 fn run(rt: &(impl Env + Print + Input + Eprint + AllocGlobal)) -> Result<u8, Failure> {
@@ -54,6 +58,16 @@ fn untold(rt: &impl Eprint, error: io::Error) -> Result<u8, Failure> {
     }
 }
 
+/// Has the memory of large blocks kept for the next ones. The C library gives the pages of a freed block back to the system, and to
+/// take new ones costs more than to fill them; but a block below the largest that was freed so far leaves its pages where they are.
+/// So the first turn is for the size, and the second leaves its room where blocks can grow in place.
+fn keep_large_blocks(alloc: Global) {
+    for _ in 0..2 {
+        let block: Result<Vec<u8>, AllocError> = Vec::with_capacity(alloc, LARGE_BYTES);
+        drop(block);
+    }
+}
+
 fn answer(rt: &(impl Print + Input), alloc: Global, call: &Call) -> Result<u8, Failure> {
     match call {
         Call::Check { expression, terms } => {
@@ -67,9 +81,11 @@ fn answer(rt: &(impl Print + Input), alloc: Global, call: &Call) -> Result<u8, F
             )
         }
         Call::Script => {
-            let mut desk = MemDesk::new(alloc, Standard);
+            keep_large_blocks(alloc);
+            // The process ends with the script, so the desk is left to the system and not freed row by row.
+            let mut desk = ManuallyDrop::new(MemDesk::new(alloc, Standard));
             let mut writer = BufWriter::new(alloc, io::writer(rt))?;
-            commands::script(alloc, &mut desk, &mut rt.reader(), &mut writer)
+            commands::script(alloc, &mut *desk, &mut rt.reader(), &mut writer)
         }
     }
 }

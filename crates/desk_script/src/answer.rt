@@ -23,11 +23,15 @@ pub enum Reply {
     NoRequest,
 }
 
-/// Applies a command.
-fn applied<D: Desk>(desk: &mut D, command: &Command) -> Reply
-    ensures { Replies D.are_right D.tells (D.content desk.old) (Act command.now) result (D.content desk.new) }
+/// Applies a command, and hands on the bytes of an import, so that they are not copied.
+fn applied<D: Desk>(desk: &mut D, command: Command) -> Reply
+    ensures { Replies D.are_right D.tells (D.content desk.old) (Act command) result (D.content desk.new) }
 {
-    match desk.apply(command) {
+    let told = match command {
+        Command::Import { bytes, profile } => desk.import(bytes, profile),
+        other => desk.apply(&other),
+    };
+    match told {
         Ok(answer) => Reply::Became(Outcome::Answered(answer)),
         Err(fault) => Reply::Became(Outcome::Failed(fault)),
     }
@@ -43,16 +47,17 @@ fn asked<D: Desk>(desk: &mut D, query: &Query) -> Reply
     }
 }
 
-/// Answers the request that the text of a line is. Where memory is wanting to read it, it failed.
-pub fn answer_line<D: Desk>(alloc: Global, desk: &mut D, text: &[u8]) -> Reply
-    ensures { Replies D.are_right D.tells (D.content desk.old) (request_in text.now) result (D.content desk.new) }
+/// Answers the request that the text of a line is. Where memory is wanting to read it, it failed. The text is let go of before the
+/// desk answers, which can use its memory.
+pub fn answer_line<D: Desk>(alloc: Global, desk: &mut D, text: Vec<u8>) -> Reply
+    ensures { Replies D.are_right D.tells (D.content desk.old) (request_in text.items) result (D.content desk.new) }
 {
-    let Ok(request) = read_command(alloc, text) else {
-        return Reply::Became(Outcome::Failed(Fault::Memory));
-    };
+    let request = read_command(alloc, text.as_slice());
+    drop(text);
     match request {
-        Request::Act(command) => applied(desk, &command),
-        Request::Ask(query) => asked(desk, &query),
-        Request::BadCommand => Reply::NoRequest,
+        Ok(Request::Act(command)) => applied(desk, command),
+        Ok(Request::Ask(query)) => asked(desk, &query),
+        Ok(Request::BadCommand) => Reply::NoRequest,
+        Err(_) => Reply::Became(Outcome::Failed(Fault::Memory)),
     }
 }

@@ -17,6 +17,7 @@ use desk_json::{bad_command_line, memory_line, reply_line};
 use desk_rows::{Answer, Fault, Outcome};
 use std::alloc::{AllocError, Global};
 use std::io::Write;
+use std::mem;
 use thiserror::Error;
 
 /// How many lines of a script were refused, and how many failed.
@@ -97,14 +98,15 @@ fn write_reply<W: Write>(alloc: Global, writer: &mut W, reply: &Reply) -> Result
     }
 }
 
-/// The reply to a line that isn't blank.
-fn answer_kept<D: Desk>(alloc: Global, desk: &mut D, line: &Line) -> Reply
-    ensures { (text : List ℕ) → HasCome line.now text → Replies D.are_right D.tells (D.content desk.old) (request_of text) result (D.content desk.new) }
+/// The reply to a line that isn't blank. Its bytes are taken out of it.
+fn answer_kept<D: Desk>(alloc: Global, desk: &mut D, line: &mut Line) -> Reply
+    ensures { (text : List ℕ) → HasCome line.old text → Replies D.are_right D.tells (D.content desk.old) (request_of text) result (D.content desk.new) }
 {
     if line.is_long {
         return Reply::NoRequest;
     }
-    answer_line(alloc, desk, line.kept.as_slice())
+    let text = mem::replace(&mut line.kept, Vec::new(alloc));
+    answer_line(alloc, desk, text)
 }
 
 /// Serves a line of which these bytes came: a blank one is passed over; of any other the reply is written and counted.
@@ -113,12 +115,12 @@ pub fn serve<D: Desk, W: Write>(
     desk: &mut D,
     writer: &mut W,
     end: &mut ScriptEnd,
-    line: &Line,
+    line: &mut Line,
 ) -> Result<(), ScriptFault>
     requires room { (end.old.refused + 1 < 2 ^ 64) × (end.old.failed + 1 < 2 ^ 64) }
-    ensures ok { (text : List ℕ) → HasCome line.now text → OnOk result (Serves D.are_right D.tells (D.content desk.old)
+    ensures ok { (text : List ℕ) → HasCome line.old text → OnOk result (Serves D.are_right D.tells (D.content desk.old)
         (request_at text) (D.content desk.new) (W.contents writer.old) (W.contents writer.new) end.old end.new) }
-    ensures replied { (text : List ℕ) → HasCome line.now text → (replies : List Reply)
+    ensures replied { (text : List ℕ) → HasCome line.old text → (replies : List Reply)
         × AreReplied D.are_right D.tells (D.content desk.old) (request_at text) replies (D.content desk.new) }
     ensures few { (end.new.refused ≤ end.old.refused + 1) × (end.new.failed ≤ end.old.failed + 1) }
     ensures fault { IfErr result IsOfReply }

@@ -177,6 +177,11 @@ module _ {P : Type 0} (id : P → List ℕ) where
       map_insert (λ p. p.now) xs n x
       ∙ sym (put_new id x.now (lent xs) n (subst (λ l. IsLower l (id x.now) n) (ids_of_lent xs) at) (ap (λ l. is_below_first (id x.now) (drop n l)) (sym (ids_of_lent xs)) ∙ new))
 
+  -- a part that goes in before all others
+  pub lent_first : (x : Bor P) (xs : List (Bor P)) → is_below_first (id x.now) (drop 0 (lent_ids xs)) ≡ true → lent (x ∷ xs) ≡ put_by id x.now (lent xs)
+  lent_first x [] new = refl
+  lent_first x (y ∷ ys) new = sym (put_first id x.now (lent (y ∷ ys)) new)
+
   pub lent_old : (x : Bor P) (xs : List (Bor P)) (n : ℕ) → IsLower (lent_ids xs) (id x.now) n → is_below_first (id x.now) (drop n (lent_ids xs)) ≡ false → lent xs ≡ put_by id x.now (lent xs)
   lent_old x xs n at old =
       sym (put_old id x.now (lent xs) n (subst (λ l. IsLower l (id x.now) n) (ids_of_lent xs) at) (ap (λ l. is_below_first (id x.now) (drop n l)) (sym (ids_of_lent xs)) ∙ old))

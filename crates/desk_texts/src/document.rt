@@ -70,11 +70,11 @@ fn package_copies(
 ) -> Result<Items<Package>, AllocError>
     ensures { IfOk result (λ kept. kept ≡ map (λ p. package_of (package_text p.now)) packages.entry.items) }
 {
-    let mut kept = Items::new(alloc);
+    let mut kept = Vec::with_capacity(alloc, packages.len())?;
     for text in packages {
         kept.push(package_of(alloc, text)?)?;
     }
-    Ok(kept)
+    Ok(Items::from_vec(kept))
 }
 
 fn packages_of(
@@ -94,11 +94,11 @@ fn reference_copies(
 ) -> Result<Items<Reference>, AllocError>
     ensures { IfOk result (λ kept. kept ≡ map (λ x. reference_of (extracted_text x.now)) extracted.entry.items) }
 {
-    let mut kept = Items::new(alloc);
+    let mut kept = Vec::with_capacity(alloc, extracted.len())?;
     for one in extracted {
         kept.push(reference_of(alloc, one)?)?;
     }
-    Ok(kept)
+    Ok(Items::from_vec(kept))
 }
 
 fn references_of(alloc: Global, extracted: &[Extracted<'_>]) -> Result<Items<Reference>, AllocError>

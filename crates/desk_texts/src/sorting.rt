@@ -58,6 +58,10 @@ fn put_by<'s, P: Identified>(sorted: &mut VecDeque<&'s P>, part: &'s P) -> Resul
     ensures rises { OnOk result (Rises (map (λ p. P.id_of p.now) sorted.new.items)) }
 {
     let id = part.id();
+    if is_new(sorted, 0, id) {
+        sorted.push_front(part)?;
+        return Ok(());
+    }
     let place = lower(sorted, id);
     if is_new(sorted, place, id) {
         sorted.insert(place, part)?;

@@ -3,4 +3,4 @@ use Rattle.desk_rows.specs.History.{extracted_row}
 use Rattle.desk_decisions.proofs.document.extracted_rows.Given as goal
 
 abbrev pub invariant-loop-reference : goal.invariant-loop-reference
-invariant-loop-reference l = l.rows ≡ map (extracted_row l.document) l.yielded
+invariant-loop-reference l = l.rows.items ≡ map (extracted_row l.document) l.yielded

@@ -3,4 +3,4 @@ use Rattle.desk_rows.specs.History.{package_row}
 use Rattle.desk_decisions.proofs.document.package_rows.Given as goal
 
 abbrev pub invariant-loop-package : goal.invariant-loop-package
-invariant-loop-package l = l.rows ≡ map (package_row l.document) l.yielded
+invariant-loop-package l = l.rows.items ≡ map (package_row l.document) l.yielded

@@ -2,5 +2,5 @@ use Rattle.desk_json.specs.Requests.{request_in}
 use Rattle.desk_script.proofs.OneLine.{Replies-memory}
 use Rattle.desk_script.proofs.answer.answer_line.Goals as goal
 
-pub returns-in_default : goal.returns-in_default
-returns-in_default g c = Replies-memory g.D.Desk.are_right g.D.Desk.tells (g.D.Desk.content c.args.desk.now) (request_in c.args.text.now)
+pub returns-in-Err : goal.returns-in-Err
+returns-in-Err g c = Replies-memory g.D.Desk.are_right g.D.Desk.tells (g.D.Desk.content c.args.desk.now) (request_in c.args.text.items)

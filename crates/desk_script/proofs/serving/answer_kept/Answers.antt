@@ -10,5 +10,5 @@ returns-then-line g c = λ text h. Replies-long g.D.Desk.are_right g.D.Desk.tell
 
 pub returns : goal.returns
 returns g c = λ text h.
-    let same = request_of-kept c.args.line.now text h c.if-line.false ∙ ap request_in (sym c.as_slice.ensures.value) in
+    let same = request_of-kept c.args.line.now text h c.if-line.false ∙ ap (λ v. request_in v.items) (sym c.replace-text.ensures.value) in
     subst (λ (r : Request). Replies g.D.Desk.are_right g.D.Desk.tells (g.D.Desk.content c.args.desk.now) r c.answer_line.result (g.D.Desk.content c.answer_line.new.desk)) (sym same) c.answer_line.ensures

@@ -4,4 +4,4 @@ use Rattle.desk_texts.specs.Documents.{reference_of}
 use Rattle.desk_texts.proofs.document.reference_copies.Given as goal
 
 abbrev pub invariant-loop-one : goal.invariant-loop-one
-invariant-loop-one l = l.kept ≡ map (λ x. reference_of (extracted_text x.now)) l.yielded
+invariant-loop-one l = l.kept.items ≡ map (λ x. reference_of (extracted_text x.now)) l.yielded
