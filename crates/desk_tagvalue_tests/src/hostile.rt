@@ -1,27 +1,11 @@
 //! Bytes that nobody wrote on purpose, and bytes that somebody did.
 
-use crate::support::told;
-use desk_tagvalue::read;
+use crate::small::SMALL;
+use crate::support::{expect, fault_text, told};
+use desk_tagvalue::{Document, read};
 use std::alloc::{AllocError, Global};
 use std::collections::BTreeMap;
 use std::process::Abort;
-use std::test::Fail;
-
-const SMALL: &str = "SPDXVersion: SPDX-2.3
-DataLicense: CC0-1.0
-SPDXID: SPDXRef-DOCUMENT
-DocumentName: d1
-DocumentNamespace: https://example.org/d1
-Creator: Tool: x-1
-Created: 2025-01-01T00:00:00Z
-PackageName: p
-SPDXID: SPDXRef-p
-PackageVersion: 1.0
-PackageDownloadLocation: NOASSERTION
-FilesAnalyzed: false
-PackageLicenseConcluded: MIT
-PackageCopyrightText: Copyright P
-";
 
 // What `oracle.py prefixes small.spdx` prints.
 const OF_PREFIXES: &str = "11 2 1 -
@@ -97,74 +81,90 @@ fn listed(alloc: Global, counts: &BTreeMap<String, u64>) -> Result<String, Alloc
 }
 
 #[test]
-fn answers_each_prefix(rt: HostRuntime) -> Result<(), Fail> {
+fn answers_each_prefix(rt: HostRuntime) -> Result<(), AllocError> {
     let bytes = SMALL.as_bytes();
     let mut counts = BTreeMap::new(rt.alloc());
-    for n in 0..bytes.len() {
+    for n in 0..=bytes.len() {
         count(&mut counts, told(rt.alloc(), &bytes[..n])?)?;
     }
-    count(&mut counts, told(rt.alloc(), bytes)?)?;
     let text = listed(rt.alloc(), &counts)?;
-    assert_eq!(rt; text.as_str(), OF_PREFIXES);
+    expect(&rt, "each prefix", &text, OF_PREFIXES);
+    Ok(())
+}
+
+fn set(bytes: &mut [u8], place: usize, byte: u8) {
+    if let Some(at) = bytes.get_mut(place) {
+        *at = byte;
+    }
+}
+
+// Counts the answers where the byte at a place is another one.
+fn count_changes(
+    alloc: Global,
+    counts: &mut BTreeMap<String, u64>,
+    bytes: &mut [u8],
+    place: usize,
+) -> Result<(), AllocError> {
+    let kept = bytes.get(place).copied().unwrap_or(0);
+    for byte in 0..=255 {
+        if byte != kept {
+            set(bytes, place, byte);
+            count(counts, told(alloc, bytes)?)?;
+        }
+    }
+    set(bytes, place, kept);
     Ok(())
 }
 
 #[test]
-fn answers_each_changed_byte(rt: HostRuntime) -> Result<(), Fail> {
+fn answers_each_changed_byte(rt: HostRuntime) -> Result<(), AllocError> {
     let mut bytes = Vec::from_slice(rt.alloc(), SMALL.as_bytes())?;
     let mut counts = BTreeMap::new(rt.alloc());
-    for i in 0..SMALL.len() {
-        assert!(rt; i < bytes.len());
-        let kept = bytes[i];
-        for byte in 0..=255 {
-            if byte != kept {
-                assert!(rt; i < bytes.len());
-                bytes[i] = byte;
-                count(&mut counts, told(rt.alloc(), &bytes)?)?;
-            }
-        }
-        assert!(rt; i < bytes.len());
-        bytes[i] = kept;
+    for place in 0..SMALL.len() {
+        count_changes(rt.alloc(), &mut counts, &mut bytes, place)?;
     }
     let text = listed(rt.alloc(), &counts)?;
-    assert_eq!(rt; text.as_str(), OF_CHANGES);
+    expect(&rt, "each changed byte", &text, OF_CHANGES);
     Ok(())
 }
 
-// The text, some number of times.
-fn repeated(alloc: Global, text: &str, times: usize) -> Result<String, AllocError> {
-    let mut all = String::new(alloc);
-    for _ in 0..times {
-        all.push_str(text)?;
-    }
-    Ok(all)
-}
+// A text, one that stands so many times behind it and one behind that, and the answer.
+const LARGE: [(&str, &str, usize, &str, &str); 7] = [
+    ("", "\n", 4_194_304, "", "6 1 SPDXVersion"),
+    ("", "\n", 4_194_305, "", "11 0 -"),
+    ("", "x", 4_194_304, "", "2 1 -"),
+    ("", ":", 4_194_304, "", "2 1 -"),
+    ("A: b\nB: <text>", "<", 4_000_000, "", "3 2 -"),
+    ("a:", " \t", 2_000_000, "\n\r", "2 2 -"),
+    ("", "a: \0\n", 100_000, "", "6 1 SPDXVersion"),
+];
 
-fn expect(rt: &impl Abort, alloc: Global, text: &str, want: &str) -> Result<(), AllocError> {
-    let answer = told(alloc, text.as_bytes())?;
-    assert_eq!(rt; answer.as_str(), want);
-    Ok(())
+fn answer_to_many(
+    alloc: Global,
+    front: &str,
+    each: &str,
+    times: usize,
+    back: &str,
+) -> Result<String, AllocError> {
+    let many = each.repeat(alloc, times)?;
+    let text = [front, many.as_str(), back].concat(alloc)?;
+    told(alloc, text.as_bytes())
 }
 
 #[test]
-fn answers_large_texts(rt: HostRuntime) -> Result<(), Fail> {
-    let alloc = rt.alloc();
-    let blank = repeated(alloc, "\n", 4_194_304)?;
-    expect(&rt, alloc, &blank, "6 1 SPDXVersion")?;
-    let more = repeated(alloc, "\n", 4_194_305)?;
-    expect(&rt, alloc, &more, "11 0 -")?;
-    let line = repeated(alloc, "x", 4_194_304)?;
-    expect(&rt, alloc, &line, "2 1 -")?;
-    let colons = repeated(alloc, ":", 4_194_304)?;
-    expect(&rt, alloc, &colons, "2 1 -")?;
-    let text = repeated(alloc, "<", 4_000_000)?;
-    let open_text = format!(in alloc; "A: b\nB: <text>{text}")?;
-    expect(&rt, alloc, &open_text, "3 2 -")?;
-    let blanks = repeated(alloc, " \t", 2_000_000)?;
-    let fields = format!(in alloc; "a:{blanks}\n\r")?;
-    expect(&rt, alloc, &fields, "2 2 -")?;
-    let zeros = repeated(alloc, "a: \0\n", 100_000)?;
-    expect(&rt, alloc, &zeros, "6 1 SPDXVersion")?;
+fn answers_large_texts(rt: HostRuntime) -> Result<(), AllocError> {
+    for (front, each, times, back, expected) in &LARGE {
+        let answer = answer_to_many(rt.alloc(), front, each, *times, back)?;
+        expect(&rt, each, &answer, expected);
+    }
+    Ok(())
+}
+
+fn put_package(text: &mut String, k: u32, edges: u32) -> Result<(), AllocError> {
+    write!(text, "PackageName: p\nSPDXID: SPDXRef-{k}\n")?;
+    for _ in 0..edges {
+        write!(text, "Relationship: SPDXRef-{k} CONTAINS SPDXRef-0\n")?;
+    }
     Ok(())
 }
 
@@ -175,39 +175,41 @@ fn packages(alloc: Global, elements: u32, edges: u32) -> Result<String, AllocErr
         "SPDXVersion: SPDX-2.3\nSPDXID: SPDXRef-DOCUMENT\nDocumentName: d\nDocumentNamespace: n\n",
     )?;
     for k in 0..elements {
-        let package = format!(in alloc; "PackageName: p\nSPDXID: SPDXRef-{k}\n")?;
-        text.push_str(&package)?;
-        for _ in 0..edges {
-            let edge = format!(in alloc; "Relationship: SPDXRef-{k} CONTAINS SPDXRef-0\n")?;
-            text.push_str(&edge)?;
-        }
+        put_package(&mut text, k, edges)?;
     }
     Ok(text)
 }
 
-#[test]
-fn counts_elements(rt: HostRuntime) -> Result<(), Fail> {
-    let alloc = rt.alloc();
-    let most = packages(alloc, 10_000, 4)?;
-    let document = read(alloc, most.as_bytes())?;
-    assert_eq!(rt; document.packages.as_slice().len(), 10_000);
-    assert_eq!(rt; document.edges.as_slice().len(), 40_000);
-    let more = packages(alloc, 10_001, 0)?;
-    expect(&rt, alloc, &more, "12 20005 -")?;
+fn counts_of(alloc: Global, document: &Document) -> Result<String, AllocError> {
+    let packages = document.packages.as_slice().len();
+    let edges = document.edges.as_slice().len();
+    format!(in alloc; "{packages} packages, {edges} relationships")
+}
+
+// How many packages and relationships the document has, or its fault.
+fn counted(alloc: Global, text: &str) -> Result<String, AllocError> {
+    match read(alloc, text.as_bytes()) {
+        Ok(document) => counts_of(alloc, &document),
+        Err(fault) => fault_text(alloc, fault),
+    }
+}
+
+// Asserts how a document of some packages, with as many relationships each, is read.
+fn expect_counts(
+    rt: &impl Abort,
+    alloc: Global,
+    (elements, edges): (u32, u32),
+    expected: &str,
+) -> Result<(), AllocError> {
+    let text = packages(alloc, elements, edges)?;
+    let answer = counted(alloc, &text)?;
+    expect(rt, "packages", &answer, expected);
     Ok(())
 }
 
 #[test]
-fn reads_marks_and_carriage_returns(rt: HostRuntime) -> Result<(), Fail> {
-    let alloc = rt.alloc();
-    let mut text = String::from_str(alloc, "\u{feff}")?;
-    for line in SMALL.lines() {
-        text.push_str(line)?;
-        text.push_str("\r\n")?;
-    }
-    let document = read(alloc, text.as_bytes())?;
-    assert_eq!(rt; document.namespace, "https://example.org/d1");
-    assert_eq!(rt; document.packages.as_slice().len(), 1);
-    assert_eq!(rt; document.entries.as_slice().len(), 14);
-    Ok(())
+fn counts_elements(rt: HostRuntime) -> Result<(), AllocError> {
+    let most = "10000 packages, 40000 relationships";
+    expect_counts(&rt, rt.alloc(), (10_000, 4), most)?;
+    expect_counts(&rt, rt.alloc(), (10_001, 0), "12 20005 -")
 }

@@ -1,20 +1,78 @@
-//! What a test is told of some bytes.
+//! What a test is told of some bytes. Want of memory is no answer but an error.
 
-use desk_tagvalue::read;
+use crate::shown::shown;
+use desk_tagvalue::{DocFault, Document, read};
 use std::alloc::{AllocError, Global};
+use std::process::Abort;
 
-/// `document`, or the fault's number, its line and its tag or `-`.
+/// The fault's number, its line and its tag or `-`.
+pub fn fault_text(alloc: Global, fault: DocFault) -> Result<String, AllocError> {
+    let number = fault.number();
+    let line = fault.line();
+    let tag = match fault.tag() {
+        Some(tag) => tag.name(),
+        None => "-",
+    };
+    match fault {
+        DocFault::Memory => Err(AllocError),
+        _ => format!(in alloc; "{number} {line} {tag}"),
+    }
+}
+
+/// `document`, or the fault.
 pub fn told(alloc: Global, bytes: &[u8]) -> Result<String, AllocError> {
     match read(alloc, bytes) {
         Ok(_) => String::from_str(alloc, "document"),
-        Err(fault) => {
-            let number = fault.number();
-            let line = fault.line();
-            let tag = match fault.tag() {
-                Some(tag) => tag.name(),
-                None => "-",
-            };
-            format!(in alloc; "{number} {line} {tag}")
-        }
+        Err(fault) => fault_text(alloc, fault),
     }
+}
+
+/// The document, written out, or the fault.
+pub fn told_in_full(alloc: Global, bytes: &[u8]) -> Result<String, AllocError> {
+    match read(alloc, bytes) {
+        Ok(document) => shown(alloc, &document),
+        Err(fault) => fault_text(alloc, fault),
+    }
+}
+
+/// Asserts that the answer to a question is the expected one.
+pub fn expect(rt: &impl Abort, question: &str, answer: &str, expected: &str) {
+    assert_eq!(rt; answer, expected, "{question:?}");
+}
+
+/// Asserts whether a text is read, or its fault.
+pub fn expect_told(
+    rt: &impl Abort,
+    alloc: Global,
+    text: &str,
+    expected: &str,
+) -> Result<(), AllocError> {
+    let answer = told(alloc, text.as_bytes())?;
+    expect(rt, text, &answer, expected);
+    Ok(())
+}
+
+/// Asserts how a text is read.
+pub fn expect_in_full(
+    rt: &impl Abort,
+    alloc: Global,
+    text: &str,
+    expected: &str,
+) -> Result<(), AllocError> {
+    let answer = told_in_full(alloc, text.as_bytes())?;
+    expect(rt, "the document", &answer, expected);
+    Ok(())
+}
+
+/// A text, and behind it lines that each end by CRLF.
+pub fn with_carriage_returns(
+    alloc: Global,
+    front: &str,
+    lines: &str,
+) -> Result<String, AllocError> {
+    let mut text = String::from_str(alloc, front)?;
+    for line in lines.lines() {
+        write!(text, "{line}\r\n")?;
+    }
+    Ok(text)
 }
