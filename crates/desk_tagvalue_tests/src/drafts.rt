@@ -1,6 +1,6 @@
 //! Drafts, written and read back.
 
-use crate::support::{expect, expect_in_full};
+use crate::support::expect;
 use desk_base::{Items, Text};
 use desk_tagvalue::{Draft, DraftFile, WriteFault, write};
 use std::alloc::{AllocError, Global};
@@ -24,14 +24,26 @@ fn files_of(alloc: Global, rows: &[(&str, &str)]) -> Result<Items<DraftFile>, Al
     Ok(files)
 }
 
+fn three_texts(alloc: Global, texts: [&str; 3]) -> Result<(Text, Text, Text), AllocError> {
+    Ok((
+        Text::of(alloc, texts[0])?,
+        Text::of(alloc, texts[1])?,
+        Text::of(alloc, texts[2])?,
+    ))
+}
+
 fn draft_of(alloc: Global, name: &str, files: &[(&str, &str)]) -> Result<Draft, AllocError> {
+    let code = "da39a3ee5e6b4b0d3255bfef95601890afd80709";
+    let front = [name, "https://example.org/n", "2025-01-01T00:00:00Z"];
+    let (name, namespace, created) = three_texts(alloc, front)?;
+    let (code, concluded, copyright) = three_texts(alloc, [code, "NOASSERTION", "NOASSERTION"])?;
     Ok(Draft {
-        name: Text::of(alloc, name)?,
-        namespace: Text::of(alloc, "https://example.org/n")?,
-        created: Text::of(alloc, "2025-01-01T00:00:00Z")?,
-        code: Text::of(alloc, "da39a3ee5e6b4b0d3255bfef95601890afd80709")?,
-        concluded: Text::of(alloc, "NOASSERTION")?,
-        copyright: Text::of(alloc, "NOASSERTION")?,
+        name,
+        namespace,
+        created,
+        code,
+        concluded,
+        copyright,
         files: files_of(alloc, files)?,
     })
 }
@@ -50,7 +62,8 @@ fn written(alloc: Global, name: &str, files: &[(&str, &str)]) -> Result<String, 
     text_of(alloc, &draft)
 }
 
-const EMPTY_TREE: &str = "SPDXVersion: SPDX-2.3
+/// The text of a draft without files.
+pub const EMPTY_TREE: &str = "SPDXVersion: SPDX-2.3
 DataLicense: CC0-1.0
 SPDXID: SPDXRef-DOCUMENT
 DocumentName: n
@@ -68,35 +81,24 @@ PackageCopyrightText: NOASSERTION
 Relationship: SPDXRef-DOCUMENT DESCRIBES SPDXRef-Package
 ";
 
-const EMPTY_TREE_IN_FULL: &str = "document [n] [https://example.org/n]
-fields 15, licences in files 0
-package 9
-  name [n]
-  id [SPDXRef-Package]
-  version -
-  location [NOASSERTION]
-  analyzed [true]
-  code [da39a3ee5e6b4b0d3255bfef95601890afd80709]
-  concluded [NOASSERTION]
-  declared -
-  copyright [NOASSERTION]
-relationship 16
-  left [SPDXRef-DOCUMENT]
-  kind [DESCRIBES]
-  right [SPDXRef-Package]
-";
+/// The text of a draft with two files.
+pub const WITH_FILES: &str = "SPDXVersion: SPDX-2.3
+DataLicense: CC0-1.0
+SPDXID: SPDXRef-DOCUMENT
+DocumentName: n
+DocumentNamespace: https://example.org/n
+Creator: Tool: licence-desk-1
+Created: 2025-01-01T00:00:00Z
 
-#[test]
-fn writes_the_empty_tree(rt: HostRuntime) -> Result<(), AllocError> {
-    let text = written(rt.alloc(), "n", &[])?;
-    expect(&rt, "no files", &text, EMPTY_TREE);
-    expect_in_full(&rt, rt.alloc(), &text, EMPTY_TREE_IN_FULL)
-}
+PackageName: n
+SPDXID: SPDXRef-Package
+PackageDownloadLocation: NOASSERTION
+FilesAnalyzed: true
+PackageVerificationCode: da39a3ee5e6b4b0d3255bfef95601890afd80709
+PackageLicenseConcluded: NOASSERTION
+PackageCopyrightText: NOASSERTION
+Relationship: SPDXRef-DOCUMENT DESCRIBES SPDXRef-Package
 
-const FILES: [(&str, &str); 2] = [("src/a.c", "2025 Firm\n2024 Man"), ("b c", "NOASSERTION")];
-
-// What stands behind the text of the empty tree.
-const OF_FILES: &str = "
 FileName: ./src/a.c
 SPDXID: SPDXRef-File-1
 FileChecksum: SHA1: abababababababababababababababababababab
@@ -111,49 +113,32 @@ LicenseConcluded: MIT
 FileCopyrightText: NOASSERTION
 ";
 
-const FILES_IN_FULL: &str = "document [n] [https://example.org/n]
-fields 25, licences in files 0
-package 9
-  name [n]
-  id [SPDXRef-Package]
-  version -
-  location [NOASSERTION]
-  analyzed [true]
-  code [da39a3ee5e6b4b0d3255bfef95601890afd80709]
-  concluded [NOASSERTION]
-  declared -
-  copyright [NOASSERTION]
-file 18
-  name [./src/a.c]
-  id [SPDXRef-File-1]
-  sha1 [abababababababababababababababababababab]
-  concluded [MIT]
-  copyright [2025 Firm
-2024 Man]
-file 25
-  name [./b c]
-  id [SPDXRef-File-2]
-  sha1 [abababababababababababababababababababab]
-  concluded [MIT]
-  copyright [NOASSERTION]
-relationship 16
-  left [SPDXRef-DOCUMENT]
-  kind [DESCRIBES]
-  right [SPDXRef-Package]
-";
+// Paths and copyrights of files, and the text of the draft.
+const WRITTEN: [(&[(&str, &str)], &str); 3] = [
+    (&[], EMPTY_TREE),
+    (
+        &[("src/a.c", "2025 Firm\n2024 Man"), ("b c", "NOASSERTION")],
+        WITH_FILES,
+    ),
+    (&[("a", "x</text>y")], "BadValue"),
+];
 
-#[test]
-fn writes_files(rt: HostRuntime) -> Result<(), AllocError> {
-    let text = written(rt.alloc(), "n", &FILES)?;
-    let behind = text.strip_prefix(EMPTY_TREE).unwrap_or("no such front");
-    expect(&rt, "two files", behind, OF_FILES);
-    expect_in_full(&rt, rt.alloc(), &text, FILES_IN_FULL)
+fn expect_written(
+    rt: &impl Abort,
+    alloc: Global,
+    files: &[(&str, &str)],
+    expected: &str,
+) -> Result<(), AllocError> {
+    let text = written(alloc, "n", files)?;
+    expect(rt, "the draft", &text, expected);
+    Ok(())
 }
 
 #[test]
-fn refuses_a_copyright_that_does_not_stand(rt: HostRuntime) -> Result<(), AllocError> {
-    let text = written(rt.alloc(), "n", &[("a", "x</text>y")])?;
-    expect(&rt, "x</text>y", &text, "BadValue");
+fn writes_drafts(rt: HostRuntime) -> Result<(), AllocError> {
+    for (files, expected) in &WRITTEN {
+        expect_written(&rt, rt.alloc(), files, expected)?;
+    }
     Ok(())
 }
 

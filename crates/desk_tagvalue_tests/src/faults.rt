@@ -1,6 +1,7 @@
 //! Faults of a document, several at once too, with the answers that the stated order gives.
 
-use crate::support::{expect, expect_told, told};
+use crate::documents::SMALL;
+use crate::support::expect_told;
 use std::alloc::{AllocError, Global};
 use std::process::Abort;
 
@@ -196,18 +197,23 @@ SPDXID: SPDXRef-p
 PackageName:
 SPDXID: SPDXRef-q";
 
-// Asserts the answer to the head with the lines of a case behind it.
-fn expect_behind_head(rt: &impl Abort, alloc: Global, case: &str) -> Result<(), AllocError> {
+// Asserts the answer to a text with the lines of a case behind it.
+fn expect_behind(
+    rt: &impl Abort,
+    alloc: Global,
+    front: &str,
+    case: &str,
+) -> Result<(), AllocError> {
     let (expected, lines) = case.split_once('\n').unwrap_or((case, ""));
-    let text = format!(in alloc; "{HEAD}{lines}\n")?;
-    expect_told(rt, alloc, &text, expected)
+    let text = format!(in alloc; "{front}{lines}\n")?;
+    expect_told(rt, alloc, lines, text.as_bytes(), expected)
 }
 
 #[test]
 fn tells_faults_in_their_order(rt: HostRuntime) -> Result<(), AllocError> {
     assert!(rt; CASES.split("\n---\n").count() == 43);
     for case in CASES.split("\n---\n") {
-        expect_behind_head(&rt, rt.alloc(), case)?;
+        expect_behind(&rt, rt.alloc(), HEAD, case)?;
     }
     Ok(())
 }
@@ -235,9 +241,13 @@ const OF_HEAD: [(&str, &str); 8] = [
 #[test]
 fn tells_faults_of_the_head(rt: HostRuntime) -> Result<(), AllocError> {
     for (text, expected) in &OF_HEAD {
-        expect_told(&rt, rt.alloc(), text, expected)?;
+        expect_told(&rt, rt.alloc(), text, text.as_bytes(), expected)?;
     }
-    let answer = told(rt.alloc(), b"A\n\xff")?;
-    expect(&rt, "no UTF-8", &answer, "1 0 -");
-    Ok(())
+    expect_told(&rt, rt.alloc(), "no UTF-8", b"A\n\xff", "1 0 -")
+}
+
+#[test]
+fn tells_a_repetition(rt: HostRuntime) -> Result<(), AllocError> {
+    let case = "9 15 DocumentName\nDocumentName: e";
+    expect_behind(&rt, rt.alloc(), SMALL, case)
 }

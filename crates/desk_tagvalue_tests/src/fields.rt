@@ -1,7 +1,7 @@
 //! Fields of small texts, faults of their cutting, and tags.
 
 use crate::support::{expect, fault_text};
-use desk_tagvalue::{DocFault, Field, Tag, fields};
+use desk_tagvalue::{Field, Tag, fields};
 use std::alloc::{AllocError, Global};
 use std::process::Abort;
 
@@ -10,13 +10,14 @@ fn fields_text(alloc: Global, fields: &[Field]) -> Result<String, AllocError> {
     for field in fields {
         let line = field.line;
         let tag = field.tag;
+        let read = Tag::of(tag);
         let value = field.value;
-        write!(text, "{line} [{tag}] [{value}];")?;
+        write!(text, "{line} {read:?} [{tag}] [{value}];")?;
     }
     Ok(text)
 }
 
-// The fields of a text, each its line, its tag and its value, or the fault.
+// The fields of a text, each its line, what its tag is read as, the tag and the value, or the fault.
 fn fields_told(alloc: Global, text: &str) -> Result<String, AllocError> {
     match fields(alloc, text) {
         Ok(fields) => fields_text(alloc, &fields),
@@ -36,43 +37,51 @@ fn expect_fields(
     Ok(())
 }
 
-const OVER_LINES: [(&str, &str); 5] = [
+const TAGS: &str = "SPDXVersion:
+SPDXID:
+LicenseID:
+FileCopyrightText:
+PackageComment:
+SPDXREF:
+BuiltDate:
+BuiltDates:
+spdxid:
+packageName:
+ExtractedTexts:";
+
+const FIELDS: [(&str, &str); 12] = [
     (
         "# c\r\nPackageComment: <text>one\r\ntwo\r\nthree</text>\r\n# d\r\nPackageName: p\r\n",
-        "2 [PackageComment] [one\r\ntwo\r\nthree];6 [PackageName] [p];",
+        "2 ReadOver [PackageComment] [one\r\ntwo\r\nthree];6 PackageName [PackageName] [p];",
     ),
     ("", ""),
     ("\n \t\n\r\n  # a: b\n", ""),
     (
         "A: <text> x </text> \t\nB:<text></text>",
-        "1 [A] [ x ];2 [B] [];",
+        "1 Unknown [A] [ x ];2 Unknown [B] [];",
     ),
     (
         "A: <text>\n\n</text>\n\nB: b\r",
-        "1 [A] [\n\n];5 [B] [b\r];",
+        "1 Unknown [A] [\n\n];5 Unknown [B] [b\r];",
+    ),
+    ("\u{feff}A: b", "1 Unknown [A] [b];"),
+    ("\u{feff}\u{feff}A: b", "1 Unknown [\u{feff}A] [b];"),
+    (" a b\t:c:d \t", "1 Unknown [a b] [c:d];"),
+    ("A:\nB: \n", "1 Unknown [A] [];2 Unknown [B] [];"),
+    ("A: x <text>y\n", "1 Unknown [A] [x <text>y];"),
+    (
+        "A: <TEXT>x\nB: \0\n",
+        "1 Unknown [A] [<TEXT>x];2 Unknown [B] [\0];",
+    ),
+    (
+        TAGS,
+        "1 Version [SPDXVersion] [];2 Identifier [SPDXID] [];3 LicenseIdentifier [LicenseID] [];4 FileCopyright [FileCopyrightText] [];5 ReadOver [PackageComment] [];6 ReadOver [SPDXREF] [];7 ReadOver [BuiltDate] [];8 Unknown [BuiltDates] [];9 Unknown [spdxid] [];10 Unknown [packageName] [];11 Unknown [ExtractedTexts] [];",
     ),
 ];
 
 #[test]
-fn cuts_comments_and_texts_over_lines(rt: HostRuntime) -> Result<(), AllocError> {
-    for (text, expected) in &OVER_LINES {
-        expect_fields(&rt, rt.alloc(), text, expected)?;
-    }
-    Ok(())
-}
-
-const ON_ONE_LINE: [(&str, &str); 6] = [
-    ("\u{feff}A: b", "1 [A] [b];"),
-    ("\u{feff}\u{feff}A: b", "1 [\u{feff}A] [b];"),
-    (" a b\t:c:d \t", "1 [a b] [c:d];"),
-    ("A:\nB: \n", "1 [A] [];2 [B] [];"),
-    ("A: x <text>y\n", "1 [A] [x <text>y];"),
-    ("A: <TEXT>x\nB: \0\n", "1 [A] [<TEXT>x];2 [B] [\0];"),
-];
-
-#[test]
-fn cuts_fields_on_one_line(rt: HostRuntime) -> Result<(), AllocError> {
-    for (text, expected) in &ON_ONE_LINE {
+fn cuts_fields_and_names_tags(rt: HostRuntime) -> Result<(), AllocError> {
+    for (text, expected) in &FIELDS {
         expect_fields(&rt, rt.alloc(), text, expected)?;
     }
     Ok(())
@@ -97,49 +106,5 @@ fn tells_faults(rt: HostRuntime) -> Result<(), AllocError> {
     for (text, expected) in &FAULTS {
         expect_fields(&rt, rt.alloc(), text, expected)?;
     }
-    Ok(())
-}
-
-// What each text is read as.
-const TAGS: [(&str, &str); 11] = [
-    ("SPDXVersion", "Version"),
-    ("SPDXID", "Identifier"),
-    ("LicenseID", "LicenseIdentifier"),
-    ("FileCopyrightText", "FileCopyright"),
-    ("PackageComment", "ReadOver"),
-    ("SPDXREF", "ReadOver"),
-    ("BuiltDate", "ReadOver"),
-    ("BuiltDates", "Unknown"),
-    ("spdxid", "Unknown"),
-    ("packageName", "Unknown"),
-    ("ExtractedTexts", "Unknown"),
-];
-
-fn expect_tag(
-    rt: &impl Abort,
-    alloc: Global,
-    text: &str,
-    expected: &str,
-) -> Result<(), AllocError> {
-    let tag = Tag::of(text);
-    let name = format!(in alloc; "{tag:?}")?;
-    expect(rt, text, &name, expected);
-    Ok(())
-}
-
-#[test]
-fn names_tags(rt: HostRuntime) -> Result<(), AllocError> {
-    for (text, expected) in &TAGS {
-        expect_tag(&rt, rt.alloc(), text, expected)?;
-    }
-    Ok(())
-}
-
-#[test]
-fn names_faults(rt: HostRuntime) -> Result<(), AllocError> {
-    let alloc = rt.alloc();
-    let repeated = DocFault::Repeated(15, Tag::DocumentName);
-    expect(&rt, "", &fault_text(alloc, repeated)?, "9 15 DocumentName");
-    expect(&rt, "", &fault_text(alloc, DocFault::TooLarge)?, "11 0 -");
     Ok(())
 }

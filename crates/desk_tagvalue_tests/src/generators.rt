@@ -1,12 +1,8 @@
 //! Documents in the forms that generators give, written by hand after SPDX 2.3 (2.2), clauses 6 to 12. They stand, to be
 //! read with other tools, in `tests/documents/scanner.spdx` and `tests/documents/build.spdx`.
 
-use crate::support::{expect_in_full, with_carriage_returns};
-use std::alloc::AllocError;
-use std::process::Abort;
-
-// As a scanner of container images writes it.
-const SCANNER: &str = "SPDXVersion: SPDX-2.3
+/// As a scanner of container images writes it.
+pub const SCANNER: &str = "SPDXVersion: SPDX-2.3
 DataLicense: CC0-1.0
 SPDXID: SPDXRef-DOCUMENT
 DocumentName: registry.example.org/lantern
@@ -122,9 +118,11 @@ RelationshipComment: configuration read at start
 
 ";
 
-const SCANNER_IN_FULL: &str =
+/// What is read of it.
+pub const SCANNER_IN_FULL: &str =
     "document [registry.example.org/lantern] [https://example.org/sbom/image/registry.example.org/lantern-0d9b6c1e-52a7-4f43-8a53-6d5f0a1b7c22]
-fields 78, licences in files 1
+78 fields, 3 packages, 5 relationships
+1 licences in files
 package 28
   name [musl]
   id [SPDXRef-Package-apk-musl-9c1f0e6a52d87b34]
@@ -203,13 +201,8 @@ relationship 112
   right [SPDXRef-Package-go-module-lanternd-41d8cd98f00b204e]
 ";
 
-#[test]
-fn reads_a_scanner_of_container_images(rt: HostRuntime) -> Result<(), AllocError> {
-    expect_in_full(&rt, rt.alloc(), SCANNER, SCANNER_IN_FULL)
-}
-
-// As a maker of builds writes it, whose lines end by CRLF.
-const BUILD: &str = "SPDXVersion: SPDX-2.2
+/// As a maker of builds writes it, whose lines end by CRLF.
+pub const BUILD: &str = "SPDXVersion: SPDX-2.2
 DataLicense: CC0-1.0
 SPDXID: SPDXRef-DOCUMENT
 DocumentName: pump.spdx
@@ -279,8 +272,10 @@ Relationship: SPDXRef-pump.elf STATIC_LINK DocumentRef-sdk:SPDXRef-libdriver
 Relationship: SPDXRef-pump-sources CONTAINS SPDXRef-File-queue.c
 ";
 
-const BUILD_IN_FULL: &str = "document [pump.spdx] [http://spdx.org/spdxdocs/pump-4c2e-8a1b2c3d]
-fields 62, licences in files 5
+/// What is read of it.
+pub const BUILD_IN_FULL: &str = "document [pump.spdx] [http://spdx.org/spdxdocs/pump-4c2e-8a1b2c3d]
+62 fields, 2 packages, 5 relationships
+5 licences in files
 package 14
   name [pump-sources]
   id [SPDXRef-pump-sources]
@@ -344,9 +339,3 @@ relationship 68
   kind [CONTAINS]
   right [SPDXRef-File-queue.c]
 ";
-
-#[test]
-fn reads_a_maker_of_builds(rt: HostRuntime) -> Result<(), AllocError> {
-    let text = with_carriage_returns(rt.alloc(), "", BUILD)?;
-    expect_in_full(&rt, rt.alloc(), &text, BUILD_IN_FULL)
-}

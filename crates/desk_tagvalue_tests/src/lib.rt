@@ -4,6 +4,8 @@
 #![tactic(auto)]
 
 #[cfg(test)]
+mod documents;
+#[cfg(test)]
 mod drafts;
 #[cfg(test)]
 mod faults;
@@ -15,8 +17,6 @@ mod generators;
 mod hostile;
 #[cfg(test)]
 mod shown;
-#[cfg(test)]
-mod small;
 #[cfg(test)]
 mod support;
 #[cfg(test)]

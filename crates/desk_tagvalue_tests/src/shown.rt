@@ -1,6 +1,6 @@
 //! A document, written out: a line for each field that is read, with its value in brackets, or `-` where it isn't there.
 
-use desk_tagvalue::{Document, Edge, Extracted, FileEntry, Package, Snippet, Tag};
+use desk_tagvalue::{Document, Edge, Entry, Extracted, FileEntry, Package, Snippet, Tag};
 use std::alloc::{AllocError, Global};
 
 fn put_part(
@@ -78,28 +78,42 @@ fn put_edges(out: &mut String, edges: &[Edge]) -> Result<(), AllocError> {
     Ok(())
 }
 
-// The names of the document, and how many fields it has, and how many of them are licences in files.
-fn head(alloc: Global, document: &Document) -> Result<String, AllocError> {
+// The names of the document, and how many of its parts there are.
+fn put_head(out: &mut String, document: &Document) -> Result<(), AllocError> {
     let name = document.name;
     let namespace = document.namespace;
-    let entries = document.entries.as_slice();
-    let fields = entries.len();
+    let fields = document.entries.as_slice().len();
+    let packages = document.packages.as_slice().len();
+    let edges = document.edges.as_slice().len();
+    write!(out, "document [{name}] [{namespace}]\n")?;
+    write!(
+        out,
+        "{fields} fields, {packages} packages, {edges} relationships\n"
+    )
+}
+
+// How many licences are told of files.
+fn put_licences(out: &mut String, entries: &[Entry]) -> Result<(), AllocError> {
     let licences = entries
         .iter()
         .filter(|entry| entry.tag.is(Tag::FileLicense))
         .count();
-    format!(in alloc;
-        "document [{name}] [{namespace}]\nfields {fields}, licences in files {licences}\n"
-    )
+    write!(out, "{licences} licences in files\n")
+}
+
+fn put_document(out: &mut String, document: &Document) -> Result<(), AllocError> {
+    put_head(out, document)?;
+    put_licences(out, document.entries.as_slice())?;
+    put_packages(out, document.packages.as_slice())?;
+    put_files(out, document.files.as_slice())?;
+    put_snippets(out, document.snippets.as_slice())?;
+    put_extracted(out, document.extracted.as_slice())?;
+    put_edges(out, document.edges.as_slice())
 }
 
 /// The document, written out.
 pub fn shown(alloc: Global, document: &Document) -> Result<String, AllocError> {
-    let mut out = head(alloc, document)?;
-    put_packages(&mut out, document.packages.as_slice())?;
-    put_files(&mut out, document.files.as_slice())?;
-    put_snippets(&mut out, document.snippets.as_slice())?;
-    put_extracted(&mut out, document.extracted.as_slice())?;
-    put_edges(&mut out, document.edges.as_slice())?;
+    let mut out = String::new(alloc);
+    put_document(&mut out, document)?;
     Ok(out)
 }

@@ -37,18 +37,19 @@ pub fn told_in_full(alloc: Global, bytes: &[u8]) -> Result<String, AllocError> {
 
 /// Asserts that the answer to a question is the expected one.
 pub fn expect(rt: &impl Abort, question: &str, answer: &str, expected: &str) {
-    assert_eq!(rt; answer, expected, "{question:?}");
+    assert_eq!(rt; answer, expected, "{question}");
 }
 
-/// Asserts whether a text is read, or its fault.
+/// Asserts whether bytes are read, or their fault.
 pub fn expect_told(
     rt: &impl Abort,
     alloc: Global,
-    text: &str,
+    question: &str,
+    bytes: &[u8],
     expected: &str,
 ) -> Result<(), AllocError> {
-    let answer = told(alloc, text.as_bytes())?;
-    expect(rt, text, &answer, expected);
+    let answer = told(alloc, bytes)?;
+    expect(rt, question, &answer, expected);
     Ok(())
 }
 
@@ -62,17 +63,4 @@ pub fn expect_in_full(
     let answer = told_in_full(alloc, text.as_bytes())?;
     expect(rt, "the document", &answer, expected);
     Ok(())
-}
-
-/// A text, and behind it lines that each end by CRLF.
-pub fn with_carriage_returns(
-    alloc: Global,
-    front: &str,
-    lines: &str,
-) -> Result<String, AllocError> {
-    let mut text = String::from_str(alloc, front)?;
-    for line in lines.lines() {
-        write!(text, "{line}\r\n")?;
-    }
-    Ok(text)
 }
