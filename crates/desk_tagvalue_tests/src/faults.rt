@@ -1,7 +1,9 @@
 //! Faults of a document, several at once too, with the answers that the stated order gives.
 
-use crate::support::told;
-use std::test::Fail;
+use crate::documents::SMALL;
+use crate::support::expect_told;
+use std::alloc::{AllocError, Global};
+use std::process::Abort;
 
 // The head of a document, whose fifth line is its last.
 const HEAD: &str = "SPDXVersion: SPDX-2.3\nSPDXID: SPDXRef-DOCUMENT\nDocumentName: d\n\
@@ -195,48 +197,57 @@ SPDXID: SPDXRef-p
 PackageName:
 SPDXID: SPDXRef-q";
 
-#[test]
-fn tells_faults_in_their_order(rt: HostRuntime) -> Result<(), Fail> {
-    let alloc = rt.alloc();
-    let mut cases = 0u32;
-    for case in CASES.split("\n---\n") {
-        let (want, lines) = case.split_once('\n').ok_or("a case without lines")?;
-        let text = format!(in alloc; "{HEAD}{lines}\n")?;
-        let answer = told(alloc, text.as_bytes())?;
-        assert_eq!(rt; answer.as_str(), want, "{lines:?}");
-        cases = cases.saturating_add(1);
-    }
-    assert_eq!(rt; cases, 43);
-    Ok(())
+// Asserts the answer to a text with the lines of a case behind it.
+fn expect_behind(
+    rt: &impl Abort,
+    alloc: Global,
+    front: &str,
+    case: &str,
+) -> Result<(), AllocError> {
+    let (expected, lines) = case.split_once('\n').unwrap_or((case, ""));
+    let text = format!(in alloc; "{front}{lines}\n")?;
+    expect_told(rt, alloc, lines, text.as_bytes(), expected)
 }
 
 #[test]
-fn tells_faults_of_the_head(rt: HostRuntime) -> Result<(), Fail> {
-    let alloc = rt.alloc();
-    let cases = [
-        ("", "6 1 SPDXVersion"),
-        ("SPDXVersion: SPDX-2.3\nSPDXID", "2 2 -"),
-        ("SPDXVersion: SPDX-2.0\n", "5 1 -"),
-        ("\u{feff}SPDXVersion: SPDX-2.1\r\n", "6 1 SPDXID"),
-        (
-            "SPDXVersion: SPDX-2.2\nSPDXID: SPDXRef-DOCUMENT\n",
-            "6 1 DocumentName",
-        ),
-        (
-            "PackageName: p\nSPDXID: SPDXRef-DOCUMENT\nSPDXVersion: SPDX-2.3\n",
-            "6 1 SPDXID",
-        ),
-        ("SPDXID: SPDXRef-x\n", "7 1 -"),
-        (
-            "SPDXVersion: SPDX-2.3\nSPDXID: SPDXRef-DOCUMENT\nDocumentName:",
-            "6 1 DocumentNamespace",
-        ),
-    ];
-    for (text, want) in cases {
-        let answer = told(alloc, text.as_bytes())?;
-        assert_eq!(rt; answer.as_str(), want, "{text:?}");
+fn tells_faults_in_their_order(rt: HostRuntime) -> Result<(), AllocError> {
+    assert!(rt; CASES.split("\n---\n").count() == 43);
+    for case in CASES.split("\n---\n") {
+        expect_behind(&rt, rt.alloc(), HEAD, case)?;
     }
-    let answer = told(alloc, b"A\n\xff")?;
-    assert_eq!(rt; answer.as_str(), "1 0 -");
     Ok(())
+}
+
+const OF_HEAD: [(&str, &str); 8] = [
+    ("", "6 1 SPDXVersion"),
+    ("SPDXVersion: SPDX-2.3\nSPDXID", "2 2 -"),
+    ("SPDXVersion: SPDX-2.0\n", "5 1 -"),
+    ("\u{feff}SPDXVersion: SPDX-2.1\r\n", "6 1 SPDXID"),
+    (
+        "SPDXVersion: SPDX-2.2\nSPDXID: SPDXRef-DOCUMENT\n",
+        "6 1 DocumentName",
+    ),
+    (
+        "PackageName: p\nSPDXID: SPDXRef-DOCUMENT\nSPDXVersion: SPDX-2.3\n",
+        "6 1 SPDXID",
+    ),
+    ("SPDXID: SPDXRef-x\n", "7 1 -"),
+    (
+        "SPDXVersion: SPDX-2.3\nSPDXID: SPDXRef-DOCUMENT\nDocumentName:",
+        "6 1 DocumentNamespace",
+    ),
+];
+
+#[test]
+fn tells_faults_of_the_head(rt: HostRuntime) -> Result<(), AllocError> {
+    for (text, expected) in &OF_HEAD {
+        expect_told(&rt, rt.alloc(), text, text.as_bytes(), expected)?;
+    }
+    expect_told(&rt, rt.alloc(), "no UTF-8", b"A\n\xff", "1 0 -")
+}
+
+#[test]
+fn tells_a_repetition(rt: HostRuntime) -> Result<(), AllocError> {
+    let case = "9 15 DocumentName\nDocumentName: e";
+    expect_behind(&rt, rt.alloc(), SMALL, case)
 }

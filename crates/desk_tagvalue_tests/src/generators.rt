@@ -1,13 +1,8 @@
 //! Documents in the forms that generators give, written by hand after SPDX 2.3 (2.2), clauses 6 to 12. They stand, to be
 //! read with other tools, in `tests/documents/scanner.spdx` and `tests/documents/build.spdx`.
 
-use desk_tagvalue::{Document, FileEntry, Package, Tag, read};
-use std::alloc::{AllocError, Global};
-use std::process::Abort;
-use std::test::Fail;
-
-// As a scanner of container images writes it.
-const SCANNER: &str = "SPDXVersion: SPDX-2.3
+/// As a scanner of container images writes it.
+pub const SCANNER: &str = "SPDXVersion: SPDX-2.3
 DataLicense: CC0-1.0
 SPDXID: SPDXRef-DOCUMENT
 DocumentName: registry.example.org/lantern
@@ -123,8 +118,91 @@ RelationshipComment: configuration read at start
 
 ";
 
-// As a maker of builds writes it, whose lines end by CRLF.
-const BUILD: &str = "SPDXVersion: SPDX-2.2
+/// What is read of it.
+pub const SCANNER_IN_FULL: &str =
+    "document [registry.example.org/lantern] [https://example.org/sbom/image/registry.example.org/lantern-0d9b6c1e-52a7-4f43-8a53-6d5f0a1b7c22]
+78 fields, 3 packages, 5 relationships
+1 licences in files
+package 28
+  name [musl]
+  id [SPDXRef-Package-apk-musl-9c1f0e6a52d87b34]
+  version [1.2.5-r8]
+  location [https://example.org/aports/main/musl]
+  analyzed [false]
+  code -
+  concluded [NOASSERTION]
+  declared [MIT]
+  copyright [NOASSERTION]
+package 46
+  name [github.com/example/lanternd]
+  id [SPDXRef-Package-go-module-lanternd-41d8cd98f00b204e]
+  version [v0.9.2]
+  location [NOASSERTION]
+  analyzed [true]
+  code [2865765152809a426f118f48c468c5f459425211]
+  concluded [NOASSERTION]
+  declared [LicenseRef-Lantern-Terms]
+  copyright [NOASSERTION]
+package 73
+  name [@lantern/wick]
+  id [SPDXRef-Package-npm--lantern-wick-e38ad214943daad1]
+  version [2.0.0-beta.4+build.7]
+  location [https://registry.example.org/@lantern/wick/-/wick-2.0.0-beta.4.tgz]
+  analyzed [false]
+  code -
+  concluded [NOASSERTION]
+  declared [(Apache-2.0 OR LicenseRef-Lantern-Terms) AND LicenseRef-wick-notice]
+  copyright [Copyright (c) 2021-2024 Lantern
+Copyright (c) 2020 B. Burner: all rights reserved]
+file 15
+  name [etc/lantern/lantern.conf]
+  id [SPDXRef-File-etc-lantern.conf-3f2a9d1c7be60f84]
+  sha1 [f572d396fae9206628714fb2ce00f72e94f2258f]
+  concluded [NOASSERTION]
+  copyright [NOASSERTION]
+file 60
+  name [usr/bin/lanternd]
+  id [SPDXRef-File-usr-bin-lanternd-8b1a9953c4611296]
+  sha1 [0beec7b5ea3f0fdbc95d0dd47f3c5bc275da8a33]
+  concluded [NOASSERTION]
+  copyright []
+extracted 88
+  id [LicenseRef-Lantern-Terms]
+  text [Lantern Terms, version 2
+
+1. Use: you may run the software.
+2. Tags such as \"PackageName: x\" in a text are no fields,
+   and # is no comment here.
+
+]
+extracted 99
+  id [LicenseRef-wick-notice]
+  text [Keep this notice
+with the wick.]
+relationship 108
+  left [SPDXRef-DOCUMENT]
+  kind [DESCRIBES]
+  right [SPDXRef-Package-go-module-lanternd-41d8cd98f00b204e]
+relationship 109
+  left [SPDXRef-Package-go-module-lanternd-41d8cd98f00b204e]
+  kind [CONTAINS]
+  right [SPDXRef-File-usr-bin-lanternd-8b1a9953c4611296]
+relationship 110
+  left [SPDXRef-Package-go-module-lanternd-41d8cd98f00b204e]
+  kind [DEPENDS_ON]
+  right [SPDXRef-Package-apk-musl-9c1f0e6a52d87b34]
+relationship 111
+  left [SPDXRef-Package-go-module-lanternd-41d8cd98f00b204e]
+  kind [DEPENDS_ON]
+  right [SPDXRef-Package-npm--lantern-wick-e38ad214943daad1]
+relationship 112
+  left [SPDXRef-File-etc-lantern.conf-3f2a9d1c7be60f84]
+  kind [OTHER]
+  right [SPDXRef-Package-go-module-lanternd-41d8cd98f00b204e]
+";
+
+/// As a maker of builds writes it, whose lines end by CRLF.
+pub const BUILD: &str = "SPDXVersion: SPDX-2.2
 DataLicense: CC0-1.0
 SPDXID: SPDXRef-DOCUMENT
 DocumentName: pump.spdx
@@ -194,266 +272,70 @@ Relationship: SPDXRef-pump.elf STATIC_LINK DocumentRef-sdk:SPDXRef-libdriver
 Relationship: SPDXRef-pump-sources CONTAINS SPDXRef-File-queue.c
 ";
 
-// The text with each line ended by CRLF.
-fn with_carriage_returns(alloc: Global, lines: &str) -> Result<String, AllocError> {
-    let mut text = String::new(alloc);
-    for line in lines.lines() {
-        text.push_str(line)?;
-        text.push_str("\r\n")?;
-    }
-    Ok(text)
-}
-
-fn expect_package(rt: &impl Abort, package: &Package, want: &Package) {
-    assert_eq!(rt; package.line, want.line);
-    assert_eq!(rt; package.name, want.name);
-    assert_eq!(rt; package.id, want.id);
-    assert_eq!(rt; package.version, want.version, "{}", want.name);
-    assert_eq!(rt;
-        package.download_location,
-        want.download_location,
-        "{}",
-        want.name
-    );
-    assert_eq!(rt;
-        package.files_analyzed,
-        want.files_analyzed,
-        "{}",
-        want.name
-    );
-    assert_eq!(rt;
-        package.verification_code,
-        want.verification_code,
-        "{}",
-        want.name
-    );
-    assert_eq!(rt; package.concluded, want.concluded, "{}", want.name);
-    assert_eq!(rt; package.declared, want.declared, "{}", want.name);
-    assert_eq!(rt; package.copyright, want.copyright, "{}", want.name);
-}
-
-fn expect_packages(rt: &impl Abort, document: &Document, want: &[Package]) {
-    let packages = document.packages.as_slice();
-    assert_eq!(rt; packages.len(), want.len());
-    for (package, want) in packages.iter().zip(want) {
-        expect_package(rt, package, want);
-    }
-}
-
-fn expect_files(rt: &impl Abort, document: &Document, want: &[FileEntry]) {
-    let files = document.files.as_slice();
-    assert_eq!(rt; files.len(), want.len());
-    for (file, want) in files.iter().zip(want) {
-        assert_eq!(rt; file.line, want.line);
-        assert_eq!(rt; file.name, want.name);
-        assert_eq!(rt; file.id, want.id);
-        assert_eq!(rt; file.sha1, want.sha1, "{}", want.name);
-        assert_eq!(rt; file.concluded, want.concluded, "{}", want.name);
-        assert_eq!(rt; file.copyright, want.copyright, "{}", want.name);
-    }
-}
-
-// Each relationship is its line and its three words.
-fn expect_edges(rt: &impl Abort, document: &Document, want: &[(u64, &str, &str, &str)]) {
-    let edges = document.edges.as_slice();
-    assert_eq!(rt; edges.len(), want.len());
-    for (edge, (line, left, kind, right)) in edges.iter().zip(want) {
-        assert_eq!(rt; edge.line, *line);
-        assert_eq!(rt; edge.left, *left, "line {line}");
-        assert_eq!(rt; edge.kind, *kind, "line {line}");
-        assert_eq!(rt; edge.right, *right, "line {line}");
-    }
-}
-
-fn expect_extracted(rt: &impl Abort, document: &Document, want: &[(u64, &str, &str)]) {
-    let extracted = document.extracted.as_slice();
-    assert_eq!(rt; extracted.len(), want.len());
-    for (licence, (line, id, text)) in extracted.iter().zip(want) {
-        assert_eq!(rt; licence.line, *line);
-        assert_eq!(rt; licence.id, *id);
-        assert_eq!(rt; licence.text, Some(*text), "{id}");
-    }
-}
-
-const MUSL: Package = Package {
-    line: 28,
-    name: "musl",
-    id: "SPDXRef-Package-apk-musl-9c1f0e6a52d87b34",
-    version: Some("1.2.5-r8"),
-    download_location: Some("https://example.org/aports/main/musl"),
-    files_analyzed: Some("false"),
-    verification_code: None,
-    concluded: Some("NOASSERTION"),
-    declared: Some("MIT"),
-    copyright: Some("NOASSERTION"),
-};
-
-const LANTERND: Package = Package {
-    line: 46,
-    name: "github.com/example/lanternd",
-    id: "SPDXRef-Package-go-module-lanternd-41d8cd98f00b204e",
-    version: Some("v0.9.2"),
-    download_location: Some("NOASSERTION"),
-    files_analyzed: Some("true"),
-    verification_code: Some("2865765152809a426f118f48c468c5f459425211"),
-    concluded: Some("NOASSERTION"),
-    declared: Some("LicenseRef-Lantern-Terms"),
-    copyright: Some("NOASSERTION"),
-};
-
-const WICK: Package = Package {
-    line: 73,
-    name: "@lantern/wick",
-    id: "SPDXRef-Package-npm--lantern-wick-e38ad214943daad1",
-    version: Some("2.0.0-beta.4+build.7"),
-    download_location: Some("https://registry.example.org/@lantern/wick/-/wick-2.0.0-beta.4.tgz"),
-    files_analyzed: Some("false"),
-    verification_code: None,
-    concluded: Some("NOASSERTION"),
-    declared: Some("(Apache-2.0 OR LicenseRef-Lantern-Terms) AND LicenseRef-wick-notice"),
-    copyright: Some(
-        "Copyright (c) 2021-2024 Lantern\nCopyright (c) 2020 B. Burner: all rights reserved",
-    ),
-};
-
-const CONFIGURATION: FileEntry = FileEntry {
-    line: 15,
-    name: "etc/lantern/lantern.conf",
-    id: "SPDXRef-File-etc-lantern.conf-3f2a9d1c7be60f84",
-    sha1: Some("f572d396fae9206628714fb2ce00f72e94f2258f"),
-    concluded: Some("NOASSERTION"),
-    copyright: Some("NOASSERTION"),
-};
-
-const DAEMON: FileEntry = FileEntry {
-    line: 60,
-    name: "usr/bin/lanternd",
-    id: "SPDXRef-File-usr-bin-lanternd-8b1a9953c4611296",
-    sha1: Some("0beec7b5ea3f0fdbc95d0dd47f3c5bc275da8a33"),
-    concluded: Some("NOASSERTION"),
-    copyright: Some(""),
-};
-
-const TERMS: &str = "Lantern Terms, version 2
-
-1. Use: you may run the software.
-2. Tags such as \"PackageName: x\" in a text are no fields,
-   and # is no comment here.
-
+/// What is read of it.
+pub const BUILD_IN_FULL: &str = "document [pump.spdx] [http://spdx.org/spdxdocs/pump-4c2e-8a1b2c3d]
+62 fields, 2 packages, 5 relationships
+5 licences in files
+package 14
+  name [pump-sources]
+  id [SPDXRef-pump-sources]
+  version [4c2e]
+  location [NOASSERTION]
+  analyzed [true]
+  code [903fca4791a29537d8b4767b571c0267168b94f4]
+  concluded [NOASSERTION]
+  declared [NOASSERTION]
+  copyright [NOASSERTION]
+package 56
+  name [pump.elf]
+  id [SPDXRef-pump.elf]
+  version -
+  location [NONE]
+  analyzed [false]
+  code -
+  concluded [Apache-2.0 AND BSD-3-Clause]
+  declared [NOASSERTION]
+  copyright [NOASSERTION]
+file 25
+  name [./src/main.c]
+  id [SPDXRef-File-main.c]
+  sha1 [4e1243bd22c66e76c2ba9eddc1f91394e57f9f83]
+  concluded [Apache-2.0]
+  copyright [Copyright (c) 2019 Waterworks Ltd\r
+Copyright (c) 2021 C. Valve]
+file 34
+  name [./src/queue.c]
+  id [SPDXRef-File-queue.c]
+  sha1 [6d96270004515a0486bb7f76196a72b40c55a47f]
+  concluded [Apache-2.0 AND BSD-3-Clause]
+  copyright [\r
+Copyright (c) 2010 The Queue Authors\r
+  and others\r
+]
+file 46
+  name [./include/version.h]
+  id [SPDXRef-File-version.h]
+  sha1 [da39a3ee5e6b4b0d3255bfef95601890afd80709]
+  concluded [NOASSERTION]
+  copyright [NONE]
+relationship 13
+  left [SPDXRef-DOCUMENT]
+  kind [DESCRIBES]
+  right [SPDXRef-pump-sources]
+relationship 53
+  left [SPDXRef-File-version.h]
+  kind [GENERATED_FROM]
+  right [SPDXRef-File-main.c]
+relationship 65
+  left [SPDXRef-pump.elf]
+  kind [GENERATED_FROM]
+  right [SPDXRef-pump-sources]
+relationship 67
+  left [SPDXRef-pump.elf]
+  kind [STATIC_LINK]
+  right [DocumentRef-sdk:SPDXRef-libdriver]
+relationship 68
+  left [SPDXRef-pump-sources]
+  kind [CONTAINS]
+  right [SPDXRef-File-queue.c]
 ";
-
-#[test]
-fn reads_a_scanner_of_container_images(rt: HostRuntime) -> Result<(), Fail> {
-    let document = read(rt.alloc(), SCANNER.as_bytes())?;
-    assert_eq!(rt; document.name, "registry.example.org/lantern");
-    let namespace =
-        "https://example.org/sbom/image/registry.example.org/lantern-0d9b6c1e-52a7-4f43-8a53-6d5f0a1b7c22";
-    assert_eq!(rt; document.namespace, namespace);
-    expect_packages(&rt, &document, &[MUSL, LANTERND, WICK]);
-    expect_files(&rt, &document, &[CONFIGURATION, DAEMON]);
-    let edges = [
-        (108, "SPDXRef-DOCUMENT", "DESCRIBES", LANTERND.id),
-        (109, LANTERND.id, "CONTAINS", DAEMON.id),
-        (110, LANTERND.id, "DEPENDS_ON", MUSL.id),
-        (111, LANTERND.id, "DEPENDS_ON", WICK.id),
-        (112, CONFIGURATION.id, "OTHER", LANTERND.id),
-    ];
-    expect_edges(&rt, &document, &edges);
-    let extracted = [
-        (88, "LicenseRef-Lantern-Terms", TERMS),
-        (
-            99,
-            "LicenseRef-wick-notice",
-            "Keep this notice\nwith the wick.",
-        ),
-    ];
-    expect_extracted(&rt, &document, &extracted);
-    assert_eq!(rt; document.snippets.as_slice().len(), 0);
-    Ok(())
-}
-
-const SOURCES: Package = Package {
-    line: 14,
-    name: "pump-sources",
-    id: "SPDXRef-pump-sources",
-    version: Some("4c2e"),
-    download_location: Some("NOASSERTION"),
-    files_analyzed: Some("true"),
-    verification_code: Some("903fca4791a29537d8b4767b571c0267168b94f4"),
-    concluded: Some("NOASSERTION"),
-    declared: Some("NOASSERTION"),
-    copyright: Some("NOASSERTION"),
-};
-
-const PROGRAM: Package = Package {
-    line: 56,
-    name: "pump.elf",
-    id: "SPDXRef-pump.elf",
-    version: None,
-    download_location: Some("NONE"),
-    files_analyzed: Some("false"),
-    verification_code: None,
-    concluded: Some("Apache-2.0 AND BSD-3-Clause"),
-    declared: Some("NOASSERTION"),
-    copyright: Some("NOASSERTION"),
-};
-
-const MAIN: FileEntry = FileEntry {
-    line: 25,
-    name: "./src/main.c",
-    id: "SPDXRef-File-main.c",
-    sha1: Some("4e1243bd22c66e76c2ba9eddc1f91394e57f9f83"),
-    concluded: Some("Apache-2.0"),
-    copyright: Some("Copyright (c) 2019 Waterworks Ltd\r\nCopyright (c) 2021 C. Valve"),
-};
-
-const QUEUE: FileEntry = FileEntry {
-    line: 34,
-    name: "./src/queue.c",
-    id: "SPDXRef-File-queue.c",
-    sha1: Some("6d96270004515a0486bb7f76196a72b40c55a47f"),
-    concluded: Some("Apache-2.0 AND BSD-3-Clause"),
-    copyright: Some("\r\nCopyright (c) 2010 The Queue Authors\r\n  and others\r\n"),
-};
-
-const VERSION: FileEntry = FileEntry {
-    line: 46,
-    name: "./include/version.h",
-    id: "SPDXRef-File-version.h",
-    sha1: Some("da39a3ee5e6b4b0d3255bfef95601890afd80709"),
-    concluded: Some("NOASSERTION"),
-    copyright: Some("NONE"),
-};
-
-#[test]
-fn reads_a_maker_of_builds(rt: HostRuntime) -> Result<(), Fail> {
-    let text = with_carriage_returns(rt.alloc(), BUILD)?;
-    let document = read(rt.alloc(), text.as_bytes())?;
-    assert_eq!(rt; document.name, "pump.spdx");
-    assert_eq!(rt;
-        document.namespace,
-        "http://spdx.org/spdxdocs/pump-4c2e-8a1b2c3d"
-    );
-    expect_packages(&rt, &document, &[SOURCES, PROGRAM]);
-    expect_files(&rt, &document, &[MAIN, QUEUE, VERSION]);
-    let edges = [
-        (13, "SPDXRef-DOCUMENT", "DESCRIBES", SOURCES.id),
-        (53, VERSION.id, "GENERATED_FROM", MAIN.id),
-        (65, PROGRAM.id, "GENERATED_FROM", SOURCES.id),
-        (
-            67,
-            PROGRAM.id,
-            "STATIC_LINK",
-            "DocumentRef-sdk:SPDXRef-libdriver",
-        ),
-        (68, SOURCES.id, "CONTAINS", QUEUE.id),
-    ];
-    expect_edges(&rt, &document, &edges);
-    expect_extracted(&rt, &document, &[]);
-    let tags = document.entries.as_slice().iter();
-    assert_eq!(rt;
-        tags.filter(|entry| entry.tag == Tag::FileLicense).count(),
-        5
-    );
-    Ok(())
-}

@@ -1,27 +1,10 @@
 //! Bytes that nobody wrote on purpose, and bytes that somebody did.
 
-use crate::support::told;
-use desk_tagvalue::read;
+use crate::documents::SMALL;
+use crate::support::{expect, expect_told, told, told_in_full};
 use std::alloc::{AllocError, Global};
 use std::collections::BTreeMap;
 use std::process::Abort;
-use std::test::Fail;
-
-const SMALL: &str = "SPDXVersion: SPDX-2.3
-DataLicense: CC0-1.0
-SPDXID: SPDXRef-DOCUMENT
-DocumentName: d1
-DocumentNamespace: https://example.org/d1
-Creator: Tool: x-1
-Created: 2025-01-01T00:00:00Z
-PackageName: p
-SPDXID: SPDXRef-p
-PackageVersion: 1.0
-PackageDownloadLocation: NOASSERTION
-FilesAnalyzed: false
-PackageLicenseConcluded: MIT
-PackageCopyrightText: Copyright P
-";
 
 // What `oracle.py prefixes small.spdx` prints.
 const OF_PREFIXES: &str = "11 2 1 -
@@ -81,7 +64,13 @@ const OF_CHANGES: &str = "44800 1 0 -
 29342 document
 ";
 
-fn count(counts: &mut BTreeMap<String, u64>, answer: String) -> Result<(), AllocError> {
+// Counts the answer to the bytes.
+fn count(
+    alloc: Global,
+    counts: &mut BTreeMap<String, u64>,
+    bytes: &[u8],
+) -> Result<(), AllocError> {
+    let answer = told(alloc, bytes)?;
     let n = counts.entry(answer)?.or_insert(0);
     *n = n.saturating_add(1);
     Ok(())
@@ -90,81 +79,102 @@ fn count(counts: &mut BTreeMap<String, u64>, answer: String) -> Result<(), Alloc
 fn listed(alloc: Global, counts: &BTreeMap<String, u64>) -> Result<String, AllocError> {
     let mut text = String::new(alloc);
     for (answer, n) in counts {
-        let line = format!(in alloc; "{n} {answer}\n")?;
-        text.push_str(&line)?;
+        write!(text, "{n} {answer}\n")?;
     }
     Ok(text)
 }
 
+// Asserts how often each answer came.
+fn expect_counts(
+    rt: &impl Abort,
+    alloc: Global,
+    counts: &BTreeMap<String, u64>,
+    expected: &str,
+) -> Result<(), AllocError> {
+    let text = listed(alloc, counts)?;
+    expect(rt, "how often", &text, expected);
+    Ok(())
+}
+
 #[test]
-fn answers_each_prefix(rt: HostRuntime) -> Result<(), Fail> {
+fn answers_each_prefix(rt: HostRuntime) -> Result<(), AllocError> {
     let bytes = SMALL.as_bytes();
     let mut counts = BTreeMap::new(rt.alloc());
-    for n in 0..bytes.len() {
-        count(&mut counts, told(rt.alloc(), &bytes[..n])?)?;
+    for n in 0..=bytes.len() {
+        count(rt.alloc(), &mut counts, &bytes[..n])?;
     }
-    count(&mut counts, told(rt.alloc(), bytes)?)?;
-    let text = listed(rt.alloc(), &counts)?;
-    assert_eq!(rt; text.as_str(), OF_PREFIXES);
+    expect_counts(&rt, rt.alloc(), &counts, OF_PREFIXES)
+}
+
+fn set(bytes: &mut [u8], place: usize, byte: u8) {
+    if let Some(at) = bytes.get_mut(place) {
+        *at = byte;
+    }
+}
+
+// Counts the answers where the byte at a place is another one.
+fn count_changes(
+    alloc: Global,
+    counts: &mut BTreeMap<String, u64>,
+    bytes: &mut [u8],
+    place: usize,
+) -> Result<(), AllocError> {
+    let kept = bytes.get(place).copied().unwrap_or(0);
+    for byte in 0..=255 {
+        if byte != kept {
+            set(bytes, place, byte);
+            count(alloc, counts, bytes)?;
+        }
+    }
+    set(bytes, place, kept);
     Ok(())
 }
 
 #[test]
-fn answers_each_changed_byte(rt: HostRuntime) -> Result<(), Fail> {
+fn answers_each_changed_byte(rt: HostRuntime) -> Result<(), AllocError> {
     let mut bytes = Vec::from_slice(rt.alloc(), SMALL.as_bytes())?;
     let mut counts = BTreeMap::new(rt.alloc());
-    for i in 0..SMALL.len() {
-        assert!(rt; i < bytes.len());
-        let kept = bytes[i];
-        for byte in 0..=255 {
-            if byte != kept {
-                assert!(rt; i < bytes.len());
-                bytes[i] = byte;
-                count(&mut counts, told(rt.alloc(), &bytes)?)?;
-            }
-        }
-        assert!(rt; i < bytes.len());
-        bytes[i] = kept;
+    for place in 0..SMALL.len() {
+        count_changes(rt.alloc(), &mut counts, &mut bytes, place)?;
     }
-    let text = listed(rt.alloc(), &counts)?;
-    assert_eq!(rt; text.as_str(), OF_CHANGES);
-    Ok(())
+    expect_counts(&rt, rt.alloc(), &counts, OF_CHANGES)
 }
 
-// The text, some number of times.
-fn repeated(alloc: Global, text: &str, times: usize) -> Result<String, AllocError> {
-    let mut all = String::new(alloc);
-    for _ in 0..times {
-        all.push_str(text)?;
-    }
-    Ok(all)
-}
+// A text, one that stands so many times behind it and one behind that, and the answer.
+const LARGE: [((&str, &str, usize, &str), &str); 7] = [
+    (("", "\n", 4_194_304, ""), "6 1 SPDXVersion"),
+    (("", "\n", 4_194_305, ""), "11 0 -"),
+    (("", "x", 4_194_304, ""), "2 1 -"),
+    (("", ":", 4_194_304, ""), "2 1 -"),
+    (("A: b\nB: <text>", "<", 4_000_000, ""), "3 2 -"),
+    (("a:", " \t", 2_000_000, "\n\r"), "2 2 -"),
+    (("", "a: \0\n", 100_000, ""), "6 1 SPDXVersion"),
+];
 
-fn expect(rt: &impl Abort, alloc: Global, text: &str, want: &str) -> Result<(), AllocError> {
-    let answer = told(alloc, text.as_bytes())?;
-    assert_eq!(rt; answer.as_str(), want);
-    Ok(())
+fn expect_many(
+    rt: &impl Abort,
+    alloc: Global,
+    (front, each, times, back): (&str, &str, usize, &str),
+    expected: &str,
+) -> Result<(), AllocError> {
+    let many = each.repeat(alloc, times)?;
+    let text = [front, many.as_str(), back].concat(alloc)?;
+    expect_told(rt, alloc, each, text.as_bytes(), expected)
 }
 
 #[test]
-fn answers_large_texts(rt: HostRuntime) -> Result<(), Fail> {
-    let alloc = rt.alloc();
-    let blank = repeated(alloc, "\n", 4_194_304)?;
-    expect(&rt, alloc, &blank, "6 1 SPDXVersion")?;
-    let more = repeated(alloc, "\n", 4_194_305)?;
-    expect(&rt, alloc, &more, "11 0 -")?;
-    let line = repeated(alloc, "x", 4_194_304)?;
-    expect(&rt, alloc, &line, "2 1 -")?;
-    let colons = repeated(alloc, ":", 4_194_304)?;
-    expect(&rt, alloc, &colons, "2 1 -")?;
-    let text = repeated(alloc, "<", 4_000_000)?;
-    let open_text = format!(in alloc; "A: b\nB: <text>{text}")?;
-    expect(&rt, alloc, &open_text, "3 2 -")?;
-    let blanks = repeated(alloc, " \t", 2_000_000)?;
-    let fields = format!(in alloc; "a:{blanks}\n\r")?;
-    expect(&rt, alloc, &fields, "2 2 -")?;
-    let zeros = repeated(alloc, "a: \0\n", 100_000)?;
-    expect(&rt, alloc, &zeros, "6 1 SPDXVersion")?;
+fn answers_large_texts(rt: HostRuntime) -> Result<(), AllocError> {
+    for (text, expected) in &LARGE {
+        expect_many(&rt, rt.alloc(), *text, expected)?;
+    }
+    Ok(())
+}
+
+fn put_package(text: &mut String, k: u32, edges: u32) -> Result<(), AllocError> {
+    write!(text, "PackageName: p\nSPDXID: SPDXRef-{k}\n")?;
+    for _ in 0..edges {
+        write!(text, "Relationship: SPDXRef-{k} CONTAINS SPDXRef-0\n")?;
+    }
     Ok(())
 }
 
@@ -175,39 +185,27 @@ fn packages(alloc: Global, elements: u32, edges: u32) -> Result<String, AllocErr
         "SPDXVersion: SPDX-2.3\nSPDXID: SPDXRef-DOCUMENT\nDocumentName: d\nDocumentNamespace: n\n",
     )?;
     for k in 0..elements {
-        let package = format!(in alloc; "PackageName: p\nSPDXID: SPDXRef-{k}\n")?;
-        text.push_str(&package)?;
-        for _ in 0..edges {
-            let edge = format!(in alloc; "Relationship: SPDXRef-{k} CONTAINS SPDXRef-0\n")?;
-            text.push_str(&edge)?;
-        }
+        put_package(&mut text, k, edges)?;
     }
     Ok(text)
 }
 
-#[test]
-fn counts_elements(rt: HostRuntime) -> Result<(), Fail> {
-    let alloc = rt.alloc();
-    let most = packages(alloc, 10_000, 4)?;
-    let document = read(alloc, most.as_bytes())?;
-    assert_eq!(rt; document.packages.as_slice().len(), 10_000);
-    assert_eq!(rt; document.edges.as_slice().len(), 40_000);
-    let more = packages(alloc, 10_001, 0)?;
-    expect(&rt, alloc, &more, "12 20005 -")?;
+// Asserts the front of what is read of a document of some packages, with as many relationships each.
+fn expect_packages(
+    rt: &impl Abort,
+    alloc: Global,
+    (elements, edges): (u32, u32),
+    expected: &str,
+) -> Result<(), AllocError> {
+    let text = packages(alloc, elements, edges)?;
+    let answer = told_in_full(alloc, text.as_bytes())?;
+    assert!(rt; answer.starts_with(expected), "{expected}");
     Ok(())
 }
 
 #[test]
-fn reads_marks_and_carriage_returns(rt: HostRuntime) -> Result<(), Fail> {
-    let alloc = rt.alloc();
-    let mut text = String::from_str(alloc, "\u{feff}")?;
-    for line in SMALL.lines() {
-        text.push_str(line)?;
-        text.push_str("\r\n")?;
-    }
-    let document = read(alloc, text.as_bytes())?;
-    assert_eq!(rt; document.namespace, "https://example.org/d1");
-    assert_eq!(rt; document.packages.as_slice().len(), 1);
-    assert_eq!(rt; document.entries.as_slice().len(), 14);
-    Ok(())
+fn counts_elements(rt: HostRuntime) -> Result<(), AllocError> {
+    let most = "document [d] [n]\n60004 fields, 10000 packages, 40000 relationships\n";
+    expect_packages(&rt, rt.alloc(), (10_000, 4), most)?;
+    expect_packages(&rt, rt.alloc(), (10_001, 0), "12 20005 -")
 }

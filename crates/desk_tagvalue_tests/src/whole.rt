@@ -1,11 +1,8 @@
 //! A document written by hand after the clauses of SPDX 2.3, with each tag of each section. Its lines stand, to be read
 //! with other tools, in `tests/documents/whole.spdx`.
 
-use desk_tagvalue::{Document, read};
-use std::process::Abort;
-use std::test::Fail;
-
-const WHOLE: &str = "# A document with each tag of clauses 6 to 13.
+/// The document.
+pub const WHOLE: &str = "# A document with each tag of clauses 6 to 13.
 SPDXVersion: SPDX-2.3
 DataLicense: CC0-1.0
 SPDXID: SPDXRef-DOCUMENT
@@ -125,77 +122,65 @@ ReviewDate: 2025-02-05T00:00:00Z
 ReviewComment: <text>ok</text>
 ";
 
-fn expect_packages(rt: &impl Abort, document: &Document) {
-    let packages = document.packages.as_slice();
-    assert_eq!(rt; packages.len(), 2);
-    let kettle = packages[0];
-    assert_eq!(rt; kettle.line, 30);
-    assert_eq!(rt; kettle.name, "kettle");
-    assert_eq!(rt; kettle.id, "SPDXRef-kettle");
-    assert_eq!(rt; kettle.version, Some("2.1"));
-    let location = "git+https://example.org/kettle.git@v2.1#src";
-    assert_eq!(rt; kettle.download_location, Some(location));
-    assert_eq!(rt; kettle.files_analyzed, Some("true"));
-    let code = "d6a770ba38583ed4bb4525bd96e50461655d2758 (excludes: ./kettle.spdx)";
-    assert_eq!(rt; kettle.verification_code, Some(code));
-    assert_eq!(rt;
-        kettle.concluded,
-        Some("(MIT OR Apache-2.0) AND LicenseRef-steam")
-    );
-    assert_eq!(rt; kettle.declared, Some("MIT"));
-    let copyright = "Copyright 2019 Kettle Works\nCopyright 2020 B. Boiler\n";
-    assert_eq!(rt; kettle.copyright, Some(copyright));
-    let valve = packages[1];
-    assert_eq!(rt; valve.line, 94);
-    assert_eq!(rt; valve.id, "SPDXRef-valve");
-    assert_eq!(rt; valve.version, None);
-    assert_eq!(rt; valve.declared, Some("NONE"));
-}
+/// What is read of it.
+pub const WHOLE_IN_FULL: &str = "document [kettle-2.1] [https://example.org/spdx/kettle-2.1-6b1f]
+97 fields, 2 packages, 4 relationships
+2 licences in files
+package 30
+  name [kettle]
+  id [SPDXRef-kettle]
+  version [2.1]
+  location [git+https://example.org/kettle.git@v2.1#src]
+  analyzed [true]
+  code [d6a770ba38583ed4bb4525bd96e50461655d2758 (excludes: ./kettle.spdx)]
+  concluded [(MIT OR Apache-2.0) AND LicenseRef-steam]
+  declared [MIT]
+  copyright [Copyright 2019 Kettle Works
+Copyright 2020 B. Boiler
+]
+package 94
+  name [valve]
+  id [SPDXRef-valve]
+  version -
+  location [NONE]
+  analyzed [false]
+  code -
+  concluded [NOASSERTION]
+  declared [NONE]
+  copyright [NOASSERTION]
+file 63
+  name [./src/boil.c]
+  id [SPDXRef-boil]
+  sha1 [D6A770ba38583ed4bb4525bd96e50461655d2758]
+  concluded [MIT]
+  copyright [Copyright 2019 Kettle Works]
+snippet 82
+  id [SPDXRef-spout]
+extracted 103
+  id [LicenseRef-steam]
+  text [Permission is granted to
+\tlet off steam:
 
-fn expect_file(rt: &impl Abort, document: &Document) {
-    let files = document.files.as_slice();
-    assert_eq!(rt; files.len(), 1);
-    let boil = files[0];
-    assert_eq!(rt; boil.line, 63);
-    assert_eq!(rt; boil.name, "./src/boil.c");
-    assert_eq!(rt; boil.id, "SPDXRef-boil");
-    assert_eq!(rt; boil.sha1, Some("D6A770ba38583ed4bb4525bd96e50461655d2758"));
-    assert_eq!(rt; boil.concluded, Some("MIT"));
-    assert_eq!(rt; boil.copyright, Some("Copyright 2019 Kettle Works"));
-    let snippets = document.snippets.as_slice();
-    assert_eq!(rt; snippets.len(), 1);
-    assert_eq!(rt; snippets[0].line, 82);
-    assert_eq!(rt; snippets[0].id, "SPDXRef-spout");
-}
-
-fn expect_rest(rt: &impl Abort, document: &Document) {
-    let extracted = document.extracted.as_slice();
-    assert_eq!(rt; extracted.len(), 2);
-    assert_eq!(rt; extracted[0].line, 103);
-    assert_eq!(rt; extracted[0].id, "LicenseRef-steam");
-    let text = "Permission is granted to\n\tlet off steam:\n\n  1. upwards.\n# not a comment\n";
-    assert_eq!(rt; extracted[0].text, Some(text));
-    assert_eq!(rt; extracted[1].line, 113);
-    assert_eq!(rt; extracted[1].text, Some("one line"));
-    let edges = document.edges.as_slice();
-    assert_eq!(rt; edges.len(), 4);
-    assert_eq!(rt; edges[1].line, 27);
-    assert_eq!(rt; edges[1].left, "SPDXRef-kettle");
-    assert_eq!(rt; edges[1].kind, "DEPENDS_ON");
-    assert_eq!(rt; edges[1].right, "DocumentRef-base.1+x:SPDXRef-libc");
-    assert_eq!(rt; edges[3].right, "SPDXRef-boil");
-}
-
-#[test]
-fn reads_each_tag_of_each_section(rt: HostRuntime) -> Result<(), Fail> {
-    let document = read(rt.alloc(), WHOLE.as_bytes())?;
-    assert_eq!(rt; document.name, "kettle-2.1");
-    assert_eq!(rt;
-        document.namespace,
-        "https://example.org/spdx/kettle-2.1-6b1f"
-    );
-    expect_packages(&rt, &document);
-    expect_file(&rt, &document);
-    expect_rest(&rt, &document);
-    Ok(())
-}
+  1. upwards.
+# not a comment
+]
+extracted 113
+  id [LicenseRef-other]
+  text [one line]
+relationship 25
+  left [SPDXRef-DOCUMENT]
+  kind [DESCRIBES]
+  right [SPDXRef-kettle]
+relationship 27
+  left [SPDXRef-kettle]
+  kind [DEPENDS_ON]
+  right [DocumentRef-base.1+x:SPDXRef-libc]
+relationship 101
+  left [SPDXRef-valve]
+  kind [STATIC_LINK]
+  right [SPDXRef-kettle]
+relationship 115
+  left [SPDXRef-kettle]
+  kind [CONTAINS]
+  right [SPDXRef-boil]
+";
