@@ -2,7 +2,7 @@
 
 use crate::support::follow;
 use desk_catalogue::{has_form, read, rule, spelled};
-use desk_expr::parse_term;
+use desk_expr::{Term, parse_term};
 use desk_rows::{Catalogue, CatalogueFault, CataloguePart};
 use std::alloc::{AllocError, Global};
 use std::test::Fail;
@@ -243,40 +243,58 @@ const FOUR_TERMS: &str = "forms = [\"a\"]\n[[rule]]\nterm = \"X\"\nform = \"a\"\
     [[rule]]\nterm = \"X+ WITH Y\"\nform = \"a\"\nduties = []\n";
 
 /// What a catalogue says of a term and a form: whether it has the form, the spelling of its rule, and the codes.
-fn said(alloc: Global, text: &str, term: &str, form: &str) -> Result<String, Fail> {
-    let Ok(catalogue) = read(alloc, text)? else {
-        return Ok(String::from_str(alloc, "a fault")?);
-    };
-    let term = parse_term(alloc, term)?;
-    let form_is_known = has_form(&catalogue, form);
-    let spelling = spelled(&catalogue, &term, form).unwrap_or("no rule");
-    let mut words = format!(in alloc; "{form_is_known} {spelling}")?;
-    for code in rule(&catalogue, &term, form).unwrap_or_default() {
+fn said(
+    alloc: Global,
+    catalogue: &Catalogue,
+    term: &Term,
+    form: &str,
+) -> Result<String, AllocError> {
+    let known = has_form(catalogue, form);
+    let spelling = spelled(catalogue, term, form).unwrap_or("no rule");
+    let mut words = format!(in alloc; "{known} {spelling}")?;
+    for code in rule(catalogue, term, form).unwrap_or_default() {
         words.push_str(", ")?;
         words.push_str(code.as_str())?;
     }
     Ok(words)
 }
 
-/// Forms compare byte for byte, and terms by their keys.
+fn said_by(alloc: Global, text: &str, term: &str, form: &str) -> Result<String, AllocError> {
+    match (read(alloc, text)?, parse_term(alloc, term)) {
+        (Ok(catalogue), Ok(term)) => said(alloc, &catalogue, &term, form),
+        _ => String::from_str(alloc, "no catalogue or no term"),
+    }
+}
+
+/// Forms compare byte for byte.
 #[test]
 fn finds_what_a_catalogue_says(rt: HostRuntime) -> Result<(), Fail> {
-    for (text, term, form, wanted) in [
-        (SMALL, "Mit", "binary", "true MIT, include-text"),
-        (SMALL, "Mit", "source", "false no rule"),
-        (SMALL, "Mit", "Binary", "false no rule"),
-        (SMALL, "Mit", "", "false no rule"),
-        (FOUR_TERMS, "X", "a", "true X"),
-        (FOUR_TERMS, "X+", "a", "true X+"),
-        (FOUR_TERMS, "X WITH Y", "a", "true X WITH Y"),
-        (FOUR_TERMS, "X+ WITH Y", "a", "true X+ WITH Y"),
-        (FOUR_TERMS, "XX", "a", "true no rule"),
-        (FOUR_TERMS, "Y", "a", "true no rule"),
-        (FOUR_TERMS, "X WITH Z", "a", "true no rule"),
-        (FOUR_TERMS, "X WITH YY", "a", "true no rule"),
-        (FOUR_TERMS, "LicenseRef-X", "a", "true no rule"),
+    for (form, wanted) in [
+        ("binary", "true MIT, include-text"),
+        ("source", "false no rule"),
+        ("Binary", "false no rule"),
+        ("", "false no rule"),
     ] {
-        let words = said(rt.alloc(), text, term, form)?;
+        let words = said_by(rt.alloc(), SMALL, "Mit", form)?;
+        assert!(rt; words.as_str() == wanted, "{form}: {words}");
+    }
+    Ok(())
+}
+
+#[test]
+fn tells_terms_apart(rt: HostRuntime) -> Result<(), Fail> {
+    for (term, wanted) in [
+        ("X", "true X"),
+        ("X+", "true X+"),
+        ("X WITH Y", "true X WITH Y"),
+        ("X+ WITH Y", "true X+ WITH Y"),
+        ("XX", "true no rule"),
+        ("Y", "true no rule"),
+        ("X WITH Z", "true no rule"),
+        ("X WITH YY", "true no rule"),
+        ("LicenseRef-X", "true no rule"),
+    ] {
+        let words = said_by(rt.alloc(), FOUR_TERMS, term, "a")?;
         assert!(rt; words.as_str() == wanted, "{term}: {words}");
     }
     Ok(())

@@ -162,3 +162,23 @@ const ROUND_RELEASES: &str =
 fn refuses_round_releases(rt: HostRuntime) -> Result<(), Fail> {
     follow(&rt, rt.alloc(), &[ROUND_RELEASES])
 }
+
+/// A term with a plus, for which there is no rule.
+const NO_RULE: &str = r#"{"do":"catalogue","text":"forms = [\"binary\"]\n"}
+{"revision":1}
+{"do":"import","text":"SPDXVersion: SPDX-2.3\nSPDXID: SPDXRef-DOCUMENT\nDocumentName: d\nDocumentNamespace: https://example.org/d\nPackageName: p\nSPDXID: SPDXRef-p\nPackageLicenseConcluded: B+\n"}
+{"document":1,"new":true}
+{"do":"open","release":"r1","form":"binary"}
+{"done":true}
+{"do":"attach","release":"r1","document":1}
+{"done":true}
+{"do":"choose","release":"r1","document":1,"package":"SPDXRef-p","terms":["B+"]}
+{"done":true}
+{"do":"freeze","release":"r1","day":"2025-03-03"}
+{"at":[1,"SPDXRef-p","b+"],"name":"NoRule","refused":22}
+"#;
+
+#[test]
+fn refuses_a_term_without_a_rule(rt: HostRuntime) -> Result<(), Fail> {
+    follow(&rt, rt.alloc(), &[NO_RULE])
+}

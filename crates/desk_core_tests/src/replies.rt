@@ -101,7 +101,6 @@ fn tells_the_faults_of_expressions(rt: HostRuntime) -> Result<(), Fail> {
 
 #[test]
 fn tells_the_faults_of_documents(rt: HostRuntime) -> Result<(), Fail> {
-    let tag = Text::of(rt.alloc(), "DocumentName")?;
     for (fault, line) in [
         (
             DocumentFault::NotUtf8,
@@ -122,10 +121,6 @@ fn tells_the_faults_of_documents(rt: HostRuntime) -> Result<(), Fail> {
         (
             DocumentFault::DuplicateId(8),
             r#"{"at":[8,8],"name":"BadDocument","refused":2}"#,
-        ),
-        (
-            DocumentFault::Repeated { line: 9, tag },
-            r#"{"at":[9,9,"DocumentName"],"name":"BadDocument","refused":2}"#,
         ),
         (
             DocumentFault::BadRelationship(10),
@@ -176,36 +171,46 @@ fn tells_the_faults_of_catalogues(rt: HostRuntime) -> Result<(), Fail> {
     Ok(())
 }
 
+fn chosen(alloc: Global, release: &str) -> Result<String, AllocError> {
+    let release = Text::of(alloc, release)?;
+    refused(alloc, Refusal::Chosen { release })
+}
+
+fn without_choice(alloc: Global, document: u32, package: &str) -> Result<String, AllocError> {
+    let package_id = Text::of(alloc, package)?;
+    refused(
+        alloc,
+        Refusal::NoChoice {
+            document,
+            package_id,
+        },
+    )
+}
+
+fn repeated(alloc: Global, line: u64, tag: &str) -> Result<String, AllocError> {
+    let tag = Text::of(alloc, tag)?;
+    refused(
+        alloc,
+        Refusal::BadDocument(DocumentFault::Repeated { line, tag }),
+    )
+}
+
 #[test]
 fn tells_the_texts_of_refusals(rt: HostRuntime) -> Result<(), Fail> {
-    let text = |text| Text::of(rt.alloc(), text);
-    for (refusal, line) in [
-        (
-            Refusal::Chosen {
-                release: text("r1")?,
-            },
-            r#"{"at":["r1"],"name":"Chosen","refused":7}"#,
-        ),
-        (
-            Refusal::NoChoice {
-                document: 4294967295,
-                package_id: text("SPDXRef-p")?,
-            },
-            r#"{"at":[4294967295,"SPDXRef-p"],"name":"NoChoice","refused":19}"#,
-        ),
-        (
-            Refusal::NoRule {
-                document: 1,
-                package_id: text("SPDXRef-p")?,
-                term: text("b+")?,
-            },
-            r#"{"at":[1,"SPDXRef-p","b+"],"name":"NoRule","refused":22}"#,
-        ),
-    ] {
-        let reply = refused(rt.alloc(), refusal)?;
-        assert!(rt; reply.as_str() == line, "{reply}");
-    }
+    let line = chosen(rt.alloc(), "r1")?;
+    assert!(rt; line.as_str() == r#"{"at":["r1"],"name":"Chosen","refused":7}"#);
+    let line = without_choice(rt.alloc(), 4294967295, "SPDXRef-p")?;
+    assert!(rt;
+        line.as_str() == r#"{"at":[4294967295,"SPDXRef-p"],"name":"NoChoice","refused":19}"#
+    );
+    let line = repeated(rt.alloc(), 9, "DocumentName")?;
+    assert!(rt; line.as_str() == r#"{"at":[9,9,"DocumentName"],"name":"BadDocument","refused":2}"#);
     Ok(())
+}
+
+fn not_minimal(alloc: Global, term: &str) -> Result<String, AllocError> {
+    let term = Text::of(alloc, term)?;
+    refused(alloc, Refusal::NotMinimal { term })
 }
 
 /// Quotes, backslashes and control bytes are escaped (RFC 8259, section 7); other characters stand as they are.
@@ -222,8 +227,7 @@ fn escapes_texts(rt: HostRuntime) -> Result<(), Fail> {
         ("\u{2028}", "\"\u{2028}\""),
         ("", r#""""#),
     ] {
-        let term = Text::of(rt.alloc(), term)?;
-        let reply = refused(rt.alloc(), Refusal::NotMinimal { term })?;
+        let reply = not_minimal(rt.alloc(), term)?;
         let line = format!(in rt.alloc();
             r#"{{"at":[{escaped}],"name":"NotMinimal","refused":18}}"#
         )?;
@@ -251,22 +255,25 @@ fn duty(
     })
 }
 
+fn two_duties(alloc: Global) -> Result<String, AllocError> {
+    let mut lines = Items::new(alloc);
+    lines.push(duty(alloc, 1, DutyState::Met, None)?)?;
+    lines.push(duty(alloc, 2, DutyState::Waived, Day::parse("0000-02-29"))?)?;
+    reply_line(alloc, &Outcome::Answered(Answer::Duties(lines)))
+}
+
 #[test]
 fn tells_duties_without_a_day(rt: HostRuntime) -> Result<(), Fail> {
-    let mut lines = Items::new(rt.alloc());
-    lines.push(duty(rt.alloc(), 1, DutyState::Met, None)?)?;
-    lines.push(duty(rt.alloc(), 2, DutyState::Waived, Day::parse("0000-02-29"))?)?;
-    let reply = reply_line(rt.alloc(), &Outcome::Answered(Answer::Duties(lines)))?;
+    let line = two_duties(rt.alloc())?;
     assert!(rt;
-        reply.as_str()
-            == r#"{"rows":[[1,1,"SPDXRef-p","mit","MIT","include-text","met",""],[2,1,"SPDXRef-p","mit","MIT","include-text","waived","0000-02-29"]]}"#,
-        "{reply}"
+        line.as_str()
+            == r#"{"rows":[[1,1,"SPDXRef-p","mit","MIT","include-text","met",""],[2,1,"SPDXRef-p","mit","MIT","include-text","waived","0000-02-29"]]}"#
     );
     Ok(())
 }
 
 #[test]
-fn tells_totals_and_faults(rt: HostRuntime) -> Result<(), Fail> {
+fn tells_totals(rt: HostRuntime) -> Result<(), Fail> {
     let withdrawn = Totals {
         raised: 3,
         still_open: 0,
@@ -281,26 +288,24 @@ fn tells_totals_and_faults(rt: HostRuntime) -> Result<(), Fail> {
         waived: 3,
         withdrawn: 4,
     };
-    for (outcome, line) in [
-        (
-            Outcome::Answered(Answer::Totals(withdrawn)),
-            r#"{"rows":[[3,0,1,0,2]]}"#,
-        ),
-        (
-            Outcome::Answered(Answer::Totals(each)),
-            r#"{"rows":[[18446744073709551615,1,2,3,4]]}"#,
-        ),
-        (Outcome::Failed(Fault::Memory), memory_line()),
-        (
-            Outcome::Failed(Fault::Store(StoreFault::Database)),
-            r#"{"fault":"store"}"#,
-        ),
-        (
-            Outcome::Failed(Fault::Store(StoreFault::Rows)),
-            r#"{"fault":"store"}"#,
-        ),
+    for (totals, line) in [
+        (withdrawn, r#"{"rows":[[3,0,1,0,2]]}"#),
+        (each, r#"{"rows":[[18446744073709551615,1,2,3,4]]}"#),
     ] {
-        let reply = reply_line(rt.alloc(), &outcome)?;
+        let reply = reply_line(rt.alloc(), &Outcome::Answered(Answer::Totals(totals)))?;
+        assert!(rt; reply.as_str() == line, "{reply}");
+    }
+    Ok(())
+}
+
+#[test]
+fn tells_faults(rt: HostRuntime) -> Result<(), Fail> {
+    for (fault, line) in [
+        (Fault::Memory, r#"{"fault":"memory"}"#),
+        (Fault::Store(StoreFault::Database), r#"{"fault":"store"}"#),
+        (Fault::Store(StoreFault::Rows), r#"{"fault":"store"}"#),
+    ] {
+        let reply = reply_line(rt.alloc(), &Outcome::Failed(fault))?;
         assert!(rt; reply.as_str() == line, "{reply}");
     }
     assert!(rt; memory_line() == r#"{"fault":"memory"}"#);

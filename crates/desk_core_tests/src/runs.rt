@@ -37,6 +37,21 @@ fn told(alloc: Global, outcomes: &[Outcome]) -> Result<String, AllocError> {
     Ok(replies)
 }
 
+/// Whether so many commands of a script are replied in a run as the lines behind them say.
+fn is_run(alloc: Global, script: &str, count: usize) -> Result<bool, AllocError> {
+    let (commands, replies) = commands_of(alloc, script)?;
+    let outcomes = run(alloc, &mut empty_desk(alloc), commands.as_slice())?;
+    let told = told(alloc, outcomes.as_slice())?;
+    Ok(outcomes.len() == count && told.as_str() == replies.as_str())
+}
+
+fn is_run_in_memory(alloc: Global, script: &str, count: usize) -> Result<bool, AllocError> {
+    let (commands, replies) = commands_of(alloc, script)?;
+    let (outcomes, _desk) = run_in_memory(alloc, Standard, commands.as_slice())?;
+    let told = told(alloc, outcomes.as_slice())?;
+    Ok(outcomes.len() == count && told.as_str() == replies.as_str())
+}
+
 const REFUSED: &str = r#"{"do":"open","release":"r1","form":"binary"}
 {"at":[],"name":"UnknownForm","refused":11}
 {"do":"catalogue","text":"a ="}
@@ -52,21 +67,12 @@ const REFUSED: &str = r#"{"do":"open","release":"r1","form":"binary"}
 /// Each command has an outcome, also behind one that was refused.
 #[test]
 fn goes_on_past_refusals(rt: HostRuntime) -> Result<(), Fail> {
-    let (commands, replies) = commands_of(rt.alloc(), REFUSED)?;
-    assert!(rt; commands.len() == 5);
-    let mut desk = empty_desk(rt.alloc());
-    let outcomes = run(rt.alloc(), &mut desk, commands.as_slice())?;
-    let told = told(rt.alloc(), outcomes.as_slice())?;
-    assert!(rt; told.as_str() == replies.as_str(), "{told}");
+    assert!(rt; is_run(rt.alloc(), REFUSED, 5)?);
     Ok(())
 }
 
 #[test]
 fn runs_on_an_empty_desk(rt: HostRuntime) -> Result<(), Fail> {
-    let (commands, replies) = commands_of(rt.alloc(), FIRST_RELEASE)?;
-    assert!(rt; commands.len() == 8);
-    let (outcomes, _desk) = run_in_memory(rt.alloc(), Standard, commands.as_slice())?;
-    let told = told(rt.alloc(), outcomes.as_slice())?;
-    assert!(rt; told.as_str() == replies.as_str(), "{told}");
+    assert!(rt; is_run_in_memory(rt.alloc(), FIRST_RELEASE, 8)?);
     Ok(())
 }

@@ -171,20 +171,30 @@ fn replies_to_a_release(rt: HostRuntime) -> Result<(), Fail> {
     Ok(())
 }
 
+/// How many requests are whole among the first so many bytes.
+fn whole_requests(bytes: usize) -> usize {
+    let mut left = bytes;
+    for (count, request) in REQUESTS.iter().enumerate() {
+        match left.checked_sub(request.len()) {
+            Some(more) => left = more,
+            None => return count,
+        }
+    }
+    REQUESTS.len()
+}
+
 /// Whether a script stands, as it is to, where its reader fails after so many pieces of 97 bytes.
 fn stands_after(alloc: Global, pieces: usize) -> Result<bool, AllocError> {
     let requests = rest(alloc, REQUESTS.as_slice(), 0)?;
-    let bytes = requests.as_bytes();
     let mut desk = empty_desk(alloc);
     let mut reader = Pieces {
-        bytes,
+        bytes: requests.as_bytes(),
         size: 97,
         left: pieces,
     };
     let mut written: Vec<u8> = Vec::new(alloc);
     let end = script(alloc, &mut desk, &mut reader, &mut written);
-    let came = bytes.iter().take(pieces.saturating_mul(97));
-    let whole = came.filter(|byte| **byte == b'\n').count();
+    let whole = whole_requests(pieces.saturating_mul(97));
     let first = REPLIES.get(..whole).unwrap_or_default().concat(alloc)?;
     Ok(
         matches!(end, Err(ScriptFault::Read))

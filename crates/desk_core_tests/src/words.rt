@@ -18,17 +18,21 @@ fn bracketed(alloc: Global, texts: &[Text]) -> Result<String, AllocError> {
 
 fn command_in_words(alloc: Global, command: &Command) -> Result<String, AllocError> {
     match command {
-        Command::LoadCatalogue { text } => format!(in alloc; "catalogue <{}>", text.as_str()),
+        Command::LoadCatalogue { text } => ["catalogue <", text.as_str(), ">"].concat(alloc),
         Command::Import { bytes, profile } => {
             let text = str::from_utf8(bytes.as_slice()).unwrap_or("no text");
-            let capitals = matches!(profile, Profile::Capitals);
-            format!(in alloc; "import <{text}> in capitals {capitals}")
+            let end = match profile {
+                Profile::Capitals => "> in capitals true",
+                _ => "> in capitals false",
+            };
+            ["import <", text, end].concat(alloc)
         }
         Command::OpenRelease { release, form } => {
-            format!(in alloc; "open <{}> for <{}>", release.as_str(), form.as_str())
+            ["open <", release.as_str(), "> for <", form.as_str(), ">"].concat(alloc)
         }
         Command::Attach { release, document } => {
-            format!(in alloc; "attach {document} to <{}>", release.as_str())
+            let document = format!(in alloc; "attach {document} to <")?;
+            [document.as_str(), release.as_str(), ">"].concat(alloc)
         }
         Command::Choose {
             release,
@@ -37,14 +41,17 @@ fn command_in_words(alloc: Global, command: &Command) -> Result<String, AllocErr
             terms,
         } => {
             let terms = bracketed(alloc, terms.as_slice())?;
+            let document = format!(in alloc; " for {document} <")?;
             let (release, package) = (release.as_str(), package_id.as_str());
-            format!(in alloc; "choose {terms} for {document} <{package}> in <{release}>")
+            let (terms, document) = (terms.as_str(), document.as_str());
+            ["choose ", terms, document, package, "> in <", release, ">"].concat(alloc)
         }
         Command::Freeze { release, day } => {
-            format!(in alloc; "freeze <{}> on <{}>", release.as_str(), day.as_str())
+            ["freeze <", release.as_str(), "> on <", day.as_str(), ">"].concat(alloc)
         }
         Command::Meet { duty, day, text } => {
-            format!(in alloc; "meet {duty} on <{}> by <{}>", day.as_str(), text.as_str())
+            let duty = format!(in alloc; "meet {duty} on <")?;
+            [duty.as_str(), day.as_str(), "> by <", text.as_str(), ">"].concat(alloc)
         }
     }
 }
