@@ -1,7 +1,11 @@
-//! Tests of the whole desk in memory: requests as JSON, read by `desk_json`, over documents, catalogues and expressions that
-//! `desk_texts` reads, and their replies byte for byte.
+//! Tests of the desk as a whole: requests as JSON, served by `desk_script` on a desk in memory over documents, catalogues and
+//! expressions that `desk_texts` reads, and their replies byte for byte.
+//!
+//! Most cases are scripts: a request a line, behind it its reply. `support` follows them.
 #![tactic(auto)]
 
+#[cfg(test)]
+mod catalogues;
 #[cfg(test)]
 mod limits;
 #[cfg(test)]
@@ -9,8 +13,16 @@ mod memory;
 #[cfg(test)]
 mod refusals;
 #[cfg(test)]
+mod replies;
+#[cfg(test)]
+mod requests;
+#[cfg(test)]
 mod rows;
 #[cfg(test)]
 mod runs;
 #[cfg(test)]
+mod streams;
+#[cfg(test)]
 mod support;
+#[cfg(test)]
+mod words;

@@ -1,6 +1,6 @@
 //! Each refusal of the desk's commands and questions, and two at once, of which the first in the stated order is told.
 
-use crate::support::{empty_desk, follow};
+use crate::support::follow;
 use std::test::Fail;
 
 /// On an empty desk.
@@ -58,9 +58,7 @@ const NOTHING_THERE: &str = r#"# an unknown form comes before a taken name, a ba
 
 #[test]
 fn refuses_where_nothing_stands(rt: HostRuntime) -> Result<(), Fail> {
-    let alloc = rt.alloc();
-    let mut desk = empty_desk(alloc);
-    follow(&rt, alloc, &mut desk, NOTHING_THERE)
+    follow(&rt, rt.alloc(), &[NOTHING_THERE])
 }
 
 /// Round releases of three documents: one package with a choice of licences, one with a reference, one without a conclusion.
@@ -105,6 +103,8 @@ const ROUND_RELEASES: &str =
 {"at":["a"],"name":"NotMinimal","refused":18}
 {"do":"choose","release":"r1","document":1,"package":"SPDXRef-p","terms":["MIT","Zlib+"]}
 {"at":["zlib+"],"name":"NotMinimal","refused":18}
+{"do":"choose","release":"r1","document":1,"package":"SPDXRef-p","terms":["MIT","Zlib"]}
+{"at":["zlib"],"name":"NotMinimal","refused":18}
 {"do":"choose","release":"r1","document":1,"package":"SPDXRef-p","terms":["A","B"]}
 {"done":true}
 {"do":"freeze","release":"r1","day":"2025-03-03"}
@@ -160,7 +160,25 @@ const ROUND_RELEASES: &str =
 
 #[test]
 fn refuses_round_releases(rt: HostRuntime) -> Result<(), Fail> {
-    let alloc = rt.alloc();
-    let mut desk = empty_desk(alloc);
-    follow(&rt, alloc, &mut desk, ROUND_RELEASES)
+    follow(&rt, rt.alloc(), &[ROUND_RELEASES])
+}
+
+/// A term with a plus, for which there is no rule.
+const NO_RULE: &str = r#"{"do":"catalogue","text":"forms = [\"binary\"]\n"}
+{"revision":1}
+{"do":"import","text":"SPDXVersion: SPDX-2.3\nSPDXID: SPDXRef-DOCUMENT\nDocumentName: d\nDocumentNamespace: https://example.org/d\nPackageName: p\nSPDXID: SPDXRef-p\nPackageLicenseConcluded: B+\n"}
+{"document":1,"new":true}
+{"do":"open","release":"r1","form":"binary"}
+{"done":true}
+{"do":"attach","release":"r1","document":1}
+{"done":true}
+{"do":"choose","release":"r1","document":1,"package":"SPDXRef-p","terms":["B+"]}
+{"done":true}
+{"do":"freeze","release":"r1","day":"2025-03-03"}
+{"at":[1,"SPDXRef-p","b+"],"name":"NoRule","refused":22}
+"#;
+
+#[test]
+fn refuses_a_term_without_a_rule(rt: HostRuntime) -> Result<(), Fail> {
+    follow(&rt, rt.alloc(), &[NO_RULE])
 }

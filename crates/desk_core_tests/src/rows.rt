@@ -1,6 +1,6 @@
 //! Worked rows.
 
-use crate::support::{empty_desk, follow};
+use crate::support::follow;
 use std::test::Fail;
 
 /// The small catalogue, the small document, and the first release with its one duty.
@@ -47,10 +47,7 @@ const LATER_CATALOGUE: &str =
 /// The catalogue in force at the freeze decides: a later one changes no duty that was raised.
 #[test]
 fn follows_the_first_release_and_a_later_catalogue(rt: HostRuntime) -> Result<(), Fail> {
-    let alloc = rt.alloc();
-    let mut desk = empty_desk(alloc);
-    follow(&rt, alloc, &mut desk, FIRST_RELEASE)?;
-    follow(&rt, alloc, &mut desk, LATER_CATALOGUE)
+    follow(&rt, rt.alloc(), &[FIRST_RELEASE, LATER_CATALOGUE])
 }
 
 const NOTHING_OWED: &str =
@@ -72,13 +69,13 @@ const NOTHING_OWED: &str =
 {"at":["frozen"],"name":"ReleaseState","refused":13}
 {"ask":"totals","release":"r1"}
 {"rows":[[0,0,0,0,0]]}
+{"ask":"duties","release":"r1"}
+{"rows":[]}
 "#;
 
 #[test]
 fn freezes_where_nothing_is_owed(rt: HostRuntime) -> Result<(), Fail> {
-    let alloc = rt.alloc();
-    let mut desk = empty_desk(alloc);
-    follow(&rt, alloc, &mut desk, NOTHING_OWED)
+    follow(&rt, rt.alloc(), &[NOTHING_OWED])
 }
 
 const IMPORTS: &str = r#"{"do":"import","text":"SPDXVersion: SPDX-2.3\nSPDXID"}
@@ -103,9 +100,7 @@ const IMPORTS: &str = r#"{"do":"import","text":"SPDXVersion: SPDX-2.3\nSPDXID"}
 
 #[test]
 fn imports_once(rt: HostRuntime) -> Result<(), Fail> {
-    let alloc = rt.alloc();
-    let mut desk = empty_desk(alloc);
-    follow(&rt, alloc, &mut desk, IMPORTS)
+    follow(&rt, rt.alloc(), &[IMPORTS])
 }
 
 /// Packages that stand in another order than their ids, two licences joined, an exception, and two documents.
@@ -144,7 +139,5 @@ const TWO_DOCUMENTS: &str =
 
 #[test]
 fn numbers_duties_by_document_package_term_and_code(rt: HostRuntime) -> Result<(), Fail> {
-    let alloc = rt.alloc();
-    let mut desk = empty_desk(alloc);
-    follow(&rt, alloc, &mut desk, TWO_DOCUMENTS)
+    follow(&rt, rt.alloc(), &[TWO_DOCUMENTS])
 }

@@ -7,17 +7,17 @@ use desk_json::{Request, read_command, reply_line};
 use desk_rows::{Command, Outcome};
 use desk_texts::Standard;
 use std::alloc::{AllocError, Global};
-use std::process::Abort;
 use std::test::Fail;
 
-/// The commands of a script, and the replies to them.
-fn commands_of(alloc: Global, script: &str) -> Result<(Vec<Command>, Vec<String>), AllocError> {
+/// The commands of a script, and the replies to them as lines.
+fn commands_of(alloc: Global, script: &str) -> Result<(Vec<Command>, String), AllocError> {
     let mut commands = Vec::new(alloc);
-    let mut replies = Vec::new(alloc);
+    let mut replies = String::new(alloc);
     let mut is_command = false;
     for line in script.lines() {
         if is_command {
-            replies.push(String::from_str(alloc, line)?)?;
+            replies.push_str(line)?;
+            replies.push('\n')?;
             is_command = false;
         } else if let Request::Act(command) = read_command(alloc, line.as_bytes())? {
             commands.push(command)?;
@@ -27,25 +27,32 @@ fn commands_of(alloc: Global, script: &str) -> Result<(Vec<Command>, Vec<String>
     Ok((commands, replies))
 }
 
-fn compare(
-    rt: &impl Abort,
-    alloc: Global,
-    outcomes: &[Outcome],
-    replies: &[String],
-) -> Result<(), Fail> {
-    assert_eq!(rt; outcomes.len(), replies.len());
-    for (outcome, reply) in outcomes.iter().zip(replies) {
-        let told = reply_line(alloc, outcome)?;
-        assert_eq!(rt; told.as_str(), reply.as_str());
+/// The replies to outcomes as lines.
+fn told(alloc: Global, outcomes: &[Outcome]) -> Result<String, AllocError> {
+    let mut replies = String::new(alloc);
+    for outcome in outcomes {
+        replies.push_str(reply_line(alloc, outcome)?.as_str())?;
+        replies.push('\n')?;
     }
-    Ok(())
+    Ok(replies)
 }
 
-/// Each command has an outcome, also behind one that was refused.
-#[test]
-fn goes_on_past_refusals(rt: HostRuntime) -> Result<(), Fail> {
-    let alloc = rt.alloc();
-    let script = r#"{"do":"open","release":"r1","form":"binary"}
+/// Whether so many commands of a script are replied in a run as the lines behind them say.
+fn is_run(alloc: Global, script: &str, count: usize) -> Result<bool, AllocError> {
+    let (commands, replies) = commands_of(alloc, script)?;
+    let outcomes = run(alloc, &mut empty_desk(alloc), commands.as_slice())?;
+    let told = told(alloc, outcomes.as_slice())?;
+    Ok(outcomes.len() == count && told.as_str() == replies.as_str())
+}
+
+fn is_run_in_memory(alloc: Global, script: &str, count: usize) -> Result<bool, AllocError> {
+    let (commands, replies) = commands_of(alloc, script)?;
+    let (outcomes, _desk) = run_in_memory(alloc, Standard, commands.as_slice())?;
+    let told = told(alloc, outcomes.as_slice())?;
+    Ok(outcomes.len() == count && told.as_str() == replies.as_str())
+}
+
+const REFUSED: &str = r#"{"do":"open","release":"r1","form":"binary"}
 {"at":[],"name":"UnknownForm","refused":11}
 {"do":"catalogue","text":"a ="}
 {"at":[1],"name":"BadCatalogue","refused":1}
@@ -56,18 +63,16 @@ fn goes_on_past_refusals(rt: HostRuntime) -> Result<(), Fail> {
 {"do":"open","release":"r1","form":"binary"}
 {"at":[],"name":"NameTaken","refused":10}
 "#;
-    let (commands, replies) = commands_of(alloc, script)?;
-    assert_eq!(rt; commands.len(), 5);
-    let mut desk = empty_desk(alloc);
-    let outcomes = run(alloc, &mut desk, commands.as_slice())?;
-    compare(&rt, alloc, outcomes.as_slice(), replies.as_slice())
+
+/// Each command has an outcome, also behind one that was refused.
+#[test]
+fn goes_on_past_refusals(rt: HostRuntime) -> Result<(), Fail> {
+    assert!(rt; is_run(rt.alloc(), REFUSED, 5)?);
+    Ok(())
 }
 
 #[test]
 fn runs_on_an_empty_desk(rt: HostRuntime) -> Result<(), Fail> {
-    let alloc = rt.alloc();
-    let (commands, replies) = commands_of(alloc, FIRST_RELEASE)?;
-    assert_eq!(rt; commands.len(), 8);
-    let (outcomes, _desk) = run_in_memory(alloc, Standard, commands.as_slice())?;
-    compare(&rt, alloc, outcomes.as_slice(), replies.as_slice())
+    assert!(rt; is_run_in_memory(rt.alloc(), FIRST_RELEASE, 8)?);
+    Ok(())
 }

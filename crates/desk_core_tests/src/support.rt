@@ -1,9 +1,9 @@
-//! Requests on a desk in memory.
+//! Scripts: requests to a desk in memory, each with what it is to be replied.
 
-use desk_base::{Items, Text};
-use desk_core::desk::{Desk, MemDesk, TableDesk};
-use desk_json::{Request, bad_command_line, read_command, reply_line};
-use desk_rows::{Answer, Command, Fault, Outcome, Profile};
+use crate::words::in_words;
+use desk_core::desk::{MemDesk, TableDesk};
+use desk_json::{bad_command_line, reply_line};
+use desk_script::{Reply, answer_line};
 use desk_texts::Standard;
 use std::alloc::{AllocError, Global};
 use std::process::Abort;
@@ -16,56 +16,74 @@ pub fn empty_desk(alloc: Global) -> Tested {
     TableDesk::new(alloc, Standard)
 }
 
-fn outcome(answer: Result<Answer, Fault>) -> Outcome {
-    match answer {
-        Ok(answer) => Outcome::Answered(answer),
-        Err(fault) => Outcome::Failed(fault),
+/// The reply to a request; to `read REQUEST` what it is read as, with `␊` for each line end on both sides.
+fn answered(alloc: Global, desk: &mut Tested, asked: &str) -> Result<String, AllocError> {
+    match asked.strip_prefix("read ") {
+        Some(request) => {
+            let request = request.replace(alloc, "␊", "\n")?;
+            in_words(alloc, request.as_bytes())?.replace(alloc, "\n", "␊")
+        }
+        None => replied(alloc, desk, asked),
     }
-}
-
-/// The reply to a command.
-pub fn told(alloc: Global, desk: &mut Tested, command: &Command) -> Result<String, AllocError> {
-    reply_line(alloc, &outcome(desk.apply(command)))
 }
 
 /// The reply to a request.
 pub fn replied(alloc: Global, desk: &mut Tested, request: &str) -> Result<String, AllocError> {
-    match read_command(alloc, request.as_bytes())? {
-        Request::Act(command) => told(alloc, desk, &command),
-        Request::Ask(query) => reply_line(alloc, &outcome(desk.ask(&query))),
-        Request::BadCommand => String::from_str(alloc, bad_command_line()),
+    match answer_line(alloc, desk, request.as_bytes()) {
+        Reply::Became(outcome) => reply_line(alloc, &outcome),
+        Reply::NoRequest => String::from_str(alloc, bad_command_line()),
     }
 }
 
-/// Follows a script of requests, each with its reply on the line behind it. A line that begins with `#` tells what comes.
-pub fn follow(rt: &impl Abort, alloc: Global, desk: &mut Tested, script: &str) -> Result<(), Fail> {
-    let mut asked = String::new(alloc);
+/// So many copies of a text, of which each `%` is the number of the copy, from 1 on.
+fn copies(alloc: Global, count: &str, text: &str) -> Result<String, AllocError> {
+    let mut all = String::new(alloc);
+    for place in 0..count.parse::<u32>().unwrap_or(1) {
+        let number = format!(in alloc; "{}", place.saturating_add(1))?;
+        all.push_str(text.replace(alloc, "%", number.as_str())?.as_str())?;
+    }
+    Ok(all)
+}
+
+/// The text with each part `«COUNT:TEXT»` of it written out.
+fn written_out(alloc: Global, text: &str) -> Result<String, AllocError> {
+    let mut all = String::new(alloc);
+    for piece in text.split('«') {
+        let (part, rest) = piece.split_once('»').unwrap_or(("0:", piece));
+        let (count, copied) = part.split_once(':').unwrap_or(("", part));
+        all.push_str(copies(alloc, count, copied)?.as_str())?;
+        all.push_str(rest)?;
+    }
+    Ok(all)
+}
+
+/// The first request of a script that is replied otherwise than the line behind it says, with its reply; else nothing.
+/// A line that begins with `#` tells what comes.
+pub fn difference(alloc: Global, desk: &mut Tested, script: &str) -> Result<String, AllocError> {
+    let script = written_out(alloc, script)?;
+    let mut asked = None;
     for line in script.lines() {
         if line.starts_with('#') {
             continue;
         }
-        if asked.is_empty() {
-            asked.push_str(line)?;
+        let Some(request) = asked.take() else {
+            asked = Some(line);
             continue;
+        };
+        let reply = answered(alloc, desk, request)?;
+        if reply.as_str() != line {
+            return format!(in alloc; "{request}: {reply}");
         }
-        let reply = replied(alloc, desk, asked.as_str())?;
-        assert!(rt; reply.as_str() == line, "{asked}: {reply}");
-        asked.clear();
     }
-    assert!(rt; asked.is_empty(), "no reply to {asked}");
+    String::from_str(alloc, asked.unwrap_or_default())
+}
+
+/// Follows scripts on one desk, which is empty at first.
+pub fn follow(rt: &impl Abort, alloc: Global, scripts: &[&str]) -> Result<(), Fail> {
+    let mut desk = empty_desk(alloc);
+    for script in scripts {
+        let wrong = difference(alloc, &mut desk, script)?;
+        assert!(rt; wrong.is_empty(), "{wrong}");
+    }
     Ok(())
-}
-
-/// The import of a text.
-pub fn import(alloc: Global, text: &str) -> Result<Command, AllocError> {
-    Ok(Command::Import {
-        bytes: Items::from_vec(Vec::from_slice(alloc, text.as_bytes())?),
-        profile: Profile::Capitals,
-    })
-}
-
-pub fn load(alloc: Global, text: &str) -> Result<Command, AllocError> {
-    Ok(Command::LoadCatalogue {
-        text: Text::of(alloc, text)?,
-    })
 }

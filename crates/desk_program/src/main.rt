@@ -8,8 +8,6 @@
 mod commands;
 mod failure;
 mod report;
-#[cfg(test)]
-mod script_tests;
 
 use crate::failure::Failure;
 use desk_core::desk::MemDesk;

@@ -1,0 +1,71 @@
+//! Requests in words.
+
+use desk_base::Text;
+use desk_json::{Request, read_command};
+use desk_rows::{Command, Profile, Query};
+use std::alloc::{AllocError, Global};
+
+/// Texts, each in angle brackets.
+fn bracketed(alloc: Global, texts: &[Text]) -> Result<String, AllocError> {
+    let mut all = String::new(alloc);
+    for text in texts {
+        all.push_str("<")?;
+        all.push_str(text.as_str())?;
+        all.push_str(">")?;
+    }
+    Ok(all)
+}
+
+fn command_in_words(alloc: Global, command: &Command) -> Result<String, AllocError> {
+    match command {
+        Command::LoadCatalogue { text } => ["catalogue <", text.as_str(), ">"].concat(alloc),
+        Command::Import { bytes, profile } => {
+            let text = str::from_utf8(bytes.as_slice()).unwrap_or("no text");
+            let end = match profile {
+                Profile::Capitals => "> in capitals true",
+                _ => "> in capitals false",
+            };
+            ["import <", text, end].concat(alloc)
+        }
+        Command::OpenRelease { release, form } => {
+            ["open <", release.as_str(), "> for <", form.as_str(), ">"].concat(alloc)
+        }
+        Command::Attach { release, document } => {
+            let document = format!(in alloc; "attach {document} to <")?;
+            [document.as_str(), release.as_str(), ">"].concat(alloc)
+        }
+        Command::Choose {
+            release,
+            document,
+            package_id,
+            terms,
+        } => {
+            let terms = bracketed(alloc, terms.as_slice())?;
+            let document = format!(in alloc; " for {document} <")?;
+            let (release, package) = (release.as_str(), package_id.as_str());
+            let (terms, document) = (terms.as_str(), document.as_str());
+            ["choose ", terms, document, package, "> in <", release, ">"].concat(alloc)
+        }
+        Command::Freeze { release, day } => {
+            ["freeze <", release.as_str(), "> on <", day.as_str(), ">"].concat(alloc)
+        }
+        Command::Meet { duty, day, text } => {
+            let duty = format!(in alloc; "meet {duty} on <")?;
+            [duty.as_str(), day.as_str(), "> by <", text.as_str(), ">"].concat(alloc)
+        }
+    }
+}
+
+/// What some bytes are read as.
+pub fn in_words(alloc: Global, bytes: &[u8]) -> Result<String, AllocError> {
+    match read_command(alloc, bytes)? {
+        Request::Act(command) => command_in_words(alloc, &command),
+        Request::Ask(Query::Duties { release }) => {
+            format!(in alloc; "duties of <{}>", release.as_str())
+        }
+        Request::Ask(Query::Totals { release }) => {
+            format!(in alloc; "totals of <{}>", release.as_str())
+        }
+        Request::BadCommand => String::from_str(alloc, "no request"),
+    }
+}
