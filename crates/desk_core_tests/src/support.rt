@@ -29,7 +29,8 @@ fn answered(alloc: Global, desk: &mut Tested, asked: &str) -> Result<String, All
 
 /// The reply to a request.
 pub fn replied(alloc: Global, desk: &mut Tested, request: &str) -> Result<String, AllocError> {
-    match answer_line(alloc, desk, request.as_bytes()) {
+    let text = Vec::from_slice(alloc, request.as_bytes())?;
+    match answer_line(alloc, desk, text) {
         Reply::Became(outcome) => reply_line(alloc, &outcome),
         Reply::NoRequest => String::from_str(alloc, bad_command_line()),
     }
