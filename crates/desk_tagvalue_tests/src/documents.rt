@@ -91,20 +91,13 @@ relationship 16
   right [SPDXRef-Package]
 ";
 
-const DOCUMENTS: [(&str, &str); 5] = [
-    (SMALL, SMALL_IN_FULL),
-    (WHOLE, WHOLE_IN_FULL),
-    (SCANNER, SCANNER_IN_FULL),
-    (EMPTY_TREE, EMPTY_TREE_IN_FULL),
-    (WITH_FILES, FILES_IN_FULL),
-];
-
 #[test]
 fn reads_documents(rt: HostRuntime) -> Result<(), AllocError> {
-    for (text, expected) in &DOCUMENTS {
-        expect_in_full(&rt, rt.alloc(), text, expected)?;
-    }
-    Ok(())
+    expect_in_full(&rt, rt.alloc(), SMALL, SMALL_IN_FULL)?;
+    expect_in_full(&rt, rt.alloc(), WHOLE, WHOLE_IN_FULL)?;
+    expect_in_full(&rt, rt.alloc(), SCANNER, SCANNER_IN_FULL)?;
+    expect_in_full(&rt, rt.alloc(), EMPTY_TREE, EMPTY_TREE_IN_FULL)?;
+    expect_in_full(&rt, rt.alloc(), WITH_FILES, FILES_IN_FULL)
 }
 
 // Asserts how the text is read where its lines end by CRLF, and a mark stands before it.

@@ -9,211 +9,111 @@ use std::process::Abort;
 const HEAD: &str = "SPDXVersion: SPDX-2.3\nSPDXID: SPDXRef-DOCUMENT\nDocumentName: d\n\
     DocumentNamespace: https://example.org/d\nCreated: 2025-01-01T00:00:00Z\n";
 
-// In each part the first line is the answer to the head with the other lines behind it, from line 6 on.
-const CASES: &str = "9 6 SPDXVersion
-SPDXVersion: SPDX-2.3
----
-9 6 SPDXVersion
-SPDXVersion: SPDX-2.0
----
-9 6 SPDXID
-SPDXID: SPDXRef-DOCUMENT
----
-9 7 DataLicense
-DataLicense: a
-DataLicense: b
----
-9 7 Created
-PackageName: p
-Created: y
-SPDXID: x
----
-6 6 SPDXID
-PackageName: p
----
-6 6 SPDXID
-FileName: f
+// Lines behind the head, from line 6 on, and the answer to both.
+const CASES: [(&str, &str); 43] = [
+    ("SPDXVersion: SPDX-2.3", "9 6 SPDXVersion"),
+    ("SPDXVersion: SPDX-2.0", "9 6 SPDXVersion"),
+    ("SPDXID: SPDXRef-DOCUMENT", "9 6 SPDXID"),
+    ("DataLicense: a\nDataLicense: b", "9 7 DataLicense"),
+    ("PackageName: p\nCreated: y\nSPDXID: x", "9 7 Created"),
+    ("PackageName: p", "6 6 SPDXID"),
+    (
+        "FileName: f\n\nFileName: g\nSPDXID: SPDXRef-g",
+        "6 6 SPDXID",
+    ),
+    (
+        "PackageName: p\nSPDXID: SPDXRef-p\nFileName: f\nPackageName: q",
+        "6 8 SPDXID",
+    ),
+    ("PackageName: p\nSPDXID: p", "7 7 -"),
+    ("PackageName: p\nSPDXID: SPDXRef-", "7 7 -"),
+    ("PackageName: p\nSPDXID: SPDXRef-a_b", "7 7 -"),
+    ("PackageName: p\nSPDXID: SPDXRef-DOCUMENT", "8 7 -"),
+    (
+        "SnippetSPDXID: SPDXRef-s\nSnippetSPDXID: SPDXRef-s",
+        "8 7 -",
+    ),
+    (
+        "PackageName: p\nSPDXID: SPDXRef-s\nFileName: f\nSPDXID: SPDXRef-s",
+        "8 9 -",
+    ),
+    ("SnippetSPDXID: LicenseRef-s", "7 6 -"),
+    ("LicenseID: LicenseRef-1\nLicenseID: LicenseRef-1", "8 7 -"),
+    ("LicenseID: SPDXRef-1", "7 6 -"),
+    (
+        "LicenseID: LicenseRef-1\nExtractedText: a\nExtractedText: b",
+        "9 8 ExtractedText",
+    ),
+    (
+        "PackageName: p\nSPDXID: SPDXRef-p\nPackageVersion: 1\nPackageVersion: 1",
+        "9 9 PackageVersion",
+    ),
+    (
+        "FileName: p\nSPDXID: SPDXRef-p\nLicenseConcluded: 1\nLicenseConcluded: 1",
+        "9 9 LicenseConcluded",
+    ),
+    ("Relationship: SPDXRef-a CONTAINS", "10 6 -"),
+    ("Relationship: SPDXRef-a contains SPDXRef-b", "10 6 -"),
+    ("Relationship: NONE CONTAINS SPDXRef-b", "10 6 -"),
+    ("Relationship: SPDXRef-a CONTAINS SPDXRef-b x", "10 6 -"),
+    (
+        "Relationship: SPDXRef-a CONTAINS DocumentRef-:SPDXRef-b",
+        "10 6 -",
+    ),
+    (
+        "Relationship: <text>SPDXRef-a CONTAINS\nSPDXRef-b</text>",
+        "10 6 -",
+    ),
+    ("Relationship:", "10 6 -"),
+    ("Relationship: x\nA", "2 7 -"),
+    ("Relationship: x\nA: <text>\nB: <text> </text", "3 7 -"),
+    ("Relationship: x\nA: <text>\n</text> .\nB: <text>", "4 8 -"),
+    ("Relationship: x\nCreated: y\nCreated: z", "10 6 -"),
+    ("Created: y\nRelationship: x", "9 6 Created"),
+    ("FileName: f\nRelationship: x", "10 7 -"),
+    ("FileName: f\nSPDXID: x\nSPDXID: y", "7 7 -"),
+    ("FileName: f\nSPDXID: SPDXRef-f\nSPDXID: y", "9 8 SPDXID"),
+    ("PackageVersion: 1\nPackageVersion: 1", "document"),
+    ("SnippetSPDXID: SPDXRef-s\nSPDXID: x\nSPDXID: y", "document"),
+    (
+        "LicenseID: LicenseRef-1\nSPDXID: SPDXRef-1\nSnippetSPDXID: SPDXRef-1",
+        "document",
+    ),
+    ("Creator: a\nCreator: b\nFoo: x\nFoo: y", "document"),
+    (
+        "Relationship: \tSPDXRef-a  DEPENDS_ON\tDocumentRef-x.1+y:SPDXRef-b",
+        "document",
+    ),
+    (
+        "Relationship: DocumentRef-a:SPDXRef-b OTHER NONE\nRelationship: SPDXRef-a _ NOASSERTION",
+        "document",
+    ),
+    (
+        "FileName: f\nSPDXID: SPDXRef-f\nFileChecksum: SHA1: x\nFileChecksum: MD5: y\nLicenseInfoInFile: a\nLicenseInfoInFile: b",
+        "document",
+    ),
+    (
+        "PackageName:\nSPDXID: SPDXRef-p\nPackageName:\nSPDXID: SPDXRef-q",
+        "document",
+    ),
+];
 
-FileName: g
-SPDXID: SPDXRef-g
----
-6 8 SPDXID
-PackageName: p
-SPDXID: SPDXRef-p
-FileName: f
-PackageName: q
----
-7 7 -
-PackageName: p
-SPDXID: p
----
-7 7 -
-PackageName: p
-SPDXID: SPDXRef-
----
-7 7 -
-PackageName: p
-SPDXID: SPDXRef-a_b
----
-8 7 -
-PackageName: p
-SPDXID: SPDXRef-DOCUMENT
----
-8 7 -
-SnippetSPDXID: SPDXRef-s
-SnippetSPDXID: SPDXRef-s
----
-8 9 -
-PackageName: p
-SPDXID: SPDXRef-s
-FileName: f
-SPDXID: SPDXRef-s
----
-7 6 -
-SnippetSPDXID: LicenseRef-s
----
-8 7 -
-LicenseID: LicenseRef-1
-LicenseID: LicenseRef-1
----
-7 6 -
-LicenseID: SPDXRef-1
----
-9 8 ExtractedText
-LicenseID: LicenseRef-1
-ExtractedText: a
-ExtractedText: b
----
-9 9 PackageVersion
-PackageName: p
-SPDXID: SPDXRef-p
-PackageVersion: 1
-PackageVersion: 1
----
-9 9 LicenseConcluded
-FileName: p
-SPDXID: SPDXRef-p
-LicenseConcluded: 1
-LicenseConcluded: 1
----
-10 6 -
-Relationship: SPDXRef-a CONTAINS
----
-10 6 -
-Relationship: SPDXRef-a contains SPDXRef-b
----
-10 6 -
-Relationship: NONE CONTAINS SPDXRef-b
----
-10 6 -
-Relationship: SPDXRef-a CONTAINS SPDXRef-b x
----
-10 6 -
-Relationship: SPDXRef-a CONTAINS DocumentRef-:SPDXRef-b
----
-10 6 -
-Relationship: <text>SPDXRef-a CONTAINS
-SPDXRef-b</text>
----
-10 6 -
-Relationship:
----
-2 7 -
-Relationship: x
-A
----
-3 7 -
-Relationship: x
-A: <text>
-B: <text> </text
----
-4 8 -
-Relationship: x
-A: <text>
-</text> .
-B: <text>
----
-10 6 -
-Relationship: x
-Created: y
-Created: z
----
-9 6 Created
-Created: y
-Relationship: x
----
-10 7 -
-FileName: f
-Relationship: x
----
-7 7 -
-FileName: f
-SPDXID: x
-SPDXID: y
----
-9 8 SPDXID
-FileName: f
-SPDXID: SPDXRef-f
-SPDXID: y
----
-document
-PackageVersion: 1
-PackageVersion: 1
----
-document
-SnippetSPDXID: SPDXRef-s
-SPDXID: x
-SPDXID: y
----
-document
-LicenseID: LicenseRef-1
-SPDXID: SPDXRef-1
-SnippetSPDXID: SPDXRef-1
----
-document
-Creator: a
-Creator: b
-Foo: x
-Foo: y
----
-document
-Relationship: \tSPDXRef-a  DEPENDS_ON\tDocumentRef-x.1+y:SPDXRef-b
----
-document
-Relationship: DocumentRef-a:SPDXRef-b OTHER NONE
-Relationship: SPDXRef-a _ NOASSERTION
----
-document
-FileName: f
-SPDXID: SPDXRef-f
-FileChecksum: SHA1: x
-FileChecksum: MD5: y
-LicenseInfoInFile: a
-LicenseInfoInFile: b
----
-document
-PackageName:
-SPDXID: SPDXRef-p
-PackageName:
-SPDXID: SPDXRef-q";
-
-// Asserts the answer to a text with the lines of a case behind it.
+// Asserts the answer to a text with lines behind it.
 fn expect_behind(
     rt: &impl Abort,
     alloc: Global,
     front: &str,
-    case: &str,
+    lines: &str,
+    expected: &str,
 ) -> Result<(), AllocError> {
-    let (expected, lines) = case.split_once('\n').unwrap_or((case, ""));
     let text = format!(in alloc; "{front}{lines}\n")?;
     expect_told(rt, alloc, lines, text.as_bytes(), expected)
 }
 
 #[test]
 fn tells_faults_in_their_order(rt: HostRuntime) -> Result<(), AllocError> {
-    assert!(rt; CASES.split("\n---\n").count() == 43);
-    for case in CASES.split("\n---\n") {
-        expect_behind(&rt, rt.alloc(), HEAD, case)?;
+    for (lines, expected) in &CASES {
+        expect_behind(&rt, rt.alloc(), HEAD, lines, expected)?;
     }
     Ok(())
 }
@@ -248,6 +148,6 @@ fn tells_faults_of_the_head(rt: HostRuntime) -> Result<(), AllocError> {
 
 #[test]
 fn tells_a_repetition(rt: HostRuntime) -> Result<(), AllocError> {
-    let case = "9 15 DocumentName\nDocumentName: e";
-    expect_behind(&rt, rt.alloc(), SMALL, case)
+    let again = "DocumentName: e";
+    expect_behind(&rt, rt.alloc(), SMALL, again, "9 15 DocumentName")
 }

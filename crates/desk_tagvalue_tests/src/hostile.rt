@@ -141,31 +141,30 @@ fn answers_each_changed_byte(rt: HostRuntime) -> Result<(), AllocError> {
 }
 
 // A text, one that stands so many times behind it and one behind that, and the answer.
-const LARGE: [((&str, &str, usize, &str), &str); 7] = [
-    (("", "\n", 4_194_304, ""), "6 1 SPDXVersion"),
-    (("", "\n", 4_194_305, ""), "11 0 -"),
-    (("", "x", 4_194_304, ""), "2 1 -"),
-    (("", ":", 4_194_304, ""), "2 1 -"),
-    (("A: b\nB: <text>", "<", 4_000_000, ""), "3 2 -"),
-    (("a:", " \t", 2_000_000, "\n\r"), "2 2 -"),
-    (("", "a: \0\n", 100_000, ""), "6 1 SPDXVersion"),
+const LARGE: [(&str, &str, usize, &str, &str); 7] = [
+    ("", "\n", 4_194_304, "", "6 1 SPDXVersion"),
+    ("", "\n", 4_194_305, "", "11 0 -"),
+    ("", "x", 4_194_304, "", "2 1 -"),
+    ("", ":", 4_194_304, "", "2 1 -"),
+    ("A: b\nB: <text>", "<", 4_000_000, "", "3 2 -"),
+    ("a:", " \t", 2_000_000, "\n\r", "2 2 -"),
+    ("", "a: \0\n", 100_000, "", "6 1 SPDXVersion"),
 ];
 
 fn expect_many(
     rt: &impl Abort,
     alloc: Global,
-    (front, each, times, back): (&str, &str, usize, &str),
-    expected: &str,
+    (front, each, times, back, expected): &(&str, &str, usize, &str, &str),
 ) -> Result<(), AllocError> {
-    let many = each.repeat(alloc, times)?;
-    let text = [front, many.as_str(), back].concat(alloc)?;
+    let many = each.repeat(alloc, *times)?;
+    let text = [*front, many.as_str(), *back].concat(alloc)?;
     expect_told(rt, alloc, each, text.as_bytes(), expected)
 }
 
 #[test]
 fn answers_large_texts(rt: HostRuntime) -> Result<(), AllocError> {
-    for (text, expected) in &LARGE {
-        expect_many(&rt, rt.alloc(), *text, expected)?;
+    for case in &LARGE {
+        expect_many(&rt, rt.alloc(), case)?;
     }
     Ok(())
 }
