@@ -272,6 +272,10 @@ fn tells_duties_without_a_day(rt: HostRuntime) -> Result<(), Fail> {
     Ok(())
 }
 
+fn counted(alloc: Global, totals: Totals) -> Result<String, AllocError> {
+    reply_line(alloc, &Outcome::Answered(Answer::Totals(totals)))
+}
+
 #[test]
 fn tells_totals(rt: HostRuntime) -> Result<(), Fail> {
     let withdrawn = Totals {
@@ -292,10 +296,14 @@ fn tells_totals(rt: HostRuntime) -> Result<(), Fail> {
         (withdrawn, r#"{"rows":[[3,0,1,0,2]]}"#),
         (each, r#"{"rows":[[18446744073709551615,1,2,3,4]]}"#),
     ] {
-        let reply = reply_line(rt.alloc(), &Outcome::Answered(Answer::Totals(totals)))?;
+        let reply = counted(rt.alloc(), totals)?;
         assert!(rt; reply.as_str() == line, "{reply}");
     }
     Ok(())
+}
+
+fn failed(alloc: Global, fault: Fault) -> Result<String, AllocError> {
+    reply_line(alloc, &Outcome::Failed(fault))
 }
 
 #[test]
@@ -305,7 +313,7 @@ fn tells_faults(rt: HostRuntime) -> Result<(), Fail> {
         (Fault::Store(StoreFault::Database), r#"{"fault":"store"}"#),
         (Fault::Store(StoreFault::Rows), r#"{"fault":"store"}"#),
     ] {
-        let reply = reply_line(rt.alloc(), &Outcome::Failed(fault))?;
+        let reply = failed(rt.alloc(), fault)?;
         assert!(rt; reply.as_str() == line, "{reply}");
     }
     assert!(rt; memory_line() == r#"{"fault":"memory"}"#);

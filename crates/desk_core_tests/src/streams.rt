@@ -138,49 +138,30 @@ impl Write for Held {
     }
 }
 
-/// Whether the desk replies to the rest of the requests, from one of them on, as it is to.
+/// Whether the desk serves the rest of the requests, from one of them on, as it is to. The one at place 8 is refused.
 fn goes_on(alloc: Global, desk: &mut Tested, from: usize) -> Result<bool, AllocError> {
     let requests = rest(alloc, REQUESTS.as_slice(), from)?;
+    let replies = rest(alloc, REPLIES.as_slice(), from)?;
     let mut written: Vec<u8> = Vec::new(alloc);
-    let _end = script(alloc, desk, &mut requests.as_bytes(), &mut written);
-    Ok(written.as_slice() == rest(alloc, REPLIES.as_slice(), from)?.as_bytes())
+    let refused = if from > 8 { 0 } else { 1 };
+    match script(alloc, desk, &mut requests.as_bytes(), &mut written) {
+        Ok(end) => Ok(
+            end.refused == refused && end.failed == 0 && written.as_slice() == replies.as_bytes(),
+        ),
+        Err(_) => Ok(false),
+    }
 }
 
 #[test]
 fn replies_to_a_release(rt: HostRuntime) -> Result<(), Fail> {
-    let requests = rest(rt.alloc(), REQUESTS.as_slice(), 0)?;
-    let replies = rest(rt.alloc(), REPLIES.as_slice(), 0)?;
-    let mut desk = empty_desk(rt.alloc());
-    let mut written: Vec<u8> = Vec::new(rt.alloc());
-    let end = script(
-        rt.alloc(),
-        &mut desk,
-        &mut requests.as_bytes(),
-        &mut written,
-    );
-    assert!(rt;
-        matches!(
-            end,
-            Ok(ScriptEnd {
-                refused: 1,
-                failed: 0
-            })
-        )
-    );
-    assert!(rt; written.as_slice() == replies.as_bytes());
+    assert!(rt; goes_on(rt.alloc(), &mut empty_desk(rt.alloc()), 0)?);
     Ok(())
 }
 
 /// How many requests are whole among the first so many bytes.
-fn whole_requests(bytes: usize) -> usize {
-    let mut left = bytes;
-    for (count, request) in REQUESTS.iter().enumerate() {
-        match left.checked_sub(request.len()) {
-            Some(more) => left = more,
-            None => return count,
-        }
-    }
-    REQUESTS.len()
+fn whole_requests(requests: &str, bytes: usize) -> usize {
+    let came = requests.get(..bytes).unwrap_or(requests);
+    came.split('\n').skip(1).count()
 }
 
 /// Whether a script stands, as it is to, where its reader fails after so many pieces of 97 bytes.
@@ -194,7 +175,7 @@ fn stands_after(alloc: Global, pieces: usize) -> Result<bool, AllocError> {
     };
     let mut written: Vec<u8> = Vec::new(alloc);
     let end = script(alloc, &mut desk, &mut reader, &mut written);
-    let whole = whole_requests(pieces.saturating_mul(97));
+    let whole = whole_requests(requests.as_str(), pieces.saturating_mul(97));
     let first = REPLIES.get(..whole).unwrap_or_default().concat(alloc)?;
     Ok(
         matches!(end, Err(ScriptFault::Read))
@@ -244,22 +225,31 @@ fn reads_so_often_and_no_more(rt: HostRuntime) {
     );
 }
 
+/// Serves a request, and answers what was written and how it ended.
+fn served(
+    alloc: Global,
+    desk: &mut Tested,
+    request: &str,
+) -> (Held, Result<ScriptEnd, ScriptFault>) {
+    let mut held = Held::new();
+    let end = script(alloc, desk, &mut request.as_bytes(), &mut held);
+    (held, end)
+}
+
 /// Whether a request is replied as it is to. Where memory was wanting for it, that was told, or nothing was written, and it is served
 /// once more: a command whose reply was lost may stand, and is then refused or known, so its second reply isn't compared.
 fn is_served(alloc: Global, desk: &mut Tested, request: &str, reply: &str) -> bool {
-    let mut held = Held::new();
-    match script(alloc, desk, &mut request.as_bytes(), &mut held) {
-        Ok(ScriptEnd { failed: 0, .. }) => return held.written() == reply.as_bytes(),
-        Ok(end) if end.failed > 1 || held.written() != FAULT.as_bytes() => return false,
-        Ok(_) => {}
-        Err(ScriptFault::Memory) if held.written().is_empty() => {}
-        Err(_) => return false,
-    }
-    let mut held = Held::new();
-    let end = script(alloc, desk, &mut request.as_bytes(), &mut held);
-    let is_command = request.starts_with("{\"do\"");
-    matches!(end, Ok(ScriptEnd { failed: 0, .. }))
-        && (is_command || held.written() == reply.as_bytes())
+    let (held, end) = served(alloc, desk, request);
+    let wanted = match end {
+        Ok(end) if end.failed == 0 => return held.written() == reply.as_bytes(),
+        Ok(end) if end.failed == 1 => FAULT,
+        Err(ScriptFault::Memory) => "",
+        _ => return false,
+    };
+    let is_told = held.written() == wanted.as_bytes();
+    let (held, end) = served(alloc, desk, request);
+    let is_same = request.starts_with("{\"do\"") || held.written() == reply.as_bytes();
+    is_told && is_same && matches!(end, Ok(end) if end.failed == 0)
 }
 
 /// The first release, where any one allocation may be refused.
