@@ -2,8 +2,8 @@
 //! a line `TEXT => ANSWER`.
 
 use crate::answers::{Question, are_same, expect, is_told_or_memory};
-use desk_expr::ParseFault;
 use std::alloc::{AllocError, Global};
+use std::test::Fail;
 
 const VERDICTS: &str = "MIT; mit => true Minimal
 A AND B OR C; C => true Minimal
@@ -70,7 +70,7 @@ fn terms_are_kept_as_they_compare(rt: HostRuntime) -> Result<(), AllocError> {
 }
 
 #[test]
-fn terms_are_compared(rt: HostRuntime) -> Result<(), ParseFault> {
+fn terms_are_compared(rt: HostRuntime) -> Result<(), Fail> {
     let exception = "GPL-2.0+ WITH Classpath-Exception-2.0";
     let folded = "gpl-2.0+ WITH classpath-exception-2.0";
     assert!(rt; are_same(rt.alloc(), exception, folded)?);
