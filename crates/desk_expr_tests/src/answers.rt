@@ -65,6 +65,7 @@ fn terms_text(alloc: Global, terms: &[Term]) -> Result<String, AllocError> {
     Ok(text)
 }
 
+// An expression as it is asked for.
 fn view(alloc: Global, question: Question, expr: &Expr) -> Result<String, AllocError> {
     match question {
         Question::Shape => shape_text(alloc, expr),
@@ -92,6 +93,11 @@ fn term_text(alloc: Global, term: &Term) -> Result<String, AllocError> {
 fn term(alloc: Global, text: &str) -> Result<String, ParseFault> {
     let term = parse_term(alloc, text)?;
     Ok(term_text(alloc, &term)?)
+}
+
+/// Whether two texts spell the same term.
+pub fn are_same(alloc: Global, one: &str, other: &str) -> Result<bool, ParseFault> {
+    Ok(parse_term(alloc, one)? == parse_term(alloc, other)?)
 }
 
 fn terms_of(alloc: Global, words: &str) -> Result<Vec<Term>, ParseFault> {

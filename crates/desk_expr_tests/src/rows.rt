@@ -1,8 +1,9 @@
 //! Worked examples: verdicts, faults, trees, terms and printed texts, worked out by hand from the definitions. Each case is
 //! a line `TEXT => ANSWER`.
 
-use crate::answers::{Question, expect, is_told_or_memory};
+use crate::answers::{Question, are_same, expect, is_told_or_memory};
 use std::alloc::{AllocError, Global};
+use std::test::Fail;
 
 const VERDICTS: &str = "MIT; mit => true Minimal
 A AND B OR C; C => true Minimal
@@ -66,6 +67,15 @@ LicenseRef-firm => LicenseRef-firm - -";
 #[test]
 fn terms_are_kept_as_they_compare(rt: HostRuntime) -> Result<(), AllocError> {
     expect(&rt, rt.alloc(), Question::Term, TERMS)
+}
+
+#[test]
+fn terms_are_compared(rt: HostRuntime) -> Result<(), Fail> {
+    let exception = "GPL-2.0+ WITH Classpath-Exception-2.0";
+    let folded = "gpl-2.0+ WITH classpath-exception-2.0";
+    assert!(rt; are_same(rt.alloc(), exception, folded)?);
+    assert!(rt; !are_same(rt.alloc(), "licenseref-firm", "LicenseRef-firm")?);
+    Ok(())
 }
 
 #[test]

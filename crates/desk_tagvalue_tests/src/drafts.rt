@@ -24,6 +24,7 @@ fn files_of(alloc: Global, rows: &[(&str, &str)]) -> Result<Items<DraftFile>, Al
     Ok(files)
 }
 
+// Three at once: each text that is made before another can fail makes the proof longer.
 fn three_texts(alloc: Global, texts: [&str; 3]) -> Result<(Text, Text, Text), AllocError> {
     Ok((
         Text::of(alloc, texts[0])?,
