@@ -18,7 +18,7 @@ n=1
 while [ "$n" -le "$last" ]; do
     rt try --test --fail-alloc "$n" >"$output" 2>&1 || :
     # What a failing test tells: an error, or the left side of an assertion.
-    told=$(grep -E '^ +(error:|left:)' "$output" | grep -vE 'Memory|AllocError|OutOfMemory' || :)
+    told=$(grep -iE '^ *(error:|left:)' "$output" | grep -vE 'Memory|AllocError|OutOfMemory' || :)
     if grep -q 'memory.* \.\.\. ok' "$output" && [ -z "$told" ]; then
         passed=$((passed + 1))
     else
