@@ -4,7 +4,8 @@
 #   tests/memory.sh CRATE LAST
 #
 # The Nth run refuses the Nth allocation of each test, for N from 1 to LAST. A test may end early, by an
-# error that is want of memory; the test whose name has 'memory' in it must pass each time.
+# error that is want of memory; the test whose name has 'memory' in it must pass each time. An assertion of another test that
+# fails with a message of its own isn't seen.
 set -eu
 
 crate=${1:?the crate}
