@@ -12,17 +12,10 @@ use Rattle.desk_rows.specs.declared.state.ReleaseState.TheVariants.{IsOpen}
 use Rattle.desk_rows.specs.declared.command.Answer.{Answer}
 use Rattle.desk_rows.specs.declared.command.Command.TheVariants.{Meet}
 
-pub both_ok : {A E : Type 0} (r : Result A E) (P Q : A → Type 0) (G : Type 0) → IfOk r P → IfOk r Q → ((x : A) → P x → Q x → G) → OnOk r G
-both_ok (Ok x) P Q G p q f = f x p q
-both_ok (Err e) P Q G p q f = tt
+pub met_answer : (w : Readings) (t : Tables) (q : ℕ) (row : DutyRow) (day text : List ℕ) → duty_found t q ≡ Some row → row.number ≡ q → is_day day ≡ true → is_note text ≡ true → meet_duty (unwrap_or (state_found t row.release) IsOpen) (steps_found t row.number) row.state ≡ answer_from w t (Meet q day text)
+met_answer w t q row day text e n d x =
+    ap (λ (k : ℕ). meet_duty (unwrap_or (state_found t row.release) IsOpen) (steps_found t k) row.state) n
+    ∙ sym (rw (e, d, x) refl)
 
-pub met_answer : (w : Readings) (t t1 : Tables) (q : ℕ) (row : DutyRow) (day text : List ℕ) → t1 ≡ t → duty_found t q ≡ Some row → row.number ≡ q → is_day day ≡ true → is_note text ≡ true → meet_duty (unwrap_or (state_found t1 row.release) IsOpen) (steps_found t1 row.number) row.state ≡ answer_from w t (Meet q day text)
-met_answer w t t1 q row day text s e n d x =
-    ap (λ (u : Tables). meet_duty (unwrap_or (state_found u row.release) IsOpen) (steps_found u row.number) row.state) s
-    ∙ (ap (λ (k : ℕ). meet_duty (unwrap_or (state_found t row.release) IsOpen) (steps_found t k) row.state) n
-    ∙ sym (rw (e, d, x) refl))
-
-pub met_rows : (t t1 : Tables) (q n : ℕ) (day day' text : List ℕ) (a : Answer) → t1 ≡ t → n ≡ q → day' ≡ day → noted_by a (met_change t1 n day' text) t1 ≡ noted_by a (met_change t q day text) t
-met_rows t t1 q n day day' text a s e f =
-    ap (λ (u : Tables). noted_by a (met_change u n day' text) u) s
-    ∙ (ap (λ (k : ℕ). noted_by a (met_change t k day' text) t) e ∙ ap (λ (d : List ℕ). noted_by a (met_change t q d text) t) f)
+pub met_change_is : (t : Tables) (n q : ℕ) (day' day text : List ℕ) → n ≡ q → day' ≡ day → met_change t n day' text ≡ met_change t q day text
+met_change_is t n q day' day text e f = ap (λ (k : ℕ). met_change t k day' text) e ∙ ap (λ (d : List ℕ). met_change t q d text) f

@@ -41,12 +41,10 @@ freeze_fitting w t r form day ps old new o some e no_frozen no_owed g is =
       rows = ap (λ xs. froze_as t r day xs new.owed.items) frozen ∙ ap (froze_as t r day (frozen_for w (rules_found t) form r (choice_found t r) (shipped_found t r))) owed;
     }
 
-pub frozen_answer : (w : Readings) (t t1 : Tables) (r day : List ℕ) (row : ReleaseRow) → t1 ≡ t → release_found t r ≡ Some row → is_day day ≡ true → None ≡ unready row.state → freeze_open_found w t1 r row.form ≡ answer_from w t (Freeze r day)
-frozen_answer w t t1 r day row s e d u =
-    ap (λ (x : Tables). freeze_open_found w x r row.form) s ∙ sym (rw (e, d, ← u) refl)
+pub frozen_answer : (w : Readings) (t : Tables) (r day : List ℕ) (row : ReleaseRow) → release_found t r ≡ Some row → is_day day ≡ true → None ≡ unready row.state → freeze_open_found w t r row.form ≡ answer_from w t (Freeze r day)
+frozen_answer w t r day row e d u = sym (rw (e, d, ← u) refl)
 
-pub frozen_rows : (w : Readings) (t t1 : Tables) (r day day' : List ℕ) (row : ReleaseRow) (a : Answer) → t1 ≡ t → release_found t r ≡ Some row → day' ≡ day → noted_by a (freeze_change_found w t1 r row.form day') t1 ≡ noted_by a (change_for w t (Freeze r day)) t
-frozen_rows w t t1 r day day' row a s e d =
-    ap (λ (x : Tables). noted_by a (freeze_change_found w x r row.form day') x) s
-    ∙ (ap (λ (x : List ℕ). noted_by a (freeze_change_found w t r row.form x) t) d
-    ∙ ap (λ (form : List ℕ). noted_by a (freeze_change_found w t r form day) t) (sym (ap (λ (o : Option ReleaseRow). unwrap_or (option_map (λ row. row.form) o) []) e)))
+pub frozen_change : (w : Readings) (t : Tables) (r day day' : List ℕ) (row : ReleaseRow) → release_found t r ≡ Some row → day' ≡ day → freeze_change_found w t r row.form day' ≡ change_for w t (Freeze r day)
+frozen_change w t r day day' row e d =
+    ap (λ (x : List ℕ). freeze_change_found w t r row.form x) d
+    ∙ ap (λ (form : List ℕ). freeze_change_found w t r form day) (sym (ap (λ (o : Option ReleaseRow). unwrap_or (option_map (λ row. row.form) o) []) e))

@@ -1,3 +1,6 @@
+mod Attaching
+mod Following
+pub mod Chains
 mod Names
 mod Sets
 mod Places

@@ -25,10 +25,8 @@ by_document : (w : Readings) (terms : List (List ℕ)) (attached : Bool) (state 
 by_document w terms attached state row None k e = cc
 by_document w terms attached state row (Some x) k e = ap (λ (k : ℕ × Profile). choose_shipped w terms attached k.1 state row) (inner (known_document x) k e)
 
-pub found_at : (w : Readings) (terms : List (List ℕ)) (t t1 t2 : Tables) (r : List ℕ) (d : ℕ) (p : List ℕ) (found : ReleaseRow) (k : ℕ × Profile) (row : PackageRow) → release_found t r ≡ Some found → t1 ≡ t → option_map known_document (find (is_document d) t1.document) ≡ Some k → t2 ≡ t → find (is_package d p) t2.packages ≡ Some row → choose_found w t r d p terms ≡ choose_shipped w terms (list_any (is_attachment r d) t.attached) k.1 found.state row
-found_at w terms t t1 t2 r d p found k row e1 s1 e2 s2 e3 =
-    let f2 : option_map known_document (find (is_document d) t.document) ≡ Some k = ap (λ (u : Tables). option_map known_document (find (is_document d) u.document)) (sym s1) ∙ e2 in
-    let f3 : find (is_package d p) t.packages ≡ Some row = ap (λ (u : Tables). find (is_package d p) u.packages) (sym s2) ∙ e3 in
+pub found_at : (w : Readings) (terms : List (List ℕ)) (t : Tables) (r : List ℕ) (d : ℕ) (p : List ℕ) (found : ReleaseRow) (k : ℕ × Profile) (row : PackageRow) → release_found t r ≡ Some found → option_map known_document (find (is_document d) t.document) ≡ Some k → find (is_package d p) t.packages ≡ Some row → choose_found w t r d p terms ≡ choose_shipped w terms (list_any (is_attachment r d) t.attached) k.1 found.state row
+found_at w terms t r d p found k row e1 f2 f3 =
     rw (e1, f3) (by_document w terms (list_any (is_attachment r d) t.attached) found.state row (find (is_document d) t.document) k f2)
 
 pub is_found : (t : Tables) (r : List ℕ) (d : ℕ) (p : List ℕ) (state : ReleaseState) (attached : Bool) (place : Place) (o : Found) → IsOpenPlace state attached place o → place.document ≡ d → ((w : Readings) (terms : List (List ℕ)) → choose_found w t r d p terms ≡ choose_shipped w terms attached place.profile state place.row) → IsFound t r d p o

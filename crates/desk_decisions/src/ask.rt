@@ -1,9 +1,10 @@
 //! Questions are answered.
 
-ghost use Rattle.std.specs.Prelude.{◌≡◌, ℕ, IfOk, IfErr, OnOk, OnErr, map, filter, length, count_by};
+ghost use Rattle.std.specs.Prelude.{◌≡◌, ℕ, IfOk, IfErr, map, filter, length, count_by};
 ghost use Rattle.desk_rows.specs.Faults.{MayFail};
 ghost use Rattle.desk_rows.specs.Keys.{is_change_of};
 ghost use Rattle.desk_rows.specs.Queries.{duty_line, totals_of, is_open, is_met, is_waived, is_withdrawn};
+ghost use Rattle.desk_access.specs.Seen.{Looked, OfRows};
 ghost use Rattle.desk_history.specs.FromTables.{queried_from, line_found};
 
 use desk_access::store::Store;
@@ -11,14 +12,15 @@ use desk_base::{Items, Text};
 use desk_rows::{Answer, DutyLine, DutyRow, DutyState, Fault, Query, Refusal, Totals};
 use std::alloc::Global;
 
+#[tactic(auto, using(crate::proofs::Chains::same_then_kept, crate::proofs::Chains::same_then_same))]
 /// The lines of duties, each with the day of its last change.
 fn duty_lines<S: Store>(
     alloc: Global,
     store: &mut S,
     rows: Vec<DutyRow>,
 ) -> Result<Items<DutyLine>, Fault>
-    ensures lines { IfOk result (λ lines. lines ≡ map (line_found (S.rows store.old)) rows.items) }
-    ensures kept { S.rows store.new ≡ S.rows store.old }
+    ensures lines { IfOk result (λ lines. OfRows (λ t. lines ≡ map (line_found t) rows.items) (S.seen store.old) (S.seen store.new)) }
+    ensures kept { Looked (S.seen store.old) (S.seen store.new) result }
     ensures fault { IfErr result (MayFail S.tells) }
 {
     let mut lines = Items::new(alloc);
@@ -104,8 +106,8 @@ fn totals_of(rows: &[DutyRow]) -> Totals
 
 /// The duties of a release, by number.
 pub fn duties<S: Store>(alloc: Global, store: &mut S, release: &Text) -> Result<Answer, Fault>
-    ensures answer { IfOk result (λ answer. answer ≡ queried_from (S.rows store.old) (Query.Duties release.now)) }
-    ensures kept { S.rows store.new ≡ S.rows store.old }
+    ensures answer { IfOk result (λ answer. OfRows (λ t. answer ≡ queried_from t (Query.Duties release.now)) (S.seen store.old) (S.seen store.new)) }
+    ensures kept { Looked (S.seen store.old) (S.seen store.new) result }
     ensures fault { IfErr result (MayFail S.tells) }
 {
     if store.release(release.as_str())?.is_none() {
@@ -117,8 +119,8 @@ pub fn duties<S: Store>(alloc: Global, store: &mut S, release: &Text) -> Result<
 
 /// How many duties of a release stand where.
 pub fn totals<S: Store>(store: &mut S, release: &Text) -> Result<Answer, Fault>
-    ensures answer { IfOk result (λ answer. answer ≡ queried_from (S.rows store.old) (Query.Totals release.now)) }
-    ensures kept { S.rows store.new ≡ S.rows store.old }
+    ensures answer { IfOk result (λ answer. OfRows (λ t. answer ≡ queried_from t (Query.Totals release.now)) (S.seen store.old) (S.seen store.new)) }
+    ensures kept { Looked (S.seen store.old) (S.seen store.new) result }
     ensures fault { IfErr result (MayFail S.tells) }
 {
     if store.release(release.as_str())?.is_none() {
@@ -130,8 +132,8 @@ pub fn totals<S: Store>(store: &mut S, release: &Text) -> Result<Answer, Fault>
 
 /// Answers a question.
 pub fn answer_to<S: Store>(alloc: Global, store: &mut S, query: &Query) -> Result<Answer, Fault>
-    ensures answer { IfOk result (λ answer. answer ≡ queried_from (S.rows store.old) query.now) }
-    ensures kept { S.rows store.new ≡ S.rows store.old }
+    ensures answer { IfOk result (λ answer. OfRows (λ t. answer ≡ queried_from t query.now) (S.seen store.old) (S.seen store.new)) }
+    ensures kept { Looked (S.seen store.old) (S.seen store.new) result }
     ensures fault { IfErr result (MayFail S.tells) }
 {
     match query {

@@ -1,31 +1,37 @@
-//! A command is carried out over a store.
+//! A command is carried out over a store: it is decided, and then written.
 
-ghost use Rattle.std.specs.Prelude.{◌≡◌, IfOk, IfErr, OnOk, OnErr};
+ghost use Rattle.std.specs.Prelude.{◌≡◌, IfOk, IfErr, false};
 ghost use Rattle.desk_rows.specs.Readings.{Readings};
 ghost use Rattle.desk_rows.specs.Faults.{MayFail};
-ghost use Rattle.desk_history.specs.FromTables.{answer_from, rows_noted};
+ghost use Rattle.desk_rows.specs.Tables.{applied};
+ghost use Rattle.desk_rows.specs.Answers.{refused_alone};
+ghost use Rattle.desk_access.specs.Seen.{OfRows, Minds, Decides};
+ghost use Rattle.desk_access.specs.Plans.{IsPlanOf, Plans, Carries, SparesStore};
+ghost use Rattle.desk_history.specs.FromTables.{answer_from, change_for};
+ghost use Rattle.desk_rows.specs.declared.command.Command.TheVariants.{Import};
 
 use crate::catalogue::load_catalogue;
 use crate::choice::choose;
-use crate::document::import_copy;
+use crate::document::{import, import_copy};
 use crate::duty::meet;
 use crate::freeze::freeze;
 use crate::release::{attach, open_release};
 use desk_access::store::Store;
 use desk_access::texts::Texts;
-use desk_rows::{Answer, Command, Fault};
+use desk_base::Items;
+use desk_rows::{Answer, Command, Fault, Plan, Profile};
 use std::alloc::Global;
 
-/// Carries out a command over a store.
-pub fn carry_out<T: Texts, S: Store>(
+/// What a command comes to over the rows of a store.
+pub fn plan<T: Texts, S: Store>(
     alloc: Global,
     texts: &T,
     store: &mut S,
     command: &Command,
-) -> Result<Answer, Fault>
-    ensures answer { (w : Readings) → T.are_right w → IfOk result (λ a. a ≡ answer_from w (S.rows store.old) command.now) }
-    ensures ok { (w : Readings) → T.are_right w → OnOk result (S.rows store.new ≡ rows_noted w (S.rows store.old) command.now) }
-    ensures err { OnErr result (S.rows store.new ≡ S.rows store.old) }
+) -> Result<Plan, Fault>
+    ensures plan { (w : Readings) → T.are_right w → IfOk result (λ plan. OfRows (IsPlanOf w command.now plan) (S.seen store.old) (S.seen store.new)) }
+    ensures kept { Plans (S.seen store.old) (S.seen store.new) result }
+    ensures alone { (w : Readings) → T.are_right w → SparesStore (refused_alone w command.now) result }
     ensures fault { IfErr result (MayFail S.tells) }
 {
     match command {
@@ -42,4 +48,51 @@ pub fn carry_out<T: Texts, S: Store>(
         Command::Freeze { release, day } => freeze(alloc, texts, store, release, day),
         Command::Meet { duty, day, text } => meet(store, *duty, day, text),
     }
+}
+
+/// Carries out a plan: writes its change, if it has one, and gives its answer.
+fn carry_plan<S: Store>(store: &mut S, plan: Plan) -> Result<Answer, Fault>
+    ensures carries { Carries S.stands plan (S.seen store.old) (S.seen store.new) result }
+    ensures fault { IfErr result (MayFail S.tells) }
+{
+    match plan {
+        Plan::Leave(answer) => Ok(answer),
+        Plan::Make { answer, change } => {
+            store.commit(change)?;
+            Ok(answer)
+        }
+    }
+}
+
+/// Carries out a command.
+pub fn carry_out<T: Texts, S: Store>(
+    alloc: Global,
+    texts: &T,
+    store: &mut S,
+    command: &Command,
+) -> Result<Answer, Fault>
+    ensures minds { Minds (S.seen store.old) (S.seen store.new) result }
+    ensures decides { (w : Readings) → T.are_right w → Decides S.stands (λ _. Unit {0}) (λ t. t) (λ t. applied (change_for w t command.now) t) (λ t. answer_from w t command.now) (S.seen store.old) (S.seen store.new) result }
+    ensures alone { (w : Readings) → T.are_right w → IfErr result (MayFail (λ fault. refused_alone w command.now ≡ false)) }
+    ensures fault { IfErr result (MayFail S.tells) }
+{
+    let decided = plan(alloc, texts, store, command)?;
+    carry_plan(store, decided)
+}
+
+/// Carries out the import of these bytes, and keeps the bytes themselves.
+pub fn carry_import<T: Texts, S: Store>(
+    alloc: Global,
+    texts: &T,
+    store: &mut S,
+    bytes: Items<u8>,
+    profile: Profile,
+) -> Result<Answer, Fault>
+    ensures minds { Minds (S.seen store.old) (S.seen store.new) result }
+    ensures decides { (w : Readings) → T.are_right w → Decides S.stands (λ _. Unit {0}) (λ t. t) (λ t. applied (change_for w t (Import bytes profile)) t) (λ t. answer_from w t (Import bytes profile)) (S.seen store.old) (S.seen store.new) result }
+    ensures alone { (w : Readings) → T.are_right w → IfErr result (MayFail (λ fault. refused_alone w (Import bytes profile) ≡ false)) }
+    ensures fault { IfErr result (MayFail S.tells) }
+{
+    let decided = import(alloc, texts, store, bytes, profile)?;
+    carry_plan(store, decided)
 }

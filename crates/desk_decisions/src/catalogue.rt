@@ -1,17 +1,20 @@
 //! Catalogues are loaded.
 
-ghost use Rattle.std.specs.Prelude.{◌≡◌, ◌≤◌, ◌<◌, ◌+◌, ◌^◌, IfOk, IfErr, OnOk, OnErr, map, length, Ok, Some};
+ghost use Rattle.std.specs.Prelude.{◌≡◌, ◌≤◌, ◌<◌, ◌+◌, ◌^◌, IfOk, IfErr, map, length, Ok, Some, false};
 ghost use Rattle.desk_rows.specs.Readings.{Readings};
 ghost use Rattle.desk_rows.specs.Faults.{MayFail};
 ghost use Rattle.desk_rows.specs.History.{rule_row};
-ghost use Rattle.desk_rows.specs.Answers.{load_answer};
-ghost use Rattle.desk_history.specs.FromTables.{answer_from, rows_noted, noted_by, loaded_change};
+ghost use Rattle.desk_rows.specs.Answers.{load_answer, refused_alone};
+ghost use Rattle.desk_history.specs.FromTables.{loaded_change};
+ghost use Rattle.desk_access.specs.Seen.{OfRows};
+ghost use Rattle.desk_access.specs.Plans.{IsPlan, IsPlanOf, Plans, SparesStore};
 ghost use Rattle.desk_rows.specs.declared.command.Command.TheVariants.{LoadCatalogue};
 
+use crate::plan::refused;
 use desk_access::store::Store;
 use desk_access::texts::Texts;
 use desk_base::{Items, Text};
-use desk_rows::{Answer, Catalogue, CatalogueRow, Change, Fault, Limit, Refusal, Rule, RuleRow};
+use desk_rows::{Answer, Catalogue, CatalogueRow, Change, Fault, Limit, Plan, Refusal, Rule, RuleRow};
 use std::alloc::{AllocError, Global};
 
 /// How many revisions of the catalogue a desk keeps.
@@ -39,15 +42,14 @@ fn load_read<S: Store>(
     store: &mut S,
     text: &Text,
     catalogue: Catalogue,
-) -> Result<Answer, Fault>
-    ensures answer { IfOk result (λ answer. answer ≡ load_answer (Ok catalogue) (length (S.rows store.old).catalogue)) }
-    ensures ok { IfOk result (λ answer. S.rows store.new ≡ noted_by answer (loaded_change (S.rows store.old) text.now (Some catalogue)) (S.rows store.old)) }
-    ensures err { OnErr result (S.rows store.new ≡ S.rows store.old) }
+) -> Result<Plan, Fault>
+    ensures plan { IfOk result (λ plan. OfRows (λ t. IsPlan (load_answer (Ok catalogue) (length t.catalogue)) (loaded_change t text.now (Some catalogue)) plan) (S.seen store.old) (S.seen store.new)) }
+    ensures kept { Plans (S.seen store.old) (S.seen store.new) result }
     ensures fault { IfErr result (MayFail S.tells) }
 {
     let count = store.revision_count()?;
     if count >= MAX_REVISIONS {
-        return Ok(Answer::Refused(Refusal::Full(Limit::Revisions)));
+        return Ok(refused(Refusal::Full(Limit::Revisions)));
     }
     let revision = count as u32 + 1;
     let Ok(body) = text.clone() else {
@@ -56,12 +58,14 @@ fn load_read<S: Store>(
     let Ok(rules) = rule_rows(alloc, revision, catalogue.rules.into_vec()) else {
         return Err(Fault::Memory);
     };
-    store.commit(Change::Loaded {
-        catalogue: CatalogueRow { revision, body },
-        rules,
-        forms: catalogue.forms,
-    })?;
-    Ok(Answer::Revision(revision))
+    Ok(Plan::Make {
+        answer: Answer::Revision(revision),
+        change: Change::Loaded {
+            catalogue: CatalogueRow { revision, body },
+            rules,
+            forms: catalogue.forms,
+        },
+    })
 }
 
 /// Loads the catalogue that a text is.
@@ -70,17 +74,17 @@ pub fn load_catalogue<T: Texts, S: Store>(
     texts: &T,
     store: &mut S,
     text: &Text,
-) -> Result<Answer, Fault>
-    ensures answer { (w : Readings) → T.are_right w → IfOk result (λ answer. answer ≡ answer_from w (S.rows store.old) (LoadCatalogue text.now)) }
-    ensures ok { (w : Readings) → T.are_right w → OnOk result (S.rows store.new ≡ rows_noted w (S.rows store.old) (LoadCatalogue text.now)) }
-    ensures err { OnErr result (S.rows store.new ≡ S.rows store.old) }
+) -> Result<Plan, Fault>
+    ensures plan { (w : Readings) → T.are_right w → IfOk result (λ plan. OfRows (IsPlanOf w (LoadCatalogue text.now) plan) (S.seen store.old) (S.seen store.new)) }
+    ensures kept { Plans (S.seen store.old) (S.seen store.new) result }
+    ensures alone { (w : Readings) → T.are_right w → SparesStore (refused_alone w (LoadCatalogue text.now)) result }
     ensures fault { IfErr result (MayFail S.tells) }
 {
     let Ok(read) = texts.catalogue(alloc, text.as_str()) else {
         return Err(Fault::Memory);
     };
     match read {
-        Err(fault) => Ok(Answer::Refused(Refusal::BadCatalogue(fault))),
+        Err(fault) => Ok(refused(Refusal::BadCatalogue(fault))),
         Ok(catalogue) => load_read(alloc, store, text, catalogue),
     }
 }

@@ -1,24 +1,27 @@
 //! Terms are chosen for the packages of a release.
 
-ghost use Rattle.std.specs.Prelude.{◌≡◌, ◌≤◌, ◌<◌, ◌+◌, ◌++◌, ◌∷◌, [], IfOk, IfErr, OnOk, OnErr, MatchOption, insert, map, length, Ok, Some, None, Option, filter};
+ghost use Rattle.std.specs.Prelude.{◌≡◌, ◌≤◌, ◌<◌, ◌+◌, ◌++◌, ◌∷◌, [], IfOk, IfErr, OnOk, false, MatchOption, insert, map, length, Ok, Some, None, Option, filter};
 ghost use Rattle.std.specs.Option.{option_map};
 ghost use Rattle.desk_rows.specs.Readings.{Readings};
 ghost use Rattle.desk_rows.specs.Faults.{MayFail};
 ghost use Rattle.desk_rows.specs.Texts.{put_new, sorted_set};
 ghost use Rattle.desk_rows.specs.Tables.{choice_row};
 ghost use Rattle.desk_rows.specs.Answers.{choose_for, refused_or};
-ghost use Rattle.desk_history.specs.FromTables.{answer_from, rows_noted, noted_by, chosen_change};
+ghost use Rattle.desk_history.specs.FromTables.{chosen_change};
+ghost use Rattle.desk_access.specs.Seen.{Looked, OfRows};
+ghost use Rattle.desk_access.specs.Plans.{IsPlan, IsPlanOf, IsSound, Plans, SparesStore};
 ghost use Rattle.desk_decisions.specs.Walks.{AreTermsOf, choose_found, IsFound, IsOpenPlace};
-ghost use Rattle.desk_rows.specs.Answers.{judged};
+ghost use Rattle.desk_rows.specs.Answers.{judged, refused_alone};
 ghost use Rattle.desk_rows.specs.declared.command.Answer.TheVariants.{Done};
 ghost use Rattle.desk_rows.specs.declared.command.Command.TheVariants.{Choose};
 
+use crate::plan::{done, refused};
 use crate::release::unready;
 use desk_access::store::Store;
 use desk_access::texts::Texts;
 use desk_base::{Items, Text};
 use desk_rows::{
-    Answer, Change, ChoiceRow, Fault, PackageRow, Profile, Refusal, ReleaseState, Verdict,
+    Change, ChoiceRow, Fault, PackageRow, Plan, Profile, Refusal, ReleaseState, Verdict,
 };
 use std::alloc::{AllocError, Global};
 
@@ -200,8 +203,8 @@ fn find_place<S: Store>(
     document: u64,
     package_id: &Text,
 ) -> Result<Found, Fault>
-    ensures found { IfOk result (IsFound (S.rows store.old) release.now document package_id.now) }
-    ensures kept { S.rows store.new ≡ S.rows store.old }
+    ensures found { IfOk result (λ found. OfRows (λ t. IsFound t release.now document package_id.now found) (S.seen store.old) (S.seen store.new)) }
+    ensures kept { Looked (S.seen store.old) (S.seen store.new) result }
     ensures fault { IfErr result (MayFail S.tells) }
 {
     let Some(found) = store.release(release.as_str())? else {
@@ -223,31 +226,27 @@ fn find_place<S: Store>(
 }
 
 /// Chooses terms that were read, at a place.
-fn choose_at<T: Texts, S: Store>(
+fn choose_at<T: Texts>(
     alloc: Global,
     texts: &T,
-    store: &mut S,
     release: &Text,
     place: &Place,
     package_id: &Text,
     terms: Items<Text>,
-) -> Result<Answer, Fault>
-    ensures answer { (w : Readings) → T.are_right w → IfOk result (λ answer. answer ≡ choose_for w terms place.now.profile place.now.row) }
-    ensures ok { IfOk result (λ answer. S.rows store.new ≡ noted_by answer (chosen_change release.now place.now.document package_id.now (sorted_set terms)) (S.rows store.old)) }
-    ensures err { OnErr result (S.rows store.new ≡ S.rows store.old) }
-    ensures fault { IfErr result (MayFail S.tells) }
+) -> Result<Plan, AllocError>
+    ensures plan { (w : Readings) → T.are_right w → IfOk result (IsPlan (choose_for w terms place.now.profile place.now.row) (chosen_change release.now place.now.document package_id.now (sorted_set terms))) }
+    ensures sound { IfOk result IsSound }
 {
-    let Ok(refusal) = judge(alloc, texts, place.profile, &place.row, terms.as_slice()) else {
-        return Err(Fault::Memory);
-    };
-    if let Some(refusal) = refusal {
-        return Ok(Answer::Refused(refusal));
+    if let Some(refusal) = judge(alloc, texts, place.profile, &place.row, terms.as_slice())? {
+        return Ok(refused(refusal));
     }
-    let Ok(change) = chosen(alloc, release, place.document, package_id, terms) else {
-        return Err(Fault::Memory);
-    };
-    store.commit(change)?;
-    Ok(Answer::Done)
+    Ok(done(chosen(
+        alloc,
+        release,
+        place.document,
+        package_id,
+        terms,
+    )?))
 }
 
 /// Chooses terms that were read.
@@ -259,15 +258,16 @@ fn choose_terms<T: Texts, S: Store>(
     document: u64,
     package_id: &Text,
     terms: Items<Text>,
-) -> Result<Answer, Fault>
-    ensures answer { (w : Readings) → T.are_right w → IfOk result (λ answer. answer ≡ choose_found w (S.rows store.old) release.now document package_id.now terms) }
-    ensures ok { IfOk result (λ answer. S.rows store.new ≡ noted_by answer (chosen_change release.now document package_id.now (sorted_set terms)) (S.rows store.old)) }
-    ensures err { OnErr result (S.rows store.new ≡ S.rows store.old) }
+) -> Result<Plan, Fault>
+    ensures plan { (w : Readings) → T.are_right w → IfOk result (λ plan. OfRows (λ t. IsPlan (choose_found w t release.now document package_id.now terms) (chosen_change release.now document package_id.now (sorted_set terms)) plan) (S.seen store.old) (S.seen store.new)) }
+    ensures kept { Plans (S.seen store.old) (S.seen store.new) result }
     ensures fault { IfErr result (MayFail S.tells) }
 {
     match find_place(store, release, document, package_id)? {
-        Found::Nowhere(refusal) => Ok(Answer::Refused(refusal)),
-        Found::Here(place) => choose_at(alloc, texts, store, release, &place, package_id, terms),
+        Found::Nowhere(refusal) => Ok(refused(refusal)),
+        Found::Here(place) => Ok(choose_at(
+            alloc, texts, release, &place, package_id, terms,
+        )?),
     }
 }
 
@@ -280,17 +280,17 @@ pub fn choose<T: Texts, S: Store>(
     document: u64,
     package_id: &Text,
     words: &Items<Text>,
-) -> Result<Answer, Fault>
-    ensures answer { (w : Readings) → T.are_right w → IfOk result (λ answer. answer ≡ answer_from w (S.rows store.old) (Choose release.now document package_id.now words.now)) }
-    ensures ok { (w : Readings) → T.are_right w → OnOk result (S.rows store.new ≡ rows_noted w (S.rows store.old) (Choose release.now document package_id.now words.now)) }
-    ensures err { OnErr result (S.rows store.new ≡ S.rows store.old) }
+) -> Result<Plan, Fault>
+    ensures plan { (w : Readings) → T.are_right w → IfOk result (λ plan. OfRows (IsPlanOf w (Choose release.now document package_id.now words.now) plan) (S.seen store.old) (S.seen store.new)) }
+    ensures kept { Plans (S.seen store.old) (S.seen store.new) result }
+    ensures alone { (w : Readings) → T.are_right w → SparesStore (refused_alone w (Choose release.now document package_id.now words.now)) result }
     ensures fault { IfErr result (MayFail S.tells) }
 {
     let Ok(read) = read_terms(alloc, texts, words.as_slice()) else {
         return Err(Fault::Memory);
     };
     match read {
-        TermsRead::BadTerm(i) => Ok(Answer::Refused(Refusal::BadTerm(i))),
+        TermsRead::BadTerm(i) => Ok(refused(Refusal::BadTerm(i))),
         TermsRead::Terms(terms) => choose_terms(
             alloc, texts, store, release, document, package_id, terms,
         ),

@@ -1,19 +1,22 @@
 //! Documents are imported.
 
-ghost use Rattle.std.specs.Prelude.{◌≡◌, ◌≤◌, ◌<◌, ◌+◌, ◌^◌, IfOk, IfErr, OnOk, OnErr, map, length, Ok, Some};
+ghost use Rattle.std.specs.Prelude.{◌≡◌, ◌≤◌, ◌<◌, ◌+◌, ◌^◌, IfOk, IfErr, map, length, Ok, Some, false};
 ghost use Rattle.desk_rows.specs.Readings.{Readings};
 ghost use Rattle.desk_rows.specs.Faults.{MayFail};
 ghost use Rattle.desk_rows.specs.History.{package_row, extracted_row};
-ghost use Rattle.desk_rows.specs.Answers.{import_answer};
-ghost use Rattle.desk_history.specs.FromTables.{answer_from, rows_noted, noted_by, imported_as, imported_change};
+ghost use Rattle.desk_rows.specs.Answers.{import_answer, refused_alone};
+ghost use Rattle.desk_history.specs.FromTables.{imported_as, imported_change};
+ghost use Rattle.desk_access.specs.Seen.{OfRows};
+ghost use Rattle.desk_access.specs.Plans.{IsPlan, IsPlanOf, Plans, SparesStore};
 ghost use Rattle.desk_rows.specs.declared.command.Command.TheVariants.{Import};
 
+use crate::plan::refused;
 use desk_access::store::Store;
 use desk_access::texts::Texts;
 use desk_base::Items;
 use desk_rows::{
     Answer, Change, Document, DocumentRow, ExtractedRow, Fault, Limit, Package, PackageRow,
-    Profile, Reference, Refusal,
+    Plan, Profile, Reference, Refusal,
 };
 use std::alloc::{AllocError, Global};
 
@@ -91,10 +94,9 @@ fn import_read<S: Store>(
     bytes: Items<u8>,
     profile: Profile,
     document: Document,
-) -> Result<Answer, Fault>
-    ensures answer { IfOk result (λ answer. answer ≡ import_answer (Ok document) bytes (S.rows store.old).document) }
-    ensures ok { IfOk result (λ answer. S.rows store.new ≡ noted_by answer (imported_change (S.rows store.old) bytes profile (Some document)) (S.rows store.old)) }
-    ensures err { OnErr result (S.rows store.new ≡ S.rows store.old) }
+) -> Result<Plan, Fault>
+    ensures plan { IfOk result (λ plan. OfRows (λ t. IsPlan (import_answer (Ok document) bytes t.document) (imported_change t bytes profile (Some document)) plan) (S.seen store.old) (S.seen store.new)) }
+    ensures kept { Plans (S.seen store.old) (S.seen store.new) result }
     ensures fault { IfErr result (MayFail S.tells) }
 {
     if let Some((number, is_same)) = store.import_of(
@@ -102,20 +104,22 @@ fn import_read<S: Store>(
         bytes.as_slice(),
     )? {
         if is_same {
-            return Ok(Answer::Again(number));
+            return Ok(Plan::Leave(Answer::Again(number)));
         }
-        return Ok(Answer::Refused(Refusal::NamespaceTaken { document: number }));
+        return Ok(refused(Refusal::NamespaceTaken { document: number }));
     }
     let count = store.document_count()?;
     if count >= MAX_DOCUMENTS {
-        return Ok(Answer::Refused(Refusal::Full(Limit::Documents)));
+        return Ok(refused(Refusal::Full(Limit::Documents)));
     }
     let number = count as u32 + 1;
     let Ok(change) = imported(alloc, number, bytes, profile, document) else {
         return Err(Fault::Memory);
     };
-    store.commit(change)?;
-    Ok(Answer::Imported(number))
+    Ok(Plan::Make {
+        answer: Answer::Imported(number),
+        change,
+    })
 }
 
 /// Imports the document that bytes spell, and keeps them.
@@ -125,17 +129,17 @@ pub fn import<T: Texts, S: Store>(
     store: &mut S,
     bytes: Items<u8>,
     profile: Profile,
-) -> Result<Answer, Fault>
-    ensures answer { (w : Readings) → T.are_right w → IfOk result (λ answer. answer ≡ answer_from w (S.rows store.old) (Import bytes profile)) }
-    ensures ok { (w : Readings) → T.are_right w → OnOk result (S.rows store.new ≡ rows_noted w (S.rows store.old) (Import bytes profile)) }
-    ensures err { OnErr result (S.rows store.new ≡ S.rows store.old) }
+) -> Result<Plan, Fault>
+    ensures plan { (w : Readings) → T.are_right w → IfOk result (λ plan. OfRows (IsPlanOf w (Import bytes profile) plan) (S.seen store.old) (S.seen store.new)) }
+    ensures kept { Plans (S.seen store.old) (S.seen store.new) result }
+    ensures alone { (w : Readings) → T.are_right w → SparesStore (refused_alone w (Import bytes profile)) result }
     ensures fault { IfErr result (MayFail S.tells) }
 {
     let Ok(read) = texts.document(alloc, bytes.as_slice()) else {
         return Err(Fault::Memory);
     };
     match read {
-        Err(fault) => Ok(Answer::Refused(Refusal::BadDocument(fault))),
+        Err(fault) => Ok(refused(Refusal::BadDocument(fault))),
         Ok(document) => import_read(alloc, store, bytes, profile, document),
     }
 }
@@ -147,10 +151,10 @@ pub(crate) fn import_copy<T: Texts, S: Store>(
     store: &mut S,
     bytes: &Items<u8>,
     profile: Profile,
-) -> Result<Answer, Fault>
-    ensures answer { (w : Readings) → T.are_right w → IfOk result (λ answer. answer ≡ answer_from w (S.rows store.old) (Import bytes.now profile)) }
-    ensures ok { (w : Readings) → T.are_right w → OnOk result (S.rows store.new ≡ rows_noted w (S.rows store.old) (Import bytes.now profile)) }
-    ensures err { OnErr result (S.rows store.new ≡ S.rows store.old) }
+) -> Result<Plan, Fault>
+    ensures plan { (w : Readings) → T.are_right w → IfOk result (λ plan. OfRows (IsPlanOf w (Import bytes.now profile) plan) (S.seen store.old) (S.seen store.new)) }
+    ensures kept { Plans (S.seen store.old) (S.seen store.new) result }
+    ensures alone { (w : Readings) → T.are_right w → SparesStore (refused_alone w (Import bytes.now profile)) result }
     ensures fault { IfErr result (MayFail S.tells) }
 {
     let Ok(copy) = Vec::from_slice(alloc, bytes.as_slice()) else {

@@ -1,19 +1,22 @@
 //! Duties are met.
 
-ghost use Rattle.std.specs.Prelude.{◌≡◌, ◌≤◌, ◌<◌, ◌+◌, IfOk, IfErr, OnOk, OnErr, MatchOption, Option, unwrap_or, true, false};
+ghost use Rattle.std.specs.Prelude.{◌≡◌, ◌≤◌, ◌<◌, ◌+◌, IfOk, IfErr, MatchOption, Option, unwrap_or, true, false};
 ghost use Rattle.std.specs.List.{list_all};
 ghost use Rattle.desk_base.specs.Day.{is_day};
 ghost use Rattle.desk_rows.specs.Readings.{Readings};
 ghost use Rattle.desk_rows.specs.Faults.{MayFail};
 ghost use Rattle.desk_rows.specs.Texts.{is_shown, is_note};
-ghost use Rattle.desk_rows.specs.Answers.{gone, settled, meet_duty};
-ghost use Rattle.desk_history.specs.FromTables.{answer_from, rows_noted, noted_by, met_change, state_found, steps_found};
+ghost use Rattle.desk_rows.specs.Answers.{gone, settled, meet_duty, refused_alone};
+ghost use Rattle.desk_history.specs.FromTables.{met_change, state_found, steps_found};
+ghost use Rattle.desk_access.specs.Seen.{Looked, OfRows};
+ghost use Rattle.desk_access.specs.Plans.{IsPlan, IsPlanOf, Plans, SparesStore};
 ghost use Rattle.desk_rows.specs.declared.command.Command.TheVariants.{Meet};
 
+use crate::plan::{done, refused};
 use desk_access::store::Store;
 use desk_base::{Day, Text};
 use desk_rows::{
-    Answer, Change, ChangeRow, DutyRow, DutyState, Fault, Limit, Refusal, ReleaseState, Word,
+    Change, ChangeRow, DutyRow, DutyState, Fault, Limit, Plan, Refusal, ReleaseState, Word,
 };
 
 /// How many changes a duty has at most before it is withdrawn.
@@ -76,8 +79,8 @@ fn settled(state: DutyState) -> Option<Refusal>
 
 /// The state of a release, open where there is none.
 fn release_state<S: Store>(store: &mut S, name: &Text) -> Result<ReleaseState, Fault>
-    ensures found { IfOk result (λ state. state ≡ unwrap_or (state_found (S.rows store.old) name.now) ReleaseState.IsOpen) }
-    ensures kept { S.rows store.new ≡ S.rows store.old }
+    ensures found { IfOk result (λ state. OfRows (λ t. state ≡ unwrap_or (state_found t name.now) ReleaseState.IsOpen) (S.seen store.old) (S.seen store.new)) }
+    ensures kept { Looked (S.seen store.old) (S.seen store.new) result }
     ensures fault { IfErr result (MayFail S.tells) }
 {
     match store.release(name.as_str())? {
@@ -92,26 +95,25 @@ fn meet_found<S: Store>(
     row: &DutyRow,
     day: Day,
     text: &Text,
-) -> Result<Answer, Fault>
-    ensures answer { IfOk result (λ answer. answer ≡ meet_duty (unwrap_or (state_found (S.rows store.old) row.now.release) ReleaseState.IsOpen) (steps_found (S.rows store.old) row.now.number) row.now.state) }
-    ensures ok { IfOk result (λ answer. S.rows store.new ≡ noted_by answer (met_change (S.rows store.old) row.now.number day text.now) (S.rows store.old)) }
-    ensures err { OnErr result (S.rows store.new ≡ S.rows store.old) }
+) -> Result<Plan, Fault>
+    ensures plan { IfOk result (λ plan. OfRows (λ t. IsPlan (meet_duty (unwrap_or (state_found t row.now.release) ReleaseState.IsOpen) (steps_found t row.now.number) row.now.state) (met_change t row.now.number day text.now) plan) (S.seen store.old) (S.seen store.new)) }
+    ensures kept { Plans (S.seen store.old) (S.seen store.new) result }
     ensures fault { IfErr result (MayFail S.tells) }
 {
     if let Some(refusal) = gone(release_state(store, &row.release)?) {
-        return Ok(Answer::Refused(refusal));
+        return Ok(refused(refusal));
     }
     if let Some(refusal) = settled(row.state) {
-        return Ok(Answer::Refused(refusal));
+        return Ok(refused(refusal));
     }
     let steps = store.steps(u64::from(row.number))?;
     if steps >= MAX_CHANGES {
-        return Ok(Answer::Refused(Refusal::Full(Limit::Changes)));
+        return Ok(refused(Refusal::Full(Limit::Changes)));
     }
     let Ok(body) = text.clone() else {
         return Err(Fault::Memory);
     };
-    store.commit(Change::Moved {
+    Ok(done(Change::Moved {
         duty: row.number,
         state: DutyState::Met,
         change: ChangeRow {
@@ -122,25 +124,24 @@ fn meet_found<S: Store>(
             body,
             last_day: None,
         },
-    })?;
-    Ok(Answer::Done)
+    }))
 }
 
 /// Meets a duty.
-pub fn meet<S: Store>(store: &mut S, duty: u64, day: &Text, text: &Text) -> Result<Answer, Fault>
-    ensures answer { (w : Readings) → IfOk result (λ answer. answer ≡ answer_from w (S.rows store.old) (Meet duty day.now text.now)) }
-    ensures ok { (w : Readings) → OnOk result (S.rows store.new ≡ rows_noted w (S.rows store.old) (Meet duty day.now text.now)) }
-    ensures err { OnErr result (S.rows store.new ≡ S.rows store.old) }
+pub fn meet<S: Store>(store: &mut S, duty: u64, day: &Text, text: &Text) -> Result<Plan, Fault>
+    ensures plan { (w : Readings) → IfOk result (λ plan. OfRows (IsPlanOf w (Meet duty day.now text.now) plan) (S.seen store.old) (S.seen store.new)) }
+    ensures kept { Plans (S.seen store.old) (S.seen store.new) result }
+    ensures alone { (w : Readings) → SparesStore (refused_alone w (Meet duty day.now text.now)) result }
     ensures fault { IfErr result (MayFail S.tells) }
 {
     let Some(day) = read_day(day) else {
-        return Ok(Answer::Refused(Refusal::BadDay));
+        return Ok(refused(Refusal::BadDay));
     };
     if !is_note(text.as_str()) {
-        return Ok(Answer::Refused(Refusal::BadText));
+        return Ok(refused(Refusal::BadText));
     }
     let Some(row) = store.duty(duty)? else {
-        return Ok(Answer::Refused(Refusal::UnknownDuty));
+        return Ok(refused(Refusal::UnknownDuty));
     };
     meet_found(store, &row, day, text)
 }

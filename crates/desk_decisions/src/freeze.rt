@@ -1,24 +1,27 @@
 //! Releases are frozen, and their duties raised.
 
-ghost use Rattle.std.specs.Prelude.{◌≡◌, ℕ, ◌≤◌, ◌<◌, ◌+◌, ◌++◌, ◌∷◌, ◌^◌, [], IfOk, IfErr, OnOk, OnErr, map, length, Ok, Some, None, Option, unwrap_or};
+ghost use Rattle.std.specs.Prelude.{◌≡◌, ℕ, ◌≤◌, ◌<◌, ◌+◌, ◌++◌, ◌∷◌, ◌^◌, [], IfOk, IfErr, OnOk, false, map, length, Ok, Some, None, Option, unwrap_or};
 ghost use Rattle.std.specs.List.{enumerate_from};
 ghost use Rattle.desk_rows.specs.Readings.{Readings};
 ghost use Rattle.desk_rows.specs.Faults.{MayFail};
 ghost use Rattle.desk_rows.specs.History.{attached_to, expression_in};
 ghost use Rattle.desk_rows.specs.Raised.{owed_under, owed_code, frozen_term, rule_adopted, shipped_of};
-ghost use Rattle.desk_rows.specs.Answers.{first_unadopted, unconcluded, unready_package, freeze_fits, profile_in};
-ghost use Rattle.desk_history.specs.FromTables.{answer_from, rows_noted, noted_by, rules_found, new_duty, raised_row, froze_rows, froze_as, freeze_open_found, freeze_change_found};
+ghost use Rattle.desk_rows.specs.Answers.{first_unadopted, unconcluded, unready_package, freeze_fits, profile_in, refused_alone};
+ghost use Rattle.desk_history.specs.FromTables.{rules_found, new_duty, raised_row, froze_rows, froze_as, freeze_open_found, freeze_change_found};
+ghost use Rattle.desk_access.specs.Seen.{Looked, OfRows};
+ghost use Rattle.desk_access.specs.Plans.{IsPlan, IsPlanOf, Plans, SparesStore};
 ghost use Rattle.desk_decisions.specs.Walks.{GathersTerms, GathersPackage, GathersAll};
 ghost use Rattle.desk_rows.specs.declared.command.Command.TheVariants.{Freeze};
 
 use crate::duty::read_day;
+use crate::plan::refused;
 use crate::release::unready;
 use desk_access::store::Store;
 use desk_access::texts::Texts;
 use desk_base::{Day, Items, Text};
 use desk_rows::{
     Answer, AttachedRow, Change, ChangeRow, DutyRow, DutyState, Fault, FrozenRow, Limit, Owed,
-    PackageRow, Profile, Refusal, Rule, Word,
+    PackageRow, Plan, Profile, Refusal, Rule, Word,
 };
 use std::alloc::{AllocError, Global};
 
@@ -108,8 +111,8 @@ fn rule_adopted<T: Texts, S: Store>(
     form: &Text,
     term: &Text,
 ) -> Result<Option<Rule>, Fault>
-    ensures found { (w : Readings) → T.are_right w → IfOk result (λ found. found ≡ rule_adopted w (rules_found (S.rows store.old)) form.now term.now) }
-    ensures kept { S.rows store.new ≡ S.rows store.old }
+    ensures found { (w : Readings) → T.are_right w → IfOk result (λ found. OfRows (λ t. found ≡ rule_adopted w (rules_found t) form.now term.now) (S.seen store.old) (S.seen store.new)) }
+    ensures kept { Looked (S.seen store.old) (S.seen store.new) result }
     ensures fault { IfErr result (MayFail S.tells) }
 {
     let Ok(reference) = texts.reference(alloc, term.as_str()) else {
@@ -163,8 +166,8 @@ fn freeze_terms<T: Texts, S: Store>(
     terms: &[Text],
     gathered: &mut Gathered,
 ) -> Result<Option<Refusal>, Fault>
-    ensures gathered { (w : Readings) → T.are_right w → IfOk result (GathersTerms w (rules_found (S.rows store.old)) form.now release.now row.now terms.now gathered.old gathered.new) }
-    ensures kept { S.rows store.new ≡ S.rows store.old }
+    ensures gathered { (w : Readings) → T.are_right w → IfOk result (λ fault. OfRows (λ t. GathersTerms w (rules_found t) form.now release.now row.now terms.now gathered.old gathered.new fault) (S.seen store.old) (S.seen store.new)) }
+    ensures kept { Looked (S.seen store.old) (S.seen store.new) result }
     ensures fault { IfErr result (MayFail S.tells) }
 {
     for term in terms {
@@ -200,8 +203,8 @@ fn unconcluded<T: Texts>(
 
 /// The profile of a package's document.
 fn profile_of<S: Store>(store: &mut S, row: &PackageRow) -> Result<Profile, Fault>
-    ensures found { IfOk result (λ profile. profile ≡ profile_in (S.rows store.old).document row.now) }
-    ensures kept { S.rows store.new ≡ S.rows store.old }
+    ensures found { IfOk result (λ profile. OfRows (λ t. profile ≡ profile_in t.document row.now) (S.seen store.old) (S.seen store.new)) }
+    ensures kept { Looked (S.seen store.old) (S.seen store.new) result }
     ensures fault { IfErr result (MayFail S.tells) }
 {
     match store.document(u64::from(row.document))? {
@@ -248,8 +251,8 @@ fn freeze_package<T: Texts, S: Store>(
     row: &PackageRow,
     gathered: &mut Gathered,
 ) -> Result<Option<Refusal>, Fault>
-    ensures gathered { (w : Readings) → T.are_right w → IfOk result (GathersPackage w (S.rows store.old) form.now release.now row.now gathered.old gathered.new) }
-    ensures kept { S.rows store.new ≡ S.rows store.old }
+    ensures gathered { (w : Readings) → T.are_right w → IfOk result (λ fault. OfRows (λ t. GathersPackage w t form.now release.now row.now gathered.old gathered.new fault) (S.seen store.old) (S.seen store.new)) }
+    ensures kept { Looked (S.seen store.old) (S.seen store.new) result }
     ensures fault { IfErr result (MayFail S.tells) }
 {
     let profile = profile_of(store, row)?;
@@ -282,8 +285,8 @@ fn freeze_packages<T: Texts, S: Store>(
     packages: &[PackageRow],
     gathered: &mut Gathered,
 ) -> Result<Option<Refusal>, Fault>
-    ensures gathered { (w : Readings) → T.are_right w → IfOk result (GathersAll w (S.rows store.old) form.now release.now packages.now gathered.old gathered.new) }
-    ensures kept { S.rows store.new ≡ S.rows store.old }
+    ensures gathered { (w : Readings) → T.are_right w → IfOk result (λ fault. OfRows (λ t. GathersAll w t form.now release.now packages.now gathered.old gathered.new fault) (S.seen store.old) (S.seen store.new)) }
+    ensures kept { Looked (S.seen store.old) (S.seen store.new) result }
     ensures fault { IfErr result (MayFail S.tells) }
 {
     for row in packages {
@@ -294,14 +297,15 @@ fn freeze_packages<T: Texts, S: Store>(
     Ok(None)
 }
 
+#[tactic(auto, using(crate::proofs::Chains::same_then_kept, crate::proofs::Chains::same_then_same))]
 /// The shipped packages of documents that are attached.
 fn shipped_packages<S: Store>(
     alloc: Global,
     store: &mut S,
     attached: &[AttachedRow],
 ) -> Result<Vec<PackageRow>, Fault>
-    ensures found { IfOk result (λ rows. rows.items ≡ shipped_of attached.now (S.rows store.old).packages) }
-    ensures kept { S.rows store.new ≡ S.rows store.old }
+    ensures found { IfOk result (λ rows. OfRows (λ t. rows.items ≡ shipped_of attached.now t.packages) (S.seen store.old) (S.seen store.new)) }
+    ensures kept { Looked (S.seen store.old) (S.seen store.new) result }
     ensures fault { IfErr result (MayFail S.tells) }
 {
     let mut all = Vec::new(alloc);
@@ -385,26 +389,27 @@ fn freeze_gathered<S: Store>(
     release: &Text,
     day: Day,
     gathered: Gathered,
-) -> Result<Answer, Fault>
-    ensures answer { IfOk result (λ answer. answer ≡ freeze_fits (length (S.rows store.old).duty) (length gathered.owed.items)) }
-    ensures ok { IfOk result (λ answer. S.rows store.new ≡ noted_by answer (froze_as (S.rows store.old) release.now day gathered.frozen.items gathered.owed.items) (S.rows store.old)) }
-    ensures err { OnErr result (S.rows store.new ≡ S.rows store.old) }
+) -> Result<Plan, Fault>
+    ensures plan { IfOk result (λ plan. OfRows (λ t. IsPlan (freeze_fits (length t.duty) (length gathered.owed.items)) (froze_as t release.now day gathered.frozen.items gathered.owed.items) plan) (S.seen store.old) (S.seen store.new)) }
+    ensures kept { Plans (S.seen store.old) (S.seen store.new) result }
     ensures fault { IfErr result (MayFail S.tells) }
 {
     let old = store.duty_count()?;
     let new = gathered.owed.len() as u64;
     if old > MAX_DUTIES || new > MAX_DUTIES - old {
-        return Ok(Answer::Refused(Refusal::Full(Limit::Duties)));
+        return Ok(refused(Refusal::Full(Limit::Duties)));
     }
     let first = old as u32 + 1;
     let revision = store.revision_count()?;
     let Ok(change) = froze(alloc, release, revision, day, first, gathered) else {
         return Err(Fault::Memory);
     };
-    store.commit(change)?;
-    Ok(Answer::Frozen {
-        first,
-        count: new as u32,
+    Ok(Plan::Make {
+        answer: Answer::Frozen {
+            first,
+            count: new as u32,
+        },
+        change,
     })
 }
 
@@ -416,15 +421,14 @@ fn freeze_open<T: Texts, S: Store>(
     release: &Text,
     form: &Text,
     day: Day,
-) -> Result<Answer, Fault>
-    ensures answer { (w : Readings) → T.are_right w → IfOk result (λ answer. answer ≡ freeze_open_found w (S.rows store.old) release.now form.now) }
-    ensures ok { (w : Readings) → T.are_right w → IfOk result (λ answer. S.rows store.new ≡ noted_by answer (freeze_change_found w (S.rows store.old) release.now form.now day) (S.rows store.old)) }
-    ensures err { OnErr result (S.rows store.new ≡ S.rows store.old) }
+) -> Result<Plan, Fault>
+    ensures plan { (w : Readings) → T.are_right w → IfOk result (λ plan. OfRows (λ t. IsPlan (freeze_open_found w t release.now form.now) (freeze_change_found w t release.now form.now day) plan) (S.seen store.old) (S.seen store.new)) }
+    ensures kept { Plans (S.seen store.old) (S.seen store.new) result }
     ensures fault { IfErr result (MayFail S.tells) }
 {
     let attached = store.attached(release.as_str())?;
     if attached.is_empty() {
-        return Ok(Answer::Refused(Refusal::EmptyRelease));
+        return Ok(refused(Refusal::EmptyRelease));
     }
     let packages = shipped_packages(alloc, store, attached.as_slice())?;
     let mut gathered = Gathered {
@@ -440,7 +444,7 @@ fn freeze_open<T: Texts, S: Store>(
         packages.as_slice(),
         &mut gathered,
     )? {
-        return Ok(Answer::Refused(refusal));
+        return Ok(refused(refusal));
     }
     freeze_gathered(alloc, store, release, day, gathered)
 }
@@ -452,20 +456,20 @@ pub fn freeze<T: Texts, S: Store>(
     store: &mut S,
     release: &Text,
     day: &Text,
-) -> Result<Answer, Fault>
-    ensures answer { (w : Readings) → T.are_right w → IfOk result (λ answer. answer ≡ answer_from w (S.rows store.old) (Freeze release.now day.now)) }
-    ensures ok { (w : Readings) → T.are_right w → OnOk result (S.rows store.new ≡ rows_noted w (S.rows store.old) (Freeze release.now day.now)) }
-    ensures err { OnErr result (S.rows store.new ≡ S.rows store.old) }
+) -> Result<Plan, Fault>
+    ensures plan { (w : Readings) → T.are_right w → IfOk result (λ plan. OfRows (IsPlanOf w (Freeze release.now day.now) plan) (S.seen store.old) (S.seen store.new)) }
+    ensures kept { Plans (S.seen store.old) (S.seen store.new) result }
+    ensures alone { (w : Readings) → T.are_right w → SparesStore (refused_alone w (Freeze release.now day.now)) result }
     ensures fault { IfErr result (MayFail S.tells) }
 {
     let Some(day) = read_day(day) else {
-        return Ok(Answer::Refused(Refusal::BadDay));
+        return Ok(refused(Refusal::BadDay));
     };
     let Some(row) = store.release(release.as_str())? else {
-        return Ok(Answer::Refused(Refusal::UnknownRelease));
+        return Ok(refused(Refusal::UnknownRelease));
     };
     if let Some(refusal) = unready(row.state) {
-        return Ok(Answer::Refused(refusal));
+        return Ok(refused(refusal));
     }
     freeze_open(alloc, texts, store, release, &row.form, day)
 }

@@ -16,4 +16,5 @@ pub mod choice;
 pub mod document;
 pub mod duty;
 pub mod freeze;
+mod plan;
 pub mod release;

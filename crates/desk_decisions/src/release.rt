@@ -1,18 +1,21 @@
 //! Releases are opened, and documents attached to them.
 
-ghost use Rattle.std.specs.Prelude.{◌≡◌, ◌≤◌, ◌<◌, ◌+◌, ◌^◌, ◌↔◌, IsTrue, IfOk, IfErr, OnOk, OnErr, map, length, Ok, Some};
+ghost use Rattle.std.specs.Prelude.{◌≡◌, ◌≤◌, ◌<◌, ◌+◌, ◌^◌, ◌↔◌, IsTrue, IfOk, IfErr, map, length, Ok, Some, false};
 ghost use Rattle.std.specs.List.{list_any, list_all};
 ghost use Rattle.desk_rows.specs.Readings.{Readings};
 ghost use Rattle.desk_rows.specs.Faults.{MayFail};
 ghost use Rattle.desk_rows.specs.Texts.{is_release_name};
 ghost use Rattle.desk_rows.specs.Keys.{is_attachment, is_document};
-ghost use Rattle.desk_rows.specs.Answers.{open_answer, attach_answer, attach_to, unready};
-ghost use Rattle.desk_history.specs.FromTables.{answer_from, rows_noted, noted_by, opened_change, state_found};
+ghost use Rattle.desk_rows.specs.Answers.{open_answer, attach_answer, attach_to, unready, refused_alone};
+ghost use Rattle.desk_history.specs.FromTables.{opened_change, state_found};
+ghost use Rattle.desk_access.specs.Seen.{OfRows};
+ghost use Rattle.desk_access.specs.Plans.{IsPlanOf, Plans, SparesStore};
 ghost use Rattle.desk_rows.specs.declared.command.Command.TheVariants.{OpenRelease, Attach};
 
+use crate::plan::{done, refused};
 use desk_access::store::Store;
 use desk_base::{Text, is_idstring};
-use desk_rows::{Answer, AttachedRow, Change, Fault, Limit, Refusal, ReleaseRow, ReleaseState};
+use desk_rows::{AttachedRow, Change, Fault, Limit, Plan, Refusal, ReleaseRow, ReleaseState};
 
 /// How many releases a desk keeps.
 const MAX_RELEASES: u64 = 4_096;
@@ -42,24 +45,24 @@ pub(crate) fn unready(state: ReleaseState) -> Option<Refusal>
 }
 
 /// Opens a release.
-pub fn open_release<S: Store>(store: &mut S, release: &Text, form: &Text) -> Result<Answer, Fault>
-    ensures answer { (w : Readings) → IfOk result (λ answer. answer ≡ answer_from w (S.rows store.old) (OpenRelease release.now form.now)) }
-    ensures ok { (w : Readings) → OnOk result (S.rows store.new ≡ rows_noted w (S.rows store.old) (OpenRelease release.now form.now)) }
-    ensures err { OnErr result (S.rows store.new ≡ S.rows store.old) }
+pub fn open_release<S: Store>(store: &mut S, release: &Text, form: &Text) -> Result<Plan, Fault>
+    ensures plan { (w : Readings) → IfOk result (λ plan. OfRows (IsPlanOf w (OpenRelease release.now form.now) plan) (S.seen store.old) (S.seen store.new)) }
+    ensures kept { Plans (S.seen store.old) (S.seen store.new) result }
+    ensures alone { (w : Readings) → SparesStore (refused_alone w (OpenRelease release.now form.now)) result }
     ensures fault { IfErr result (MayFail S.tells) }
 {
     if !is_release_name(release.as_str()) {
-        return Ok(Answer::Refused(Refusal::BadName));
+        return Ok(refused(Refusal::BadName));
     }
     if !store.has_form(form.as_str())? {
-        return Ok(Answer::Refused(Refusal::UnknownForm));
+        return Ok(refused(Refusal::UnknownForm));
     }
     if store.release(release.as_str())?.is_some() {
-        return Ok(Answer::Refused(Refusal::NameTaken));
+        return Ok(refused(Refusal::NameTaken));
     }
     let count = store.release_count()?;
     if count >= MAX_RELEASES {
-        return Ok(Answer::Refused(Refusal::Full(Limit::Releases)));
+        return Ok(refused(Refusal::Full(Limit::Releases)));
     }
     let Ok(name) = release.clone() else {
         return Err(Fault::Memory);
@@ -67,44 +70,42 @@ pub fn open_release<S: Store>(store: &mut S, release: &Text, form: &Text) -> Res
     let Ok(form) = form.clone() else {
         return Err(Fault::Memory);
     };
-    store.commit(Change::Opened(ReleaseRow {
+    Ok(done(Change::Opened(ReleaseRow {
         name,
         place: count as u32 + 1,
         form,
         state: ReleaseState::IsOpen,
         revision: 0,
-    }))?;
-    Ok(Answer::Done)
+    })))
 }
 
 /// Attaches a document to a release.
-pub fn attach<S: Store>(store: &mut S, release: &Text, document: u64) -> Result<Answer, Fault>
-    ensures answer { (w : Readings) → IfOk result (λ answer. answer ≡ answer_from w (S.rows store.old) (Attach release.now document)) }
-    ensures ok { (w : Readings) → OnOk result (S.rows store.new ≡ rows_noted w (S.rows store.old) (Attach release.now document)) }
-    ensures err { OnErr result (S.rows store.new ≡ S.rows store.old) }
+pub fn attach<S: Store>(store: &mut S, release: &Text, document: u64) -> Result<Plan, Fault>
+    ensures plan { (w : Readings) → IfOk result (λ plan. OfRows (IsPlanOf w (Attach release.now document) plan) (S.seen store.old) (S.seen store.new)) }
+    ensures kept { Plans (S.seen store.old) (S.seen store.new) result }
+    ensures alone { (w : Readings) → SparesStore (refused_alone w (Attach release.now document)) result }
     ensures fault { IfErr result (MayFail S.tells) }
 {
     let Some(row) = store.release(release.as_str())? else {
-        return Ok(Answer::Refused(Refusal::UnknownRelease));
+        return Ok(refused(Refusal::UnknownRelease));
     };
     let Some((number, _)) = store.document(document)? else {
-        return Ok(Answer::Refused(Refusal::UnknownDocument));
+        return Ok(refused(Refusal::UnknownDocument));
     };
     if let Some(refusal) = unready(row.state) {
-        return Ok(Answer::Refused(refusal));
+        return Ok(refused(refusal));
     }
     if store.is_attached(release.as_str(), document)? {
-        return Ok(Answer::Refused(Refusal::AlreadyAttached));
+        return Ok(refused(Refusal::AlreadyAttached));
     }
     if store.attached_count(release.as_str())? >= MAX_ATTACHED {
-        return Ok(Answer::Refused(Refusal::Full(Limit::Attached)));
+        return Ok(refused(Refusal::Full(Limit::Attached)));
     }
     let Ok(release) = release.clone() else {
         return Err(Fault::Memory);
     };
-    store.commit(Change::Attached(AttachedRow {
+    Ok(done(Change::Attached(AttachedRow {
         release,
         document: number,
-    }))?;
-    Ok(Answer::Done)
+    })))
 }

@@ -5,3 +5,4 @@ pub mod Splitting
 pub mod NamespaceLaws
 pub mod RulePlaces
 pub mod RuleLaws
+pub mod Memory

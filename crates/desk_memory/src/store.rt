@@ -9,7 +9,7 @@ ghost use Rattle.desk_rows.specs.Lists.{updated};
 ghost use Rattle.desk_rows.specs.Keys.{is_release, is_document, has_namespace, is_package, is_shipped_by, is_attached_to, is_attachment, is_choice_of, is_duty, is_duty_of, is_change_of, is_rule, is_rule_of};
 ghost use Rattle.desk_rows.specs.Tables.{Tables, applied, with_release_state, with_duty_state};
 ghost use Rattle.desk_rows.specs.declared.state.ReleaseState.TheVariants.{Frozen};
-ghost use Rattle.desk_memory.specs.Ledgers.{all_of};
+ghost use Rattle.desk_memory.specs.Memory.{rows_of, memory_seen};
 ghost use Rattle.desk_history.specs.FromTables.{rule_of};
 
 use crate::documents::Documents;
@@ -199,7 +199,7 @@ impl MemStore {
 
     /// The tables of the empty history.
     pub fn new(alloc: Global) -> MemStore
-        ensures { (w : Readings) → ⟦<MemStore as Store>⟧.rows result ≡ tables w [] }
+        ensures { (w : Readings) → rows_of result ≡ tables w [] }
     {
         MemStore {
             alloc,
@@ -223,8 +223,8 @@ impl MemStore {
         rules: Items<RuleRow>,
         forms: Items<Text>,
     ) -> Result<(), Fault>
-        ensures ok { OnOk result (⟦<MemStore as Store>⟧.rows self.new ≡ applied (Change.Loaded row rules forms) (⟦<MemStore as Store>⟧.rows self.old)) }
-        ensures err { OnErr result (⟦<MemStore as Store>⟧.rows self.new ≡ ⟦<MemStore as Store>⟧.rows self.old) }
+        ensures ok { OnOk result (rows_of self.new ≡ applied (Change.Loaded row rules forms) (rows_of self.old)) }
+        ensures err { OnErr result (rows_of self.new ≡ rows_of self.old) }
         ensures fault { IfErr result (λ fault. fault ≡ Fault.Memory) }
     {
         reserve(&mut self.catalogue, 1)?;
@@ -240,8 +240,8 @@ impl MemStore {
         packages: Items<PackageRow>,
         references: Items<ExtractedRow>,
     ) -> Result<(), Fault>
-        ensures ok { OnOk result (⟦<MemStore as Store>⟧.rows self.new ≡ applied (Change.Imported row packages references) (⟦<MemStore as Store>⟧.rows self.old)) }
-        ensures err { OnErr result (⟦<MemStore as Store>⟧.rows self.new ≡ ⟦<MemStore as Store>⟧.rows self.old) }
+        ensures ok { OnOk result (rows_of self.new ≡ applied (Change.Imported row packages references) (rows_of self.old)) }
+        ensures err { OnErr result (rows_of self.new ≡ rows_of self.old) }
         ensures fault { IfErr result (λ fault. fault ≡ Fault.Memory) }
     {
         let packages = packages.into_vec();
@@ -263,8 +263,8 @@ impl MemStore {
         package_id: &Text,
         rows: Items<ChoiceRow>,
     ) -> Result<(), Fault>
-        ensures ok { OnOk result (⟦<MemStore as Store>⟧.rows self.new ≡ applied (Change.Chosen release.now document package_id.now rows) (⟦<MemStore as Store>⟧.rows self.old)) }
-        ensures err { OnErr result (⟦<MemStore as Store>⟧.rows self.new ≡ ⟦<MemStore as Store>⟧.rows self.old) }
+        ensures ok { OnOk result (rows_of self.new ≡ applied (Change.Chosen release.now document package_id.now rows) (rows_of self.old)) }
+        ensures err { OnErr result (rows_of self.new ≡ rows_of self.old) }
         ensures fault { IfErr result (λ fault. fault ≡ Fault.Memory) }
     {
         let rows = rows.into_vec();
@@ -286,8 +286,8 @@ impl MemStore {
         duties: Items<DutyRow>,
         changes: Items<ChangeRow>,
     ) -> Result<(), Fault>
-        ensures ok { OnOk result (⟦<MemStore as Store>⟧.rows self.new ≡ applied (Change.Froze release.now revision frozen duties changes) (⟦<MemStore as Store>⟧.rows self.old)) }
-        ensures err { OnErr result (⟦<MemStore as Store>⟧.rows self.new ≡ ⟦<MemStore as Store>⟧.rows self.old) }
+        ensures ok { OnOk result (rows_of self.new ≡ applied (Change.Froze release.now revision frozen duties changes) (rows_of self.old)) }
+        ensures err { OnErr result (rows_of self.new ≡ rows_of self.old) }
         ensures fault { IfErr result (λ fault. fault ≡ Fault.Memory) }
     {
         let frozen = frozen.into_vec();
@@ -299,8 +299,8 @@ impl MemStore {
     }
 
     fn move_to(&mut self, duty: u32, state: DutyState, change: ChangeRow) -> Result<(), Fault>
-        ensures ok { OnOk result (⟦<MemStore as Store>⟧.rows self.new ≡ applied (Change.Moved duty state change) (⟦<MemStore as Store>⟧.rows self.old)) }
-        ensures err { OnErr result (⟦<MemStore as Store>⟧.rows self.new ≡ ⟦<MemStore as Store>⟧.rows self.old) }
+        ensures ok { OnOk result (rows_of self.new ≡ applied (Change.Moved duty state change) (rows_of self.old)) }
+        ensures err { OnErr result (rows_of self.new ≡ rows_of self.old) }
         ensures fault { IfErr result (λ fault. fault ≡ Fault.Memory) }
     {
         self.ledger.move_to(duty, state, change)?;
@@ -309,9 +309,15 @@ impl MemStore {
 }
 
 impl Store for MemStore {
-    ghost rows = { λ s. record { catalogue = s.catalogue.items; forms = s.forms; rule = s.rules.rows.items; document = s.documents.rows.rows.items; packages = s.packages.rows.items; extracted = s.extracted.items; conclusion = []; adoption = []; releases = s.releases.rows.items; attached = s.attached.rows.items; choice = s.choices.rows.items; frozen = s.frozen.rows.items; duty = s.ledger.duties.items; changes = all_of s.ledger.groups.items } };
+    ghost Left = { Unit {0} };
+
+    ghost stands = { λ _ _. ⊥ };
+
+    ghost seen = { memory_seen };
 
     ghost tells = { λ _. ⊥ };
+
+    ghost may_miss = { ⊥ };
 
     fn revision_count(&mut self) -> Result<u64, Fault> {
         Ok(self.catalogue.len() as u64)

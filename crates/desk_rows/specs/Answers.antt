@@ -1,7 +1,8 @@
 -- The answer to each command and query: the first refusal that applies, else what was done. Each is a function of what is looked up.
-use Rattle.std.specs.Prelude.{ℕ, ◌+◌, ◌==◌, ◌&&◌, nat_lt, nat_le, not, Bool, true, false, List, [], ◌∷◌, length, find, slice_index_or, Option, Some, None, is_some, unwrap_or, Result, Ok, Err, IsTrue, if◌then◌else◌}
+use Rattle.std.specs.Prelude.{ℕ, ◌+◌, ◌==◌, ◌&&◌, nat_lt, nat_le, not, Bool, true, false, List, [], ◌∷◌, length, find, slice_index_or, Option, Some, None, is_some, is_none, unwrap_or, Result, Ok, Err, IsTrue, if◌then◌else◌}
 use Rattle.std.specs.List.{list_any, filter_map}
 use Rattle.std.specs.Option.{option_map, option_map_or}
+use Rattle.std.specs.Result.{result_ok}
 use Rattle.std.specs.Str.{bytes_eq}
 use Rattle.desk_base.specs.Day.{is_day}
 use Rattle.desk_rows.specs.Lists.{or_else}
@@ -224,6 +225,16 @@ answer w h (Freeze r day) =
     (walk w (rules_in (in_force w h)) form (profile_in (documents w h)) (chosen_in w h r) (shipped w h r))
     (length (raised w h)) (length (owed_at w h r))
 answer w h (Meet q day text) = meet_answer day text (release_state_of h (duty_at w h q)) (length (moves w h q)) (option_map (λ d. place w h d.0) (duty_at w h q))
+
+-- a refusal that is decided from the command alone: its texts are no catalogue, document, term, name, day or note
+abbrev pub refused_alone : Readings → Command → Bool
+refused_alone w (LoadCatalogue text) = is_none (result_ok (w.catalogue text))
+refused_alone w (Import bytes profile) = is_none (result_ok (w.document bytes))
+refused_alone w (OpenRelease r form) = not (is_release_name r)
+refused_alone w (Choose r d p texts) = is_some (first_bad w 0 texts)
+refused_alone w (Freeze r day) = not (is_day day)
+refused_alone w (Meet q day text) = not (is_day day && is_note text)
+refused_alone w _ = false
 
 -- a command is recorded where it is neither refused nor answered Again
 abbrev pub is_recorded : Answer → Bool

@@ -131,6 +131,15 @@ pub enum Change {
     },
 }
 
+/// What a command comes to, decided before anything is written.
+#[derive(Debug, Drop)]
+pub enum Plan {
+    /// It is answered so, and the rows stay.
+    Leave(Answer),
+    /// It is recorded: the answer, and the change of the rows that goes with it.
+    Make { answer: Answer, change: Change },
+}
+
 /// Why a database didn't serve.
 #[derive(Clone, Copy, Debug, PartialEq, Eq)]
 pub enum StoreFault {

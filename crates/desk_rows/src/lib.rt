@@ -10,7 +10,9 @@ pub mod refusal;
 pub mod row;
 pub mod state;
 
-pub use command::{Answer, Change, Command, DutyLine, Fault, Outcome, Query, StoreFault, Totals};
+pub use command::{
+    Answer, Change, Command, DutyLine, Fault, Outcome, Plan, Query, StoreFault, Totals,
+};
 pub use reading::{Catalogue, Document, Package, Profile, Reference, Rule, Verdict};
 pub use refusal::{CatalogueFault, CataloguePart, DocumentFault, ExpressionFault, Limit, Refusal};
 pub use row::{

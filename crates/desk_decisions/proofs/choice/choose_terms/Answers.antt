@@ -1,6 +1,12 @@
-use Rattle.std.proofs.Common.{subst}
-use Rattle.desk_decisions.specs.Walks.{IsFound}
+use Rattle.std.proofs.Common.{sym, subst}
+use Rattle.desk_access.specs.Plans.{IsPlan}
+use Rattle.desk_history.specs.FromTables.{chosen_change}
+use Rattle.desk_rows.specs.Texts.{sorted_set}
+use Rattle.desk_decisions.specs.Walks.{IsFound, choose_found}
 use Rattle.desk_decisions.proofs.choice.choose_terms.Goals as goal
 
-pub returns-in-Nowhere-clause-answer : goal.returns-in-Nowhere-clause-answer
-returns-in-Nowhere-clause-answer g c = λ w right. subst (IsFound (g.S.Store.rows c.args.store.now) c.args.release.now c.args.document c.args.package_id.now) c.in-Nowhere.is c.in_ok-refusal.ensures.found w c.args.terms
+pub returns-in-Nowhere-clause-plan : goal.returns-in-Nowhere-clause-plan
+returns-in-Nowhere-clause-plan g c = λ w right h t held.
+    subst (IsPlan (choose_found w t c.args.release.now c.args.document c.args.package_id.now c.args.terms)
+    (chosen_change c.args.release.now c.args.document c.args.package_id.now (sorted_set c.args.terms))) (sym c.refused.ensures)
+    (subst (IsFound t c.args.release.now c.args.document c.args.package_id.now) c.in-Nowhere.is (c.in_ok-refusal.ensures.found h t held) w c.args.terms)

@@ -9,25 +9,27 @@ use Rattle.desk_decisions.proofs.Places.{found_at, is_found, same_number}
 use Rattle.desk_decisions.proofs.choice.find_place.Goals as goal
 
 pub returns-clause-found : goal.returns-clause-found
-returns-clause-found g c =
-    let t : Tables = g.S.Store.rows c.args.store.now in
-    let t1 : Tables = g.S.Store.rows c.release.new.self in
-    let t2 : Tables = g.S.Store.rows c.document.new.self in
-    let t3 : Tables = g.S.Store.rows c.package_row.new.self in
+returns-clause-found g c = λ h t held.
+    let one = c.in_ok-found.ensures in
+    let two = c.in_ok-number.ensures in
+    let three = c.in_ok-row.ensures in
+    let four = c.in_ok-is_attached.ensures in
+    let h3 = four.kept.kept.spared.honest h in
+    let h2 = three.kept.kept.spared.honest h3 in
+    let h1 = two.kept.kept.spared.honest h2 in
+    let t1 = one.kept.kept.spared.holds t held in
+    let t2 = two.kept.kept.spared.holds t t1 in
+    let t3 = three.kept.kept.spared.holds t t2 in
     let d : ℕ = c.args.document in
-    let s1 : t1 ≡ t = c.in_ok-found.ensures.kept in
-    let s2 : t2 ≡ t = c.in_ok-number.ensures.kept ∙ s1 in
-    let s3 : t3 ≡ t = c.in_ok-row.ensures.kept ∙ s2 in
-    let e1 : release_found t c.args.release.now ≡ Some c.in-Some.found = ap (release_found t) (sym c.as_str.ensures) ∙ (sym c.in_ok-found.ensures.found ∙ c.in-Some.is) in
-    let e3 : find (is_package d c.args.package_id.now) t2.packages ≡ Some c.in-Some-3.row =
-    ap (λ (p : List ℕ). find (is_package d p) t2.packages) (sym c.as_str-2.ensures) ∙ (sym c.in_ok-row.ensures.found ∙ c.in-Some-3.is) in
+    let e1 : release_found t c.args.release.now ≡ Some c.in-Some.found = ap (release_found t) (sym c.as_str.ensures) ∙ (sym (one.found h1 t held) ∙ c.in-Some.is) in
+    let e3 : find (is_package d c.args.package_id.now) t.packages ≡ Some c.in-Some-3.row =
+    ap (λ (p : List ℕ). find (is_package d p) t.packages) (sym c.as_str-2.ensures) ∙ (sym (three.found h3 t t2) ∙ c.in-Some-3.is) in
     let a : list_any (is_attachment c.args.release.now d) t.attached ≡ c.in_ok-is_attached.is_attached =
-    ap (λ (u : Tables). list_any (is_attachment c.args.release.now d) u.attached) (sym s3)
-    ∙ (ap (λ (r : List ℕ). list_any (is_attachment r d) t3.attached) (sym c.as_str-3.ensures) ∙ sym c.in_ok-is_attached.ensures.found) in
+    ap (λ (r : List ℕ). list_any (is_attachment r d) t.attached) (sym c.as_str-3.ensures) ∙ sym (four.found h t t3) in
     is_found t c.args.release.now d c.args.package_id.now c.in-Some.found.state c.in_ok-is_attached.is_attached
     (record { document = c.in-Some-2.number; profile = c.in-Some-2.profile; row = c.in-Some-3.row }) c.open_place.result c.open_place.ensures
-    (same_number c.in_ok-number.field-0 c.in-Some-2.number d c.in-Some-2.profile c.in-Some-2.is c.in_ok-number.ensures.same)
+    (same_number c.in_ok-number.field-0 c.in-Some-2.number d c.in-Some-2.profile c.in-Some-2.is two.same)
     (λ w terms.
-    found_at w terms t t1 t2 c.args.release.now d c.args.package_id.now c.in-Some.found (c.in-Some-2.number, c.in-Some-2.profile) c.in-Some-3.row
-    e1 s1 (sym c.in_ok-number.ensures.found ∙ c.in-Some-2.is) s2 e3
+    found_at w terms t c.args.release.now d c.args.package_id.now c.in-Some.found (c.in-Some-2.number, c.in-Some-2.profile) c.in-Some-3.row
+    e1 (sym (two.found h2 t t1) ∙ c.in-Some-2.is) e3
     ∙ ap (λ b. choose_shipped w terms b c.in-Some-2.profile c.in-Some.found.state c.in-Some-3.row) a)

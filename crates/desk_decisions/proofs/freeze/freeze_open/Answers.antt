@@ -1,84 +1,64 @@
 use Rattle.std.proofs.Common.{◌≡◌, ◌∙◌, sym, ap, subst, ℕ, List, length, false}
 use Rattle.std.specs.Prelude.{◌==◌}
-use Rattle.std.proofs.lemmas.Result.{IfOk-weaker}
 use Rattle.desk_rows.specs.Tables.{Tables}
 use Rattle.desk_rows.specs.History.{attached_to}
 use Rattle.desk_rows.specs.Raised.{shipped_of}
+use Rattle.desk_rows.specs.Answers.{freeze_fits}
 use Rattle.desk_rows.specs.declared.row.AttachedRow.{AttachedRow}
 use Rattle.desk_rows.specs.declared.row.PackageRow.{PackageRow}
-use Rattle.desk_history.specs.FromTables.{shipped_found, noted_by, froze_as}
-use Rattle.desk_decisions.specs.Walks.{GathersAll}
+use Rattle.desk_history.specs.FromTables.{shipped_found, froze_as, freeze_open_found, freeze_change_found}
+use Rattle.desk_access.specs.Plans.{IsPlan}
+use Rattle.desk_decisions.proofs.Chains.{same_then_same, plans_after, plan_after}
 use Rattle.desk_decisions.proofs.Freezes.{freeze_refused, freeze_fitting, Fits}
-use Rattle.desk_rows.specs.Answers.{freeze_fits}
 use Rattle.desk_decisions.proofs.freeze.freeze_open.Goals as goal
 
-pub returns-in-Some-clause-answer : goal.returns-in-Some-clause-answer
-returns-in-Some-clause-answer g c =
-    let t : Tables = g.S.Store.rows c.args.store.now in
-    let t1 : Tables = g.S.Store.rows c.attached.new.self in
-    let t2 : Tables = g.S.Store.rows c.shipped_packages.new.store in
+pub returns-in-Some-clause-plan : goal.returns-in-Some-clause-plan
+returns-in-Some-clause-plan g c = λ w right h t held.
+    let one = c.in_ok-attached.ensures in
+    let two = c.in_ok-packages.ensures in
+    let three = c.in_ok-refusal.ensures in
     let r : List ℕ = c.args.release.now in
-    let s1 : t1 ≡ t = c.in_ok-attached.ensures.kept in
-    let s2 : t2 ≡ t = c.in_ok-packages.ensures.kept ∙ s1 in
+    let h2 = three.kept.kept.spared.honest h in
+    let t1 = one.kept.kept.spared.holds t held in
     let rows : List AttachedRow = c.as_slice.result.now in
-    let are : rows ≡ attached_to t.attached r = c.as_slice.ensures.value ∙ (c.in_ok-attached.ensures.found ∙ ap (attached_to t.attached) c.as_str.ensures) in
+    let are : rows ≡ attached_to t.attached r = c.as_slice.ensures.value ∙ (one.found (two.kept.kept.spared.honest h2) t held ∙ ap (attached_to t.attached) c.as_str.ensures) in
     let some : (length (attached_to t.attached r) == 0) ≡ false =
     ap (λ (xs : List AttachedRow). length xs == 0) (sym are) ∙ (ap (λ (n : ℕ). n == 0) c.as_slice.ensures.len ∙ sym c.if-is_empty.ensures) in
     let ps : List PackageRow = c.as_slice-2.result.now in
-    let shipped : ps ≡ shipped_found t r =
-    c.as_slice-2.ensures.value ∙ (c.in_ok-packages.ensures.found ∙ (ap (λ (xs : List AttachedRow). shipped_of xs t1.packages) are ∙ ap (λ (u : Tables). shipped_of (attached_to t.attached r) u.packages) s1)) in
-    λ w right.
-    freeze_refused w t r c.args.form.now ps (record { frozen = c.new.result; owed = c.new-2.result }) c.freeze_packages.new.gathered c.in_ok-refusal.field-0 c.in-Some.refusal some shipped
-    (subst (λ (u : Tables). GathersAll w u c.args.form.now r ps (record { frozen = c.new.result; owed = c.new-2.result }) c.freeze_packages.new.gathered c.in_ok-refusal.field-0) s2 (c.in_ok-refusal.ensures.gathered w right))
-    c.in-Some.is
+    let shipped : ps ≡ shipped_found t r = c.as_slice-2.ensures.value ∙ (two.found h2 t t1 ∙ ap (λ (xs : List AttachedRow). shipped_of xs t.packages) are) in
+    subst (IsPlan (freeze_open_found w t r c.args.form.now) (freeze_change_found w t r c.args.form.now c.args.day)) (sym c.refused-in-Some.ensures)
+    (freeze_refused w t r c.args.form.now ps (record { frozen = c.new.result; owed = c.new-2.result }) c.freeze_packages.new.gathered c.in_ok-refusal.field-0 c.in-Some.refusal some shipped
+    (three.gathered w right h t (two.kept.kept.spared.holds t t1)) c.in-Some.is)
 
-pub returns-clause-answer : goal.returns-clause-answer
-returns-clause-answer g c =
-    let t : Tables = g.S.Store.rows c.args.store.now in
-    let t1 : Tables = g.S.Store.rows c.attached.new.self in
-    let t2 : Tables = g.S.Store.rows c.shipped_packages.new.store in
+pub returns-clause-plan : goal.returns-clause-plan
+returns-clause-plan g c = λ w right.
+    let one = c.in_ok-attached.ensures in
+    let two = c.in_ok-packages.ensures in
+    let three = c.in_ok-refusal.ensures in
     let r : List ℕ = c.args.release.now in
-    let s1 : t1 ≡ t = c.in_ok-attached.ensures.kept in
-    let s2 : t2 ≡ t = c.in_ok-packages.ensures.kept ∙ s1 in
-    let rows : List AttachedRow = c.as_slice.result.now in
-    let are : rows ≡ attached_to t.attached r = c.as_slice.ensures.value ∙ (c.in_ok-attached.ensures.found ∙ ap (attached_to t.attached) c.as_str.ensures) in
-    let some : (length (attached_to t.attached r) == 0) ≡ false =
-    ap (λ (xs : List AttachedRow). length xs == 0) (sym are) ∙ (ap (λ (n : ℕ). n == 0) c.as_slice.ensures.len ∙ sym c.if-is_empty.ensures) in
-    let ps : List PackageRow = c.as_slice-2.result.now in
-    let shipped : ps ≡ shipped_found t r =
-    c.as_slice-2.ensures.value ∙ (c.in_ok-packages.ensures.found ∙ (ap (λ (xs : List AttachedRow). shipped_of xs t1.packages) are ∙ ap (λ (u : Tables). shipped_of (attached_to t.attached r) u.packages) s1)) in
-    let s3 : g.S.Store.rows c.freeze_packages.new.store ≡ t = c.in_ok-refusal.ensures.kept ∙ s2 in
-    λ w right.
-    let fits : Fits w t r c.args.form.now c.args.day c.freeze_packages.new.gathered =
-    freeze_fitting w t r c.args.form.now c.args.day ps (record { frozen = c.new.result; owed = c.new-2.result }) c.freeze_packages.new.gathered c.in_ok-refusal.field-0 some shipped c.new.ensures.items c.new-2.ensures.items
-    (subst (λ (u : Tables). GathersAll w u c.args.form.now r ps (record { frozen = c.new.result; owed = c.new-2.result }) c.freeze_packages.new.gathered c.in_ok-refusal.field-0) s2 (c.in_ok-refusal.ensures.gathered w right))
-    c.in_default.is in
-    IfOk-weaker c.freeze_gathered.result _ _
-    (λ a is. is ∙ (ap (λ (u : Tables). freeze_fits (length u.duty) (length c.freeze_packages.new.gathered.owed.items)) s3 ∙ fits.answer))
-    c.freeze_gathered.ensures.answer
+    let form : List ℕ = c.args.form.now in
+    let new = c.freeze_packages.new.gathered in
+    plan_after (g.S.Store.seen c.args.store.now) (g.S.Store.seen c.freeze_packages.new.store) (g.S.Store.seen c.freeze_gathered.new.store)
+    (λ t. freeze_fits (length t.duty) (length new.owed.items)) (λ t. freeze_open_found w t r form)
+    (λ t. froze_as t r c.args.day new.frozen.items new.owed.items) (λ t. freeze_change_found w t r form c.args.day)
+    c.freeze_gathered.result
+    (same_then_same _ _ _ one.kept (same_then_same _ _ _ two.kept three.kept)) c.freeze_gathered.ensures.kept
+    (λ h t held.
+      let h2 = three.kept.kept.spared.honest h in
+      let t1 = one.kept.kept.spared.holds t held in
+      let rows : List AttachedRow = c.as_slice.result.now in
+      let are : rows ≡ attached_to t.attached r = c.as_slice.ensures.value ∙ (one.found (two.kept.kept.spared.honest h2) t held ∙ ap (attached_to t.attached) c.as_str.ensures) in
+      let some : (length (attached_to t.attached r) == 0) ≡ false =
+      ap (λ (xs : List AttachedRow). length xs == 0) (sym are) ∙ (ap (λ (n : ℕ). n == 0) c.as_slice.ensures.len ∙ sym c.if-is_empty.ensures) in
+      let ps : List PackageRow = c.as_slice-2.result.now in
+      let shipped : ps ≡ shipped_found t r = c.as_slice-2.ensures.value ∙ (two.found h2 t t1 ∙ ap (λ (xs : List AttachedRow). shipped_of xs t.packages) are) in
+      let fits : Fits w t r form c.args.day new =
+      freeze_fitting w t r form c.args.day ps (record { frozen = c.new.result; owed = c.new-2.result }) new c.in_ok-refusal.field-0 some shipped c.new.ensures.items c.new-2.ensures.items
+      (three.gathered w right h t (two.kept.kept.spared.holds t t1)) c.in_default.is in
+      (fits.answer, fits.rows))
+    c.freeze_gathered.ensures.plan
 
-pub returns-clause-ok : goal.returns-clause-ok
-returns-clause-ok g c =
-    let t : Tables = g.S.Store.rows c.args.store.now in
-    let t1 : Tables = g.S.Store.rows c.attached.new.self in
-    let t2 : Tables = g.S.Store.rows c.shipped_packages.new.store in
-    let r : List ℕ = c.args.release.now in
-    let s1 : t1 ≡ t = c.in_ok-attached.ensures.kept in
-    let s2 : t2 ≡ t = c.in_ok-packages.ensures.kept ∙ s1 in
-    let rows : List AttachedRow = c.as_slice.result.now in
-    let are : rows ≡ attached_to t.attached r = c.as_slice.ensures.value ∙ (c.in_ok-attached.ensures.found ∙ ap (attached_to t.attached) c.as_str.ensures) in
-    let some : (length (attached_to t.attached r) == 0) ≡ false =
-    ap (λ (xs : List AttachedRow). length xs == 0) (sym are) ∙ (ap (λ (n : ℕ). n == 0) c.as_slice.ensures.len ∙ sym c.if-is_empty.ensures) in
-    let ps : List PackageRow = c.as_slice-2.result.now in
-    let shipped : ps ≡ shipped_found t r =
-    c.as_slice-2.ensures.value ∙ (c.in_ok-packages.ensures.found ∙ (ap (λ (xs : List AttachedRow). shipped_of xs t1.packages) are ∙ ap (λ (u : Tables). shipped_of (attached_to t.attached r) u.packages) s1)) in
-    let s3 : g.S.Store.rows c.freeze_packages.new.store ≡ t = c.in_ok-refusal.ensures.kept ∙ s2 in
-    λ w right.
-    let fits : Fits w t r c.args.form.now c.args.day c.freeze_packages.new.gathered =
-    freeze_fitting w t r c.args.form.now c.args.day ps (record { frozen = c.new.result; owed = c.new-2.result }) c.freeze_packages.new.gathered c.in_ok-refusal.field-0 some shipped c.new.ensures.items c.new-2.ensures.items
-    (subst (λ (u : Tables). GathersAll w u c.args.form.now r ps (record { frozen = c.new.result; owed = c.new-2.result }) c.freeze_packages.new.gathered c.in_ok-refusal.field-0) s2 (c.in_ok-refusal.ensures.gathered w right))
-    c.in_default.is in
-    IfOk-weaker c.freeze_gathered.result _ _
-    (λ a is. is ∙ (ap (λ (u : Tables). noted_by a (froze_as u r c.args.day c.freeze_packages.new.gathered.frozen.items c.freeze_packages.new.gathered.owed.items) u) s3
-    ∙ ap (λ change. noted_by a change t) fits.rows))
-    c.freeze_gathered.ensures.ok
+pub returns-clause-kept : goal.returns-clause-kept
+returns-clause-kept g c =
+    plans_after (g.S.Store.seen c.args.store.now) (g.S.Store.seen c.freeze_packages.new.store) (g.S.Store.seen c.freeze_gathered.new.store) c.freeze_gathered.result
+    (same_then_same _ _ _ c.in_ok-attached.ensures.kept (same_then_same _ _ _ c.in_ok-packages.ensures.kept c.in_ok-refusal.ensures.kept)) c.freeze_gathered.ensures.kept

@@ -1,30 +1,27 @@
-use Rattle.std.proofs.Common.{◌≡◌, ◌∙◌, sym, subst, ℕ, List, drop, ◌+◌, ◌∷◌}
-use Rattle.desk_rows.specs.Tables.{Tables}
+use Rattle.std.proofs.Common.{◌≡◌, ◌∙◌, sym, ℕ, List, drop, ◌+◌, ◌∷◌}
 use Rattle.desk_rows.specs.Raised.{frozen_for, owed_for}
 use Rattle.desk_rows.specs.declared.row.PackageRow.{PackageRow}
-use Rattle.desk_history.specs.FromTables.{rules_found, choice_found}
-use Rattle.desk_decisions.specs.Walks.{GathersPackage}
+use Rattle.desk_history.specs.FromTables.{choice_found, rules_found}
+use Rattle.desk_decisions.proofs.Chains.{same_then_same}
 use Rattle.desk_decisions.proofs.Walking.{drop_item, more_of, walk_fails, packages_on, PackagesOn}
 use Rattle.desk_decisions.proofs.freeze.freeze_packages.Goals as goal
 
 pub returns-in-Some-clause-gathered : goal.returns-in-Some-clause-gathered
 returns-in-Some-clause-gathered g c =
-    let t : Tables = g.S.Store.rows c.args.store.now in
     let form : List ℕ = c.args.form.now in
     let r : List ℕ = c.args.release.now in
     let ps : List PackageRow = c.args.packages.now in
     let i : ℕ = c.loop-row.row-index in
     let p : PackageRow = c.row-item.result in
     let split : drop i ps ≡ p ∷ drop (i + 1) ps = drop_item ps i p c.loop-row-test.true c.row-item.is in
-    λ w right.
-    sym (c.loop-row.invariant.gathered w right).walked
+    let one = c.in_ok-refusal.ensures in
+    λ w right h t held.
+    sym (c.loop-row.invariant.gathered w right (one.kept.kept.spared.honest h) t held).walked
     ∙ walk_fails w t form r (drop i ps) (drop (i + 1) ps) p c.loop-row.gathered c.freeze_package.new.gathered c.in_ok-refusal.field-0 c.in-Some.refusal split
-    (subst (λ (u : Tables). GathersPackage w u form r p c.loop-row.gathered c.freeze_package.new.gathered c.in_ok-refusal.field-0) c.loop-row.invariant.kept (c.in_ok-refusal.ensures.gathered w right))
-    c.in-Some.is
+    (one.gathered w right h t (c.loop-row.invariant.same.kept.spared.holds t held)) c.in-Some.is
 
 pub loop-row-preserved : goal.loop-row-preserved
 loop-row-preserved g c =
-    let t : Tables = g.S.Store.rows c.args.store.now in
     let form : List ℕ = c.args.form.now in
     let r : List ℕ = c.args.release.now in
     let ps : List PackageRow = c.args.packages.now in
@@ -32,14 +29,14 @@ loop-row-preserved g c =
     let p : PackageRow = c.row-item.result in
     let rest : List PackageRow = drop (i + 1) ps in
     let split : drop i ps ≡ p ∷ rest = drop_item ps i p c.loop-row-test.true c.row-item.is in
+    let one = c.in_ok-refusal.ensures in
     record {
-      kept = c.in_ok-refusal.ensures.kept ∙ c.loop-row.invariant.kept;
-      gathered = λ w right.
-          let before = c.loop-row.invariant.gathered w right in
+      same = same_then_same _ _ _ c.loop-row.invariant.same one.kept;
+      gathered = λ w right h t held.
+          let before = c.loop-row.invariant.gathered w right (one.kept.kept.spared.honest h) t held in
           let on : PackagesOn w t form r (drop i ps) rest p c.loop-row.gathered c.freeze_package.new.gathered =
           packages_on w t form r (drop i ps) rest p c.loop-row.gathered c.freeze_package.new.gathered c.in_ok-refusal.field-0 split
-          (subst (λ (u : Tables). GathersPackage w u form r p c.loop-row.gathered c.freeze_package.new.gathered c.in_ok-refusal.field-0) c.loop-row.invariant.kept (c.in_ok-refusal.ensures.gathered w right))
-          c.in_default.is in
+          (one.gathered w right h t (c.loop-row.invariant.same.kept.spared.holds t held)) c.in_default.is in
           record {
             walked = sym on.walked ∙ before.walked;
             frozen = more_of c.loop-row.gathered.frozen.items c.freeze_package.new.gathered.frozen.items _

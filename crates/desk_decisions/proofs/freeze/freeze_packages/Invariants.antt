@@ -3,17 +3,19 @@ use Rattle.desk_rows.specs.Readings.{Readings}
 use Rattle.desk_rows.specs.Answers.{walk, profile_in}
 use Rattle.desk_rows.specs.Raised.{frozen_for, owed_for}
 use Rattle.desk_history.specs.FromTables.{rules_found, choice_found}
+use Rattle.desk_access.specs.Seen.{Same, OfRows}
 use Rattle.desk_decisions.proofs.freeze.freeze_packages.Given as goal
 
 abbrev pub invariant-loop-row : goal.invariant-loop-row
 invariant-loop-row g l =
-    let t = g.S.Store.rows l.fn.store in
+    let old = g.S.Store.seen l.fn.store in
+    let new = g.S.Store.seen l.store in
     let rest = drop l.row-index l.packages in
     record {
-      kept : g.S.Store.rows l.store ≡ t;
-      gathered : (w : Readings) → g.T.Texts.are_right w → record {
+      same : Same old new;
+      gathered : (w : Readings) → g.T.Texts.are_right w → OfRows (λ t. record {
         walked : walk w (rules_found t) l.form (profile_in t.document) (choice_found t l.release) rest ≡ walk w (rules_found t) l.form (profile_in t.document) (choice_found t l.release) l.packages;
         frozen : l.gathered.frozen.items ++ frozen_for w (rules_found t) l.form l.release (choice_found t l.release) rest ≡ l.fn.gathered.frozen.items ++ frozen_for w (rules_found t) l.form l.release (choice_found t l.release) l.packages;
         owed : l.gathered.owed.items ++ owed_for w (rules_found t) l.form l.release (choice_found t l.release) rest ≡ l.fn.gathered.owed.items ++ owed_for w (rules_found t) l.form l.release (choice_found t l.release) l.packages;
-      };
+      }) old new;
     }

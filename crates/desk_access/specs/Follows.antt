@@ -1,0 +1,28 @@
+-- Which changes go on from the rows of some tables. A store owes nothing to any other change.
+use Rattle.std.specs.Prelude.{◌≡◌, ℕ, ◌+◌, Bool, true, ◌==◌, ◌&&◌, List, [], ◌∷◌, length}
+use Rattle.desk_rows.specs.Tables.{Tables}
+use Rattle.desk_rows.specs.declared.row.DutyRow.{DutyRow}
+use Rattle.desk_rows.specs.declared.row.ChangeRow.{ChangeRow}
+use Rattle.desk_rows.specs.declared.command.Change.{Change}
+use Rattle.desk_rows.specs.declared.command.Change.TheVariants as change
+use Rattle.desk_history.specs.FromTables.{steps_found}
+
+-- the duties are numbered on from n
+abbrev pub are_numbered : ℕ → List DutyRow → Bool
+are_numbered n [] = true
+are_numbered n (row ∷ rows) = (row.number == n) && are_numbered (n + 1) rows
+
+-- each change is the first of its duty, the duties being numbered on from n
+abbrev pub are_first : ℕ → List ChangeRow → Bool
+are_first n [] = true
+are_first n (row ∷ rows) = (row.duty == n) && (row.step == 1) && are_first (n + 1) rows
+
+-- a new revision, document or release has the next number, new duties the next ones, a change of a duty its next step
+abbrev pub Follows : Change → Tables → Type 0
+Follows (change.Loaded row rules forms) t = row.revision ≡ length t.catalogue + 1
+Follows (change.Imported row packages references) t = row.number ≡ length t.document + 1
+Follows (change.Opened row) t = row.place ≡ length t.releases + 1
+Follows (change.Froze release revision rows duties changes) t =
+    (are_numbered (length t.duty + 1) duties ≡ true) × (are_first (length t.duty + 1) changes ≡ true) × (length changes ≡ length duties)
+Follows (change.Moved duty state row) t = (row.duty ≡ duty) × (row.step ≡ steps_found t duty + 1)
+Follows _ t = Unit {0}

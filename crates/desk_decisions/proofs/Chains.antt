@@ -1,0 +1,127 @@
+-- One call after another, and what a plan comes to when it is carried out.
+use Rattle.std.proofs.Common.{◌≡◌, ◌⊎◌, Bool, true, false, inl, inr, refl, sym, ap, subst, ◌∙◌, Result, Ok, Err}
+use Rattle.desk_rows.specs.Readings.{Readings}
+use Rattle.desk_rows.specs.Tables.{Tables, applied}
+use Rattle.desk_rows.specs.Answers.{is_recorded}
+use Rattle.desk_rows.specs.declared.command.Answer.{Answer}
+use Rattle.desk_rows.specs.declared.command.Change.{Change}
+use Rattle.desk_rows.specs.declared.command.Command.{Command}
+use Rattle.desk_rows.specs.declared.command.Fault.{Fault}
+use Rattle.desk_rows.specs.declared.command.Fault.TheVariants.{Memory, Store}
+use Rattle.desk_rows.specs.declared.command.Plan.{Plan}
+use Rattle.desk_rows.specs.declared.command.Plan.TheVariants.{Leave, Make}
+use Rattle.desk_history.specs.FromTables.{answer_from, change_for}
+use Rattle.desk_access.specs.Follows.{Follows}
+use Rattle.std.specs.Prelude.{IfOk, IfErr}
+use Rattle.desk_rows.specs.Faults.{MayFail}
+use Rattle.std.specs.Result.{IsErr}
+use Rattle.desk_access.specs.Seen.{Seen, Spared, Kept, Same, Looked, OfRows, Made, Failed, Minds, Decides, Faulted}
+use Rattle.desk_access.specs.Plans.{IsPlan, IsPlanOf, IsSound, SparesStore, Plans, Carries}
+use Rattle.desk_decisions.proofs.Following.{change_follows}
+
+contrary : (b : Bool) → b ≡ true → b ≡ false → ⊥
+contrary true e f = cc
+contrary false e f = cc
+
+module _ {Left : Type 0} where
+  pub same_self : (a : Seen Left) → Same a a
+  same_self a = record {
+    kept = record {
+      spared = record { honest = λ h. h; holds = λ t h. h };
+      leaves = λ h o t held x left. left;
+    };
+    stays = λ h o. o;
+  }
+
+  pub same_then_kept : (a b c : Seen Left) → Same a b → Kept b c → Kept a c
+  same_then_kept a b c s k = record {
+    spared = record { honest = λ h. s.kept.spared.honest (k.spared.honest h); holds = λ t h. k.spared.holds t (s.kept.spared.holds t h) };
+    leaves = λ h o t held x left. s.kept.leaves (k.spared.honest h) o t held x (k.leaves h (s.stays (k.spared.honest h) o) t (s.kept.spared.holds t held) x left);
+  }
+
+  pub same_then_same : (a b c : Seen Left) → Same a b → Same b c → Same a c
+  same_then_same a b c s r = record {
+    kept = same_then_kept a b c s r.kept;
+    stays = λ h o. r.stays h (s.stays (r.kept.spared.honest h) o);
+  }
+
+  pub looked_err : {A : Type 0} (a b : Seen Left) (r : Result A Fault) → IsErr r → Kept a b → Looked a b r
+  looked_err a b (Ok x) none k = absurd (cc)
+  looked_err a b (Err fault) is k = k
+
+  -- a plan after look-ups
+  pub plans_after : (a b c : Seen Left) (r : Result Plan Fault) → Same a b → Plans b c r → Plans a c r
+  plans_after a b c (Ok plan) s p = (same_then_same a b c s p.0, p.1)
+  plans_after a b c (Err fault) s p = same_then_kept a b c s p
+
+  pub plan_after : (a b c : Seen Left) (answer answer' : Tables → Answer) (change change' : Tables → Change) (r : Result Plan Fault) → Same a b → Plans b c r
+      → (b.is_honest → (t : Tables) → a.holds t → (answer t ≡ answer' t) × (change t ≡ change' t))
+      → IfOk r (λ plan. OfRows (λ t. IsPlan (answer t) (change t) plan) b c) → IfOk r (λ plan. OfRows (λ t. IsPlan (answer' t) (change' t) plan) a c)
+  plan_after a b c answer answer' change change' (Ok plan) s p same is = λ h t held.
+      let facts = same (p.0.kept.spared.honest h) t held in
+      subst (λ (x : Answer). IsPlan x (change' t) plan) facts.0 (subst (λ (x : Change). IsPlan (answer t) x plan) facts.1 (is h t (s.kept.spared.holds t held)))
+  plan_after a b c answer answer' change change' (Err fault) s p same is = tt
+
+  -- nothing was decided
+  pub minds_undecided : (a b : Seen Left) (fault : Fault) → Kept a b → Minds a b (Err fault)
+  minds_undecided a b fault k = k.spared
+
+  pub minds_carried : (stands : Left → Tables → Type 0) (a b c : Seen Left) (plan : Plan) (r : Result Answer Fault) → Same a b → IsSound plan → Carries stands plan b c r → Minds a c r
+  minds_carried stands a b c (Leave x) (Ok y) s sound did = (
+    (λ h. s.kept.spared.honest (did.1.kept.spared.honest h)),
+    λ none. same_then_same a b c s did.1,
+  )
+  minds_carried stands a b c (Leave x) (Err f) s sound did = absurd did
+  minds_carried stands a b c (Make x change) (Ok y) s sound did = (
+    (λ h. s.kept.spared.honest (did.1.honest h)),
+    λ none. absurd (contrary (is_recorded x) sound (ap is_recorded (sym did.0) ∙ none)),
+  )
+  minds_carried stands a b c (Make x change) (Err f) s sound did = record {
+    honest = λ h. s.kept.spared.honest (did.spared.honest h);
+    holds = λ t h. did.spared.holds t (s.kept.spared.holds t h);
+  }
+
+  pub alone_carried : (stands : Left → Tables → Type 0) (b c : Seen Left) (alone : Bool) (plan : Plan) (r : Result Answer Fault) → SparesStore alone (Ok plan) → Carries stands plan b c r
+      → IfErr r (MayFail (λ fault. alone ≡ false))
+  alone_carried stands b c alone plan (Ok a) spares did = tt
+  alone_carried stands b c alone (Leave x) (Err f) spares did = absurd did
+  alone_carried stands b c alone (Make x change) (Err Memory) spares did = tt
+  alone_carried stands b c alone (Make x change) (Err (Store fault)) spares did = spares
+
+  module _ (stands : Left → Tables → Type 0) (w : Readings) (c : Command) where
+    pub decides_undecided : (old new : Seen Left) (fault : Fault) → Kept old new
+        → Decides stands (λ _. Unit {0}) (λ t. t) (λ t. applied (change_for w t c) t) (λ t. answer_from w t c) old new (Err fault)
+    decides_undecided old new fault k = λ h o t u held x left. inl (k.leaves h o t held x left)
+
+    pub decides_carried : (old mid new : Seen Left) (plan : Plan) (r : Result Answer Fault) → Same old mid → IsSound plan → OfRows (IsPlanOf w c plan) old mid → Carries stands plan mid new r
+        → Decides stands (λ _. Unit {0}) (λ t. t) (λ t. applied (change_for w t c) t) (λ t. answer_from w t c) old new r
+    decides_carried old mid new (Leave x) (Ok y) s sound is did =
+        let none : is_recorded y ≡ true → ⊥ = λ kept. contrary (is_recorded x) (ap is_recorded (sym did.0) ∙ kept) sound in
+        let honest = did.1.kept.spared.honest in
+        record {
+          right = λ h t u held. did.0 ∙ is (honest h) t held;
+          stays = λ h o. did.1.stays h (s.stays (honest h) o);
+          holds = λ kept. absurd (none kept);
+          leaves = λ kept. absurd (none kept);
+        }
+    decides_carried old mid new (Leave x) (Err f) s sound is did = absurd did
+    decides_carried old mid new (Make x change) (Ok y) s sound is did =
+        let made = did.1 in
+        let follows : new.is_honest → (t : Tables) → old.holds t → Follows change t =
+            λ h t held. subst (λ (d : Change). Follows d t) (sym ((is (made.honest h) t held).1)) (change_follows w t c) in
+        record {
+          right = λ h t u held. did.0 ∙ (is (made.honest h) t held).0;
+          stays = λ h o. made.stays h;
+          holds = λ kept h t u held. subst (λ (d : Change). new.holds (applied d t)) ((is (made.honest h) t held).1)
+              (made.holds h t (s.kept.spared.holds t held) (follows h t held));
+          leaves = λ kept h t u held x left. subst (λ (d : Change). stands x (applied d t)) ((is (made.honest h) t held).1)
+              (made.leaves h t (s.kept.spared.holds t held) (follows h t held) x left);
+        }
+    decides_carried old mid new (Make x change) (Err f) s sound is did = λ h o t u held y left.
+        let h1 = did.spared.honest h in
+        let plan = is h1 t held in
+        let follows : Follows change t = subst (λ (d : Change). Follows d t) (sym plan.1) (change_follows w t c) in
+        elim (did.leaves h (s.stays h1 o) t (s.kept.spared.holds t held) follows y left) [
+          | inl was ↦ inl (s.kept.leaves h1 o t held y was)
+          | inr made ↦ inr (ap is_recorded (sym plan.0) ∙ sound, subst (λ (d : Change). stands y (applied d t)) plan.1 made)
+        ]

@@ -1,0 +1,27 @@
+-- What is seen of a store in memory: its rows, always; nothing outlives a stop.
+use Rattle.std.specs.Prelude.{◌≡◌, []}
+use Rattle.desk_rows.specs.Tables.{Tables}
+use Rattle.desk_access.specs.Seen.{Seen}
+use Rattle.desk_memory.specs.Ledgers.{all_of}
+use Rattle.desk_memory.specs.declared.store.MemStore.{MemStore}
+
+abbrev pub rows_of : MemStore → Tables
+rows_of s = record {
+  catalogue = s.catalogue.items;
+  forms = s.forms;
+  rule = s.rules.rows.items;
+  document = s.documents.rows.rows.items;
+  packages = s.packages.rows.items;
+  extracted = s.extracted.items;
+  conclusion = [];
+  adoption = [];
+  releases = s.releases.rows.items;
+  attached = s.attached.rows.items;
+  choice = s.choices.rows.items;
+  frozen = s.frozen.rows.items;
+  duty = s.ledger.duties.items;
+  changes = all_of s.ledger.groups.items;
+}
+
+abbrev pub memory_seen : MemStore → Seen (Unit {0})
+memory_seen s = record { holds = λ t. rows_of s ≡ t; is_honest = Unit {0}; is_open = Unit {0}; leaves = λ x. ⊥ }
