@@ -1,13 +1,15 @@
 //! A desk, and a run of commands over it.
 
-ghost use Rattle.std.specs.Prelude.{◌≡◌, ℕ, List, [], IfOk, IfErr, OnOk, OnErr, length};
+ghost use Rattle.std.specs.Prelude.{◌≡◌, false, List, [], IfOk, IfErr, OnErr, length};
 ghost use Rattle.desk_rows.specs.Readings.{Readings};
-ghost use Rattle.desk_rows.specs.Faults.{MayFail};
+ghost use Rattle.desk_rows.specs.Faults.{MayFail, MayBecome, MayAllBecome};
 ghost use Rattle.desk_rows.specs.Tables.{Tables, tables};
-ghost use Rattle.desk_rows.specs.Answers.{answer, noted, IsHistory};
+ghost use Rattle.desk_rows.specs.Answers.{IsHistory, refused_alone};
 ghost use Rattle.desk_rows.specs.Queries.{queried};
 ghost use Rattle.desk_rows.specs.Runs.{AreAnswers, IsAnswer, history_after, history_with};
-ghost use Rattle.desk_rows.specs.declared.command.Command.{Command};
+ghost use Rattle.desk_access.specs.Seen.{Seen, Looked, Minds};
+ghost use Rattle.desk_core.specs.Desks.{CarriesOut, InHistory};
+ghost use Rattle.desk_memory.specs.Memory.{memory_seen};
 ghost use Rattle.desk_rows.specs.declared.command.Command.TheVariants.{Import};
 ghost use Rattle.desk_rows.specs.declared.command.StoreFault.{StoreFault};
 
@@ -15,19 +17,25 @@ use desk_access::store::Store;
 use desk_access::texts::Texts;
 use desk_base::Items;
 use desk_decisions::ask::answer_to;
-use desk_decisions::carry::carry_out;
-use desk_decisions::document::import;
+use desk_decisions::carry::{carry_import, carry_out};
 use desk_memory::MemStore;
 use desk_rows::{Answer, Command, Fault, Outcome, Profile, Query};
 use std::alloc::{AllocError, Global};
 
-/// A desk, seen as its tables.
+/// A desk, seen as its store is: which tables are its rows, and what a stop could leave of them.
 ///
-/// For each right reading of texts and each recorded history whose tables are the content, a command is answered as the
-/// definitions of the history say, and leaves the tables of the history with it.
+/// For each right reading of texts and each recorded history whose tables are the rows, a command is answered as the
+/// definitions of the history say, and leaves the tables of the history with it. After a refusal, Again, a question or a fault the
+/// rows are as they were, whatever they are.
 pub trait Desk {
-    /// The rows of the tables.
-    ghost content: { Self → Tables };
+    /// What a stop of the program may leave of a desk.
+    ghost Left: { Type 0 };
+
+    /// What is left holds these rows.
+    ghost stands: { Left → Tables → Type 0 };
+
+    /// What is seen of the desk.
+    ghost seen: { Self → Seen Left };
 
     /// The readings that give each text what it says.
     ghost are_right: { Readings → Type 0 };
@@ -35,24 +43,28 @@ pub trait Desk {
     /// The faults of its own that the desk's store may tell.
     ghost tells: { StoreFault → Type 0 };
 
-    /// Carries out a command, or refuses it. After a refusal, Again or a fault the content is as it was.
+    /// Carries out a command, or refuses it.
     fn apply(&mut self, command: &Command) -> Result<Answer, Fault>
-        ensures answer { (w : Readings) → are_right w → (h : List Command) → IsHistory w h → content self.old ≡ tables w h → IfOk result (λ a. a ≡ answer w h command.now) }
-        ensures ok { (w : Readings) → are_right w → (h : List Command) → IsHistory w h → content self.old ≡ tables w h → OnOk result (content self.new ≡ tables w (noted w h command.now)) }
-        ensures err { OnErr result (content self.new ≡ content self.old) }
+        ensures minds { Minds (seen self.old) (seen self.new) result }
+        ensures carries { (w : Readings) → are_right w → CarriesOut stands w command.now (seen self.old) (seen self.new) result }
+        ensures alone { (w : Readings) → are_right w → IfErr result (MayFail (λ fault. refused_alone w command.now ≡ false)) }
         ensures fault { IfErr result (MayFail tells) };
 
-    /// Carries out the import of these bytes as `apply` does, and keeps the bytes themselves, where `apply` keeps a copy.
+    /// Carries out the import of these bytes as `apply` does; a desk may keep the bytes themselves, where `apply` keeps a copy.
     fn import(&mut self, bytes: Items<u8>, profile: Profile) -> Result<Answer, Fault>
-        ensures answer { (w : Readings) → are_right w → (h : List Command) → IsHistory w h → content self.old ≡ tables w h → IfOk result (λ a. a ≡ answer w h (Import bytes profile)) }
-        ensures ok { (w : Readings) → are_right w → (h : List Command) → IsHistory w h → content self.old ≡ tables w h → OnOk result (content self.new ≡ tables w (noted w h (Import bytes profile))) }
-        ensures err { OnErr result (content self.new ≡ content self.old) }
-        ensures fault { IfErr result (MayFail tells) };
+        ensures minds { Minds (seen self.old) (seen self.new) result }
+        ensures carries { (w : Readings) → are_right w → CarriesOut stands w (Import bytes profile) (seen self.old) (seen self.new) result }
+        ensures alone { (w : Readings) → are_right w → IfErr result (MayFail (λ fault. refused_alone w (Import bytes profile) ≡ false)) }
+        ensures fault { IfErr result (MayFail tells) }
+    {
+        let command = Command::Import { bytes, profile };
+        self.apply(&command)
+    }
 
     /// Answers a question, and changes nothing.
     fn ask(&mut self, query: &Query) -> Result<Answer, Fault>
-        ensures answer { (w : Readings) → are_right w → (h : List Command) → IsHistory w h → content self.old ≡ tables w h → IfOk result (λ a. a ≡ queried w h query.now) }
-        ensures kept { content self.new ≡ content self.old }
+        ensures answer { IfOk result (λ a. InHistory are_right (λ w h. a ≡ queried w h query.now) (seen self.old) (seen self.new)) }
+        ensures kept { Looked (seen self.old) (seen self.new) result }
         ensures fault { IfErr result (MayFail tells) };
 }
 
@@ -67,7 +79,7 @@ pub struct TableDesk<T, S> {
 impl<T: Texts, S: Store> TableDesk<T, S> {
     /// The desk over this store.
     pub fn over(alloc: Global, texts: T, store: S) -> TableDesk<T, S>
-        ensures { S.rows result.store ≡ S.rows store }
+        ensures { result.store ≡ store }
     {
         TableDesk {
             texts,
@@ -77,10 +89,24 @@ impl<T: Texts, S: Store> TableDesk<T, S> {
     }
 }
 
+impl<T: Texts + Drop, S: Store> TableDesk<T, S> {
+    /// Hands the store back.
+    pub fn into_store(self) -> S
+        ensures { result ≡ self.store }
+    {
+        let TableDesk {
+            texts: _,
+            store,
+            alloc: _,
+        } = self;
+        store
+    }
+}
+
 impl<T: Texts> TableDesk<T, MemStore> {
     /// The empty desk in memory.
     pub fn new(alloc: Global, texts: T) -> TableDesk<T, MemStore>
-        ensures { (w : Readings) → ⟦<MemStore as Store>⟧.rows result.store ≡ tables w [] }
+        ensures { (w : Readings) → (memory_seen result.store).holds (tables w []) }
     {
         TableDesk {
             texts,
@@ -91,7 +117,11 @@ impl<T: Texts> TableDesk<T, MemStore> {
 }
 
 impl<T: Texts, S: Store> Desk for TableDesk<T, S> {
-    ghost content = { λ d. S.rows d.store };
+    ghost Left = { S.Left };
+
+    ghost stands = { S.stands };
+
+    ghost seen = { λ d. S.seen d.store };
 
     ghost are_right = { T.are_right };
 
@@ -102,7 +132,7 @@ impl<T: Texts, S: Store> Desk for TableDesk<T, S> {
     }
 
     fn import(&mut self, bytes: Items<u8>, profile: Profile) -> Result<Answer, Fault> {
-        import(self.alloc, &self.texts, &mut self.store, bytes, profile)
+        carry_import(self.alloc, &self.texts, &mut self.store, bytes, profile)
     }
 
     fn ask(&mut self, query: &Query) -> Result<Answer, Fault> {
@@ -112,29 +142,32 @@ impl<T: Texts, S: Store> Desk for TableDesk<T, S> {
 
 /// Applies one command.
 fn apply_one<D: Desk>(desk: &mut D, command: &Command) -> Outcome
-    ensures answer { (w : Readings) → D.are_right w → (h : List Command) → IsHistory w h → D.content desk.old ≡ tables w h → IsAnswer w h command.now result }
-    ensures content { (w : Readings) → D.are_right w → (h : List Command) → IsHistory w h → D.content desk.old ≡ tables w h → D.content desk.new ≡ tables w (history_with h command.now result) }
+    ensures honest { (D.seen desk.new).is_honest → (D.seen desk.old).is_honest }
+    ensures answer { InHistory D.are_right (λ w h. IsAnswer w h command.now result) (D.seen desk.old) (D.seen desk.new) }
+    ensures content { InHistory D.are_right (λ w h. (D.seen desk.new).holds (tables w (history_with h command.now result))) (D.seen desk.old) (D.seen desk.new) }
+    ensures fault { MayBecome D.tells result }
 {
-    match desk.apply(command) {
-        Ok(answer) => Outcome::Answered(answer),
-        Err(fault) => Outcome::Failed(fault),
-    }
+    Outcome::from(desk.apply(command))
 }
 
 /// Applies commands in order, and goes on past refusals and faults.
 ///
 /// The room of the list of outcomes is taken first: where that fails, nothing is applied. Otherwise there is one outcome for each
-/// command. Whatever history `h` of recorded commands the content stood for before, each outcome that is no fault is the answer
-/// at its place, after `h` and the commands recorded before it; and at the end the content is the tables of all recorded commands.
+/// command. Whatever recorded history `h` the rows stood for before, each outcome that is no fault is the answer at its place, after
+/// `h` and the commands recorded before it; and at the end the rows are the tables of all recorded commands, which are a
+/// recorded history again. An outcome is a fault only where `apply` had it, so it is one that the desk may tell.
 pub fn run<D: Desk>(
     alloc: Global,
     desk: &mut D,
     commands: &[Command],
 ) -> Result<Vec<Outcome>, AllocError>
-    ensures answers { (w : Readings) → D.are_right w → (h : List Command) → IsHistory w h → D.content desk.old ≡ tables w h → IfOk result (λ outcomes. AreAnswers w h commands.now outcomes.items) }
-    ensures content { (w : Readings) → D.are_right w → (h : List Command) → IsHistory w h → D.content desk.old ≡ tables w h → IfOk result (λ outcomes. D.content desk.new ≡ tables w (history_after h commands.now outcomes.items)) }
+    ensures answers { IfOk result (λ outcomes. InHistory D.are_right (λ w h. AreAnswers w h commands.now outcomes.items) (D.seen desk.old) (D.seen desk.new)) }
+    ensures history { IfOk result (λ outcomes. InHistory D.are_right (λ w h. IsHistory w (history_after h commands.now outcomes.items)) (D.seen desk.old) (D.seen desk.new)) }
+    ensures content { IfOk result (λ outcomes. InHistory D.are_right (λ w h. (D.seen desk.new).holds (tables w (history_after h commands.now outcomes.items))) (D.seen desk.old) (D.seen desk.new)) }
+    ensures honest { (D.seen desk.new).is_honest → (D.seen desk.old).is_honest }
+    ensures faults { IfOk result (λ outcomes. MayAllBecome D.tells outcomes.items) }
     ensures count { IfOk result (λ outcomes. length outcomes.items ≡ length commands.now) }
-    ensures err { OnErr result (D.content desk.new ≡ D.content desk.old) }
+    ensures err { OnErr result (desk.new ≡ desk.old) }
 {
     let mut outcomes = Vec::with_capacity(alloc, commands.len())?;
     for command in commands {
@@ -146,14 +179,15 @@ pub fn run<D: Desk>(
 /// A desk in memory.
 pub type MemDesk<T> = TableDesk<T, MemStore>;
 
-/// Applies commands to an empty desk in memory.
+/// Applies commands to an empty desk in memory, whose only fault is want of memory.
 pub fn run_in_memory<T: Texts + Drop>(
     alloc: Global,
     texts: T,
     commands: &[Command],
 ) -> Result<(Vec<Outcome>, MemDesk<T>), AllocError>
     ensures answers { (w : Readings) → T.are_right w → IfOk result (λ done. AreAnswers w [] commands.now done.0.items) }
-    ensures content { (w : Readings) → T.are_right w → IfOk result (λ done. ⟦<MemStore as Store>⟧.rows done.1.store ≡ tables w (history_after [] commands.now done.0.items)) }
+    ensures content { (w : Readings) → T.are_right w → IfOk result (λ done. (⟦<TableDesk<T, MemStore> as Desk>⟧.seen done.1).holds (tables w (history_after [] commands.now done.0.items))) }
+    ensures faults { IfOk result (λ done. MayAllBecome (λ _. ⊥) done.0.items) }
     ensures count { IfOk result (λ done. length done.0.items ≡ length commands.now) }
 {
     let mut desk = TableDesk::new(alloc, texts);

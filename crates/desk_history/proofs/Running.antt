@@ -1,4 +1,6 @@
 -- One more command of a run.
+use Rattle.desk_rows.specs.Faults.{MayBecome, MayAllBecome}
+use Rattle.desk_rows.specs.declared.command.StoreFault.{StoreFault}
 use Rattle.std.proofs.Common.{◌≡◌, ◌<◌, List, [], ◌∷◌, ◌++◌, length, get_or, sym, ap, subst, arith}
 use Rattle.std.specs.Prelude.{if◌then◌else◌}
 use Rattle.desk_rows.specs.Readings.{Readings}
@@ -22,3 +24,7 @@ AreAnswers-push w h (x ∷ cs) (p ∷ os) c o lt at are is = (are.0, AreAnswers-
 pub IsHistory-with : (w : Readings) (h : List Command) (c : Command) (o : Outcome) → IsHistory w h → IsAnswer w h c o → IsHistory w (history_with h c o)
 IsHistory-with w h c (Answered a) ok is = subst (λ b. IsHistory w (if is_recorded b then c ∷ h else h)) (sym is) (IsHistory-noted w h c ok)
 IsHistory-with w h c (Failed fault) ok is = ok
+
+pub MayAllBecome-push : (tells : StoreFault → Type 0) (os : List Outcome) (o : Outcome) → MayAllBecome tells os → MayBecome tells o → MayAllBecome tells (os ++ o ∷ [])
+MayAllBecome-push tells [] o all one = (one, tt)
+MayAllBecome-push tells (p ∷ os) o all one = (all.0, MayAllBecome-push tells os o all.1 one)

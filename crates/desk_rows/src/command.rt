@@ -186,3 +186,17 @@ pub enum Outcome {
     Answered(Answer),
     Failed(Fault),
 }
+
+impl From<Result<Answer, Fault>> for Outcome {
+    ghost use Rattle.std.specs.Prelude.{◌≡◌};
+    ghost use Rattle.desk_rows.specs.Faults.{outcome_of};
+
+    ghost from_gives = { λ told outcome. outcome ≡ outcome_of told };
+
+    fn from(told: Result<Answer, Fault>) -> Outcome {
+        match told {
+            Ok(answer) => Outcome::Answered(answer),
+            Err(fault) => Outcome::Failed(fault),
+        }
+    }
+}

@@ -6,7 +6,7 @@ use Rattle.desk_base.specs.Lines.{CutsInto, IsLine, LineText}
 use Rattle.desk_base.specs.declared.lines.LineEnd.{LineEnd}
 use Rattle.desk_base.specs.declared.lines.LineEnd.TheVariants.{Lf, CrLf, Nothing}
 use Rattle.desk_json.specs.declared.request.Request.{Request}
-use Rattle.desk_script.specs.Lines.{BeginsWith, is_blank_line, request_at, request_of, requests_of}
+use Rattle.desk_script.specs.Lines.{BeginsWith, is_blank_line, request_of, requests_of}
 
 cut_more : (bytes text end rest more : List ℕ) → bytes ≡ text ++ (end ++ rest) → bytes ++ more ≡ text ++ (end ++ (rest ++ more))
 cut_more bytes text end rest more cut =
@@ -28,33 +28,31 @@ BeginsWith-more n bytes (l ∷ ls) rest more begins fed = (
   BeginsWith-more (n + 1) begins.0 ls rest more begins.3 (All-tail (λ (x : LineText). x.end ≢ Nothing) l ls fed),
 )
 
--- one more line
-pub BeginsWith-line : (n : ℕ) (bytes : List ℕ) (lines : List LineText) (rest text : List ℕ) (end : LineEnd) (more : List ℕ)
-    → BeginsWith n bytes lines rest → IsLine rest text end more
-    → BeginsWith n bytes (lines ++ record { number = n + length lines; text = text; end = end } ∷ []) more
-BeginsWith-line n bytes [] rest text end more begins line =
-    (more, omega arith, subst (λ (bs : List ℕ). IsLine bs text end more) (sym begins) line, refl)
-BeginsWith-line n bytes (l ∷ ls) rest text end more begins line =
-    let at : n + length (l ∷ ls) ≡ n + 1 + length ls = omega arith in (
-      begins.0,
-      begins.1,
-      begins.2,
-      subst (λ (k : ℕ). BeginsWith (n + 1) begins.0 (ls ++ record { number = k; text = text; end = end } ∷ []) more) (sym at)
-          (BeginsWith-line (n + 1) begins.0 ls rest text end more begins.3 line),
-    )
+-- lines, and the lines of what follows them
+pub BeginsWith-append : (n : ℕ) (bytes : List ℕ) (lines more : List LineText) (mid rest : List ℕ) → BeginsWith n bytes lines mid → BeginsWith (n + length lines) mid more rest
+    → BeginsWith n bytes (lines ++ more) rest
+BeginsWith-append n bytes [] more mid rest begins k =
+    let at : n + 0 ≡ n = omega arith in
+    subst (λ (bs : List ℕ). BeginsWith n bs more rest) (sym begins) (subst (λ (i : ℕ). BeginsWith i mid more rest) at k)
+BeginsWith-append n bytes (l ∷ ls) more mid rest begins k =
+    let at : n + length (l ∷ ls) ≡ n + 1 + length ls = omega arith in
+    (begins.0, begins.1, begins.2, BeginsWith-append (n + 1) begins.0 ls more mid rest begins.3 (subst (λ (i : ℕ). BeginsWith i mid more rest) at k))
 
-pub CutsInto-whole : (n : ℕ) (bytes : List ℕ) (lines : List LineText) → BeginsWith n bytes lines [] → CutsInto n bytes lines
-CutsInto-whole n bytes [] begins = begins
-CutsInto-whole n bytes (l ∷ ls) begins = (begins.0, begins.1, begins.2, CutsInto-whole (n + 1) begins.0 ls begins.3)
+pub CutsInto-append : (n : ℕ) (bytes : List ℕ) (lines more : List LineText) (mid : List ℕ) → BeginsWith n bytes lines mid → CutsInto (n + length lines) mid more
+    → CutsInto n bytes (lines ++ more)
+CutsInto-append n bytes [] more mid begins k =
+    let at : n + 0 ≡ n = omega arith in
+    subst (λ (bs : List ℕ). CutsInto n bs more) (sym begins) (subst (λ (i : ℕ). CutsInto i mid more) at k)
+CutsInto-append n bytes (l ∷ ls) more mid begins k =
+    let at : n + length (l ∷ ls) ≡ n + 1 + length ls = omega arith in
+    (begins.0, begins.1, begins.2, CutsInto-append (n + 1) begins.0 ls more mid begins.3 (subst (λ (i : ℕ). CutsInto i mid more) at k))
 
-one_request : (b : Bool) (r : Request) (rs : List Request) → (if b then rs else r ∷ rs) ≡ (if b then [] else r ∷ []) ++ rs
-one_request true r rs = refl
-one_request false r rs = refl
+requests_and : (b : Bool) (r : Request) (rs ss : List Request) → (if b then rs ++ ss else r ∷ (rs ++ ss)) ≡ (if b then rs else r ∷ rs) ++ ss
+requests_and true r rs ss = refl
+requests_and false r rs ss = refl
 
-pub requests_of-line : (lines : List LineText) (line : LineText) → requests_of (lines ++ line ∷ []) ≡ requests_of lines ++ request_at line.text
-requests_of-line [] line = refl
-requests_of-line (l ∷ ls) line =
-    one_request (is_blank_line l.text) (request_of l.text) (requests_of (ls ++ line ∷ []))
-    ∙ (ap (λ (rs : List Request). (if is_blank_line l.text then [] else request_of l.text ∷ []) ++ rs) (requests_of-line ls line)
-    ∙ (sym (append_assoc (if is_blank_line l.text then [] else request_of l.text ∷ []) (requests_of ls) (request_at line.text))
-    ∙ ap (λ (rs : List Request). rs ++ request_at line.text) (sym (one_request (is_blank_line l.text) (request_of l.text) (requests_of ls)))))
+pub requests_of-append : (lines more : List LineText) → requests_of (lines ++ more) ≡ requests_of lines ++ requests_of more
+requests_of-append [] more = refl
+requests_of-append (l ∷ ls) more =
+    ap (λ (rs : List Request). if is_blank_line l.text then rs else request_of l.text ∷ rs) (requests_of-append ls more)
+    ∙ requests_and (is_blank_line l.text) (request_of l.text) (requests_of ls) (requests_of more)

@@ -1,10 +1,19 @@
 -- The reply to one line.
-use Rattle.std.proofs.Common.{◌≡◌, ℕ, ◌+◌, Bool, true, false, List, [], ◌∷◌, Option, length, take, refl, sym, ap, ◌∙◌, subst, arith, append-nil}
-use Rattle.std.specs.Prelude.{if◌then◌else◌, nat_lt}
+use Rattle.std.proofs.Common.{◌≡◌, ℕ, ◌+◌, Bool, true, false, List, [], ◌∷◌, Option, Result, Ok, Err, length, take, refl, sym, ap, ◌∙◌, subst, arith, append-nil}
+use Rattle.std.specs.Prelude.{if◌then◌else◌, nat_lt, IfOk, IfErr}
 use Rattle.std.specs.Io.KnownBytes.{Appends}
 use Rattle.std.proofs.lemmas.List.{take_all}
 use Rattle.desk_rows.specs.Readings.{Readings}
-use Rattle.desk_rows.specs.Tables.{Tables}
+use Rattle.desk_rows.specs.Tables.{Tables, tables}
+use Rattle.desk_rows.specs.Answers.{IsHistory, is_recorded}
+use Rattle.desk_rows.specs.Queries.{queried}
+use Rattle.desk_rows.specs.Faults.{MayFail, outcome_of}
+use Rattle.desk_rows.specs.declared.command.Answer.{Answer}
+use Rattle.desk_rows.specs.declared.command.Command.{Command}
+use Rattle.desk_rows.specs.declared.command.Fault.{Fault}
+use Rattle.desk_rows.specs.declared.command.Query.{Query}
+use Rattle.desk_access.specs.Seen.{Seen, Spared, Minds, Looked}
+use Rattle.desk_core.specs.Desks.{CarriesOut, InHistory}
 use Rattle.desk_rows.specs.declared.command.Fault.TheVariants.{Memory}
 use Rattle.desk_rows.specs.declared.command.Outcome.TheVariants.{Failed}
 use Rattle.desk_rows.specs.declared.command.StoreFault.{StoreFault}
@@ -20,7 +29,7 @@ use Rattle.desk_script.specs.declared.answer.Reply.{Reply}
 use Rattle.desk_script.specs.declared.answer.Reply.TheVariants.{Became, NoRequest}
 use Rattle.desk_script.specs.declared.line.Line.{Line}
 use Rattle.desk_script.specs.declared.serving.ScriptEnd.{ScriptEnd}
-use Rattle.desk_script.proofs.Chains.{Serves-none}
+use Rattle.desk_script.proofs.Chains.{AreReplied-none, AreReplied-one, Serves-none}
 
 -- a text within the limit is kept whole
 kept_whole : (n : ℕ) (text : List ℕ) → nat_lt n (length text) ≡ false → take n text ≡ text
@@ -37,46 +46,90 @@ request_at-blank line text h blank = ap (λ (b : Bool). if b then [] else reques
 pub request_at-one : (line : Line) (text : List ℕ) → HasCome line text → line.is_blank ≡ false → request_at text ≡ request_of text ∷ []
 request_at-one line text h blank = ap (λ (b : Bool). if b then [] else request_of text ∷ []) (sym h.blank ∙ blank)
 
-module _ (is_right : Readings → Type 0) (tells : StoreFault → Type 0) where
-  -- memory is wanting to read a request
-  pub Replies-memory : (now : Tables) (request : Request) → Replies is_right tells now request (Became (Failed Memory)) now
-  Replies-memory now (Act c) = record { fits = tt; keeps = refl; answer = λ w right h ok e. tt; content = λ w right h ok e. e }
-  Replies-memory now (Ask q) = record { fits = tt; keeps = refl; answer = λ w right h ok e. tt; content = λ w right h ok e. e }
-  Replies-memory now BadCommand = record { fits = tt; keeps = refl; answer = λ w right h ok e. tt; content = λ w right h ok e. e }
+module _ (is_right : Readings → Type 0) (tells : StoreFault → Type 0) {Left : Type 0} where
+  -- nothing was done
+  same_now : (now : Seen Left) → Spared now now
+  same_now now = record { honest = λ h. h; holds = λ t held. held }
 
-  no_request : (now : Tables) → Replies is_right tells now BadCommand NoRequest now
-  no_request now = record { fits = tt; keeps = refl; answer = λ w right h ok e. tt; content = λ w right h ok e. e }
+  -- memory is wanting to read a request
+  pub Replies-memory : (now : Seen Left) (request : Request) → Replies is_right tells now request (Became (Failed Memory)) now
+  Replies-memory now (Act c) = record { fits = tt; honest = λ h. h; keeps = λ none. same_now now; answer = λ w right clean h ok held. tt; content = λ w right clean h ok held. held }
+  Replies-memory now (Ask q) = record { fits = tt; honest = λ h. h; keeps = λ none. same_now now; answer = λ w right clean h ok held. tt; content = λ w right clean h ok held. held }
+  Replies-memory now BadCommand = record { fits = tt; honest = λ h. h; keeps = λ none. same_now now; answer = λ w right clean h ok held. tt; content = λ w right clean h ok held. held }
+
+  pub no_request : (now : Seen Left) → Replies is_right tells now BadCommand NoRequest now
+  no_request now = record { fits = tt; honest = λ h. h; keeps = λ none. same_now now; answer = λ w right clean h ok held. tt; content = λ w right clean h ok held. held }
+
+  -- a command was applied
+  pub Replies-applied : (stands : Left → Tables → Type 0) (old new : Seen Left) (c : Command) (r : Result Answer Fault) → Minds old new r
+      → ((w : Readings) → is_right w → CarriesOut stands w c old new r) → IfErr r (MayFail tells) → Replies is_right tells old (Act c) (Became (outcome_of r)) new
+  Replies-applied stands old new c (Ok a) minds carries fault = record {
+    fits = tt;
+    honest = minds.0;
+    keeps = λ none. (minds.1 none).kept.spared;
+    answer = λ w right clean h ok held. (carries w right).right clean h ok held;
+    content = λ w right clean h ok held. applied_content (is_recorded a) refl w right clean h ok held;
+  }
+    where
+      applied_content : (b : Bool) → is_recorded a ≡ b → (w : Readings) → is_right w → new.is_honest → (h : List Command) → IsHistory w h → old.holds (tables w h) → new.holds (tables w (if b then c ∷ h else h))
+      applied_content true kept w right clean h ok held = (carries w right).holds kept clean h ok held
+      applied_content false none w right clean h ok held = (minds.1 none).kept.spared.holds (tables w h) held
+  Replies-applied stands old new c (Err f) minds carries fault = record {
+    fits = fault;
+    honest = minds.honest;
+    keeps = λ none. minds;
+    answer = λ w right clean h ok held. tt;
+    content = λ w right clean h ok held. minds.holds (tables w h) held;
+  }
+
+  -- a question was asked
+  pub Replies-asked : (old new : Seen Left) (q : Query) (r : Result Answer Fault) → IfOk r (λ a. InHistory is_right (λ w h. a ≡ queried w h q) old new) → Looked old new r
+      → IfErr r (MayFail tells) → Replies is_right tells old (Ask q) (Became (outcome_of r)) new
+  Replies-asked old new q (Ok a) answer kept fault = record {
+    fits = tt;
+    honest = kept.kept.spared.honest;
+    keeps = λ none. kept.kept.spared;
+    answer = answer;
+    content = λ w right clean h ok held. kept.kept.spared.holds (tables w h) held;
+  }
+  Replies-asked old new q (Err f) answer kept fault = record {
+    fits = fault;
+    honest = kept.spared.honest;
+    keeps = λ none. kept.spared;
+    answer = λ w right clean h ok held. tt;
+    content = λ w right clean h ok held. kept.spared.holds (tables w h) held;
+  }
 
   -- a long line is no request
-  pub Replies-long : (now : Tables) (line : Line) (text : List ℕ) → HasCome line text → line.is_long ≡ true → Replies is_right tells now (request_of text) NoRequest now
+  pub Replies-long : (now : Seen Left) (line : Line) (text : List ℕ) → HasCome line text → line.is_long ≡ true → Replies is_right tells now (request_of text) NoRequest now
   Replies-long now line text h long =
       subst (λ (b : Bool). Replies is_right tells now (if b then BadCommand else request_in text) NoRequest now) (sym (sym h.long ∙ long)) (no_request now)
 
-  pub AreReplied-blank : (now : Tables) (line : Line) (text : List ℕ) → HasCome line text → line.is_blank ≡ true
+  pub AreReplied-blank : (now : Seen Left) (line : Line) (text : List ℕ) → HasCome line text → line.is_blank ≡ true
       → (replies : List Reply) × AreReplied is_right tells now (request_at text) replies now
   AreReplied-blank now line text h blank =
-      ([], subst (λ (rs : List Request). AreReplied is_right tells now rs [] now) (sym (request_at-blank line text h blank)) refl)
+      ([], subst (λ (rs : List Request). AreReplied is_right tells now rs [] now) (sym (request_at-blank line text h blank)) (AreReplied-none is_right tells now))
 
-  pub Serves-blank : (now : Tables) (w : Option (List ℕ)) (from : ScriptEnd) (line : Line) (text : List ℕ) → HasCome line text → line.is_blank ≡ true
-      → Serves is_right tells now (request_at text) now w w from from
+  pub Serves-blank : (now : Seen Left) (w : Option (List ℕ)) (from : ScriptEnd) (line : Line) (text : List ℕ) → HasCome line text → line.is_blank ≡ true
+      → Serves is_right tells (request_at text) now now w w from from
   Serves-blank now w from line text h blank =
-      subst (λ (rs : List Request). Serves is_right tells now rs now w w from from) (sym (request_at-blank line text h blank)) (Serves-none is_right tells now w from)
+      subst (λ (rs : List Request). Serves is_right tells rs now now w w from from) (sym (request_at-blank line text h blank)) (Serves-none is_right tells now w from)
 
-  pub AreReplied-one : (now after : Tables) (line : Line) (text : List ℕ) (reply : Reply) → HasCome line text → line.is_blank ≡ false
+  pub AreReplied-line : (now after : Seen Left) (line : Line) (text : List ℕ) (reply : Reply) → HasCome line text → line.is_blank ≡ false
       → Replies is_right tells now (request_of text) reply after
       → (replies : List Reply) × AreReplied is_right tells now (request_at text) replies after
-  AreReplied-one now after line text reply h blank replies =
-      (reply ∷ [], subst (λ (rs : List Request). AreReplied is_right tells now rs (reply ∷ []) after) (sym (request_at-one line text h blank)) (after, replies, refl))
+  AreReplied-line now after line text reply h blank replies =
+      (reply ∷ [], subst (λ (rs : List Request). AreReplied is_right tells now rs (reply ∷ []) after) (sym (request_at-one line text h blank)) (AreReplied-one is_right tells now after (request_of text) reply replies))
 
-  pub Serves-one : (now after : Tables) (u v : Option (List ℕ)) (from to : ScriptEnd) (line : Line) (text : List ℕ) (reply : Reply) → HasCome line text → line.is_blank ≡ false
+  pub Serves-one : (now after : Seen Left) (u v : Option (List ℕ)) (from to : ScriptEnd) (line : Line) (text : List ℕ) (reply : Reply) → HasCome line text → line.is_blank ≡ false
       → Replies is_right tells now (request_of text) reply after
       → Appends u v (line_of reply) → to.refused ≡ from.refused + count_refused reply → to.failed ≡ from.failed + count_failed reply
-      → Serves is_right tells now (request_at text) after u v from to
+      → Serves is_right tells (request_at text) now after u v from to
   Serves-one now after u v from to line text reply h blank replies written refused failed =
-      subst (λ (rs : List Request). Serves is_right tells now rs after u v from to) (sym (request_at-one line text h blank))
+      subst (λ (rs : List Request). Serves is_right tells rs now after u v from to) (sym (request_at-one line text h blank))
       (record {
         replies = reply ∷ [];
-        replied = (after, replies, refl);
+        replied = AreReplied-one is_right tells now after (request_of text) reply replies;
         written = subst (λ (bs : List ℕ). Appends u v bs) (sym (append-nil (line_of reply))) written;
         refused = omega (arith, refused);
         failed = omega (arith, failed);

@@ -1,45 +1,143 @@
 -- What more bytes make of a script.
-use Rattle.std.proofs.Common.{◌≡◌, ◌≢◌, ℕ, ◌+◌, List, [], ◌∷◌, ◌++◌, Option, None, Some, length, refl, sym, ap, ◌∙◌, subst, arith, append_assoc, append-nil}
-use Rattle.std.specs.Prelude.{All}
+use Rattle.std.proofs.Common.{◌≡◌, ◌≢◌, ℕ, ◌+◌, Bool, true, false, List, [], ◌∷◌, ◌++◌, Option, None, Some, length, refl, sym, ap, ◌∙◌, subst, arith, append_assoc, append-nil}
+use Rattle.std.specs.Prelude.{All, if◌then◌else◌}
 use Rattle.std.specs.Io.KnownBytes.{Consumes, IsAtEnd}
 use Rattle.std.proofs.lemmas.List.Elements.{All-nil, All-cons, All-append}
 use Rattle.desk_base.specs.Lines.{CutsInto, IsLine, LineText}
 use Rattle.desk_base.specs.declared.lines.LineEnd.{LineEnd}
 use Rattle.desk_base.specs.declared.lines.LineEnd.TheVariants.{Nothing}
 use Rattle.desk_rows.specs.Readings.{Readings}
-use Rattle.desk_rows.specs.Tables.{Tables}
 use Rattle.desk_rows.specs.declared.command.StoreFault.{StoreFault}
+use Rattle.desk_access.specs.Seen.{Seen}
 use Rattle.desk_json.specs.declared.request.Request.{Request}
 use Rattle.desk_script.specs.Gathered.{Shows}
-use Rattle.desk_script.specs.Lines.{BeginsWith, request_at, requests_of}
+use Rattle.desk_script.specs.Lines.{BeginsWith, is_blank_line, request_at, request_of, requests_of}
 use Rattle.desk_script.specs.Replies.{AreReplied}
-use Rattle.desk_script.specs.Script.{AreLeft, HasServed, IsCutOff, IsFront, IsScript, Serves}
+use Rattle.desk_script.specs.Script.{AreLeft, HasServed, IsCutOff, IsFront, IsFrontAt, IsPart, IsScript, Serves}
 use Rattle.desk_script.specs.declared.answer.Reply.{Reply}
 use Rattle.desk_script.specs.declared.line.Line.{Line}
 use Rattle.desk_script.specs.declared.serving.ScriptEnd.{ScriptEnd}
-use Rattle.desk_script.proofs.Cutting.{BeginsWith-more, BeginsWith-line, CutsInto-whole, requests_of-line}
-use Rattle.desk_script.proofs.Chains.{AreReplied-then, IsRun-of, Serves-none, Serves-then}
+use Rattle.desk_script.proofs.Cutting.{BeginsWith-more, BeginsWith-append, CutsInto-append, requests_of-append}
+use Rattle.desk_script.proofs.Chains.{AreReplied-none, AreReplied-then, IsRun-of, Serves-none, Serves-then}
 use Rattle.desk_script.proofs.Gathering.{IsLine-of, no_lf-of}
 
--- the lines with one more, in their place
-abbrev one_more : List LineText → List ℕ → LineEnd → List LineText
-one_more lines text end = lines ++ record { number = 1 + length lines; text = text; end = end } ∷ []
+no_lines : All (λ (l : LineText). l.end ≢ Nothing) []
+no_lines = All-nil (λ (l : LineText). l.end ≢ Nothing)
 
-module _ (is_right : Readings → Type 0) (tells : StoreFault → Type 0) (before : Tables) where
-  pub IsFront-of : (front more : List ℕ) (now : Tables) (u v : Option (List ℕ)) (from to : ScriptEnd) (line : Line)
-      → HasServed is_right tells before front now u v from to line → IsFront is_right tells before (front ++ more) now
-  IsFront-of front more now u v from to line h = record {
+-- the requests of one line
+requests_of-one : (number : ℕ) (text : List ℕ) (end : LineEnd) → requests_of (record { number = number; text = text; end = end } ∷ []) ≡ request_at text
+requests_of-one number text end = elim (is_blank_line text) as (λ b. (if b then [] else request_of text ∷ []) ≡ (if b then [] else request_of text ∷ [])) [ true ↦ refl | false ↦ refl ]
+
+-- the line that an LF ends
+line_of_came : (number : ℕ) (came more : List ℕ) (line : Line) → (shows : Shows line came) → All (λ b. b ≢ 10) came
+    → (end : LineEnd) × (end ≢ Nothing) × BeginsWith number (came ++ 10 ∷ more) (record { number = number; text = shows.0; end = end } ∷ []) more
+line_of_came number came more line shows no_lf =
+    let is = IsLine-of line.ends_by_cr came shows.0 more shows.2 shows.3 (no_lf-of line.ends_by_cr came shows.0 shows.2 no_lf) in
+    (is.0, is.1, (more, refl, is.2, refl))
+
+-- the last line, which may be none
+last_line : (number : ℕ) (came : List ℕ) → All (λ b. b ≢ 10) came
+    → (lines : List LineText) × CutsInto number came lines × BeginsWith number came lines [] × (requests_of lines ≡ request_at came)
+last_line number [] no_lf = ([], refl, refl, refl)
+last_line number (b ∷ bs) no_lf =
+    let line : IsLine (b ∷ bs) (b ∷ bs) Nothing [] =
+    record { cut = sym (append-nil (b ∷ bs)); no_lf = no_lf; ends = (refl, omega arith) } in (
+      record { number = number; text = b ∷ bs; end = Nothing } ∷ [],
+      ([], refl, line, refl),
+      ([], refl, line, refl),
+      requests_of-one number (b ∷ bs) Nothing,
+    )
+
+module _ (is_right : Readings → Type 0) (tells : StoreFault → Type 0) {Left : Type 0} where
+  -- nothing came but a line so far
+  pub HasServed-came : (number : ℕ) (came : List ℕ) (now : Seen Left) (w : Option (List ℕ)) (from : ScriptEnd) (line : Line) → Shows line came → All (λ b. b ≢ 10) came
+      → HasServed is_right tells number came now now w w from from line
+  HasServed-came number came now w from line shows no_lf = record {
+    lines = [];
+    came = came;
+    begins = refl;
+    fed = no_lines;
+    no_lf = no_lf;
+    shows = shows;
+    serves = Serves-none is_right tells now w from;
+  }
+
+  -- bytes among which there is no LF
+  pub HasServed-run : (number : ℕ) (front run : List ℕ) (before now : Seen Left) (u v : Option (List ℕ)) (from to : ScriptEnd) (line next : Line)
+      → (h : HasServed is_right tells number front before now u v from to line) → All (λ b. b ≢ 10) run → Shows next (h.came ++ run)
+      → HasServed is_right tells number (front ++ run) before now u v from to next
+  HasServed-run number front run before now u v from to line next h no_lf shows = record {
+    lines = h.lines;
+    came = h.came ++ run;
+    begins = BeginsWith-more number front h.lines h.came run h.begins h.fed;
+    fed = h.fed;
+    no_lf = All-append (λ (b : ℕ). b ≢ 10) h.came run h.no_lf no_lf;
+    shows = shows;
+    serves = h.serves;
+  }
+
+  both_replied : (lines more : List LineText) (a b c : Seen Left) (ps qs : List Reply) → AreReplied is_right tells a (requests_of lines) ps b
+      → AreReplied is_right tells b (requests_of more) qs c → AreReplied is_right tells a (requests_of (lines ++ more)) (ps ++ qs) c
+  both_replied lines more a b c ps qs h k =
+      subst (λ (rs : List Request). AreReplied is_right tells a rs (ps ++ qs) c) (sym (requests_of-append lines more))
+      (AreReplied-then is_right tells a b c (requests_of lines) (requests_of more) ps qs h k)
+
+  both_served : (lines more : List LineText) (a b c : Seen Left) (u v w : Option (List ℕ)) (from mid to : ScriptEnd) → Serves is_right tells (requests_of lines) a b u v from mid
+      → Serves is_right tells (requests_of more) b c v w mid to → Serves is_right tells (requests_of (lines ++ more)) a c u w from to
+  both_served lines more a b c u v w from mid to h k =
+      subst (λ (rs : List Request). Serves is_right tells rs a c u w from to) (sym (requests_of-append lines more))
+      (Serves-then is_right tells a b c (requests_of lines) (requests_of more) u v w from mid to h k)
+
+  -- more bytes, on the line so far
+  pub HasServed-then : (number : ℕ) (front more : List ℕ) (a b c : Seen Left) (u v w : Option (List ℕ)) (from mid to : ScriptEnd) (line next : Line)
+      → (h : HasServed is_right tells number front a b u v from mid line)
+      → HasServed is_right tells (number + length h.lines) (h.came ++ more) b c v w mid to next
+      → HasServed is_right tells number (front ++ more) a c u w from to next
+  HasServed-then number front more a b c u v w from mid to line next h k = record {
+    lines = h.lines ++ k.lines;
+    came = k.came;
+    begins = BeginsWith-append number (front ++ more) h.lines k.lines (h.came ++ more) k.came (BeginsWith-more number front h.lines h.came more h.begins h.fed) k.begins;
+    fed = All-append (λ (l : LineText). l.end ≢ Nothing) h.lines k.lines h.fed k.fed;
+    no_lf = k.no_lf;
+    shows = k.shows;
+    serves = both_served h.lines k.lines a b c u v w from mid to h.serves k.serves;
+  }
+
+  pub IsFrontAt-then : (number : ℕ) (front more : List ℕ) (a b c : Seen Left) (u v : Option (List ℕ)) (from mid : ScriptEnd) (line : Line)
+      → (h : HasServed is_right tells number front a b u v from mid line)
+      → IsFrontAt is_right tells (number + length h.lines) (h.came ++ more) b c
+      → IsFrontAt is_right tells number (front ++ more) a c
+  IsFrontAt-then number front more a b c u v from mid line h k = record {
+    lines = h.lines ++ k.lines;
+    rest = k.rest;
+    replies = h.serves.replies ++ k.replies;
+    begins = BeginsWith-append number (front ++ more) h.lines k.lines (h.came ++ more) k.rest (BeginsWith-more number front h.lines h.came more h.begins h.fed) k.begins;
+    replied = both_replied h.lines k.lines a b c h.serves.replies k.replies h.serves.replied k.replied;
+  }
+
+  pub IsFrontAt-of : (number : ℕ) (front more : List ℕ) (a b : Seen Left) (u v : Option (List ℕ)) (from to : ScriptEnd) (line : Line)
+      → HasServed is_right tells number front a b u v from to line → IsFrontAt is_right tells number (front ++ more) a b
+  IsFrontAt-of number front more a b u v from to line h = record {
     lines = h.lines;
     rest = h.came ++ more;
     replies = h.serves.replies;
-    begins = BeginsWith-more 1 front h.lines h.came more h.begins h.fed;
+    begins = BeginsWith-more number front h.lines h.came more h.begins h.fed;
     replied = h.serves.replied;
-    run = IsRun-of is_right tells before now (requests_of h.lines) h.serves.replies h.serves.replied;
   }
 
-  pub IsCutOff-of : (front : List ℕ) (now : Tables) (u v : Option (List ℕ)) (from to : ScriptEnd) (line : Line)
-      → HasServed is_right tells before front now u v from to line → IsCutOff is_right tells before front now u v
-  IsCutOff-of front now u v from to line h = record {
+  pub IsFront-at : (bytes : List ℕ) (a b : Seen Left) → IsFrontAt is_right tells 1 bytes a b → IsFront is_right tells bytes a b
+  IsFront-at bytes a b f = record {
+    lines = f.lines;
+    rest = f.rest;
+    replies = f.replies;
+    begins = f.begins;
+    replied = f.replied;
+    run = IsRun-of is_right tells a b (requests_of f.lines) f.replies f.replied;
+  }
+
+  pub IsCutOff-of : (front : List ℕ) (a b : Seen Left) (u v : Option (List ℕ)) (from to : ScriptEnd) (line : Line)
+      → HasServed is_right tells 1 front a b u v from to line → IsCutOff is_right tells front a b u v
+  IsCutOff-of front a b u v from to line h = record {
     lines = h.lines;
     rest = h.came;
     replies = h.serves.replies;
@@ -49,136 +147,71 @@ module _ (is_right : Readings → Type 0) (tells : StoreFault → Type 0) (befor
     written = h.serves.written;
   }
 
-  pub HasServed-none : (w : Option (List ℕ)) (from : ScriptEnd) (line : Line) → Shows line [] → HasServed is_right tells before [] before w w from from line
-  HasServed-none w from line shows = record {
-    lines = [];
-    came = [];
-    begins = refl;
-    fed = All-nil (λ (l : LineText). l.end ≢ Nothing);
-    no_lf = All-nil (λ (b : ℕ). b ≢ 10);
-    shows = shows;
-    serves = Serves-none is_right tells before w from;
-  }
-
-  -- bytes among which there is no LF
-  pub HasServed-run : (front run : List ℕ) (now : Tables) (u v : Option (List ℕ)) (from to : ScriptEnd) (line next : Line)
-      → (h : HasServed is_right tells before front now u v from to line) → All (λ b. b ≢ 10) run → Shows next (h.came ++ run)
-      → HasServed is_right tells before (front ++ run) now u v from to next
-  HasServed-run front run now u v from to line next h no_lf shows = record {
-    lines = h.lines;
-    came = h.came ++ run;
-    begins = BeginsWith-more 1 front h.lines h.came run h.begins h.fed;
-    fed = h.fed;
-    no_lf = All-append (λ (b : ℕ). b ≢ 10) h.came run h.no_lf no_lf;
-    shows = shows;
-    serves = h.serves;
-  }
-
-  -- the line that an LF ends
-  line_at : (front more : List ℕ) (now : Tables) (u v : Option (List ℕ)) (from to : ScriptEnd) (line : Line)
-      → (h : HasServed is_right tells before front now u v from to line)
-      → (end : LineEnd) × (end ≢ Nothing) × BeginsWith 1 (front ++ 10 ∷ more) (one_more h.lines h.shows.0 end) more
-  line_at front more now u v from to line h =
-      let is = IsLine-of line.ends_by_cr h.came h.shows.0 more h.shows.2 h.shows.3 (no_lf-of line.ends_by_cr h.came h.shows.0 h.shows.2 h.no_lf) in
-      (is.0, is.1, BeginsWith-line 1 (front ++ 10 ∷ more) h.lines (h.came ++ 10 ∷ more) h.shows.0 is.0 more (BeginsWith-more 1 front h.lines h.came (10 ∷ more) h.begins h.fed) is.2)
-
-  -- the requests with that of the line
-  replied_at : (lines : List LineText) (line : LineText) (now after : Tables) (ps qs : List Reply) → AreReplied is_right tells before (requests_of lines) ps now
-      → AreReplied is_right tells now (request_at line.text) qs after → AreReplied is_right tells before (requests_of (lines ++ line ∷ [])) (ps ++ qs) after
-  replied_at lines line now after ps qs h k =
-      subst (λ (rs : List Request). AreReplied is_right tells before rs (ps ++ qs) after) (sym (requests_of-line lines line))
-      (AreReplied-then is_right tells before now after (requests_of lines) (request_at line.text) ps qs h k)
-
-  serves_at : (lines : List LineText) (line : LineText) (now after : Tables) (u v w : Option (List ℕ)) (from mid to : ScriptEnd)
-      → Serves is_right tells before (requests_of lines) now u v from mid
-      → Serves is_right tells now (request_at line.text) after v w mid to → Serves is_right tells before (requests_of (lines ++ line ∷ [])) after u w from to
-  serves_at lines line now after u v w from mid to h k =
-      subst (λ (rs : List Request). Serves is_right tells before rs after u w from to) (sym (requests_of-line lines line))
-      (Serves-then is_right tells before now after (requests_of lines) (request_at line.text) u v w from mid to h k)
-
-  pub IsFront-line : (front more : List ℕ) (now after : Tables) (u v : Option (List ℕ)) (from to : ScriptEnd) (line : Line)
-      → (h : HasServed is_right tells before front now u v from to line)
-      → ((replies : List Reply) × AreReplied is_right tells now (request_at h.shows.0) replies after)
-      → IsFront is_right tells before (front ++ 10 ∷ more) after
-  IsFront-line front more now after u v from to line h k =
-      let at = line_at front more now u v from to line h in
-      let replied = replied_at h.lines (record { number = 1 + length h.lines; text = h.shows.0; end = at.0 }) now after h.serves.replies k.0 h.serves.replied k.1 in
+  pub HasServed-line : (number : ℕ) (came : List ℕ) (a b : Seen Left) (u v : Option (List ℕ)) (from to : ScriptEnd) (line next : Line) → (shows : Shows line came) → All (λ b. b ≢ 10) came
+      → Serves is_right tells (request_at shows.0) a b u v from to → Shows next [] → HasServed is_right tells number (came ++ 10 ∷ []) a b u v from to next
+  HasServed-line number came a b u v from to line next shows no_lf serves none =
+      let at = line_of_came number came [] line shows no_lf in
+      let one : LineText = record { number = number; text = shows.0; end = at.0 } in
       record {
-        lines = one_more h.lines h.shows.0 at.0;
-        rest = more;
-        replies = h.serves.replies ++ k.0;
-        begins = at.2;
-        replied = replied;
-        run = IsRun-of is_right tells before after (requests_of (one_more h.lines h.shows.0 at.0)) (h.serves.replies ++ k.0) replied;
-      }
-
-  pub HasServed-line : (front : List ℕ) (now after : Tables) (u v w : Option (List ℕ)) (from mid to : ScriptEnd) (line next : Line)
-      → (h : HasServed is_right tells before front now u v from mid line)
-      → Serves is_right tells now (request_at h.shows.0) after v w mid to → Shows next []
-      → HasServed is_right tells before (front ++ 10 ∷ []) after u w from to next
-  HasServed-line front now after u v w from mid to line next h k shows =
-      let at = line_at front [] now u v from mid line h in record {
-        lines = one_more h.lines h.shows.0 at.0;
+        lines = one ∷ [];
         came = [];
         begins = at.2;
-        fed = All-append (λ (l : LineText). l.end ≢ Nothing) h.lines (record { number = 1 + length h.lines; text = h.shows.0; end = at.0 } ∷ []) h.fed
-            (All-cons (λ (l : LineText). l.end ≢ Nothing) (record { number = 1 + length h.lines; text = h.shows.0; end = at.0 }) [] at.1 (All-nil (λ (l : LineText). l.end ≢ Nothing)));
+        fed = All-cons (λ (l : LineText). l.end ≢ Nothing) one [] at.1 no_lines;
         no_lf = All-nil (λ (b : ℕ). b ≢ 10);
-        shows = shows;
-        serves = serves_at h.lines (record { number = 1 + length h.lines; text = h.shows.0; end = at.0 }) now after u v w from mid to h.serves k;
+        shows = none;
+        serves = subst (λ (rs : List Request). Serves is_right tells rs a b u v from to) (sym (requests_of-one number shows.0 at.0)) serves;
       }
 
-  -- the last line, which may be none
-  lines_at_end : (front : List ℕ) (lines : List LineText) (came : List ℕ) → BeginsWith 1 front lines came → All (λ b. b ≢ 10) came
-      → (all : List LineText) × CutsInto 1 front all
-      × (requests_of all ≡ requests_of lines ++ request_at came)
-  lines_at_end front lines [] begins no_lf = (lines, CutsInto-whole 1 front lines begins, sym (append-nil (requests_of lines)))
-  lines_at_end front lines (b ∷ bs) begins no_lf =
-      let line : IsLine (b ∷ bs) (b ∷ bs) Nothing [] =
-      record { cut = sym (append-nil (b ∷ bs)); no_lf = no_lf; ends = (refl, omega arith) } in (
-        one_more lines (b ∷ bs) Nothing,
-        CutsInto-whole 1 front (one_more lines (b ∷ bs) Nothing) (BeginsWith-line 1 front lines (b ∷ bs) (b ∷ bs) Nothing [] begins line),
-        requests_of-line lines (record { number = 1 + length lines; text = b ∷ bs; end = Nothing }),
-      )
+  pub IsFrontAt-line : (number : ℕ) (came more : List ℕ) (a b : Seen Left) (line : Line) → (shows : Shows line came) → All (λ b. b ≢ 10) came
+      → ((replies : List Reply) × AreReplied is_right tells a (request_at shows.0) replies b) → IsFrontAt is_right tells number (came ++ 10 ∷ more) a b
+  IsFrontAt-line number came more a b line shows no_lf replied =
+      let at = line_of_came number came more line shows no_lf in
+      record {
+        lines = record { number = number; text = shows.0; end = at.0 } ∷ [];
+        rest = more;
+        replies = replied.0;
+        begins = at.2;
+        replied = subst (λ (rs : List Request). AreReplied is_right tells a rs replied.0 b) (sym (requests_of-one number shows.0 at.0)) replied.1;
+      }
 
-  BeginsWith-whole : (n : ℕ) (bytes : List ℕ) (lines : List LineText) → CutsInto n bytes lines → BeginsWith n bytes lines []
-  BeginsWith-whole n bytes [] cut = cut
-  BeginsWith-whole n bytes (l ∷ ls) cut = (cut.0, cut.1, cut.2, BeginsWith-whole (n + 1) cut.0 ls cut.3)
+  -- nothing was replied
+  pub IsFrontAt-none : (number : ℕ) (bytes : List ℕ) (a : Seen Left) → IsFrontAt is_right tells number bytes a a
+  IsFrontAt-none number bytes a = record { lines = []; rest = bytes; replies = []; begins = refl; replied = AreReplied-none is_right tells a }
 
-  pub IsFront-end : (front : List ℕ) (now after : Tables) (u v : Option (List ℕ)) (from to : ScriptEnd) (line : Line)
-      → (h : HasServed is_right tells before front now u v from to line)
-      → ((replies : List Reply) × AreReplied is_right tells now (request_at h.came) replies after)
-      → IsFront is_right tells before front after
-  IsFront-end front now after u v from to line h k =
-      let at = lines_at_end front h.lines h.came h.begins h.no_lf in
-      let replied : AreReplied is_right tells before (requests_of at.0) (h.serves.replies ++ k.0) after =
-      subst (λ (rs : List Request). AreReplied is_right tells before rs (h.serves.replies ++ k.0) after) (sym at.2)
-      (AreReplied-then is_right tells before now after (requests_of h.lines) (request_at h.came) h.serves.replies k.0 h.serves.replied k.1) in
+  pub IsFrontAt-last : (number : ℕ) (came : List ℕ) (a b : Seen Left) → All (λ b. b ≢ 10) came
+      → ((replies : List Reply) × AreReplied is_right tells a (request_at came) replies b) → IsFrontAt is_right tells number came a b
+  IsFrontAt-last number came a b no_lf replied =
+      let at = last_line number came no_lf in
       record {
         lines = at.0;
         rest = [];
-        replies = h.serves.replies ++ k.0;
-        begins = BeginsWith-whole 1 front at.0 at.1;
-        replied = replied;
-        run = IsRun-of is_right tells before after (requests_of at.0) (h.serves.replies ++ k.0) replied;
+        replies = replied.0;
+        begins = at.2;
+        replied = subst (λ (rs : List Request). AreReplied is_right tells a rs replied.0 b) (sym at.3) replied.1;
       }
 
-  pub IsScript-end : (front : List ℕ) (now after : Tables) (u v w : Option (List ℕ)) (mid to : ScriptEnd) (line : Line)
-      → (h : HasServed is_right tells before front now u v (record { refused = 0; failed = 0 }) mid line)
-      → Serves is_right tells now (request_at h.came) after v w mid to
-      → IsScript is_right tells before front after u w to
-  IsScript-end front now after u v w mid to line h k =
-      let at = lines_at_end front h.lines h.came h.begins h.no_lf in
-      let all : Serves is_right tells before (requests_of h.lines ++ request_at h.came) after u w (record { refused = 0; failed = 0 }) to =
-      Serves-then is_right tells before now after (requests_of h.lines) (request_at h.came) u v w (record { refused = 0; failed = 0 }) mid to h.serves k in
-      let replied : AreReplied is_right tells before (requests_of at.0) all.replies after =
-      subst (λ (rs : List Request). AreReplied is_right tells before rs all.replies after) (sym at.2) all.replied in
+  pub IsPart-last : (number : ℕ) (came : List ℕ) (a b : Seen Left) (u v : Option (List ℕ)) (from to : ScriptEnd) → All (λ b. b ≢ 10) came
+      → Serves is_right tells (request_at came) a b u v from to → IsPart is_right tells number came a b u v from to
+  IsPart-last number came a b u v from to no_lf serves =
+      let at = last_line number came no_lf in
       record {
         lines = at.0;
-        replies = all.replies;
         cut = at.1;
-        replied = replied;
-        run = IsRun-of is_right tells before after (requests_of at.0) all.replies replied;
+        serves = subst (λ (rs : List Request). Serves is_right tells rs a b u v from to) (sym at.3) serves;
+      }
+
+  pub IsScript-of : (front : List ℕ) (a b c : Seen Left) (u v w : Option (List ℕ)) (mid to : ScriptEnd) (line : Line)
+      → (h : HasServed is_right tells 1 front a b u v (record { refused = 0; failed = 0 }) mid line)
+      → IsPart is_right tells (1 + length h.lines) h.came b c v w mid to → IsScript is_right tells front a c u w to
+  IsScript-of front a b c u v w mid to line h k =
+      let all : Serves is_right tells (requests_of (h.lines ++ k.lines)) a c u w (record { refused = 0; failed = 0 }) to =
+      both_served h.lines k.lines a b c u v w (record { refused = 0; failed = 0 }) mid to h.serves k.serves in
+      record {
+        lines = h.lines ++ k.lines;
+        replies = all.replies;
+        cut = CutsInto-append 1 front h.lines k.lines h.came h.begins k.cut;
+        replied = all.replied;
+        run = IsRun-of is_right tells a c (requests_of (h.lines ++ k.lines)) all.replies all.replied;
         written = all.written;
         refused = omega (arith, all.refused);
         failed = omega (arith, all.failed);

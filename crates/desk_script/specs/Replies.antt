@@ -1,11 +1,13 @@
 -- What requests are replied, one after the other.
-use Rattle.std.specs.Prelude.{◌≡◌, List, [], ◌∷◌}
+use Rattle.std.specs.Prelude.{◌≡◌, Bool, false, ◌||◌, List, [], ◌∷◌}
 use Rattle.desk_rows.specs.Readings.{Readings}
 use Rattle.desk_rows.specs.Tables.{Tables, tables}
-use Rattle.desk_rows.specs.Answers.{IsHistory}
+use Rattle.desk_rows.specs.Answers.{IsHistory, is_recorded}
 use Rattle.desk_rows.specs.Queries.{queried}
-use Rattle.desk_rows.specs.Faults.{MayFail}
+use Rattle.desk_rows.specs.Faults.{MayBecome}
 use Rattle.desk_rows.specs.Runs.{IsAnswer, AreAnswers, history_after, history_with}
+use Rattle.desk_access.specs.Seen.{Seen, Spared}
+use Rattle.desk_core.specs.Desks.{InHistory}
 use Rattle.desk_rows.specs.declared.command.Command.{Command}
 use Rattle.desk_rows.specs.declared.command.Fault.TheVariants.{Memory}
 use Rattle.desk_rows.specs.declared.command.Outcome.{Outcome}
@@ -17,11 +19,6 @@ use Rattle.desk_json.specs.declared.request.Request.TheVariants.{Act, Ask, BadCo
 use Rattle.desk_script.specs.declared.answer.Reply.{Reply}
 use Rattle.desk_script.specs.declared.answer.Reply.TheVariants.{Became, NoRequest}
 
--- the outcome of a command or a query may be a fault, but only one that the desk tells
-abbrev pub MayBecome : (StoreFault → Type 0) → Outcome → Type 0
-MayBecome tells (Answered a) = Unit {0}
-MayBecome tells (Failed fault) = MayFail tells fault
-
 -- what is no request is told so, unless memory is wanting to find that out
 abbrev pub Fits : (StoreFault → Type 0) → Request → Reply → Type 0
 Fits tells (Act c) (Became o) = MayBecome tells o
@@ -29,6 +26,12 @@ Fits tells (Ask q) (Became o) = MayBecome tells o
 Fits tells BadCommand (Became (Failed Memory)) = Unit {0}
 Fits tells BadCommand NoRequest = Unit {0}
 Fits tells _ _ = ⊥
+
+-- there is one reply for each request, and it fits
+abbrev pub AllFit : (StoreFault → Type 0) → List Request → List Reply → Type 0
+AllFit tells [] [] = Unit {0}
+AllFit tells (request ∷ requests) (reply ∷ replies) = Fits tells request reply × AllFit tells requests replies
+AllFit tells _ _ = ⊥
 
 -- an outcome that is no fault is the answer to the query
 abbrev pub IsQueried : Readings → List Command → Query → Outcome → Type 0
@@ -46,25 +49,44 @@ abbrev pub history_past : List Command → Request → Reply → List Command
 history_past h (Act c) (Became o) = history_with h c o
 history_past h _ _ = h
 
--- only a command that was answered changes the tables
-abbrev pub Keeps : Request → Reply → Tables → Tables → Type 0
-Keeps (Act c) (Became (Answered a)) before after = Unit {0}
-Keeps _ _ before after = after ≡ before
+-- each reply is the answer after the history that those before it leave
+abbrev pub AreReplies : Readings → List Command → List Request → List Reply → Type 0
+AreReplies w h (request ∷ requests) (reply ∷ replies) = IsReply w h request reply × AreReplies w (history_past h request reply) requests replies
+AreReplies w h _ _ = Unit {0}
 
--- A desk with these tables gives a request this reply, and has those tables after it: for each right reading and each history
--- whose tables it has, it is the answer of the history, and leaves the tables of the history with the command.
-pub record Replies (is_right : Readings → Type 0) (tells : StoreFault → Type 0) (before : Tables) (request : Request) (reply : Reply) (after : Tables) : Type 0 where
-  pub fits : Fits tells request reply
-  pub keeps : Keeps request reply before after
-  pub answer : (w : Readings) → is_right w → (h : List Command) → IsHistory w h → before ≡ tables w h → IsReply w h request reply
-  pub content : (w : Readings) → is_right w → (h : List Command) → IsHistory w h → before ≡ tables w h → after ≡ tables w (history_past h request reply)
+-- the history with the commands of requests that were recorded
+abbrev pub history_past_all : List Command → List Request → List Reply → List Command
+history_past_all h (request ∷ requests) (reply ∷ replies) = history_past_all (history_past h request reply) requests replies
+history_past_all h _ _ = h
 
--- requests are given replies one after the other, each on the tables that the ones before it leave
-abbrev pub AreReplied : (Readings → Type 0) → (StoreFault → Type 0) → Tables → List Request → List Reply → Tables → Type 0
-AreReplied is_right tells before [] [] after = after ≡ before
-AreReplied is_right tells before (request ∷ requests) (reply ∷ replies) after =
-    (between : Tables) × Replies is_right tells before request reply between × AreReplied is_right tells between requests replies after
-AreReplied is_right tells before _ _ after = ⊥
+-- only a command that was answered, and neither refused nor answered Again, is recorded
+abbrev pub is_recorded_by : Request → Reply → Bool
+is_recorded_by (Act c) (Became (Answered a)) = is_recorded a
+is_recorded_by _ _ = false
+
+abbrev pub is_any_recorded : List Request → List Reply → Bool
+is_any_recorded (request ∷ requests) (reply ∷ replies) = is_recorded_by request reply || is_any_recorded requests replies
+is_any_recorded _ _ = false
+
+module _ (is_right : Readings → Type 0) (tells : StoreFault → Type 0) {Left : Type 0} where
+  -- A desk gives a request this reply: whatever its rows are, they are as they were where nothing was recorded; and for each right
+  -- reading and each history whose tables they are, it is the answer of the history, and leaves the tables of the history with
+  -- the command.
+  pub record Replies (old : Seen Left) (request : Request) (reply : Reply) (new : Seen Left) : Type 0 where
+    pub fits : Fits tells request reply
+    pub honest : new.is_honest → old.is_honest
+    pub keeps : is_recorded_by request reply ≡ false → Spared old new
+    pub answer : InHistory is_right (λ w h. IsReply w h request reply) old new
+    pub content : InHistory is_right (λ w h. new.holds (tables w (history_past h request reply))) old new
+
+  -- A desk gives requests these replies, one after the other, each on the rows that the ones before it leave.
+  pub record AreReplied (old : Seen Left) (requests : List Request) (replies : List Reply) (new : Seen Left) : Type 0 where
+    pub fit : AllFit tells requests replies
+    pub honest : new.is_honest → old.is_honest
+    pub keeps : is_any_recorded requests replies ≡ false → Spared old new
+    pub answers : InHistory is_right (λ w h. AreReplies w h requests replies) old new
+    pub history : InHistory is_right (λ w h. IsHistory w (history_past_all h requests replies)) old new
+    pub content : InHistory is_right (λ w h. new.holds (tables w (history_past_all h requests replies))) old new
 
 -- the commands among requests, and what became of them
 abbrev pub commands_of : List Request → List Command
@@ -77,10 +99,8 @@ outcomes_of (Act c ∷ requests) (Became o ∷ replies) = o ∷ outcomes_of requ
 outcomes_of (_ ∷ requests) (_ ∷ replies) = outcomes_of requests replies
 outcomes_of _ _ = []
 
--- The commands among the requests are a run: for each right reading and each history whose tables stood before, each outcome that is
--- no fault is the answer at its place, and the tables after it are those of the history after the recorded commands.
-abbrev pub IsRun : (Readings → Type 0) → Tables → List Request → List Reply → Tables → Type 0
-IsRun is_right before requests replies after =
-    (w : Readings) → is_right w → (h : List Command) → IsHistory w h → before ≡ tables w h
-    → AreAnswers w h (commands_of requests) (outcomes_of requests replies)
-    × (after ≡ tables w (history_after h (commands_of requests) (outcomes_of requests replies)))
+-- The commands among the requests are a run: for each right reading and each history whose tables were the rows before, each outcome
+-- that is no fault is the answer at its place, and the rows after it are the tables of the history after the recorded commands.
+pub record IsRun {Left : Type 0} (is_right : Readings → Type 0) (old : Seen Left) (requests : List Request) (replies : List Reply) (new : Seen Left) : Type 0 where
+  pub answers : InHistory is_right (λ w h. AreAnswers w h (commands_of requests) (outcomes_of requests replies)) old new
+  pub content : InHistory is_right (λ w h. new.holds (tables w (history_after h (commands_of requests) (outcomes_of requests replies)))) old new

@@ -4,8 +4,8 @@ use Rattle.std.specs.Io.KnownBytes.{Appends}
 use Rattle.desk_base.specs.Lines.{CutsInto, LineText}
 use Rattle.desk_base.specs.declared.lines.LineEnd.TheVariants.{Nothing}
 use Rattle.desk_rows.specs.Readings.{Readings}
-use Rattle.desk_rows.specs.Tables.{Tables}
 use Rattle.desk_rows.specs.declared.command.StoreFault.{StoreFault}
+use Rattle.desk_access.specs.Seen.{Seen}
 use Rattle.desk_json.specs.declared.request.Request.{Request}
 use Rattle.desk_script.specs.Gathered.{Shows}
 use Rattle.desk_script.specs.Lines.{BeginsWith, requests_of}
@@ -19,9 +19,9 @@ use Rattle.desk_script.specs.declared.serving.ScriptEnd.{ScriptEnd}
 abbrev pub AreLeft : Option (List ℕ) → List ℕ → Type 0
 AreLeft remaining bytes = IfSome remaining (λ told. told ≡ bytes)
 
-module _ (is_right : Readings → Type 0) (tells : StoreFault → Type 0) (before : Tables) where
+module _ (is_right : Readings → Type 0) (tells : StoreFault → Type 0) {Left : Type 0} where
   -- requests were replied, the replies written as lines, and counted
-  pub record Serves (requests : List Request) (after : Tables) (old new : Option (List ℕ)) (from to : ScriptEnd) : Type 0 where
+  pub record Serves (requests : List Request) (before after : Seen Left) (old new : Option (List ℕ)) (from to : ScriptEnd) : Type 0 where
     pub replies : List Reply
     pub replied : AreReplied is_right tells before requests replies after
     pub written : Appends old new (lines_of replies)
@@ -30,7 +30,7 @@ module _ (is_right : Readings → Type 0) (tells : StoreFault → Type 0) (befor
 
   -- A whole script: the bytes are cut into lines, the request of each line that isn't blank is replied, the commands among them are a
   -- run, the replies are written, a line each, and counted.
-  pub record IsScript (bytes : List ℕ) (after : Tables) (old new : Option (List ℕ)) (end : ScriptEnd) : Type 0 where
+  pub record IsScript (bytes : List ℕ) (before after : Seen Left) (old new : Option (List ℕ)) (end : ScriptEnd) : Type 0 where
     pub lines : List LineText
     pub replies : List Reply
     pub cut : CutsInto 1 bytes lines
@@ -40,8 +40,17 @@ module _ (is_right : Readings → Type 0) (tells : StoreFault → Type 0) (befor
     pub refused : end.refused ≡ sum_by count_refused replies
     pub failed : end.failed ≡ sum_by count_failed replies
 
+  -- a part of a script that stopped: of the lines that the bytes begin with, numbered on from a number, some front was replied, and
+  -- nothing else
+  pub record IsFrontAt (number : ℕ) (bytes : List ℕ) (before after : Seen Left) : Type 0 where
+    pub lines : List LineText
+    pub rest : List ℕ
+    pub replies : List Reply
+    pub begins : BeginsWith number bytes lines rest
+    pub replied : AreReplied is_right tells before (requests_of lines) replies after
+
   -- a script that stopped: of the lines that the bytes begin with some front was replied, and nothing else
-  pub record IsFront (bytes : List ℕ) (after : Tables) : Type 0 where
+  pub record IsFront (bytes : List ℕ) (before after : Seen Left) : Type 0 where
     pub lines : List LineText
     pub rest : List ℕ
     pub replies : List Reply
@@ -50,7 +59,7 @@ module _ (is_right : Readings → Type 0) (tells : StoreFault → Type 0) (befor
     pub run : IsRun is_right before (requests_of lines) replies after
 
   -- a script whose reader gave no more than these bytes: the lines that an LF ended are replied, their replies written, and nothing else
-  pub record IsCutOff (bytes : List ℕ) (after : Tables) (old new : Option (List ℕ)) : Type 0 where
+  pub record IsCutOff (bytes : List ℕ) (before after : Seen Left) (old new : Option (List ℕ)) : Type 0 where
     pub lines : List LineText
     pub rest : List ℕ
     pub replies : List Reply
@@ -59,12 +68,19 @@ module _ (is_right : Readings → Type 0) (tells : StoreFault → Type 0) (befor
     pub replied : AreReplied is_right tells before (requests_of lines) replies after
     pub written : Appends old new (lines_of replies)
 
-  -- as far as the bytes of a script came: the lines that an LF ended are served, and what came after them is the line so far
-  pub record HasServed (front : List ℕ) (after : Tables) (old new : Option (List ℕ)) (from to : ScriptEnd) (line : Line) : Type 0 where
+  -- the last part of a script: its bytes are cut into lines, numbered on from a number, and served
+  pub record IsPart (number : ℕ) (bytes : List ℕ) (before after : Seen Left) (old new : Option (List ℕ)) (from to : ScriptEnd) : Type 0 where
+    pub lines : List LineText
+    pub cut : CutsInto number bytes lines
+    pub serves : Serves (requests_of lines) before after old new from to
+
+  -- as far as some bytes came: the lines that an LF ended, numbered on from a number, are served, and what came after them is the
+  -- line so far
+  pub record HasServed (number : ℕ) (bytes : List ℕ) (before after : Seen Left) (old new : Option (List ℕ)) (from to : ScriptEnd) (line : Line) : Type 0 where
     pub lines : List LineText
     pub came : List ℕ
-    pub begins : BeginsWith 1 front lines came
+    pub begins : BeginsWith number bytes lines came
     pub fed : All (λ l. l.end ≢ Nothing) lines
     pub no_lf : All (λ b. b ≢ 10) came
     pub shows : Shows line came
-    pub serves : Serves (requests_of lines) after old new from to
+    pub serves : Serves (requests_of lines) before after old new from to

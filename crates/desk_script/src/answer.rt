@@ -25,32 +25,27 @@ pub enum Reply {
 
 /// Applies a command, and hands on the bytes of an import, so that they are not copied.
 fn applied<D: Desk>(desk: &mut D, command: Command) -> Reply
-    ensures { Replies D.are_right D.tells (D.content desk.old) (Act command) result (D.content desk.new) }
+    ensures { Replies D.are_right D.tells (D.seen desk.old) (Act command) result (D.seen desk.new) }
 {
-    let told = match command {
-        Command::Import { bytes, profile } => desk.import(bytes, profile),
-        other => desk.apply(&other),
-    };
-    match told {
-        Ok(answer) => Reply::Became(Outcome::Answered(answer)),
-        Err(fault) => Reply::Became(Outcome::Failed(fault)),
+    match command {
+        Command::Import { bytes, profile } => {
+            Reply::Became(Outcome::from(desk.import(bytes, profile)))
+        }
+        other => Reply::Became(Outcome::from(desk.apply(&other))),
     }
 }
 
 /// Asks a question.
 fn asked<D: Desk>(desk: &mut D, query: &Query) -> Reply
-    ensures { Replies D.are_right D.tells (D.content desk.old) (Ask query.now) result (D.content desk.new) }
+    ensures { Replies D.are_right D.tells (D.seen desk.old) (Ask query.now) result (D.seen desk.new) }
 {
-    match desk.ask(query) {
-        Ok(answer) => Reply::Became(Outcome::Answered(answer)),
-        Err(fault) => Reply::Became(Outcome::Failed(fault)),
-    }
+    Reply::Became(Outcome::from(desk.ask(query)))
 }
 
 /// Answers the request that the text of a line is. Where memory is wanting to read it, it failed. The text is let go of before the
 /// desk answers, which can use its memory.
 pub fn answer_line<D: Desk>(alloc: Global, desk: &mut D, text: Vec<u8>) -> Reply
-    ensures { Replies D.are_right D.tells (D.content desk.old) (request_in text.items) result (D.content desk.new) }
+    ensures { Replies D.are_right D.tells (D.seen desk.old) (request_in text.items) result (D.seen desk.new) }
 {
     let request = read_command(alloc, text.as_slice());
     drop(text);

@@ -100,7 +100,7 @@ fn write_reply<W: Write>(alloc: Global, writer: &mut W, reply: &Reply) -> Result
 
 /// The reply to a line that isn't blank. Its bytes are taken out of it.
 fn answer_kept<D: Desk>(alloc: Global, desk: &mut D, line: &mut Line) -> Reply
-    ensures { (text : List ℕ) → HasCome line.old text → Replies D.are_right D.tells (D.content desk.old) (request_of text) result (D.content desk.new) }
+    ensures { (text : List ℕ) → HasCome line.old text → Replies D.are_right D.tells (D.seen desk.old) (request_of text) result (D.seen desk.new) }
 {
     if line.is_long {
         return Reply::NoRequest;
@@ -118,10 +118,10 @@ pub fn serve<D: Desk, W: Write>(
     line: &mut Line,
 ) -> Result<(), ScriptFault>
     requires room { (end.old.refused + 1 < 2 ^ 64) × (end.old.failed + 1 < 2 ^ 64) }
-    ensures ok { (text : List ℕ) → HasCome line.old text → OnOk result (Serves D.are_right D.tells (D.content desk.old)
-        (request_at text) (D.content desk.new) (W.contents writer.old) (W.contents writer.new) end.old end.new) }
+    ensures ok { (text : List ℕ) → HasCome line.old text → OnOk result (Serves D.are_right D.tells (request_at text)
+        (D.seen desk.old) (D.seen desk.new) (W.contents writer.old) (W.contents writer.new) end.old end.new) }
     ensures replied { (text : List ℕ) → HasCome line.old text → (replies : List Reply)
-        × AreReplied D.are_right D.tells (D.content desk.old) (request_at text) replies (D.content desk.new) }
+        × AreReplied D.are_right D.tells (D.seen desk.old) (request_at text) replies (D.seen desk.new) }
     ensures few { (end.new.refused ≤ end.old.refused + 1) × (end.new.failed ≤ end.old.failed + 1) }
     ensures fault { IfErr result IsOfReply }
 {

@@ -1,11 +1,10 @@
 //! Cuts what is read into lines, and serves each as soon as it is whole.
 
 ghost use Rattle.std.specs.Prelude.{◌≡◌, ◌≢◌, ◌∷◌, ◌++◌, ◌+◌, ◌≤◌, ◌<◌, ◌^◌, [], List, ℕ, OnOk, OnErr, IfOk, IfErr, Option, MatchOption, All, length, ◌⊎◌};
-ghost use Rattle.desk_rows.specs.Tables.{Tables};
 ghost use Rattle.std.specs.Io.KnownBytes.{Consumes};
 ghost use Rattle.desk_script.specs.Faults.{IsOfReader, IsOfReply};
-ghost use Rattle.desk_script.specs.Script.{AreLeft, HasServed, IsCutOff, IsFront, IsScript};
-ghost use Rattle.desk_script.specs.declared.serving.ScriptEnd.{ScriptEnd};
+ghost use Rattle.desk_script.specs.Script.{AreLeft, HasServed, IsCutOff, IsFront, IsFrontAt, IsPart, IsScript};
+ghost use Rattle.desk_script.specs.Gathered.{Shows};
 
 use crate::line::Line;
 use crate::serving::{ScriptEnd, ScriptFault, serve};
@@ -38,12 +37,10 @@ fn end_line<D: Desk, W: Write>(
     line: &mut Line,
 ) -> Result<(), ScriptFault>
     requires room { (end.old.refused + 1 < 2 ^ 64) × (end.old.failed + 1 < 2 ^ 64) }
-    ensures ok { (before : Tables) (old : Option (List ℕ)) (from : ScriptEnd) (front : List ℕ)
-        → HasServed D.are_right D.tells before front (D.content desk.old) old (W.contents writer.old) from end.old line.old
-        → OnOk result (HasServed D.are_right D.tells before (front ++ 10 ∷ []) (D.content desk.new) old (W.contents writer.new) from end.new line.new) }
-    ensures err { (before : Tables) (old : Option (List ℕ)) (from : ScriptEnd) (front more : List ℕ)
-        → HasServed D.are_right D.tells before front (D.content desk.old) old (W.contents writer.old) from end.old line.old
-        → OnErr result (IsFront D.are_right D.tells before (front ++ 10 ∷ more) (D.content desk.new)) }
+    ensures ok { (number : ℕ) (came : List ℕ) → Shows line.old came → All (λ b. b ≢ 10) came
+        → OnOk result (HasServed D.are_right D.tells number (came ++ 10 ∷ []) (D.seen desk.old) (D.seen desk.new) (W.contents writer.old) (W.contents writer.new) end.old end.new line.new) }
+    ensures err { (number : ℕ) (came more : List ℕ) → Shows line.old came → All (λ b. b ≢ 10) came
+        → OnErr result (IsFrontAt D.are_right D.tells number (came ++ 10 ∷ more) (D.seen desk.old) (D.seen desk.new)) }
     ensures few { (end.new.refused ≤ end.old.refused + 1) × (end.new.failed ≤ end.old.failed + 1) }
     ensures fault { IfErr result IsOfReply }
 {
@@ -62,12 +59,10 @@ fn feed<D: Desk, W: Write>(
     piece: &[u8],
 ) -> Result<(), ScriptFault>
     requires room { (end.old.refused + length piece.now < 2 ^ 64) × (end.old.failed + length piece.now < 2 ^ 64) }
-    ensures ok { (before : Tables) (old : Option (List ℕ)) (from : ScriptEnd) (front : List ℕ)
-        → HasServed D.are_right D.tells before front (D.content desk.old) old (W.contents writer.old) from end.old line.old
-        → OnOk result (HasServed D.are_right D.tells before (front ++ piece.now) (D.content desk.new) old (W.contents writer.new) from end.new line.new) }
-    ensures err { (before : Tables) (old : Option (List ℕ)) (from : ScriptEnd) (front more : List ℕ)
-        → HasServed D.are_right D.tells before front (D.content desk.old) old (W.contents writer.old) from end.old line.old
-        → OnErr result (IsFront D.are_right D.tells before (front ++ (piece.now ++ more)) (D.content desk.new)) }
+    ensures ok { (number : ℕ) (came : List ℕ) → Shows line.old came → All (λ b. b ≢ 10) came
+        → OnOk result (HasServed D.are_right D.tells number (came ++ piece.now) (D.seen desk.old) (D.seen desk.new) (W.contents writer.old) (W.contents writer.new) end.old end.new line.new) }
+    ensures err { (number : ℕ) (came more : List ℕ) → Shows line.old came → All (λ b. b ≢ 10) came
+        → OnErr result (IsFrontAt D.are_right D.tells number (came ++ (piece.now ++ more)) (D.seen desk.old) (D.seen desk.new)) }
     ensures few { (end.new.refused ≤ end.old.refused + length piece.now) × (end.new.failed ≤ end.old.failed + length piece.now) }
     ensures fault { IfErr result IsOfReply }
 {
@@ -90,12 +85,10 @@ fn finish<D: Desk, W: Write>(
     line: &mut Line,
 ) -> Result<(), ScriptFault>
     requires room { (end.old.refused + 1 < 2 ^ 64) × (end.old.failed + 1 < 2 ^ 64) }
-    ensures ok { (before : Tables) (old : Option (List ℕ)) (front : List ℕ)
-        → HasServed D.are_right D.tells before front (D.content desk.old) old (W.contents writer.old) (record { refused = 0; failed = 0 }) end.old line.old
-        → OnOk result (IsScript D.are_right D.tells before front (D.content desk.new) old (W.contents writer.new) end.new) }
-    ensures err { (before : Tables) (old : Option (List ℕ)) (front : List ℕ)
-        → HasServed D.are_right D.tells before front (D.content desk.old) old (W.contents writer.old) (record { refused = 0; failed = 0 }) end.old line.old
-        → OnErr result (IsFront D.are_right D.tells before front (D.content desk.new)) }
+    ensures ok { (number : ℕ) (came : List ℕ) → Shows line.old came → All (λ b. b ≢ 10) came
+        → OnOk result (IsPart D.are_right D.tells number came (D.seen desk.old) (D.seen desk.new) (W.contents writer.old) (W.contents writer.new) end.old end.new) }
+    ensures err { (number : ℕ) (came : List ℕ) → Shows line.old came → All (λ b. b ≢ 10) came
+        → OnErr result (IsFrontAt D.are_right D.tells number came (D.seen desk.old) (D.seen desk.new)) }
     ensures fault { IfErr result IsOfReply }
 {
     line.keep_cr()?;
@@ -115,12 +108,12 @@ pub fn script<D: Desk, R: Read, W: Write>(
     writer: &mut W,
 ) -> Result<ScriptEnd, ScriptFault>
     ensures ok { IfOk result (λ end. (bytes : List ℕ) × AreLeft (R.remaining reader.old) bytes
-        × IsScript D.are_right D.tells (D.content desk.old) bytes (D.content desk.new) (W.contents writer.old) (W.contents writer.new) end) }
+        × IsScript D.are_right D.tells bytes (D.seen desk.old) (D.seen desk.new) (W.contents writer.old) (W.contents writer.new) end) }
     ensures err { OnErr result ((bytes : List ℕ) × AreLeft (R.remaining reader.old) bytes
-        × IsFront D.are_right D.tells (D.content desk.old) bytes (D.content desk.new)) }
+        × IsFront D.are_right D.tells bytes (D.seen desk.old) (D.seen desk.new)) }
     ensures fault { IfErr result (λ fault. IsOfReply fault ⊎ ((bytes : List ℕ) × IsOfReader fault (length bytes)
         × Consumes (R.remaining reader.old) (R.remaining reader.new) bytes
-        × IsCutOff D.are_right D.tells (D.content desk.old) bytes (D.content desk.new) (W.contents writer.old) (W.contents writer.new))) }
+        × IsCutOff D.are_right D.tells bytes (D.seen desk.old) (D.seen desk.new) (W.contents writer.old) (W.contents writer.new))) }
 {
     let mut end = ScriptEnd {
         refused: 0,

@@ -3,4 +3,4 @@ use Rattle.desk_script.proofs.OneLine.{Replies-memory}
 use Rattle.desk_script.proofs.answer.answer_line.Goals as goal
 
 pub returns-in-Err : goal.returns-in-Err
-returns-in-Err g c = Replies-memory g.D.Desk.are_right g.D.Desk.tells (g.D.Desk.content c.args.desk.now) (request_in c.args.text.items)
+returns-in-Err g c = Replies-memory g.D.Desk.are_right g.D.Desk.tells (g.D.Desk.seen c.args.desk.now) (request_in c.args.text.items)

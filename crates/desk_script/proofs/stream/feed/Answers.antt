@@ -1,6 +1,6 @@
 use Rattle.std.proofs.Common.{◌≡◌, ℕ, ◌+◌, List, ◌++◌, ◌∷◌, [], length, refl, sym, subst, ap, ◌∙◌, arith, append_assoc, append-nil, length-append}
-use Rattle.desk_script.specs.Script.{HasServed, IsFront}
-use Rattle.desk_script.proofs.Progress.{HasServed-run, IsFront-of, piece_cut, piece_line, piece_rest, front_line}
+use Rattle.desk_script.specs.Script.{HasServed, IsFrontAt}
+use Rattle.desk_script.proofs.Progress.{HasServed-came, HasServed-run, HasServed-then, IsFrontAt-of, IsFrontAt-then, piece_cut, piece_line, piece_rest, front_line}
 use Rattle.desk_script.proofs.Results.{OnErr-always}
 use Rattle.desk_script.proofs.stream.feed.Goals as goal
 
@@ -8,9 +8,10 @@ pub loop-text-init : goal.loop-text-init
 loop-text-init g c = record {
   taken = [];
   cut = refl;
-  kept = λ before old from front h.
-      subst (λ (bs : List ℕ). HasServed g.D.Desk.are_right g.D.Desk.tells before bs (g.D.Desk.content c.args.desk.now) old (g.W.Write.contents c.args.writer.now) from
-      c.args.end.now c.args.line.now) (sym (append-nil front)) h;
+  served = λ number came shows no_lf.
+      subst (λ (bs : List ℕ). HasServed g.D.Desk.are_right g.D.Desk.tells number bs (g.D.Desk.seen c.args.desk.now) (g.D.Desk.seen c.args.desk.now) (g.W.Write.contents c.args.writer.now) (g.W.Write.contents c.args.writer.now)
+      c.args.end.now c.args.end.now c.args.line.now) (sym (append-nil came))
+      (HasServed-came g.D.Desk.are_right g.D.Desk.tells number came (g.D.Desk.seen c.args.desk.now) (g.W.Write.contents c.args.writer.now) c.args.end.now c.args.line.now shows no_lf);
   refused = omega arith;
   failed = omega arith;
 }
@@ -26,49 +27,53 @@ loop-text-preserved g c =
     record {
       taken = at.taken ++ (c.in-Some.text.now ++ 10 ∷ []);
       cut = piece_cut at.taken c.in-Some.text.now c.in-Some.more.now c.loop-text.rest.now c.args.piece.now at.cut found.1;
-      kept = λ before old from front h.
-          let served = at.kept before old from front h in
-          subst (λ (bs : List ℕ). HasServed g.D.Desk.are_right g.D.Desk.tells before bs (g.D.Desk.content c.end_line.new.desk) old (g.W.Write.contents c.end_line.new.writer) from
-          c.end_line.new.end c.end_line.new.line) (front_line front at.taken c.in-Some.text.now)
-          (c.in_ok-end_line.ensures.ok before old from ((front ++ at.taken) ++ c.in-Some.text.now)
-          (HasServed-run g.D.Desk.are_right g.D.Desk.tells before (front ++ at.taken) c.in-Some.text.now (g.D.Desk.content c.loop-text.desk) old
-          (g.W.Write.contents c.loop-text.writer) from c.loop-text.end c.loop-text.line c.extend.new.self served found.0 (c.in_ok-extend.ensures served.came served.shows)));
+      served = λ number came shows no_lf.
+          let sofar = at.served number came shows no_lf in
+          let run = HasServed-run g.D.Desk.are_right g.D.Desk.tells number (came ++ at.taken) c.in-Some.text.now (g.D.Desk.seen c.args.desk.now) (g.D.Desk.seen c.loop-text.desk)
+          (g.W.Write.contents c.args.writer.now) (g.W.Write.contents c.loop-text.writer) c.args.end.now c.loop-text.end c.loop-text.line c.extend.new.self sofar found.0 (c.in_ok-extend.ensures sofar.came sofar.shows) in
+          subst (λ (bs : List ℕ). HasServed g.D.Desk.are_right g.D.Desk.tells number bs (g.D.Desk.seen c.args.desk.now) (g.D.Desk.seen c.end_line.new.desk) (g.W.Write.contents c.args.writer.now) (g.W.Write.contents c.end_line.new.writer)
+          c.args.end.now c.end_line.new.end c.end_line.new.line) (front_line came at.taken c.in-Some.text.now)
+          (HasServed-then g.D.Desk.are_right g.D.Desk.tells number ((came ++ at.taken) ++ c.in-Some.text.now) (10 ∷ []) (g.D.Desk.seen c.args.desk.now) (g.D.Desk.seen c.loop-text.desk) (g.D.Desk.seen c.end_line.new.desk)
+          (g.W.Write.contents c.args.writer.now) (g.W.Write.contents c.loop-text.writer) (g.W.Write.contents c.end_line.new.writer) c.args.end.now c.loop-text.end c.end_line.new.end c.extend.new.self c.end_line.new.line run
+          (c.in_ok-end_line.ensures.ok (number + length run.lines) run.came run.shows run.no_lf));
       refused = omega (arith, at.refused, few.0, text, taken);
       failed = omega (arith, at.failed, few.1, text, taken);
     }
 
 pub returns-in_err-extend-clause-err : goal.returns-in_err-extend-clause-err
-returns-in_err-extend-clause-err g c = λ before old from front more h.
+returns-in_err-extend-clause-err g c = λ number came more shows no_lf.
     let at = c.loop-text.invariant in
-    OnErr-always c.from_residual.result (subst (λ (bs : List ℕ). IsFront g.D.Desk.are_right g.D.Desk.tells before bs (g.D.Desk.content c.loop-text.desk))
-    (piece_rest front at.taken c.loop-text.rest.now c.args.piece.now more at.cut)
-    (IsFront-of g.D.Desk.are_right g.D.Desk.tells before (front ++ at.taken) (c.loop-text.rest.now ++ more) (g.D.Desk.content c.loop-text.desk) old
-    (g.W.Write.contents c.loop-text.writer) from c.loop-text.end c.loop-text.line (at.kept before old from front h)))
+    OnErr-always c.from_residual.result (subst (λ (bs : List ℕ). IsFrontAt g.D.Desk.are_right g.D.Desk.tells number bs (g.D.Desk.seen c.args.desk.now) (g.D.Desk.seen c.loop-text.desk))
+    (piece_rest came at.taken c.loop-text.rest.now c.args.piece.now more at.cut)
+    (IsFrontAt-of g.D.Desk.are_right g.D.Desk.tells number (came ++ at.taken) (c.loop-text.rest.now ++ more) (g.D.Desk.seen c.args.desk.now) (g.D.Desk.seen c.loop-text.desk) (g.W.Write.contents c.args.writer.now)
+    (g.W.Write.contents c.loop-text.writer) c.args.end.now c.loop-text.end c.loop-text.line (at.served number came shows no_lf)))
 
 pub returns-in_err-end_line-clause-err : goal.returns-in_err-end_line-clause-err
-returns-in_err-end_line-clause-err g c = λ before old from front more h.
+returns-in_err-end_line-clause-err g c = λ number came more shows no_lf.
     let at = c.loop-text.invariant in
     let found = c.in-Some.ensures in
-    let served = at.kept before old from front h in
-    OnErr-always c.from_residual-in_err-end_line.result (subst (λ (bs : List ℕ). IsFront g.D.Desk.are_right g.D.Desk.tells before bs (g.D.Desk.content c.end_line.new.desk))
-    (piece_line front at.taken c.in-Some.text.now c.in-Some.more.now c.loop-text.rest.now c.args.piece.now more at.cut found.1)
-    (c.in_err-end_line.ensures.err before old from ((front ++ at.taken) ++ c.in-Some.text.now) (c.in-Some.more.now ++ more)
-    (HasServed-run g.D.Desk.are_right g.D.Desk.tells before (front ++ at.taken) c.in-Some.text.now (g.D.Desk.content c.loop-text.desk) old
-    (g.W.Write.contents c.loop-text.writer) from c.loop-text.end c.loop-text.line c.extend.new.self served found.0 (c.in_ok-extend.ensures served.came served.shows))))
+    let sofar = at.served number came shows no_lf in
+    let run = HasServed-run g.D.Desk.are_right g.D.Desk.tells number (came ++ at.taken) c.in-Some.text.now (g.D.Desk.seen c.args.desk.now) (g.D.Desk.seen c.loop-text.desk)
+    (g.W.Write.contents c.args.writer.now) (g.W.Write.contents c.loop-text.writer) c.args.end.now c.loop-text.end c.loop-text.line c.extend.new.self sofar found.0 (c.in_ok-extend.ensures sofar.came sofar.shows) in
+    OnErr-always c.from_residual-in_err-end_line.result (subst (λ (bs : List ℕ). IsFrontAt g.D.Desk.are_right g.D.Desk.tells number bs (g.D.Desk.seen c.args.desk.now) (g.D.Desk.seen c.end_line.new.desk))
+    (piece_line came at.taken c.in-Some.text.now c.in-Some.more.now c.loop-text.rest.now c.args.piece.now more at.cut found.1)
+    (IsFrontAt-then g.D.Desk.are_right g.D.Desk.tells number ((came ++ at.taken) ++ c.in-Some.text.now) (10 ∷ (c.in-Some.more.now ++ more)) (g.D.Desk.seen c.args.desk.now) (g.D.Desk.seen c.loop-text.desk) (g.D.Desk.seen c.end_line.new.desk)
+    (g.W.Write.contents c.args.writer.now) (g.W.Write.contents c.loop-text.writer) c.args.end.now c.loop-text.end c.extend.new.self run
+    (c.in_err-end_line.ensures.err (number + length run.lines) run.came (c.in-Some.more.now ++ more) run.shows run.no_lf)))
 
 pub returns-in_err-extend-2-clause-err : goal.returns-in_err-extend-2-clause-err
-returns-in_err-extend-2-clause-err g c = λ before old from front more h.
+returns-in_err-extend-2-clause-err g c = λ number came more shows no_lf.
     let at = c.loop-text.invariant in
-    OnErr-always c.from_residual-in_err-extend-2.result (subst (λ (bs : List ℕ). IsFront g.D.Desk.are_right g.D.Desk.tells before bs (g.D.Desk.content c.loop-text.desk))
-    (piece_rest front at.taken c.loop-text.rest.now c.args.piece.now more at.cut)
-    (IsFront-of g.D.Desk.are_right g.D.Desk.tells before (front ++ at.taken) (c.loop-text.rest.now ++ more) (g.D.Desk.content c.loop-text.desk) old
-    (g.W.Write.contents c.loop-text.writer) from c.loop-text.end c.loop-text.line (at.kept before old from front h)))
+    OnErr-always c.from_residual-in_err-extend-2.result (subst (λ (bs : List ℕ). IsFrontAt g.D.Desk.are_right g.D.Desk.tells number bs (g.D.Desk.seen c.args.desk.now) (g.D.Desk.seen c.loop-text.desk))
+    (piece_rest came at.taken c.loop-text.rest.now c.args.piece.now more at.cut)
+    (IsFrontAt-of g.D.Desk.are_right g.D.Desk.tells number (came ++ at.taken) (c.loop-text.rest.now ++ more) (g.D.Desk.seen c.args.desk.now) (g.D.Desk.seen c.loop-text.desk) (g.W.Write.contents c.args.writer.now)
+    (g.W.Write.contents c.loop-text.writer) c.args.end.now c.loop-text.end c.loop-text.line (at.served number came shows no_lf)))
 
 pub returns-clause-ok : goal.returns-clause-ok
-returns-clause-ok g c = λ before old from front h.
+returns-clause-ok g c = λ number came shows no_lf.
     let at = c.loop-text.invariant in
-    let served = at.kept before old from front h in
-    subst (λ (bs : List ℕ). HasServed g.D.Desk.are_right g.D.Desk.tells before bs (g.D.Desk.content c.loop-text.desk) old (g.W.Write.contents c.loop-text.writer) from
-    c.loop-text.end c.extend-2.new.self) (append_assoc front at.taken c.loop-text.rest.now ∙ ap (λ (l : List ℕ). front ++ l) (sym at.cut))
-    (HasServed-run g.D.Desk.are_right g.D.Desk.tells before (front ++ at.taken) c.loop-text.rest.now (g.D.Desk.content c.loop-text.desk) old
-    (g.W.Write.contents c.loop-text.writer) from c.loop-text.end c.loop-text.line c.extend-2.new.self served c.in_default.ensures (c.in_ok-extend-2.ensures served.came served.shows))
+    let sofar = at.served number came shows no_lf in
+    subst (λ (bs : List ℕ). HasServed g.D.Desk.are_right g.D.Desk.tells number bs (g.D.Desk.seen c.args.desk.now) (g.D.Desk.seen c.loop-text.desk) (g.W.Write.contents c.args.writer.now) (g.W.Write.contents c.loop-text.writer)
+    c.args.end.now c.loop-text.end c.extend-2.new.self) (append_assoc came at.taken c.loop-text.rest.now ∙ ap (λ (l : List ℕ). came ++ l) (sym at.cut))
+    (HasServed-run g.D.Desk.are_right g.D.Desk.tells number (came ++ at.taken) c.loop-text.rest.now (g.D.Desk.seen c.args.desk.now) (g.D.Desk.seen c.loop-text.desk) (g.W.Write.contents c.args.writer.now)
+    (g.W.Write.contents c.loop-text.writer) c.args.end.now c.loop-text.end c.loop-text.line c.extend-2.new.self sofar c.in_default.ensures (c.in_ok-extend-2.ensures sofar.came sofar.shows))

@@ -1,16 +1,15 @@
-use Rattle.std.proofs.Common.{◌≡◌, ◌≤◌, ◌+◌, ℕ, List, Option, ◌++◌, length}
-use Rattle.desk_rows.specs.Tables.{Tables}
+use Rattle.std.proofs.Common.{◌≡◌, ◌≢◌, ◌≤◌, ◌+◌, ℕ, List, ◌++◌, length}
+use Rattle.std.specs.Prelude.{All}
+use Rattle.desk_script.specs.Gathered.{Shows}
 use Rattle.desk_script.specs.Script.{HasServed}
-use Rattle.desk_script.specs.declared.serving.ScriptEnd.{ScriptEnd}
 use Rattle.desk_script.proofs.stream.feed.Given as goal
 
 abbrev pub invariant-loop-text : goal.invariant-loop-text
 invariant-loop-text g l = record {
   taken : List ℕ;
   cut : l.piece ≡ taken ++ l.rest;
-  kept : (before : Tables) (old : Option (List ℕ)) (from : ScriptEnd) (front : List ℕ)
-      → HasServed g.D.Desk.are_right g.D.Desk.tells before front (g.D.Desk.content l.fn.desk) old (g.W.Write.contents l.fn.writer) from l.fn.end l.fn.line
-      → HasServed g.D.Desk.are_right g.D.Desk.tells before (front ++ taken) (g.D.Desk.content l.desk) old (g.W.Write.contents l.writer) from l.end l.line;
+  served : (number : ℕ) (came : List ℕ) → Shows l.fn.line came → All (λ b. b ≢ 10) came
+      → HasServed g.D.Desk.are_right g.D.Desk.tells number (came ++ taken) (g.D.Desk.seen l.fn.desk) (g.D.Desk.seen l.desk) (g.W.Write.contents l.fn.writer) (g.W.Write.contents l.writer) l.fn.end l.end l.line;
   refused : l.end.refused ≤ l.fn.end.refused + length taken;
   failed : l.end.failed ≤ l.fn.end.failed + length taken;
 }

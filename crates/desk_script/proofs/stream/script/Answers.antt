@@ -1,8 +1,9 @@
-use Rattle.std.proofs.Common.{◌≡◌, ℕ, ◌+◌, ◌++◌, [], take, length, min, subst, ap, inr, arith, append_assoc, length-append}
+use Rattle.std.proofs.Common.{◌≡◌, ◌≢◌, ℕ, ◌+◌, ◌++◌, List, [], append-nil, sym, take, length, min, subst, ap, inr, arith, append_assoc, length-append}
 use Rattle.std.proofs.KnownBytes.{Consumes-kept, Consumes-nil, Consumes-trans}
 use Rattle.std.proofs.lemmas.List.{length-take}
-use Rattle.desk_script.specs.Script.{AreLeft}
-use Rattle.desk_script.proofs.Progress.{AreLeft-all, AreLeft-front, HasServed-none, IsCutOff-of, IsFront-of}
+use Rattle.std.proofs.lemmas.List.Elements.{All-nil}
+use Rattle.desk_script.specs.Script.{AreLeft, IsFrontAt}
+use Rattle.desk_script.proofs.Progress.{AreLeft-all, AreLeft-front, HasServed-came, HasServed-then, IsCutOff-of, IsFront-at, IsFrontAt-of, IsFrontAt-then, IsScript-of}
 use Rattle.desk_script.proofs.Results.{OnErr-always}
 use Rattle.desk_script.proofs.stream.script.Goals as goal
 
@@ -10,7 +11,7 @@ pub loop-turn-init : goal.loop-turn-init
 loop-turn-init g c = record {
   front = [];
   read = Consumes-nil (g.R.Read.remaining c.args.reader.now);
-  served = HasServed-none g.D.Desk.are_right g.D.Desk.tells (g.D.Desk.content c.args.desk.now) (g.W.Write.contents c.args.writer.now) (record { refused = 0; failed = 0 }) c.new-line.result c.new-line.ensures;
+  served = HasServed-came g.D.Desk.are_right g.D.Desk.tells 1 [] (g.D.Desk.seen c.args.desk.now) (g.W.Write.contents c.args.writer.now) (record { refused = 0; failed = 0 }) c.new-line.result c.new-line.ensures (All-nil (λ (b : ℕ). b ≢ 10));
   turns = omega arith;
   refused = omega arith;
   failed = omega arith;
@@ -23,7 +24,7 @@ returns-in_default-clause-fault g c =
       at.front,
       tt,
       Consumes-kept (g.R.Read.remaining c.args.reader.now) (g.R.Read.remaining c.loop-turn.reader) (g.R.Read.remaining c.read.new.self) at.front at.read c.in_default.ensures.bytes,
-      IsCutOff-of g.D.Desk.are_right g.D.Desk.tells (g.D.Desk.content c.args.desk.now) at.front (g.D.Desk.content c.loop-turn.desk)
+      IsCutOff-of g.D.Desk.are_right g.D.Desk.tells at.front (g.D.Desk.seen c.args.desk.now) (g.D.Desk.seen c.loop-turn.desk)
           (g.W.Write.contents c.args.writer.now) (g.W.Write.contents c.loop-turn.writer) (record { refused = 0; failed = 0 }) c.loop-turn.end c.loop-turn.line at.served,
     )
 
@@ -34,7 +35,7 @@ returns-clause-fault g c =
       at.front,
       omega (arith, at.turns, c.loop-turn-test.false),
       at.read,
-      IsCutOff-of g.D.Desk.are_right g.D.Desk.tells (g.D.Desk.content c.args.desk.now) at.front (g.D.Desk.content c.loop-turn.desk)
+      IsCutOff-of g.D.Desk.are_right g.D.Desk.tells at.front (g.D.Desk.seen c.args.desk.now) (g.D.Desk.seen c.loop-turn.desk)
           (g.W.Write.contents c.args.writer.now) (g.W.Write.contents c.loop-turn.writer) (record { refused = 0; failed = 0 }) c.loop-turn.end c.loop-turn.line at.served,
     )
 
@@ -44,8 +45,9 @@ returns-in_default-clause-err g c =
     let left = AreLeft-front (g.R.Read.remaining c.args.reader.now) (g.R.Read.remaining c.loop-turn.reader) at.front at.read in (
       at.front ++ left.0,
       left.1,
-      IsFront-of g.D.Desk.are_right g.D.Desk.tells (g.D.Desk.content c.args.desk.now) at.front left.0 (g.D.Desk.content c.loop-turn.desk)
-          (g.W.Write.contents c.args.writer.now) (g.W.Write.contents c.loop-turn.writer) (record { refused = 0; failed = 0 }) c.loop-turn.end c.loop-turn.line at.served,
+      IsFront-at g.D.Desk.are_right g.D.Desk.tells (at.front ++ left.0) (g.D.Desk.seen c.args.desk.now) (g.D.Desk.seen c.loop-turn.desk)
+          (IsFrontAt-of g.D.Desk.are_right g.D.Desk.tells 1 at.front left.0 (g.D.Desk.seen c.args.desk.now) (g.D.Desk.seen c.loop-turn.desk)
+          (g.W.Write.contents c.args.writer.now) (g.W.Write.contents c.loop-turn.writer) (record { refused = 0; failed = 0 }) c.loop-turn.end c.loop-turn.line at.served),
     )
 
 pub returns-clause-err : goal.returns-clause-err
@@ -54,8 +56,9 @@ returns-clause-err g c =
     let left = AreLeft-front (g.R.Read.remaining c.args.reader.now) (g.R.Read.remaining c.loop-turn.reader) at.front at.read in (
       at.front ++ left.0,
       left.1,
-      IsFront-of g.D.Desk.are_right g.D.Desk.tells (g.D.Desk.content c.args.desk.now) at.front left.0 (g.D.Desk.content c.loop-turn.desk)
-          (g.W.Write.contents c.args.writer.now) (g.W.Write.contents c.loop-turn.writer) (record { refused = 0; failed = 0 }) c.loop-turn.end c.loop-turn.line at.served,
+      IsFront-at g.D.Desk.are_right g.D.Desk.tells (at.front ++ left.0) (g.D.Desk.seen c.args.desk.now) (g.D.Desk.seen c.loop-turn.desk)
+          (IsFrontAt-of g.D.Desk.are_right g.D.Desk.tells 1 at.front left.0 (g.D.Desk.seen c.args.desk.now) (g.D.Desk.seen c.loop-turn.desk)
+          (g.W.Write.contents c.args.writer.now) (g.W.Write.contents c.loop-turn.writer) (record { refused = 0; failed = 0 }) c.loop-turn.end c.loop-turn.line at.served),
     )
 
 pub returns-in_err-finish-clause-err : goal.returns-in_err-finish-clause-err
@@ -66,7 +69,12 @@ returns-in_err-finish-clause-err g c =
       at.front,
       AreLeft-all (g.R.Read.remaining c.args.reader.now) (g.R.Read.remaining c.loop-turn.reader) (g.R.Read.remaining c.read.new.self) at.front
           (take c.in-Ok.taken c.read.new.buf) at.read c.in-Ok.ensures.bytes.0 none (c.in-Ok.ensures.bytes.1 c.if-taken-eq0.true (omega arith)),
-      c.in_err-finish.ensures.err (g.D.Desk.content c.args.desk.now) (g.W.Write.contents c.args.writer.now) at.front at.served,
+      IsFront-at g.D.Desk.are_right g.D.Desk.tells at.front (g.D.Desk.seen c.args.desk.now) (g.D.Desk.seen c.finish.new.desk)
+          (subst (λ (bs : List ℕ). IsFrontAt g.D.Desk.are_right g.D.Desk.tells 1 bs (g.D.Desk.seen c.args.desk.now) (g.D.Desk.seen c.finish.new.desk)) (append-nil at.front)
+          (IsFrontAt-then g.D.Desk.are_right g.D.Desk.tells 1 at.front [] (g.D.Desk.seen c.args.desk.now) (g.D.Desk.seen c.loop-turn.desk) (g.D.Desk.seen c.finish.new.desk)
+          (g.W.Write.contents c.args.writer.now) (g.W.Write.contents c.loop-turn.writer) (record { refused = 0; failed = 0 }) c.loop-turn.end c.loop-turn.line at.served
+          (subst (λ (bs : List ℕ). IsFrontAt g.D.Desk.are_right g.D.Desk.tells (1 + length at.served.lines) bs (g.D.Desk.seen c.loop-turn.desk) (g.D.Desk.seen c.finish.new.desk)) (sym (append-nil at.served.came))
+          (c.in_err-finish.ensures.err (1 + length at.served.lines) at.served.came at.served.shows at.served.no_lf)))),
     )
 
 pub returns-then-taken-eq0-clause-ok : goal.returns-then-taken-eq0-clause-ok
@@ -76,7 +84,9 @@ returns-then-taken-eq0-clause-ok g c =
       at.front,
       AreLeft-all (g.R.Read.remaining c.args.reader.now) (g.R.Read.remaining c.loop-turn.reader) (g.R.Read.remaining c.read.new.self) at.front
           (take c.in-Ok.taken c.read.new.buf) at.read c.in-Ok.ensures.bytes.0 none (c.in-Ok.ensures.bytes.1 c.if-taken-eq0.true (omega arith)),
-      c.in_ok-finish.ensures.ok (g.D.Desk.content c.args.desk.now) (g.W.Write.contents c.args.writer.now) at.front at.served,
+      IsScript-of g.D.Desk.are_right g.D.Desk.tells at.front (g.D.Desk.seen c.args.desk.now) (g.D.Desk.seen c.loop-turn.desk) (g.D.Desk.seen c.finish.new.desk)
+          (g.W.Write.contents c.args.writer.now) (g.W.Write.contents c.loop-turn.writer) (g.W.Write.contents c.finish.new.writer) c.loop-turn.end c.finish.new.end c.loop-turn.line at.served
+          (c.in_ok-finish.ensures.ok (1 + length at.served.lines) at.served.came at.served.shows at.served.no_lf),
     )
 
 pub returns-in_err-feed-clause-err : goal.returns-in_err-feed-clause-err
@@ -88,7 +98,10 @@ returns-in_err-feed-clause-err g c =
     OnErr-always c.from_residual-in_err-feed.result (
       at.front ++ (take c.in-Ok.taken c.read.new.buf ++ left.0),
       subst (AreLeft (g.R.Read.remaining c.args.reader.now)) (append_assoc at.front (take c.in-Ok.taken c.read.new.buf) left.0) left.1,
-      c.in_err-feed.ensures.err (g.D.Desk.content c.args.desk.now) (g.W.Write.contents c.args.writer.now) (record { refused = 0; failed = 0 }) at.front left.0 at.served,
+      IsFront-at g.D.Desk.are_right g.D.Desk.tells (at.front ++ (take c.in-Ok.taken c.read.new.buf ++ left.0)) (g.D.Desk.seen c.args.desk.now) (g.D.Desk.seen c.feed.new.desk)
+          (IsFrontAt-then g.D.Desk.are_right g.D.Desk.tells 1 at.front (take c.in-Ok.taken c.read.new.buf ++ left.0) (g.D.Desk.seen c.args.desk.now) (g.D.Desk.seen c.loop-turn.desk) (g.D.Desk.seen c.feed.new.desk)
+          (g.W.Write.contents c.args.writer.now) (g.W.Write.contents c.loop-turn.writer) (record { refused = 0; failed = 0 }) c.loop-turn.end c.loop-turn.line at.served
+          (c.in_err-feed.ensures.err (1 + length at.served.lines) at.served.came left.0 at.served.shows at.served.no_lf)),
     )
 
 pub loop-turn-preserved : goal.loop-turn-preserved
@@ -102,7 +115,9 @@ loop-turn-preserved g c =
       front = at.front ++ take c.in-Ok.taken c.read.new.buf;
       read = Consumes-trans (g.R.Read.remaining c.args.reader.now) (g.R.Read.remaining c.loop-turn.reader) (g.R.Read.remaining c.read.new.self) at.front
           (take c.in-Ok.taken c.read.new.buf) at.read c.in-Ok.ensures.bytes.0;
-      served = c.in_ok-feed.ensures.ok (g.D.Desk.content c.args.desk.now) (g.W.Write.contents c.args.writer.now) (record { refused = 0; failed = 0 }) at.front at.served;
+      served = HasServed-then g.D.Desk.are_right g.D.Desk.tells 1 at.front (take c.in-Ok.taken c.read.new.buf) (g.D.Desk.seen c.args.desk.now) (g.D.Desk.seen c.loop-turn.desk) (g.D.Desk.seen c.feed.new.desk)
+          (g.W.Write.contents c.args.writer.now) (g.W.Write.contents c.loop-turn.writer) (g.W.Write.contents c.feed.new.writer) (record { refused = 0; failed = 0 }) c.loop-turn.end c.feed.new.end c.loop-turn.line c.feed.new.line at.served
+          (c.in_ok-feed.ensures.ok (1 + length at.served.lines) at.served.came at.served.shows at.served.no_lf);
       turns = omega (arith, at.turns, taken, front, c.if-taken-eq0.false);
       refused = omega (arith, at.refused, few.0, taken);
       failed = omega (arith, at.failed, few.1, taken);
