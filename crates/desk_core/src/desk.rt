@@ -186,6 +186,7 @@ pub fn run_in_memory<T: Texts + Drop>(
     commands: &[Command],
 ) -> Result<(Vec<Outcome>, MemDesk<T>), AllocError>
     ensures answers { (w : Readings) → T.are_right w → IfOk result (λ done. AreAnswers w [] commands.now done.0.items) }
+    ensures history { (w : Readings) → T.are_right w → IfOk result (λ done. IsHistory w (history_after [] commands.now done.0.items)) }
     ensures content { (w : Readings) → T.are_right w → IfOk result (λ done. (⟦<TableDesk<T, MemStore> as Desk>⟧.seen done.1).holds (tables w (history_after [] commands.now done.0.items))) }
     ensures faults { IfOk result (λ done. MayAllBecome (λ _. ⊥) done.0.items) }
     ensures count { IfOk result (λ done. length done.0.items ≡ length commands.now) }

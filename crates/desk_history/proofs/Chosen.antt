@@ -123,10 +123,10 @@ filter_apart test other out [] = refl
 filter_apart test other out (x ∷ xs) = apart test other x xs (test x) (other x) refl refl (out x) (filter_apart test other out xs)
 
 -- the keys of packages
-record SamePackage (r p r' p' : List ℕ) (d d' : ℕ) : Type 0 where
-  release : r' ≡ r
-  document : d' ≡ d
-  package_id : p' ≡ p
+pub record SamePackage (r p r' p' : List ℕ) (d d' : ℕ) : Type 0 where
+  pub release : r' ≡ r
+  pub document : d' ≡ d
+  pub package_id : p' ≡ p
 
 numbers_equal : (a b : ℕ) → (a == b) ≡ true → a ≡ b
 numbers_equal a b e = grind (arith, nat_tests)
@@ -134,7 +134,7 @@ numbers_equal a b e = grind (arith, nat_tests)
 same_number : (a : ℕ) → (a == a) ≡ true
 same_number a = grind (arith, nat_tests)
 
-same_package : (r p r' p' : List ℕ) (d d' : ℕ) → is_package_of r d p r' d' p' ≡ true → SamePackage r p r' p' d d'
+pub same_package : (r p r' p' : List ℕ) (d d' : ℕ) → is_package_of r d p r' d' p' ≡ true → SamePackage r p r' p' d d'
 same_package r p r' p' d d' e =
     let front = and_left (bytes_eq r' r && (d' == d)) (bytes_eq p' p) e in
     record {

@@ -16,3 +16,4 @@ mod Minimal
 mod Told
 mod Distinct
 pub mod OwnKeys
+mod Held

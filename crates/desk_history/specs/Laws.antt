@@ -1,11 +1,13 @@
 -- Laws of the recorded history, in the subject's own words.
-use Rattle.std.specs.Prelude.{◌≡◌, ℕ, List, [], ◌∷◌, map, filter, find, Some, None, Ok}
+use Rattle.std.specs.Prelude.{◌≡◌, ℕ, List, [], ◌∷◌, ◌++◌, map, filter, find, Some, None, Ok, unwrap_or}
 use Rattle.std.specs.List.{filter_map, last_or}
 use Rattle.std.specs.Option.{option_map}
 use Rattle.desk_rows.specs.Lists.{IsIn}
 use Rattle.desk_rows.specs.Readings.{Readings}
 use Rattle.desk_rows.specs.Keys.{is_package, is_document, is_change_of}
-use Rattle.desk_rows.specs.History.{documents, packages, expression_in}
+use Rattle.desk_rows.specs.Texts.{sorted_set}
+use Rattle.desk_rows.specs.History.{documents, packages, expression_in, choice, form_of, in_force, rules_in}
+use Rattle.desk_rows.specs.Raised.{rule_adopted, shipped}
 use Rattle.desk_rows.specs.declared.reading.Catalogue.{Catalogue}
 use Rattle.desk_rows.specs.declared.reading.Document.{Document}
 use Rattle.desk_rows.specs.declared.reading.Rule.{Rule}
@@ -13,12 +15,14 @@ use Rattle.desk_rows.specs.declared.reading.Verdict.TheVariants.{Minimal}
 use Rattle.desk_rows.specs.declared.row.DocumentRow.{DocumentRow}
 use Rattle.desk_rows.specs.declared.row.PackageRow.{PackageRow}
 use Rattle.desk_rows.specs.declared.row.DutyRow.{DutyRow}
+use Rattle.desk_rows.specs.declared.row.FrozenRow.{FrozenRow}
 use Rattle.desk_rows.specs.declared.row.ChangeRow.{ChangeRow}
 use Rattle.desk_rows.specs.declared.state.DutyState.{DutyState}
 use Rattle.desk_rows.specs.declared.state.DutyState.TheVariants as stands
 use Rattle.desk_rows.specs.declared.state.Word.{Word}
 use Rattle.desk_rows.specs.declared.state.Word.TheVariants as word
 use Rattle.desk_rows.specs.declared.command.Command.{Command}
+use Rattle.desk_rows.specs.declared.command.Command.TheVariants.{Freeze}
 
 -- a choice that was recorded after these commands: the package has a concluded expression, of which the terms are a minimal set
 pub record IsMinimalChoice (w : Readings) (before : List Command) (d : ℕ) (p : List ℕ) (texts : List (List ℕ)) : Type 0 where
@@ -29,6 +33,34 @@ pub record IsMinimalChoice (w : Readings) (before : List Command) (d : ℕ) (p :
   pub has : find (is_package d p) (packages w before) ≡ Some row
   pub concludes : expression_in w document.profile row.concluded ≡ Some expression
   pub minimal : w.verdict document.profile expression (filter_map w.term texts) ≡ Minimal
+
+-- terms that are held for a package after these commands: the package has a concluded expression now, of which they are a minimal set
+pub record IsHeldMinimal (w : Readings) (h : List Command) (d : ℕ) (p : List ℕ) (terms : List (List ℕ)) : Type 0 where
+  pub document : DocumentRow
+  pub row : PackageRow
+  pub expression : List ℕ
+  pub listed : List (List ℕ)
+  pub of : find (is_document d) (documents w h) ≡ Some document
+  pub has : find (is_package d p) (packages w h) ≡ Some row
+  pub concludes : expression_in w document.profile row.concluded ≡ Some expression
+  pub set : terms ≡ sorted_set listed
+  pub minimal : w.verdict document.profile expression listed ≡ Minimal
+
+-- A term that a release was frozen with: a freeze of the release stands in the history, and before it a document that ships the package
+-- was attached, the term was held for it, and the catalogue then in force had a rule for the term's adopted form.
+pub record IsFrozenTerm (w : Readings) (h : List Command) (f : FrozenRow) : Type 0 where
+  pub later : List Command
+  pub before : List Command
+  pub day : List ℕ
+  pub row : PackageRow
+  pub rule : Rule
+  pub split : h ≡ later ++ Freeze f.release day ∷ before
+  pub ships : IsIn row (shipped w before f.release)
+  pub document : f.document ≡ row.document
+  pub package_id : f.package_id ≡ row.id
+  pub chosen : IsIn f.term (choice w before f.release row.document row.id)
+  pub ruled : rule_adopted w (rules_in (in_force w before)) (unwrap_or (form_of before f.release) []) f.term ≡ Some rule
+  pub spelled : f.rule ≡ rule.spelled
 
 -- no two of some are the same
 abbrev pub AreDistinct : {A : Type 0} → List A → Type 0

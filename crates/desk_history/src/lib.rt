@@ -3,18 +3,19 @@
 //! the tables of a history.
 #![tactic(auto)]
 
-ghost use Rattle.std.specs.Prelude.{◌≡◌, ℕ, ◌+◌, ◌++◌, ◌∷◌, List, map, filter};
+ghost use Rattle.std.specs.Prelude.{◌≡◌, ℕ, ◌+◌, ◌++◌, [], ◌∷◌, List, map, filter};
 ghost use Rattle.desk_rows.specs.Lists.{IsIn};
 ghost use Rattle.desk_rows.specs.Readings.{Readings};
 ghost use Rattle.desk_rows.specs.Keys.{is_choice_of};
 ghost use Rattle.desk_rows.specs.History.{choice};
-ghost use Rattle.desk_rows.specs.Raised.{raised, IsRaised};
+ghost use Rattle.desk_rows.specs.Raised.{frozen, raised, IsRaised};
 ghost use Rattle.desk_rows.specs.Tables.{tables, standing, choice_row};
 ghost use Rattle.desk_rows.specs.Answers.{answer, noted, IsHistory};
 ghost use Rattle.desk_rows.specs.Queries.{duties_of, totals_of};
-ghost use Rattle.desk_history.specs.Laws.{IsMinimalChoice, AreDistinct, key_of, ListsOnce, IsToldBy};
+ghost use Rattle.desk_history.specs.Laws.{IsFrozenTerm, IsHeldMinimal, IsMinimalChoice, AreDistinct, key_of, ListsOnce, IsToldBy};
 ghost use Rattle.desk_rows.specs.declared.row.Owed.{Owed};
 ghost use Rattle.desk_rows.specs.declared.row.DutyRow.{DutyRow};
+ghost use Rattle.desk_rows.specs.declared.row.FrozenRow.{FrozenRow};
 ghost use Rattle.desk_rows.specs.declared.command.Command.{Command};
 ghost use Rattle.desk_rows.specs.declared.command.Command.TheVariants.{Choose};
 
@@ -30,13 +31,26 @@ pub fn choices_are_minimal()
     ensures { (w : Readings) (h later before : List Command) (r : List ℕ) (d : ℕ) (p : List ℕ) (texts : List (List ℕ)) → IsHistory w h → h ≡ later ++ Choose r d p texts ∷ before → IsMinimalChoice w before d p texts }
 {}
 
+/// A choice that is held for a package is a minimal set of terms for the expression that is concluded for the package now, and not
+/// only was one when it was made. Nothing is held where nothing was chosen.
+pub fn held_choices_are_minimal()
+    ensures { (w : Readings) (h : List Command) (r : List ℕ) (d : ℕ) (p : List ℕ) → IsHistory w h → (choice w h r d p ≡ [] → ⊥) → IsHeldMinimal w h d p (choice w h r d p) }
+{}
+
+/// Each term that a release was frozen with was held for a package that it shipped then, and what was held for the package then was a
+/// minimal set of terms for its concluded expression.
+pub fn frozen_terms_were_held()
+    ensures held { (w : Readings) (h : List Command) (f : FrozenRow) → IsIn f (frozen w h) → IsFrozenTerm w h f }
+    ensures minimal { (w : Readings) (h : List Command) (f : FrozenRow) → IsHistory w h → (is : IsFrozenTerm w h f) → IsHeldMinimal w is.before is.row.document is.row.id (choice w is.before f.release is.row.document is.row.id) }
+{}
+
 /// The choice that stands for a package is the last one.
 pub fn last_choice_stands()
     ensures { (w : Readings) (h : List Command) (r : List ℕ) (d : ℕ) (p : List ℕ) → filter (is_choice_of r d p) (standing w h) ≡ map (choice_row r d p) (choice w h r d p) }
 {}
 
-/// Each duty that was raised is open, met, waived or withdrawn, and only one of these.
-pub fn each_duty_stands_once()
+/// The duties of a release that are open, met, waived and withdrawn make all that it raised.
+pub fn totals_add_up()
     ensures { (w : Readings) (h : List Command) (r : List ℕ) → let totals = totals_of (duties_of w h r) in totals.raised ≡ totals.still_open + totals.met + totals.waived + totals.withdrawn }
 {}
 

@@ -114,12 +114,12 @@ pub fn script<D: Desk, R: Read, W: Write>(
     writer: &mut W,
 ) -> Result<u8, Failure>
     ensures done { IfOk result (λ status. (bytes : List ℕ) × AreLeft (R.remaining reader.old) bytes × (end : ScriptEnd)
-        × IsScript D.are_right D.tells (D.content desk.old) bytes (D.content desk.new) (W.contents writer.old) (W.contents writer.new) end
+        × IsScript D.are_right D.tells bytes (D.seen desk.old) (D.seen desk.new) (W.contents writer.old) (W.contents writer.new) end
         × (end.failed ≡ 0) × (status ≡ (if end.refused == 0 then 0 else 1))) }
     ensures failed { IfErr result (OfScript
-        ((bytes : List ℕ) × AreLeft (R.remaining reader.old) bytes × IsFront D.are_right D.tells (D.content desk.old) bytes (D.content desk.new))
+        ((bytes : List ℕ) × AreLeft (R.remaining reader.old) bytes × IsFront D.are_right D.tells bytes (D.seen desk.old) (D.seen desk.new))
         (λ count. (bytes : List ℕ) × AreLeft (R.remaining reader.old) bytes × (end : ScriptEnd)
-        × IsScript D.are_right D.tells (D.content desk.old) bytes (D.content desk.new) (W.contents writer.old) (W.contents writer.new) end
+        × IsScript D.are_right D.tells bytes (D.seen desk.old) (D.seen desk.new) (W.contents writer.old) (W.contents writer.new) end
         × (end.failed ≡ count) × (0 < count))) }
 {
     let end = match desk_script::script(alloc, desk, reader, writer) {

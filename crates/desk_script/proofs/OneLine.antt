@@ -1,19 +1,10 @@
 -- The reply to one line.
-use Rattle.std.proofs.Common.{◌≡◌, ℕ, ◌+◌, Bool, true, false, List, [], ◌∷◌, Option, Result, Ok, Err, length, take, refl, sym, ap, ◌∙◌, subst, arith, append-nil}
-use Rattle.std.specs.Prelude.{if◌then◌else◌, nat_lt, IfOk, IfErr}
+use Rattle.std.proofs.Common.{◌≡◌, ℕ, ◌+◌, Bool, true, false, List, [], ◌∷◌, Option, length, take, refl, sym, ap, ◌∙◌, subst, arith, append-nil}
+use Rattle.std.specs.Prelude.{if◌then◌else◌, nat_lt}
 use Rattle.std.specs.Io.KnownBytes.{Appends}
 use Rattle.std.proofs.lemmas.List.{take_all}
 use Rattle.desk_rows.specs.Readings.{Readings}
-use Rattle.desk_rows.specs.Tables.{Tables, tables}
-use Rattle.desk_rows.specs.Answers.{IsHistory, is_recorded}
-use Rattle.desk_rows.specs.Queries.{queried}
-use Rattle.desk_rows.specs.Faults.{MayFail, outcome_of}
-use Rattle.desk_rows.specs.declared.command.Answer.{Answer}
-use Rattle.desk_rows.specs.declared.command.Command.{Command}
-use Rattle.desk_rows.specs.declared.command.Fault.{Fault}
-use Rattle.desk_rows.specs.declared.command.Query.{Query}
-use Rattle.desk_access.specs.Seen.{Seen, Spared, Minds, Looked}
-use Rattle.desk_core.specs.Desks.{CarriesOut, InHistory}
+use Rattle.desk_access.specs.Seen.{Seen, Spared}
 use Rattle.desk_rows.specs.declared.command.Fault.TheVariants.{Memory}
 use Rattle.desk_rows.specs.declared.command.Outcome.TheVariants.{Failed}
 use Rattle.desk_rows.specs.declared.command.StoreFault.{StoreFault}
@@ -59,46 +50,6 @@ module _ (is_right : Readings → Type 0) (tells : StoreFault → Type 0) {Left 
 
   pub no_request : (now : Seen Left) → Replies is_right tells now BadCommand NoRequest now
   no_request now = record { fits = tt; honest = λ h. h; keeps = λ none. same_now now; answer = λ w right clean h ok held. tt; content = λ w right clean h ok held. held }
-
-  -- a command was applied
-  pub Replies-applied : (stands : Left → Tables → Type 0) (old new : Seen Left) (c : Command) (r : Result Answer Fault) → Minds old new r
-      → ((w : Readings) → is_right w → CarriesOut stands w c old new r) → IfErr r (MayFail tells) → Replies is_right tells old (Act c) (Became (outcome_of r)) new
-  Replies-applied stands old new c (Ok a) minds carries fault = record {
-    fits = tt;
-    honest = minds.0;
-    keeps = λ none. (minds.1 none).kept.spared;
-    answer = λ w right clean h ok held. (carries w right).right clean h ok held;
-    content = λ w right clean h ok held. applied_content (is_recorded a) refl w right clean h ok held;
-  }
-    where
-      applied_content : (b : Bool) → is_recorded a ≡ b → (w : Readings) → is_right w → new.is_honest → (h : List Command) → IsHistory w h → old.holds (tables w h) → new.holds (tables w (if b then c ∷ h else h))
-      applied_content true kept w right clean h ok held = (carries w right).holds kept clean h ok held
-      applied_content false none w right clean h ok held = (minds.1 none).kept.spared.holds (tables w h) held
-  Replies-applied stands old new c (Err f) minds carries fault = record {
-    fits = fault;
-    honest = minds.honest;
-    keeps = λ none. minds;
-    answer = λ w right clean h ok held. tt;
-    content = λ w right clean h ok held. minds.holds (tables w h) held;
-  }
-
-  -- a question was asked
-  pub Replies-asked : (old new : Seen Left) (q : Query) (r : Result Answer Fault) → IfOk r (λ a. InHistory is_right (λ w h. a ≡ queried w h q) old new) → Looked old new r
-      → IfErr r (MayFail tells) → Replies is_right tells old (Ask q) (Became (outcome_of r)) new
-  Replies-asked old new q (Ok a) answer kept fault = record {
-    fits = tt;
-    honest = kept.kept.spared.honest;
-    keeps = λ none. kept.kept.spared;
-    answer = answer;
-    content = λ w right clean h ok held. kept.kept.spared.holds (tables w h) held;
-  }
-  Replies-asked old new q (Err f) answer kept fault = record {
-    fits = fault;
-    honest = kept.spared.honest;
-    keeps = λ none. kept.spared;
-    answer = λ w right clean h ok held. tt;
-    content = λ w right clean h ok held. kept.spared.holds (tables w h) held;
-  }
 
   -- a long line is no request
   pub Replies-long : (now : Seen Left) (line : Line) (text : List ℕ) → HasCome line text → line.is_long ≡ true → Replies is_right tells now (request_of text) NoRequest now

@@ -6,3 +6,6 @@ returns-clause-answers g c = λ w right. c.in_ok-outcomes.ensures.answers w righ
 
 pub returns-clause-content : goal.returns-clause-content
 returns-clause-content g c = λ w right. c.in_ok-outcomes.ensures.content w right tt [] tt (c.new-desk.ensures w)
+
+pub returns-clause-history : goal.returns-clause-history
+returns-clause-history g c = λ w right. c.in_ok-outcomes.ensures.history w right tt [] tt (c.new-desk.ensures w)

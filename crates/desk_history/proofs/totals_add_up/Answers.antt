@@ -1,6 +1,6 @@
 use Rattle.desk_rows.specs.Queries.{duties_of}
 use Rattle.desk_history.proofs.Counting.{conserved}
-use Rattle.desk_history.proofs.each_duty_stands_once.Goals as goal
+use Rattle.desk_history.proofs.totals_add_up.Goals as goal
 
 pub returns : goal.returns
 returns c = λ w h r. conserved (duties_of w h r)

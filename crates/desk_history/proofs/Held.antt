@@ -1,0 +1,177 @@
+-- What is held for a package is a minimal set for its conclusion now, and what a release was frozen with was so at its freeze.
+use Rattle.std.proofs.Common.{◌≡◌, ℕ, ◌+◌, Bool, true, false, List, [], ◌∷◌, ◌++◌, length, map, Option, Some, None, sym, refl, ap, ◌∙◌, subst, inl, inr}
+use Rattle.std.specs.Prelude.{find, IsTrue, if◌then◌else◌, unwrap_or}
+use Rattle.std.specs.List.{filter_map}
+use Rattle.std.specs.Option.{option_or}
+use Rattle.std.specs.Result.{result_ok}
+use Rattle.std.proofs.lemmas.List.Folds.{find-append}
+use Rattle.desk_rows.specs.Lists.{latest, or_else, IsIn}
+use Rattle.desk_rows.specs.Texts.{sorted_set}
+use Rattle.desk_rows.specs.Readings.{Readings}
+use Rattle.desk_rows.specs.Keys.{is_document, is_package}
+use Rattle.desk_rows.specs.History.{choice, documents, form_of, in_force, namespace_in, package_row, packages, packages_in, rules_in, is_package_of, term_set, terms_given}
+use Rattle.desk_rows.specs.Raised.{chosen_in, frozen, frozen_at, frozen_for_terms, frozen_term, frozen_under, rule_adopted, shipped}
+use Rattle.desk_rows.specs.Answers.{answer, is_recorded, IsHistory}
+use Rattle.desk_history.specs.Laws.{IsFrozenTerm, IsHeldMinimal}
+use Rattle.desk_history.proofs.Members.{in_cases, from_flat_map}
+use Rattle.desk_history.proofs.Chosen.{SamePackage, same_package}
+use Rattle.desk_history.proofs.Minimal.{recorded_is_minimal}
+use Rattle.desk_rows.specs.declared.reading.Rule.{Rule}
+use Rattle.desk_rows.specs.declared.row.DocumentRow.{DocumentRow}
+use Rattle.desk_rows.specs.declared.row.FrozenRow.{FrozenRow}
+use Rattle.desk_rows.specs.declared.row.PackageRow.{PackageRow}
+use Rattle.desk_rows.specs.declared.command.Command.{Command}
+use Rattle.desk_rows.specs.declared.command.Command.TheVariants.{LoadCatalogue, Import, OpenRelease, Attach, Choose, Freeze, Meet}
+
+-- what is found stays found when more comes behind it
+found_before : {A : Type 0} (test : A → Bool) (xs ys : List A) (x : A) → find test xs ≡ Some x → find test (xs ++ ys) ≡ Some x
+found_before test xs ys x e = find-append test xs ys ∙ ap (λ o. option_or o (find test ys)) e
+
+pub document_stays : (w : Readings) (c : Command) (h : List Command) (d : ℕ) (row : DocumentRow) → find (is_document d) (documents w h) ≡ Some row → find (is_document d) (documents w (c ∷ h)) ≡ Some row
+document_stays w (Import bytes profile) h d row e =
+    found_before (is_document d) (documents w h) (record { number = length (documents w h) + 1; namespace = namespace_in (result_ok (w.document bytes)); bytes = bytes; profile = profile } ∷ []) row e
+document_stays w (LoadCatalogue text) h d row e = e
+document_stays w (OpenRelease r f) h d row e = e
+document_stays w (Attach r n) h d row e = e
+document_stays w (Choose r n p texts) h d row e = e
+document_stays w (Freeze r day) h d row e = e
+document_stays w (Meet q day text) h d row e = e
+
+pub package_stays : (w : Readings) (c : Command) (h : List Command) (d : ℕ) (p : List ℕ) (row : PackageRow) → find (is_package d p) (packages w h) ≡ Some row → find (is_package d p) (packages w (c ∷ h)) ≡ Some row
+package_stays w (Import bytes profile) h d p row e =
+    found_before (is_package d p) (packages w h) (map (package_row (length (documents w h) + 1)) (packages_in (result_ok (w.document bytes)))) row e
+package_stays w (LoadCatalogue text) h d p row e = e
+package_stays w (OpenRelease r f) h d p row e = e
+package_stays w (Attach r n) h d p row e = e
+package_stays w (Choose r n q texts) h d p row e = e
+package_stays w (Freeze r day) h d p row e = e
+package_stays w (Meet q day text) h d p row e = e
+
+held_later : (w : Readings) (c : Command) (h : List Command) (d : ℕ) (p : List ℕ) (terms : List (List ℕ)) → IsHeldMinimal w h d p terms → IsHeldMinimal w (c ∷ h) d p terms
+held_later w c h d p terms is = record {
+  document = is.document;
+  row = is.row;
+  expression = is.expression;
+  listed = is.listed;
+  of = document_stays w c h d is.document is.of;
+  has = package_stays w c h d p is.row is.has;
+  concludes = is.concludes;
+  set = is.set;
+  minimal = is.minimal;
+}
+
+-- one more choice
+held_step : (w : Readings) (h : List Command) (r p r' p' : List ℕ) (d d' : ℕ) (texts terms : List (List ℕ)) (b : Bool) → is_package_of r d p r' d' p' ≡ b
+    → IsTrue (is_recorded (answer w h (Choose r' d' p' texts))) → (latest (terms_given w r d p) h ≡ Some terms → IsHeldMinimal w h d p terms)
+    → or_else (if b then Some (term_set w texts) else None) (latest (terms_given w r d p) h) ≡ Some terms → IsHeldMinimal w (Choose r' d' p' texts ∷ h) d p terms
+held_step w h r p r' p' d d' texts terms true same recorded before e =
+    let key = same_package r p r' p' d d' same in
+    let is = recorded_is_minimal w h r' d' p' texts recorded in
+    record {
+      document = is.document;
+      row = is.row;
+      expression = is.expression;
+      listed = filter_map w.term texts;
+      of = subst (λ (n : ℕ). find (is_document n) (documents w h) ≡ Some is.document) key.document is.of;
+      has = subst (λ (n : ℕ). find (is_package n p) (packages w h) ≡ Some is.row) key.document
+          (subst (λ (q : List ℕ). find (is_package d' q) (packages w h) ≡ Some is.row) key.package_id is.has);
+      concludes = is.concludes;
+      set = sym (inner (term_set w texts) terms e);
+      minimal = is.minimal;
+    }
+  where
+    inner : (x y : List (List ℕ)) → Some x ≡ Some y → x ≡ y
+    inner x y e = cc
+held_step w h r p r' p' d d' texts terms false same recorded before e = held_later w (Choose r' d' p' texts) h d p terms (before e)
+
+-- the last terms that were chosen
+pub held_is_minimal : (w : Readings) (h : List Command) (r : List ℕ) (d : ℕ) (p : List ℕ) (terms : List (List ℕ)) → IsHistory w h → latest (terms_given w r d p) h ≡ Some terms → IsHeldMinimal w h d p terms
+held_is_minimal w [] r d p terms ok e = cc
+held_is_minimal w (Choose r' d' p' texts ∷ h) r d p terms ok e =
+    held_step w h r p r' p' d d' texts terms (is_package_of r d p r' d' p') refl ok.0 (λ before. held_is_minimal w h r d p terms ok.1 before) e
+held_is_minimal w (LoadCatalogue text ∷ h) r d p terms ok e = held_later w (LoadCatalogue text) h d p terms (held_is_minimal w h r d p terms ok.1 e)
+held_is_minimal w (Import bytes profile ∷ h) r d p terms ok e = held_later w (Import bytes profile) h d p terms (held_is_minimal w h r d p terms ok.1 e)
+held_is_minimal w (OpenRelease r' f ∷ h) r d p terms ok e = held_later w (OpenRelease r' f) h d p terms (held_is_minimal w h r d p terms ok.1 e)
+held_is_minimal w (Attach r' n ∷ h) r d p terms ok e = held_later w (Attach r' n) h d p terms (held_is_minimal w h r d p terms ok.1 e)
+held_is_minimal w (Freeze r' day ∷ h) r d p terms ok e = held_later w (Freeze r' day) h d p terms (held_is_minimal w h r d p terms ok.1 e)
+held_is_minimal w (Meet q day text ∷ h) r d p terms ok e = held_later w (Meet q day text) h d p terms (held_is_minimal w h r d p terms ok.1 e)
+
+choice_by : (w : Readings) (h : List Command) (d : ℕ) (p : List ℕ) (o : Option (List (List ℕ))) → ((terms : List (List ℕ)) → o ≡ Some terms → IsHeldMinimal w h d p terms)
+    → (unwrap_or o [] ≡ [] → ⊥) → IsHeldMinimal w h d p (unwrap_or o [])
+choice_by w h d p None held some = absurd (some refl)
+choice_by w h d p (Some terms) held some = held terms refl
+
+pub choice_is_minimal : (w : Readings) (h : List Command) (r : List ℕ) (d : ℕ) (p : List ℕ) → IsHistory w h → (choice w h r d p ≡ [] → ⊥) → IsHeldMinimal w h d p (choice w h r d p)
+choice_is_minimal w h r d p ok some = choice_by w h d p (latest (terms_given w r d p) h) (λ terms e. held_is_minimal w h r d p terms ok e) some
+
+-- Frozen terms
+
+later_frozen : (w : Readings) (c : Command) (h : List Command) (f : FrozenRow) → IsFrozenTerm w h f → IsFrozenTerm w (c ∷ h) f
+later_frozen w c h f is = record {
+  later = c ∷ is.later;
+  before = is.before;
+  day = is.day;
+  row = is.row;
+  rule = is.rule;
+  split = ap (λ hs. c ∷ hs) is.split;
+  ships = is.ships;
+  document = is.document;
+  package_id = is.package_id;
+  chosen = is.chosen;
+  ruled = is.ruled;
+  spelled = is.spelled;
+}
+
+frozen_by_rule : (w : Readings) (h : List Command) (r day : List ℕ) (f : FrozenRow) (p : PackageRow) (term : List ℕ) (o : Option Rule) → IsIn p (shipped w h r) → IsIn term (choice w h r p.document p.id)
+    → rule_adopted w (rules_in (in_force w h)) (unwrap_or (form_of h r) []) term ≡ o → IsIn f (frozen_under r p term o) → IsFrozenTerm w (Freeze r day ∷ h) f
+frozen_by_rule w h r day f p term None ships chosen e m = absurd m
+frozen_by_rule w h r day f p term (Some rule) ships chosen e m = elim m [
+  | inl is ↦ subst (IsFrozenTerm w (Freeze r day ∷ h)) is (record {
+      later = [];
+      before = h;
+      day = day;
+      row = p;
+      rule = rule;
+      split = refl;
+      ships = ships;
+      document = refl;
+      package_id = refl;
+      chosen = chosen;
+      ruled = e;
+      spelled = refl;
+    })
+  | inr none ↦ absurd none
+]
+
+frozen_by_freeze : (w : Readings) (h : List Command) (r day : List ℕ) (f : FrozenRow) → IsIn f (frozen_at w h r) → IsFrozenTerm w (Freeze r day ∷ h) f
+frozen_by_freeze w h r day f m =
+    let rules = rules_in (in_force w h) in
+    let form = unwrap_or (form_of h r) [] in
+    let p = from_flat_map (λ (p : PackageRow). frozen_for_terms w rules form r p (chosen_in w h r p)) f (shipped w h r) m in
+    let t = from_flat_map (λ (term : List ℕ). frozen_under r p.0 term (rule_adopted w rules form term)) f (chosen_in w h r p.0) p.2 in
+    frozen_by_rule w h r day f p.0 t.0 (rule_adopted w rules form t.0) p.1 t.1 refl t.2
+
+pub frozen_in : (w : Readings) (h : List Command) (f : FrozenRow) → IsIn f (frozen w h) → IsFrozenTerm w h f
+frozen_in w [] f m = absurd m
+frozen_in w (Freeze r day ∷ h) f m = elim (in_cases f (frozen_at w h r) (frozen w h) m) [ inl n ↦ frozen_by_freeze w h r day f n | inr l ↦ later_frozen w (Freeze r day) h f (frozen_in w h f l) ]
+frozen_in w (LoadCatalogue text ∷ h) f m = later_frozen w (LoadCatalogue text) h f (frozen_in w h f m)
+frozen_in w (Import bytes profile ∷ h) f m = later_frozen w (Import bytes profile) h f (frozen_in w h f m)
+frozen_in w (OpenRelease r f' ∷ h) f m = later_frozen w (OpenRelease r f') h f (frozen_in w h f m)
+frozen_in w (Attach r n ∷ h) f m = later_frozen w (Attach r n) h f (frozen_in w h f m)
+frozen_in w (Choose r n p texts ∷ h) f m = later_frozen w (Choose r n p texts) h f (frozen_in w h f m)
+frozen_in w (Meet q day text ∷ h) f m = later_frozen w (Meet q day text) h f (frozen_in w h f m)
+
+-- the terms that a release was frozen with were held then, and so a minimal set
+some_in : (x : List ℕ) (xs : List (List ℕ)) → IsIn x xs → xs ≡ [] → ⊥
+some_in x [] m e = m
+some_in x (y ∷ ys) m e = cc
+
+history_at : (w : Readings) (later before : List Command) → IsHistory w (later ++ before) → IsHistory w before
+history_at w [] before ok = ok
+history_at w (c ∷ later) before ok = history_at w later before ok.1
+
+pub frozen_was_minimal : (w : Readings) (h : List Command) (f : FrozenRow) → IsHistory w h → (is : IsFrozenTerm w h f)
+    → IsHeldMinimal w is.before is.row.document is.row.id (choice w is.before f.release is.row.document is.row.id)
+frozen_was_minimal w h f ok is =
+    let at : IsHistory w (Freeze f.release is.day ∷ is.before) = history_at w is.later (Freeze f.release is.day ∷ is.before) (subst (IsHistory w) is.split ok) in
+    choice_is_minimal w is.before f.release is.row.document is.row.id at.1 (λ none. some_in f.term (choice w is.before f.release is.row.document is.row.id) is.chosen none)
