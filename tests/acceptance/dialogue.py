@@ -10,7 +10,7 @@ A dialogue is a text of lines:
 
 A blank line has no reply. {{NAME}} is the text of a fixture as a JSON string, and {{NAME: OLD => NEW; ..}} the same with NEW in the
 place of OLD, which stands in it once; in both \\n is a line feed. ‹ff› is a byte by its hexadecimal digits. A request behind `>|` has no
-line end: it is the last one.
+line end: it is the last one. Of a page (NAME.md) the dialogue is what stands in its blocks that begin with ```dialogue.
 """
 
 import json
@@ -54,12 +54,25 @@ def written_out(text):
     return re.sub("‹(..)›".encode(), lambda match: bytes.fromhex(match.group(1).decode()), text)
 
 
+def lines_of(path):
+    """The lines of a dialogue, each with its number."""
+    with open(path, encoding="utf-8", newline="\n") as file:
+        lines = enumerate(file.read().split("\n"), 1)
+    if not path.endswith(".md"):
+        return lines
+    kept, is_kept = [], False
+    for number, line in lines:
+        if line.startswith("```"):
+            is_kept = line == "```dialogue"
+        elif is_kept:
+            kept.append((number, line))
+    return kept
+
+
 def read(path):
     """The requests and the replies of a dialogue as bytes, and its status."""
     requests, replies, status = [], [], 0
-    with open(path, encoding="utf-8", newline="\n") as file:
-        lines = file.read().split("\n")
-    for number, line in enumerate(lines, 1):
+    for number, line in lines_of(path):
         mark, text = line[:2], line[2:]
         if mark in ("> ", ">"):
             requests.append(written_out(text) + b"\n")

@@ -11,10 +11,12 @@
 #   stderr      what standard error must be (none: empty)
 #   status      the exit status that is wanted (none: 0)
 #   data/       files that lie in the folder where the program runs
-# or a text NAME.dialogue of requests and the replies to them, on which `script` runs: dialogue.py says how it is written.
+# or a text NAME.dialogue of requests and the replies to them, on which `script` runs: dialogue.py says how it is written. The pages of
+# docs/ that show a dialogue are cases too, by the name of their file.
 set -eu
 
 here=$(unset CDPATH; cd -- "$(dirname -- "$0")" && pwd)
+pages=$here/../../docs
 case ${1:?the program to run} in
     /*) program=$1 ;;
     *) program=$(pwd)/$1 ;;
@@ -46,9 +48,9 @@ compare() {
     cmp -s "$expected" "$2" || echo "$3 is: $(head -c 400 "$2")"
 }
 
-# Runs the dialogue $1, and says what is wrong, if anything.
+# Runs the dialogue of the file $1, and says what is wrong, if anything.
 run_dialogue() {
-    wanted=$(python3 -B "$here/dialogue.py" "$here/$1.dialogue" "$scratch/requests" "$scratch/replies")
+    wanted=$(python3 -B "$here/dialogue.py" "$1" "$scratch/requests" "$scratch/replies")
     status=0
     "$program" script <"$scratch/requests" >"$scratch/out" 2>"$scratch/err" || status=$?
     [ "$status" -eq "$wanted" ] || echo "status $status, and not $wanted"
@@ -88,7 +90,7 @@ run_folder() {
 }
 
 if [ "$#" -eq 0 ]; then
-    for case in "$here"/*/ "$here"/*.dialogue; do
+    for case in "$here"/*/ "$here"/*.dialogue $(grep -l '^```dialogue$' "$pages"/*.md); do
         set -- "$@" "$(basename "$case" .dialogue)"
     done
 fi
@@ -96,11 +98,10 @@ fi
 passed=0
 failed=0
 for name in "$@"; do
-    if [ -f "$here/$name.dialogue" ]; then
-        wrong=$(run_dialogue "$name")
-    else
-        wrong=$(run_folder "$name")
-    fi
+    case $name in
+        *.md) wrong=$(run_dialogue "$pages/$name") ;;
+        *) if [ -d "$here/$name" ]; then wrong=$(run_folder "$name"); else wrong=$(run_dialogue "$here/$name.dialogue"); fi ;;
+    esac
     if [ -z "$wrong" ]; then
         passed=$((passed + 1))
     else

@@ -6,9 +6,9 @@ allocation refused, until a run makes fewer. Then
 - a check tells its answer with its status, or nothing with status 3 and its words;
 - a script tells its replies with its status; or one reply is {"fault":"memory"}, the status is 3 with its words, and the other replies
   are those of the script without that request, so what was accepted stands and the script went on; or it stopped with status 3 and its
-  words, and what is there are whole replies, those of the script.
+  words, and what is there are whole replies, those of the script. Before the first reply it may also say that it could not begin.
 
-Each request of a script is told want of memory so at least once, but those that are no JSON text at all, which may take none.
+Each request of a script is told want of memory so at least once, but a line that is no UTF-8, which takes none.
 """
 
 import os
@@ -25,10 +25,10 @@ import dialogue
 
 BYTES = 16_384
 MEMORY = b'{"fault":"memory"}\n'
-NO_REQUEST = b'{"fault":"command"}\n'
 
 WANTING = b"error: no memory is left\n"
-STOPPED = (WANTING, b"error: the script stopped: no memory is left for a line or a reply\n")
+NOT_BEGUN = (WANTING, b"error: cannot write: out of memory\n")
+STOPPED = b"error: the script stopped: no memory is left for a line or a reply\n"
 ONE_FAILED = b"error: requests that failed: 1\n"
 
 
@@ -49,6 +49,13 @@ def lines(text):
     """The lines of a text, each with its LF."""
     parts = text.split(b"\n")
     return [part + b"\n" for part in parts[:-1]] + parts[-1:]
+
+
+def is_text(line):
+    try:
+        return line.decode() is not None
+    except UnicodeDecodeError:
+        return False
 
 
 def is_blank(line):
@@ -92,16 +99,17 @@ class Script:
         replies = lines(stdout)
         failed = [n for n, reply in enumerate(replies) if reply == MEMORY]
         if not failed:
+            if status != 3 or stdout == b"" and stderr in NOT_BEGUN:
+                return status == 3
             is_whole = stdout == b"" or stdout.endswith(b"\n")
-            return status == 3 and stderr in STOPPED and is_whole and self.whole[0].startswith(stdout)
+            return stderr == STOPPED and is_whole and self.whole[0].startswith(stdout)
         self.told.add(failed[0])
         others = b"".join(replies[: failed[0]] + replies[failed[0] + 1 :])
         return status == 3 and stderr == ONE_FAILED and len(failed) == 1 and others == self.rest(failed[0])
 
     def untold(self):
         """The requests that were never told want of memory."""
-        replies = lines(self.whole[0])
-        return [n for n in range(len(self.replied)) if n not in self.told and replies[n] != NO_REQUEST]
+        return [n for n, line in enumerate(self.replied) if n not in self.told and is_text(self.requests[line])]
 
 
 def sweep(program, name, words, text):

@@ -247,11 +247,11 @@ def lines_of_documents():
         take(HEAD + "DocumentComment: <text>" + many + "</text> x\n", refused(2, "BadDocument", 4, HEAD_LINES + 65_537)),
         take(HEAD + "PackageComment: c\n" * 65_536 + package()),
     ]
-    text = HEAD + "\n" * (DOCUMENT_BYTES - len(HEAD))
+    text = padded(HEAD, DOCUMENT_BYTES)
     yield "a document of 4 MiB, and one byte too large", [
         take(text),
-        (line(do="import", text=text + "\n"), refused(2, "BadDocument", 11, 0)),
-        (line(do="import", text=text + "x" * 65_536), refused(2, "BadDocument", 11, 0)),
+        (line(do="import", text=text + "#"), refused(2, "BadDocument", 11, 0)),
+        (line(do="import", text=padded(HEAD, 8_000_000)), refused(2, "BadDocument", 11, 0)),
         (line(do="import", text=text), line(document=1, new=False)),
     ]
     packages = "".join(f"PackageName: p\nSPDXID: SPDXRef-{n}\n" for n in range(10_000))
@@ -381,11 +381,11 @@ def checks():
         ("A WITH OR", "Unexpected at 7"),
         ("+", "BadToken at 0"),
         ("MIT AND +", "BadToken at 8"),
-        ("MIT AND " * 2_000 + "+", "BadToken at 16000"),
-        ("(" + "A AND " * 2_000 + "A", "Unclosed at 0"),
+        ("MIT AND " * 1_000 + "+", "BadToken at 8000"),
+        ("(" + "A AND " * 1_000 + "A", "Unclosed at 0"),
         ("(" * 65 + "A" + ")" * 65, "TooDeep at 64"),
-        ("A" * (EXPRESSION_BYTES + 1), f"TooLong at {EXPRESSION_BYTES}"),
-        ("A" * 100_000, f"TooLong at {EXPRESSION_BYTES}"),
+        ("A" * (EXPRESSION_BYTES + 1), "TooLong at 0"),
+        ("A" * 100_000, "TooLong at 0"),
         (" OR ".join(["A"] * 1_025), f"TooManyTerms at {5 * 1_024}"),
     ]
     for expression, told in faults:
