@@ -97,14 +97,17 @@ def sizes_of_values():
     for size in PAST + (4_000_000,):
         spdx_id = "SPDXRef-" + "p" * size
         yield f"an id of {size} bytes", [
-            load(catalogue()),
+            load(catalogue(codes=("give-notice", "include-text"))),
             take(HEAD + package(spdx_id)),
             opened(),
             attached(),
             freeze(refused(19, "NoChoice", 1, spdx_id)),
             choose(["MIT"], spdx_id=spdx_id),
-            frozen(1),
-            duties([[1, 1, spdx_id, "mit", "MIT", "include-text", "open", "2025-03-03"]]),
+            frozen(2),
+            duties([
+                [1, 1, spdx_id, "mit", "MIT", "give-notice", "open", "2025-03-03"],
+                [2, 1, spdx_id, "mit", "MIT", "include-text", "open", "2025-03-03"],
+            ]),
         ]
     for size in PAST:
         text = HEAD.replace("DocumentName: d", "DocumentName: " + "d" * size).replace("org/d", "org/" + "d" * size)
@@ -160,6 +163,7 @@ def sizes_of_terms():
         choose(["MIT", "(" * 40_000], refused(8, "BadTerm", 1)),
         choose(["MIT AND " * 5_000], refused(8, "BadTerm", 0)),
         choose(["é" * 20_000], refused(8, "BadTerm", 0)),
+        choose(["MIT", "MIT", "x" * (5 * MIB)], refused(8, "BadTerm", 2)),
     ]
     terms = [f"t{n}" for n in range(1_024)]
     yield "1,024 terms, and one too many", [
@@ -226,9 +230,9 @@ def sizes_of_catalogues():
         load(padded(text, CATALOGUE_BYTES + 1), refused(1, "BadCatalogue", 8)),
         load(padded(text, 6 * MIB), refused(1, "BadCatalogue", 8)),
     ]
-    yield "values of other keys", [
-        load(catalogue(more=f'note = "{"n" * (64 * KIB)}"\n[[text]]\nlicence = "MIT"\nbody = """{"text" + chr(10) * 3_000_000}"""\n'))
-    ]
+    note, body = "n" * (64 * KIB), "text" + "\n" * 3_000_000
+    more = f'note = "{note}"\n[[text]]\nlicence = "MIT"\nbody = """{body}"""\n'
+    yield "values of other keys", [load(catalogue(more=more))]
     codes = [f"{'c' * 58}-{n:05}" for n in range(1_000)]
     yield "1,000 codes of 64 bytes", [load(catalogue(codes=codes, title="t" * 256))]
     rules = "".join(f'[[rule]]\nterm = "x{n}"\nform = "binary"\nduties = []\n' for n in range(20_000))
@@ -298,6 +302,17 @@ def faults_of_documents():
     yield "each fault of documents", steps
 
 
+def faults_of_expressions():
+    """A conclusion that is no expression, by each fault, or one of the two words that stand for none."""
+    values = ["", "MIT AND", "+", "MIT +", "(MIT", "WITH x", "(" * 65 + "MIT" + ")" * 65, "NONE", "NOASSERTION"]
+    text = HEAD + "".join(package(f"SPDXRef-{n}", value) for n, value in enumerate(values))
+    steps = [load(catalogue()), take(text), opened(), attached()]
+    steps += [
+        choose(["MIT"], refused(16, "NoConclusion", 1, f"SPDXRef-{n}"), f"SPDXRef-{n}") for n, _ in enumerate(values)
+    ]
+    yield "each fault of conclusions", steps
+
+
 def faults_of_catalogues():
     rule = '[[rule]]\nterm = "{}"\nform = "{}"\nduties = [{}]\n'
     rows = [
@@ -322,7 +337,8 @@ def a_thousand_duties():
     """100 packages of ten duties each."""
     codes = sorted(f"duty-{n}" for n in range(10))
     ids = sorted(f"SPDXRef-{n}" for n in range(100))
-    steps = [load(catalogue(codes=codes)), take(HEAD + "".join(package(spdx_id) for spdx_id in reversed(ids))), opened(), attached()]
+    text = HEAD + "".join(package(spdx_id) for spdx_id in reversed(ids))
+    steps = [load(catalogue(codes=codes)), take(text), opened(), attached()]
     steps += [choose(["mIt"], spdx_id=spdx_id) for spdx_id in ids] + [frozen(1_000)]
     rows = [[spdx_id, code] for spdx_id in ids for code in codes]
     told = [[n, 1, spdx_id, "mit", "MIT", code, "open", "2025-03-03"] for n, (spdx_id, code) in enumerate(rows, 1)]
@@ -356,6 +372,7 @@ SCRIPTS = (
     sizes_of_catalogues,
     lines_of_documents,
     faults_of_documents,
+    faults_of_expressions,
     faults_of_catalogues,
     a_thousand_duties,
     long_lines,
