@@ -96,6 +96,7 @@ if [ -n "$desk" ]; then
     echo 'This is the program that was proved and built.'
     run_program 1-unicode-ident 2-linux-tls 3-too-many 4-too-few 5-release
 else
+    command -v rt >/dev/null || { echo 'This needs rt, the Rattle toolchain.' >&2; exit 1; }
     echo 'This runs the desk WITH NO PROOF: it is compiled and shown, and nothing is checked.'
     echo '`make` proves each crate and builds the proved program. Compiling, which takes a minute or two ...'
     run_unproved

@@ -57,16 +57,16 @@ def take(text, reply=None):
     return line(do="import", text=text), reply or line(document=1, new=True)
 
 
-def opened(release="r"):
-    return line(do="open", release=release, form="binary"), DONE
+def opened(release="r", reply=DONE):
+    return line(do="open", release=release, form="binary"), reply
 
 
-def attached(release="r"):
-    return line(do="attach", release=release, document=1), DONE
+def attached(release="r", document=1, reply=DONE):
+    return line(do="attach", release=release, document=document), reply
 
 
-def choose(terms, reply=DONE, spdx_id="SPDXRef-p"):
-    return line(do="choose", release="r", document=1, package=spdx_id, terms=terms), reply
+def choose(terms, reply=DONE, spdx_id="SPDXRef-p", release="r"):
+    return line(do="choose", release=release, document=1, package=spdx_id, terms=terms), reply
 
 
 def freeze(reply):
@@ -192,10 +192,10 @@ def sizes_of_words():
     """Names, days and texts of requests."""
     yield "names of releases", [
         load(catalogue()),
-        (line(do="open", release="r" * 64, form="binary"), DONE),
-        (line(do="open", release="r" * 65, form="binary"), refused(9, "BadName")),
-        (line(do="open", release="r" * (64 * KIB + 1), form="binary"), refused(9, "BadName")),
-        (line(do="open", release="r" * (5 * MIB), form="binary"), refused(9, "BadName")),
+        opened("r" * 64),
+        opened("r" * 65, refused(9, "BadName")),
+        opened("r" * (64 * KIB + 1), refused(9, "BadName")),
+        opened("r" * (5 * MIB), refused(9, "BadName")),
         (line(do="open", release="s", form="b" * (5 * MIB)), refused(11, "UnknownForm")),
         (line(ask="totals", release="r" * (5 * MIB)), refused(12, "UnknownRelease")),
         (line(ask="totals", release="r" * 64), line(rows=[[0, 0, 0, 0, 0]])),
@@ -352,6 +352,46 @@ def a_thousand_duties():
     yield "a reply of a thousand duties", steps
 
 
+def full(limit):
+    return refused(27, "Full", limit)
+
+
+def numbered(number):
+    """A document with a namespace of its own, and its import."""
+    text = HEAD.replace("org/d", f"org/d{number}")
+    return take(text, line(document=number, new=True))
+
+
+def limits_of_the_desk():
+    """As many rows as a desk holds, and one too many."""
+    text = catalogue()
+    yield "4,096 revisions", [load(text, line(revision=n)) for n in range(1, 4_097)] + [load(text, full("revisions"))]
+    again = numbered(7)[0], line(document=7, new=False)
+    yield "4,096 documents", [numbered(n) for n in range(1, 4_097)] + [take(HEAD, full("documents")), again]
+    yield "4,096 releases", [load(text)] + [opened(f"r{n}") for n in range(4_096)] + [opened("more", full("releases"))]
+    steps = [load(text), opened("r"), opened("s")] + [numbered(n) for n in range(1, 66)]
+    steps += [attached("r", n) for n in range(1, 65)] + [attached("r", 65, full("attached")), attached("s", 65)]
+    yield "64 attached documents", steps
+
+
+def a_hundred_thousand_duties():
+    """100 packages of a thousand duties each, and one duty too many."""
+    codes = sorted(f"duty-{n:03}" for n in range(1_000))
+    ids = sorted(f"SPDXRef-{n:02}" for n in range(100))
+    steps = [load(catalogue(codes=codes)), take(HEAD + "".join(map(package, ids)))]
+    for release in ("r", "s"):
+        steps += [opened(release), attached(release, 1)]
+        steps += [choose(["MIT"], spdx_id=spdx_id, release=release) for spdx_id in ids]
+    steps += [frozen(100_000), (line(do="freeze", release="s", day="2025-03-03"), full("duties"))]
+    rows = ((spdx_id, code) for spdx_id in ids for code in codes)
+    told = [[n, 1, spdx_id, "mit", "MIT", code, "open", "2025-03-03"] for n, (spdx_id, code) in enumerate(rows, 1)]
+    steps.append(duties(told))
+    steps.append((line(do="meet", duty=100_000, day="2025-03-04", text="t"), DONE))
+    steps.append((line(ask="totals", release="r"), line(rows=[[100_000, 99_999, 1, 0, 0]])))
+    steps.append((line(ask="totals", release="s"), line(rows=[[0, 0, 0, 0, 0]])))
+    yield "100,000 duties", steps
+
+
 def long_lines():
     asked = line(ask="totals", release="r").rstrip("\n")
     unknown = refused(12, "UnknownRelease")
@@ -375,6 +415,8 @@ SCRIPTS = (
     faults_of_expressions,
     faults_of_catalogues,
     a_thousand_duties,
+    limits_of_the_desk,
+    a_hundred_thousand_duties,
     long_lines,
 )
 
