@@ -1,4 +1,5 @@
-# Builds, shows, tests and installs the desk. It needs the Rattle toolchain's `rt`, a POSIX shell and make.
+# Builds, shows, tests and installs the desk. It needs the Rattle toolchain's `rt`, a POSIX shell and make; the tests on the built
+# program need Python (3.9 or later) and a C compiler too.
 .POSIX:
 .SUFFIXES:
 
@@ -17,34 +18,52 @@ build:
 	@echo 'Building build/desk: each crate is proved first. Minutes the first time, then seconds.'
 	@mkdir -p build
 	@rm -f build/is-built
+	@: >build/is-begun
 	@(cd $(program) && rt run -- check MIT mit </dev/null && : >../../build/is-built) 2>&1 | tee build/log \
 	    | awk '/^rt: chose/ { print "  proving " $$NF; fflush() } /^so far/ { print "    " $$0; fflush() }'
 	@[ -f build/is-built ] || { cat build/log; exit 1; }
 	@cmp -s $(program)/out/desk_program build/desk || cp $(program)/out/desk_program build/desk
+	@touch -r build/is-begun build/desk
 	@echo 'Built build/desk.'
 
-# The desk's main job of the day, on a real example.
-demo: build
-	@sh examples/demo.sh build/desk
+# The desk's main job of the day, on real examples: by build/desk where that is proved and up to date, else with no proof.
+demo:
+	@if [ -f build/desk ] && [ -z "$$(find crates crates.txt -type f -newer build/desk ! -path '*/out/*' | head -n 1)" ]; \
+	then sh examples/demo.sh build/desk; else sh examples/demo.sh; fi
 
-# The merge gate, and then the acceptance cases and refused allocations on the built program.
-test:
+# What the tests need beside a shell and make.
+needs:
+	@echo 'The tests need rt, Python 3.9 or later (python3) and a C compiler (cc).'
+	@for program in rt python3 cc; do command -v $$program >/dev/null 2>&1 \
+	    || { echo "There is no $$program." >&2; exit 1; }; done
+	@python3 -c 'import sys; sys.exit(sys.version_info < (3, 9))' || { echo 'This Python is older.' >&2; exit 1; }
+
+# The merge gate, and then the acceptance cases, large inputs and refused allocations on the built program.
+test: needs
 	@echo 'Running the gate: every proof from nothing, every must-fail edit, every test.'
 	@echo 'That takes minutes to hours: docs/GATE.md has the times of each machine.'
-	rt ci
 	@mkdir -p build
+	@: >build/is-begun
+	rt ci
 	@cp $(program)/out/desk_program build/desk
+	@touch -r build/is-begun build/desk
 	@echo 'Running the acceptance cases on the program that the gate proved and built.'
 	@sh tests/acceptance/run.sh build/desk
+	@echo 'Feeding it large inputs and each fault of each reader.'
+	@python3 tests/ample/ample.py build/desk
 	@echo 'Refusing each allocation of build/desk in turn.'
 	@python3 tests/allocations/sweep.py build/desk
 
 # The acceptance cases alone.
-acceptance: build
+acceptance: needs build
 	@sh tests/acceptance/run.sh build/desk
 
-# Refuses each allocation of the program in turn, over the acceptance cases. It needs a C compiler and Python.
-allocations: build
+# Large inputs and each fault of each reader, where there is enough memory.
+ample: needs build
+	@python3 tests/ample/ample.py build/desk
+
+# Refuses each allocation of the program in turn, over the acceptance cases.
+allocations: needs build
 	@python3 tests/allocations/sweep.py build/desk
 
 # More edits that the prover must refuse: make edits CRATES='desk_expr'
@@ -74,4 +93,4 @@ install: build
 clean:
 	rm -rf build
 
-.PHONY: all build demo test acceptance allocations edits try bench install clean
+.PHONY: all build demo needs test acceptance ample allocations edits try bench install clean

@@ -1,51 +1,115 @@
 #!/bin/sh
-# Asks the desk about choices for the licences of real packages, and runs a first release: examples/demo.sh PROGRAM
+# Shows the desk at work on real licences and a first release: examples/demo.sh [PROGRAM]
+# With no program the toolchain compiles the desk and runs it with no proof (`rt try`).
 set -eu
 
-desk=${1:?the program to run}
-here=$(dirname -- "$0")
+here=$(unset CDPATH; cd -- "$(dirname -- "$0")" && pwd)
+desk=${1:-}
+room=$(mktemp -d)
+trap 'rm -rf "$room"' EXIT
+trap 'exit 1' HUP INT TERM
+mkdir "$room/cases" "$room/shown" "$room/told"
 
-# Shows a question about the expression and the words, and the desk's answer.
-ask() {
-    expression=$1
+# Adds a case: its name, its words, and its standard input from where this stands.
+add() {
+    name=$1
     shift
-    printf "\$ desk check '%s'" "$expression"
-    printf " '%s'" "$@"
-    echo
-    status=0
-    "$desk" check "$expression" "$@" || status=$?
-    printf '(status %s)\n\n' "$status"
+    printf '%s\n' "$@" >"$room/cases/$name.args"
+    cat >"$room/cases/$name"
 }
 
-# Asks about the choice that the folder $1 has.
+# Adds a question about an expression and the words behind it.
+ask() {
+    name=$1
+    shift
+    expression=$1
+    shift
+    {
+        printf "\$ desk check '%s'" "$expression"
+        printf " '%s'" "$@"
+        echo
+    } >"$room/shown/$name"
+    add "$name" check "$expression" "$@" </dev/null
+}
+
+# Adds the question about the choice that the folder $2 has.
 ask_about() {
-    IFS= read -r licence <"$here/$1/expression"
-    choice=$here/$1/choice
+    name=$1
+    IFS= read -r licence <"$here/$2/expression"
+    choice=$here/$2/choice
     set --
     while IFS= read -r term; do
         set -- "$@" "$term"
     done <"$choice"
-    ask "$licence" "$@"
+    ask "$name" "$licence" "$@"
 }
 
+# Each of the following runs the cases: what one is told stands in told/NAME, its status in told/NAME.status.
+
+run_program() {
+    for name; do
+        set --
+        while IFS= read -r word; do
+            set -- "$@" "$word"
+        done <"$room/cases/$name.args"
+        status=0
+        "$desk" "$@" <"$room/cases/$name" >"$room/told/$name" || status=$?
+        echo "$status" >"$room/told/$name.status"
+    done
+}
+
+run_unproved() {
+    if ! (cd "$here/../crates/desk_program" && rt try --cases "$room/cases") >"$room/log" 2>&1; then
+        cat "$room/log"
+        exit 1
+    fi
+    awk -v told="$room/told/" '
+        /^== / { name = $2; next }
+        /^case=/ { sub(/.* status=/, ""); sub(/ .*/, ""); print >(told name ".status"); name = ""; next }
+        name != "" { print >(told name) }' "$room/log"
+}
+
+# Shows what the named cases were asked and told.
+show() {
+    for name; do
+        cat "$room/shown/$name" "$room/told/$name"
+        printf '(status %s)\n\n' "$(cat "$room/told/$name.status")"
+    done
+}
+
+# Shows requests, cut short, each with its reply.
+show_script() {
+    awk -v replies="$room/told/$1" '
+        { print "> " (length($0) > 110 ? substr($0, 1, 107) "..." : $0) }
+        (getline reply <replies) > 0 { print "< " reply }' "$room/cases/$1"
+    printf '(status %s)\n' "$(cat "$room/told/$1.status")"
+}
+
+ask_about 1-unicode-ident unicode-ident
+ask_about 2-linux-tls linux-tls
+IFS= read -r licence <"$here/unicode-ident/expression"
+ask 3-too-many "$licence" MIT Apache-2.0 Unicode-3.0
+ask 4-too-few "$licence" MIT
+cat "$here/first-release/script.jsonl" "$here/first-release/duties.jsonl" | add 5-release script
+
+if [ -n "$desk" ]; then
+    echo 'This is the program that was proved and built.'
+    run_program 1-unicode-ident 2-linux-tls 3-too-many 4-too-few 5-release
+else
+    command -v rt >/dev/null || { echo 'This needs rt, the Rattle toolchain.' >&2; exit 1; }
+    echo 'This runs the desk WITH NO PROOF: it is compiled and shown, and nothing is checked.'
+    echo '`make` proves each crate and builds the proved program. Compiling, which takes a minute or two ...'
+    run_unproved
+fi
+
+echo
 echo 'The choice made for the Rust crate unicode-ident, and for a header of Linux:'
 echo
-ask_about unicode-ident
-ask_about linux-tls
-
+show 1-unicode-ident 2-linux-tls
 echo 'A term too many, and one too few:'
 echo
-IFS= read -r licence <"$here/unicode-ident/expression"
-ask "$licence" MIT Apache-2.0 Unicode-3.0
-ask "$licence" MIT
-
-echo 'A first release: load a catalogue, import a document, choose, freeze, meet the duty, and count:'
+show 3-too-many 4-too-few
+echo 'A first release: requests (>), each with its reply (<). The last one asks for the duties of the release.'
 echo
-echo '$ desk script < examples/first-release/script.jsonl'
-"$desk" script <"$here/first-release/script.jsonl"
-echo '(status 0)'
-echo
-echo 'The duties of that release:'
-echo
-echo '$ (cat examples/first-release/script.jsonl; cat examples/first-release/duties.jsonl) | desk script | tail -n 1'
-cat "$here/first-release/script.jsonl" "$here/first-release/duties.jsonl" | "$desk" script | tail -n 1
+echo '$ cat examples/first-release/script.jsonl examples/first-release/duties.jsonl | desk script'
+show_script 5-release

@@ -7,15 +7,16 @@
 #   args        the words of the command line, one a line; or args.sh, which prints them
 #   run         in place of args: a shell script that is given the program as its first word
 #   stdin       standard input (none: empty)
-#   stdout      what standard output must be; or stdout.has, lines that must occur in it (none: empty)
-#   stderr.has  lines that must occur in standard error
+#   stdout      what standard output must be (none: empty)
+#   stderr      what standard error must be (none: empty)
 #   status      the exit status that is wanted (none: 0)
 #   data/       files that lie in the folder where the program runs
-# Standard error must hold some words where the status is 2 or 3, and must be empty where it is 0 or 1. What words isn't
-# fixed but where a case says it.
+# or a text NAME.dialogue of requests and the replies to them, on which `script` runs: dialogue.py says how it is written. The pages of
+# docs/ that show a dialogue are cases too, by the name of their file.
 set -eu
 
 here=$(unset CDPATH; cd -- "$(dirname -- "$0")" && pwd)
+pages=$here/../../docs
 case ${1:?the program to run} in
     /*) program=$1 ;;
     *) program=$(pwd)/$1 ;;
@@ -30,13 +31,6 @@ scratch=$(mktemp -d)
 trap 'rm -rf "$scratch"' EXIT
 trap 'exit 1' HUP INT TERM
 
-# Whether each line of the file $1 occurs in the file $2.
-has_lines() {
-    while IFS= read -r line; do
-        grep -qF -e "$line" "$2" || return 1
-    done <"$1"
-}
-
 # Runs the program on the words of the file $1, one a line.
 run_words() {
     list=$1
@@ -47,8 +41,25 @@ run_words() {
     "$program" "$@"
 }
 
+# Says where the file $2 isn't what the file $1 is, if there is such a file, and else empty; $3 names it.
+compare() {
+    expected=$1
+    [ -f "$expected" ] || expected=/dev/null
+    cmp -s "$expected" "$2" || echo "$3 is: $(head -c 400 "$2")"
+}
+
+# Runs the dialogue of the file $1, and says what is wrong, if anything.
+run_dialogue() {
+    wanted=$(python3 -B "$here/dialogue.py" "$1" "$scratch/requests" "$scratch/replies")
+    status=0
+    "$program" script <"$scratch/requests" >"$scratch/out" 2>"$scratch/err" || status=$?
+    [ "$status" -eq "$wanted" ] || echo "status $status, and not $wanted"
+    cmp -s "$scratch/replies" "$scratch/out" || diff "$scratch/replies" "$scratch/out" | head -n 6 | cut -c 1-400
+    compare "$scratch/none" "$scratch/err" 'standard error'
+}
+
 # Runs the case $1 in a folder of its own, and says what is wrong, if anything.
-run_case() {
+run_folder() {
     folder=$here/$1
     work=$scratch/work
     rm -rf "$work"
@@ -73,35 +84,24 @@ run_case() {
         (cd "$work" && run_words "$words") <"$input" >"$scratch/out" 2>"$scratch/err" || status=$?
     fi
 
-    if [ "$status" -ne "$wanted" ]; then
-        echo "status $status, and not $wanted"
-    fi
-    if [ -f "$folder/stdout.has" ]; then
-        has_lines "$folder/stdout.has" "$scratch/out" || echo "standard output lacks a line of stdout.has"
-    else
-        expected=/dev/null
-        [ ! -f "$folder/stdout" ] || expected=$folder/stdout
-        cmp -s "$expected" "$scratch/out" || echo "standard output is: $(head -c 400 "$scratch/out")"
-    fi
-    if [ -f "$folder/stderr.has" ]; then
-        has_lines "$folder/stderr.has" "$scratch/err" || echo "standard error lacks a line of stderr.has"
-    fi
-    case $wanted in
-        2 | 3) [ -s "$scratch/err" ] || echo "standard error is empty" ;;
-        *) [ ! -s "$scratch/err" ] || echo "standard error is: $(head -c 400 "$scratch/err")" ;;
-    esac
+    [ "$status" -eq "$wanted" ] || echo "status $status, and not $wanted"
+    compare "$folder/stdout" "$scratch/out" 'standard output'
+    compare "$folder/stderr" "$scratch/err" 'standard error'
 }
 
 if [ "$#" -eq 0 ]; then
-    for folder in "$here"/*/; do
-        set -- "$@" "$(basename "$folder")"
+    for case in "$here"/*/ "$here"/*.dialogue $(grep -l '^```dialogue$' "$pages"/*.md); do
+        set -- "$@" "$(basename "$case" .dialogue)"
     done
 fi
 
 passed=0
 failed=0
 for name in "$@"; do
-    wrong=$(run_case "$name")
+    case $name in
+        *.md) wrong=$(run_dialogue "$pages/$name") ;;
+        *) if [ -d "$here/$name" ]; then wrong=$(run_folder "$name"); else wrong=$(run_dialogue "$here/$name.dialogue"); fi ;;
+    esac
     if [ -z "$wrong" ]; then
         passed=$((passed + 1))
     else

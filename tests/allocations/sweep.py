@@ -1,12 +1,14 @@
 """Refuses each allocation of the program in turn: python3 tests/allocations/sweep.py PROGRAM
 
-The scripts are the first release of the examples and those of the acceptance cases, the checks those of the acceptance cases, each
-of at most 16 KiB. For each N the program runs once with its Nth allocation refused, until a run makes fewer. Then
+The scripts and the checks are those of the acceptance cases of at most 16 KiB. For each N the program runs once with its Nth
+allocation refused, until a run makes fewer. Then
 
-- a check tells its answer with its status, or nothing with status 3;
-- a script tells its replies with its status; or one reply is {"fault":"memory"}, the status is 3, and the other replies are those
-  of the script without that request, so what was accepted stands; or it stopped with status 3 for want of memory, and the
-  replies before are those of the script.
+- a check tells its answer with its status, or nothing with status 3 and its words;
+- a script tells its replies with its status; or one reply is {"fault":"memory"}, the status is 3 with its words, and the other replies
+  are those of the script without that request, so what was accepted stands and the script went on; or it stopped with status 3 and its
+  words, and what is there are whole replies, those of the script. Before the first reply it may also say that it could not begin.
+
+Each request of a script is told want of memory so at least once, but a line that is no UTF-8, which takes none.
 """
 
 import os
@@ -14,8 +16,20 @@ import subprocess
 import sys
 import tempfile
 
+HERE = os.path.dirname(os.path.abspath(__file__))
+CASES = os.path.join(HERE, "../acceptance")
+sys.path.insert(0, CASES)
+sys.dont_write_bytecode = True
+
+import dialogue
+
 BYTES = 16_384
 MEMORY = b'{"fault":"memory"}\n'
+
+WANTING = b"error: no memory is left\n"
+NOT_BEGUN = (WANTING, b"error: cannot write: out of memory\n")
+STOPPED = b"error: the script stopped: no memory is left for a line or a reply\n"
+ONE_FAILED = b"error: requests that failed: 1\n"
 
 
 class Program:
@@ -37,85 +51,111 @@ def lines(text):
     return [part + b"\n" for part in parts[:-1]] + parts[-1:]
 
 
+def is_text(line):
+    try:
+        return line.decode() is not None
+    except UnicodeDecodeError:
+        return False
+
+
 def is_blank(line):
     end = b"\r\n" if line.endswith(b"\r\n") else b"\n"
     return not line.removesuffix(end).strip(b" \t")
 
 
-def without(requests, place):
-    """The requests but for the one whose reply stands at this place: a blank line has none."""
-    replied = [n for n, line in enumerate(requests) if not is_blank(line)]
-    return b"".join(line for n, line in enumerate(requests) if n != replied[place])
+class Check:
+    """A run of `check`, and what may be told where memory is wanting."""
+
+    def __init__(self, program, words, text):
+        self.whole = program.run(words, text)[:2]
+
+    def is_right(self, stdout, status, stderr):
+        return (stdout, status) == self.whole or (stdout, status, stderr) == (b"", 3, WANTING)
+
+    def untold(self):
+        return []
 
 
-def is_right_check(whole, stdout, status, stderr):
-    if (stdout, status) == whole[:2]:
-        return True
-    return status == 3 and stdout == b"" and stderr != b""
+class Script:
+    """A run of `script`, and what may be told where memory is wanting."""
 
+    def __init__(self, program, words, text):
+        self.program, self.words = program, words
+        self.whole = program.run(words, text)[:2]
+        self.requests = lines(text)
+        self.replied = [n for n, line in enumerate(self.requests) if not is_blank(line)]
+        self.told, self.rests = set(), {}
 
-def is_right_script(program, text, whole, stdout, status, stderr):
-    if (stdout, status) == whole[:2]:
-        return True
-    if status != 3 or stderr == b"":
-        return False
-    replies = lines(stdout)
-    failed = [n for n, reply in enumerate(replies) if reply == MEMORY]
-    if not failed:
-        return whole[0].startswith(stdout)
-    if len(failed) > 1:
-        return False
-    rest = program.run(["script"], without(lines(text), failed[0]))[0]
-    return b"".join(replies[: failed[0]] + replies[failed[0] + 1 :]) == rest
+    def rest(self, place):
+        """The replies to the script without the request whose reply stands at this place."""
+        if place not in self.rests:
+            left = b"".join(line for n, line in enumerate(self.requests) if n != self.replied[place])
+            self.rests[place] = self.program.run(self.words, left)[0]
+        return self.rests[place]
+
+    def is_right(self, stdout, status, stderr):
+        if (stdout, status) == self.whole:
+            return True
+        replies = lines(stdout)
+        failed = [n for n, reply in enumerate(replies) if reply == MEMORY]
+        if not failed:
+            if status != 3 or stdout == b"" and stderr in NOT_BEGUN:
+                return status == 3
+            is_whole = stdout == b"" or stdout.endswith(b"\n")
+            return stderr == STOPPED and is_whole and self.whole[0].startswith(stdout)
+        self.told.add(failed[0])
+        others = b"".join(replies[: failed[0]] + replies[failed[0] + 1 :])
+        return status == 3 and stderr == ONE_FAILED and len(failed) == 1 and others == self.rest(failed[0])
+
+    def untold(self):
+        """The requests that were never told want of memory."""
+        return [n for n, line in enumerate(self.replied) if n not in self.told and is_text(self.requests[line])]
 
 
 def sweep(program, name, words, text):
-    whole = program.run(words, text)
+    """How many allocations were refused."""
+    run = (Script if words[0] == "script" else Check)(program, words, text)
     refused = 1
     while True:
         stdout, status, stderr, was_refused = program.run(words, text, refused)
         if not was_refused:
-            return refused - 1
-        if words[0] == "script":
-            is_right = is_right_script(program, text, whole, stdout, status, stderr)
-        else:
-            is_right = is_right_check(whole, stdout, status, stderr)
-        if not is_right:
+            break
+        if not run.is_right(stdout, status, stderr):
             sys.exit(f"{name}: allocation {refused}: status {status}, {stdout[-200:]!r}, {stderr[:200]!r}")
         refused += 1
+    if run.untold():
+        sys.exit(f"{name}: no want of memory was told for the requests {run.untold()}")
+    return refused - 1
 
 
-def cases(here):
-    first = os.path.join(here, "../../examples/first-release/script.jsonl")
-    with open(first, "rb") as script:
-        yield "first-release", ["script"], script.read()
-    folder = os.path.join(here, "../acceptance")
-    for name in sorted(os.listdir(folder)):
-        words, text = os.path.join(folder, name, "args"), os.path.join(folder, name, "stdin")
-        if not os.path.isfile(words) or os.path.getsize(words) > BYTES:
+def words_of(path):
+    """The words of a file, one a line."""
+    with open(path, "rb") as file:
+        words = file.read().decode().split("\n")
+    return words[:-1] if words[-1] == "" else words
+
+
+def cases():
+    """The name, the words and the standard input of each case that is swept."""
+    for name in sorted(os.listdir(CASES)):
+        path = os.path.join(CASES, name)
+        if name.endswith(".dialogue"):
+            requests = dialogue.read(path)[0]
+            if len(requests) <= BYTES:
+                yield name, ["script"], requests
             continue
-        with open(words, "rb") as file:
-            words = file.read().decode().split("\n")
-        words = words[:-1] if words[-1] == "" else words
-        if not words or words[0] not in ("check", "script"):
-            continue
-        if os.path.isfile(text) and os.path.getsize(text) > BYTES:
-            continue
-        if os.path.isfile(text):
-            with open(text, "rb") as file:
-                yield name, words, file.read()
-        else:
-            yield name, words, b""
+        words = os.path.join(path, "args")
+        if os.path.isfile(words) and os.path.getsize(words) <= BYTES and words_of(words)[:1] == ["check"]:
+            yield name, words_of(words), b""
 
 
 def main():
-    here = os.path.dirname(os.path.abspath(__file__))
     with tempfile.TemporaryDirectory() as room:
         library = os.path.join(room, "refuse.so")
-        subprocess.run(["cc", "-O2", "-shared", "-fPIC", "-o", library, os.path.join(here, "refuse.c"), "-ldl"], check=True)
+        subprocess.run(["cc", "-O2", "-shared", "-fPIC", "-o", library, os.path.join(HERE, "refuse.c"), "-ldl"], check=True)
         program = Program(os.path.abspath(sys.argv[1]), library, room)
         swept, runs = 0, 0
-        for name, words, text in cases(here):
+        for name, words, text in cases():
             swept, runs = swept + 1, runs + sweep(program, name, words, text)
         if swept == 0 or runs == 0:
             sys.exit("nothing was swept")
