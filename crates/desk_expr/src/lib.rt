@@ -4,7 +4,8 @@
 //! A contract sees an `Expr` as a `Tree`: one term, or All or Any of two or more parts. `Spells`
 //! (specs/Spelling.antt) says which text spells which tree by dividing whole lists of tokens;
 //! `parse` reads once from the left, with a stack of its own, and gives the tree or the first
-//! place that doesn't fit. `check_choice` says whether a set of terms satisfies the tree, each of
+//! place that doesn't fit. Operators are in capitals; `parse_in` and its like take a profile, by
+//! which small letters may write them too. `check_choice` says whether a set of terms satisfies the tree, each of
 //! them needed.
 #![tactic(auto)]
 
@@ -24,12 +25,13 @@ mod truth;
 mod word;
 
 pub use cut::{TokenCuts, is_reference};
+pub use desk_base::Profile;
 pub use expr::{Expr, Shape};
 pub use fault::ParseFault;
 pub use listing::terms;
 pub use printing::{print, print_term};
-pub use progress::parse;
+pub use progress::{parse, parse_in};
 pub use term::Term;
-pub use term_reader::parse_term;
-pub use token::{Kind, Token, tokens};
+pub use term_reader::{parse_term, parse_term_in};
+pub use token::{Kind, Token, tokens, tokens_in};
 pub use truth::{Verdict, check_choice, holds};
