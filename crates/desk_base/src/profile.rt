@@ -1,8 +1,7 @@
 //! Profiles of operators.
 
-ghost use Rattle.std.specs.Prelude.{◌≡◌, ◌≢◌, IfNone, IfSome};
-ghost use Rattle.desk_base.specs.Profiles.{profile_number};
-ghost use Rattle.desk_base.specs.declared.profile.Profile.{Profile};
+ghost use Rattle.std.specs.Prelude.{◌≡◌};
+ghost use Rattle.desk_base.specs.Profiles.{profile_number, profile_numbered};
 
 /// How the operators of a licence expression are written.
 #[derive(Clone, Copy, Debug, PartialEq, Eq)]
@@ -26,8 +25,7 @@ impl Profile {
 
     /// The profile with a number.
     pub fn numbered(number: u64) -> Option<Profile>
-        ensures found { IfSome result (λ profile. profile_number profile ≡ number) }
-        ensures none { IfNone result ((profile : Profile) → profile_number profile ≢ number) }
+        ensures { result ≡ profile_numbered number }
     {
         match number {
             1 => Some(Profile::Capitals),
