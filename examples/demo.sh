@@ -39,6 +39,13 @@ IFS= read -r licence <"$here/unicode-ident/expression"
 ask "$licence" MIT Apache-2.0 Unicode-3.0
 ask "$licence" MIT
 
+echo 'The same licence with its operators in small letters, read by the profile that takes them:'
+echo
+small=$(printf '%s' "$licence" | sed 's/ AND / and /g; s/ OR / or /g')
+echo "\$ desk check --profile 2 '$small' 'MIT' 'Unicode-3.0'"
+"$desk" check --profile 2 "$small" MIT Unicode-3.0
+printf '(status 0)\n\n'
+
 echo 'A first release: load a catalogue, import a document, choose, freeze, meet the duty, and count:'
 echo
 echo '$ desk script < examples/first-release/script.jsonl'
