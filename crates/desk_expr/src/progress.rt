@@ -98,7 +98,8 @@ pub fn parse(alloc: Global, text: &str) -> Result<Expr, ParseFault>
     parse_in(alloc, text, Profile::Capitals)
 }
 
-/// The same by a profile of operators.
+/// The expression that the text spells by a profile of operators (SPDX 2.3, Annex D), or the first
+/// place at which it stops.
 pub fn parse_in(alloc: Global, text: &str, profile: Profile) -> Result<Expr, ParseFault>
     ensures spelled { IfOk result (SpellsWithinBy profile text.now) }
     ensures stop { IfErr result (IsStopBy SpellsTree profile text.now) }

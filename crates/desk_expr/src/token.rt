@@ -55,7 +55,7 @@ pub fn tokens<'a>(text: &'a str) -> TokenCuts<'a>
     tokens_in(text, Profile::Capitals)
 }
 
-/// The same by a profile of operators.
+/// Cuts a text into its tokens as `tokens` does, with operators by the profile.
 pub fn tokens_in<'a>(text: &'a str, profile: Profile) -> TokenCuts<'a>
     ensures rest { result.rest.now ≡ text.now }
     ensures place { result.place ≡ 0 }
