@@ -26,11 +26,7 @@ fn is_no_licence(text: &str) -> bool
 }
 
 /// The expression that a value is by a profile of operators.
-fn read_expression(
-    alloc: Global,
-    text: &str,
-    profile: Profile,
-) -> Result<Option<Expr>, AllocError>
+fn read_expression(alloc: Global, text: &str, profile: Profile) -> Result<Option<Expr>, AllocError>
     ensures { IfOk result (IsRead profile text.now) }
 {
     if is_no_licence(text) {
@@ -46,11 +42,7 @@ fn read_expression(
 }
 
 /// Whether a value is a licence expression by a profile of operators.
-pub(crate) fn is_expression(
-    alloc: Global,
-    text: &str,
-    profile: Profile,
-) -> Result<bool, AllocError>
+pub(crate) fn is_expression(alloc: Global, text: &str, profile: Profile) -> Result<bool, AllocError>
     ensures { IfOk result (Tells profile text.now) }
 {
     match read_expression(alloc, text, profile)? {
