@@ -1,8 +1,9 @@
 """Times `desk check` at the limits of an expression beside bench/check.py: python3 bench/bench.py PROGRAM
 
 Each time is the best of several runs of the whole process, its start included. The first row is a
-small expression, so it is mostly the start: the last two columns have it taken off. Both programs
-have to give the same answer.
+small expression, so it is mostly the start: the last three columns have it taken off. The second of
+the desk's columns is for the same expression with its operators in small letters, read by the profile
+that takes them. All have to give the same answer.
 """
 
 import os
@@ -45,18 +46,22 @@ def main():
     desk = os.path.abspath(sys.argv[1])
     other = [sys.executable, os.path.join(os.path.dirname(os.path.abspath(__file__)), "check.py")]
     print(f"best of {RUNS} runs, in milliseconds, on one of {os.cpu_count()} processors")
-    print(f"{'case':38} {'desk':>8} {'python':>8} | {'desk':>8} {'python':>8} without the start")
+    heads = " ".join(f"{head:>8}" for head in ("desk", "either", "python"))
+    print(f"{'case':38} {heads} | {heads} without the start")
     start = None
     for name, expression, terms in cases():
-        words = [expression, *terms]
-        mine, answer = best([desk, "check", *words])
-        theirs, expected = best([*other, *words])
-        if answer != expected:
-            sys.exit(f"{name}: {answer} is not {expected}")
-        start = start or (mine, theirs)
-        times = (mine, theirs, mine - start[0], theirs - start[1])
-        whole, rest = times[:2], times[2:]
-        print(f"{name:38} " + " | ".join(" ".join(f"{t * 1000:8.2f}" for t in pair) for pair in (whole, rest)))
+        small = expression.replace(" AND ", " and ").replace(" OR ", " or ")
+        commands = (
+            [desk, "check", expression, *terms],
+            [desk, "check", "--profile", "2", small, *terms],
+            [*other, expression, *terms],
+        )
+        whole, answers = zip(*map(best, commands))
+        if answers.count(answers[-1]) != len(answers):
+            sys.exit(f"{name}: {answers[:-1]} is not {answers[-1]}")
+        start = start or whole
+        rest = [spent - first for spent, first in zip(whole, start)]
+        print(f"{name:38} " + " | ".join(" ".join(f"{t * 1000:8.2f}" for t in times) for times in (whole, rest)))
 
 
 main()

@@ -44,6 +44,13 @@ ask_about() {
     ask "$name" "$licence" "$@"
 }
 
+# Adds a question about an expression with operators in small letters.
+ask_small() {
+    small=$(printf '%s' "$licence" | sed 's/ AND / and /g; s/ OR / or /g')
+    printf "\$ desk check --profile 2 '%s' 'MIT' 'Unicode-3.0'\n" "$small" >"$room/shown/5-small"
+    add 5-small check --profile 2 "$small" MIT Unicode-3.0 </dev/null
+}
+
 # Each of the following runs the cases: what one is told stands in told/NAME, its status in told/NAME.status.
 
 run_program() {
@@ -90,11 +97,12 @@ ask_about 2-linux-tls linux-tls
 IFS= read -r licence <"$here/unicode-ident/expression"
 ask 3-too-many "$licence" MIT Apache-2.0 Unicode-3.0
 ask 4-too-few "$licence" MIT
-cat "$here/first-release/script.jsonl" "$here/first-release/duties.jsonl" | add 5-release script
+ask_small
+cat "$here/first-release/script.jsonl" "$here/first-release/duties.jsonl" | add 6-release script
 
 if [ -n "$desk" ]; then
     echo 'This is the program that was proved and built.'
-    run_program 1-unicode-ident 2-linux-tls 3-too-many 4-too-few 5-release
+    run_program 1-unicode-ident 2-linux-tls 3-too-many 4-too-few 5-small 6-release
 else
     command -v rt >/dev/null || { echo 'This needs rt, the Rattle toolchain.' >&2; exit 1; }
     echo 'This runs the desk WITH NO PROOF: it is compiled and shown, and nothing is checked.'
@@ -109,7 +117,10 @@ show 1-unicode-ident 2-linux-tls
 echo 'A term too many, and one too few:'
 echo
 show 3-too-many 4-too-few
+echo 'The same licence with its operators in small letters, read by the profile that takes them:'
+echo
+show 5-small
 echo 'A first release: requests (>), each with its reply (<). The last one asks for the duties of the release.'
 echo
 echo '$ cat examples/first-release/script.jsonl examples/first-release/duties.jsonl | desk script'
-show_script 5-release
+show_script 6-release

@@ -1,5 +1,6 @@
 //! What all crates of the desk share: the test for idstrings (SPDX 2.3, Annex D.2), names that are
-//! compared by their bytes, owned texts and lists, bytes as lines, and the desk's limits.
+//! compared by their bytes, owned texts and lists, bytes as lines, the profiles of operators, and the
+//! desk's limits.
 //!
 //! A contract sees a `Key` and a `Text` as the list of its bytes, and `Items` as the list of its
 //! items.
@@ -11,6 +12,7 @@ mod items;
 mod key;
 pub mod limits;
 mod lines;
+mod profile;
 mod text;
 
 pub use day::Day;
@@ -18,4 +20,5 @@ pub use idstring::{is_idstring, is_idstring_of_bytes};
 pub use items::Items;
 pub use key::Key;
 pub use lines::{Line, LineEnd, Lines, first_line, one_cutting};
+pub use profile::Profile;
 pub use text::Text;

@@ -2,6 +2,7 @@
 use Rattle.std.proofs.Common.{◌≡◌, ◌∙◌, ◌⊎◌, inl, inr, ℕ, ◌≤◌, nat_le, true, false, List, [], ◌∷◌, length, Option, Some, None, option_and_then, cond, sym, subst, ap, refl, le-leb}
 use Rattle.std.proofs.lemmas.Bool.{cases_Bool, leb-true, false≢true}
 use Rattle.desk_base.specs.declared.limits.TheConstants as limit
+use Rattle.desk_base.specs.declared.profile.Profile.TheVariants.{Capitals}
 use Rattle.desk_expr.specs.declared.term.Term.{Term}
 use Rattle.desk_expr.specs.Words.{with_exception, begins_like_reference}
 use Rattle.desk_expr.specs.Tokens.{Lexeme, AreTokens}
@@ -39,12 +40,12 @@ of_symbols : (text : List ℕ) (ts : List Lexeme) → AreTokens 0 text ts → le
 of_symbols text ts are short (Some t) is = (Some (printed_term t), (t, (short, (ts, are, is)), refl))
 of_symbols text ts are short None none = (
   None,
-  λ t h. none t (subst (λ us. SpellsTerm (symbols us) t) (same_tokens 0 text h.1.0 ts h.1.1 are) h.1.2),
+  λ t h. none t (subst (λ us. SpellsTerm (symbols us) t) (same_tokens Capitals 0 text h.1.0 ts h.1.1 are) h.1.2),
 )
 
 pub reading : (text : List ℕ) → (p : Option (List ℕ)) × IsTermOf text p
 reading text =
-    let tokens = tokens_exist 0 text in
+    let tokens = tokens_exist Capitals 0 text in
     elim (cases_Bool (nat_le (length text) limit.EXPRESSION_BYTES)) [
       | inl short ↦ let found = spelled (symbols tokens.0) in of_symbols text tokens.0 tokens.1 (leb-true (length text) limit.EXPRESSION_BYTES short) found.0 found.1
       | inr long ↦ (None, λ t h. absurd (no_longer (length text) long h.0))
@@ -61,7 +62,7 @@ pub same_term : (text : List ℕ) (a b : Option (List ℕ)) → IsTermOf text a 
 same_term text None None h k = refl
 same_term text None (Some q) h (t, spells, is) = absurd (h t spells)
 same_term text (Some p) None (t, spells, is) k = absurd (k t spells)
-same_term text (Some p) (Some q) (t, spells, is) (u, spells', is') = ap Some (sym is ∙ ap printed_term (spells_term_once text t u spells.1 spells'.1) ∙ is')
+same_term text (Some p) (Some q) (t, spells, is) (u, spells', is') = ap Some (sym is ∙ ap printed_term (spells_term_once Capitals text t u spells.1 spells'.1) ∙ is')
 
 pub one_catalogue : (terms others : List ℕ → Option (List ℕ)) → ReadsTerms terms → ReadsTerms others → (text : List ℕ) → catalogue_of terms text ≡ catalogue_of others text
 one_catalogue terms others h k text = λ i. catalogue_of (λ t. same_term t (terms t) (others t) (h t) (k t) i) text

@@ -7,7 +7,11 @@ use std::test::Fail;
 const FORMS: &str = r#"read {"do":"catalogue","text":"forms = [\"binary\"]\n"}
 catalogue <forms = ["binary"]␊>
 read {"do":"import","text":"SPDXVersion: SPDX-2.3\nSPDXID"}
-import <SPDXVersion: SPDX-2.3␊SPDXID> in capitals true
+import <SPDXVersion: SPDX-2.3␊SPDXID> in capitals
+read {"do":"import","text":"x","profile":1}
+import <x> in capitals
+read {"do":"import","text":"x","profile":2}
+import <x> in either
 read {"do":"open","release":"r1","form":"binary"}
 open <r1> for <binary>
 read {"do":"attach","release":"r1","document":1}
@@ -40,8 +44,10 @@ read {\"do\":\"open\",\"release\":\"r1\",\"do\":\"freeze\",\"day\":\"2025-03-03\
 freeze <r1> on <2025-03-03>
 read {\"ask\":\"totals\",\"release\":1,\"release\":\"r1\"}
 totals of <r1>
+read {\"profile\":1,\"text\":\"\",\"do\":\"import\",\"profile\":2}
+import <> in either
 read {\"do\":\"import\",\"text\":\"«65536:0123456789abcdef»\"}
-import <«65536:0123456789abcdef»> in capitals true
+import <«65536:0123456789abcdef»> in capitals
 ";
 
 /// A member that is missing, a member too many, and members of another kind.
@@ -54,6 +60,30 @@ no request
 read {"do":"import"}
 no request
 read {"do":"import","text":"","profile":"either"}
+no request
+read {"do":"import","text":"","profile":"2"}
+no request
+read {"do":"import","text":"","profile":0}
+no request
+read {"do":"import","text":"","profile":3}
+no request
+read {"do":"import","text":"","profile":-2}
+no request
+read {"do":"import","text":"","profile":2.0}
+no request
+read {"do":"import","text":"","profile":9223372036854775809}
+no request
+read {"do":"import","text":"","profile":null}
+no request
+read {"do":"import","text":"","profile":[2]}
+no request
+read {"do":"import","profile":2}
+no request
+read {"do":"import","text":"","Profile":2}
+no request
+read {"do":"import","text":"","profile":2,"release":"r1"}
+no request
+read {"do":"catalogue","text":"","profile":2}
 no request
 read {"do":"import","text":null}
 no request

@@ -141,3 +141,78 @@ const TWO_DOCUMENTS: &str =
 fn numbers_duties_by_document_package_term_and_code(rt: HostRuntime) -> Result<(), Fail> {
     follow(&rt, rt.alloc(), &[TWO_DOCUMENTS])
 }
+
+const IN_CAPITALS: &str =
+    r#"{"do":"catalogue","text":"forms = [\"binary\"]\n[[duty]]\ncode = \"include-text\"\ntitle = \"Ship the licence text\"\n[[rule]]\nterm = \"MIT\"\nform = \"binary\"\nduties = [\"include-text\"]\n[[text]]\nlicence = \"MIT\"\nbody = \"MIT text\"\n"}
+{"revision":1}
+{"do":"import","text":"SPDXVersion: SPDX-2.3\nDataLicense: CC0-1.0\nSPDXID: SPDXRef-DOCUMENT\nDocumentName: d1\nDocumentNamespace: https://example.org/d1\nCreator: Tool: x-1\nCreated: 2025-01-01T00:00:00Z\nPackageName: p\nSPDXID: SPDXRef-p\nPackageVersion: 1.0\nPackageDownloadLocation: NOASSERTION\nFilesAnalyzed: false\nPackageLicenseConcluded: MIT or Zlib\nPackageCopyrightText: Copyright P\n"}
+{"document":1,"new":true}
+{"do":"open","release":"r1","form":"binary"}
+{"done":true}
+{"do":"attach","release":"r1","document":1}
+{"done":true}
+{"do":"choose","release":"r1","document":1,"package":"SPDXRef-p","terms":["zlib"]}
+{"at":[1,"SPDXRef-p"],"name":"NoConclusion","refused":16}
+# imported again by the other profile, it keeps its first one
+{"do":"import","text":"SPDXVersion: SPDX-2.3\nDataLicense: CC0-1.0\nSPDXID: SPDXRef-DOCUMENT\nDocumentName: d1\nDocumentNamespace: https://example.org/d1\nCreator: Tool: x-1\nCreated: 2025-01-01T00:00:00Z\nPackageName: p\nSPDXID: SPDXRef-p\nPackageVersion: 1.0\nPackageDownloadLocation: NOASSERTION\nFilesAnalyzed: false\nPackageLicenseConcluded: MIT or Zlib\nPackageCopyrightText: Copyright P\n","profile":2}
+{"document":1,"new":false}
+{"do":"choose","release":"r1","document":1,"package":"SPDXRef-p","terms":["zlib"]}
+{"at":[1,"SPDXRef-p"],"name":"NoConclusion","refused":16}
+{"do":"freeze","release":"r1","day":"2025-03-03"}
+{"at":[1,"SPDXRef-p"],"name":"NoConclusion","refused":16}
+"#;
+
+const NAMED_CAPITALS: &str =
+    r#"{"do":"catalogue","text":"forms = [\"binary\"]\n[[duty]]\ncode = \"include-text\"\ntitle = \"Ship the licence text\"\n[[rule]]\nterm = \"MIT\"\nform = \"binary\"\nduties = [\"include-text\"]\n[[text]]\nlicence = \"MIT\"\nbody = \"MIT text\"\n"}
+{"revision":1}
+{"do":"import","text":"SPDXVersion: SPDX-2.3\nDataLicense: CC0-1.0\nSPDXID: SPDXRef-DOCUMENT\nDocumentName: d1\nDocumentNamespace: https://example.org/d1\nCreator: Tool: x-1\nCreated: 2025-01-01T00:00:00Z\nPackageName: p\nSPDXID: SPDXRef-p\nPackageVersion: 1.0\nPackageDownloadLocation: NOASSERTION\nFilesAnalyzed: false\nPackageLicenseConcluded: MIT or Zlib\nPackageCopyrightText: Copyright P\n","profile":1}
+{"document":1,"new":true}
+{"do":"open","release":"r1","form":"binary"}
+{"done":true}
+{"do":"attach","release":"r1","document":1}
+{"done":true}
+{"do":"choose","release":"r1","document":1,"package":"SPDXRef-p","terms":["zlib"]}
+{"at":[1,"SPDXRef-p"],"name":"NoConclusion","refused":16}
+"#;
+
+const IN_EITHER: &str =
+    r#"{"do":"catalogue","text":"forms = [\"binary\"]\n[[duty]]\ncode = \"include-text\"\ntitle = \"Ship the licence text\"\n[[rule]]\nterm = \"MIT\"\nform = \"binary\"\nduties = [\"include-text\"]\n[[text]]\nlicence = \"MIT\"\nbody = \"MIT text\"\n"}
+{"revision":1}
+{"do":"import","text":"SPDXVersion: SPDX-2.3\nDataLicense: CC0-1.0\nSPDXID: SPDXRef-DOCUMENT\nDocumentName: d1\nDocumentNamespace: https://example.org/d1\nCreator: Tool: x-1\nCreated: 2025-01-01T00:00:00Z\nPackageName: p\nSPDXID: SPDXRef-p\nPackageVersion: 1.0\nPackageDownloadLocation: NOASSERTION\nFilesAnalyzed: false\nPackageLicenseConcluded: MIT or Zlib\nPackageCopyrightText: Copyright P\n","profile":2}
+{"document":1,"new":true}
+{"do":"open","release":"r1","form":"binary"}
+{"done":true}
+{"do":"attach","release":"r1","document":1}
+{"done":true}
+{"do":"choose","release":"r1","document":1,"package":"SPDXRef-p","terms":["zlib"]}
+{"done":true}
+{"do":"freeze","release":"r1","day":"2025-03-03"}
+{"at":[1,"SPDXRef-p","zlib"],"name":"NoRule","refused":22}
+# imported again with operators in capitals, it keeps its first profile
+{"do":"import","text":"SPDXVersion: SPDX-2.3\nDataLicense: CC0-1.0\nSPDXID: SPDXRef-DOCUMENT\nDocumentName: d1\nDocumentNamespace: https://example.org/d1\nCreator: Tool: x-1\nCreated: 2025-01-01T00:00:00Z\nPackageName: p\nSPDXID: SPDXRef-p\nPackageVersion: 1.0\nPackageDownloadLocation: NOASSERTION\nFilesAnalyzed: false\nPackageLicenseConcluded: MIT or Zlib\nPackageCopyrightText: Copyright P\n","profile":1}
+{"document":1,"new":false}
+{"do":"import","text":"SPDXVersion: SPDX-2.3\nDataLicense: CC0-1.0\nSPDXID: SPDXRef-DOCUMENT\nDocumentName: d1\nDocumentNamespace: https://example.org/d1\nCreator: Tool: x-1\nCreated: 2025-01-01T00:00:00Z\nPackageName: p\nSPDXID: SPDXRef-p\nPackageVersion: 1.0\nPackageDownloadLocation: NOASSERTION\nFilesAnalyzed: false\nPackageLicenseConcluded: MIT or Zlib\nPackageCopyrightText: Copyright P\n"}
+{"document":1,"new":false}
+{"do":"freeze","release":"r1","day":"2025-03-03"}
+{"at":[1,"SPDXRef-p","zlib"],"name":"NoRule","refused":22}
+# another document, with operators in capitals: each is read by its own profile
+{"do":"import","text":"SPDXVersion: SPDX-2.3\nSPDXID: SPDXRef-DOCUMENT\nDocumentName: d2\nDocumentNamespace: https://example.org/d2\nPackageName: q\nSPDXID: SPDXRef-q\nPackageLicenseConcluded: MIT or Zlib\n"}
+{"document":2,"new":true}
+{"do":"attach","release":"r1","document":2}
+{"done":true}
+{"do":"choose","release":"r1","document":2,"package":"SPDXRef-q","terms":["zlib"]}
+{"at":[2,"SPDXRef-q"],"name":"NoConclusion","refused":16}
+# the terms of a choice have operators in capitals
+{"do":"choose","release":"r1","document":1,"package":"SPDXRef-p","terms":["GPL-2.0-only with x"]}
+{"at":[0],"name":"BadTerm","refused":8}
+{"do":"choose","release":"r1","document":1,"package":"SPDXRef-p","terms":["mit"]}
+{"done":true}
+"#;
+
+/// A conclusion `MIT or Zlib`: an expression or none, by the profile that its document was imported with first.
+#[test]
+fn reads_each_document_by_its_profile(rt: HostRuntime) -> Result<(), Fail> {
+    follow(&rt, rt.alloc(), &[IN_CAPITALS])?;
+    follow(&rt, rt.alloc(), &[NAMED_CAPITALS])?;
+    follow(&rt, rt.alloc(), &[IN_EITHER])
+}

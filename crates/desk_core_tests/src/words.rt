@@ -22,8 +22,8 @@ fn command_in_words(alloc: Global, command: &Command) -> Result<String, AllocErr
         Command::Import { bytes, profile } => {
             let text = str::from_utf8(bytes.as_slice()).unwrap_or("no text");
             let end = match profile {
-                Profile::Capitals => "> in capitals true",
-                _ => "> in capitals false",
+                Profile::Capitals => "> in capitals",
+                Profile::Either => "> in either",
             };
             ["import <", text, end].concat(alloc)
         }

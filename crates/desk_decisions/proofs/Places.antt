@@ -12,7 +12,7 @@ use Rattle.desk_decisions.specs.Walks.{choose_found, IsFound, IsOpenPlace}
 use Rattle.desk_decisions.specs.declared.choice.Place.{Place}
 use Rattle.desk_decisions.specs.declared.choice.Found.{Found}
 use Rattle.desk_decisions.specs.declared.choice.Found.TheVariants.{Here, Nowhere}
-use Rattle.desk_rows.specs.declared.reading.Profile.{Profile}
+use Rattle.desk_base.specs.declared.profile.Profile.{Profile}
 use Rattle.desk_rows.specs.declared.row.DocumentRow.{DocumentRow}
 use Rattle.desk_rows.specs.declared.row.PackageRow.{PackageRow}
 use Rattle.desk_rows.specs.declared.row.ReleaseRow.{ReleaseRow}

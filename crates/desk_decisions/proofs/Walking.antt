@@ -7,7 +7,7 @@ use Rattle.desk_rows.specs.Tables.{Tables}
 use Rattle.desk_history.specs.FromTables.{new_duty, rules_found, choice_found}
 use Rattle.desk_decisions.specs.Walks.{Gathers, GathersTerms, GathersPackage}
 use Rattle.desk_decisions.specs.declared.freeze.Gathered.{Gathered}
-use Rattle.desk_rows.specs.declared.reading.Profile.{Profile}
+use Rattle.desk_base.specs.declared.profile.Profile.{Profile}
 use Rattle.desk_rows.specs.declared.refusal.Refusal.{Refusal}
 use Rattle.desk_rows.specs.declared.row.DutyRow.{DutyRow}
 use Rattle.desk_rows.specs.declared.row.FrozenRow.{FrozenRow}

@@ -1,7 +1,8 @@
 -- Texts put together from tokens and blanks.
 use Rattle.std.proofs.Common.{◌≡◌, ◌∙◌, inl, inr, ℕ, ◌+◌, ◌<◌, List, [], ◌∷◌, ◌++◌, length, sym, subst, ap, refl, arith, true, length-append, append_assoc, add-zero}
 use Rattle.std.specs.Prelude.{IsTrue, All}
-use Rattle.desk_expr.specs.Words.{kind_of}
+use Rattle.desk_base.specs.declared.profile.Profile.TheVariants.{Capitals}
+use Rattle.desk_expr.specs.Words.{kind_by}
 use Rattle.desk_expr.specs.Tokens.{is_blank, is_parenthesis, is_run_byte, NoRunBegins, IsPiece, Lexeme, AreTokens}
 use Rattle.desk_expr.specs.Grammar.{Symbol}
 use Rattle.desk_expr.specs.Spelling.{symbol, symbols}
@@ -81,20 +82,20 @@ pub lexes_blank : Lexes (32 ∷ []) []
 lexes_blank place y us are = (us, blank_before place y us are, refl)
 
 -- a piece in front
-piece_before : (w : List ℕ) (place : ℕ) (y : List ℕ) (us : List Lexeme) → IsPiece w y → AreTokens (place + length w) y us → Follows place w (symbol (kind_of w) w ∷ []) y us
+piece_before : (w : List ℕ) (place : ℕ) (y : List ℕ) (us : List Lexeme) → IsPiece w y → AreTokens (place + length w) y us → Follows place w (symbol (kind_by Capitals w) w ∷ []) y us
 piece_before w place y us piece are =
-    let t : Lexeme = record { text = w; start = place; end = place + length w; kind = kind_of w } in (
+    let t : Lexeme = record { text = w; start = place; end = place + length w; kind = kind_by Capitals w } in (
       t ∷ us,
       (y, record { blanks = []; only_blanks = λ k d within. absurd (omega arith); cut = refl; start = sym (add-zero place); end = refl; piece = piece; kind = refl }, are),
       refl,
     )
 
-pub lexes_parenthesis : (b : ℕ) → is_parenthesis b ≡ true → Lexes (b ∷ []) (symbol (kind_of (b ∷ [])) (b ∷ []) ∷ [])
+pub lexes_parenthesis : (b : ℕ) → is_parenthesis b ≡ true → Lexes (b ∷ []) (symbol (kind_by Capitals (b ∷ [])) (b ∷ []) ∷ [])
 lexes_parenthesis b h place y us are = piece_before (b ∷ []) place y us (inl (h, refl)) are
 
 run_piece : (w y : List ℕ) → 0 < length w → All (λ b. IsTrue (is_run_byte b)) w → NoRunBegins y → IsPiece w y
 run_piece [] y some only stops = absurd (omega arith)
 run_piece (b ∷ bs) y some only stops = inr (only, stops)
 
-pub lexes_run : (w : List ℕ) → 0 < length w → All (λ b. IsTrue (is_run_byte b)) w → LexesAlone w (symbol (kind_of w) w ∷ [])
+pub lexes_run : (w : List ℕ) → 0 < length w → All (λ b. IsTrue (is_run_byte b)) w → LexesAlone w (symbol (kind_by Capitals w) w ∷ [])
 lexes_run w some only place y us stops are = piece_before w place y us (run_piece w y some only stops) are

@@ -3,8 +3,9 @@ use Rattle.std.proofs.Common.{◌≡◌, ◌∙◌, ◌⊎◌, inl, inr, ℕ, ze
 use Rattle.std.specs.Prelude.{IsTrue, All}
 use Rattle.std.proofs.lemmas.Bool.Decides.{nat_tests}
 use Rattle.std.proofs.lemmas.List.{append-nil}
-use Rattle.desk_expr.specs.Words.{kind_of}
-use Rattle.desk_expr.specs.Tokens.{is_blank, is_parenthesis, is_run_byte, NoRunBegins, IsPiece, Lexeme, IsFirstToken, AreTokens}
+use Rattle.desk_base.specs.declared.profile.Profile.{Profile}
+use Rattle.desk_expr.specs.Words.{kind_by}
+use Rattle.desk_expr.specs.Tokens.{is_blank, is_parenthesis, is_run_byte, NoRunBegins, IsPiece, Lexeme, IsFirstToken, AreTokensBy}
 
 -- ---- all of a list
 
@@ -103,36 +104,36 @@ first_piece b bs no_blank =
     ]
 
 -- nothing but blanks, or a first token, with less behind it
-first_exists : (place : ℕ) (bytes : List ℕ) → All Blank bytes ⊎ ((t : Lexeme) × (rest : List ℕ) × IsFirstToken place bytes t rest × (length rest < length bytes))
-first_exists place bytes = let skipped = first_blanks bytes in by_from place bytes skipped skipped.from refl
+first_exists : (profile : Profile) (place : ℕ) (bytes : List ℕ) → All Blank bytes ⊎ ((t : Lexeme) × (rest : List ℕ) × IsFirstToken profile place bytes t rest × (length rest < length bytes))
+first_exists profile place bytes = let skipped = first_blanks bytes in by_from profile place bytes skipped skipped.from refl
   where
-    by_from : (place : ℕ) (bytes : List ℕ) (skipped : FirstBlanks bytes) (from : List ℕ) → skipped.from ≡ from → All Blank bytes ⊎ ((t : Lexeme) × (rest : List ℕ) × IsFirstToken place bytes t rest × (length rest < length bytes))
-    by_from place bytes skipped [] is =
+    by_from : (profile : Profile) (place : ℕ) (bytes : List ℕ) (skipped : FirstBlanks bytes) (from : List ℕ) → skipped.from ≡ from → All Blank bytes ⊎ ((t : Lexeme) × (rest : List ℕ) × IsFirstToken profile place bytes t rest × (length rest < length bytes))
+    by_from profile place bytes skipped [] is =
         inl (subst (All Blank) (sym (skipped.cut ∙ ap (λ l. skipped.blanks ++ l) is ∙ append-nil skipped.blanks)) skipped.only)
-    by_from place bytes skipped (b ∷ bs) is =
+    by_from profile place bytes skipped (b ∷ bs) is =
         let first = first_piece b bs (skipped.stops b bs is) in
         let cut : bytes ≡ skipped.blanks ++ (first.text ++ first.rest) = skipped.cut ∙ ap (λ l. skipped.blanks ++ l) (is ∙ first.cut) in
         inr (
-          record { text = first.text; start = place + length skipped.blanks; end = place + length skipped.blanks + length first.text; kind = kind_of first.text },
+          record { text = first.text; start = place + length skipped.blanks; end = place + length skipped.blanks + length first.text; kind = kind_by profile first.text },
           first.rest,
           record { blanks = skipped.blanks; only_blanks = skipped.only; cut = cut; start = refl; end = refl; piece = first.piece; kind = refl },
           (let some = first.some in omega (arith, ap length cut, length-append skipped.blanks (first.text ++ first.rest), length-append first.text first.rest)),
         )
 
-tokens_exist_in : (n : ℕ) (place : ℕ) (bytes : List ℕ) → length bytes ≤ n → (ts : List Lexeme) × AreTokens place bytes ts
-tokens_exist_in zero place bytes few =
-    elim (first_exists place bytes) [
+tokens_exist_in : (profile : Profile) (n : ℕ) (place : ℕ) (bytes : List ℕ) → length bytes ≤ n → (ts : List Lexeme) × AreTokensBy profile place bytes ts
+tokens_exist_in profile zero place bytes few =
+    elim (first_exists profile place bytes) [
       | inl none ↦ ([], none)
       | inr (t, rest, first, shorter) ↦ absurd (omega arith)
     ]
-tokens_exist_in (suc n) place bytes few =
-    elim (first_exists place bytes) [
+tokens_exist_in profile (suc n) place bytes few =
+    elim (first_exists profile place bytes) [
       | inl none ↦ ([], none)
-      | inr (t, rest, first, shorter) ↦ let more = tokens_exist_in n t.end rest (omega arith) in (t ∷ more.0, (rest, first, more.1))
+      | inr (t, rest, first, shorter) ↦ let more = tokens_exist_in profile n t.end rest (omega arith) in (t ∷ more.0, (rest, first, more.1))
     ]
 
-pub tokens_exist : (place : ℕ) (bytes : List ℕ) → (ts : List Lexeme) × AreTokens place bytes ts
-tokens_exist place bytes = tokens_exist_in (length bytes) place bytes (omega arith)
+pub tokens_exist : (profile : Profile) (place : ℕ) (bytes : List ℕ) → (ts : List Lexeme) × AreTokensBy profile place bytes ts
+tokens_exist profile place bytes = tokens_exist_in profile (length bytes) place bytes (omega arith)
 
 -- ---- and only one list of them
 
@@ -191,17 +192,17 @@ same_piece (b ∷ bs) (c ∷ cs) x y (inr (only, stops)) (inl (k, none)) is =
     clash (is_run_byte c) (subst (λ v. is_run_byte v ≡ true) head (all_head RunByte b bs only)) (parenthesis_no_run c k)
 same_piece (b ∷ bs) (c ∷ cs) x y (inr (only, stops)) (inr (only', stops')) is = same_run (b ∷ bs) (c ∷ cs) x y only only' stops stops' is
 
-same_first : (place : ℕ) (bytes : List ℕ) (t u : Lexeme) (x y : List ℕ) → IsFirstToken place bytes t x → IsFirstToken place bytes u y → (t ≡ u) × (x ≡ y)
-same_first place bytes t u x y f g =
+same_first : (profile : Profile) (place : ℕ) (bytes : List ℕ) (t u : Lexeme) (x y : List ℕ) → IsFirstToken profile place bytes t x → IsFirstToken profile place bytes u y → (t ≡ u) × (x ≡ y)
+same_first profile place bytes t u x y f g =
     let outer = same_blanks f.blanks g.blanks (t.text ++ x) (u.text ++ y) f.only_blanks g.only_blanks (piece_no_blank t.text x f.piece) (piece_no_blank u.text y g.piece) (sym f.cut ∙ g.cut) in
     let inner = same_piece t.text u.text x y f.piece g.piece outer.1 in
     let start : t.start ≡ u.start = f.start ∙ ap (λ l. place + length l) outer.0 ∙ sym g.start in
     let end : t.end ≡ u.end = f.end ∙ (λ i. start i + length (inner.0 i)) ∙ sym g.end in
-    let kind : t.kind ≡ u.kind = f.kind ∙ ap kind_of inner.0 ∙ sym g.kind in
+    let kind : t.kind ≡ u.kind = f.kind ∙ ap (kind_by profile) inner.0 ∙ sym g.kind in
     ((λ i. record { text = inner.0 i; start = start i; end = end i; kind = kind i }), inner.1)
 
-no_token_of_blanks : (place : ℕ) (bytes : List ℕ) (t : Lexeme) (rest : List ℕ) → All Blank bytes → IsFirstToken place bytes t rest → ⊥
-no_token_of_blanks place bytes t rest only f = starts t.text f.piece f.cut
+no_token_of_blanks : (profile : Profile) (place : ℕ) (bytes : List ℕ) (t : Lexeme) (rest : List ℕ) → All Blank bytes → IsFirstToken profile place bytes t rest → ⊥
+no_token_of_blanks profile place bytes t rest only f = starts t.text f.piece f.cut
   where
     behind : (front : List ℕ) (b : ℕ) (bs : List ℕ) → All Blank (front ++ b ∷ bs) → is_blank b ≡ true
     behind [] b bs h = all_head Blank b bs h
@@ -214,12 +215,12 @@ no_token_of_blanks place bytes t rest only f = starts t.text f.piece f.cut
         let is : is_blank b ≡ true = behind f.blanks b (bs ++ rest) there in
         clash (is_blank b) is (piece_no_blank (b ∷ bs) rest p)
 
-pub same_tokens : (place : ℕ) (bytes : List ℕ) (ts us : List Lexeme) → AreTokens place bytes ts → AreTokens place bytes us → ts ≡ us
-same_tokens place bytes [] [] h k = refl
-same_tokens place bytes [] (u ∷ us) h (y, g, k) = absurd (no_token_of_blanks place bytes u y h g)
-same_tokens place bytes (t ∷ ts) [] (x, f, h) k = absurd (no_token_of_blanks place bytes t x k f)
-same_tokens place bytes (t ∷ ts) (u ∷ us) (x, f, h) (y, g, k) =
-    let first = same_first place bytes t u x y f g in
-    let moved : AreTokens t.end x us = subst (λ p. AreTokens p x us) (ap (λ (l : Lexeme). l.end) (sym first.0)) (subst (λ r. AreTokens u.end r us) (sym first.1) k) in
-    let rest = same_tokens t.end x ts us h moved in
+pub same_tokens : (profile : Profile) (place : ℕ) (bytes : List ℕ) (ts us : List Lexeme) → AreTokensBy profile place bytes ts → AreTokensBy profile place bytes us → ts ≡ us
+same_tokens profile place bytes [] [] h k = refl
+same_tokens profile place bytes [] (u ∷ us) h (y, g, k) = absurd (no_token_of_blanks profile place bytes u y h g)
+same_tokens profile place bytes (t ∷ ts) [] (x, f, h) k = absurd (no_token_of_blanks profile place bytes t x k f)
+same_tokens profile place bytes (t ∷ ts) (u ∷ us) (x, f, h) (y, g, k) =
+    let first = same_first profile place bytes t u x y f g in
+    let moved : AreTokensBy profile t.end x us = subst (λ p. AreTokensBy profile p x us) (ap (λ (l : Lexeme). l.end) (sym first.0)) (subst (λ r. AreTokensBy profile u.end r us) (sym first.1) k) in
+    let rest = same_tokens profile t.end x ts us h moved in
     (λ i. first.0 i ∷ rest i)

@@ -2,6 +2,7 @@
 use Rattle.std.proofs.Common.{◌≡◌, ◌∙◌, ◌⊎◌, inl, inr, ℕ, suc, ◌≤◌, true, false, List, [], ◌∷◌, ◌++◌, length, take, sym, subst, ap, refl, append_assoc, arith, Some, Result, Ok, Err}
 use Rattle.std.specs.Prelude.{map, IfOk, IfErr, alloc_error}
 use Rattle.std.proofs.lemmas.List.{map-append, append-nil}
+use Rattle.desk_base.specs.declared.profile.Profile.{Profile}
 use Rattle.desk_base.specs.declared.limits.TheConstants as limit
 use Rattle.desk_expr.specs.declared.cut.TokenCuts.{TokenCuts}
 use Rattle.desk_expr.specs.declared.fault.ParseFault.{ParseFault}
@@ -9,50 +10,51 @@ use Rattle.desk_expr.specs.declared.fault.ParseFault.TheVariants.{Empty, BadToke
 use Rattle.desk_expr.specs.declared.progress.Progress.{Progress}
 use Rattle.desk_expr.specs.declared.token.Token.{Token}
 use Rattle.desk_expr.specs.Tree.{Tree}
-use Rattle.desk_expr.specs.Tokens.{Lexeme, lexeme, AreTokens}
+use Rattle.desk_expr.specs.Tokens.{Lexeme, lexeme, AreTokensBy}
 use Rattle.desk_expr.specs.Given.{TokenGiven}
 use Rattle.desk_expr.specs.Grammar.{bad, SpellsTree}
-use Rattle.desk_expr.specs.Spelling.{symbol, symbol_of, symbols, AllFronts, KeepsLimits, Begins, Stands, Reason, EndReason, StopsAtToken, StopsAtEnd, IsStop, Spells, SpellsWithin}
+use Rattle.desk_expr.specs.Spelling.{symbol, symbol_of, symbols, AllFronts, KeepsLimits, Begins, Stands, Reason, EndReason, StopsAtToken, StopsAtEnd, IsStopBy, SpellsBy, SpellsWithinBy}
 use Rattle.desk_expr.specs.Progress.{StopsAfter, EndsAfter, HasRead, is_started}
 use Rattle.desk_expr.proofs.Lexing.{tokens_exist, same_tokens}
 use Rattle.desk_expr.proofs.Unambiguous.{one_tree}
 use Rattle.desk_expr.proofs.Balance.{no_bad, something}
 
 -- one text spells one tree
-pub spells_once : (text : List ℕ) (a b : Tree) → Spells text a → Spells text b → a ≡ b
-spells_once text a b (ts, are, h) (us, are', k) =
-    let same : us ≡ ts = same_tokens 0 text us ts are' are in
+pub spells_once : (profile : Profile) (text : List ℕ) (a b : Tree) → SpellsBy profile text a → SpellsBy profile text b → a ≡ b
+spells_once profile text a b (ts, are, h) (us, are', k) =
+    let same : us ≡ ts = same_tokens profile 0 text us ts are' are in
     one_tree (symbols ts) a b h (subst (λ l. SpellsTree (symbols l) b) same k)
 
 -- ---- the tokens so far
 
 -- whatever tokens the rest has, complete those so far
-abbrev pub SoFar : List ℕ → List Token → TokenCuts → Type 0
-SoFar text yielded cuts = (ts : List Lexeme) → AreTokens cuts.place cuts.rest.now ts → AreTokens 0 text (map lexeme yielded ++ ts)
+abbrev pub SoFar : Profile → List ℕ → List Token → TokenCuts → Type 0
+SoFar profile text yielded cuts = (ts : List Lexeme) → AreTokensBy cuts.profile cuts.place cuts.rest.now ts → AreTokensBy profile 0 text (map lexeme yielded ++ ts)
 
-pub so_far_none : (text : List ℕ) (cuts fresh : TokenCuts) → cuts ≡ fresh → fresh.rest.now ≡ text → fresh.place ≡ 0 → SoFar text [] cuts
-so_far_none text cuts fresh same rest place ts are =
-    let moved : AreTokens fresh.place fresh.rest.now ts = subst (λ (c : TokenCuts). AreTokens c.place c.rest.now ts) same are in
-    subst (λ p. AreTokens p text ts) place (subst (λ r. AreTokens fresh.place r ts) rest moved)
+pub so_far_none : (profile : Profile) (text : List ℕ) (cuts fresh : TokenCuts) → cuts ≡ fresh → fresh.rest.now ≡ text → fresh.place ≡ 0 → fresh.profile ≡ profile → SoFar profile text [] cuts
+so_far_none profile text cuts fresh same rest place by ts are =
+    let moved : AreTokensBy fresh.profile fresh.place fresh.rest.now ts = subst (λ (c : TokenCuts). AreTokensBy c.profile c.place c.rest.now ts) same are in
+    subst (λ o. AreTokensBy o 0 text ts) by (subst (λ p. AreTokensBy fresh.profile p text ts) place (subst (λ r. AreTokensBy fresh.profile fresh.place r ts) rest moved))
 
-pub so_far_push : (text : List ℕ) (yielded : List Token) (t : Token) (cuts new : TokenCuts) → SoFar text yielded cuts → TokenGiven cuts (Some t) new → SoFar text (yielded ++ t ∷ []) new
-so_far_push text yielded t cuts new so_far given ts after =
+pub so_far_push : (profile : Profile) (text : List ℕ) (yielded : List Token) (t : Token) (cuts new : TokenCuts) → SoFar profile text yielded cuts → TokenGiven cuts (Some t) new → SoFar profile text (yielded ++ t ∷ []) new
+so_far_push profile text yielded t cuts new so_far given ts after =
     let is : map lexeme (yielded ++ t ∷ []) ++ ts ≡ map lexeme yielded ++ lexeme t ∷ ts =
     ap (λ l. l ++ ts) (map-append lexeme yielded (t ∷ [])) ∙ append_assoc (map lexeme yielded) (lexeme t ∷ []) ts in
-    subst (AreTokens 0 text) (sym is) (so_far (lexeme t ∷ ts) (new.rest.now, given.0, subst (λ p. AreTokens p new.rest.now ts) given.1 after))
+    let moved : AreTokensBy cuts.profile t.end new.rest.now ts = subst (λ o. AreTokensBy o t.end new.rest.now ts) given.2 (subst (λ p. AreTokensBy new.profile p new.rest.now ts) given.1 after) in
+    subst (AreTokensBy profile 0 text) (sym is) (so_far (lexeme t ∷ ts) (new.rest.now, given.0, moved))
 
 pub lexemes_push : (yielded : List Token) (t : Token) → map lexeme (yielded ++ t ∷ []) ≡ map lexeme yielded ++ lexeme t ∷ []
 lexemes_push yielded t = map-append lexeme yielded (t ∷ [])
 
 -- ---- stops
 
-module _ (text : List ℕ) (yielded : List Token) (t : Token) (cuts new : TokenCuts) where
-  at_token : (f : ParseFault) → SoFar text yielded cuts → TokenGiven cuts (Some t) new → AllFronts (Stands SpellsTree) (map lexeme yielded) → Reason SpellsTree (map lexeme yielded) (lexeme t) f → StopsAtToken SpellsTree text f
+module _ (profile : Profile) (text : List ℕ) (yielded : List Token) (t : Token) (cuts new : TokenCuts) where
+  at_token : (f : ParseFault) → SoFar profile text yielded cuts → TokenGiven cuts (Some t) new → AllFronts (Stands SpellsTree) (map lexeme yielded) → Reason SpellsTree (map lexeme yielded) (lexeme t) f → StopsAtToken SpellsTree profile text f
   at_token f so_far given stands reason =
-      let behind = tokens_exist t.end new.rest.now in
+      let behind = tokens_exist cuts.profile t.end new.rest.now in
       (map lexeme yielded, lexeme t, behind.0, so_far (lexeme t ∷ behind.0) (new.rest.now, given.0, behind.1), stands, reason)
 
-  pub stop_at_token : (f : ParseFault) → length text ≤ limit.EXPRESSION_BYTES → SoFar text yielded cuts → TokenGiven cuts (Some t) new → AllFronts (Stands SpellsTree) (map lexeme yielded) → StopsAfter (map lexeme yielded) (lexeme t) f → IsStop SpellsTree text f
+  pub stop_at_token : (f : ParseFault) → length text ≤ limit.EXPRESSION_BYTES → SoFar profile text yielded cuts → TokenGiven cuts (Some t) new → AllFronts (Stands SpellsTree) (map lexeme yielded) → StopsAfter (map lexeme yielded) (lexeme t) f → IsStopBy SpellsTree profile text f
   stop_at_token (Empty p) short so_far given stands h = absurd h
   stop_at_token (BadToken p) short so_far given stands h = (short, at_token (BadToken p) so_far given stands h)
   stop_at_token (Unexpected p) short so_far given stands h = (short, inl (at_token (Unexpected p) so_far given stands h))
@@ -62,23 +64,23 @@ module _ (text : List ℕ) (yielded : List Token) (t : Token) (cuts new : TokenC
   stop_at_token (TooManyTerms p) short so_far given stands h = (short, at_token (TooManyTerms p) so_far given stands h)
   stop_at_token (Memory e) short so_far given stands h = tt
 
-at_end : (text : List ℕ) (ts : List Lexeme) (f : ParseFault) → AreTokens 0 text ts → AllFronts (Stands SpellsTree) ts → is_started ts ≡ true → EndReason SpellsTree (length text) ts f → StopsAtEnd SpellsTree text f
-at_end text [] f are stands started reason = absurd (cc)
-at_end text (t ∷ ts) f are stands started reason = (t, ts, are, stands, reason)
+at_end : (profile : Profile) (text : List ℕ) (ts : List Lexeme) (f : ParseFault) → AreTokensBy profile 0 text ts → AllFronts (Stands SpellsTree) ts → is_started ts ≡ true → EndReason SpellsTree (length text) ts f → StopsAtEnd SpellsTree profile text f
+at_end profile text [] f are stands started reason = absurd (cc)
+at_end profile text (t ∷ ts) f are stands started reason = (t, ts, are, stands, reason)
 
-nothing_started : (text : List ℕ) (ts : List Lexeme) → AreTokens 0 text ts → is_started ts ≡ false → AreTokens 0 text []
-nothing_started text [] are is = are
-nothing_started text (t ∷ ts) are is = absurd (cc)
+nothing_started : (profile : Profile) (text : List ℕ) (ts : List Lexeme) → AreTokensBy profile 0 text ts → is_started ts ≡ false → AreTokensBy profile 0 text []
+nothing_started profile text [] are is = are
+nothing_started profile text (t ∷ ts) are is = absurd (cc)
 
-pub stop_at_end : (text : List ℕ) (ts : List Lexeme) (f : ParseFault) → length text ≤ limit.EXPRESSION_BYTES → AreTokens 0 text ts → AllFronts (Stands SpellsTree) ts → EndsAfter ts (length text) f → IsStop SpellsTree text f
-stop_at_end text ts (Empty p) short are stands h = (short, nothing_started text ts are h.0, h.1)
-stop_at_end text ts (BadToken p) short are stands h = absurd h
-stop_at_end text ts (Unexpected p) short are stands h = (short, inr (at_end text ts (Unexpected p) are stands h.0 h.1))
-stop_at_end text ts (Unclosed p) short are stands h = (short, at_end text ts (Unclosed p) are stands h.0 h.1)
-stop_at_end text ts (TooDeep p) short are stands h = absurd h
-stop_at_end text ts (TooLong p) short are stands h = absurd h
-stop_at_end text ts (TooManyTerms p) short are stands h = absurd h
-stop_at_end text ts (Memory e) short are stands h = tt
+pub stop_at_end : (profile : Profile) (text : List ℕ) (ts : List Lexeme) (f : ParseFault) → length text ≤ limit.EXPRESSION_BYTES → AreTokensBy profile 0 text ts → AllFronts (Stands SpellsTree) ts → EndsAfter ts (length text) f → IsStopBy SpellsTree profile text f
+stop_at_end profile text ts (Empty p) short are stands h = (short, nothing_started profile text ts are h.0, h.1)
+stop_at_end profile text ts (BadToken p) short are stands h = absurd h
+stop_at_end profile text ts (Unexpected p) short are stands h = (short, inr (at_end profile text ts (Unexpected p) are stands h.0 h.1))
+stop_at_end profile text ts (Unclosed p) short are stands h = (short, at_end profile text ts (Unclosed p) are stands h.0 h.1)
+stop_at_end profile text ts (TooDeep p) short are stands h = absurd h
+stop_at_end profile text ts (TooLong p) short are stands h = absurd h
+stop_at_end profile text ts (TooManyTerms p) short are stands h = absurd h
+stop_at_end profile text ts (Memory e) short are stands h = tt
 
 -- ---- a text that stops spells nothing within the limits
 
@@ -96,9 +98,9 @@ symbols_split front t behind =
 begun : (front : List Lexeme) (t : Lexeme) (behind : List Lexeme) (e : Tree) → SpellsTree (symbols (front ++ t ∷ behind)) e → Begins SpellsTree (symbols (front ++ t ∷ []))
 begun front t behind e h = (symbols behind, e, subst (λ l. SpellsTree l e) (symbols_split front t behind) h)
 
-no_reason : (text : List ℕ) (f : ParseFault) (e : Tree) → StopsAtToken SpellsTree text f → SpellsWithin text e → ⊥
-no_reason text f e (front, t, behind, are, stands, reason) (short, us, are', h, keeps) =
-    let same : us ≡ front ++ t ∷ behind = same_tokens 0 text us (front ++ t ∷ behind) are' are in
+no_reason : (profile : Profile) (text : List ℕ) (f : ParseFault) (e : Tree) → StopsAtToken SpellsTree profile text f → SpellsWithinBy profile text e → ⊥
+no_reason profile text f e (front, t, behind, are, stands, reason) (short, us, are', h, keeps) =
+    let same : us ≡ front ++ t ∷ behind = same_tokens profile 0 text us (front ++ t ∷ behind) are' are in
     none f reason (subst (λ l. SpellsTree (symbols l) e) same h) (subst KeepsLimits (front_of front t behind) (subst (AllFronts KeepsLimits) same keeps (suc (length front))))
   where
     none : (f : ParseFault) → Reason SpellsTree front t f → SpellsTree (symbols (front ++ t ∷ behind)) e → KeepsLimits (front ++ t ∷ []) → ⊥
@@ -113,9 +115,9 @@ no_reason text f e (front, t, behind, are, stands, reason) (short, us, are', h, 
     none (TooManyTerms p) reason h keeps = let few = keeps.terms in absurd (omega (arith, few, reason.2))
     none (Memory m) reason h keeps = reason
 
-no_end : (text : List ℕ) (f : ParseFault) (e : Tree) → StopsAtEnd SpellsTree text f → SpellsWithin text e → ⊥
-no_end text f e (t, behind, are, stands, reason) (short, us, are', h, keeps) =
-    let same : us ≡ t ∷ behind = same_tokens 0 text us (t ∷ behind) are' are in
+no_end : (profile : Profile) (text : List ℕ) (f : ParseFault) (e : Tree) → StopsAtEnd SpellsTree profile text f → SpellsWithinBy profile text e → ⊥
+no_end profile text f e (t, behind, are, stands, reason) (short, us, are', h, keeps) =
+    let same : us ≡ t ∷ behind = same_tokens profile 0 text us (t ∷ behind) are' are in
     none f reason (subst (λ l. SpellsTree (symbols l) e) same h)
   where
     none : (f : ParseFault) → EndReason SpellsTree (length text) (t ∷ behind) f → SpellsTree (symbols (t ∷ behind)) e → ⊥
@@ -128,39 +130,39 @@ no_end text f e (t, behind, are, stands, reason) (short, us, are', h, keeps) =
     none (TooManyTerms p) reason h = reason
     none (Memory m) reason h = reason
 
-no_tokens : (text : List ℕ) (e : Tree) → AreTokens 0 text [] → SpellsWithin text e → ⊥
-no_tokens text e are (short, us, are', h, keeps) =
-    let same : us ≡ [] = same_tokens 0 text us [] are' are in
+no_tokens : (profile : Profile) (text : List ℕ) (e : Tree) → AreTokensBy profile 0 text [] → SpellsWithinBy profile text e → ⊥
+no_tokens profile text e are (short, us, are', h, keeps) =
+    let same : us ≡ [] = same_tokens profile 0 text us [] are' are in
     something e (subst (λ l. SpellsTree (symbols l) e) same h)
 
-pub stop_spells_nothing : (text : List ℕ) (f : ParseFault) → IsStop SpellsTree text f → (f ≡ Memory alloc_error) ⊎ ((e : Tree) → SpellsWithin text e → ⊥)
-stop_spells_nothing text (Empty p) h = inr (λ e within. no_tokens text e h.1 within)
-stop_spells_nothing text (BadToken p) h = inr (λ e within. no_reason text (BadToken p) e h.1 within)
-stop_spells_nothing text (Unexpected p) h =
-    inr (λ e within. elim h.1 [ inl a ↦ no_reason text (Unexpected p) e a within | inr b ↦ no_end text (Unexpected p) e b within ])
-stop_spells_nothing text (Unclosed p) h = inr (λ e within. no_end text (Unclosed p) e h.1 within)
-stop_spells_nothing text (TooDeep p) h = inr (λ e within. no_reason text (TooDeep p) e h.1 within)
-stop_spells_nothing text (TooLong p) h = inr (λ e within. absurd (omega (arith, h.0, within.0)))
-stop_spells_nothing text (TooManyTerms p) h = inr (λ e within. no_reason text (TooManyTerms p) e h.1 within)
-stop_spells_nothing text (Memory m) h = inl refl
+pub stop_spells_nothing : (profile : Profile) (text : List ℕ) (f : ParseFault) → IsStopBy SpellsTree profile text f → (f ≡ Memory alloc_error) ⊎ ((e : Tree) → SpellsWithinBy profile text e → ⊥)
+stop_spells_nothing profile text (Empty p) h = inr (λ e within. no_tokens profile text e h.1 within)
+stop_spells_nothing profile text (BadToken p) h = inr (λ e within. no_reason profile text (BadToken p) e h.1 within)
+stop_spells_nothing profile text (Unexpected p) h =
+    inr (λ e within. elim h.1 [ inl a ↦ no_reason profile text (Unexpected p) e a within | inr b ↦ no_end profile text (Unexpected p) e b within ])
+stop_spells_nothing profile text (Unclosed p) h = inr (λ e within. no_end profile text (Unclosed p) e h.1 within)
+stop_spells_nothing profile text (TooDeep p) h = inr (λ e within. no_reason profile text (TooDeep p) e h.1 within)
+stop_spells_nothing profile text (TooLong p) h = inr (λ e within. absurd (omega (arith, h.0, within.0)))
+stop_spells_nothing profile text (TooManyTerms p) h = inr (λ e within. no_reason profile text (TooManyTerms p) e h.1 within)
+stop_spells_nothing profile text (Memory m) h = inl refl
 
-pub faults_spell_nothing : (text : List ℕ) (r : Result Tree ParseFault) → IfErr r (IsStop SpellsTree text) → IfErr r (λ f. (f ≡ Memory alloc_error) ⊎ ((e : Tree) → SpellsWithin text e → ⊥))
-faults_spell_nothing text (Ok e) h = h
-faults_spell_nothing text (Err f) h = stop_spells_nothing text f h
+pub faults_spell_nothing : (profile : Profile) (text : List ℕ) (r : Result Tree ParseFault) → IfErr r (IsStopBy SpellsTree profile text) → IfErr r (λ f. (f ≡ Memory alloc_error) ⊎ ((e : Tree) → SpellsWithinBy profile text e → ⊥))
+faults_spell_nothing profile text (Ok e) h = h
+faults_spell_nothing profile text (Err f) h = stop_spells_nothing profile text f h
 
 -- ---- the end of the loop
 
-module _ (text : List ℕ) (ts : List Lexeme) (short : length text ≤ limit.EXPRESSION_BYTES) (are : AreTokens 0 text ts) (stands : AllFronts (Stands SpellsTree) ts) where
+module _ (profile : Profile) (text : List ℕ) (ts : List Lexeme) (short : length text ≤ limit.EXPRESSION_BYTES) (are : AreTokensBy profile 0 text ts) (stands : AllFronts (Stands SpellsTree) ts) where
   keeps_limits : AllFronts KeepsLimits ts
   keeps_limits n = record { depth = (stands n).depth; terms = (stands n).terms }
 
-  pub spelled_at_end : (r : Result Tree ParseFault) → IfOk r (λ e. SpellsTree (symbols ts) e) → IfOk r (SpellsWithin text)
+  pub spelled_at_end : (r : Result Tree ParseFault) → IfOk r (λ e. SpellsTree (symbols ts) e) → IfOk r (SpellsWithinBy profile text)
   spelled_at_end (Ok e) h = (short, ts, are, h, keeps_limits)
   spelled_at_end (Err f) h = h
 
-  pub stopped_at_end : (r : Result Tree ParseFault) → IfErr r (EndsAfter ts (length text)) → IfErr r (IsStop SpellsTree text)
+  pub stopped_at_end : (r : Result Tree ParseFault) → IfErr r (EndsAfter ts (length text)) → IfErr r (IsStopBy SpellsTree profile text)
   stopped_at_end (Ok e) h = h
-  stopped_at_end (Err f) h = stop_at_end text ts f short are stands h
+  stopped_at_end (Err f) h = stop_at_end profile text ts f short are stands h
 
 -- what holds of all fronts that have been read, at the one that was
 pub spelled_by : (ts : List Lexeme) (m : Progress) (r : Result Tree ParseFault) → IfOk r (λ e. (front : List Lexeme) → HasRead front m → SpellsTree (symbols front) e) → HasRead ts m → IfOk r (λ e. SpellsTree (symbols ts) e)

@@ -2,6 +2,7 @@
 use Rattle.std.proofs.Common.{◌≡◌, ◌↔◌, ◌∙◌, ◌⊎◌, inl, inr, ℕ, zero, suc, ◌+◌, ◌-◌, ◌≤◌, Bool, true, false, List, [], ◌∷◌, ◌++◌, length, take, sym, subst, ap, refl, arith, Option, Some, None, Result, Ok, Err, length-append, length-take}
 use Rattle.std.specs.Prelude.{map, fold, IfOk, IfErr, alloc_error, ◌≢◌, ◌&&◌, not, if◌then◌else◌}
 use Rattle.std.proofs.lemmas.List.{append-nil, length-map}
+use Rattle.desk_base.specs.declared.profile.Profile.{Profile}
 use Rattle.desk_base.specs.declared.limits.TheConstants as limit
 use Rattle.desk_expr.specs.declared.cut.TokenCuts.{TokenCuts}
 use Rattle.desk_expr.specs.declared.fault.ParseFault.{ParseFault}
@@ -16,10 +17,10 @@ use Rattle.desk_expr.specs.declared.word.Halt.{Halt}
 use Rattle.desk_expr.specs.declared.word.Halt.TheVariants as halt
 use Rattle.desk_expr.specs.Halting.{fault_at}
 use Rattle.desk_expr.specs.Words.{with_exception}
-use Rattle.desk_expr.specs.Tokens.{Lexeme, lexeme, AreTokens}
+use Rattle.desk_expr.specs.Tokens.{Lexeme, lexeme, AreTokensBy}
 use Rattle.desk_expr.specs.Given.{TokenGiven}
 use Rattle.desk_expr.specs.Grammar.{Symbol, with_word, word, bad, SpellsTerm, bare, excepted}
-use Rattle.desk_expr.specs.Spelling.{symbol, symbol_of, symbols, open_after, is_word, is_with, operand_words_after, closings, AllFronts, Begins, Stands, Reason, EndReason, StopsAtToken, StopsAtEnd, IsStop, SpellsTermAlone, SpellsTermWithin}
+use Rattle.desk_expr.specs.Spelling.{symbol, symbol_of, symbols, open_after, is_word, is_with, operand_words_after, closings, AllFronts, Begins, Stands, Reason, EndReason, StopsAtToken, StopsAtEnd, IsStopBy, SpellsTermAloneBy, SpellsTermWithinBy}
 use Rattle.desk_expr.specs.TermReading.{TermRest, HasBegun, TermSteps, TermStops, TermEnds, TermFalls}
 use Rattle.desk_expr.proofs.Lexing.{tokens_exist, same_tokens}
 use Rattle.desk_expr.proofs.ProgressLemmas.{symbols_push, fronts_push}
@@ -201,11 +202,11 @@ module _ (front : List Lexeme) (t : Lexeme) (m : TermState) (read : TermRead fro
 
 -- ---- a whole text
 
-only_memory : (text : List ℕ) (f : ParseFault) → f ≡ Memory alloc_error → IsStop SpellsTerm text f
-only_memory text f is = subst (IsStop SpellsTerm text) (sym is) tt
+only_memory : (profile : Profile) (text : List ℕ) (f : ParseFault) → f ≡ Memory alloc_error → IsStopBy SpellsTerm profile text f
+only_memory profile text f is = subst (IsStopBy SpellsTerm profile text) (sym is) tt
 
-module _ (text : List ℕ) (yielded : List Token) (t : Token) (cuts new : TokenCuts) where
-  at_token : (f : ParseFault) → length text ≤ limit.EXPRESSION_BYTES → StopsAtToken SpellsTerm text f → Reason SpellsTerm (map lexeme yielded) (lexeme t) f → IsStop SpellsTerm text f
+module _ (profile : Profile) (text : List ℕ) (yielded : List Token) (t : Token) (cuts new : TokenCuts) where
+  at_token : (f : ParseFault) → length text ≤ limit.EXPRESSION_BYTES → StopsAtToken SpellsTerm profile text f → Reason SpellsTerm (map lexeme yielded) (lexeme t) f → IsStopBy SpellsTerm profile text f
   at_token (Empty p) short at reason = absurd reason
   at_token (BadToken p) short at reason = (short, at)
   at_token (Unexpected p) short at reason = (short, inl at)
@@ -215,10 +216,10 @@ module _ (text : List ℕ) (yielded : List Token) (t : Token) (cuts new : TokenC
   at_token (TooManyTerms p) short at reason = (short, at)
   at_token (Memory e) short at reason = tt
 
-  pub stop_at_token : (f : ParseFault) → length text ≤ limit.EXPRESSION_BYTES → SoFar text yielded cuts → TokenGiven cuts (Some t) new → AllFronts (Stands SpellsTerm) (map lexeme yielded) → (f ≡ Memory alloc_error) ⊎ Reason SpellsTerm (map lexeme yielded) (lexeme t) f → IsStop SpellsTerm text f
-  stop_at_token f short so_far given stands (inl is) = only_memory text f is
+  pub stop_at_token : (f : ParseFault) → length text ≤ limit.EXPRESSION_BYTES → SoFar profile text yielded cuts → TokenGiven cuts (Some t) new → AllFronts (Stands SpellsTerm) (map lexeme yielded) → (f ≡ Memory alloc_error) ⊎ Reason SpellsTerm (map lexeme yielded) (lexeme t) f → IsStopBy SpellsTerm profile text f
+  stop_at_token f short so_far given stands (inl is) = only_memory profile text f is
   stop_at_token f short so_far given stands (inr reason) =
-      let behind = tokens_exist t.end new.rest.now in
+      let behind = tokens_exist cuts.profile t.end new.rest.now in
       at_token f short (map lexeme yielded, lexeme t, behind.0, so_far (lexeme t ∷ behind.0) (new.rest.now, given.0, behind.1), stands, reason) reason
 
 -- an exception doesn't stand first
@@ -242,25 +243,25 @@ word_ends v t = ((λ h. elim h [ inl a ↦ a.1 | inr (u, x, e, same) ↦ absurd 
 pub done_ends : (v : Term) → TermEnds (state.Done v) v
 done_ends v t = ((λ h. h.1), (λ h. (refl, h)))
 
-module _ (text : List ℕ) (ts : List Lexeme) (m : TermState) (short : length text ≤ limit.EXPRESSION_BYTES) (are : AreTokens 0 text ts) (read : TermRead ts m) where
-  pub spelled_at_end : (r : Result Term ParseFault) → IfOk r (TermEnds m) → IfOk r (SpellsTermWithin text)
+module _ (profile : Profile) (text : List ℕ) (ts : List Lexeme) (m : TermState) (short : length text ≤ limit.EXPRESSION_BYTES) (are : AreTokensBy profile 0 text ts) (read : TermRead ts m) where
+  pub spelled_at_end : (r : Result Term ParseFault) → IfOk r (TermEnds m) → IfOk r (SpellsTermWithinBy profile text)
   spelled_at_end (Ok t) h =
       (short, (ts, are, subst (λ l. SpellsTerm l t) (append-nil (symbols ts)) ((read.rest [] t).1 ((h t).1 refl))))
   spelled_at_end (Err f) h = h
 
-  falls : (m : TermState) → TermRead ts m → (f : ParseFault) → TermFalls m (length text) f → IsStop SpellsTerm text f
+  falls : (m : TermState) → TermRead ts m → (f : ParseFault) → TermFalls m (length text) f → IsStopBy SpellsTerm profile text f
   falls state.Start read f is =
-      subst (IsStop SpellsTerm text) (sym is) (short, subst (AreTokens 0 text) (read.start tt) are, refl)
+      subst (IsStopBy SpellsTerm profile text) (sym is) (short, subst (AreTokensBy profile 0 text) (read.start tt) are, refl)
   falls (state.Word v) read f is = absurd is
   falls (state.Done v) read f is = absurd is
   falls (state.Exception v) read f is =
-      subst (IsStop SpellsTerm text) (sym is) (short, inr (at_end ts are read))
+      subst (IsStopBy SpellsTerm profile text) (sym is) (short, inr (at_end ts are read))
     where
-      at_end : (us : List Lexeme) → AreTokens 0 text us → TermRead us (state.Exception v) → StopsAtEnd SpellsTerm text (Unexpected (length text))
+      at_end : (us : List Lexeme) → AreTokensBy profile 0 text us → TermRead us (state.Exception v) → StopsAtEnd SpellsTerm profile text (Unexpected (length text))
       at_end [] are read = absurd (no_exception_first v (λ r t. (read.rest r t).1))
       at_end (t ∷ us) are read = (t, us, are, read.stands, ((λ (n, u, h). exception_open v n u ((read.rest (closings n) u).0 h)), refl))
 
-  pub stopped_at_end : (r : Result Term ParseFault) → IfErr r (TermFalls m (length text)) → IfErr r (IsStop SpellsTerm text)
+  pub stopped_at_end : (r : Result Term ParseFault) → IfErr r (TermFalls m (length text)) → IfErr r (IsStopBy SpellsTerm profile text)
   stopped_at_end (Ok t) h = h
   stopped_at_end (Err f) h = falls m read f h
 
@@ -280,9 +281,9 @@ one_term r a b h k =
       ]
     ]
 
-pub spells_term_once : (text : List ℕ) (a b : Term) → SpellsTermAlone text a → SpellsTermAlone text b → a ≡ b
-spells_term_once text a b (ts, are, h) (us, are', k) =
-    let same : us ≡ ts = same_tokens 0 text us ts are' are in
+pub spells_term_once : (profile : Profile) (text : List ℕ) (a b : Term) → SpellsTermAloneBy profile text a → SpellsTermAloneBy profile text b → a ≡ b
+spells_term_once profile text a b (ts, are, h) (us, are', k) =
+    let same : us ≡ ts = same_tokens profile 0 text us ts are' are in
     one_term (symbols ts) a b h (subst (λ l. SpellsTerm (symbols l) b) same k)
 
 -- ---- a text that stops spells no term
@@ -295,9 +296,9 @@ good_term ss t h (a ∷ b ∷ c ∷ front) behind is =
     let few = term_short ss t h in
     absurd (omega (arith, few, ap length is, length-append front (bad ∷ behind)))
 
-no_reason : (text : List ℕ) (f : ParseFault) (e : Term) → StopsAtToken SpellsTerm text f → SpellsTermWithin text e → ⊥
-no_reason text f e (front, t, behind, are, stands, reason) (short, (us, are', h)) =
-    let same : us ≡ front ++ t ∷ behind = same_tokens 0 text us (front ++ t ∷ behind) are' are in
+no_reason : (profile : Profile) (text : List ℕ) (f : ParseFault) (e : Term) → StopsAtToken SpellsTerm profile text f → SpellsTermWithinBy profile text e → ⊥
+no_reason profile text f e (front, t, behind, are, stands, reason) (short, (us, are', h)) =
+    let same : us ≡ front ++ t ∷ behind = same_tokens profile 0 text us (front ++ t ∷ behind) are' are in
     none f reason (subst (λ l. SpellsTerm (symbols l) e) same h)
   where
     none : (f : ParseFault) → Reason SpellsTerm front t f → SpellsTerm (symbols (front ++ t ∷ behind)) e → ⊥
@@ -314,9 +315,9 @@ no_reason text f e (front, t, behind, are, stands, reason) (short, (us, are', h)
         let stand = short_stands (front ++ t ∷ []) reason.0 in let few = stand.terms in absurd (omega (arith, few, reason.2))
     none (Memory m) reason h = reason
 
-no_end : (text : List ℕ) (f : ParseFault) (e : Term) → StopsAtEnd SpellsTerm text f → SpellsTermWithin text e → ⊥
-no_end text f e (t, behind, are, stands, reason) (short, (us, are', h)) =
-    let same : us ≡ t ∷ behind = same_tokens 0 text us (t ∷ behind) are' are in
+no_end : (profile : Profile) (text : List ℕ) (f : ParseFault) (e : Term) → StopsAtEnd SpellsTerm profile text f → SpellsTermWithinBy profile text e → ⊥
+no_end profile text f e (t, behind, are, stands, reason) (short, (us, are', h)) =
+    let same : us ≡ t ∷ behind = same_tokens profile 0 text us (t ∷ behind) are' are in
     none f reason (subst (λ l. SpellsTerm (symbols l) e) same h)
   where
     none : (f : ParseFault) → EndReason SpellsTerm (length text) (t ∷ behind) f → SpellsTerm (symbols (t ∷ behind)) e → ⊥
@@ -329,22 +330,22 @@ no_end text f e (t, behind, are, stands, reason) (short, (us, are', h)) =
     none (TooManyTerms p) reason h = reason
     none (Memory m) reason h = reason
 
-no_tokens : (text : List ℕ) (e : Term) → AreTokens 0 text [] → SpellsTermWithin text e → ⊥
-no_tokens text e are (short, (us, are', h)) =
-    let same : us ≡ [] = same_tokens 0 text us [] are' are in
+no_tokens : (profile : Profile) (text : List ℕ) (e : Term) → AreTokensBy profile 0 text [] → SpellsTermWithinBy profile text e → ⊥
+no_tokens profile text e are (short, (us, are', h)) =
+    let same : us ≡ [] = same_tokens profile 0 text us [] are' are in
     elim (term_inv [] e (subst (λ l. SpellsTerm (symbols l) e) same h)) [ inl (o, is) ↦ cc | inr (v, u, o, x, is, k) ↦ cc ]
 
-pub stop_spells_no_term : (text : List ℕ) (f : ParseFault) → IsStop SpellsTerm text f → (f ≡ Memory alloc_error) ⊎ ((e : Term) → SpellsTermWithin text e → ⊥)
-stop_spells_no_term text (Empty p) h = inr (λ e within. no_tokens text e h.1 within)
-stop_spells_no_term text (BadToken p) h = inr (λ e within. no_reason text (BadToken p) e h.1 within)
-stop_spells_no_term text (Unexpected p) h =
-    inr (λ e within. elim h.1 [ inl a ↦ no_reason text (Unexpected p) e a within | inr b ↦ no_end text (Unexpected p) e b within ])
-stop_spells_no_term text (Unclosed p) h = inr (λ e within. no_end text (Unclosed p) e h.1 within)
-stop_spells_no_term text (TooDeep p) h = inr (λ e within. no_reason text (TooDeep p) e h.1 within)
-stop_spells_no_term text (TooLong p) h = inr (λ e within. absurd (omega (arith, h.0, within.0)))
-stop_spells_no_term text (TooManyTerms p) h = inr (λ e within. no_reason text (TooManyTerms p) e h.1 within)
-stop_spells_no_term text (Memory m) h = inl refl
+pub stop_spells_no_term : (profile : Profile) (text : List ℕ) (f : ParseFault) → IsStopBy SpellsTerm profile text f → (f ≡ Memory alloc_error) ⊎ ((e : Term) → SpellsTermWithinBy profile text e → ⊥)
+stop_spells_no_term profile text (Empty p) h = inr (λ e within. no_tokens profile text e h.1 within)
+stop_spells_no_term profile text (BadToken p) h = inr (λ e within. no_reason profile text (BadToken p) e h.1 within)
+stop_spells_no_term profile text (Unexpected p) h =
+    inr (λ e within. elim h.1 [ inl a ↦ no_reason profile text (Unexpected p) e a within | inr b ↦ no_end profile text (Unexpected p) e b within ])
+stop_spells_no_term profile text (Unclosed p) h = inr (λ e within. no_end profile text (Unclosed p) e h.1 within)
+stop_spells_no_term profile text (TooDeep p) h = inr (λ e within. no_reason profile text (TooDeep p) e h.1 within)
+stop_spells_no_term profile text (TooLong p) h = inr (λ e within. absurd (omega (arith, h.0, within.0)))
+stop_spells_no_term profile text (TooManyTerms p) h = inr (λ e within. no_reason profile text (TooManyTerms p) e h.1 within)
+stop_spells_no_term profile text (Memory m) h = inl refl
 
-pub faults_spell_no_term : (text : List ℕ) (r : Result Term ParseFault) → IfErr r (IsStop SpellsTerm text) → IfErr r (λ f. (f ≡ Memory alloc_error) ⊎ ((e : Term) → SpellsTermWithin text e → ⊥))
-faults_spell_no_term text (Ok e) h = h
-faults_spell_no_term text (Err f) h = stop_spells_no_term text f h
+pub faults_spell_no_term : (profile : Profile) (text : List ℕ) (r : Result Term ParseFault) → IfErr r (IsStopBy SpellsTerm profile text) → IfErr r (λ f. (f ≡ Memory alloc_error) ⊎ ((e : Term) → SpellsTermWithinBy profile text e → ⊥))
+faults_spell_no_term profile text (Ok e) h = h
+faults_spell_no_term profile text (Err f) h = stop_spells_no_term profile text f h

@@ -12,10 +12,11 @@ use Rattle.std.proofs.lemmas.List.Sums.{AllPass-from_list_all}
 use Rattle.std.proofs.lemmas.List.Folds.{list_all-append}
 use Rattle.desk_base.specs.Idstring.{is_idstring_byte, is_idstring}
 use Rattle.desk_base.specs.Folded.{folded}
+use Rattle.desk_base.specs.declared.profile.Profile.TheVariants.{Capitals}
 use Rattle.desk_expr.specs.declared.term.Term.{Term}
 use Rattle.desk_expr.specs.declared.token.Kind.{Kind}
 use Rattle.desk_expr.specs.declared.token.Kind.TheVariants.{Licence, LicenceOrLater, Reference}
-use Rattle.desk_expr.specs.Words.{is_local_reference, is_reference_of_document, is_reference, begins_like_reference, is_licence_or_later, without_last, word_kind, kind_of, is_folded_id, is_exception, is_term}
+use Rattle.desk_expr.specs.Words.{is_local_reference, is_reference_of_document, is_reference, begins_like_reference, is_licence_or_later, without_last, word_kind, kind_by, is_folded_id, is_exception, is_term}
 use Rattle.desk_expr.specs.Tokens.{is_run_byte}
 use Rattle.desk_expr.specs.Grammar.{Symbol, word}
 use Rattle.desk_expr.specs.Spelling.{symbol}
@@ -40,7 +41,7 @@ first_is w b = (bs : List ℕ) × (w ≡ b ∷ bs)
 
 -- a kind from the tests
 kind_from : (w : List ℕ) (k : Kind) → bytes_eq w (codes "(") ≡ false → bytes_eq w (codes ")") ≡ false → bytes_eq w (codes "AND") ≡ false → bytes_eq w (codes "OR") ≡ false → bytes_eq w (codes "WITH") ≡ false
-    → word_kind w ≡ k → kind_of w ≡ k
+    → word_kind w ≡ k → kind_by Capitals w ≡ k
 kind_from w k no_opening no_closing no_and no_or no_with is = rw (no_opening, no_closing, no_and, no_or, no_with) is
 
 -- ---- folded ids
@@ -142,7 +143,7 @@ id_no_name w v h =
     let head = some_first w bytes.2 in
     no_name (w ++ v) head.0 (head.1 ++ v) (ap (λ l. l ++ v) head.2) (head_test head.0 head.1 (subst (λ l. list_all is_idstring_byte l ≡ true) head.2 bytes.0)) (no_capital head.0 head.1 w head.2 bytes.1)
 
-pub licence_kind : (w : List ℕ) → is_folded_id w ≡ true → kind_of w ≡ Licence
+pub licence_kind : (w : List ℕ) → is_folded_id w ≡ true → kind_by Capitals w ≡ Licence
 licence_kind w h =
     let name : NoName w = subst NoName (append-nil w) (id_no_name w [] h) in
     let id : is_idstring w ≡ true = (and_true (is_idstring w) (bytes_eq (folded w) w) h).0 in
@@ -179,7 +180,7 @@ plus_ends w =
     (bytes_eq-Decides (codes "+") (drop (length (w ++ codes "+") - 1) (w ++ codes "+"))).1
     (sym (drop_all w (codes "+") (length (w ++ codes "+") - 1) (omega (arith, length-append w (codes "+")))))
 
-pub or_later_kind : (w : List ℕ) → is_folded_id w ≡ true → kind_of (w ++ codes "+") ≡ LicenceOrLater
+pub or_later_kind : (w : List ℕ) → is_folded_id w ≡ true → kind_by Capitals (w ++ codes "+") ≡ LicenceOrLater
 or_later_kind w h =
     let name = id_no_name w (codes "+") h in
     let id : is_idstring (without_last (w ++ codes "+")) ≡ true = subst (λ l. is_idstring l ≡ true) (sym (plus_front w)) ((and_true (is_idstring w) (bytes_eq (folded w) w) h).0) in
@@ -220,7 +221,7 @@ other_first : (w v : List ℕ) (b c : ℕ) (bs cs : List ℕ) → w ≡ b ∷ bs
 other_first w v b c bs cs w_is v_is (inl e) no_l no_d is = no_l (cc)
 other_first w v b c bs cs w_is v_is (inr e) no_l no_d is = no_d (cc)
 
-pub reference_kind : (w : List ℕ) → is_reference w ≡ true → kind_of w ≡ Reference
+pub reference_kind : (w : List ℕ) → is_reference w ≡ true → kind_by Capitals w ≡ Reference
 reference_kind w h =
     let begins = reference_begins w h in
     let head = reference_first w begins in
@@ -292,7 +293,7 @@ reference_run w h =
 pub record IsWord (w : List ℕ) (s : Symbol) : Type 0 where
   pub some : 0 < length w
   pub run : All (λ b. IsTrue (is_run_byte b)) w
-  pub is : symbol (kind_of w) w ≡ s
+  pub is : symbol (kind_by Capitals w) w ≡ s
 
 pub all_run : (w : List ℕ) → list_all is_run_byte w ≡ true → All (λ b. IsTrue (is_run_byte b)) w
 all_run w h = AllPass-from_list_all is_run_byte w h

@@ -10,8 +10,10 @@ use Rattle.std.proofs.lemmas.Slice.Eq.{bytes_eq-Decides}
 use Rattle.std.proofs.lemmas.List.{length-map, get_or-drop}
 use Rattle.desk_base.specs.Idstring.{is_idstring_byte, is_idstring}
 use Rattle.desk_base.specs.Folded.{folded}
+use Rattle.desk_base.specs.declared.profile.Profile.{Profile}
+use Rattle.desk_expr.specs.declared.token.Kind.{Kind}
 use Rattle.desk_expr.specs.declared.token.Kind.TheVariants.{Opening, Closing, And, Or, With, Licence, LicenceOrLater, Reference, Bad}
-use Rattle.desk_expr.specs.Words.{is_reference, begins_like_reference, is_licence_or_later, without_last, kind_of, is_folded_id, is_exception, is_term}
+use Rattle.desk_expr.specs.Words.{is_reference, begins_like_reference, is_licence_or_later, without_last, is_operator, kind_by, IsWordOf, is_folded_id, is_exception, is_term}
 use Rattle.desk_expr.specs.declared.term.Term.{Term}
 
 -- ---- kinds
@@ -55,14 +57,17 @@ reference_tests false false false false false false f true l h = absurd (cc)
 reference_tests false false false false false false f false true h = absurd (cc)
 reference_tests false false false false false false f false false h = absurd (cc)
 
-pub licence_is_idstring : (w : List ℕ) → Licence ≡ kind_of w → is_idstring w ≡ true
-licence_is_idstring w h = licence_tests (bytes_eq w (codes "(")) (bytes_eq w (codes ")")) (bytes_eq w (codes "AND")) (bytes_eq w (codes "OR")) (bytes_eq w (codes "WITH")) (begins_like_reference w) (is_reference w) (is_idstring w) (is_licence_or_later w) h
-
-pub or_later_is : (w : List ℕ) → LicenceOrLater ≡ kind_of w → is_licence_or_later w ≡ true
-or_later_is w h = or_later_tests (bytes_eq w (codes "(")) (bytes_eq w (codes ")")) (bytes_eq w (codes "AND")) (bytes_eq w (codes "OR")) (bytes_eq w (codes "WITH")) (begins_like_reference w) (is_reference w) (is_idstring w) (is_licence_or_later w) h
-
-pub reference_is : (w : List ℕ) → Reference ≡ kind_of w → is_reference w ≡ true
-reference_is w h = reference_tests (bytes_eq w (codes "(")) (bytes_eq w (codes ")")) (bytes_eq w (codes "AND")) (bytes_eq w (codes "OR")) (bytes_eq w (codes "WITH")) (begins_like_reference w) (is_reference w) (is_idstring w) (is_licence_or_later w) h
+-- a token that is a word is such a word, by each profile
+pub word_of : (profile : Profile) (k : Kind) (w : List ℕ) → k ≡ kind_by profile w → IsWordOf k w
+word_of profile Opening w h = tt
+word_of profile Closing w h = tt
+word_of profile And w h = tt
+word_of profile Or w h = tt
+word_of profile With w h = tt
+word_of profile Licence w h = licence_tests (bytes_eq w (codes "(")) (bytes_eq w (codes ")")) (is_operator profile (codes "AND") (codes "and") w) (is_operator profile (codes "OR") (codes "or") w) (is_operator profile (codes "WITH") (codes "with") w) (begins_like_reference w) (is_reference w) (is_idstring w) (is_licence_or_later w) h
+word_of profile LicenceOrLater w h = or_later_tests (bytes_eq w (codes "(")) (bytes_eq w (codes ")")) (is_operator profile (codes "AND") (codes "and") w) (is_operator profile (codes "OR") (codes "or") w) (is_operator profile (codes "WITH") (codes "with") w) (begins_like_reference w) (is_reference w) (is_idstring w) (is_licence_or_later w) h
+word_of profile Reference w h = reference_tests (bytes_eq w (codes "(")) (bytes_eq w (codes ")")) (is_operator profile (codes "AND") (codes "and") w) (is_operator profile (codes "OR") (codes "or") w) (is_operator profile (codes "WITH") (codes "with") w) (begins_like_reference w) (is_reference w) (is_idstring w) (is_licence_or_later w) h
+word_of profile Bad w h = tt
 
 -- ---- folded ids
 
@@ -106,18 +111,18 @@ or_right : (x y : Bool) → y ≡ true → (x || y) ≡ true
 or_right true y h = refl
 or_right false y h = h
 
-pub licence_is_term : (w k : List ℕ) → k ≡ folded w → Licence ≡ kind_of w → is_term (record { key = k; plus = false; exception = None }) ≡ true
+pub licence_is_term : (w k : List ℕ) → k ≡ folded w → is_idstring w ≡ true → is_term (record { key = k; plus = false; exception = None }) ≡ true
 licence_is_term w k is h =
-    rw is (both_true (is_folded_id (folded w) || (is_reference (folded w) && true)) true (or_left (is_folded_id (folded w)) (is_reference (folded w) && true) (folded_id w (licence_is_idstring w h))) refl)
+    rw is (both_true (is_folded_id (folded w) || (is_reference (folded w) && true)) true (or_left (is_folded_id (folded w)) (is_reference (folded w) && true) (folded_id w h)) refl)
 
-pub or_later_is_term : (w k : List ℕ) → k ≡ folded (without_last w) → LicenceOrLater ≡ kind_of w → is_term (record { key = k; plus = true; exception = None }) ≡ true
+pub or_later_is_term : (w k : List ℕ) → k ≡ folded (without_last w) → is_licence_or_later w ≡ true → is_term (record { key = k; plus = true; exception = None }) ≡ true
 or_later_is_term w k is h =
-    let id : is_idstring (without_last w) ≡ true = (and_true (ends_with nat_eq w (codes "+")) (is_idstring (without_last w)) (or_later_is w h)).1 in
+    let id : is_idstring (without_last w) ≡ true = (and_true (ends_with nat_eq w (codes "+")) (is_idstring (without_last w)) h).1 in
     rw is (both_true (is_folded_id (folded (without_last w)) || (is_reference (folded (without_last w)) && false)) true (or_left (is_folded_id (folded (without_last w))) (is_reference (folded (without_last w)) && false) (folded_id (without_last w) id)) refl)
 
-pub reference_is_term : (w k : List ℕ) → k ≡ w → Reference ≡ kind_of w → is_term (record { key = k; plus = false; exception = None }) ≡ true
+pub reference_is_term : (w k : List ℕ) → k ≡ w → is_reference w ≡ true → is_term (record { key = k; plus = false; exception = None }) ≡ true
 reference_is_term w k is h =
-    rw is (both_true (is_folded_id w || (is_reference w && true)) true (or_right (is_folded_id w) (is_reference w && true) (both_true (is_reference w) true (reference_is w h) refl)) refl)
+    rw is (both_true (is_folded_id w || (is_reference w && true)) true (or_right (is_folded_id w) (is_reference w && true) (both_true (is_reference w) true h refl)) refl)
 
 -- a well-formed term stays one with another exception
 pub excepted_is_term : (t : Term) (x : List ℕ) → is_term t ≡ true → is_folded_id x ≡ true → is_term (record t { exception = Some x }) ≡ true
@@ -126,8 +131,8 @@ excepted_is_term t x h k =
 
 -- ---- the plus at the end
 
-pub last_is_plus : (w : List ℕ) → LicenceOrLater ≡ kind_of w → get_or w (length w - 1) 0 ≡ 43
+pub last_is_plus : (w : List ℕ) → is_licence_or_later w ≡ true → get_or w (length w - 1) 0 ≡ 43
 last_is_plus w h =
-    let ends : bytes_eq (codes "+") (drop (length w - 1) w) ≡ true = (and_true (ends_with nat_eq w (codes "+")) (is_idstring (without_last w)) (or_later_is w h)).0 in
+    let ends : bytes_eq (codes "+") (drop (length w - 1) w) ≡ true = (and_true (ends_with nat_eq w (codes "+")) (is_idstring (without_last w)) h).0 in
     let is : codes "+" ≡ drop (length w - 1) w = (bytes_eq-Decides (codes "+") (drop (length w - 1) w)).0 ends in
     ap (λ k. get_or w k 0) (sym (add-zero (length w - 1))) ∙ sym (get_or-drop (length w - 1) w 0 0) ∙ ap (λ l. get_or l 0 0) (sym is)

@@ -8,7 +8,9 @@ use Rattle.desk_expr.specs.declared.token.Kind.TheVariants as kind
 use Rattle.desk_expr.specs.declared.term.Term.{Term}
 use Rattle.desk_expr.specs.Tree.{Tree}
 use Rattle.desk_expr.specs.Words.{licence_term, or_later_term, reference_term}
-use Rattle.desk_expr.specs.Tokens.{Lexeme, AreTokens}
+use Rattle.desk_expr.specs.Tokens.{Lexeme, AreTokensBy}
+use Rattle.desk_base.specs.declared.profile.Profile.{Profile}
+use Rattle.desk_base.specs.declared.profile.Profile.TheVariants.{Capitals}
 use Rattle.desk_expr.specs.Grammar.{Symbol, opening, closing, and_word, or_word, with_word, word, bad, SpellsTree, SpellsTerm}
 use Rattle.desk_base.specs.Folded.{folded}
 use Rattle.std.specs.Prelude.{None}
@@ -70,25 +72,39 @@ pub record KeepsLimits (ts : List Lexeme) : Type 0 where
 abbrev pub AllFronts : (List Lexeme → Type 0) → List Lexeme → Type 0
 AllFronts P ts = (n : ℕ) → P (take n ts)
 
--- ---- what a text spells
+-- ---- what a text spells, read by a profile of operators
 
 -- the text spells the tree
-abbrev pub Spells : List ℕ → Tree → Type 0
-Spells text e = (ts : List Lexeme) × AreTokens 0 text ts × SpellsTree (symbols ts) e
+abbrev pub SpellsBy : Profile → List ℕ → Tree → Type 0
+SpellsBy profile text e = (ts : List Lexeme) × AreTokensBy profile 0 text ts × SpellsTree (symbols ts) e
 
 -- the text spells the tree within the limits
-abbrev pub SpellsWithin : List ℕ → Tree → Type 0
-SpellsWithin text e =
+abbrev pub SpellsWithinBy : Profile → List ℕ → Tree → Type 0
+SpellsWithinBy profile text e =
     (length text ≤ limit.EXPRESSION_BYTES)
-    × (ts : List Lexeme) × AreTokens 0 text ts × SpellsTree (symbols ts) e × AllFronts KeepsLimits ts
+    × (ts : List Lexeme) × AreTokensBy profile 0 text ts × SpellsTree (symbols ts) e × AllFronts KeepsLimits ts
 
 -- the text spells one term and nothing else
-abbrev pub SpellsTermAlone : List ℕ → Term → Type 0
-SpellsTermAlone text t = (ts : List Lexeme) × AreTokens 0 text ts × SpellsTerm (symbols ts) t
+abbrev pub SpellsTermAloneBy : Profile → List ℕ → Term → Type 0
+SpellsTermAloneBy profile text t = (ts : List Lexeme) × AreTokensBy profile 0 text ts × SpellsTerm (symbols ts) t
 
 -- and is not too long
+abbrev pub SpellsTermWithinBy : Profile → List ℕ → Term → Type 0
+SpellsTermWithinBy profile text t = (length text ≤ limit.EXPRESSION_BYTES) × SpellsTermAloneBy profile text t
+
+-- ---- the same with operators in capitals
+
+abbrev pub Spells : List ℕ → Tree → Type 0
+Spells text e = SpellsBy Capitals text e
+
+abbrev pub SpellsWithin : List ℕ → Tree → Type 0
+SpellsWithin text e = SpellsWithinBy Capitals text e
+
+abbrev pub SpellsTermAlone : List ℕ → Term → Type 0
+SpellsTermAlone text t = SpellsTermAloneBy Capitals text t
+
 abbrev pub SpellsTermWithin : List ℕ → Term → Type 0
-SpellsTermWithin text t = (length text ≤ limit.EXPRESSION_BYTES) × SpellsTermAlone text t
+SpellsTermWithin text t = SpellsTermWithinBy Capitals text t
 
 -- ---- where a text stops that spells nothing, or breaks a limit
 
@@ -130,10 +146,10 @@ module _ {A : Type 0} (Language : List Symbol → A → Type 0) where
   Reason front t (Memory error) = ⊥
 
   -- the first token that can't stand in the text, with the reason
-  abbrev pub StopsAtToken : List ℕ → ParseFault → Type 0
-  StopsAtToken text fault =
+  abbrev pub StopsAtToken : Profile → List ℕ → ParseFault → Type 0
+  StopsAtToken profile text fault =
       (front : List Lexeme) × (t : Lexeme) × (behind : List Lexeme)
-      × AreTokens 0 text (front ++ t ∷ behind) × AllFronts Stands front × Reason front t fault
+      × AreTokensBy profile 0 text (front ++ t ∷ behind) × AllFronts Stands front × Reason front t fault
 
   -- why a text of this length can't end behind the tokens
   abbrev pub EndReason : ℕ → List Lexeme → ParseFault → Type 0
@@ -150,20 +166,24 @@ module _ {A : Type 0} (Language : List Symbol → A → Type 0) where
   EndReason end ts (Memory error) = ⊥
 
   -- every token can stand, and yet the text spells nothing
-  abbrev pub StopsAtEnd : List ℕ → ParseFault → Type 0
-  StopsAtEnd text fault =
+  abbrev pub StopsAtEnd : Profile → List ℕ → ParseFault → Type 0
+  StopsAtEnd profile text fault =
       (t : Lexeme) × (behind : List Lexeme)
-      × AreTokens 0 text (t ∷ behind) × AllFronts Stands (t ∷ behind) × EndReason (length text) (t ∷ behind) fault
+      × AreTokensBy profile 0 text (t ∷ behind) × AllFronts Stands (t ∷ behind) × EndReason (length text) (t ∷ behind) fault
 
-  -- the stop of a text; want of memory may be told of any text
-  abbrev pub IsStop : List ℕ → ParseFault → Type 0
-  IsStop text (TooLong place) = (limit.EXPRESSION_BYTES < length text) × (place ≡ 0)
-  IsStop text (Empty place) = (length text ≤ limit.EXPRESSION_BYTES) × AreTokens 0 text [] × (place ≡ 0)
-  IsStop text (BadToken place) = (length text ≤ limit.EXPRESSION_BYTES) × StopsAtToken text (BadToken place)
-  IsStop text (Unexpected place) =
+  -- the stop of a text that is read by a profile; want of memory may be told of any text
+  abbrev pub IsStopBy : Profile → List ℕ → ParseFault → Type 0
+  IsStopBy profile text (TooLong place) = (limit.EXPRESSION_BYTES < length text) × (place ≡ 0)
+  IsStopBy profile text (Empty place) = (length text ≤ limit.EXPRESSION_BYTES) × AreTokensBy profile 0 text [] × (place ≡ 0)
+  IsStopBy profile text (BadToken place) = (length text ≤ limit.EXPRESSION_BYTES) × StopsAtToken profile text (BadToken place)
+  IsStopBy profile text (Unexpected place) =
       (length text ≤ limit.EXPRESSION_BYTES)
-      × (StopsAtToken text (Unexpected place) ⊎ StopsAtEnd text (Unexpected place))
-  IsStop text (Unclosed place) = (length text ≤ limit.EXPRESSION_BYTES) × StopsAtEnd text (Unclosed place)
-  IsStop text (TooDeep place) = (length text ≤ limit.EXPRESSION_BYTES) × StopsAtToken text (TooDeep place)
-  IsStop text (TooManyTerms place) = (length text ≤ limit.EXPRESSION_BYTES) × StopsAtToken text (TooManyTerms place)
-  IsStop text (Memory error) = Unit {0}
+      × (StopsAtToken profile text (Unexpected place) ⊎ StopsAtEnd profile text (Unexpected place))
+  IsStopBy profile text (Unclosed place) = (length text ≤ limit.EXPRESSION_BYTES) × StopsAtEnd profile text (Unclosed place)
+  IsStopBy profile text (TooDeep place) = (length text ≤ limit.EXPRESSION_BYTES) × StopsAtToken profile text (TooDeep place)
+  IsStopBy profile text (TooManyTerms place) = (length text ≤ limit.EXPRESSION_BYTES) × StopsAtToken profile text (TooManyTerms place)
+  IsStopBy profile text (Memory error) = Unit {0}
+
+  -- the same with operators in capitals
+  abbrev pub IsStop : List ℕ → ParseFault → Type 0
+  IsStop text fault = IsStopBy Capitals text fault

@@ -2,7 +2,9 @@
 use Rattle.std.specs.Prelude.{◌≡◌, ◌⊎◌, ℕ, ◌+◌, ◌==◌, ◌||◌, Bool, false, not, List, [], ◌∷◌, ◌++◌, length, IsTrue, All}
 use Rattle.desk_expr.specs.declared.token.Kind.{Kind}
 use Rattle.desk_expr.specs.declared.token.Token.{Token}
-use Rattle.desk_expr.specs.Words.{kind_of}
+use Rattle.desk_expr.specs.Words.{kind_by}
+use Rattle.desk_base.specs.declared.profile.Profile.{Profile}
+use Rattle.desk_base.specs.declared.profile.Profile.TheVariants.{Capitals}
 
 -- a space or a tab
 abbrev pub is_blank : ℕ → Bool
@@ -38,16 +40,20 @@ abbrev pub lexeme : Token → Lexeme
 lexeme t = record { text = t.text.now; start = t.start; end = t.end; kind = t.kind }
 
 -- the first token of the bytes from a place on: only blanks stand before it, and the rest follows it
-pub record IsFirstToken (place : ℕ) (bytes : List ℕ) (t : Lexeme) (rest : List ℕ) : Type 0 where
+pub record IsFirstToken (profile : Profile) (place : ℕ) (bytes : List ℕ) (t : Lexeme) (rest : List ℕ) : Type 0 where
   pub blanks : List ℕ
   pub only_blanks : All (λ x. IsTrue (is_blank x)) blanks
   pub cut : bytes ≡ blanks ++ (t.text ++ rest)
   pub start : t.start ≡ place + length blanks
   pub end : t.end ≡ t.start + length t.text
   pub piece : IsPiece t.text rest
-  pub kind : t.kind ≡ kind_of t.text
+  pub kind : t.kind ≡ kind_by profile t.text
 
--- the bytes from a place on are these tokens, with only blanks between them
+-- the bytes from a place on are these tokens, with only blanks between them, read by a profile of operators
+abbrev pub AreTokensBy : Profile → ℕ → List ℕ → List Lexeme → Type 0
+AreTokensBy profile place bytes [] = All (λ x. IsTrue (is_blank x)) bytes
+AreTokensBy profile place bytes (t ∷ ts) = (rest : List ℕ) × IsFirstToken profile place bytes t rest × AreTokensBy profile t.end rest ts
+
+-- the same with operators in capitals
 abbrev pub AreTokens : ℕ → List ℕ → List Lexeme → Type 0
-AreTokens place bytes [] = All (λ x. IsTrue (is_blank x)) bytes
-AreTokens place bytes (t ∷ ts) = (rest : List ℕ) × IsFirstToken place bytes t rest × AreTokens t.end rest ts
+AreTokens place bytes ts = AreTokensBy Capitals place bytes ts

@@ -1,9 +1,11 @@
 -- What a run of bytes is, and the term that a word is (SPDX 2.3, Annex D.2 and D.3).
-use Rattle.std.specs.Prelude.{ℕ, ◌-◌, ◌==◌, ◌||◌, ◌&&◌, not, Bool, true, false, List, Option, Some, None, if◌then◌else◌, length, take, drop, codes, nat_eq}
+use Rattle.std.specs.Prelude.{ℕ, ◌-◌, ◌==◌, ◌||◌, ◌&&◌, not, Bool, true, false, List, Option, Some, None, if◌then◌else◌, length, take, drop, codes, nat_eq, IsTrue}
 use Rattle.std.specs.List.{starts_with, ends_with, before_first, after_first}
 use Rattle.std.specs.Str.{bytes_eq}
 use Rattle.desk_base.specs.Idstring.{is_idstring}
 use Rattle.desk_base.specs.Folded.{folded}
+use Rattle.desk_base.specs.declared.profile.Profile.{Profile}
+use Rattle.desk_base.specs.declared.profile.Profile.TheVariants.{Capitals, Either}
 use Rattle.desk_expr.specs.declared.term.Term.{Term}
 use Rattle.desk_expr.specs.declared.token.Kind.{Kind}
 use Rattle.desk_expr.specs.declared.token.Kind.TheVariants.{Opening, Closing, And, Or, With, Licence, LicenceOrLater, Reference, Bad}
@@ -40,15 +42,27 @@ word_kind w =
     else (if is_licence_or_later w then LicenceOrLater
     else Bad))
 
--- what a token is
-abbrev pub kind_of : List ℕ → Kind
-kind_of w =
+-- an operator is written in capitals, by the profile Either also wholly in small letters; any other mixture of case is a word
+abbrev pub is_operator : Profile → List ℕ → List ℕ → List ℕ → Bool
+is_operator Capitals capitals small w = bytes_eq w capitals
+is_operator Either capitals small w = bytes_eq w capitals || bytes_eq w small
+
+-- what a token is by a profile
+abbrev pub kind_by : Profile → List ℕ → Kind
+kind_by profile w =
     if bytes_eq w (codes "(") then Opening
     else (if bytes_eq w (codes ")") then Closing
-    else (if bytes_eq w (codes "AND") then And
-    else (if bytes_eq w (codes "OR") then Or
-    else (if bytes_eq w (codes "WITH") then With
+    else (if is_operator profile (codes "AND") (codes "and") w then And
+    else (if is_operator profile (codes "OR") (codes "or") w then Or
+    else (if is_operator profile (codes "WITH") (codes "with") w then With
     else word_kind w))))
+
+-- where the kind is a word's, the bytes are such a word
+abbrev pub IsWordOf : Kind → List ℕ → Type 0
+IsWordOf Licence w = IsTrue (is_idstring w)
+IsWordOf LicenceOrLater w = IsTrue (is_licence_or_later w)
+IsWordOf Reference w = IsTrue (is_reference w)
+IsWordOf _ w = Unit {0}
 
 -- the terms that the words are: ids are folded, references kept byte for byte
 abbrev pub licence_term : List ℕ → Term

@@ -6,10 +6,10 @@ ghost use Rattle.std.specs.List.{position_or_len};
 ghost use Rattle.std.specs.Str.{IsCharBoundary};
 ghost use Rattle.std.specs.Iterator.{at_most};
 ghost use Rattle.desk_expr.specs.Tokens.{is_blank, is_parenthesis, is_run_byte, IsPiece, IsFirstToken, lexeme};
-ghost use Rattle.desk_expr.specs.Words.{is_local_reference, is_reference_of_document, is_reference, begins_like_reference, is_licence_or_later, word_kind, kind_of};
+ghost use Rattle.desk_expr.specs.Words.{is_local_reference, is_reference_of_document, is_reference, begins_like_reference, is_licence_or_later, word_kind, is_operator, kind_by};
 
 use crate::token::{Kind, Token};
-use desk_base::is_idstring_of_bytes;
+use desk_base::{Profile, is_idstring_of_bytes};
 
 fn is_blank(byte: u8) -> bool
     ensures { result ≡ is_blank byte }
@@ -126,19 +126,29 @@ fn word_kind(bytes: &[u8]) -> Kind
     }
 }
 
+// Whether a run is the operator that is so written in capitals and in small letters.
+fn is_operator(profile: Profile, capitals: &str, small: &str, text: &str) -> bool
+    ensures { result ≡ is_operator profile capitals.now small.now text.now }
+{
+    match profile {
+        Profile::Capitals => text == capitals,
+        Profile::Either => text == capitals || text == small,
+    }
+}
+
 // What a token is.
-fn kind_of(text: &str) -> Kind
-    ensures { result ≡ kind_of text.now }
+fn kind_by(profile: Profile, text: &str) -> Kind
+    ensures { result ≡ kind_by profile text.now }
 {
     if text == "(" {
         Kind::Opening
     } else if text == ")" {
         Kind::Closing
-    } else if text == "AND" {
+    } else if is_operator(profile, "AND", "and", text) {
         Kind::And
-    } else if text == "OR" {
+    } else if is_operator(profile, "OR", "or", text) {
         Kind::Or
-    } else if text == "WITH" {
+    } else if is_operator(profile, "WITH", "with", text) {
         Kind::With
     } else {
         word_kind(text.as_bytes())
@@ -169,10 +179,10 @@ fn piece_end(text: &str) -> usize
 }
 
 // The first token of a text that stands at a place, and the text after it.
-fn first_token<'a>(rest: &'a str, place: usize) -> Option<(Token<'a>, &'a str)>
+fn first_token<'a>(profile: Profile, rest: &'a str, place: usize) -> Option<(Token<'a>, &'a str)>
     requires { place + length rest.now < 2 ^ 64 }
     ensures none { IfNone result (All (λ b. IsTrue (is_blank b)) rest.now) }
-    ensures some { IfSome result (λ f. IsFirstToken place rest.now (lexeme f.0) f.1.now) }
+    ensures some { IfSome result (λ f. IsFirstToken profile place rest.now (lexeme f.0) f.1.now) }
 {
     let skipped = blanks_end(rest);
     let (_, from) = rest.split_at(skipped);
@@ -186,16 +196,17 @@ fn first_token<'a>(rest: &'a str, place: usize) -> Option<(Token<'a>, &'a str)>
         text,
         start,
         end: start + size,
-        kind: kind_of(text),
+        kind: kind_by(profile, text),
     };
     Some((token, after))
 }
 
-/// The tokens of a text, from the left: what is left of the text, and its place.
+/// The tokens of a text, from the left: what is left of the text, its place, and the profile of operators that it is read by.
 #[derive(Drop)]
 pub struct TokenCuts<'a> {
     pub(crate) rest: &'a str,
     pub(crate) place: usize,
+    pub(crate) profile: Profile,
     pub ghost fits: { place + length rest.now < 2 ^ 64 },
 }
 
@@ -209,7 +220,7 @@ impl<'a> Iterator for TokenCuts<'a> {
     ghost remaining = { λ s. at_most (length s.rest.now) };
 
     fn next(&mut self) -> Option<Token<'a>> {
-        let (token, after) = first_token(self.rest, self.place)?;
+        let (token, after) = first_token(self.profile, self.rest, self.place)?;
         self.rest = after;
         self.place = token.end;
         Some(token)

@@ -6,6 +6,9 @@
 //! `parse` reads once from the left, with a stack of its own, and gives the tree or the first
 //! place that doesn't fit. `check_choice` says whether a set of terms satisfies the tree, each of
 //! them needed.
+//!
+//! Operators are in capitals. `tokens_in`, `parse_in` and `parse_term_in` take a profile, by which
+//! they may be in small letters too.
 #![tactic(auto)]
 
 mod counts;
@@ -24,12 +27,13 @@ mod truth;
 mod word;
 
 pub use cut::{TokenCuts, is_reference};
+pub use desk_base::Profile;
 pub use expr::{Expr, Shape};
 pub use fault::ParseFault;
 pub use listing::terms;
 pub use printing::{print, print_term};
-pub use progress::parse;
+pub use progress::{parse, parse_in};
 pub use term::Term;
-pub use term_reader::parse_term;
-pub use token::{Kind, Token, tokens};
+pub use term_reader::{parse_term, parse_term_in};
+pub use token::{Kind, Token, tokens, tokens_in};
 pub use truth::{Verdict, check_choice, holds};

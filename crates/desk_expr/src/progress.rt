@@ -4,16 +4,16 @@ ghost use Rattle.std.specs.Prelude.{◌≡◌, ℕ, List, [], ◌∷◌, ◌++�
 ghost use Rattle.desk_expr.specs.Tree.{Tree};
 ghost use Rattle.desk_expr.specs.Tokens.{Lexeme, lexeme};
 ghost use Rattle.desk_expr.specs.Grammar.{SpellsTree};
-ghost use Rattle.desk_expr.specs.Words.{kind_of};
-ghost use Rattle.desk_expr.specs.Spelling.{symbols, Spells, SpellsWithin, IsStop};
+ghost use Rattle.desk_expr.specs.Words.{IsWordOf};
+ghost use Rattle.desk_expr.specs.Spelling.{symbols, Spells, SpellsBy, SpellsWithin, SpellsWithinBy, IsStop, IsStopBy};
 
 use crate::counts::Counts;
 use crate::expr::Expr;
 use crate::fault::ParseFault;
 use crate::reader::Reader;
-use crate::token::{Token, tokens};
+use crate::token::{Token, tokens_in};
 use crate::word::{Halt, is_bad};
-use desk_base::limits;
+use desk_base::{Profile, limits};
 use std::alloc::Global;
 
 /// What has been read of a text, and what the limits are about.
@@ -39,7 +39,7 @@ impl Progress {
 
     // Reads one token.
     fn step(self, alloc: Global, token: &Token<'_>) -> Result<Progress, ParseFault>
-        requires { token.now.kind ≡ kind_of token.now.text.now }
+        requires { IsWordOf token.now.kind token.now.text.now }
         ensures ok { IfOk result (λ n. (front : List Lexeme) → HasRead front self → HasRead (front ++ lexeme token.now ∷ []) n) }
         ensures err { IfErr result (λ f. (front : List Lexeme) → HasRead front self → StopsAfter front (lexeme token.now) f) }
     {
@@ -88,17 +88,29 @@ impl Progress {
 }
 
 /// The expression that the text spells (SPDX 2.3, Annex D), or the first place at which it stops.
+/// Operators are in capitals.
 pub fn parse(alloc: Global, text: &str) -> Result<Expr, ParseFault>
     ensures spelled { IfOk result (SpellsWithin text.now) }
     ensures stop { IfErr result (IsStop SpellsTree text.now) }
     ensures complete { IfErr result (λ f. f ≡ ParseFault.Memory alloc_error ⊎ ((e : Tree) → SpellsWithin text.now e → ⊥)) }
     ensures only { (a b : Tree) → Spells text.now a → Spells text.now b → a ≡ b }
 {
+    parse_in(alloc, text, Profile::Capitals)
+}
+
+/// The expression that the text spells by a profile of operators (SPDX 2.3, Annex D), or the first
+/// place at which it stops.
+pub fn parse_in(alloc: Global, text: &str, profile: Profile) -> Result<Expr, ParseFault>
+    ensures spelled { IfOk result (SpellsWithinBy profile text.now) }
+    ensures stop { IfErr result (IsStopBy SpellsTree profile text.now) }
+    ensures complete { IfErr result (λ f. f ≡ ParseFault.Memory alloc_error ⊎ ((e : Tree) → SpellsWithinBy profile text.now e → ⊥)) }
+    ensures only { (a b : Tree) → SpellsBy profile text.now a → SpellsBy profile text.now b → a ≡ b }
+{
     if text.len() > limits::EXPRESSION_BYTES {
         return Err(ParseFault::TooLong(0));
     }
     let mut progress = Progress::new(alloc);
-    for token in tokens(text) {
+    for token in tokens_in(text, profile) {
         match progress.step(alloc, &token) {
             Ok(next) => progress = next,
             Err(fault) => return Err(fault),

@@ -3,7 +3,7 @@
 ghost use Rattle.std.specs.Prelude.{◌≡◌, ◌↔◌, ℕ, OnOk, IfOk, IfErr, List, [], ◌∷◌, ◌++◌, Some, alloc_error};
 ghost use Rattle.desk_expr.specs.Tree.{one, Tree};
 ghost use Rattle.desk_expr.specs.Grammar.{all_of, any_of, Symbol, SpellsTree};
-ghost use Rattle.desk_expr.specs.Words.{kind_of};
+ghost use Rattle.desk_expr.specs.Words.{IsWordOf};
 ghost use Rattle.desk_expr.specs.Spelling.{symbol};
 ghost use Rattle.desk_expr.specs.Reading.{Rest, Steps, Stops, EndsWith};
 
@@ -94,7 +94,7 @@ fn operand(
     inner: Group,
     token: &Token<'_>,
 ) -> Result<Reader, Halt>
-    requires { token.now.kind ≡ kind_of token.now.text.now }
+    requires { IsWordOf token.now.kind token.now.text.now }
     ensures ok { IfOk result (λ n. Steps (record { outer = outer; inner = inner; state = State.Operand }) (symbol token.now.kind token.now.text.now) n) }
     ensures err { IfErr result (Stops (record { outer = outer; inner = inner; state = State.Operand }) (symbol token.now.kind token.now.text.now)) }
 {
@@ -147,7 +147,7 @@ fn exception(
     leaf: Leaf,
     token: &Token<'_>,
 ) -> Result<Reader, Halt>
-    requires { token.now.kind ≡ kind_of token.now.text.now }
+    requires { IsWordOf token.now.kind token.now.text.now }
     ensures ok { IfOk result (λ n. Steps (record { outer = outer; inner = inner; state = State.Exception leaf }) (symbol token.now.kind token.now.text.now) n) }
     ensures err { IfErr result (Stops (record { outer = outer; inner = inner; state = State.Exception leaf }) (symbol token.now.kind token.now.text.now)) }
 {
@@ -235,7 +235,7 @@ impl Reader {
 
     // Reads one token.
     pub(crate) fn step(self, alloc: Global, token: &Token<'_>) -> Result<Reader, Halt>
-        requires { token.now.kind ≡ kind_of token.now.text.now }
+        requires { IsWordOf token.now.kind token.now.text.now }
         ensures ok { IfOk result (Steps self (symbol token.now.kind token.now.text.now)) }
         ensures err { IfErr result (Stops self (symbol token.now.kind token.now.text.now)) }
     {

@@ -4,16 +4,16 @@ ghost use Rattle.std.specs.Prelude.{◌≡◌, ℕ, List, ◌∷◌, [], ◌++�
 ghost use Rattle.desk_expr.specs.declared.term.Term.{Term};
 ghost use Rattle.desk_expr.specs.Tokens.{Lexeme, lexeme};
 ghost use Rattle.desk_expr.specs.Grammar.{SpellsTerm};
-ghost use Rattle.desk_expr.specs.Words.{kind_of};
-ghost use Rattle.desk_expr.specs.Spelling.{symbol, SpellsTermAlone, SpellsTermWithin, IsStop};
+ghost use Rattle.desk_expr.specs.Words.{IsWordOf};
+ghost use Rattle.desk_expr.specs.Spelling.{symbol, SpellsTermAlone, SpellsTermAloneBy, SpellsTermWithin, SpellsTermWithinBy, IsStop, IsStopBy};
 ghost use Rattle.desk_expr.specs.TermReading.{TermSteps, TermStops, TermEnds, TermFalls};
 
 use crate::expr::Leaf;
 use crate::fault::ParseFault;
 use crate::term::Term;
-use crate::token::{Kind, Token, tokens};
+use crate::token::{Kind, Token, tokens_in};
 use crate::word::{Halt, excepted, exception_of, is_bad, leaf_of};
-use desk_base::limits;
+use desk_base::{Profile, limits};
 use std::alloc::Global;
 
 /// What stands before the next token.
@@ -32,7 +32,7 @@ pub(crate) enum TermState {
 impl TermState {
     // Reads one token.
     fn step(self, alloc: Global, token: &Token<'_>) -> Result<TermState, Halt>
-        requires { token.now.kind ≡ kind_of token.now.text.now }
+        requires { IsWordOf token.now.kind token.now.text.now }
         ensures ok { IfOk result (TermSteps self (symbol token.now.kind token.now.text.now)) }
         ensures err { IfErr result (TermStops self (symbol token.now.kind token.now.text.now)) }
     {
@@ -68,17 +68,29 @@ impl TermState {
 
 /// The term that the text spells: a licence id, perhaps with a plus, or a reference, and perhaps
 /// `WITH` and an exception id (SPDX 2.3, Annex D.2 and D.4); or the first place at which it stops.
+/// `WITH` is in capitals.
 pub fn parse_term(alloc: Global, text: &str) -> Result<Term, ParseFault>
     ensures spelled { IfOk result (SpellsTermWithin text.now) }
     ensures stop { IfErr result (IsStop SpellsTerm text.now) }
     ensures complete { IfErr result (λ f. f ≡ ParseFault.Memory alloc_error ⊎ ((t : Term) → SpellsTermWithin text.now t → ⊥)) }
     ensures only { (a b : Term) → SpellsTermAlone text.now a → SpellsTermAlone text.now b → a ≡ b }
 {
+    parse_term_in(alloc, text, Profile::Capitals)
+}
+
+/// The term that the text spells by a profile of operators, or the first place at which it stops, as
+/// `parse_term` says.
+pub fn parse_term_in(alloc: Global, text: &str, profile: Profile) -> Result<Term, ParseFault>
+    ensures spelled { IfOk result (SpellsTermWithinBy profile text.now) }
+    ensures stop { IfErr result (IsStopBy SpellsTerm profile text.now) }
+    ensures complete { IfErr result (λ f. f ≡ ParseFault.Memory alloc_error ⊎ ((t : Term) → SpellsTermWithinBy profile text.now t → ⊥)) }
+    ensures only { (a b : Term) → SpellsTermAloneBy profile text.now a → SpellsTermAloneBy profile text.now b → a ≡ b }
+{
     if text.len() > limits::EXPRESSION_BYTES {
         return Err(ParseFault::TooLong(0));
     }
     let mut state = TermState::Start;
-    for token in tokens(text) {
+    for token in tokens_in(text, profile) {
         if is_bad(token.kind) {
             return Err(ParseFault::BadToken(token.start));
         }

@@ -3,10 +3,11 @@
 ghost use Rattle.std.specs.Prelude.{◌≡◌, ℕ, List, map};
 ghost use Rattle.std.specs.Iterator.{Drains};
 ghost use Rattle.desk_expr.specs.declared.token.Token.{Token};
-ghost use Rattle.desk_expr.specs.Tokens.{AreTokens, lexeme};
+ghost use Rattle.desk_expr.specs.Tokens.{AreTokens, AreTokensBy, lexeme};
 ghost use Rattle.desk_expr.specs.Given.{TokenGiven};
 
 use crate::cut::TokenCuts;
+use desk_base::Profile;
 
 /// What a token is.
 #[derive(Clone, Copy, Debug, PartialEq, Eq)]
@@ -15,11 +16,11 @@ pub enum Kind {
     Opening,
     /// `)`
     Closing,
-    /// `AND`
+    /// `AND`, or by `Profile::Either` also `and`.
     And,
-    /// `OR`
+    /// `OR`, likewise.
     Or,
-    /// `WITH`
+    /// `WITH`, likewise.
     With,
     /// A licence or exception id.
     Licence,
@@ -45,14 +46,25 @@ pub struct Token<'a> {
 }
 
 /// Cuts a text into its tokens: what calls of `next` give until there is none are the tokens of the
-/// text, in order, each at its place and with its kind.
+/// text, in order, each at its place and with its kind. Operators are in capitals.
 pub fn tokens<'a>(text: &'a str) -> TokenCuts<'a>
     ensures rest { result.rest.now ≡ text.now }
     ensures place { result.place ≡ 0 }
     ensures tokens { (given : List Token) → Drains TokenGiven result given → AreTokens 0 text.now (map lexeme given) }
 {
+    tokens_in(text, Profile::Capitals)
+}
+
+/// Cuts a text into its tokens as `tokens` does, with operators by the profile.
+pub fn tokens_in<'a>(text: &'a str, profile: Profile) -> TokenCuts<'a>
+    ensures rest { result.rest.now ≡ text.now }
+    ensures place { result.place ≡ 0 }
+    ensures profile { result.profile ≡ profile }
+    ensures tokens { (given : List Token) → Drains TokenGiven result given → AreTokensBy profile 0 text.now (map lexeme given) }
+{
     TokenCuts {
         rest: text,
         place: 0,
+        profile,
     }
 }

@@ -3,7 +3,8 @@
 ghost use Rattle.std.specs.Prelude.{◌≡◌, ◌↔◌, ℕ, List, Option, OnOk, IfOk, IfErr, [], ◌∷◌, ◌++◌, Some, None, IsTrue, alloc_error};
 ghost use Rattle.desk_expr.specs.declared.term.Term.{Term};
 ghost use Rattle.desk_expr.specs.Grammar.{word};
-ghost use Rattle.desk_expr.specs.Words.{kind_of, licence_term, or_later_term, reference_term, with_exception, is_term, is_folded_id};
+ghost use Rattle.desk_expr.specs.Words.{IsWordOf, is_licence_or_later, is_reference, licence_term, or_later_term, reference_term, with_exception, is_term, is_folded_id};
+ghost use Rattle.desk_base.specs.Idstring.{is_idstring};
 ghost use Rattle.desk_expr.specs.Spelling.{symbol};
 ghost use Rattle.desk_base.specs.Folded.{folded};
 
@@ -79,7 +80,7 @@ fn exact_key(alloc: Global, text: &str) -> Result<Key, Halt>
 }
 
 fn licence(alloc: Global, text: &str) -> Result<Leaf, Halt>
-    requires { Kind.Licence ≡ kind_of text.now }
+    requires { IsTrue (is_idstring text.now) }
     ensures ok { IfOk result (λ t. t ≡ licence_term text.now) }
     ensures err { IfErr result (λ h. h ≡ Halt.Memory alloc_error) }
 {
@@ -92,7 +93,7 @@ fn licence(alloc: Global, text: &str) -> Result<Leaf, Halt>
 }
 
 fn licence_or_later(alloc: Global, text: &str) -> Result<Leaf, Halt>
-    requires { Kind.LicenceOrLater ≡ kind_of text.now }
+    requires { IsTrue (is_licence_or_later text.now) }
     ensures ok { IfOk result (λ t. t ≡ or_later_term text.now) }
     ensures err { IfErr result (λ h. h ≡ Halt.Memory alloc_error) }
 {
@@ -106,7 +107,7 @@ fn licence_or_later(alloc: Global, text: &str) -> Result<Leaf, Halt>
 }
 
 fn reference(alloc: Global, text: &str) -> Result<Leaf, Halt>
-    requires { Kind.Reference ≡ kind_of text.now }
+    requires { IsTrue (is_reference text.now) }
     ensures ok { IfOk result (λ t. t ≡ reference_term text.now) }
     ensures err { IfErr result (λ h. h ≡ Halt.Memory alloc_error) }
 {
@@ -120,7 +121,7 @@ fn reference(alloc: Global, text: &str) -> Result<Leaf, Halt>
 
 // The term that a token is by itself.
 pub(crate) fn leaf_of(alloc: Global, kind: Kind, text: &str) -> Result<Leaf, Halt>
-    requires { kind ≡ kind_of text.now }
+    requires { IsWordOf kind text.now }
     ensures ok { IfOk result (λ t. (o : Option (List ℕ)) × (symbol kind text.now ≡ word t o)) }
     ensures err { IfErr result (λ h. h ≡ Halt.Unexpected → (t : Term) (o : Option (List ℕ)) → symbol kind text.now ≡ word t o → ⊥) }
     ensures closed { IfErr result (λ h. h ≡ Halt.Unclosed → ⊥) }
@@ -135,7 +136,7 @@ pub(crate) fn leaf_of(alloc: Global, kind: Kind, text: &str) -> Result<Leaf, Hal
 
 // The exception that a token is after `WITH`.
 pub(crate) fn exception_of(alloc: Global, kind: Kind, text: &str) -> Result<Key, Halt>
-    requires { kind ≡ kind_of text.now }
+    requires { IsWordOf kind text.now }
     ensures ok { IfOk result (λ x. (u : Term) × (symbol kind text.now ≡ word u (Some x))) }
     ensures well_formed { IfOk result (λ x. IsTrue (is_folded_id x)) }
     ensures err { IfErr result (λ h. h ≡ Halt.Unexpected → (u : Term) (x : List ℕ) → symbol kind text.now ≡ word u (Some x) → ⊥) }

@@ -1,7 +1,7 @@
 //! Laws of licence expressions that hold of the definitions alone, each the contract of a function
 //! with an empty body.
 //!
-//! What a text spells (`SpellsWithin`) and what a choice of terms is worth (`Holds`, `CanGo`,
+//! What a text spells (`SpellsWithinBy`) and what a choice of terms is worth (`Holds`, `CanGo`,
 //! `IsMinimal`) are relations of `desk_expr`, and a relation may hold of nothing. A contract that
 //! speaks of whatever tree a text spells says something only where each text is known to spell a
 //! tree or to spell none. `tree_or_none` says that, and `verdict_exists` says that each choice is
@@ -9,18 +9,19 @@
 //! texts and a judge of choices that fit the definitions, whatever memory is at hand.
 //!
 //! Neither has a second answer: that a text spells one tree at most is the clause `only` of
-//! `desk_expr::parse`, and that a choice has one verdict is `one_verdict`.
+//! `desk_expr::parse_in`, and that a choice has one verdict is `one_verdict`.
 #![tactic(auto)]
 
 ghost use Rattle.std.specs.Prelude.{◌≡◌, ◌⊎◌, ℕ, List, Contains};
 ghost use Rattle.desk_expr.specs.declared.term.Term.{Term};
 ghost use Rattle.desk_expr.specs.Meaning.{Holds, CanGo, IsFirst, IsMinimal};
 ghost use Rattle.desk_expr.specs.Tree.{Tree};
-ghost use Rattle.desk_expr.specs.Spelling.{SpellsWithin};
+ghost use Rattle.desk_expr.specs.Spelling.{SpellsWithinBy};
+ghost use Rattle.desk_base.specs.declared.profile.Profile.{Profile};
 
-/// Each text spells a tree within the limits, or spells none.
+/// Each text spells a tree within the limits, or spells none, by each profile of operators.
 pub fn tree_or_none()
-    ensures { (text : List ℕ) → ((e : Tree) × SpellsWithin text e) ⊎ ((e : Tree) → SpellsWithin text e → ⊥) }
+    ensures { (profile : Profile) (text : List ℕ) → ((e : Tree) × SpellsWithinBy profile text e) ⊎ ((e : Tree) → SpellsWithinBy profile text e → ⊥) }
 {}
 
 /// A list of terms doesn't satisfy a tree; or it does, and there is a first place whose term can go; or it is minimal.

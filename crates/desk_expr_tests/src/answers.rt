@@ -1,8 +1,9 @@
-//! What `desk_expr` answers, written out, so that a test is a text of cases, one a line.
+//! What `desk_expr` answers, written out, so that a test is a text of cases, one a line. A case that begins with `capitals: ` or
+//! `either: ` is read by that profile of operators, any other one by the calls that take none.
 
 use desk_expr::{
-    Expr, ParseFault, Shape, Term, check_choice, holds, parse, parse_term, print, print_term,
-    terms, tokens,
+    Expr, ParseFault, Profile, Shape, Term, TokenCuts, check_choice, holds, parse, parse_in,
+    parse_term, parse_term_in, print, print_term, terms, tokens, tokens_in,
 };
 use std::alloc::{AllocError, Global};
 use std::process::Abort;
@@ -24,6 +25,38 @@ pub enum Question {
     Term,
     /// Where the tokens of a text begin and end.
     Tokens,
+    /// What the tokens of a text are.
+    Kinds,
+}
+
+// The profile that a case names, and its text.
+fn split_profile(case: &str) -> (Option<Profile>, &str) {
+    match case.split_once(": ") {
+        Some(("capitals", text)) => (Some(Profile::Capitals), text),
+        Some(("either", text)) => (Some(Profile::Either), text),
+        _ => (None, case),
+    }
+}
+
+fn read(alloc: Global, case: &str) -> Result<Expr, ParseFault> {
+    match split_profile(case) {
+        (Some(profile), text) => parse_in(alloc, text, profile),
+        (None, text) => parse(alloc, text),
+    }
+}
+
+fn read_term(alloc: Global, case: &str) -> Result<Term, ParseFault> {
+    match split_profile(case) {
+        (Some(profile), text) => parse_term_in(alloc, text, profile),
+        (None, text) => parse_term(alloc, text),
+    }
+}
+
+fn cut(case: &str) -> TokenCuts<'_> {
+    match split_profile(case) {
+        (Some(profile), text) => tokens_in(text, profile),
+        (None, text) => tokens(text),
+    }
 }
 
 fn name_of(expr: &Expr) -> &'static str {
@@ -76,7 +109,7 @@ fn view(alloc: Global, question: Question, expr: &Expr) -> Result<String, AllocE
 }
 
 fn expression(alloc: Global, question: Question, text: &str) -> Result<String, ParseFault> {
-    let expr = parse(alloc, text)?;
+    let expr = read(alloc, text)?;
     Ok(view(alloc, question, &expr)?)
 }
 
@@ -91,7 +124,7 @@ fn term_text(alloc: Global, term: &Term) -> Result<String, AllocError> {
 }
 
 fn term(alloc: Global, text: &str) -> Result<String, ParseFault> {
-    let term = parse_term(alloc, text)?;
+    let term = read_term(alloc, text)?;
     Ok(term_text(alloc, &term)?)
 }
 
@@ -120,13 +153,13 @@ fn verdict(alloc: Global, expr: &Expr, chosen: &[Term]) -> Result<String, AllocE
 fn choice(alloc: Global, text: &str) -> Result<String, ParseFault> {
     let (text, words) = text.split_once("; ").unwrap_or((text, ""));
     let chosen = terms_of(alloc, words)?;
-    let expr = parse(alloc, text)?;
+    let expr = read(alloc, text)?;
     Ok(verdict(alloc, &expr, &chosen)?)
 }
 
 fn tokens_text(alloc: Global, text: &str) -> Result<String, AllocError> {
     let mut spans = String::new(alloc);
-    for token in tokens(text) {
+    for token in cut(text) {
         let start = token.start;
         let end = token.end;
         write!(spans, "{start}-{end}; ")?;
@@ -134,11 +167,21 @@ fn tokens_text(alloc: Global, text: &str) -> Result<String, AllocError> {
     Ok(spans)
 }
 
+fn kinds_text(alloc: Global, text: &str) -> Result<String, AllocError> {
+    let mut kinds = String::new(alloc);
+    for token in cut(text) {
+        let kind = token.kind;
+        write!(kinds, "{kind:?}; ")?;
+    }
+    Ok(kinds)
+}
+
 fn asked(alloc: Global, question: Question, text: &str) -> Result<String, ParseFault> {
     match question {
         Question::Choice => choice(alloc, text),
         Question::Term => term(alloc, text),
         Question::Tokens => Ok(tokens_text(alloc, text)?),
+        Question::Kinds => Ok(kinds_text(alloc, text)?),
         _ => expression(alloc, question, text),
     }
 }

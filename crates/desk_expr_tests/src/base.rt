@@ -1,6 +1,6 @@
-//! Days, idstrings and lines, as their texts spell them.
+//! Days, idstrings and lines, as their texts spell them, and profiles by their numbers.
 
-use desk_base::{Day, Line, LineEnd, Lines, is_idstring};
+use desk_base::{Day, Line, LineEnd, Lines, Profile, is_idstring};
 use std::process::Abort;
 use std::test::Fail;
 
@@ -85,4 +85,13 @@ fn cuts_lines(rt: HostRuntime) -> Result<(), Fail> {
 fn counts_lines(rt: HostRuntime) {
     assert!(rt; Lines::of(b"").count() == 0);
     assert!(rt; Lines::of(b"a\n").count() == 1);
+}
+
+#[test]
+fn numbers_profiles(rt: HostRuntime) {
+    assert!(rt; Profile::numbered(1) == Some(Profile::Capitals));
+    assert!(rt; Profile::numbered(2) == Some(Profile::Either));
+    assert!(rt; Profile::numbered(0).is_none() && Profile::numbered(3).is_none());
+    assert_eq!(rt; Profile::Capitals.number(), 1);
+    assert_eq!(rt; Profile::Either.number(), 2);
 }

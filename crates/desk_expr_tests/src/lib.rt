@@ -1,4 +1,4 @@
-//! Tests of `desk_base` and `desk_expr`: days, idstrings and lines, and verdicts, printed terms and the faults of texts, one by one.
+//! Tests of `desk_base` and `desk_expr`: days, idstrings, lines and profiles, and verdicts, printed terms and the faults of texts, one by one.
 #![tactic(auto)]
 
 #[cfg(test)]

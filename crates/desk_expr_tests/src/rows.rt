@@ -84,6 +84,63 @@ fn tokens_stand_at_their_spans(rt: HostRuntime) -> Result<(), AllocError> {
     expect(&rt, rt.alloc(), Question::Tokens, case)
 }
 
+const SHAPES_BY_PROFILE: &str = "capitals: MIT or Zlib => Unexpected(4)
+either: MIT or Zlib => Any 2
+either: MIT OR Zlib => Any 2
+capitals: MIT OR Zlib => Any 2
+capitals: MIT Or Zlib => Unexpected(4)
+either: MIT Or Zlib => Unexpected(4)
+either: A and B or C AND d => Any 2
+either: (a or b) and c => All 2
+either: And and aND => All 2
+either: or+ AND anD => All 2
+either: A or+ => Unexpected(2)
+either: A and => Unexpected(5)
+either: and => Unexpected(0)
+capitals: and => One 0
+either: or or or => Unexpected(0)
+capitals: or OR or => Any 2
+either: X wITH y => Unexpected(2)
+either: X WITH and => Unexpected(7)
+either: X WITH And => One 0
+either: (MIT or (Zlib and (x) => Unclosed(8)";
+
+#[test]
+fn small_operators_are_read_by_a_profile(rt: HostRuntime) -> Result<(), AllocError> {
+    expect(&rt, rt.alloc(), Question::Shape, SHAPES_BY_PROFILE)?;
+    let case = "either: MIT or Zlib; zlib => true Minimal";
+    expect(&rt, rt.alloc(), Question::Choice, case)?;
+    let case = "either: a and (b or And) => a AND (b OR and)";
+    expect(&rt, rt.alloc(), Question::Print, case)
+}
+
+const TERMS_BY_PROFILE: &str = "either: GPL-2.0-only with x => gpl-2.0-only - x
+capitals: GPL-2.0-only with x => Unexpected(13)
+either: GPL-2.0-only WITH x => gpl-2.0-only - x
+either: GPL-2.0-only With x => Unexpected(13)
+either: X WITH and => Unexpected(7)
+capitals: X WITH and => x - and
+either: X WITH And => x - and
+either: with => Unexpected(0)
+capitals: with => with - -";
+
+#[test]
+fn small_operators_in_terms(rt: HostRuntime) -> Result<(), AllocError> {
+    expect(&rt, rt.alloc(), Question::Term, TERMS_BY_PROFILE)
+}
+
+const KINDS: &str = "A and B => Licence; Licence; Licence; 
+capitals: A and (B OR c) with WITH => Licence; Licence; Opening; Licence; Or; Licence; Closing; Licence; With; 
+either: A and (B OR c) with WITH => Licence; And; Opening; Licence; Or; Licence; Closing; With; With; 
+either: AND or wiTH oR+ LicenseRef-or é => And; Or; Licence; LicenceOrLater; Reference; Bad; ";
+
+#[test]
+fn tokens_are_of_their_kinds(rt: HostRuntime) -> Result<(), AllocError> {
+    expect(&rt, rt.alloc(), Question::Kinds, KINDS)?;
+    let case = "either:  (MIT or\tX+) => 1-2; 2-5; 6-8; 9-11; 11-12; ";
+    expect(&rt, rt.alloc(), Question::Tokens, case)
+}
+
 const PRINTED: &str = "((A)AND b+) OR LicenseRef-X => a AND b+ OR LicenseRef-X
 a AND (b AND c) => a AND (b AND c)
 a OR (b OR c) => a OR (b OR c)
@@ -166,11 +223,13 @@ const EXPRESSIONS_IN_MEMORY: &str =
 ((A OR b+) AND (C OR D)) AND LicenseRef-1 => All 2
 A AND B OR C AND (D OR E WITH f => Unclosed(17)
 A AND => Unexpected(5)
-A AND B) => Unexpected(7)";
+A AND B) => Unexpected(7)
+either: (a or b) and c with d => All 2";
 
 const TERMS_IN_MEMORY: &str = "DocumentRef-a:LicenseRef-b WITH c => DocumentRef-a:LicenseRef-b - c
 A+ WITH b => a plus b
-A WITH b c => Unexpected(9)";
+A WITH b c => Unexpected(9)
+either: A+ with b => a plus b";
 
 #[test]
 fn want_of_memory_is_told_as_such(rt: HostRuntime) {

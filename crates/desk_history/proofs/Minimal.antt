@@ -8,7 +8,7 @@ use Rattle.desk_rows.specs.Keys.{is_package, is_document, is_attachment}
 use Rattle.desk_rows.specs.History.{documents, packages, expression_in, attached}
 use Rattle.desk_rows.specs.Answers.{answer, is_recorded, IsHistory, judged, choose_for, choose_package, choose_document, choose_terms, first_bad, release_state, unready, refused_or}
 use Rattle.desk_history.specs.Laws.{IsMinimalChoice}
-use Rattle.desk_rows.specs.declared.reading.Profile.{Profile}
+use Rattle.desk_base.specs.declared.profile.Profile.{Profile}
 use Rattle.desk_rows.specs.declared.reading.Verdict.{Verdict}
 use Rattle.desk_rows.specs.declared.reading.Verdict.TheVariants.{NotEnough, Superfluous, Minimal}
 use Rattle.desk_rows.specs.declared.refusal.Refusal.TheVariants as why

@@ -14,7 +14,7 @@ use Rattle.desk_rows.specs.Answers.{load_answer, import_answer, open_answer, att
 use Rattle.desk_rows.specs.Queries.{duty_line, totals_of}
 use Rattle.desk_rows.specs.declared.reading.Catalogue.{Catalogue}
 use Rattle.desk_rows.specs.declared.reading.Document.{Document}
-use Rattle.desk_rows.specs.declared.reading.Profile.{Profile}
+use Rattle.desk_base.specs.declared.profile.Profile.{Profile}
 use Rattle.desk_rows.specs.declared.reading.Rule.{Rule}
 use Rattle.desk_rows.specs.declared.refusal.Refusal.TheVariants as why
 use Rattle.std.specs.Str.{bytes_eq}

@@ -1,5 +1,7 @@
 -- The members of a JSON object (RFC 8259, section 4), as requests have them.
 use Rattle.std.specs.Prelude.{ℕ, ◌+◌, ◌^◌, List, [], ◌∷◌, nat_lt, if◌then◌else◌, Option, Some, None, unwrap_or, option_map, option_and_then}
+use Rattle.desk_base.specs.Profiles.{profile_numbered}
+use Rattle.desk_base.specs.declared.profile.Profile.{Profile}
 use Rattle.serde_json.specs.Data.{Data, Items, no_items, item, Members, no_members, member}
 use Rattle.serde_json.specs.Find.{get, as_number, as_str, as_array, as_object, as_u64}
 
@@ -21,6 +23,10 @@ if_small n = if nat_lt n (2 ^ 63) then Some n else None
 -- the whole number of a member, 0 to 9,223,372,036,854,775,807
 abbrev pub number_in : List ℕ → Data → Option ℕ
 number_in key d = option_and_then if_small (option_and_then as_u64 (option_and_then as_number (get key d)))
+
+-- the profile of operators whose number a member is
+abbrev pub profile_in : List ℕ → Data → Option Profile
+profile_in key d = option_and_then profile_numbered (number_in key d)
 
 -- the texts of a list that holds nothing else
 abbrev pub texts : Items → Option (List (List ℕ))

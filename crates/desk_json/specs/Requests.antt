@@ -1,12 +1,13 @@
 -- The request that a JSON text (RFC 8259) is: an object with exactly the members of its form.
-use Rattle.std.specs.Prelude.{ℕ, ◌==◌, List, codes, if◌then◌else◌, Option, None, option_map, unwrap_or}
+use Rattle.std.specs.Prelude.{ℕ, ◌==◌, List, codes, if◌then◌else◌, Option, None, Some, option_map, unwrap_or}
 use Rattle.std.specs.Str.{bytes_eq, is_utf8}
 use Rattle.serde_json.specs.Data.{Data}
 use Rattle.serde_json.specs.Read.{read}
-use Rattle.desk_json.specs.Fields.{size, text_in, number_in, texts_in}
+use Rattle.desk_json.specs.Fields.{size, text_in, number_in, profile_in, texts_in}
 use Rattle.desk_rows.specs.declared.command.Command.TheVariants as command
 use Rattle.desk_rows.specs.declared.command.Query.TheVariants as query
-use Rattle.desk_rows.specs.declared.reading.Profile.TheVariants.{Capitals}
+use Rattle.desk_base.specs.declared.profile.Profile.{Profile}
+use Rattle.desk_base.specs.declared.profile.Profile.TheVariants.{Capitals}
 use Rattle.desk_json.specs.declared.request.Request.{Request}
 use Rattle.desk_json.specs.declared.request.Request.TheVariants.{Act, Ask, BadCommand}
 
@@ -30,9 +31,13 @@ abbrev pub catalogue_request : Data → Request
 catalogue_request d = with_members 2 d
     (with_text (codes "text") d (λ text. Act (command.LoadCatalogue text)))
 
+-- the profile of an import: capitals where it has no member for it, else the one whose number the member is
+abbrev pub import_profile : Data → Option Profile
+import_profile d = if size d == 2 then Some Capitals else if size d == 3 then profile_in (codes "profile") d else None
+
 abbrev pub import_request : Data → Request
-import_request d = with_members 2 d
-    (with_text (codes "text") d (λ bytes. Act (command.Import bytes Capitals)))
+import_request d = unwrap_or (option_map (λ profile.
+    with_text (codes "text") d (λ bytes. Act (command.Import bytes profile))) (import_profile d)) BadCommand
 
 abbrev pub open_request : Data → Request
 open_request d = with_members 3 d

@@ -3,9 +3,9 @@
 ghost use Rattle.std.specs.Prelude.{◌≡◌, IfOk, option_map};
 ghost use Rattle.std.specs.String.{string_bytes};
 ghost use Rattle.serde_json.specs.View.{view, items_view};
-ghost use Rattle.desk_json.specs.Fields.{size, text_in, number_in, texts, texts_in};
+ghost use Rattle.desk_json.specs.Fields.{size, text_in, number_in, profile_in, texts, texts_in};
 
-use desk_base::{Items, Text};
+use desk_base::{Items, Profile, Text};
 use serde_json::Value;
 use std::alloc::{AllocError, Global};
 
@@ -56,6 +56,13 @@ pub(crate) fn number_at(value: &Value, key: &str) -> Option<u64>
         },
         None => None,
     }
+}
+
+/// The profile of operators whose number a member is.
+pub(crate) fn profile_at(value: &Value, key: &str) -> Option<Profile>
+    ensures { result ≡ profile_in key.now (view value.now) }
+{
+    Profile::numbered(number_at(value, key)?)
 }
 
 /// Copies of the texts of a list, where it holds nothing else.

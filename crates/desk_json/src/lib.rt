@@ -5,7 +5,8 @@
 //!
 //! | `do` | Other members |
 //! |---|---|
-//! | `catalogue`, `import` | `text` |
+//! | `catalogue` | `text` |
+//! | `import` | `text`, and perhaps `profile` |
 //! | `open` | `release`, `form` |
 //! | `attach` | `release`, `document` |
 //! | `choose` | `release`, `document`, `package`, `terms` |
@@ -16,7 +17,8 @@
 //! |---|---|
 //! | `duties`, `totals` | `release` |
 //!
-//! `document` and `duty` are whole numbers from 0 to 9,223,372,036,854,775,807, `terms` is a list of texts, the others are texts.
+//! `document` and `duty` are whole numbers from 0 to 9,223,372,036,854,775,807, `profile` is 1 or 2 (`desk_base::Profile`), and 1
+//! where it is absent, `terms` is a list of texts, the others are texts.
 //! Anything else is `Request::BadCommand`. What a text, a day or a name may be is not looked at here: the desk decides that.
 //!
 //! - `read_command` gives the request that the bytes are, which is a function of the bytes: `request_in` of `specs/Requests.antt`.

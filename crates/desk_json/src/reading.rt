@@ -2,9 +2,9 @@
 
 ghost use Rattle.std.specs.Prelude.{◌≡◌, IfOk, codes};
 ghost use Rattle.serde_json.specs.View.{view};
-ghost use Rattle.desk_json.specs.Requests.{catalogue_request, import_request, open_request, attach_request, choose_request, freeze_request, meet_request, duties_request, totals_request, query_request, request_of, request_in, with_text};
+ghost use Rattle.desk_json.specs.Requests.{catalogue_request, import_profile, import_request, open_request, attach_request, choose_request, freeze_request, meet_request, duties_request, totals_request, query_request, request_of, request_in, with_text};
 
-use crate::fields::{number_at, size_of, take_text, text_at, texts_at};
+use crate::fields::{number_at, profile_at, size_of, take_text, text_at, texts_at};
 use crate::request::Request;
 use desk_base::{Items, Text};
 use desk_rows::{Command, Profile, Query};
@@ -24,18 +24,29 @@ fn read_catalogue(alloc: Global, value: &Value) -> Result<Request, AllocError>
     Ok(Request::Act(Command::LoadCatalogue { text }))
 }
 
+/// The profile of an import: capitals where it names none.
+fn import_profile(value: &Value) -> Option<Profile>
+    ensures { result ≡ import_profile (view value.now) }
+{
+    match size_of(value) {
+        2 => Some(Profile::Capitals),
+        3 => profile_at(value, "profile"),
+        _ => None,
+    }
+}
+
 fn read_import(value: &mut Value) -> Request
     ensures { result ≡ import_request (view value.old) }
 {
-    if size_of(value) != 2 {
+    let Some(profile) = import_profile(value) else {
         return Request::BadCommand;
-    }
+    };
     let Some(text) = take_text(value, "text") else {
         return Request::BadCommand;
     };
     Request::Act(Command::Import {
         bytes: Items::from_vec(text.into_bytes()),
-        profile: Profile::Capitals,
+        profile,
     })
 }
 

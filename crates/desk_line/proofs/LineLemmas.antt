@@ -4,9 +4,8 @@ use Rattle.clap.specs.Words.{App, HasKind, IsAmong, Kinds, Row, Text, fault_of, 
 use Rattle.clap.specs.Kinds.{or_else}
 use Rattle.clap.specs.declared.error.Error.{Error}
 use Rattle.clap.specs.declared.error.kind.ErrorKind.{ErrorKind}
-use Rattle.clap.specs.declared.error.kind.ErrorKind.TheVariants.{MissingSubcommand}
 use Rattle.desk_line.specs.Words.{desk_app}
-use Rattle.desk_line.specs.Calls.{call_at, call_of, unless, usage_of, IsFault, IsFaultOf}
+use Rattle.desk_line.specs.Calls.{call_at, call_of, lacking, unless, usage_of, IsFault, IsFaultOf}
 use Rattle.desk_line.specs.declared.call.Call.{Call}
 use Rattle.desk_line.specs.declared.call.LineFault.{LineFault}
 use Rattle.desk_line.specs.declared.call.LineFault.TheVariants.{Memory, Usage}
@@ -15,10 +14,10 @@ use Rattle.desk_line.specs.declared.call.LineFault.TheVariants.{Memory, Usage}
 found_where_none : (kinds : Kinds) (found : Option Call) → kinds ≡ [] → unless kinds found ≡ found
 found_where_none kinds found none = subst (λ (ks : Kinds). unless ks found ≡ found) (sym none) refl
 
-none_where_refused : (kinds : Kinds) (found : Option Call) (kind : ErrorKind) → IsAmong kind kinds
-    → (unless kinds found ≡ None) × IsAmong kind (or_else kinds (MissingSubcommand ∷ []))
-none_where_refused [] found kind among = absurd among
-none_where_refused (first ∷ rest) found kind among = (refl, among)
+none_where_refused : (kinds lacked : Kinds) (found : Option Call) (kind : ErrorKind) → IsAmong kind kinds
+    → (unless kinds found ≡ None) × IsAmong kind (or_else kinds lacked)
+none_where_refused [] lacked found kind among = absurd among
+none_where_refused (first ∷ rest) lacked found kind among = (refl, among)
 
 -- words that `clap` takes hold the call of the subcommand that it met
 pub taken : (app : App) (words : List Text) (met : Option (Text × List Row)) → app ≡ desk_app
@@ -43,5 +42,5 @@ refused app words error fault same kinds of =
     go : (fault : LineFault) → HasKind (fault_of desk_app words) error → IsFaultOf error fault → IsFault words fault
     go (Usage told) (inl memory) of = absurd (of.1 memory)
     go (Usage told) (inr among) of = subst (λ e. (call_of words ≡ None) × IsAmong (kind_of e) (usage_of words)) (sym of.0)
-        (none_where_refused (fault_of desk_app words) (call_at (subcommand_of desk_app words)) (kind_of error) among)
+        (none_where_refused (fault_of desk_app words) (lacking (subcommand_of desk_app words)) (call_at (subcommand_of desk_app words)) (kind_of error) among)
     go (Memory refused) kinds of = tt

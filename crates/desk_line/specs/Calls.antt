@@ -1,9 +1,11 @@
 -- The call that the words of a command line hold.
-use Rattle.std.specs.Prelude.{◌≡◌, ◌≢◌, [], ◌∷◌, List, codes, if◌then◌else◌, Option, None, Some, option_map, option_and_then}
+use Rattle.std.specs.Prelude.{◌≡◌, ◌≢◌, ◌-◌, [], ◌∷◌, List, codes, if◌then◌else◌, Option, None, Some, option_map, option_and_then}
 use Rattle.std.specs.Str.{bytes_eq}
 use Rattle.clap.specs.Words.{IsAmong, Kinds, Row, Text, all_of, fault_of, first_of, kind_of, subcommand_of}
 use Rattle.clap.specs.Kinds.{or_else}
-use Rattle.clap.specs.declared.error.kind.ErrorKind.TheVariants.{MissingSubcommand, OutOfMemory}
+use Rattle.desk_base.specs.Profiles.{profile_numbered}
+use Rattle.desk_base.specs.declared.profile.Profile.{Profile}
+use Rattle.clap.specs.declared.error.kind.ErrorKind.TheVariants.{InvalidValue, MissingSubcommand, OutOfMemory}
 use Rattle.clap.specs.declared.error.Error.{Error}
 use Rattle.desk_line.specs.Words.{desk_app}
 use Rattle.desk_line.specs.declared.call.Call.{Call}
@@ -11,10 +13,18 @@ use Rattle.desk_line.specs.declared.call.Call.TheVariants.{Check, Script}
 use Rattle.desk_line.specs.declared.call.LineFault.{LineFault}
 use Rattle.desk_line.specs.declared.call.LineFault.TheVariants.{Memory, Usage}
 
+-- the profile that a word writes: its number, a digit
+abbrev pub profile_written : Text → Option Profile
+profile_written (digit ∷ []) = profile_numbered (digit - 48)
+profile_written _ = None
+
+abbrev pub profile_in : List Row → Option Profile
+profile_in rows = option_and_then profile_written (first_of (codes "PROFILE") rows)
+
 -- the call of `check` with these values
 abbrev pub check_in : List Row → Option Call
-check_in rows = option_and_then (λ expression. option_map (λ terms. Check expression terms)
-    (all_of (codes "TERM") rows)) (first_of (codes "EXPR") rows)
+check_in rows = option_and_then (λ expression. option_and_then (λ terms. option_map (λ profile. Check expression profile terms)
+    (profile_in rows)) (all_of (codes "TERM") rows)) (first_of (codes "EXPR") rows)
 
 -- the call of a subcommand with these values
 abbrev pub call_in : Text → List Row → Option Call
@@ -36,9 +46,14 @@ unless (kind ∷ more) call = None
 abbrev pub call_of : List Text → Option Call
 call_of words = unless (fault_of desk_app words) (call_at (subcommand_of desk_app words))
 
--- why words hold no call: what `clap` refuses in them, or else that they name no subcommand
+-- why a subcommand with its values, which `clap` took, is no call: there is none, or one of its values is none that it may have
+abbrev pub lacking : Option (Text × List Row) → Kinds
+lacking None = MissingSubcommand ∷ []
+lacking (Some met) = InvalidValue ∷ []
+
+-- why words hold no call: what `clap` refuses in them, or else what the subcommand lacks
 abbrev pub usage_of : List Text → Kinds
-usage_of words = or_else (fault_of desk_app words) (MissingSubcommand ∷ [])
+usage_of words = or_else (fault_of desk_app words) (lacking (subcommand_of desk_app words))
 
 -- the words hold no call, and the error is of a kind that `clap` gives for them; or there was no memory
 abbrev pub IsFault : List Text → LineFault → Type 0

@@ -1,5 +1,5 @@
 -- The command line of the program, as `clap` reads it.
-use Rattle.std.specs.Prelude.{codes, Some, true}
+use Rattle.std.specs.Prelude.{codes, [], ◌∷◌, Some, true}
 use Rattle.clap.specs.Lexer.{usize_max}
 use Rattle.clap.specs.Words.{App, Rule, Text, new_app, new_rule, with_rule, with_subcommand}
 use Rattle.clap.specs.Simple.{on_top}
@@ -12,9 +12,17 @@ word name = record (new_rule name) { required = true }
 abbrev pub words : Text → Rule
 words name = record (word name) { range = Some (record { start_inclusive = 1; end_inclusive = usize_max }) }
 
--- `check EXPR TERM..`
+-- `--LONG NAME`, which has a value where it isn't used
+abbrev pub option : Text → Text → Text → Rule
+option name long value = record (new_rule name) { long = Some long; defaults = value ∷ [] }
+
+-- `--profile PROFILE`, 1 where it isn't used
+abbrev pub profile_option : Rule
+profile_option = option (codes "PROFILE") (codes "profile") (codes "1")
+
+-- `check [--profile PROFILE] EXPR TERM..`
 abbrev pub check_app : App
-check_app = with_rule (with_rule (new_app (codes "check")) (word (codes "EXPR"))) (words (codes "TERM"))
+check_app = with_rule (with_rule (with_rule (new_app (codes "check")) profile_option) (word (codes "EXPR"))) (words (codes "TERM"))
 
 -- `script`, which has no values
 abbrev pub script_app : App

@@ -2,10 +2,27 @@
 
 ghost use Rattle.std.specs.Prelude.{◌≡◌, false};
 ghost use Rattle.clap.specs.Words.{rule_of};
-ghost use Rattle.desk_line.specs.Words.{word, words};
+ghost use Rattle.desk_line.specs.Words.{option, word, words};
 
 use clap::Arg;
 use std::alloc::Global;
+
+/// A named value, which has another one where it isn't used.
+pub fn option_arg<'a>(
+    alloc: Global,
+    name: &'a str,
+    long: &'a str,
+    value: &'a str,
+    help: &'a str,
+) -> Arg<'a>
+    ensures rule { rule_of result ≡ option name.entry.now long.entry.now value.entry.now }
+    ensures local { result.global ≡ false }
+{
+    Arg::new(alloc, name)
+        .long(long)
+        .default_value(value)
+        .help(help)
+}
 
 /// A word that must stand in its place.
 pub fn word_arg<'a>(alloc: Global, name: &'a str, help: &'a str) -> Arg<'a>

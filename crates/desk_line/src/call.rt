@@ -1,15 +1,17 @@
 //! What the words of a command line ask for.
 
 use clap::Error;
-use desk_base::{Items, Text};
+use desk_base::{Items, Profile, Text};
 use std::alloc::AllocError;
 
 /// A subcommand with its values.
 #[derive(Debug, Drop)]
 pub enum Call {
-    /// Whether the terms are a minimal set that satisfies the licence expression.
+    /// Whether the terms are a minimal set that satisfies the licence expression, whose operators are
+    /// written by the profile.
     Check {
         expression: Text,
+        profile: Profile,
         terms: Items<Text>,
     },
     /// Replies to the requests of standard input, a line each.

@@ -1,8 +1,8 @@
 //! The words of the command line, read.
 
 ghost use Rattle.std.specs.Prelude.{◌≡◌, Some, IfOk, IfErr, map};
-ghost use Rattle.clap.specs.Words.{subcommand_rows_of};
-ghost use Rattle.desk_line.specs.Calls.{call_at, call_of, IsFault, IsFaultOf};
+ghost use Rattle.clap.specs.Words.{IsAmong, subcommand_rows_of};
+ghost use Rattle.desk_line.specs.Calls.{call_at, call_of, lacking, IsFault, IsFaultOf};
 
 use crate::call::{Call, LineFault};
 use crate::subcommands::desk_command;
@@ -12,6 +12,8 @@ use clap::{ArgMatches, Error};
 use std::alloc::{AllocError, Global};
 
 const NO_SUBCOMMAND: &str = "a subcommand is wanted";
+
+const NO_PROFILE: &str = "the value of --profile is 1 or 2";
 
 impl From<AllocError> for LineFault {
     ghost use Rattle.desk_line.specs.declared.call.LineFault.TheVariants.{Memory};
@@ -30,6 +32,16 @@ fn call_found(alloc: Global, matches: &ArgMatches<'_>) -> Result<Option<Call>, A
     match matches.subcommand() {
         Some((name, inner)) => call_from(alloc, name, inner),
         None => Ok(None),
+    }
+}
+
+/// Why a subcommand that was met is no call, with the words for the user.
+fn lacking(matches: &ArgMatches<'_>) -> (ErrorKind, &'static str)
+    ensures { IsAmong result.0 (lacking (subcommand_rows_of matches.now)) }
+{
+    match matches.subcommand() {
+        Some(_) => (ErrorKind::InvalidValue, NO_PROFILE),
+        None => (ErrorKind::MissingSubcommand, NO_SUBCOMMAND),
     }
 }
 
@@ -52,7 +64,10 @@ pub fn line<'a>(alloc: Global, words: &'a [&'a str]) -> Result<Call, LineFault>
     match command.try_get_matches_from_mut(words) {
         Ok(matches) => match call_found(alloc, &matches)? {
             Some(call) => Ok(call),
-            None => Err(refusal(command.error(ErrorKind::MissingSubcommand, NO_SUBCOMMAND)?)),
+            None => {
+                let (kind, message) = lacking(&matches);
+                Err(refusal(command.error(kind, message)?))
+            }
         },
         Err(error) => Err(refusal(error)),
     }

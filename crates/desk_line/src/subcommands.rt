@@ -3,10 +3,11 @@
 ghost use Rattle.std.specs.Prelude.{◌≡◌, IfOk, false};
 ghost use Rattle.clap.specs.Words.{app_of};
 ghost use Rattle.clap.specs.declared.builder.command.Command.TheViews.{out-Command};
-ghost use Rattle.desk_line.specs.Words.{check_app, desk_app, script_app};
+ghost use Rattle.desk_line.specs.Words.{check_app, desk_app, profile_option, script_app};
+ghost use Rattle.clap.specs.Words.{rule_of};
 
-use crate::arguments::{word_arg, words_arg};
-use clap::Command;
+use crate::arguments::{option_arg, word_arg, words_arg};
+use clap::{Arg, Command};
 use std::alloc::{AllocError, Global};
 
 const VERSION: &str = "0.1.0";
@@ -34,15 +35,19 @@ prints one line:
   fault: NAME at N   the expression cannot be read: what is wrong, and at which byte, from 0
   bad term: TERM     the word is no term, the first such";
 
+const PROFILE_HELP: &str = "How operators are written: 1 AND, OR, WITH; 2 also and, or, with";
+
 const CHECK_AFTER_HELP: &str = "\
 A term is a licence id, or one followed directly by +, or a reference (LicenseRef-x or
 DocumentRef-y:LicenseRef-x), and perhaps WITH and an exception. One term is one word of the
 command line, so quote a term with an exception. Ids are compared without regard to case,
-references are not. AND binds tighter than OR.
+references are not. AND binds tighter than OR. The profile is of EXPR alone: the WITH of a term is
+always in capitals.
 
 Examples:
   desk check MIT mit
   desk check 'Apache-2.0 OR MIT AND BSD-3-Clause' MIT BSD-3-Clause
+  desk check --profile 2 'MIT or Zlib' zlib
   desk check 'GPL-2.0-only WITH Classpath-exception-2.0' 'GPL-2.0-only WITH Classpath-exception-2.0'
 
 Statuses:
@@ -66,6 +71,8 @@ Requests, with an example of each:
     {\"do\":\"catalogue\",\"text\":\"forms = [\\\"binary\\\"]\"}
   import an SPDX 2.3 document, as tag-value
     {\"do\":\"import\",\"text\":\"SPDXVersion: SPDX-2.3\\n..\"}
+  the same, of a document whose expressions may have and, or, with in small letters
+    {\"do\":\"import\",\"profile\":2,\"text\":\"SPDXVersion: SPDX-2.3\\n..\"}
   open a release that ships in a form of the catalogue
     {\"do\":\"open\",\"form\":\"binary\",\"release\":\"r1\"}
   attach a document to it
@@ -88,6 +95,14 @@ Statuses:
   2  the command line is wrong
   3  no memory, or a stream failed";
 
+/// How the operators of a licence expression are written.
+fn profile_arg<'a>(alloc: Global) -> Arg<'a>
+    ensures rule { rule_of result ≡ profile_option }
+    ensures local { result.global ≡ false }
+{
+    option_arg(alloc, "PROFILE", "profile", "1", PROFILE_HELP)
+}
+
 fn check_command<'a>(alloc: Global) -> Result<Command<'a>, AllocError>
     ensures shape { IfOk result (λ c. app_of c ≡ check_app) }
     ensures local { IfOk result (λ c. (out-Command c).has_globals ≡ false) }
@@ -96,6 +111,7 @@ fn check_command<'a>(alloc: Global) -> Result<Command<'a>, AllocError>
         .about(CHECK_ABOUT)
         .long_about(CHECK_LONG_ABOUT)
         .after_help(CHECK_AFTER_HELP)
+        .arg(profile_arg(alloc))?
         .arg(word_arg(alloc, "EXPR", "The licence expression, one word: quote it"))?
         .arg(words_arg(alloc, "TERM", "The terms that were chosen, a word each"))
 }

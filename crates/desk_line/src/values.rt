@@ -2,11 +2,11 @@
 
 ghost use Rattle.std.specs.Prelude.{◌≡◌, IfOk, map, option_map};
 ghost use Rattle.clap.specs.Words.{all_of, first_of, found_of, rows_of};
-ghost use Rattle.desk_line.specs.Calls.{call_in, check_in};
+ghost use Rattle.desk_line.specs.Calls.{call_in, check_in, profile_in, profile_written};
 
 use crate::call::Call;
 use clap::ArgMatches;
-use desk_base::{Items, Text};
+use desk_base::{Items, Profile, Text};
 use std::alloc::{AllocError, Global};
 
 fn text_in<'a>(matches: &ArgMatches<'a>, id: &str) -> Option<&'a str>
@@ -39,6 +39,21 @@ fn copied(alloc: Global, values: &[&str]) -> Result<Items<Text>, AllocError>
     Ok(texts)
 }
 
+fn profile_written(text: &str) -> Option<Profile>
+    ensures { result ≡ profile_written text.now }
+{
+    match text.as_bytes() {
+        [digit] => Profile::numbered(u64::from(digit.saturating_sub(b'0'))),
+        _ => None,
+    }
+}
+
+fn profile_in(matches: &ArgMatches<'_>) -> Option<Profile>
+    ensures { result ≡ profile_in (rows_of (found_of matches.now)) }
+{
+    profile_written(text_in(matches, "PROFILE")?)
+}
+
 fn check_from(alloc: Global, matches: &ArgMatches<'_>) -> Result<Option<Call>, AllocError>
     ensures { IfOk result (λ r. r ≡ check_in (rows_of (found_of matches.now))) }
 {
@@ -48,12 +63,19 @@ fn check_from(alloc: Global, matches: &ArgMatches<'_>) -> Result<Option<Call>, A
     let Some(terms) = texts_in(alloc, matches, "TERM")? else {
         return Ok(None);
     };
+    let Some(profile) = profile_in(matches) else {
+        return Ok(None);
+    };
     let expression = Text::of(alloc, expression)?;
-    Ok(Some(Call::Check { expression, terms }))
+    Ok(Some(Call::Check {
+        expression,
+        profile,
+        terms,
+    }))
 }
 
-/// The call of a subcommand with these matches, or `None` where they lack a value or no subcommand
-/// has the name.
+/// The call of a subcommand with these matches, or `None` where they lack a value, a value is none
+/// that it may have, or no subcommand has the name.
 pub fn call_from(
     alloc: Global,
     name: &str,

@@ -3,10 +3,12 @@ use Rattle.std.proofs.Common.{◌≡◌, ◌∙◌, inl, inr, ℕ, List, [], ◌
 use Rattle.std.proofs.Math.Nat.{eq-or-lt_of_le}
 use Rattle.std.proofs.lemmas.Bool.{cases_lt}
 use Rattle.std.specs.Prelude.{slice_get, Some, Contains}
+use Rattle.desk_base.specs.declared.profile.Profile.{Profile}
+use Rattle.desk_base.specs.declared.profile.Profile.TheVariants.{Capitals}
 use Rattle.desk_expr.specs.declared.fault.ParseFault.{ParseFault}
 use Rattle.desk_expr.specs.declared.term.Term.{Term}
 use Rattle.desk_expr.specs.Tree.{Tree}
-use Rattle.desk_expr.specs.Spelling.{SpellsWithin}
+use Rattle.desk_expr.specs.Spelling.{SpellsWithinBy}
 use Rattle.desk_expr.specs.Meaning.{Holds, CanGo, IsFirst}
 use Rattle.desk_expr.proofs.ParseLemmas.{spells_once}
 use Rattle.desk_expr.proofs.TermLemmas.{spells_term_once}
@@ -19,8 +21,8 @@ use Rattle.desk_program.proofs.Splits.{Cuts, two_cuts}
 
 -- ---- the words
 
-one_tree : (text : List ℕ) (e f : Tree) → SpellsWithin text e → SpellsWithin text f → e ≡ f
-one_tree text e f (short, ts, are, h, keeps) (short', us, are', k, keeps') = spells_once text e f (ts, are, h) (us, are', k)
+one_tree : (profile : Profile) (text : List ℕ) (e f : Tree) → SpellsWithinBy profile text e → SpellsWithinBy profile text f → e ≡ f
+one_tree profile text e f (short, ts, are, h, keeps) (short', us, are', k, keeps') = spells_once profile text e f (ts, are, h) (us, are', k)
 
 same_terms : (words : List (List ℕ)) (ts us : List Term) → SpellTerms words ts → SpellTerms words us → ts ≡ us
 same_terms [] [] [] h k = refl
@@ -29,7 +31,7 @@ same_terms [] (t ∷ ts) us h k = absurd h
 same_terms (w ∷ ws) [] us h k = absurd h
 same_terms (w ∷ ws) (t ∷ ts) [] h k = absurd k
 same_terms (w ∷ ws) (t ∷ ts) (u ∷ us) h k =
-    let first = spells_term_once w t u h.0.1 k.0.1 in
+    let first = spells_term_once Capitals w t u h.0.1 k.0.1 in
     let rest = same_terms ws ts us h.1 k.1 in
     (λ i. first i ∷ rest i)
 
@@ -93,49 +95,49 @@ module _ (words : List (List ℕ)) (terms : List Term) (tree : Tree) where
 
 -- ---- the answer
 
-module _ (expression : List ℕ) (words : List (List ℕ)) where
+module _ (profile : Profile) (expression : List ℕ) (words : List (List ℕ)) where
   -- a verdict on what the texts spell
   abbrev Judged : Report → Type 0
-  Judged report = (tree : Tree) × (terms : List Term) × SpellsWithin expression tree × SpellTerms words terms × IsVerdict words terms tree report
+  Judged report = (tree : Tree) × (terms : List Term) × SpellsWithinBy profile expression tree × SpellTerms words terms × IsVerdict words terms tree report
 
   one_judged : (a b : Report) → Judged a → Judged b → SameTold a b
   one_judged a b (tree, terms, spells, spell, is) (tree', terms', spells', spell', is') =
-      let same_tree : tree' ≡ tree = one_tree expression tree' tree spells' spells in
+      let same_tree : tree' ≡ tree = one_tree profile expression tree' tree spells' spells in
       let same : terms' ≡ terms = same_terms words terms' terms spell' spell in
       one_verdict words terms tree a b is
       (subst (λ t. IsVerdict words terms t b) same_tree (subst (λ ts. IsVerdict words ts tree' b) same is'))
 
-  fault_or_bad : (f : ParseFault) → IsReport expression words (Fault f) → ((tree : Tree) × SpellsWithin expression tree) → ⊥
+  fault_or_bad : (f : ParseFault) → IsReport profile expression words (Fault f) → ((tree : Tree) × SpellsWithinBy profile expression tree) → ⊥
   fault_or_bad f h (tree, spells) = h.0 tree spells
 
-  fault_or_judged : (f : ParseFault) (b : Report) → IsReport expression words (Fault f) → Judged b → ⊥
+  fault_or_judged : (f : ParseFault) (b : Report) → IsReport profile expression words (Fault f) → Judged b → ⊥
   fault_or_judged f b h (tree, terms, spells, spell, is) = h.0 tree spells
 
   bad_or_judged : (w : List ℕ) (b : Report) → IsFirstBad words w → Judged b → ⊥
   bad_or_judged w b bad (tree, terms, spells, spell, is) = no_bad_word words w terms bad spell
 
-  from_fault : (f : ParseFault) (b : Report) → IsReport expression words (Fault f) → IsReport expression words b → SameTold (Fault f) b
+  from_fault : (f : ParseFault) (b : Report) → IsReport profile expression words (Fault f) → IsReport profile expression words b → SameTold (Fault f) b
   from_fault f Minimal h k = absurd (fault_or_judged f Minimal h k)
   from_fault f NotEnough h k = absurd (fault_or_judged f NotEnough h k)
   from_fault f (Superfluous v) h k = absurd (fault_or_judged f (Superfluous v) h k)
   from_fault f (BadTerm v) h k = absurd (fault_or_bad f h k.0)
-  from_fault f (Fault g) h k = (ap (λ x. text_of (Fault x)) (one_stop expression f g h.1 k.1 h.2 k.2), refl)
+  from_fault f (Fault g) h k = (ap (λ x. text_of (Fault x)) (one_stop profile expression f g h.1 k.1 h.2 k.2), refl)
 
-  from_bad : (w : Bor (List ℕ)) (b : Report) → IsReport expression words (BadTerm w) → IsReport expression words b → SameTold (BadTerm w) b
+  from_bad : (w : Bor (List ℕ)) (b : Report) → IsReport profile expression words (BadTerm w) → IsReport profile expression words b → SameTold (BadTerm w) b
   from_bad w Minimal h k = absurd (bad_or_judged w.now Minimal h.1 k)
   from_bad w NotEnough h k = absurd (bad_or_judged w.now NotEnough h.1 k)
   from_bad w (Superfluous v) h k = absurd (bad_or_judged w.now (Superfluous v) h.1 k)
   from_bad w (BadTerm v) h k = (ap (λ x. codes "bad term: " ++ x) (one_first_bad words w.now v.now h.1 k.1), refl)
   from_bad w (Fault g) h k = absurd (fault_or_bad g k h.0)
 
-  from_judged : (a b : Report) → Judged a → IsReport expression words b → SameTold a b
+  from_judged : (a b : Report) → Judged a → IsReport profile expression words b → SameTold a b
   from_judged a Minimal h k = one_judged a Minimal h k
   from_judged a NotEnough h k = one_judged a NotEnough h k
   from_judged a (Superfluous v) h k = one_judged a (Superfluous v) h k
   from_judged a (BadTerm v) h k = absurd (bad_or_judged v.now a k.1 h)
   from_judged a (Fault g) h k = absurd (fault_or_judged g a k h)
 
-  one_report : (a b : Report) → IsReport expression words a → IsReport expression words b → SameTold a b
+  one_report : (a b : Report) → IsReport profile expression words a → IsReport profile expression words b → SameTold a b
   one_report Minimal b h k = from_judged Minimal b h k
   one_report NotEnough b h k = from_judged NotEnough b h k
   one_report (Superfluous w) b h k = from_judged (Superfluous w) b h k
@@ -143,7 +145,7 @@ module _ (expression : List ℕ) (words : List (List ℕ)) where
   one_report (Fault f) b h k = from_fault f b h k
 
 -- there is one line and one status
-pub one_answer : (expression : List ℕ) (words : List (List ℕ)) → TellsOnce expression words
-one_answer expression words line other status another (a, is, text, number) (b, is', text', number') =
-    let same = one_report expression words a b is is' in
+pub one_answer : (profile : Profile) (expression : List ℕ) (words : List (List ℕ)) → TellsOnce profile expression words
+one_answer profile expression words line other status another (a, is, text, number) (b, is', text', number') =
+    let same = one_report profile expression words a b is is' in
     (text ∙ (same.0 ∙ sym text'), number ∙ (same.1 ∙ sym number'))

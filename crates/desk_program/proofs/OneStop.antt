@@ -5,9 +5,10 @@ use Rattle.desk_expr.specs.declared.fault.ParseFault.{ParseFault}
 use Rattle.desk_expr.specs.declared.fault.ParseFault.TheVariants.{Empty, BadToken, Unexpected, Unclosed, TooDeep, TooLong, TooManyTerms, Memory}
 use Rattle.desk_expr.specs.declared.token.Kind.TheVariants as kind
 use Rattle.desk_expr.specs.Faults.{fault_number}
-use Rattle.desk_expr.specs.Tokens.{Lexeme, AreTokens}
+use Rattle.desk_base.specs.declared.profile.Profile.{Profile}
+use Rattle.desk_expr.specs.Tokens.{Lexeme, AreTokensBy}
 use Rattle.desk_expr.specs.Grammar.{bad, SpellsTree}
-use Rattle.desk_expr.specs.Spelling.{symbol, symbol_of, symbols, AllFronts, Begins, Stands, Reason, EndReason, StopsAtToken, StopsAtEnd, IsStop}
+use Rattle.desk_expr.specs.Spelling.{symbol, symbol_of, symbols, AllFronts, Begins, Stands, Reason, EndReason, StopsAtToken, StopsAtEnd, IsStopBy}
 use Rattle.desk_expr.proofs.Balance.{no_bad}
 use Rattle.desk_expr.proofs.Lexing.{same_tokens}
 use Rattle.desk_expr.proofs.ParseLemmas.{symbols_behind}
@@ -128,71 +129,71 @@ module _ (end : ℕ) (ts : List Lexeme) where
 -- ---- the whole text
 
 -- where a text stops that is not too long
-abbrev Stops : List ℕ → ParseFault → Type 0
-Stops text f = (AreTokens 0 text [] × (f ≡ Empty 0)) ⊎ (StopsAtToken SpellsTree text f ⊎ StopsAtEnd SpellsTree text f)
+abbrev Stops : Profile → List ℕ → ParseFault → Type 0
+Stops profile text f = (AreTokensBy profile 0 text [] × (f ≡ Empty 0)) ⊎ (StopsAtToken SpellsTree profile text f ⊎ StopsAtEnd SpellsTree profile text f)
 
 -- where a text stops
-abbrev Stopped : List ℕ → ParseFault → Type 0
-Stopped text f = ((limit.EXPRESSION_BYTES < length text) × (f ≡ TooLong 0)) ⊎ ((length text ≤ limit.EXPRESSION_BYTES) × Stops text f)
+abbrev Stopped : Profile → List ℕ → ParseFault → Type 0
+Stopped profile text f = ((limit.EXPRESSION_BYTES < length text) × (f ≡ TooLong 0)) ⊎ ((length text ≤ limit.EXPRESSION_BYTES) × Stops profile text f)
 
-stopped : (text : List ℕ) (f : ParseFault) → 0 < fault_number f → IsStop SpellsTree text f → Stopped text f
-stopped text (Empty p) told h = inr (h.0, inl (h.1, ap Empty h.2))
-stopped text (BadToken p) told h = inr (h.0, inr (inl h.1))
-stopped text (Unexpected p) told h = inr (h.0, inr h.1)
-stopped text (Unclosed p) told h = inr (h.0, inr (inr h.1))
-stopped text (TooDeep p) told h = inr (h.0, inr (inl h.1))
-stopped text (TooLong p) told h = inl (h.0, ap TooLong h.1)
-stopped text (TooManyTerms p) told h = inr (h.0, inr (inl h.1))
-stopped text (Memory m) told h = absurd (omega (arith, told))
+stopped : (profile : Profile) (text : List ℕ) (f : ParseFault) → 0 < fault_number f → IsStopBy SpellsTree profile text f → Stopped profile text f
+stopped profile text (Empty p) told h = inr (h.0, inl (h.1, ap Empty h.2))
+stopped profile text (BadToken p) told h = inr (h.0, inr (inl h.1))
+stopped profile text (Unexpected p) told h = inr (h.0, inr h.1)
+stopped profile text (Unclosed p) told h = inr (h.0, inr (inr h.1))
+stopped profile text (TooDeep p) told h = inr (h.0, inr (inl h.1))
+stopped profile text (TooLong p) told h = inl (h.0, ap TooLong h.1)
+stopped profile text (TooManyTerms p) told h = inr (h.0, inr (inl h.1))
+stopped profile text (Memory m) told h = absurd (omega (arith, told))
 
-module _ (text : List ℕ) (f g : ParseFault) where
-  token_and_token : StopsAtToken SpellsTree text f → StopsAtToken SpellsTree text g → f ≡ g
+module _ (profile : Profile) (text : List ℕ) (f g : ParseFault) where
+  token_and_token : StopsAtToken SpellsTree profile text f → StopsAtToken SpellsTree profile text g → f ≡ g
   token_and_token (front, t, behind, are, stands, reason) (other, u, rest, are', stands', reason') =
-      go (two_cuts front t behind other u rest (same_tokens 0 text (front ++ t ∷ behind) (other ++ u ∷ rest) are are'))
+      go (two_cuts front t behind other u rest (same_tokens profile 0 text (front ++ t ∷ behind) (other ++ u ∷ rest) are are'))
     where
       go : Cuts front t other u → f ≡ g
       go (inl (same, one)) = one_reason other u f g (subst (λ x. Reason SpellsTree other x f) one (subst (λ l. Reason SpellsTree l t f) same reason)) reason'
       go (inr (inl (more, longer))) = absurd (stands_within front t more f (subst (AllFronts (Stands SpellsTree)) longer stands') reason)
       go (inr (inr (more, longer))) = absurd (stands_within other u more g (subst (AllFronts (Stands SpellsTree)) longer stands) reason')
 
-  end_and_end : StopsAtEnd SpellsTree text f → StopsAtEnd SpellsTree text g → f ≡ g
+  end_and_end : StopsAtEnd SpellsTree profile text f → StopsAtEnd SpellsTree profile text g → f ≡ g
   end_and_end (t, behind, are, stands, reason) (u, rest, are', stands', reason') =
       one_end (length text) (u ∷ rest) f g
-      (subst (λ l. EndReason SpellsTree (length text) l f) (same_tokens 0 text (t ∷ behind) (u ∷ rest) are are') reason) reason'
+      (subst (λ l. EndReason SpellsTree (length text) l f) (same_tokens profile 0 text (t ∷ behind) (u ∷ rest) are are') reason) reason'
 
-token_and_end : (text : List ℕ) (f g : ParseFault) → StopsAtToken SpellsTree text f → StopsAtEnd SpellsTree text g → ⊥
-token_and_end text f g (front, t, behind, are, stands, reason) (u, rest, are', stands', reason') =
-    stands_within front t behind f (subst (AllFronts (Stands SpellsTree)) (same_tokens 0 text (u ∷ rest) (front ++ t ∷ behind) are' are) stands') reason
+token_and_end : (profile : Profile) (text : List ℕ) (f g : ParseFault) → StopsAtToken SpellsTree profile text f → StopsAtEnd SpellsTree profile text g → ⊥
+token_and_end profile text f g (front, t, behind, are, stands, reason) (u, rest, are', stands', reason') =
+    stands_within front t behind f (subst (AllFronts (Stands SpellsTree)) (same_tokens profile 0 text (u ∷ rest) (front ++ t ∷ behind) are' are) stands') reason
 
-token_and_none : (text : List ℕ) (f : ParseFault) → StopsAtToken SpellsTree text f → AreTokens 0 text [] → ⊥
-token_and_none text f (front, t, behind, are, stands, reason) none =
-    let same : [] ≡ front ++ t ∷ behind = same_tokens 0 text [] (front ++ t ∷ behind) none are in
+token_and_none : (profile : Profile) (text : List ℕ) (f : ParseFault) → StopsAtToken SpellsTree profile text f → AreTokensBy profile 0 text [] → ⊥
+token_and_none profile text f (front, t, behind, are, stands, reason) none =
+    let same : [] ≡ front ++ t ∷ behind = same_tokens profile 0 text [] (front ++ t ∷ behind) none are in
     some front same
   where
     some : (front : List Lexeme) → [] ≡ front ++ t ∷ behind → ⊥
     some [] e = cc
     some (v ∷ vs) e = cc
 
-end_and_none : (text : List ℕ) (f : ParseFault) → StopsAtEnd SpellsTree text f → AreTokens 0 text [] → ⊥
-end_and_none text f (t, behind, are, stands, reason) none = let same : [] ≡ t ∷ behind = same_tokens 0 text [] (t ∷ behind) none are in cc
+end_and_none : (profile : Profile) (text : List ℕ) (f : ParseFault) → StopsAtEnd SpellsTree profile text f → AreTokensBy profile 0 text [] → ⊥
+end_and_none profile text f (t, behind, are, stands, reason) none = let same : [] ≡ t ∷ behind = same_tokens profile 0 text [] (t ∷ behind) none are in cc
 
-one_place : (text : List ℕ) (f g : ParseFault) → Stops text f → Stops text g → f ≡ g
-one_place text f g (inl a) (inl b) = a.1 ∙ sym b.1
-one_place text f g (inl a) (inr (inl b)) = absurd (token_and_none text g b a.0)
-one_place text f g (inl a) (inr (inr b)) = absurd (end_and_none text g b a.0)
-one_place text f g (inr (inl a)) (inl b) = absurd (token_and_none text f a b.0)
-one_place text f g (inr (inl a)) (inr (inl b)) = token_and_token text f g a b
-one_place text f g (inr (inl a)) (inr (inr b)) = absurd (token_and_end text f g a b)
-one_place text f g (inr (inr a)) (inl b) = absurd (end_and_none text f a b.0)
-one_place text f g (inr (inr a)) (inr (inl b)) = absurd (token_and_end text g f b a)
-one_place text f g (inr (inr a)) (inr (inr b)) = end_and_end text f g a b
+one_place : (profile : Profile) (text : List ℕ) (f g : ParseFault) → Stops profile text f → Stops profile text g → f ≡ g
+one_place profile text f g (inl a) (inl b) = a.1 ∙ sym b.1
+one_place profile text f g (inl a) (inr (inl b)) = absurd (token_and_none profile text g b a.0)
+one_place profile text f g (inl a) (inr (inr b)) = absurd (end_and_none profile text g b a.0)
+one_place profile text f g (inr (inl a)) (inl b) = absurd (token_and_none profile text f a b.0)
+one_place profile text f g (inr (inl a)) (inr (inl b)) = token_and_token profile text f g a b
+one_place profile text f g (inr (inl a)) (inr (inr b)) = absurd (token_and_end profile text f g a b)
+one_place profile text f g (inr (inr a)) (inl b) = absurd (end_and_none profile text f a b.0)
+one_place profile text f g (inr (inr a)) (inr (inl b)) = absurd (token_and_end profile text g f b a)
+one_place profile text f g (inr (inr a)) (inr (inr b)) = end_and_end profile text f g a b
 
-one_of : (text : List ℕ) (f g : ParseFault) → Stopped text f → Stopped text g → f ≡ g
-one_of text f g (inl a) (inl b) = a.1 ∙ sym b.1
-one_of text f g (inl a) (inr b) = absurd (omega (arith, a.0, b.0))
-one_of text f g (inr a) (inl b) = absurd (omega (arith, a.0, b.0))
-one_of text f g (inr a) (inr b) = one_place text f g a.1 b.1
+one_of : (profile : Profile) (text : List ℕ) (f g : ParseFault) → Stopped profile text f → Stopped profile text g → f ≡ g
+one_of profile text f g (inl a) (inl b) = a.1 ∙ sym b.1
+one_of profile text f g (inl a) (inr b) = absurd (omega (arith, a.0, b.0))
+one_of profile text f g (inr a) (inl b) = absurd (omega (arith, a.0, b.0))
+one_of profile text f g (inr a) (inr b) = one_place profile text f g a.1 b.1
 
--- a text has one stop, want of memory aside
-pub one_stop : (text : List ℕ) (f g : ParseFault) → 0 < fault_number f → 0 < fault_number g → IsStop SpellsTree text f → IsStop SpellsTree text g → f ≡ g
-one_stop text f g told told' h k = one_of text f g (stopped text f told h) (stopped text g told' k)
+-- by each profile a text has one stop, want of memory aside
+pub one_stop : (profile : Profile) (text : List ℕ) (f g : ParseFault) → 0 < fault_number f → 0 < fault_number g → IsStopBy SpellsTree profile text f → IsStopBy SpellsTree profile text g → f ≡ g
+one_stop profile text f g told told' h k = one_of profile text f g (stopped profile text f told h) (stopped profile text g told' k)

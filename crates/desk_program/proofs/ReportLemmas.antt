@@ -6,11 +6,12 @@ use Rattle.std.proofs.lemmas.List.{map-append, length-map, take-append-drop}
 use Rattle.std.proofs.lemmas.Option.{slice_get_within, slice_get-map, slice_get-get_or}
 use Rattle.desk_expr.specs.declared.term.Term.{Term}
 use Rattle.desk_expr.specs.Faults.{fault_number}
+use Rattle.desk_base.specs.declared.profile.Profile.{Profile}
 use Rattle.desk_expr.specs.declared.fault.ParseFault.{ParseFault}
 use Rattle.desk_expr.specs.declared.fault.ParseFault.TheVariants.{Memory}
 use Rattle.desk_expr.specs.Tree.{Tree}
 use Rattle.desk_expr.specs.Grammar.{SpellsTree}
-use Rattle.desk_expr.specs.Spelling.{SpellsWithin, SpellsTermWithin, IsStop}
+use Rattle.desk_expr.specs.Spelling.{SpellsWithinBy, SpellsTermWithin, IsStopBy}
 use Rattle.desk_program.specs.Report.{SpellTerms, IsBad, IsFirstBad, IsReport, IsVerdict, StopsWith}
 use Rattle.desk_program.specs.declared.report.Report.{Report}
 use Rattle.desk_program.specs.declared.report.Report.TheVariants.{Minimal, NotEnough, Superfluous, BadTerm, Fault}
@@ -76,16 +77,16 @@ not_memory fault told (inl e) = let none : 0 < fault_number (Memory alloc_error)
 not_memory fault told (inr p) = p
 
 -- a fault that was told
-pub stops_with : (expression : List ℕ) (fault told : ParseFault) → told ≡ fault → 0 < fault_number fault → IsStop SpellsTree expression fault
-    → (fault ≡ Memory alloc_error) ⊎ ((tree : Tree) → SpellsWithin expression tree → ⊥) → StopsWith expression told
-stops_with expression fault told same is_told stop complete =
-    subst (λ f. StopsWith expression f) (sym same) (not_memory fault is_told complete, is_told, stop)
+pub stops_with : (profile : Profile) (expression : List ℕ) (fault told : ParseFault) → told ≡ fault → 0 < fault_number fault → IsStopBy SpellsTree profile expression fault
+    → (fault ≡ Memory alloc_error) ⊎ ((tree : Tree) → SpellsWithinBy profile expression tree → ⊥) → StopsWith profile expression told
+stops_with profile expression fault told same is_told stop complete =
+    subst (λ f. StopsWith profile expression f) (sym same) (not_memory fault is_told complete, is_told, stop)
 
 -- a verdict on what the texts spell is their answer
-pub verdict_reported : (expression : List ℕ) (words : List (List ℕ)) (terms : List Term) (tree : Tree) (report : Report) → SpellsWithin expression tree
-    → SpellTerms words terms → IsVerdict words terms tree report → IsReport expression words report
-verdict_reported expression words terms tree Minimal spells spell is = (tree, terms, spells, spell, is)
-verdict_reported expression words terms tree NotEnough spells spell is = (tree, terms, spells, spell, is)
-verdict_reported expression words terms tree (Superfluous word) spells spell is = (tree, terms, spells, spell, is)
-verdict_reported expression words terms tree (BadTerm word) spells spell is = absurd is
-verdict_reported expression words terms tree (Fault fault) spells spell is = absurd is
+pub verdict_reported : (profile : Profile) (expression : List ℕ) (words : List (List ℕ)) (terms : List Term) (tree : Tree) (report : Report) → SpellsWithinBy profile expression tree
+    → SpellTerms words terms → IsVerdict words terms tree report → IsReport profile expression words report
+verdict_reported profile expression words terms tree Minimal spells spell is = (tree, terms, spells, spell, is)
+verdict_reported profile expression words terms tree NotEnough spells spell is = (tree, terms, spells, spell, is)
+verdict_reported profile expression words terms tree (Superfluous word) spells spell is = (tree, terms, spells, spell, is)
+verdict_reported profile expression words terms tree (BadTerm word) spells spell is = absurd is
+verdict_reported profile expression words terms tree (Fault fault) spells spell is = absurd is

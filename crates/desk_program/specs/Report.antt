@@ -1,10 +1,11 @@
 -- The one line that `check` writes, and the status that it answers.
 use Rattle.std.specs.Prelude.{◌≡◌, ℕ, ◌<◌, List, [], ◌∷◌, ◌++◌, codes, slice_get, Some, Contains, decimal}
+use Rattle.desk_base.specs.declared.profile.Profile.{Profile}
 use Rattle.desk_expr.specs.declared.fault.ParseFault.{ParseFault}
 use Rattle.desk_expr.specs.declared.term.Term.{Term}
 use Rattle.desk_expr.specs.Tree.{Tree}
 use Rattle.desk_expr.specs.Grammar.{SpellsTree}
-use Rattle.desk_expr.specs.Spelling.{SpellsWithin, SpellsTermWithin, IsStop}
+use Rattle.desk_expr.specs.Spelling.{SpellsWithinBy, SpellsTermWithin, IsStopBy}
 use Rattle.desk_expr.specs.Faults.{fault_name, fault_number, fault_place}
 use Rattle.desk_expr.specs.Meaning.{Holds, IsMinimal, CanGo, IsFirst}
 use Rattle.desk_program.specs.declared.report.Report.{Report}
@@ -40,17 +41,17 @@ IsVerdict words terms tree NotEnough = Holds (Contains terms) tree → ⊥
 IsVerdict words terms tree (Superfluous word) = (i : ℕ) × (slice_get words i ≡ Some word.now) × IsFirst (CanGo terms tree) i
 IsVerdict words terms tree _ = ⊥
 
--- the expression spells no tree, and stops with the fault, which isn't want of memory
-abbrev pub StopsWith : List ℕ → ParseFault → Type 0
-StopsWith expression fault =
-    ((tree : Tree) → SpellsWithin expression tree → ⊥) × (0 < fault_number fault) × IsStop SpellsTree expression fault
+-- read by the profile, the expression spells no tree, and stops with the fault, which isn't want of memory
+abbrev pub StopsWith : Profile → List ℕ → ParseFault → Type 0
+StopsWith profile expression fault =
+    ((tree : Tree) → SpellsWithinBy profile expression tree → ⊥) × (0 < fault_number fault) × IsStopBy SpellsTree profile expression fault
 
--- the answer to an expression and words: a fault of the expression first, then the first bad word, then the verdict
-abbrev pub IsReport : List ℕ → List (List ℕ) → Report → Type 0
-IsReport expression words (Fault fault) = StopsWith expression fault
-IsReport expression words (BadTerm word) = ((tree : Tree) × SpellsWithin expression tree) × IsFirstBad words word.now
-IsReport expression words verdict =
-    (tree : Tree) × (terms : List Term) × SpellsWithin expression tree × SpellTerms words terms × IsVerdict words terms tree verdict
+-- the answer to an expression, its profile of operators and words: a fault of the expression first, then the first bad word, then the verdict
+abbrev pub IsReport : Profile → List ℕ → List (List ℕ) → Report → Type 0
+IsReport profile expression words (Fault fault) = StopsWith profile expression fault
+IsReport profile expression words (BadTerm word) = ((tree : Tree) × SpellsWithinBy profile expression tree) × IsFirstBad words word.now
+IsReport profile expression words verdict =
+    (tree : Tree) × (terms : List Term) × SpellsWithinBy profile expression tree × SpellTerms words terms × IsVerdict words terms tree verdict
 
 -- ---- its text
 
@@ -68,14 +69,14 @@ status_of Minimal = 0
 status_of _ = 1
 
 -- the line and the status that tell whether the words are a minimal choice for the expression
-abbrev pub Tells : List ℕ → List (List ℕ) → List ℕ → ℕ → Type 0
-Tells expression words line status =
-    (report : Report) × IsReport expression words report × (line ≡ text_of report) × (status ≡ status_of report)
+abbrev pub Tells : Profile → List ℕ → List (List ℕ) → List ℕ → ℕ → Type 0
+Tells profile expression words line status =
+    (report : Report) × IsReport profile expression words report × (line ≡ text_of report) × (status ≡ status_of report)
 
 -- only one line and one status do
-abbrev pub TellsOnce : List ℕ → List (List ℕ) → Type 0
-TellsOnce expression words =
-    (line other : List ℕ) (status another : ℕ) → Tells expression words line status → Tells expression words other another
+abbrev pub TellsOnce : Profile → List ℕ → List (List ℕ) → Type 0
+TellsOnce profile expression words =
+    (line other : List ℕ) (status another : ℕ) → Tells profile expression words line status → Tells profile expression words other another
     → (line ≡ other) × (status ≡ another)
 
 -- ---- the reading of the words

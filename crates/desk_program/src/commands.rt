@@ -11,7 +11,7 @@ ghost use Rattle.desk_program.specs.Report.{IsReadTo, IsReport, IsVerdict, Spell
 use crate::failure::Failure;
 use crate::report::Report;
 use desk_core::desk::Desk;
-use desk_expr::{Expr, ParseFault, Term, Verdict, check_choice, parse, parse_term};
+use desk_expr::{Expr, ParseFault, Profile, Term, Verdict, check_choice, parse_in, parse_term};
 use std::alloc::{AllocError, Global};
 use std::io::{Read, Write};
 
@@ -70,11 +70,12 @@ fn verdict<'a>(tree: &Expr, terms: &[Term], words: &'a [&'a str]) -> Report<'a>
 fn judge<'a>(
     alloc: Global,
     expression: &str,
+    profile: Profile,
     words: &'a [&'a str],
 ) -> Result<Report<'a>, AllocError>
-    ensures { IfOk result (IsReport expression.now (map (λ w. w.now) words.entry.now)) }
+    ensures { IfOk result (IsReport profile expression.now (map (λ w. w.now) words.entry.now)) }
 {
-    let tree = match parse(alloc, expression) {
+    let tree = match parse_in(alloc, expression, profile) {
         Ok(tree) => tree,
         Err(fault) => return Ok(Report::Fault(told(fault)?)),
     };
@@ -84,22 +85,23 @@ fn judge<'a>(
     }
 }
 
-/// Writes whether the words spell a minimal choice of terms for the licence expression, as one line,
-/// and answers the program's status. Where memory is wanting, nothing is written.
+/// Writes whether the words spell a minimal choice of terms for the licence expression, whose operators
+/// are written by the profile, as one line, and answers the program's status. Where memory is wanting, nothing is written.
 pub fn check<W: Write>(
     alloc: Global,
     expression: &str,
+    profile: Profile,
     words: &[&str],
     writer: &mut W,
 ) -> Result<u8, Failure>
     ensures told { IfOk result (λ status. (line : List ℕ)
-        × Tells expression.now (map (λ w. w.now) words.now) line status
+        × Tells profile expression.now (map (λ w. w.now) words.now) line status
         × Appends (W.contents writer.old) (W.contents writer.new) (line ++ 10 ∷ [])) }
-    ensures once { TellsOnce expression.now (map (λ w. w.now) words.now) }
+    ensures once { TellsOnce profile expression.now (map (λ w. w.now) words.now) }
     ensures memory { IfErr result
         (IfMemory (Keeps (W.contents writer.old) (W.contents writer.new))) }
 {
-    let report = judge(alloc, expression, words)?;
+    let report = judge(alloc, expression, profile, words)?;
     let line = format!(in alloc; "{report}\n")?;
     writer.write_all(line.as_bytes())?;
     writer.flush()?;

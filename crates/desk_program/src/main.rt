@@ -68,12 +68,17 @@ fn keep_large_blocks(alloc: Global) {
 
 fn answer(rt: &(impl Print + Input), alloc: Global, call: &Call) -> Result<u8, Failure> {
     match call {
-        Call::Check { expression, terms } => {
+        Call::Check {
+            expression,
+            profile,
+            terms,
+        } => {
             let terms = terms.as_slice().iter();
             let words: Vec<&str> = terms.map(|term| term.as_str()).collect(alloc)?;
             commands::check(
                 alloc,
                 expression.as_str(),
+                *profile,
                 words.as_slice(),
                 &mut io::writer(rt),
             )

@@ -5,9 +5,9 @@ use Rattle.std.specs.Prelude.{is_some, Result, Contains}
 use Rattle.desk_fields.specs.declared.fault.DocFault.{DocFault}
 use Rattle.desk_expr.specs.declared.term.Term.{Term}
 use Rattle.desk_expr.specs.Tree.{Tree}
-use Rattle.desk_expr.specs.Spelling.{SpellsWithin, SpellsTermWithin}
+use Rattle.desk_expr.specs.Spelling.{SpellsWithinBy}
 use Rattle.desk_rows.specs.Readings.{Readings}
-use Rattle.desk_rows.specs.declared.reading.Profile.{Profile}
+use Rattle.desk_base.specs.declared.profile.Profile.{Profile}
 use Rattle.desk_rows.specs.declared.reading.Verdict.{Verdict}
 use Rattle.desk_rows.specs.declared.reading.Verdict.TheVariants.{NotEnough, Superfluous, Minimal}
 use Rattle.desk_catalogue.specs.Reading.{catalogue_of}
@@ -50,48 +50,48 @@ terms_of (text ∷ texts) = let first = term_read text in let rest = terms_of te
 
 -- ---- expressions, documents
 
-abbrev pub Decides : List ℕ → Type 0
-Decides text = ((e : Tree) × SpellsWithin text e) ⊎ ((e : Tree) → SpellsWithin text e → ⊥)
+abbrev pub Decides : Profile → List ℕ → Type 0
+Decides profile text = ((e : Tree) × SpellsWithinBy profile text e) ⊎ ((e : Tree) → SpellsWithinBy profile text e → ⊥)
 
-tells_once : (text : List ℕ) (o : Option Tree) (tells : Bool) → IsRead text o → Tells text tells → is_some o ≡ tells
-tells_once text (Some e) true is says = refl
-tells_once text (Some e) false is says = absurd (says e is)
-tells_once text None true is says = absurd (is says.0 says.1)
-tells_once text None false is says = refl
+tells_once : (profile : Profile) (text : List ℕ) (o : Option Tree) (tells : Bool) → IsRead profile text o → Tells profile text tells → is_some o ≡ tells
+tells_once profile text (Some e) true is says = refl
+tells_once profile text (Some e) false is says = absurd (says e is)
+tells_once profile text None true is says = absurd (is says.0 says.1)
+tells_once profile text None false is says = refl
 
 module _
-    (tree : (text : List ℕ) → Decides text)
+    (tree : (profile : Profile) (text : List ℕ) → Decides profile text)
     (verdict : (e : Tree) (ts : List Term) → (v : Verdict) × IsVerdict e ts v)
     (document : (bytes : List ℕ) → (r : Result DocumentText DocFault) × Spells bytes r)
   where
-    expression_in : (text : List ℕ) → is_no_licence text ≡ false → Decides text → (o : Option Tree) × IsRead text o
-    expression_in text some (inl (e, spells)) = (Some e, (some, spells))
-    expression_in text some (inr none) = (None, λ e is. none e is.1)
+    expression_in : (profile : Profile) (text : List ℕ) → is_no_licence text ≡ false → Decides profile text → (o : Option Tree) × IsRead profile text o
+    expression_in profile text some (inl (e, spells)) = (Some e, (some, spells))
+    expression_in profile text some (inr none) = (None, λ e is. none e is.1)
 
-    no_expression : (text : List ℕ) → is_no_licence text ≡ true → (e : Tree) → IsExpression text e → ⊥
-    no_expression text none e is = let both = sym none ∙ is.0 in cc
+    no_expression : (profile : Profile) (text : List ℕ) → is_no_licence text ≡ true → (e : Tree) → IsExpression profile text e → ⊥
+    no_expression profile text none e is = let both = sym none ∙ is.0 in cc
 
-    pub expression_read : (text : List ℕ) → (o : Option Tree) × IsRead text o
-    expression_read text = elim (cases_Bool (is_no_licence text)) [
-      | inl none ↦ (None, no_expression text none)
-      | inr some ↦ expression_in text some (tree text)
+    pub expression_read : (profile : Profile) (text : List ℕ) → (o : Option Tree) × IsRead profile text o
+    expression_read profile text = elim (cases_Bool (is_no_licence text)) [
+      | inl none ↦ (None, no_expression profile text none)
+      | inr some ↦ expression_in profile text some (tree profile text)
     ]
 
-    told_by : (text : List ℕ) (o : Option Tree) → IsRead text o → (tells : Bool) × Tells text tells
-    told_by text (Some e) is = (true, (e, is))
-    told_by text None none = (false, none)
+    told_by : (profile : Profile) (text : List ℕ) (o : Option Tree) → IsRead profile text o → (tells : Bool) × Tells profile text tells
+    told_by profile text (Some e) is = (true, (e, is))
+    told_by profile text None none = (false, none)
 
     -- whether a text is an expression
-    pub told : (text : List ℕ) → (tells : Bool) × Tells text tells
-    told text = let found = expression_read text in told_by text found.0 found.1
+    pub told : (profile : Profile) (text : List ℕ) → (tells : Bool) × Tells profile text tells
+    told profile text = let found = expression_read profile text in told_by profile text found.0 found.1
 
-    judge : (text : List ℕ) (words : List (List ℕ)) (o : Option Tree) (p : Option (List Term)) → IsRead text o → AreAllTerms words p → (v : Verdict) × Judges text words v
-    judge text words (Some e) (Some ts) is are = let found = verdict e ts in (found.0, inl (e, ts, is, are, found.1))
-    judge text words (Some e) None is none = (NotEnough, inr (λ f ts other are. none ts are, refl))
-    judge text words None p none are = (NotEnough, inr (λ e ts is these. none e is, refl))
+    judge : (profile : Profile) (text : List ℕ) (words : List (List ℕ)) (o : Option Tree) (p : Option (List Term)) → IsRead profile text o → AreAllTerms words p → (v : Verdict) × Judges profile text words v
+    judge profile text words (Some e) (Some ts) is are = let found = verdict e ts in (found.0, inl (e, ts, is, are, found.1))
+    judge profile text words (Some e) None is none = (NotEnough, inr (λ f ts other are. none ts are, refl))
+    judge profile text words None p none are = (NotEnough, inr (λ e ts is these. none e is, refl))
 
-    pub judged : (text : List ℕ) (words : List (List ℕ)) → (v : Verdict) × Judges text words v
-    judged text words = let e = expression_read text in let ts = terms_of words in judge text words e.0 ts.0 e.1 ts.1
+    pub judged : (profile : Profile) (text : List ℕ) (words : List (List ℕ)) → (v : Verdict) × Judges profile text words v
+    judged profile text words = let e = expression_read profile text in let ts = terms_of words in judge profile text words e.0 ts.0 e.1 ts.1
 
     pub standard : Readings
     standard = record {
@@ -99,8 +99,8 @@ module _
       document = λ bytes. kept (document bytes).0;
       term = terms_read.0;
       reference = reference_in;
-      is_expression = λ profile text. is_some (expression_read text).0;
-      verdict = λ profile text words. (judged text words).0;
+      is_expression = λ profile text. is_some (expression_read profile text).0;
+      verdict = λ profile text words. (judged profile text words).0;
     }
 
     pub standard_is_right : AreRight standard
@@ -110,6 +110,6 @@ module _
       catalogue = λ text. refl;
       document = λ bytes read spells. ap kept (spells_once bytes (document bytes).0 read (document bytes).1 spells);
       reference = λ term. refl;
-      expression = λ profile text tells says. tells_once text (expression_read text).0 tells (expression_read text).1 says;
-      verdict = λ profile text words v judges. judged_once text words (judged text words).0 v (judged text words).1 judges;
+      expression = λ profile text tells says. tells_once profile text (expression_read profile text).0 tells (expression_read profile text).1 says;
+      verdict = λ profile text words v judges. judged_once profile text words (judged profile text words).0 v (judged profile text words).1 judges;
     }

@@ -9,7 +9,7 @@ use Rattle.desk_expr_laws.proofs.Texts.{tree_of_text}
 use Rattle.desk_expr_laws.proofs.Verdicts as choices
 use Rattle.desk_document_laws.proofs.EachDocument.{each_document}
 use Rattle.desk_rows.specs.Readings.{Readings}
-use Rattle.desk_rows.specs.declared.reading.Profile.{Profile}
+use Rattle.desk_base.specs.declared.profile.Profile.{Profile}
 use Rattle.desk_rows.specs.declared.reading.Verdict.{Verdict}
 use Rattle.desk_rows.specs.declared.reading.Verdict.TheVariants.{NotEnough, Superfluous, Minimal}
 use Rattle.desk_catalogue.specs.Reading.{catalogue_of}
@@ -31,18 +31,18 @@ pub right_reading : (w : Readings) × AreRight w
 right_reading = (standard tree_of_text verdict_of each_document, standard_is_right tree_of_text verdict_of each_document)
 
 -- what a value and texts are judged to be
-abbrev judgement : (text : List ℕ) (words : List (List ℕ)) → (v : Verdict) × Judges text words v
-judgement text words = judged tree_of_text verdict_of each_document text words
+abbrev judgement : (profile : Profile) (text : List ℕ) (words : List (List ℕ)) → (v : Verdict) × Judges profile text words v
+judgement profile text words = judged tree_of_text verdict_of each_document profile text words
 
 -- what is judged minimal is a minimal set
-minimal_by : (text : List ℕ) (words : List (List ℕ)) → Judges text words Minimal → (e : Tree) × (ts : List Term) × IsExpression text e × AreTerms words ts × IsMinimal ts e
-minimal_by text words (inl (e, ts, is, are, minimal)) = (e, ts, is, are, minimal)
-minimal_by text words (inr (none, is)) = cc
+minimal_by : (profile : Profile) (text : List ℕ) (words : List (List ℕ)) → Judges profile text words Minimal → (e : Tree) × (ts : List Term) × IsExpression profile text e × AreTerms words ts × IsMinimal ts e
+minimal_by profile text words (inl (e, ts, is, are, minimal)) = (e, ts, is, are, minimal)
+minimal_by profile text words (inr (none, is)) = cc
 
-pub minimal_choice : (w : Readings) → AreRight w → (profile : Profile) (text : List ℕ) (words : List (List ℕ)) → w.verdict profile text words ≡ Minimal → (e : Tree) × (ts : List Term) × IsExpression text e × AreTerms words ts × IsMinimal ts e
+pub minimal_choice : (w : Readings) → AreRight w → (profile : Profile) (text : List ℕ) (words : List (List ℕ)) → w.verdict profile text words ≡ Minimal → (e : Tree) × (ts : List Term) × IsExpression profile text e × AreTerms words ts × IsMinimal ts e
 minimal_choice w right profile text words is =
-    let found = judgement text words in
-    minimal_by text words (subst (Judges text words) (sym (right.verdict profile text words found.0 found.1) ∙ is) found.1)
+    let found = judgement profile text words in
+    minimal_by profile text words (subst (Judges profile text words) (sym (right.verdict profile text words found.0 found.1) ∙ is) found.1)
 
 -- all right readings tell the same
 
@@ -57,7 +57,7 @@ same_document v w a b bytes = let read = each_document bytes in a.document bytes
 
 pub same_verdict : (v w : Readings) → AreRight v → AreRight w → (profile : Profile) (text : List ℕ) (words : List (List ℕ)) → v.verdict profile text words ≡ w.verdict profile text words
 same_verdict v w a b profile text words =
-    let found = judgement text words in
+    let found = judgement profile text words in
     a.verdict profile text words found.0 found.1 ∙ sym (b.verdict profile text words found.0 found.1)
 
 pub same_reference : (v w : Readings) → AreRight v → AreRight w → (term : List ℕ) → v.reference term ≡ w.reference term
@@ -65,5 +65,5 @@ same_reference v w a b term = a.reference term ∙ sym (b.reference term)
 
 pub same_expression : (v w : Readings) → AreRight v → AreRight w → (profile : Profile) (text : List ℕ) → v.is_expression profile text ≡ w.is_expression profile text
 same_expression v w a b profile text =
-    let found = told tree_of_text verdict_of each_document text in
+    let found = told tree_of_text verdict_of each_document profile text in
     a.expression profile text found.0 found.1 ∙ sym (b.expression profile text found.0 found.1)

@@ -3,9 +3,11 @@ use Rattle.std.proofs.Common.{◌≡◌, ◌∙◌, ◌⊎◌, inl, inr, ℕ, �
 use Rattle.std.proofs.Math.Nat.{eq-or-lt_of_le}
 use Rattle.std.proofs.lemmas.Bool.{cases_lt}
 use Rattle.std.specs.Prelude.{Contains}
+use Rattle.desk_base.specs.declared.profile.Profile.{Profile}
+use Rattle.desk_base.specs.declared.profile.Profile.TheVariants.{Capitals}
 use Rattle.desk_expr.specs.declared.term.Term.{Term}
 use Rattle.desk_expr.specs.Tree.{Tree}
-use Rattle.desk_expr.specs.Spelling.{SpellsWithin}
+use Rattle.desk_expr.specs.Spelling.{SpellsWithinBy}
 use Rattle.desk_expr.specs.Meaning.{Holds, CanGo, IsFirst}
 use Rattle.desk_expr.proofs.ParseLemmas.{spells_once}
 use Rattle.desk_expr.proofs.TermLemmas.{spells_term_once}
@@ -15,11 +17,11 @@ use Rattle.desk_rows.specs.declared.reading.Verdict.TheVariants.{NotEnough, Supe
 use Rattle.desk_texts.specs.Expressions.{IsExpression, IsVerdict, Judges}
 use Rattle.desk_texts.specs.Terms.{AreTerms}
 
-pub one_tree : (text : List ℕ) (e f : Tree) → IsExpression text e → IsExpression text f → e ≡ f
-one_tree text e f (some, spells) (some', spells') = one text spells spells'
+pub one_tree : (profile : Profile) (text : List ℕ) (e f : Tree) → IsExpression profile text e → IsExpression profile text f → e ≡ f
+one_tree profile text e f (some, spells) (some', spells') = one text spells spells'
   where
-    one : (t : List ℕ) → SpellsWithin t e → SpellsWithin t f → e ≡ f
-    one t (short, ts, are, h, keeps) (short', us, are', k, keeps') = spells_once t e f (ts, are, h) (us, are', k)
+    one : (t : List ℕ) → SpellsWithinBy profile t e → SpellsWithinBy profile t f → e ≡ f
+    one t (short, ts, are, h, keeps) (short', us, are', k, keeps') = spells_once profile t e f (ts, are, h) (us, are', k)
 
 pub same_terms : (texts : List (List ℕ)) (ts us : List Term) → AreTerms texts ts → AreTerms texts us → ts ≡ us
 same_terms [] [] [] h k = refl
@@ -28,7 +30,7 @@ same_terms [] (t ∷ ts) us h k = absurd h
 same_terms (x ∷ xs) [] us h k = absurd h
 same_terms (x ∷ xs) (t ∷ ts) [] h k = absurd k
 same_terms (x ∷ xs) (t ∷ ts) (u ∷ us) h k =
-    let first = spells_term_once x t u h.0.1 k.0.1 in
+    let first = spells_term_once Capitals x t u h.0.1 k.0.1 in
     let rest = same_terms xs ts us h.1 k.1 in
     (λ i. first i ∷ rest i)
 
@@ -54,11 +56,11 @@ module _ (e : Tree) (ts : List Term) where
   one_verdict (Superfluous i) (Superfluous j) h k = ap Superfluous (one_first i j h k)
 
 -- a value and texts are judged in one way
-pub judged_once : (text : List ℕ) (words : List (List ℕ)) (a b : Verdict) → Judges text words a → Judges text words b → a ≡ b
-judged_once text words a b (inl (e, ts, is, are, v)) (inl (f, us, is', are', v')) =
-    let tree : f ≡ e = one_tree text f e is' is in
+pub judged_once : (profile : Profile) (text : List ℕ) (words : List (List ℕ)) (a b : Verdict) → Judges profile text words a → Judges profile text words b → a ≡ b
+judged_once profile text words a b (inl (e, ts, is, are, v)) (inl (f, us, is', are', v')) =
+    let tree : f ≡ e = one_tree profile text f e is' is in
     let terms : us ≡ ts = same_terms words us ts are' are in
     one_verdict e ts a b v (subst (λ x. IsVerdict x ts b) tree (subst (λ l. IsVerdict f l b) terms v'))
-judged_once text words a b (inl (e, ts, is, are, v)) (inr (none, is')) = absurd (none e ts is are)
-judged_once text words a b (inr (none, is)) (inl (e, ts, is', are, v)) = absurd (none e ts is' are)
-judged_once text words a b (inr (none, is)) (inr (none', is')) = is ∙ sym is'
+judged_once profile text words a b (inl (e, ts, is, are, v)) (inr (none, is')) = absurd (none e ts is are)
+judged_once profile text words a b (inr (none, is)) (inl (e, ts, is', are, v)) = absurd (none e ts is' are)
+judged_once profile text words a b (inr (none, is)) (inr (none', is')) = is ∙ sym is'

@@ -5,7 +5,7 @@ ghost use Rattle.desk_expr.specs.declared.term.Term.{Term};
 ghost use Rattle.desk_expr.specs.Tree.{Tree};
 ghost use Rattle.desk_expr.specs.Meaning.{IsMinimal};
 ghost use Rattle.desk_rows.specs.Readings.{Readings};
-ghost use Rattle.desk_rows.specs.declared.reading.Profile.{Profile};
+ghost use Rattle.desk_base.specs.declared.profile.Profile.{Profile};
 ghost use Rattle.desk_rows.specs.declared.reading.Verdict.TheVariants.{Minimal};
 ghost use Rattle.desk_history.specs.Laws.{ListsOnce};
 ghost use Rattle.desk_texts.specs.Expressions.{IsExpression};
@@ -27,9 +27,10 @@ pub fn one_right_reading()
     ensures verdicts { (v w : Readings) → AreRight v → AreRight w → (profile : Profile) (text : List ℕ) (words : List (List ℕ)) → v.verdict profile text words ≡ w.verdict profile text words }
 {}
 
-/// What a right reading calls minimal is a minimal set of terms for the expression that the value spells.
+/// What a right reading calls minimal is a minimal set of terms for the expression that the value spells
+/// by the same profile of operators.
 pub fn choices_are_minimal_sets()
-    ensures { (w : Readings) → AreRight w → (profile : Profile) (text : List ℕ) (words : List (List ℕ)) → w.verdict profile text words ≡ Minimal → (e : Tree) × (ts : List Term) × IsExpression text e × AreTerms words ts × IsMinimal ts e }
+    ensures { (w : Readings) → AreRight w → (profile : Profile) (text : List ℕ) (words : List (List ℕ)) → w.verdict profile text words ≡ Minimal → (e : Tree) × (ts : List Term) × IsExpression profile text e × AreTerms words ts × IsMinimal ts e }
 {}
 
 /// A right reading lists no package of a document and no code of a rule twice, so no two duties of a desk have the same key

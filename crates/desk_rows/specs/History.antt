@@ -13,8 +13,8 @@ use Rattle.desk_rows.specs.declared.reading.Rule.{Rule}
 use Rattle.desk_rows.specs.declared.reading.Document.{Document}
 use Rattle.desk_rows.specs.declared.reading.Package.{Package}
 use Rattle.desk_rows.specs.declared.reading.Reference.{Reference}
-use Rattle.desk_rows.specs.declared.reading.Profile.{Profile}
-use Rattle.desk_rows.specs.declared.reading.Profile.TheVariants.{Capitals}
+use Rattle.desk_base.specs.declared.profile.Profile.{Profile}
+use Rattle.desk_base.specs.declared.profile.Profile.TheVariants.{Capitals}
 use Rattle.desk_rows.specs.declared.row.CatalogueRow.{CatalogueRow}
 use Rattle.desk_rows.specs.declared.row.RuleRow.{RuleRow}
 use Rattle.desk_rows.specs.declared.row.DocumentRow.{DocumentRow}

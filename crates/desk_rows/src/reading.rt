@@ -1,15 +1,7 @@
 //! What the desk understands of the texts that it is given.
 
+pub use desk_base::Profile;
 use desk_base::{Items, Text};
-
-/// How the operators of the licence expressions of a document are written.
-#[derive(Clone, Copy, Debug, PartialEq, Eq)]
-pub enum Profile {
-    /// In capitals alone (SPDX 2.3, Annex D).
-    Capitals,
-    /// In capitals or in small letters.
-    Either,
-}
 
 /// A rule of a catalogue: what a term owes in a form.
 #[derive(Debug, Drop)]

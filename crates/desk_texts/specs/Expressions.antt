@@ -1,9 +1,11 @@
--- Licence expressions in the fields of a document (SPDX 2.3, clause 7.13 and Annex D).
+-- Licence expressions in the fields of a document (SPDX 2.3, clause 7.13 and Annex D), read by the profile of operators that the
+-- document was imported with.
 use Rattle.std.specs.Prelude.{◌≡◌, ◌⊎◌, ℕ, ◌==◌, ◌&&◌, ◌||◌, Bool, true, false, List, Option, Some, None, length, codes, Contains}
 use Rattle.std.specs.Str.{bytes_eq}
+use Rattle.desk_base.specs.declared.profile.Profile.{Profile}
 use Rattle.desk_expr.specs.declared.term.Term.{Term}
 use Rattle.desk_expr.specs.Tree.{Tree}
-use Rattle.desk_expr.specs.Spelling.{SpellsWithin}
+use Rattle.desk_expr.specs.Spelling.{SpellsWithinBy}
 use Rattle.desk_expr.specs.Meaning.{Holds, CanGo, IsFirst, IsMinimal}
 use Rattle.desk_fields.specs.Text.{first_word, after_word, skip_blanks}
 use Rattle.desk_rows.specs.declared.reading.Verdict.{Verdict}
@@ -19,21 +21,21 @@ abbrev pub is_no_licence : List ℕ → Bool
 is_no_licence text = is_only_word (codes "NONE") text || is_only_word (codes "NOASSERTION") text
 
 -- the expression of a field's value
-abbrev pub IsExpression : List ℕ → Tree → Type 0
-IsExpression text e = (is_no_licence text ≡ false) × SpellsWithin text e
+abbrev pub IsExpression : Profile → List ℕ → Tree → Type 0
+IsExpression profile text e = (is_no_licence text ≡ false) × SpellsWithinBy profile text e
 
-abbrev pub IsNoExpression : List ℕ → Type 0
-IsNoExpression text = (e : Tree) → IsExpression text e → ⊥
+abbrev pub IsNoExpression : Profile → List ℕ → Type 0
+IsNoExpression profile text = (e : Tree) → IsExpression profile text e → ⊥
 
 -- the expression that a value is, if it is one
-abbrev pub IsRead : List ℕ → Option Tree → Type 0
-IsRead text None = IsNoExpression text
-IsRead text (Some e) = IsExpression text e
+abbrev pub IsRead : Profile → List ℕ → Option Tree → Type 0
+IsRead profile text None = IsNoExpression profile text
+IsRead profile text (Some e) = IsExpression profile text e
 
 -- whether a value is an expression
-abbrev pub Tells : List ℕ → Bool → Type 0
-Tells text true = (e : Tree) × IsExpression text e
-Tells text false = IsNoExpression text
+abbrev pub Tells : Profile → List ℕ → Bool → Type 0
+Tells profile text true = (e : Tree) × IsExpression profile text e
+Tells profile text false = IsNoExpression profile text
 
 -- what a list of terms is to an expression
 abbrev pub IsVerdict : Tree → List Term → Verdict → Type 0
@@ -42,7 +44,7 @@ IsVerdict e ts (Superfluous i) = IsFirst (CanGo ts e) i
 IsVerdict e ts Minimal = IsMinimal ts e
 
 -- what texts that spell terms are to the expression of a value: not enough where it has none, or where a text spells no term
-abbrev pub Judges : List ℕ → List (List ℕ) → Verdict → Type 0
-Judges text words verdict =
-    ((e : Tree) × (ts : List Term) × IsExpression text e × AreTerms words ts × IsVerdict e ts verdict)
-    ⊎ (((e : Tree) (ts : List Term) → IsExpression text e → AreTerms words ts → ⊥) × (verdict ≡ NotEnough))
+abbrev pub Judges : Profile → List ℕ → List (List ℕ) → Verdict → Type 0
+Judges profile text words verdict =
+    ((e : Tree) × (ts : List Term) × IsExpression profile text e × AreTerms words ts × IsVerdict e ts verdict)
+    ⊎ (((e : Tree) (ts : List Term) → IsExpression profile text e → AreTerms words ts → ⊥) × (verdict ≡ NotEnough))

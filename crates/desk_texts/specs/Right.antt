@@ -2,7 +2,7 @@
 use Rattle.std.specs.Prelude.{◌≡◌, ℕ, Bool, List, Result}
 use Rattle.desk_fields.specs.declared.fault.DocFault.{DocFault}
 use Rattle.desk_rows.specs.Readings.{Readings}
-use Rattle.desk_rows.specs.declared.reading.Profile.{Profile}
+use Rattle.desk_base.specs.declared.profile.Profile.{Profile}
 use Rattle.desk_rows.specs.declared.reading.Verdict.{Verdict}
 use Rattle.desk_catalogue.specs.Reading.{catalogue_of}
 use Rattle.desk_catalogue.specs.Terms.{ReadsTerms}
@@ -21,7 +21,7 @@ pub record AreRight (w : Readings) : Type 0 where
   pub document : (bytes : List ℕ) (read : Result DocumentText DocFault) → Spells bytes read → w.document bytes ≡ kept read
   -- the reference that a printed term names
   pub reference : (term : List ℕ) → w.reference term ≡ reference_in term
-  -- whether a value is a licence expression
-  pub expression : (profile : Profile) (text : List ℕ) (tells : Bool) → Tells text tells → w.is_expression profile text ≡ tells
+  -- whether a value is a licence expression by a profile of operators
+  pub expression : (profile : Profile) (text : List ℕ) (tells : Bool) → Tells profile text tells → w.is_expression profile text ≡ tells
   -- what terms are to the expression of a value
-  pub verdict : (profile : Profile) (text : List ℕ) (words : List (List ℕ)) (verdict : Verdict) → Judges text words verdict → w.verdict profile text words ≡ verdict
+  pub verdict : (profile : Profile) (text : List ℕ) (words : List (List ℕ)) (verdict : Verdict) → Judges profile text words verdict → w.verdict profile text words ≡ verdict

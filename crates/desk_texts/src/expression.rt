@@ -5,7 +5,7 @@ ghost use Rattle.desk_texts.specs.Expressions.{is_only_word, is_no_licence, IsRe
 
 use crate::term::{read_terms, told};
 use desk_base::Text;
-use desk_expr::{Expr, Term, check_choice, parse};
+use desk_expr::{Expr, Profile, Term, check_choice, parse_in};
 use desk_fields::{skip_blanks, split_word};
 use desk_rows::Verdict;
 use std::alloc::{AllocError, Global};
@@ -25,14 +25,14 @@ fn is_no_licence(text: &str) -> bool
     is_only_word("NONE", text) || is_only_word("NOASSERTION", text)
 }
 
-/// The expression that a value is.
-fn read_expression(alloc: Global, text: &str) -> Result<Option<Expr>, AllocError>
-    ensures { IfOk result (IsRead text.now) }
+/// The expression that a value is by a profile of operators.
+fn read_expression(alloc: Global, text: &str, profile: Profile) -> Result<Option<Expr>, AllocError>
+    ensures { IfOk result (IsRead profile text.now) }
 {
     if is_no_licence(text) {
         return Ok(None);
     }
-    match parse(alloc, text) {
+    match parse_in(alloc, text, profile) {
         Ok(expr) => Ok(Some(expr)),
         Err(fault) => {
             told(fault)?;
@@ -41,11 +41,11 @@ fn read_expression(alloc: Global, text: &str) -> Result<Option<Expr>, AllocError
     }
 }
 
-/// Whether a value is a licence expression.
-pub(crate) fn is_expression(alloc: Global, text: &str) -> Result<bool, AllocError>
-    ensures { IfOk result (Tells text.now) }
+/// Whether a value is a licence expression by a profile of operators.
+pub(crate) fn is_expression(alloc: Global, text: &str, profile: Profile) -> Result<bool, AllocError>
+    ensures { IfOk result (Tells profile text.now) }
 {
-    match read_expression(alloc, text)? {
+    match read_expression(alloc, text, profile)? {
         Some(_) => Ok(true),
         None => Ok(false),
     }
@@ -62,11 +62,16 @@ fn judged(expr: &Expr, terms: &[Term]) -> Verdict
     }
 }
 
-/// What texts that spell terms are to the expression of a value.
-pub(crate) fn verdict(alloc: Global, text: &str, words: &[Text]) -> Result<Verdict, AllocError>
-    ensures { IfOk result (Judges text.now words.now) }
+/// What texts that spell terms are to the expression of a value by a profile of operators.
+pub(crate) fn verdict(
+    alloc: Global,
+    text: &str,
+    profile: Profile,
+    words: &[Text],
+) -> Result<Verdict, AllocError>
+    ensures { IfOk result (Judges profile text.now words.now) }
 {
-    let expr = match read_expression(alloc, text)? {
+    let expr = match read_expression(alloc, text, profile)? {
         Some(expr) => expr,
         None => return Ok(Verdict::NotEnough),
     };

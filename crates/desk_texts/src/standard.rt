@@ -47,19 +47,19 @@ impl Texts for Standard {
     fn is_expression(
         &self,
         alloc: Global,
-        _profile: Profile,
+        profile: Profile,
         text: &str,
     ) -> Result<bool, AllocError> {
-        is_expression(alloc, text)
+        is_expression(alloc, text, profile)
     }
 
     fn verdict(
         &self,
         alloc: Global,
-        _profile: Profile,
+        profile: Profile,
         text: &str,
         terms: &[Text],
     ) -> Result<Verdict, AllocError> {
-        verdict(alloc, text, terms)
+        verdict(alloc, text, profile, terms)
     }
 }

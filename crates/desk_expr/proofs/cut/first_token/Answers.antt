@@ -19,5 +19,5 @@ returns-clause-some c =
       start = ap (λ k. c.args.place + k) (sym (length-take-le n rest c.blanks_end-skipped.ensures.cut.0));
       end = ap (λ k. c.args.place + n + k) (sym inner.front_len);
       piece = subst (λ x. IsPiece x c.split_at-2.result.1.now) (sym inner.front) (subst (λ x. IsPiece (take m from) x) (sym inner.back) c.piece_end-size.ensures.piece);
-      kind = c.kind_of.ensures;
+      kind = c.kind_by.ensures;
     }

@@ -15,16 +15,16 @@ returns-clause-told g c =
     )
 
 pub returns-in_err-report-clause-once : goal.returns-in_err-report-clause-once
-returns-in_err-report-clause-once g c = one_answer c.args.expression.now (texts c.args.words.now)
+returns-in_err-report-clause-once g c = one_answer c.args.profile c.args.expression.now (texts c.args.words.now)
 
 pub returns-in_err-line-clause-once : goal.returns-in_err-line-clause-once
-returns-in_err-line-clause-once g c = one_answer c.args.expression.now (texts c.args.words.now)
+returns-in_err-line-clause-once g c = one_answer c.args.profile c.args.expression.now (texts c.args.words.now)
 
 pub returns-in_err-write_all-clause-once : goal.returns-in_err-write_all-clause-once
-returns-in_err-write_all-clause-once g c = one_answer c.args.expression.now (texts c.args.words.now)
+returns-in_err-write_all-clause-once g c = one_answer c.args.profile c.args.expression.now (texts c.args.words.now)
 
 pub returns-in_err-flush-clause-once : goal.returns-in_err-flush-clause-once
-returns-in_err-flush-clause-once g c = one_answer c.args.expression.now (texts c.args.words.now)
+returns-in_err-flush-clause-once g c = one_answer c.args.profile c.args.expression.now (texts c.args.words.now)
 
 pub returns-clause-once : goal.returns-clause-once
-returns-clause-once g c = one_answer c.args.expression.now (texts c.args.words.now)
+returns-clause-once g c = one_answer c.args.profile c.args.expression.now (texts c.args.words.now)

@@ -1,0 +1,12 @@
+-- Profiles of operators, by their numbers.
+use Rattle.std.specs.Prelude.{ℕ, ◌==◌, List, [], ◌∷◌, Option, find}
+use Rattle.desk_base.specs.declared.profile.Profile.{Profile}
+use Rattle.desk_base.specs.declared.profile.Profile.TheVariants.{Capitals, Either}
+
+abbrev pub profile_number : Profile → ℕ
+profile_number Capitals = 1
+profile_number Either = 2
+
+-- the profile with a number, if there is one
+abbrev pub profile_numbered : ℕ → Option Profile
+profile_numbered n = find (λ profile. profile_number profile == n) (Capitals ∷ Either ∷ [])
