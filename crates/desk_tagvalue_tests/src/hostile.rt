@@ -6,7 +6,7 @@ use std::alloc::{AllocError, Global};
 use std::collections::BTreeMap;
 use std::process::Abort;
 
-// What `oracle.py prefixes small.spdx` prints.
+// What `oracle.py prefixes ../../examples/first-release/document.spdx` prints.
 const OF_PREFIXES: &str = "11 2 1 -
 14 2 10 -
 23 2 11 -
@@ -32,7 +32,7 @@ const OF_PREFIXES: &str = "11 2 1 -
 110 document
 ";
 
-// What `oracle.py changes small.spdx` prints.
+// What `oracle.py changes ../../examples/first-release/document.spdx` prints.
 const OF_CHANGES: &str = "44800 1 0 -
 138 2 1 -
 150 2 10 -
