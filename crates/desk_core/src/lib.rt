@@ -1,12 +1,16 @@
 //! The desk: commands are carried out and questions answered over a store of rows, and lists of commands are run.
 //!
-//! A desk is seen as its tables (`Desk::content`). What these mean is said by the recorded history of commands, in `desk_rows`. For
-//! each reading of texts that the desk takes for right, and each history whose tables the content is, `apply` answers a command as the
-//! definitions of the history do and leaves the tables of the history with it; `run` keeps this over any list of commands, past refusals
-//! and faults. That is the desk's main contract. After a refusal, Again, a question or a fault the content is as it was.
+//! A desk is seen by which tables are its rows (`Desk::seen`). What these mean is said by the recorded history of commands, in
+//! `desk_rows`. For each reading of texts that the desk takes for right, and each history whose tables the rows are, `apply` answers a
+//! command as the definitions of the history do and leaves the tables of the history with it; `run` keeps this over any list of
+//! commands, past refusals and faults. That is the desk's main contract. After a refusal, Again, a question or a fault the rows are as
+//! they were, whatever they are.
 //!
 //! - `TableDesk` is the desk over a store and a reader of texts (`desk_access`), which decides as `desk_decisions` says.
 //! - `MemDesk` is the one over rows in memory (`desk_memory`), which answers no fault but want of memory.
 #![tactic(auto)]
 
 pub mod desk;
+
+pub use desk::{Desk, MemDesk, TableDesk, run, run_in_memory};
+pub use desk_rows::{Answer, Command, Fault, Outcome, Query};
