@@ -3,3 +3,4 @@ pub mod Trees
 pub mod Limits
 pub mod Texts
 pub mod Verdicts
+pub mod Needed

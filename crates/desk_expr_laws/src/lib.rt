@@ -35,3 +35,8 @@ pub fn one_verdict()
     ensures needless { (e : Tree) (chosen : List Term) (i : ℕ) → CanGo chosen e i → ¬ IsMinimal chosen e }
     ensures first { (e : Tree) (chosen : List Term) (i j : ℕ) → IsFirst (CanGo chosen e) i → IsFirst (CanGo chosen e) j → i ≡ j }
 {}
+
+/// No tree that a text spells is true under no terms.
+pub fn some_term_is_needed()
+    ensures { (profile : Profile) (text : List ℕ) (e : Tree) → SpellsWithinBy profile text e → Holds (λ _. ⊥) e → ⊥ }
+{}

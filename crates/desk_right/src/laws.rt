@@ -1,6 +1,6 @@
 //! Laws of right readings, each the contract of a function with an empty body.
 
-ghost use Rattle.std.specs.Prelude.{◌≡◌, ℕ, List};
+ghost use Rattle.std.specs.Prelude.{◌≡◌, ℕ, List, []};
 ghost use Rattle.desk_expr.specs.declared.term.Term.{Term};
 ghost use Rattle.desk_expr.specs.Tree.{Tree};
 ghost use Rattle.desk_expr.specs.Meaning.{IsMinimal};
@@ -31,6 +31,11 @@ pub fn one_right_reading()
 /// by the same profile of operators.
 pub fn choices_are_minimal_sets()
     ensures { (w : Readings) → AreRight w → (profile : Profile) (text : List ℕ) (words : List (List ℕ)) → w.verdict profile text words ≡ Minimal → (e : Tree) × (ts : List Term) × IsExpression profile text e × AreTerms words ts × IsMinimal ts e }
+{}
+
+/// A right reading calls no empty list of terms minimal: no spelled expression is true under no terms, so a choice that is held has a term.
+pub fn choices_have_terms()
+    ensures { (w : Readings) → AreRight w → (profile : Profile) (text : List ℕ) → w.verdict profile text [] ≡ Minimal → ⊥ }
 {}
 
 /// A right reading lists no package of a document and no code of a rule twice, so no two duties of a desk have the same key
