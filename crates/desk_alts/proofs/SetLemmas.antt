@@ -1,0 +1,88 @@
+-- Sets of terms as lists in the order of terms.
+use Rattle.std.proofs.Common.{◌≡◌, ◌↔◌, ◌∙◌, inl, inr, ⊎_elim, ℕ, zero, suc, ◌<◌, List, [], ◌∷◌, ◌++◌, length, get_or, sym, ap, ap₂, refl, arith, Some}
+use Rattle.std.specs.Prelude.{slice_get, Contains}
+use Rattle.std.specs.List.Sorted.{IsStrictlySortedBy}
+use Rattle.std.specs.Ordering.{ordering_reverse}
+use Rattle.std.specs.declared.cmp.Ordering.TheVariants.{Less}
+use Rattle.std.proofs.lemmas.List.Elements.{All-from_recursion, recursion_from_All, All-push, All-from_get_or, Contains-get_or}
+use Rattle.std.proofs.lemmas.Map.Keys.{Less-from_sorted, sorted_tail}
+use Rattle.std.proofs.lemmas.Option.{slice_get_within, get_or_from_slice_get}
+use Rattle.std.proofs.lemmas.Bool.{cases_eq}
+use Rattle.std.proofs.str.Laws.{order}
+use Rattle.desk_expr.specs.contracts.term.TermOrd.TheImpl.Laws.{total-law}
+use Rattle.desk_expr.specs.declared.term.Term.{Term}
+use Rattle.desk_expr.specs.Occurring.{term_order}
+use Rattle.desk_expr.proofs.SameTerms.{contains_cases, contains_here, contains_there}
+use Rattle.desk_expr.proofs.TableLemmas.{ranks_with_itself}
+use Rattle.desk_alts.specs.Sets.{IsTermSet}
+
+not_below_itself : (t : Term) → term_order t t ≡ Less → ⊥
+not_below_itself t less = let tie = ranks_with_itself t in cc
+
+pub head_below : (x y : Term) (xs : List Term) → IsTermSet (x ∷ xs) → Contains xs y → term_order x y ≡ Less
+head_below x y xs up at =
+    let less : term_order x (get_or xs at.0 y) ≡ Less = Less-from_sorted term_order (x ∷ xs) zero (suc at.0) y up (omega arith) (omega (arith, at.1)) in
+    ap (term_order x) (sym at.2) ∙ less
+
+both_below : (x y : Term) → term_order x y ≡ Less → term_order y x ≡ Less → ⊥
+both_below x y a b =
+    let turned : Less ≡ ordering_reverse Less = sym a ∙ (total-law.antisymm x y ∙ ap ordering_reverse b) in
+    absurd (cc)
+
+pub sorted_none : IsTermSet []
+unfolding IsStrictlySortedBy
+sorted_none = tt
+
+pub sorted_consed : (x : Term) (xs : List Term) → IsTermSet xs → ((y : Term) → Contains xs y → term_order x y ≡ Less) → IsTermSet (x ∷ xs)
+unfolding IsStrictlySortedBy
+sorted_consed x xs up below = (
+  recursion_from_All (λ y. term_order x y ≡ Less) xs (All-from_get_or (λ y. term_order x y ≡ Less) xs x (λ i within. below (get_or xs i x) (Contains-get_or xs i x within))),
+  up,
+)
+
+pub sorted_pushed : (xs : List Term) (y : Term) → IsTermSet xs → ((x : Term) → Contains xs x → term_order x y ≡ Less) → IsTermSet (xs ++ y ∷ [])
+unfolding IsStrictlySortedBy
+sorted_pushed [] y up below = (tt, tt)
+sorted_pushed (x ∷ xs) y up below = (
+  recursion_from_All (λ z. term_order x z ≡ Less) (xs ++ y ∷ []) (All-push (λ z. term_order x z ≡ Less) xs y (All-from_recursion (λ z. term_order x z ≡ Less) xs up.0) (below x (contains_here x xs x refl))),
+  sorted_pushed xs y up.1 (λ z at. below z (contains_there x xs z at)),
+)
+
+-- no term stands at two places
+pub distinct_table : (table : List Term) → IsTermSet table → (i j : ℕ) (t : Term) → slice_get table i ≡ Some t → slice_get table j ≡ Some t → i ≡ j
+distinct_table table sorted i j t a b =
+    let at_i = get_or_from_slice_get table i t t a in
+    let at_j = get_or_from_slice_get table j t t b in
+    let below : (x y : ℕ) → x < y → y < length table → get_or table x t ≡ t → get_or table y t ≡ t → ⊥ =
+    λ x y lt within p q. not_below_itself t (ap₂ term_order (sym p) (sym q) ∙ Less-from_sorted term_order table x y t sorted lt within) in
+    ⊎_elim
+    (λ lt. absurd (below i j lt (slice_get_within table j t b) at_i at_j))
+    (λ ge. elim (cases_eq i j) [ inl is ↦ is | inr ne ↦ absurd (below j i (omega (arith, ge, ne)) (slice_get_within table i t a) at_j at_i) ])
+    (order i j)
+
+-- two sets of the same terms are one list
+pub same_sets : (a b : List Term) → IsTermSet a → IsTermSet b → ((t : Term) → Contains a t ↔ Contains b t) → a ≡ b
+same_sets [] [] up up' same = refl
+same_sets [] (y ∷ ys) up up' same = absurd (let at = (same y).1 (contains_here y ys y refl) in omega (arith, at.1))
+same_sets (x ∷ xs) [] up up' same = absurd (let at = (same x).0 (contains_here x xs x refl) in omega (arith, at.1))
+same_sets (x ∷ xs) (y ∷ ys) up up' same =
+    let head : x ≡ y =
+    elim (contains_cases y ys x ((same x).0 (contains_here x xs x refl))) [
+      | inl is ↦ sym is
+      | inr later ↦ elim (contains_cases x xs y ((same y).1 (contains_here y ys y refl))) [
+        | inl is ↦ is
+        | inr late ↦ absurd (both_below x y (head_below x y xs up late) (head_below y x ys up' later))
+      ]
+    ] in
+    let tails : xs ≡ ys = same_sets xs ys (sorted_tail term_order x xs up) (sorted_tail term_order y ys up')
+    (λ t. (
+      (λ at. elim (contains_cases y ys t ((same t).0 (contains_there x xs t at))) [
+        | inl is ↦ absurd (not_below_itself t (ap (λ z. term_order z t) (sym is ∙ sym head) ∙ head_below x t xs up at))
+        | inr later ↦ later
+      ]),
+      (λ at. elim (contains_cases x xs t ((same t).1 (contains_there y ys t at))) [
+        | inl is ↦ absurd (not_below_itself t (ap (λ z. term_order z t) (sym is ∙ head) ∙ head_below y t ys up' at))
+        | inr later ↦ later
+      ]),
+    )) in
+    ap₂ (λ (z : Term) (zs : List Term). z ∷ zs) head tails

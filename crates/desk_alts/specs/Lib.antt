@@ -1,0 +1,5 @@
+pub mod Masks
+pub mod Choices
+pub mod Sets
+pub mod SetLaws
+pub mod Faults
