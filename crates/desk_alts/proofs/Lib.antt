@@ -10,3 +10,4 @@ pub mod Pigeons
 pub mod FaultLemmas
 pub mod Choosing
 pub mod ListingLemmas
+pub mod CostLemmas

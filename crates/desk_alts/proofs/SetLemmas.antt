@@ -16,7 +16,7 @@ use Rattle.desk_expr.proofs.SameTerms.{contains_cases, contains_here, contains_t
 use Rattle.desk_expr.proofs.TableLemmas.{ranks_with_itself}
 use Rattle.desk_alts.specs.Sets.{IsTermSet}
 
-not_below_itself : (t : Term) → term_order t t ≡ Less → ⊥
+pub not_below_itself : (t : Term) → term_order t t ≡ Less → ⊥
 not_below_itself t less = let tie = ranks_with_itself t in cc
 
 pub head_below : (x y : Term) (xs : List Term) → IsTermSet (x ∷ xs) → Contains xs y → term_order x y ≡ Less
@@ -24,7 +24,7 @@ head_below x y xs up at =
     let less : term_order x (get_or xs at.0 y) ≡ Less = Less-from_sorted term_order (x ∷ xs) zero (suc at.0) y up (omega arith) (omega (arith, at.1)) in
     ap (term_order x) (sym at.2) ∙ less
 
-both_below : (x y : Term) → term_order x y ≡ Less → term_order y x ≡ Less → ⊥
+pub both_below : (x y : Term) → term_order x y ≡ Less → term_order y x ≡ Less → ⊥
 both_below x y a b =
     let turned : Less ≡ ordering_reverse Less = sym a ∙ (total-law.antisymm x y ∙ ap ordering_reverse b) in
     absurd (cc)

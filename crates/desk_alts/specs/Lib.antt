@@ -3,3 +3,4 @@ pub mod Choices
 pub mod Sets
 pub mod SetLaws
 pub mod Faults
+pub mod Costs
