@@ -3,12 +3,16 @@ use Rattle.std.proofs.Common.{◌≡◌, ◌↔◌, ◌∙◌, ◌⊎◌, inl, i
 use Rattle.std.specs.Prelude.{OnOk}
 use Rattle.std.specs.List.{remove}
 use Rattle.std.proofs.lemmas.List.Edits.{length-remove, get_or-remove_below}
-use Rattle.std.proofs.lemmas.List.{get_or_default, take_more, take_all}
+use Rattle.std.proofs.lemmas.List.{get_or_default, take_more, take_all, map-append, length-map}
+use Rattle.std.proofs.Math.ListN.{get_or-map}
+use Rattle.std.specs.List.Sorted.{IsPermutation}
+use Rattle.std.proofs.lemmas.List.Sorted.{IsPermutation-map, IsPermutation-sym, Contains-permutation}
 use Rattle.std.proofs.str.Laws.{order}
 use Rattle.desk_alts.specs.declared.masks.Mask.{Mask}
-use Rattle.desk_alts.specs.Masks.{IsSubset, IsAbove, AreApart, Adds, united}
+use Rattle.desk_alts.specs.declared.masks.Union.{Union}
+use Rattle.desk_alts.specs.Masks.{IsSubset, IsAbove, AreApart, Adds, united, union_masks}
 use Rattle.desk_alts.proofs.Bits.{or_within}
-use Rattle.desk_alts.proofs.Antichains.{any_pushed, apart_pushed, apart_removed, above_removed, none_removed}
+use Rattle.desk_alts.proofs.Antichains.{any_of, any_pushed, apart_pushed, apart_removed, above_removed, none_removed}
 
 pub reflexive : (x : Mask) → IsSubset x x
 reflexive x = ((λ k h. h), (λ k h. h))
@@ -127,6 +131,30 @@ united_more mask joint xs at got within is both m =
         | inl a ↦ (a.0, more.1 (inl a.1))
         | inr le ↦ let two = join.0 (subst (λ x. IsSubset x m) both le) in (two.0, more.1 (inr two.1))
       ]),
+    )
+
+pub union_added : (us vs : List Union) (u : Union) → vs ≡ us ++ u ∷ [] → Adds (union_masks us) (union_masks vs) (IsSubset u.mask)
+union_added us vs u is m =
+    let next : union_masks vs ≡ union_masks us ++ u.mask ∷ [] = ap union_masks is ∙ map-append (λ (v : Union). v.mask) us (u ∷ []) in
+    let pushed = any_pushed (λ x. IsSubset x m) (union_masks us) u.mask in (
+      (λ h. pushed.0 (subst (λ (l : List Mask). IsAbove l m) next h)),
+      (λ h. subst (λ (l : List Mask). IsAbove l m) (sym next) (pushed.1 h)),
+    )
+
+-- the mask of the union at a place
+pub union_at : (us : List Union) (at : ℕ) (d : Union) → at < length us → (at < length (union_masks us)) × ((get_or us at d).mask ≡ get_or (union_masks us) at (get_or us at d).mask)
+union_at us at d within =
+    let long = length-map us (λ (u : Union). u.mask) in
+    let inside : at < length (union_masks us) = omega (arith, within, long) in
+    (inside, sym (get_or_default (union_masks us) at (get_or us at d).mask d.mask inside ∙ get_or-map (λ (u : Union). u.mask) us at d))
+
+pub above_permuted : (us vs : List Union) → IsPermutation us vs → (m : Mask) → IsAbove (union_masks us) m ↔ IsAbove (union_masks vs) m
+above_permuted us vs moved m =
+    let P = λ (x : Mask). IsSubset x m in
+    let there = IsPermutation-map (λ (u : Union). u.mask) us vs moved in
+    let back = IsPermutation-sym (union_masks us) (union_masks vs) there in (
+      (λ a. any_of P (union_masks vs) a.1 (Contains-permutation (union_masks us) (union_masks vs) a.1 there (a.0, a.2, a.3)) a.4),
+      (λ a. any_of P (union_masks us) a.1 (Contains-permutation (union_masks vs) (union_masks us) a.1 back (a.0, a.2, a.3)) a.4),
     )
 
 pub product_more : (xs other : List Mask) (at : ℕ) (got : Mask) → at < length xs → got ≡ get_or xs at got

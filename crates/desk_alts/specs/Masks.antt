@@ -1,8 +1,9 @@
 -- Sets of places as numbers, and lists of such sets.
-use Rattle.std.specs.Prelude.{◌≡◌, ◌↔◌, ◌⊎◌, ℕ, ◌<◌, ◌≤◌, List, [], ◌∷◌, length, slice_index, bit_or}
+use Rattle.std.specs.Prelude.{◌≡◌, ◌↔◌, ◌⊎◌, ℕ, ◌<◌, ◌≤◌, List, [], ◌∷◌, length, slice_index, bit_or, map}
 use Rattle.std.specs.Int.{bit_at}
 use Rattle.std.specs.List.{Any, AllPairs}
 use Rattle.desk_alts.specs.declared.masks.Mask.{Mask}
+use Rattle.desk_alts.specs.declared.masks.Union.{Union}
 
 -- no bit of the one is outside the other
 abbrev pub IsWithin : ℕ → ℕ → Type 0
@@ -40,3 +41,7 @@ Adds old new Q = (m : Mask) → IsAbove new m ↔ (IsAbove old m ⊎ Q m)
 -- the same of the kept masks from a place up to another
 abbrev pub IsCoveredBetween : ℕ → ℕ → List ℕ → List ℕ → ℕ → ℕ → Type 0
 IsCoveredBetween low high lows highs from to = (i : ℕ) × (from ≤ i) × (i < to) × IsWithin (slice_index lows i) low × IsWithin (slice_index highs i) high
+
+-- the sets of some unions
+abbrev pub union_masks : List Union → List Mask
+union_masks us = map (λ u. u.mask) us

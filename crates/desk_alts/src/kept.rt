@@ -2,10 +2,10 @@
 
 ghost use Rattle.std.specs.Prelude.{◌≡◌, ◌<◌, ◌↔◌, ◌⊎◌, ◌++◌, ◌∷◌, [], List, length, IsTrue, IfOk, OnOk, slice_index_or, remove};
 ghost use Rattle.desk_alts.specs.declared.masks.Mask.{Mask};
-ghost use Rattle.desk_alts.specs.Masks.{IsAbove, AreApart, IsSubset, Adds};
+ghost use Rattle.desk_alts.specs.Masks.{IsAbove, AreApart, IsSubset, Adds, union_masks};
 
 use crate::covering::covers;
-use crate::masks::Mask;
+use crate::masks::{Mask, Union};
 use std::alloc::{AllocError, Global};
 use std::marker::Model;
 
@@ -117,27 +117,50 @@ impl Kept {
         Ok(())
     }
 
-    // Inserts the union of the set and each of the others.
-    fn insert_united(&mut self, mask: Mask, other: &Kept) -> Result<(), AllocError>
+    // Adds the unions of the set and each of these.
+    fn add_unions(&self, mask: Mask, unions: &mut Vec<Union>) -> Result<(), AllocError>
+        ensures { OnOk result (Adds (union_masks unions.old.items) (union_masks unions.new.items) (λ m. IsSubset mask m × IsAbove self.now m)) }
+    {
+        for at in 0..self.len() {
+            unions.push(Union::of(mask, self.get(at)))?;
+        }
+        Ok(())
+    }
+
+    // The unions of one of these sets and one of the others.
+    fn unions(&self, alloc: Global, other: &Kept) -> Result<Vec<Union>, AllocError>
+        ensures { IfOk result (λ v. (m : Mask) → IsAbove (union_masks v.items) m ↔ (IsAbove self.now m × IsAbove other.now m)) }
+    {
+        let mut unions = Vec::new(alloc);
+        for at in 0..self.len() {
+            other.add_unions(self.get(at), &mut unions)?;
+        }
+        Ok(unions)
+    }
+
+    // Inserts each of the unions.
+    fn insert_unions(&mut self, unions: &[Union]) -> Result<(), AllocError>
         requires { AreApart self.old }
         ensures apart { OnOk result (AreApart self.new) }
-        ensures exact { OnOk result (Adds self.old self.new (λ m. IsSubset mask m × IsAbove other.now m)) }
+        ensures exact { OnOk result (Adds self.old self.new (IsAbove (union_masks unions.now))) }
     {
-        for at in 0..other.len() {
-            self.insert(mask.united(other.get(at)))?;
+        for union in unions {
+            self.insert(union.mask)?;
         }
         Ok(())
     }
 
     /// The minimal ones of the unions of one of these sets and one of the others.
+    ///
+    /// The small unions come first, so none is kept that a later one is a subset of: there are never more kept than in the end.
     pub(crate) fn product(&self, alloc: Global, other: &Kept) -> Result<Kept, AllocError>
         ensures apart { IfOk result (λ k. AreApart k) }
         ensures exact { IfOk result (λ k. (m : Mask) → IsAbove k m ↔ (IsAbove self.now m × IsAbove other.now m)) }
     {
-        let mut unions = Kept::new(alloc);
-        for at in 0..self.len() {
-            unions.insert_united(self.get(at), other)?;
-        }
-        Ok(unions)
+        let mut unions = self.unions(alloc, other)?;
+        unions.sort_unstable();
+        let mut kept = Kept::new(alloc);
+        kept.insert_unions(&unions)?;
+        Ok(kept)
     }
 }

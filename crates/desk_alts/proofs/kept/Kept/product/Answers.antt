@@ -1,22 +1,15 @@
-use Rattle.std.proofs.Common.{◌<◌, ◌+◌, ℕ, List, length, take, arith}
+use Rattle.std.proofs.Common.{List, sym, ap, subst}
 use Rattle.desk_alts.specs.declared.masks.Mask.{Mask}
-use Rattle.desk_alts.specs.Masks.{IsAbove, IsSubset, Adds}
-use Rattle.desk_alts.proofs.Inserting.{adds_more, product_more, taken_all, from_nothing}
+use Rattle.desk_alts.specs.Masks.{IsAbove, union_masks}
+use Rattle.desk_alts.proofs.Inserting.{from_nothing, above_permuted}
 use Rattle.desk_alts.proofs.kept.Kept.product.Goals as goal
 
-pub loop-at-preserved : goal.loop-at-preserved
-loop-at-preserved c =
-    let own : List Mask = c.args.self.now in
-    let other : List Mask = c.args.other.now in
-    let at : ℕ = c.loop-at.at in
-    let within : at < length own = omega (arith, c.loop-at-test.true, c.len-at-end.ensures) in
-    record {
-      apart = c.in_ok-insert_united.ensures.apart;
-      exact = adds_more c.new-unions.result c.loop-at.unions c.insert_united.new.self (λ m. IsAbove (take at own) m × IsAbove other m) (λ m. IsSubset c.get.result m × IsAbove other m) (λ m. IsAbove (take (at + 1) own) m × IsAbove other m)
-          c.loop-at.invariant.exact c.in_ok-insert_united.ensures.exact (product_more own other at c.get.result within c.get.ensures);
-    }
-
 pub returns-clause-exact : goal.returns-clause-exact
-returns-clause-exact c =
-    from_nothing c.new-unions.result c.loop-at.unions (λ m. IsAbove c.args.self.now m × IsAbove c.args.other.now m) c.new-unions.ensures
-    (taken_all (λ (l : List Mask). Adds c.new-unions.result c.loop-at.unions (λ m. IsAbove l m × IsAbove c.args.other.now m)) c.args.self.now c.loop-at.at (omega (arith, c.loop-at-test.false, c.len-at-end.ensures)) c.loop-at.invariant.exact)
+returns-clause-exact c = λ m.
+    let from = from_nothing c.new-kept.result c.insert_unions.new.self (IsAbove (union_masks c.deref.result.now)) c.new-kept.ensures c.in_ok-insert_unions.ensures.exact m in
+    let moved = above_permuted c.in_ok-unions.unions.items c.sort_unstable.new.self.items c.sort_unstable.ensures.permutation m in
+    let given = ap union_masks c.deref.ensures.value in
+    let made = c.in_ok-unions.ensures m in (
+      (λ h. made.0 (moved.1 (subst (λ (l : List Mask). IsAbove l m) given (from.0 h)))),
+      (λ h. from.1 (subst (λ (l : List Mask). IsAbove l m) (sym given) (moved.0 (made.1 h)))),
+    )

@@ -1,6 +1,0 @@
-use Rattle.std.proofs.Common.{take}
-use Rattle.desk_alts.specs.Masks.{IsAbove, AreApart, IsSubset, Adds}
-use Rattle.desk_alts.proofs.kept.Kept.insert_united.Given as goal
-
-abbrev pub invariant-loop-at : goal.invariant-loop-at
-invariant-loop-at l = record { apart : AreApart l.self; exact : Adds l.initial.self l.self (λ m. IsSubset l.mask m × IsAbove (take l.at l.other) m) }
