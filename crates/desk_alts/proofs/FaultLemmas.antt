@@ -1,5 +1,5 @@
 -- Which fault a call hands on.
-use Rattle.std.proofs.Common.{◌≡◌, sym, subst, Result, Ok, Err}
+use Rattle.std.proofs.Common.{◌≡◌, ◌∙◌, sym, subst, Result, Ok, Err}
 use Rattle.std.specs.Prelude.{IfErr, IsErrAnd}
 use Rattle.std.specs.declared.alloc.AllocError.{AllocError}
 use Rattle.desk_expr.specs.Tree.{Tree}
@@ -22,6 +22,10 @@ pub width_fault : (x e : Tree) → (HasWideFront x → HasWideFront e) → (f : 
 width_fault x e wide TooManyTerms h = h
 width_fault x e wide TooMany h = wide h
 width_fault x e wide (Memory error) h = tt
+
+pub width_told : {T : Type 0} (e : Tree) (r : Result T AltFault) (g : AltFault) → IsErrAnd r (λ f. f ≡ g) → g ≡ TooMany → HasWideFront e → IfErr r (IsWidthFaultOf e)
+width_told e (Ok x) g h is wide = tt
+width_told e (Err f) g h is wide = subst (IsWidthFaultOf e) (sym (h ∙ is)) wide
 
 -- where there are few terms, the width alone counts
 pub few_terms_fault : (e : Tree) → (HasMoreTerms 128 e → ⊥) → (f : AltFault) → IsWidthFaultOf e f → IsFaultOf e f

@@ -1,5 +1,5 @@
 -- Sets of terms, their order, and how many minimal ones a tree has.
-use Rattle.std.specs.Prelude.{◌≡◌, ◌⊎◌, ℕ, zero, suc, ◌+◌, ◌<◌, ◌≤◌, List, length, All}
+use Rattle.std.specs.Prelude.{◌≡◌, ◌⊎◌, ℕ, zero, suc, ◌+◌, ◌<◌, ◌≤◌, List, length, All, Contains}
 use Rattle.std.specs.declared.cmp.Ordering.{Ordering}
 use Rattle.std.specs.Ordering.{nat_cmp, ordering_then}
 use Rattle.std.specs.Cmp.Lexicographic.{slice_cmp}
@@ -17,6 +17,12 @@ IsTermSet s = IsStrictlySortedBy term_order s
 -- the order of sets: by size, then by the terms one by one
 abbrev pub set_order : List Term → List Term → Ordering
 set_order a b = ordering_then (nat_cmp (length a) (length b)) (slice_cmp term_order a b)
+
+-- the list of all minimal sets of the tree, each once, in the order of sets
+pub record AreAlternatives (e : Tree) (sets : List (List Term)) : Type 0 where
+  pub only : All (λ s. IsTermSet s × IsMinimal s e) sets
+  pub every : (s : List Term) → IsTermSet s → IsMinimal s e → Contains sets s
+  pub ordered : IsStrictlySortedBy set_order sets
 
 -- the tree has more minimal sets than so many
 abbrev pub HasMoreSets : ℕ → Tree → Type 0

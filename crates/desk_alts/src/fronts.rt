@@ -1,6 +1,6 @@
 //! The minimal sets of each node, front by front.
 
-ghost use Rattle.std.specs.Prelude.{◌≡◌, IfOk, IfErr, OnOk, Contains, slice_get, Some};
+ghost use Rattle.std.specs.Prelude.{◌≡◌, IfOk, IfErr, OnOk, Contains, slice_get, Some, length, ◌<◌, ◌≤◌};
 ghost use Rattle.desk_expr.specs.Tree.{one};
 ghost use Rattle.desk_alts.specs.Choices.{AreMinimal, IsTableFor};
 ghost use Rattle.desk_alts.specs.Sets.{HasWideFront};
@@ -32,6 +32,17 @@ fn leaf_sets(alloc: Global, table: &TermTable, term: &Term) -> Result<Kept, Allo
     Ok(kept)
 }
 
+// Refuses a front of too many minimal sets.
+fn check_width(kept: &Kept) -> Result<(), AltFault>
+    ensures narrow { OnOk result (length kept.now ≤ 64) }
+    ensures wide { IfErr result (λ f. (f ≡ AltFault.TooMany) × (64 < length kept.now)) }
+{
+    if kept.len() > limits::LISTED_SETS {
+        return Err(AltFault::TooMany);
+    }
+    Ok(())
+}
+
 /// The minimal sets of an expression.
 pub(crate) fn minimal_sets(alloc: Global, table: &TermTable, expr: &Expr) -> Result<Kept, AltFault>
     requires { IsTableFor table.now expr.now }
@@ -47,9 +58,7 @@ pub(crate) fn minimal_sets(alloc: Global, table: &TermTable, expr: &Expr) -> Res
             for part in parts {
                 let sets = minimal_sets(alloc, table, part)?;
                 kept = kept.product(alloc, &sets)?;
-                if kept.len() > limits::LISTED_SETS {
-                    return Err(AltFault::TooMany);
-                }
+                check_width(&kept)?;
             }
             Ok(kept)
         }
@@ -58,9 +67,7 @@ pub(crate) fn minimal_sets(alloc: Global, table: &TermTable, expr: &Expr) -> Res
             for part in parts {
                 let sets = minimal_sets(alloc, table, part)?;
                 kept.insert_all(&sets)?;
-                if kept.len() > limits::LISTED_SETS {
-                    return Err(AltFault::TooMany);
-                }
+                check_width(&kept)?;
             }
             Ok(kept)
         }

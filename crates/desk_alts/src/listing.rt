@@ -2,10 +2,9 @@
 
 ghost use Rattle.std.specs.Prelude.{◌≡◌, ◌≤◌, List, length, IfOk, IfErr, OnOk, Contains, All, Any};
 ghost use Rattle.std.specs.List.{AllZip};
-ghost use Rattle.std.specs.List.Sorted.{IsStrictlySortedBy};
 ghost use Rattle.desk_expr.specs.declared.term.Term.{Term};
-ghost use Rattle.desk_expr.specs.Meaning.{Holds, IsMinimal, IsSubset};
-ghost use Rattle.desk_alts.specs.Sets.{IsTermSet, set_order};
+ghost use Rattle.desk_expr.specs.Meaning.{Holds, IsSubset};
+ghost use Rattle.desk_alts.specs.Sets.{AreAlternatives};
 ghost use Rattle.desk_alts.specs.Choices.{IsChoice};
 ghost use Rattle.desk_alts.specs.Faults.{IsListable, IsFaultOf};
 
@@ -34,9 +33,7 @@ fn sets_of(alloc: Global, table: &TermTable, kept: &Kept) -> Result<Vec<TermSet>
 /// An expression of more than 128 distinct terms is refused as `TooManyTerms`. Otherwise it is refused as `TooMany` where some front
 /// of some node has more than 64 minimal sets: a front of an All or Any is its first parts under the same operator, at least one.
 pub fn alternatives(alloc: Global, expr: &Expr) -> Result<Vec<TermSet>, AltFault>
-    ensures minimal { IfOk result (λ v. All (λ s. IsTermSet s × IsMinimal s expr.now) v.items) }
-    ensures every { IfOk result (λ v. (s : List Term) → IsTermSet s → IsMinimal s expr.now → Contains v.items s) }
-    ensures order { IfOk result (λ v. IsStrictlySortedBy set_order v.items) }
+    ensures sets { IfOk result (λ v. AreAlternatives expr.now v.items) }
     ensures contained { IfOk result (λ v. (s : List Term) → Holds (Contains s) expr.now → Any (λ m. IsSubset m s) v.items) }
     ensures listable { OnOk result (IsListable expr.now) }
     ensures fault { IfErr result (IsFaultOf expr.now) }

@@ -51,6 +51,6 @@ impl TermTable {
         ensures found { IfSome result (λ k. slice_get self.now k ≡ Some term.now) }
         ensures none { IfNone result (Contains self.now term.now → ⊥) }
     {
-        self.terms.as_slice().binary_search(term).ok()
+        self.terms().binary_search(term).ok()
     }
 }

@@ -2,7 +2,7 @@ use Rattle.std.proofs.Common.{inl, inr, arith}
 use Rattle.desk_alts.proofs.FrontLemmas.{all_start, any_start, all_front, any_front, all_done, any_done, table_for_part, part_is_smaller}
 use Rattle.desk_expr.specs.Tree.{all, any}
 use Rattle.desk_alts.specs.Faults.{IsWidthFaultOf}
-use Rattle.desk_alts.proofs.FaultLemmas.{memory_only, handed_on, width_fault}
+use Rattle.desk_alts.proofs.FaultLemmas.{memory_only, handed_on, width_fault, width_told}
 use Rattle.desk_alts.proofs.Widths.{narrow_start, narrow_more, narrow_done, all_is_node, any_is_node, wide_by_part, wide_by_front}
 use Rattle.desk_alts.proofs.fronts.+minimal_sets.Goals as goal
 
@@ -23,7 +23,7 @@ loop-part-preserved t c =
     record {
       minimal = minimal;
       narrow = narrow_more all all_is_node c.args.table.now c.in-All.parts.now c.loop-part.part-index c.part-item.result c.args.expr.now c.in_ok-kept-in-All.kept c.loop-part-test.true c.part-item.is c.in-All.ensures c.requires c.in_ok-sets-in-All.ensures.narrow minimal
-          (omega (arith, c.if-len-gt-LISTED_SETS.false, c.len.ensures)) c.loop-part.invariant.narrow;
+          c.in_ok-check_width-in-All.ensures.narrow c.loop-part.invariant.narrow;
     }
 
 pub loop-part-2-init : goal.loop-part-2-init
@@ -46,7 +46,7 @@ loop-part-2-preserved t c =
     record {
       minimal = minimal;
       narrow = narrow_more any any_is_node c.args.table.now c.in-Any.parts.now c.loop-part-2.part-index c.part-item-in-loop-part-2.result c.args.expr.now c.insert_all.new.self c.loop-part-2-test.true c.part-item-in-loop-part-2.is c.in-Any.ensures c.requires c.in_ok-sets-in-Any.ensures.narrow minimal
-          (omega (arith, c.if-len-gt-LISTED_SETS-2.false, c.len-in-loop-part-2.ensures)) c.loop-part-2.invariant.narrow;
+          c.in_ok-check_width-in-Any.ensures.narrow c.loop-part-2.invariant.narrow;
     }
 
 pub returns-after-loop-part-clause-minimal : goal.returns-after-loop-part-clause-minimal
@@ -61,17 +61,21 @@ returns-after-loop-part-2-clause-minimal t c = any_done c.args.table.now c.in-An
 pub returns-after-loop-part-2-clause-narrow : goal.returns-after-loop-part-2-clause-narrow
 returns-after-loop-part-2-clause-narrow t c = narrow_done any any_is_node c.in-Any.parts.now c.loop-part-2.part-index c.args.expr.now c.loop-part-2-test.false c.in-Any.ensures c.loop-part-2.invariant.narrow
 
-pub returns-then-len-gt-LISTED_SETS-clause-wide : goal.returns-then-len-gt-LISTED_SETS-clause-wide
-returns-then-len-gt-LISTED_SETS-clause-wide t c =
+pub returns-in_err-check_width-in-All-clause-wide : goal.returns-in_err-check_width-in-All-clause-wide
+returns-in_err-check_width-in-All-clause-wide t c =
     let minimal = all_front c.args.table.now c.in-All.parts.now c.loop-part.part-index c.part-item.result c.loop-part.kept c.in_ok-sets-in-All.sets c.in_ok-kept-in-All.kept c.loop-part-test.true c.part-item.is c.loop-part.invariant.minimal
     c.in_ok-sets-in-All.ensures.minimal c.in_ok-kept-in-All.ensures.apart c.in_ok-kept-in-All.ensures.exact in
-    wide_by_front all all_is_node c.args.table.now c.in-All.parts.now c.loop-part.part-index c.args.expr.now c.in_ok-kept-in-All.kept c.loop-part-test.true c.in-All.ensures c.requires minimal (omega (arith, c.if-len-gt-LISTED_SETS.true, c.len.ensures))
+    let wide = c.in_err-check_width-in-All.ensures.wide in
+    width_told c.args.expr.now c.from_residual-in_err-check_width-in-All.result c.in_err-check_width-in-All.field-0.0 c.from_residual-in_err-check_width-in-All.ensures.1 wide.0
+    (wide_by_front all all_is_node c.args.table.now c.in-All.parts.now c.loop-part.part-index c.args.expr.now c.in_ok-kept-in-All.kept c.loop-part-test.true c.in-All.ensures c.requires minimal wide.1)
 
-pub returns-then-len-gt-LISTED_SETS-2-clause-wide : goal.returns-then-len-gt-LISTED_SETS-2-clause-wide
-returns-then-len-gt-LISTED_SETS-2-clause-wide t c =
+pub returns-in_err-check_width-in-Any-clause-wide : goal.returns-in_err-check_width-in-Any-clause-wide
+returns-in_err-check_width-in-Any-clause-wide t c =
     let minimal = any_front c.args.table.now c.in-Any.parts.now c.loop-part-2.part-index c.part-item-in-loop-part-2.result c.loop-part-2.kept c.in_ok-sets-in-Any.sets c.insert_all.new.self c.loop-part-2-test.true c.part-item-in-loop-part-2.is c.loop-part-2.invariant.minimal
     c.in_ok-sets-in-Any.ensures.minimal c.in_ok-insert_all-in-Any.ensures.apart c.in_ok-insert_all-in-Any.ensures.exact in
-    wide_by_front any any_is_node c.args.table.now c.in-Any.parts.now c.loop-part-2.part-index c.args.expr.now c.insert_all.new.self c.loop-part-2-test.true c.in-Any.ensures c.requires minimal (omega (arith, c.if-len-gt-LISTED_SETS-2.true, c.len-in-loop-part-2.ensures))
+    let wide = c.in_err-check_width-in-Any.ensures.wide in
+    width_told c.args.expr.now c.from_residual-in_err-check_width-in-Any.result c.in_err-check_width-in-Any.field-0.0 c.from_residual-in_err-check_width-in-Any.ensures.1 wide.0
+    (wide_by_front any any_is_node c.args.table.now c.in-Any.parts.now c.loop-part-2.part-index c.args.expr.now c.insert_all.new.self c.loop-part-2-test.true c.in-Any.ensures c.requires minimal wide.1)
 
 pub returns-in_err-leaf_sets-in-One-clause-wide : goal.returns-in_err-leaf_sets-in-One-clause-wide
 returns-in_err-leaf_sets-in-One-clause-wide t c = memory_only (IsWidthFaultOf c.args.expr.now) (λ error. tt) c.from_residual.result c.in_err-leaf_sets-in-One.field-0.0 c.from_residual.ensures.1

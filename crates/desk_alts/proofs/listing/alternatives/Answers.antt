@@ -17,23 +17,17 @@ returns-in_err-kept-clause-fault c =
     handed_on (IsWidthFaultOf c.args.expr.now) (IsFaultOf c.args.expr.now) (few_terms_fault c.args.expr.now (few_terms c.args.expr.now c.in_ok-table.table c.in_ok-table.ensures fit.few))
     c.from_residual-in_err-kept.result c.in_err-kept.field-0.0 c.from_residual-in_err-kept.ensures.1 c.in_err-kept.ensures.wide
 
-pub returns-clause-minimal : goal.returns-clause-minimal
-returns-clause-minimal c =
+pub returns-clause-sets : goal.returns-clause-sets
+returns-clause-sets c =
     let fit = fits c.args.expr.now c.in_ok-table.table c.terms.result.now c.in_ok-table.ensures c.terms.ensures.terms c.if-terms-gt-LISTED_TERMS.false in
-    All-permutation (λ (s : List Term). IsTermSet s × IsMinimal s c.args.expr.now) c.in_ok-sets.sets.items c.sort.new.self.items c.in_ok-sort.ensures.permutation
-    (all_minimal c.in_ok-table.table c.args.expr.now c.in_ok-kept.kept c.in_ok-sets.sets.items fit c.in_ok-kept.ensures.minimal c.in_ok-sets.ensures)
-
-pub returns-clause-every : goal.returns-clause-every
-returns-clause-every c =
-    let fit = fits c.args.expr.now c.in_ok-table.table c.terms.result.now c.in_ok-table.ensures c.terms.ensures.terms c.if-terms-gt-LISTED_TERMS.false in
-    λ s up least. Contains-permutation c.in_ok-sets.sets.items c.sort.new.self.items s c.in_ok-sort.ensures.permutation
-    (every_minimal c.in_ok-table.table c.args.expr.now c.in_ok-kept.kept c.in_ok-sets.sets.items fit c.in_ok-kept.ensures.minimal c.in_ok-sets.ensures s up least)
-
-pub returns-clause-order : goal.returns-clause-order
-returns-clause-order c =
-    let fit = fits c.args.expr.now c.in_ok-table.table c.terms.result.now c.in_ok-table.ensures c.terms.ensures.terms c.if-terms-gt-LISTED_TERMS.false in
-    strictly_sorted c.in_ok-sets.sets.items c.sort.new.self.items c.in_ok-sort.ensures.permutation
-    (all_differ c.in_ok-table.table c.args.expr.now c.in_ok-kept.kept c.in_ok-sets.sets.items fit c.in_ok-kept.ensures.minimal c.in_ok-sets.ensures) c.in_ok-sort.ensures.sorted
+    record {
+      only = All-permutation (λ (s : List Term). IsTermSet s × IsMinimal s c.args.expr.now) c.in_ok-sets.sets.items c.sort.new.self.items c.in_ok-sort.ensures.permutation
+          (all_minimal c.in_ok-table.table c.args.expr.now c.in_ok-kept.kept c.in_ok-sets.sets.items fit c.in_ok-kept.ensures.minimal c.in_ok-sets.ensures);
+      every = λ s up least. Contains-permutation c.in_ok-sets.sets.items c.sort.new.self.items s c.in_ok-sort.ensures.permutation
+          (every_minimal c.in_ok-table.table c.args.expr.now c.in_ok-kept.kept c.in_ok-sets.sets.items fit c.in_ok-kept.ensures.minimal c.in_ok-sets.ensures s up least);
+      ordered = strictly_sorted c.in_ok-sets.sets.items c.sort.new.self.items c.in_ok-sort.ensures.permutation
+          (all_differ c.in_ok-table.table c.args.expr.now c.in_ok-kept.kept c.in_ok-sets.sets.items fit c.in_ok-kept.ensures.minimal c.in_ok-sets.ensures) c.in_ok-sort.ensures.sorted;
+    }
 
 pub returns-clause-contained : goal.returns-clause-contained
 returns-clause-contained c =

@@ -1,0 +1,1 @@
+//! Listings and cheapest sets of small expressions.
