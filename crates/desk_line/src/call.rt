@@ -12,6 +12,8 @@ pub enum Call {
         expression: Text,
         terms: Items<Text>,
     },
+    /// The minimal sets of terms that satisfy the licence expression.
+    Alternatives { expression: Text },
     /// Replies to the requests of standard input, a line each.
     Script,
 }
