@@ -1,7 +1,9 @@
 -- Sets of terms as lists in the order of terms.
-use Rattle.std.proofs.Common.{◌≡◌, ◌↔◌, ◌∙◌, inl, inr, ⊎_elim, ℕ, zero, suc, ◌<◌, List, [], ◌∷◌, ◌++◌, length, get_or, sym, ap, ap₂, refl, arith, Some}
+use Rattle.std.proofs.Common.{◌≡◌, ◌↔◌, ◌∙◌, ◌⊎◌, inl, inr, ⊎_elim, ℕ, zero, suc, ◌<◌, List, [], ◌∷◌, ◌++◌, length, get_or, sym, ap, ap₂, refl, arith, Some}
 use Rattle.std.specs.Prelude.{slice_get, Contains}
 use Rattle.std.specs.List.Sorted.{IsStrictlySortedBy}
+use Rattle.std.specs.Cmp.{IsTotalOrder}
+use Rattle.std.specs.declared.cmp.Ordering.{Ordering}
 use Rattle.std.specs.Ordering.{ordering_reverse}
 use Rattle.std.specs.declared.cmp.Ordering.TheVariants.{Less}
 use Rattle.std.proofs.lemmas.List.Elements.{All-from_recursion, recursion_from_All, All-push, All-from_get_or, Contains-get_or}
@@ -12,22 +14,77 @@ use Rattle.std.proofs.str.Laws.{order}
 use Rattle.desk_expr.specs.contracts.term.TermOrd.TheImpl.Laws.{total-law}
 use Rattle.desk_expr.specs.declared.term.Term.{Term}
 use Rattle.desk_expr.specs.Occurring.{term_order}
-use Rattle.desk_expr.proofs.SameTerms.{contains_cases, contains_here, contains_there}
-use Rattle.desk_expr.proofs.TableLemmas.{ranks_with_itself}
+use Rattle.desk_expr.proofs.SameTerms.{contains_here, contains_there}
 use Rattle.desk_alts.specs.Sets.{IsTermSet}
 
-pub not_below_itself : (t : Term) → term_order t t ≡ Less → ⊥
-not_below_itself t less = let tie = ranks_with_itself t in cc
+-- ---- strictly sorted lists
 
-pub head_below : (x y : Term) (xs : List Term) → IsTermSet (x ∷ xs) → Contains xs y → term_order x y ≡ Less
-head_below x y xs up at =
-    let less : term_order x (get_or xs at.0 y) ≡ Less = Less-from_sorted term_order (x ∷ xs) zero (suc at.0) y up (omega arith) (omega (arith, at.1)) in
-    ap (term_order x) (sym at.2) ∙ less
+head_or_later : {K : Type 0} (x : K) (xs : List K) (q : K) → Contains (x ∷ xs) q → (x ≡ q) ⊎ Contains xs q
+head_or_later x xs q (zero, within, is) = inl is
+head_or_later x xs q (suc k, within, is) = inr (k, omega arith, is)
+
+is_head : {K : Type 0} (x : K) (xs : List K) → Contains (x ∷ xs) x
+is_head x xs = (zero, omega arith, refl)
+
+is_later : {K : Type 0} (x : K) (xs : List K) (q : K) → Contains xs q → Contains (x ∷ xs) q
+is_later x xs q at = (suc at.0, omega (arith, at.1), at.2)
+
+own_rank : (r : Ordering) → r ≡ ordering_reverse r → r ≡ Less → ⊥
+own_rank r turned less = let e : Less ≡ ordering_reverse Less = sym less ∙ (turned ∙ ap ordering_reverse less) in cc
+
+module _ {K : Type 0} (R : K → K → Ordering) (o : IsTotalOrder R) where
+  not_below_own : (x : K) → R x x ≡ Less → ⊥
+  not_below_own x less = own_rank (R x x) (o.antisymm x x) less
+
+  not_both : (x y : K) → R x y ≡ Less → R y x ≡ Less → ⊥
+  not_both x y a b = let turned : Less ≡ ordering_reverse Less = sym a ∙ (o.antisymm x y ∙ ap ordering_reverse b) in cc
+
+  head_first : (x y : K) (xs : List K) → IsStrictlySortedBy R (x ∷ xs) → Contains xs y → R x y ≡ Less
+  head_first x y xs up at =
+      let less : R x (get_or xs at.0 y) ≡ Less = Less-from_sorted R (x ∷ xs) zero (suc at.0) y up (omega arith) (omega (arith, at.1)) in
+      ap (R x) (sym at.2) ∙ less
+
+  -- two strictly sorted lists of the same items are one list
+  pub same_sorted : (a b : List K) → IsStrictlySortedBy R a → IsStrictlySortedBy R b → ((x : K) → Contains a x ↔ Contains b x) → a ≡ b
+  same_sorted [] [] up up' same = refl
+  same_sorted [] (y ∷ ys) up up' same = absurd (let at = (same y).1 (is_head y ys) in omega (arith, at.1))
+  same_sorted (x ∷ xs) [] up up' same = absurd (let at = (same x).0 (is_head x xs) in omega (arith, at.1))
+  same_sorted (x ∷ xs) (y ∷ ys) up up' same =
+      let head : x ≡ y =
+      elim (head_or_later y ys x ((same x).0 (is_head x xs))) [
+        | inl is ↦ sym is
+        | inr later ↦ elim (head_or_later x xs y ((same y).1 (is_head y ys))) [
+          | inl is ↦ is
+          | inr late ↦ absurd (not_both x y (head_first x y xs up late) (head_first y x ys up' later))
+        ]
+      ] in
+      let tails : xs ≡ ys = same_sorted xs ys (sorted_tail R x xs up) (sorted_tail R y ys up')
+      (λ t. (
+        (λ at. elim (head_or_later y ys t ((same t).0 (is_later x xs t at))) [
+          | inl is ↦ absurd (not_below_own t (ap (λ z. R z t) (sym is ∙ sym head) ∙ head_first x t xs up at))
+          | inr later ↦ later
+        ]),
+        (λ at. elim (head_or_later x xs t ((same t).1 (is_later y ys t at))) [
+          | inl is ↦ absurd (not_below_own t (ap (λ z. R z t) (sym is ∙ head) ∙ head_first y t ys up' at))
+          | inr later ↦ later
+        ]),
+      )) in
+      ap₂ (λ (z : K) (zs : List K). z ∷ zs) head tails
+
+-- ---- sets of terms
+
+pub not_below_itself : (t : Term) → term_order t t ≡ Less → ⊥
+not_below_itself = not_below_own term_order total-law
 
 pub both_below : (x y : Term) → term_order x y ≡ Less → term_order y x ≡ Less → ⊥
-both_below x y a b =
-    let turned : Less ≡ ordering_reverse Less = sym a ∙ (total-law.antisymm x y ∙ ap ordering_reverse b) in
-    absurd (cc)
+both_below = not_both term_order total-law
+
+pub head_below : (x y : Term) (xs : List Term) → IsTermSet (x ∷ xs) → Contains xs y → term_order x y ≡ Less
+head_below = head_first term_order total-law
+
+-- two sets of the same terms are one list
+pub same_sets : (a b : List Term) → IsTermSet a → IsTermSet b → ((t : Term) → Contains a t ↔ Contains b t) → a ≡ b
+same_sets = same_sorted term_order total-law
 
 pub sorted_none : IsTermSet []
 unfolding IsStrictlySortedBy
@@ -59,30 +116,3 @@ distinct_table table sorted i j t a b =
     (λ lt. absurd (below i j lt (slice_get_within table j t b) at_i at_j))
     (λ ge. elim (cases_eq i j) [ inl is ↦ is | inr ne ↦ absurd (below j i (omega (arith, ge, ne)) (slice_get_within table i t a) at_j at_i) ])
     (order i j)
-
--- two sets of the same terms are one list
-pub same_sets : (a b : List Term) → IsTermSet a → IsTermSet b → ((t : Term) → Contains a t ↔ Contains b t) → a ≡ b
-same_sets [] [] up up' same = refl
-same_sets [] (y ∷ ys) up up' same = absurd (let at = (same y).1 (contains_here y ys y refl) in omega (arith, at.1))
-same_sets (x ∷ xs) [] up up' same = absurd (let at = (same x).0 (contains_here x xs x refl) in omega (arith, at.1))
-same_sets (x ∷ xs) (y ∷ ys) up up' same =
-    let head : x ≡ y =
-    elim (contains_cases y ys x ((same x).0 (contains_here x xs x refl))) [
-      | inl is ↦ sym is
-      | inr later ↦ elim (contains_cases x xs y ((same y).1 (contains_here y ys y refl))) [
-        | inl is ↦ is
-        | inr late ↦ absurd (both_below x y (head_below x y xs up late) (head_below y x ys up' later))
-      ]
-    ] in
-    let tails : xs ≡ ys = same_sets xs ys (sorted_tail term_order x xs up) (sorted_tail term_order y ys up')
-    (λ t. (
-      (λ at. elim (contains_cases y ys t ((same t).0 (contains_there x xs t at))) [
-        | inl is ↦ absurd (not_below_itself t (ap (λ z. term_order z t) (sym is ∙ sym head) ∙ head_below x t xs up at))
-        | inr later ↦ later
-      ]),
-      (λ at. elim (contains_cases x xs t ((same t).1 (contains_there y ys t at))) [
-        | inl is ↦ absurd (not_below_itself t (ap (λ z. term_order z t) (sym is ∙ head) ∙ head_below y t ys up' at))
-        | inr later ↦ later
-      ]),
-    )) in
-    ap₂ (λ (z : Term) (zs : List Term). z ∷ zs) head tails

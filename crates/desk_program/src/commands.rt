@@ -8,6 +8,8 @@ ghost use Rattle.desk_script.specs.declared.serving.ScriptEnd.{ScriptEnd};
 ghost use Rattle.desk_program.specs.Failures.{IfMemory, OfScript};
 ghost use Rattle.desk_program.specs.Report.{IsReadTo, IsReport, IsVerdict, SpellTerms, Tells, TellsOnce};
 
+pub use crate::listing::alternatives;
+
 use crate::failure::Failure;
 use crate::report::Report;
 use desk_core::desk::Desk;
@@ -25,7 +27,7 @@ enum Terms<'a> {
 }
 
 /// The fault, unless it is want of memory, which is handed on.
-fn told(fault: ParseFault) -> Result<ParseFault, AllocError>
+pub(crate) fn told(fault: ParseFault) -> Result<ParseFault, AllocError>
     ensures told { IfOk result (λ told. (told ≡ fault) × (0 < fault_number fault)) }
     ensures memory { OnErr result (fault_number fault ≡ 0) }
 {

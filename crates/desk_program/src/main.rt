@@ -7,6 +7,7 @@
 
 mod commands;
 mod failure;
+mod listing;
 mod report;
 
 use crate::failure::Failure;
@@ -77,6 +78,9 @@ fn answer(rt: &(impl Print + Input), alloc: Global, call: &Call) -> Result<u8, F
                 words.as_slice(),
                 &mut io::writer(rt),
             )
+        }
+        Call::Alternatives { expression } => {
+            commands::alternatives(alloc, expression.as_str(), &mut io::writer(rt))
         }
         Call::Script => {
             keep_large_blocks(alloc);
