@@ -59,4 +59,5 @@ def main():
         print(f"{name:38} " + " | ".join(" ".join(f"{t * 1000:8.2f}" for t in pair) for pair in (whole, rest)))
 
 
-main()
+if __name__ == "__main__":
+    main()

@@ -1,14 +1,16 @@
 -- The lines of a listing, one by one, and that there is one listing.
-use Rattle.std.proofs.Common.{◌≡◌, ◌↔◌, ◌∙◌, ℕ, zero, suc, ◌+◌, ◌<◌, ◌≤◌, List, [], ◌∷◌, ◌++◌, length, get_or, take, codes, sym, ap, ap₂, subst, refl, append_assoc, arith}
-use Rattle.std.specs.Prelude.{Contains}
-use Rattle.std.specs.List.Sorted.{IsStrictlySortedBy}
+use Rattle.std.proofs.Common.{◌≡◌, ◌∙◌, ℕ, suc, ◌+◌, ◌<◌, List, [], ◌∷◌, ◌++◌, length, get_or, take, codes, sym, ap, subst, refl, append_assoc, arith}
+use Rattle.std.specs.Prelude.{IfOk}
+use Rattle.std.proofs.Common.{Result, Ok, Err}
+use Rattle.std.specs.declared.alloc.AllocError.{AllocError}
 use Rattle.std.proofs.lemmas.List.{take_more, append-nil}
 use Rattle.desk_expr.specs.declared.term.Term.{Term}
 use Rattle.desk_expr.specs.declared.fault.ParseFault.{ParseFault}
 use Rattle.desk_expr.specs.Tree.{Tree}
 use Rattle.desk_expr.specs.Spelling.{SpellsWithin}
 use Rattle.desk_expr.specs.Printing.{printed_term}
-use Rattle.desk_alts.specs.Sets.{AreAlternatives, HasMoreTerms, HasWideFront, IsTermSet, set_order}
+use Rattle.desk_expr.specs.Meaning.{IsMinimal}
+use Rattle.desk_alts.specs.Sets.{AreAlternatives, IsTermSet, set_order}
 use Rattle.desk_alts.specs.SetLaws.{set_total}
 use Rattle.desk_alts.proofs.SetLemmas.{same_sorted}
 use Rattle.std.proofs.lemmas.List.Elements.{All-contains}
@@ -16,7 +18,7 @@ use Rattle.desk_program.specs.declared.report.Report.TheVariants.{Fault}
 use Rattle.desk_program.specs.declared.listing.Listing.{Listing}
 use Rattle.desk_program.specs.declared.listing.Listing.TheVariants.{Sets, TooManyTerms, TooMany, Unread}
 use Rattle.desk_program.specs.Report.{text_of}
-use Rattle.desk_program.specs.Listing.{IsListing, IsListingOf, set_text, sets_text, listing_text, listing_status, Lists, ListsOnce}
+use Rattle.desk_program.specs.Listing.{IsListing, IsListingOf, set_text, sets_text, listing_text, listing_status, ListsOnce}
 use Rattle.desk_program.proofs.OneStop.{one_stop}
 use Rattle.desk_program.proofs.OneAnswer.{one_tree}
 
@@ -62,10 +64,11 @@ sets_more ss i s old mid new within is so_far step last =
 
 one_list : (tree : Tree) (xs ys : List (List Term)) → AreAlternatives tree xs → AreAlternatives tree ys → xs ≡ ys
 one_list tree xs ys a b =
+    let P = λ (s : List Term). IsTermSet s × IsMinimal s tree in
     same_sorted set_order set_total xs ys a.ordered b.ordered
     (λ s. (
-      (λ at. let own = All-contains _ xs s a.only at in b.every s own.0 own.1),
-      (λ at. let own = All-contains _ ys s b.only at in a.every s own.0 own.1),
+      (λ at. let own : IsTermSet s × IsMinimal s tree = All-contains P xs s a.only at in b.every s own.0 own.1),
+      (λ at. let own : IsTermSet s × IsMinimal s tree = All-contains P ys s b.only at in a.every s own.0 own.1),
     ))
 
 abbrev SameListed : Listing → Listing → Type 0
@@ -120,3 +123,24 @@ pub lists_once : (expression : List ℕ) → ListsOnce expression
 lists_once expression text other status another (a, is, same, number) (b, is', same', number') =
     let both = one_listing expression a b is is' in
     (same ∙ (both.0 ∙ sym same'), number ∙ (both.1 ∙ sym number'))
+
+-- ---- the steps of the code
+
+pub between_next : (ts : List Term) (i : ℕ) → i < length ts → codes ", " ≡ between (take (i + 1) ts)
+between_next ts i within =
+    let after : suc i ≡ i + 1 = omega arith in
+    by_head ts within ∙ ap (λ n. between (take n ts)) after
+  where
+    by_head : (us : List Term) → i < length us → codes ", " ≡ between (take (suc i) us)
+    by_head [] none = absurd (omega arith)
+    by_head (u ∷ us) some = refl
+
+reported : (expression : List ℕ) (tree : Tree) (listing : Listing) → SpellsWithin expression tree → IsListingOf tree listing → IsListing expression listing
+reported expression tree (Sets sets) spells is = (tree, spells, is)
+reported expression tree TooManyTerms spells is = (tree, spells, is)
+reported expression tree TooMany spells is = (tree, spells, is)
+reported expression tree (Unread fault) spells is = absurd is
+
+pub listing_reported : (expression : List ℕ) (tree : Tree) (r : Result Listing AllocError) → SpellsWithin expression tree → IfOk r (IsListingOf tree) → IfOk r (IsListing expression)
+listing_reported expression tree (Ok listing) spells is = reported expression tree listing spells is
+listing_reported expression tree (Err error) spells is = tt

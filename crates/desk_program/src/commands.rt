@@ -8,9 +8,8 @@ ghost use Rattle.desk_script.specs.declared.serving.ScriptEnd.{ScriptEnd};
 ghost use Rattle.desk_program.specs.Failures.{IfMemory, OfScript};
 ghost use Rattle.desk_program.specs.Report.{IsReadTo, IsReport, IsVerdict, SpellTerms, Tells, TellsOnce};
 
-pub use crate::listing::alternatives;
-
 use crate::failure::Failure;
+pub use crate::listing::alternatives;
 use crate::report::Report;
 use desk_core::desk::Desk;
 use desk_expr::{Expr, ParseFault, Term, Verdict, check_choice, parse, parse_term};
