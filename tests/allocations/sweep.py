@@ -1,9 +1,9 @@
 """Refuses each allocation of the program in turn: python3 tests/allocations/sweep.py PROGRAM
 
-The scripts are the first release of the examples and those of the acceptance cases, the checks those of the acceptance cases, each
-of at most 16 KiB. For each N the program runs once with its Nth allocation refused, until a run makes fewer. Then
+The scripts are the first release of the examples and those of the acceptance cases, the checks and listings those of the acceptance
+cases, each of at most 16 KiB. For each N the program runs once with its Nth allocation refused, until a run makes fewer. Then
 
-- a check tells its answer with its status, or nothing with status 3;
+- a check or a listing tells its answer with its status, or nothing with status 3;
 - a script tells its replies with its status; or one reply is {"fault":"memory"}, the status is 3, and the other replies are those
   of the script without that request, so what was accepted stands; or it stopped with status 3 for want of memory, and the
   replies before are those of the script.
@@ -97,7 +97,7 @@ def cases(here):
         with open(words, "rb") as file:
             words = file.read().decode().split("\n")
         words = words[:-1] if words[-1] == "" else words
-        if not words or words[0] not in ("check", "script"):
+        if not words or words[0] not in ("check", "alternatives", "script"):
             continue
         if os.path.isfile(text) and os.path.getsize(text) > BYTES:
             continue

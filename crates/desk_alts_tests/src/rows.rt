@@ -70,14 +70,27 @@ fn limits_cases(alloc: Global) -> Result<String, AllocError> {
     let ands = joined(alloc, 64, " AND ")?;
     let all = joined(alloc, 128, " AND ")?;
     let one_more = joined(alloc, 129, " AND ")?;
-    let six = "(a1 OR b1) AND (a2 OR b2) AND (a3 OR b3) AND (a4 OR b4) AND (a5 OR b5) AND (a6 OR b6)";
+    let six =
+        "(a1 OR b1) AND (a2 OR b2) AND (a3 OR b3) AND (a4 OR b4) AND (a5 OR b5) AND (a6 OR b6)";
     let mut cases = String::new(alloc);
     write!(cases, "{six} => 64\n{six} AND (a7 OR b7) => TooMany\n")?;
-    write!(cases, "({ors}) AND ({ors}) => 64\n{more} => TooMany\n{many} => TooManyTerms\n")?;
-    write!(cases, "{all} => 1\n{one_more} => TooManyTerms\n{ands} AND (y OR z) => 2\n")?;
+    write!(
+        cases,
+        "({ors}) AND ({ors}) => 64\n{more} => TooMany\n{many} => TooManyTerms\n"
+    )?;
+    write!(
+        cases,
+        "{all} => 1\n{one_more} => TooManyTerms\n{ands} AND (y OR z) => 2\n"
+    )?;
     // A part or a front that the whole would absorb counts too.
-    write!(cases, "x0 OR y AND ({more}) => TooMany\n({more}) AND x0 => TooMany\nx0 OR x0 AND ({ors}) => 1\n")?;
-    write!(cases, "({six}) AND (a7 OR b7) OR a1 => TooMany\nx0 AND ({six} AND (a7 OR b7) AND x0) => TooMany\n")?;
+    write!(
+        cases,
+        "x0 OR y AND ({more}) => TooMany\n({more}) AND x0 => TooMany\nx0 OR x0 AND ({ors}) => 1\n"
+    )?;
+    write!(
+        cases,
+        "({six}) AND (a7 OR b7) OR a1 => TooMany\nx0 AND ({six} AND (a7 OR b7) AND x0) => TooMany\n"
+    )?;
     Ok(cases)
 }
 
@@ -87,7 +100,8 @@ fn limits(rt: HostRuntime) -> Result<(), ParseFault> {
     expect(&rt, rt.alloc(), Question::Count, &cases)
 }
 
-const SIXTY_FOUR: &str = "(a1 OR b1) AND (a2 OR b2) AND (a3 OR b3) AND (a4 OR b4) AND (a5 OR b5) AND (a6 OR b6) => 6 a1, a2, a3, a4, a5, a6";
+const SIXTY_FOUR: &str =
+    "(a1 OR b1) AND (a2 OR b2) AND (a3 OR b3) AND (a4 OR b4) AND (a5 OR b5) AND (a6 OR b6) => 6 a1, a2, a3, a4, a5, a6";
 
 #[test]
 fn first_of_sixty_four(rt: HostRuntime) -> Result<(), ParseFault> {
@@ -96,8 +110,20 @@ fn first_of_sixty_four(rt: HostRuntime) -> Result<(), ParseFault> {
 
 #[test]
 fn want_of_memory_is_told(rt: HostRuntime) {
-    assert!(&rt; is_told_or_memory(rt.alloc(), Question::Sets, "(A OR B) AND (A OR C) => a | b, c | "));
-    assert!(&rt; is_told_or_memory(rt.alloc(), Question::Cheapest, "mit OR (a AND bb) => 1 a, bb"));
+    assert!(&rt;
+        is_told_or_memory(
+            rt.alloc(),
+            Question::Sets,
+            "(A OR B) AND (A OR C) => a | b, c | "
+        )
+    );
+    assert!(&rt;
+        is_told_or_memory(
+            rt.alloc(),
+            Question::Cheapest,
+            "mit OR (a AND bb) => 1 a, bb"
+        )
+    );
     assert!(&rt; is_told_or_memory(rt.alloc(), Question::Place, "a OR b; b => 1"));
 }
 
