@@ -13,7 +13,9 @@ pub enum Call {
         terms: Items<Text>,
     },
     /// The minimal sets of terms that satisfy the licence expression.
-    Alternatives { expression: Text },
+    Alternatives {
+        expression: Text,
+    },
     /// Replies to the requests of standard input, a line each.
     Script,
 }
