@@ -79,6 +79,7 @@ try:
 # Times the program, beside another one, its scripts, by the rows that a desk holds, and the reading of documents.
 bench: build
 	@python3 bench/bench.py build/desk
+	@python3 bench/alternatives.py build/desk
 	@python3 bench/script.py build/desk build/scripts
 	@python3 bench/rows.py build/desk
 	@echo 'Building the program that reads documents.'

@@ -64,4 +64,5 @@ def main():
         print(f"{name:38} " + " | ".join(" ".join(f"{t * 1000:8.2f}" for t in times) for times in (whole, rest)))
 
 
-main()
+if __name__ == "__main__":
+    main()

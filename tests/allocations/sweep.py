@@ -1,9 +1,9 @@
 """Refuses each allocation of the program in turn: python3 tests/allocations/sweep.py PROGRAM
 
-The scripts and the checks are those of the acceptance cases of at most 16 KiB. For each N the program runs once with its Nth
+The scripts, the checks and the listings are those of the acceptance cases of at most 16 KiB. For each N the program runs once with its Nth
 allocation refused, until a run makes fewer. Then
 
-- a check tells its answer with its status, or nothing with status 3 and its words;
+- a check or a listing tells its answer with its status, or nothing with status 3 and its words;
 - a script tells its replies with its status; or one reply is {"fault":"memory"}, the status is 3 with its words, and the other replies
   are those of the script without that request, so what was accepted stands and the script went on; or it stopped with status 3 and its
   words, and what is there are whole replies, those of the script. Before the first reply it may also say that it could not begin.
@@ -145,7 +145,7 @@ def cases():
                 yield name, ["script"], requests
             continue
         words = os.path.join(path, "args")
-        if os.path.isfile(words) and os.path.getsize(words) <= BYTES and words_of(words)[:1] == ["check"]:
+        if os.path.isfile(words) and os.path.getsize(words) <= BYTES and words_of(words)[:1] in (["check"], ["alternatives"]):
             yield name, words_of(words), b""
 
 

@@ -14,3 +14,12 @@ pub const DOCUMENT_BYTES: usize = 4_194_304;
 
 /// How many packages, files, snippets and extracted licences a document may have together.
 pub const DOCUMENT_ELEMENTS: usize = 10_000;
+
+/// How many distinct terms an expression may have whose minimal sets are listed.
+pub const LISTED_TERMS: usize = 128;
+
+/// How many minimal sets the first parts of a node of an expression may have where the minimal sets are listed.
+pub const LISTED_SETS: usize = 64;
+
+/// The most that a term costs.
+pub const TERM_COST: u64 = 1_000_000;

@@ -19,3 +19,4 @@ pub mod TermLemmas
 pub mod Lexes
 pub mod WordKinds
 pub mod Prints
+pub mod TableLemmas

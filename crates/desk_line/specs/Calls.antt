@@ -9,7 +9,7 @@ use Rattle.clap.specs.declared.error.kind.ErrorKind.TheVariants.{InvalidValue, M
 use Rattle.clap.specs.declared.error.Error.{Error}
 use Rattle.desk_line.specs.Words.{desk_app}
 use Rattle.desk_line.specs.declared.call.Call.{Call}
-use Rattle.desk_line.specs.declared.call.Call.TheVariants.{Check, Script}
+use Rattle.desk_line.specs.declared.call.Call.TheVariants.{Check, Alternatives, Script}
 use Rattle.desk_line.specs.declared.call.LineFault.{LineFault}
 use Rattle.desk_line.specs.declared.call.LineFault.TheVariants.{Memory, Usage}
 
@@ -26,10 +26,15 @@ abbrev pub check_in : List Row → Option Call
 check_in rows = option_and_then (λ expression. option_and_then (λ terms. option_map (λ profile. Check expression profile terms)
     (profile_in rows)) (all_of (codes "TERM") rows)) (first_of (codes "EXPR") rows)
 
+-- the call of `alternatives` with these values
+abbrev pub alternatives_in : List Row → Option Call
+alternatives_in rows = option_and_then (λ expression. option_map (λ profile. Alternatives expression profile) (profile_in rows)) (first_of (codes "EXPR") rows)
+
 -- the call of a subcommand with these values
 abbrev pub call_in : Text → List Row → Option Call
 call_in name rows =
     if bytes_eq name (codes "check") then check_in rows
+    else if bytes_eq name (codes "alternatives") then alternatives_in rows
     else if bytes_eq name (codes "script") then Some Script
     else None
 

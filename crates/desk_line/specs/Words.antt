@@ -24,6 +24,10 @@ profile_option = option (codes "PROFILE") (codes "profile") (codes "1")
 abbrev pub check_app : App
 check_app = with_rule (with_rule (with_rule (new_app (codes "check")) profile_option) (word (codes "EXPR"))) (words (codes "TERM"))
 
+-- `alternatives [--profile PROFILE] EXPR`
+abbrev pub alternatives_app : App
+alternatives_app = with_rule (with_rule (new_app (codes "alternatives")) profile_option) (word (codes "EXPR"))
+
 -- `script`, which has no values
 abbrev pub script_app : App
 script_app = new_app (codes "script")
@@ -33,5 +37,9 @@ abbrev pub desk_alone : App
 desk_alone = on_top (λ s. record s { has_version = true; subcommand_required = true; arg_required_else_help = true })
     (new_app (codes "desk"))
 
+-- with the subcommands that judge an expression
+abbrev pub judging_app : App
+judging_app = with_subcommand (with_subcommand desk_alone check_app.top) alternatives_app.top
+
 abbrev pub desk_app : App
-desk_app = with_subcommand (with_subcommand desk_alone check_app.top) script_app.top
+desk_app = with_subcommand judging_app script_app.top

@@ -14,6 +14,12 @@ pub enum Call {
         profile: Profile,
         terms: Items<Text>,
     },
+    /// The minimal sets of terms that satisfy the licence expression, whose operators are written by
+    /// the profile.
+    Alternatives {
+        expression: Text,
+        profile: Profile,
+    },
     /// Replies to the requests of standard input, a line each.
     Script,
 }

@@ -8,6 +8,7 @@
 //! The texts of help and usage are claimed by no contract.
 #![tactic(auto)]
 
+mod alternatives;
 mod arguments;
 mod call;
 mod reading;

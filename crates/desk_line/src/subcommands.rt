@@ -3,9 +3,10 @@
 ghost use Rattle.std.specs.Prelude.{◌≡◌, IfOk, false};
 ghost use Rattle.clap.specs.Words.{app_of};
 ghost use Rattle.clap.specs.declared.builder.command.Command.TheViews.{out-Command};
-ghost use Rattle.desk_line.specs.Words.{check_app, desk_app, profile_option, script_app};
+ghost use Rattle.desk_line.specs.Words.{check_app, desk_app, judging_app, profile_option, script_app};
 ghost use Rattle.clap.specs.Words.{rule_of};
 
+use crate::alternatives::alternatives_command;
 use crate::arguments::{option_arg, word_arg, words_arg};
 use clap::{Arg, Command};
 use std::alloc::{AllocError, Global};
@@ -96,7 +97,7 @@ Statuses:
   3  no memory, or a stream failed";
 
 /// How the operators of a licence expression are written.
-fn profile_arg<'a>(alloc: Global) -> Arg<'a>
+pub(crate) fn profile_arg<'a>(alloc: Global) -> Arg<'a>
     ensures rule { rule_of result ≡ profile_option }
     ensures local { result.global ≡ false }
 {
@@ -128,9 +129,9 @@ fn script_command<'a>(alloc: Global) -> Result<Command<'a>, AllocError>
     )
 }
 
-/// The whole command.
-pub fn desk_command<'a>(alloc: Global) -> Result<Command<'a>, AllocError>
-    ensures shape { IfOk result (λ c. app_of c ≡ desk_app) }
+/// The command with the subcommands that judge an expression.
+fn judging_command<'a>(alloc: Global) -> Result<Command<'a>, AllocError>
+    ensures shape { IfOk result (λ c. app_of c ≡ judging_app) }
     ensures local { IfOk result (λ c. (out-Command c).has_globals ≡ false) }
 {
     Command::new(alloc, "desk")
@@ -140,5 +141,13 @@ pub fn desk_command<'a>(alloc: Global) -> Result<Command<'a>, AllocError>
         .subcommand_required(true)
         .arg_required_else_help(true)
         .subcommand(check_command(alloc)?)?
-        .subcommand(script_command(alloc)?)
+        .subcommand(alternatives_command(alloc)?)
+}
+
+/// The whole command.
+pub fn desk_command<'a>(alloc: Global) -> Result<Command<'a>, AllocError>
+    ensures shape { IfOk result (λ c. app_of c ≡ desk_app) }
+    ensures local { IfOk result (λ c. (out-Command c).has_globals ≡ false) }
+{
+    judging_command(alloc)?.subcommand(script_command(alloc)?)
 }

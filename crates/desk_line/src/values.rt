@@ -4,12 +4,13 @@ ghost use Rattle.std.specs.Prelude.{◌≡◌, IfOk, map, option_map};
 ghost use Rattle.clap.specs.Words.{all_of, first_of, found_of, rows_of};
 ghost use Rattle.desk_line.specs.Calls.{call_in, check_in, profile_in, profile_written};
 
+use crate::alternatives::alternatives_from;
 use crate::call::Call;
 use clap::ArgMatches;
 use desk_base::{Items, Profile, Text};
 use std::alloc::{AllocError, Global};
 
-fn text_in<'a>(matches: &ArgMatches<'a>, id: &str) -> Option<&'a str>
+pub(crate) fn text_in<'a>(matches: &ArgMatches<'a>, id: &str) -> Option<&'a str>
     ensures { option_map (λ s. s.now) result ≡ first_of id.now (rows_of (found_of matches.now)) }
 {
     matches.get_str(id)
@@ -48,7 +49,7 @@ fn profile_written(text: &str) -> Option<Profile>
     }
 }
 
-fn profile_in(matches: &ArgMatches<'_>) -> Option<Profile>
+pub(crate) fn profile_in(matches: &ArgMatches<'_>) -> Option<Profile>
     ensures { result ≡ profile_in (rows_of (found_of matches.now)) }
 {
     profile_written(text_in(matches, "PROFILE")?)
@@ -85,6 +86,8 @@ pub fn call_from(
 {
     if name == "check" {
         check_from(alloc, matches)
+    } else if name == "alternatives" {
+        alternatives_from(alloc, matches)
     } else if name == "script" {
         Ok(Some(Call::Script))
     } else {

@@ -3,3 +3,4 @@ pub mod WriterLemmas
 pub mod Splits
 pub mod OneStop
 pub mod OneAnswer
+pub mod ListingLemmas

@@ -21,7 +21,7 @@ use Rattle.desk_program.proofs.Splits.{Cuts, two_cuts}
 
 -- ---- the words
 
-one_tree : (profile : Profile) (text : List ℕ) (e f : Tree) → SpellsWithinBy profile text e → SpellsWithinBy profile text f → e ≡ f
+pub one_tree : (profile : Profile) (text : List ℕ) (e f : Tree) → SpellsWithinBy profile text e → SpellsWithinBy profile text f → e ≡ f
 one_tree profile text e f (short, ts, are, h, keeps) (short', us, are', k, keeps') = spells_once profile text e f (ts, are, h) (us, are', k)
 
 same_terms : (words : List (List ℕ)) (ts us : List Term) → SpellTerms words ts → SpellTerms words us → ts ≡ us

@@ -1,2 +1,3 @@
 pub mod Report
 pub mod Failures
+pub mod Listing

@@ -9,6 +9,7 @@ ghost use Rattle.desk_program.specs.Failures.{IfMemory, OfScript};
 ghost use Rattle.desk_program.specs.Report.{IsReadTo, IsReport, IsVerdict, SpellTerms, Tells, TellsOnce};
 
 use crate::failure::Failure;
+pub use crate::listing::alternatives;
 use crate::report::Report;
 use desk_core::desk::Desk;
 use desk_expr::{Expr, ParseFault, Profile, Term, Verdict, check_choice, parse_in, parse_term};
@@ -25,7 +26,7 @@ enum Terms<'a> {
 }
 
 /// The fault, unless it is want of memory, which is handed on.
-fn told(fault: ParseFault) -> Result<ParseFault, AllocError>
+pub(crate) fn told(fault: ParseFault) -> Result<ParseFault, AllocError>
     ensures told { IfOk result (λ told. (told ≡ fault) × (0 < fault_number fault)) }
     ensures memory { OnErr result (fault_number fault ≡ 0) }
 {

@@ -1,0 +1,13 @@
+pub mod Bits
+pub mod Lanes
+pub mod Antichains
+pub mod Columns
+pub mod Inserting
+pub mod SetLemmas
+pub mod FrontLemmas
+pub mod Widths
+pub mod Pigeons
+pub mod FaultLemmas
+pub mod Choosing
+pub mod ListingLemmas
+pub mod CostLemmas

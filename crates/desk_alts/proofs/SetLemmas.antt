@@ -1,0 +1,118 @@
+-- Sets of terms as lists in the order of terms.
+use Rattle.std.proofs.Common.{◌≡◌, ◌↔◌, ◌∙◌, ◌⊎◌, inl, inr, ⊎_elim, ℕ, zero, suc, ◌<◌, List, [], ◌∷◌, ◌++◌, length, get_or, sym, ap, ap₂, refl, arith, Some}
+use Rattle.std.specs.Prelude.{slice_get, Contains}
+use Rattle.std.specs.List.Sorted.{IsStrictlySortedBy}
+use Rattle.std.specs.Cmp.{IsTotalOrder}
+use Rattle.std.specs.declared.cmp.Ordering.{Ordering}
+use Rattle.std.specs.Ordering.{ordering_reverse}
+use Rattle.std.specs.declared.cmp.Ordering.TheVariants.{Less}
+use Rattle.std.proofs.lemmas.List.Elements.{All-from_recursion, recursion_from_All, All-push, All-from_get_or, Contains-get_or}
+use Rattle.std.proofs.lemmas.Map.Keys.{Less-from_sorted, sorted_tail}
+use Rattle.std.proofs.lemmas.Option.{slice_get_within, get_or_from_slice_get}
+use Rattle.std.proofs.lemmas.Bool.{cases_eq}
+use Rattle.std.proofs.str.Laws.{order}
+use Rattle.desk_expr.specs.contracts.term.TermOrd.TheImpl.Laws.{total-law}
+use Rattle.desk_expr.specs.declared.term.Term.{Term}
+use Rattle.desk_expr.specs.Occurring.{term_order}
+use Rattle.desk_expr.proofs.SameTerms.{contains_here, contains_there}
+use Rattle.desk_alts.specs.Sets.{IsTermSet}
+
+-- ---- strictly sorted lists
+
+head_or_later : {K : Type 0} (x : K) (xs : List K) (q : K) → Contains (x ∷ xs) q → (x ≡ q) ⊎ Contains xs q
+head_or_later x xs q (zero, within, is) = inl is
+head_or_later x xs q (suc k, within, is) = inr (k, omega arith, is)
+
+is_head : {K : Type 0} (x : K) (xs : List K) → Contains (x ∷ xs) x
+is_head x xs = (zero, omega arith, refl)
+
+is_later : {K : Type 0} (x : K) (xs : List K) (q : K) → Contains xs q → Contains (x ∷ xs) q
+is_later x xs q at = (suc at.0, omega (arith, at.1), at.2)
+
+own_rank : (r : Ordering) → r ≡ ordering_reverse r → r ≡ Less → ⊥
+own_rank r turned less = let e : Less ≡ ordering_reverse Less = sym less ∙ (turned ∙ ap ordering_reverse less) in cc
+
+module _ {K : Type 0} (R : K → K → Ordering) (o : IsTotalOrder R) where
+  not_below_own : (x : K) → R x x ≡ Less → ⊥
+  not_below_own x less = own_rank (R x x) (o.antisymm x x) less
+
+  not_both : (x y : K) → R x y ≡ Less → R y x ≡ Less → ⊥
+  not_both x y a b = let turned : Less ≡ ordering_reverse Less = sym a ∙ (o.antisymm x y ∙ ap ordering_reverse b) in cc
+
+  head_first : (x y : K) (xs : List K) → IsStrictlySortedBy R (x ∷ xs) → Contains xs y → R x y ≡ Less
+  head_first x y xs up at =
+      let less : R x (get_or xs at.0 y) ≡ Less = Less-from_sorted R (x ∷ xs) zero (suc at.0) y up (omega arith) (omega (arith, at.1)) in
+      ap (R x) (sym at.2) ∙ less
+
+  -- two strictly sorted lists of the same items are one list
+  pub same_sorted : (a b : List K) → IsStrictlySortedBy R a → IsStrictlySortedBy R b → ((x : K) → Contains a x ↔ Contains b x) → a ≡ b
+  same_sorted [] [] up up' same = refl
+  same_sorted [] (y ∷ ys) up up' same = absurd (let at = (same y).1 (is_head y ys) in omega (arith, at.1))
+  same_sorted (x ∷ xs) [] up up' same = absurd (let at = (same x).0 (is_head x xs) in omega (arith, at.1))
+  same_sorted (x ∷ xs) (y ∷ ys) up up' same =
+      let head : x ≡ y =
+      elim (head_or_later y ys x ((same x).0 (is_head x xs))) [
+        | inl is ↦ sym is
+        | inr later ↦ elim (head_or_later x xs y ((same y).1 (is_head y ys))) [
+          | inl is ↦ is
+          | inr late ↦ absurd (not_both x y (head_first x y xs up late) (head_first y x ys up' later))
+        ]
+      ] in
+      let tails : xs ≡ ys = same_sorted xs ys (sorted_tail R x xs up) (sorted_tail R y ys up')
+      (λ t. (
+        (λ at. elim (head_or_later y ys t ((same t).0 (is_later x xs t at))) [
+          | inl is ↦ absurd (not_below_own t (ap (λ z. R z t) (sym is ∙ sym head) ∙ head_first x t xs up at))
+          | inr later ↦ later
+        ]),
+        (λ at. elim (head_or_later x xs t ((same t).1 (is_later y ys t at))) [
+          | inl is ↦ absurd (not_below_own t (ap (λ z. R z t) (sym is ∙ head) ∙ head_first y t ys up' at))
+          | inr later ↦ later
+        ]),
+      )) in
+      ap₂ (λ (z : K) (zs : List K). z ∷ zs) head tails
+
+-- ---- sets of terms
+
+pub not_below_itself : (t : Term) → term_order t t ≡ Less → ⊥
+not_below_itself = not_below_own term_order total-law
+
+pub both_below : (x y : Term) → term_order x y ≡ Less → term_order y x ≡ Less → ⊥
+both_below = not_both term_order total-law
+
+pub head_below : (x y : Term) (xs : List Term) → IsTermSet (x ∷ xs) → Contains xs y → term_order x y ≡ Less
+head_below = head_first term_order total-law
+
+-- two sets of the same terms are one list
+pub same_sets : (a b : List Term) → IsTermSet a → IsTermSet b → ((t : Term) → Contains a t ↔ Contains b t) → a ≡ b
+same_sets = same_sorted term_order total-law
+
+pub sorted_none : IsTermSet []
+unfolding IsStrictlySortedBy
+sorted_none = tt
+
+pub sorted_consed : (x : Term) (xs : List Term) → IsTermSet xs → ((y : Term) → Contains xs y → term_order x y ≡ Less) → IsTermSet (x ∷ xs)
+unfolding IsStrictlySortedBy
+sorted_consed x xs up below = (
+  recursion_from_All (λ y. term_order x y ≡ Less) xs (All-from_get_or (λ y. term_order x y ≡ Less) xs x (λ i within. below (get_or xs i x) (Contains-get_or xs i x within))),
+  up,
+)
+
+pub sorted_pushed : (xs : List Term) (y : Term) → IsTermSet xs → ((x : Term) → Contains xs x → term_order x y ≡ Less) → IsTermSet (xs ++ y ∷ [])
+unfolding IsStrictlySortedBy
+sorted_pushed [] y up below = (tt, tt)
+sorted_pushed (x ∷ xs) y up below = (
+  recursion_from_All (λ z. term_order x z ≡ Less) (xs ++ y ∷ []) (All-push (λ z. term_order x z ≡ Less) xs y (All-from_recursion (λ z. term_order x z ≡ Less) xs up.0) (below x (contains_here x xs x refl))),
+  sorted_pushed xs y up.1 (λ z at. below z (contains_there x xs z at)),
+)
+
+-- no term stands at two places
+pub distinct_table : (table : List Term) → IsTermSet table → (i j : ℕ) (t : Term) → slice_get table i ≡ Some t → slice_get table j ≡ Some t → i ≡ j
+distinct_table table sorted i j t a b =
+    let at_i = get_or_from_slice_get table i t t a in
+    let at_j = get_or_from_slice_get table j t t b in
+    let below : (x y : ℕ) → x < y → y < length table → get_or table x t ≡ t → get_or table y t ≡ t → ⊥ =
+    λ x y lt within p q. not_below_itself t (ap₂ term_order (sym p) (sym q) ∙ Less-from_sorted term_order table x y t sorted lt within) in
+    ⊎_elim
+    (λ lt. absurd (below i j lt (slice_get_within table j t b) at_i at_j))
+    (λ ge. elim (cases_eq i j) [ inl is ↦ is | inr ne ↦ absurd (below j i (omega (arith, ge, ne)) (slice_get_within table i t a) at_j at_i) ])
+    (order i j)

@@ -1,0 +1,21 @@
+-- Which fault is told of an expression.
+use Rattle.desk_expr.specs.Tree.{Tree}
+use Rattle.desk_alts.specs.declared.fault.AltFault.{AltFault}
+use Rattle.desk_alts.specs.declared.fault.AltFault.TheVariants.{TooManyTerms, TooMany, Memory}
+use Rattle.desk_alts.specs.Sets.{HasMoreTerms, HasWideFront}
+
+-- the expression can be listed: it has at most 128 distinct terms, and no front has more than 64 minimal sets
+abbrev pub IsListable : Tree → Type 0
+IsListable e = (HasMoreTerms 128 e → ⊥) × (HasWideFront e → ⊥)
+
+-- the fault is the expression's, that of too many terms first; want of memory says nothing of it
+abbrev pub IsFaultOf : Tree → AltFault → Type 0
+IsFaultOf e TooManyTerms = HasMoreTerms 128 e
+IsFaultOf e TooMany = (HasMoreTerms 128 e → ⊥) × HasWideFront e
+IsFaultOf e (Memory error) = Unit {0}
+
+-- the same where there are few terms
+abbrev pub IsWidthFaultOf : Tree → AltFault → Type 0
+IsWidthFaultOf e TooManyTerms = ⊥
+IsWidthFaultOf e TooMany = HasWideFront e
+IsWidthFaultOf e (Memory error) = Unit {0}
