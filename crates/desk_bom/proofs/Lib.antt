@@ -1,0 +1,5 @@
+pub mod ElementLemmas
+pub mod LoopLemmas
+pub mod TargetLemmas
+pub mod WalkLemmas
+pub mod ShippingLemmas

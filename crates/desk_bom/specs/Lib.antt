@@ -1,0 +1,4 @@
+pub mod Elements
+pub mod Marks
+pub mod Targets
+pub mod Shipping
