@@ -14,19 +14,16 @@ use Rattle.std.specs.Str.{bytes_eq}
 use Rattle.std.proofs.lemmas.List.{drop_more, drop_all}
 use Rattle.std.proofs.lemmas.Map.Text.{btree_map_updates_str}
 use denote.Ref.{Bor}
-use Rattle.desk_bom.specs.Elements.{place_of, later}
+use Rattle.desk_bom.specs.Elements.{place_in, place_of, later}
 
 -- a place behind others
 abbrev pub from : ℕ → Option ℕ → Option ℕ
 from i None = None
 from i (Some n) = Some (i + n)
 
-abbrev pub map_place : BTreeMap (Bor (List ℕ)) ℕ → List ℕ → Option ℕ
-map_place m id = get_by (λ (k : Bor (List ℕ)). slice_cmp nat_cmp id k.now) m
-
 -- a map tells the first place of each identifier from a place on
 abbrev pub FirstPlaces : BTreeMap (Bor (List ℕ)) ℕ → ℕ → List (List ℕ) → Type 0
-FirstPlaces m i ids = (id : List ℕ) → map_place m id ≡ from i (place_of id (drop i ids))
+FirstPlaces m i ids = (id : List ℕ) → place_in m id ≡ from i (place_of id (drop i ids))
 
 one_on : (i : ℕ) (place : Option ℕ) → from (i + 1) place ≡ from i (later place)
 one_on i None = refl
@@ -47,10 +44,10 @@ first_places_more m n i ids x inside is first h id =
     ∙ here_or_later i (bytes_eq x id) (place_of id (drop (i + 1) ids))
     ∙ ap (λ y. from i (place_of id (y ∷ drop (i + 1) ids))) is ∙ ap (λ l. from i (place_of id l)) (sym (drop_more ids i x inside))
 
-pub first_places_none : (m : BTreeMap (Bor (List ℕ)) ℕ) (ids : List (List ℕ)) → ((id : List ℕ) → map_place m id ≡ None) → FirstPlaces m (length ids) ids
+pub first_places_none : (m : BTreeMap (Bor (List ℕ)) ℕ) (ids : List (List ℕ)) → ((id : List ℕ) → place_in m id ≡ None) → FirstPlaces m (length ids) ids
 first_places_none m ids none id = none id ∙ ap (λ l. from (length ids) (place_of id l)) (sym (drop_all (length ids) ids (omega arith)))
 
-pub first_places_all : (m : BTreeMap (Bor (List ℕ)) ℕ) (ids : List (List ℕ)) → FirstPlaces m 0 ids → (id : List ℕ) → map_place m id ≡ place_of id ids
+pub first_places_all : (m : BTreeMap (Bor (List ℕ)) ℕ) (ids : List (List ℕ)) → FirstPlaces m 0 ids → (id : List ℕ) → place_in m id ≡ place_of id ids
 first_places_all m ids first id = first id ∙ from_zero (place_of id ids)
 
 -- the identifiers of all elements, list by list

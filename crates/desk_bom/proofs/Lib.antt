@@ -3,3 +3,4 @@ pub mod LoopLemmas
 pub mod TargetLemmas
 pub mod WalkLemmas
 pub mod ShippingLemmas
+pub mod ContentsLemmas

@@ -1,6 +1,8 @@
 -- The run of the arrows that come from a place.
 use Rattle.std.proofs.Common.{◌≡◌, ◌∙◌, ⊎_elim, ℕ, ◌+◌, ◌-◌, ◌<◌, ◌≤◌, Bool, true, false, List, length, take, drop, get_or, ap, sym, refl, subst, ltb, leb, arith, length-take, length-drop, get_or-take, get_or-drop, min}
-use Rattle.std.specs.Prelude.{Contains}
+use Rattle.std.specs.Prelude.{Contains, map}
+use Rattle.std.proofs.lemmas.List.{get_or-map, length-map}
+use Rattle.std.proofs.lemmas.List.Elements.{Contains-get_or}
 use Rattle.std.specs.List.Sorted.{IsPartitionPoint}
 use Rattle.std.proofs.lemmas.Bool.{ltb-true, ltb-false, leb-true, leb-false, cases_lt}
 use Rattle.desk_bom.specs.declared.arrows.Arrow.{Arrow}
@@ -48,3 +50,28 @@ module _ (xs rest : List Arrow) (place s n : ℕ) (behind : rest ≡ drop s xs) 
 
   pub are_targets : AreTargets xs place (take n rest)
   are_targets = record { all = all; only = only }
+
+arrow_is : (x : Arrow) (a b : ℕ) → x.from ≡ a → x.to ≡ b → ◌≡◌ {A = Arrow} x (record { from = a; to = b })
+arrow_is x a b e f = let arrow : ℕ → ℕ → Arrow = λ m n. record { from = m; to = n } in ap (λ m. arrow m x.to) e ∙ ap (arrow a) f
+
+-- what the arrows of a place lead to
+module _ (arrows ts : List Arrow) (place j : ℕ) (targets : AreTargets arrows place ts) where
+  pub led_to : Contains (map (λ x. x.to) ts) j → Contains arrows (record { from = place; to = j })
+  led_to h =
+      let long = length-map ts (λ (x : Arrow). x.to) in
+      let lt = h.1 in
+      let inside : h.0 < length ts = omega arith in
+      let d : Arrow = record { from = place; to = j } in
+      let x = get_or ts h.0 d in
+      let it = targets.only x (Contains-get_or ts h.0 d inside) in
+      let to : x.to ≡ j = sym (get_or-map (λ (y : Arrow). y.to) ts h.0 d j inside) ∙ h.2 in
+      let same : x ≡ d = arrow_is x place j it.1 to in
+      subst (Contains arrows) same it.0
+
+  pub leads_to : Contains arrows (record { from = place; to = j }) → Contains (map (λ x. x.to) ts) j
+  leads_to h =
+      let d : Arrow = record { from = place; to = j } in
+      let t = targets.all d h refl in
+      let long = length-map ts (λ (x : Arrow). x.to) in
+      let lt = t.1 in
+      (t.0, omega arith, get_or-map (λ (y : Arrow). y.to) ts t.0 d j t.1 ∙ ap (λ (y : Arrow). y.to) t.2)

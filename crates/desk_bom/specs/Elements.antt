@@ -1,9 +1,9 @@
 -- The elements of a document (SPDX 2.3, clauses 6 to 9), each told by its place: the document itself, the packages, the
 -- files, the snippets.
-use Rattle.std.specs.Prelude.{◌≡◌, ℕ, ◌+◌, List, length, [], ◌∷◌, ◌++◌, map, Option, Some, None, codes, if◌then◌else◌}
+use Rattle.std.specs.Prelude.{ℕ, ◌+◌, List, [], ◌∷◌, ◌++◌, map, Option, Some, None, codes, if◌then◌else◌}
 use Rattle.std.specs.Ordering.{nat_cmp}
 use Rattle.std.specs.Cmp.Lexicographic.{slice_cmp}
-use Rattle.std.specs.BTreeMap.{get_by}
+use Rattle.std.specs.BTreeMap.{BTreeMap, get_by}
 use Rattle.std.specs.Str.{bytes_eq}
 use denote.Ref.{Bor}
 use Rattle.desk_bom.specs.declared.elements.Elements.{Elements}
@@ -39,14 +39,13 @@ place_of id (x ∷ xs) = if bytes_eq x id then Some 0 else later (place_of id xs
 abbrev pub element_named : DocumentText → List ℕ → Option ℕ
 element_named d id = place_of id (element_ids d)
 
+-- the place of an identifier in a map
+abbrev pub place_in : BTreeMap (Bor (List ℕ)) ℕ → List ℕ → Option ℕ
+place_in m id = get_by (λ (k : Bor (List ℕ)). slice_cmp nat_cmp id k.now) m
+
 -- the element that an identifier names, by what was noted of a document
 abbrev pub element_noted : Elements → List ℕ → Option ℕ
-element_noted es id = get_by (λ (k : Bor (List ℕ)). slice_cmp nat_cmp id k.now) es.places
+element_noted es id = place_in es.places id
 
 abbrev pub element_count : Elements → ℕ
 element_count es = es.count
-
--- the elements of a document were noted
-pub record Notes (d : DocumentText) (es : Elements) : Type 0 where
-  pub count : element_count es ≡ length (element_ids d)
-  pub places : (id : List ℕ) → element_noted es id ≡ element_named d id

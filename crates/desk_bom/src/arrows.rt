@@ -4,6 +4,7 @@ ghost use Rattle.std.specs.Prelude.{◌≡◌, ◌<◌, ◌++◌, ◌∷◌, [],
 ghost use Rattle.std.specs.List.Sorted.{IsNonDecreasingBy};
 ghost use Rattle.desk_bom.specs.Marks.{among, added, added_all, IsLeastFrom};
 ghost use Rattle.desk_bom.specs.Targets.{AreTargets};
+ghost use Rattle.desk_bom.specs.Shipping.{arrow_between};
 
 use std::alloc::{AllocError, Global};
 
@@ -12,6 +13,16 @@ use std::alloc::{AllocError, Global};
 pub(crate) struct Arrow {
     pub from: usize,
     pub to: usize,
+}
+
+/// The arrow between two places, where both are there.
+pub(crate) fn arrow_between(from: Option<usize>, to: Option<usize>) -> Option<Arrow>
+    ensures { result ≡ arrow_between from to }
+{
+    match (from, to) {
+        (Some(from), Some(to)) => Some(Arrow { from, to }),
+        _ => None,
+    }
 }
 
 /// The places that a walk has reached, in order, each also marked.
@@ -84,8 +95,8 @@ impl Reached {
     }
 }
 
-// The arrows that come from a place.
-fn targets(arrows: &[Arrow], place: usize) -> &[Arrow]
+/// The arrows that come from a place.
+pub(crate) fn targets(arrows: &[Arrow], place: usize) -> &[Arrow]
     requires { IsNonDecreasingBy (λ x. x.from) arrows.now }
     ensures { AreTargets arrows.now place result.now }
 {

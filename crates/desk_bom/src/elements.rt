@@ -3,7 +3,10 @@
 ghost use Rattle.std.specs.Prelude.{◌≡◌, ◌++◌, ◌∷◌, [], ℕ, List, IfOk, OnOk, codes, map, length};
 ghost use Rattle.std.specs.Option.{option_copied};
 ghost use Rattle.desk_tagvalue.specs.Documents.{document_text};
-ghost use Rattle.desk_bom.specs.Elements.{texts, element_ids, element_named, element_noted, element_count, place_of, Notes};
+ghost use Rattle.desk_bom.specs.Elements.{texts, element_ids, element_named, place_in, place_of, element_noted, element_count};
+ghost use Rattle.desk_bom.specs.Notes.{Notes};
+ghost use Rattle.desk_bom.specs.Contents.{package_at, file_at, package_named, file_named};
+ghost use Rattle.desk_tagvalue.specs.Parts.{DocumentText};
 
 use desk_tagvalue::{Document, FileEntry, Package, Snippet};
 use std::alloc::{AllocError, Global};
@@ -13,6 +16,8 @@ use std::collections::BTreeMap;
 #[derive(Drop)]
 pub struct Elements<'a> {
     count: usize,
+    packages: usize,
+    files: usize,
     places: BTreeMap<&'a str, usize>,
 }
 
@@ -56,18 +61,14 @@ fn ids_of<'a>(alloc: Global, document: &Document<'a>) -> Result<Vec<&'a str>, Al
 }
 
 // The first place of each identifier.
-fn places_of<'a>(alloc: Global, ids: &[&'a str]) -> Result<Elements<'a>, AllocError>
-    ensures places { IfOk result (λ es. (id : List ℕ) → element_noted es id ≡ place_of id (texts ids.now)) }
-    ensures count { IfOk result (λ es. es.count ≡ length ids.now) }
+fn places_of<'a>(alloc: Global, ids: &[&'a str]) -> Result<BTreeMap<&'a str, usize>, AllocError>
+    ensures { IfOk result (λ places. (id : List ℕ) → place_in places id ≡ place_of id (texts ids.now)) }
 {
     let mut places = BTreeMap::new(alloc);
     for i in (0..ids.len()).rev() {
         places.insert(ids[i], i)?;
     }
-    Ok(Elements {
-        count: ids.len(),
-        places,
-    })
+    Ok(places)
 }
 
 impl<'a> Elements<'a> {
@@ -76,7 +77,13 @@ impl<'a> Elements<'a> {
         ensures { IfOk result (Notes (document_text document.now)) }
     {
         let ids = ids_of(alloc, document)?;
-        places_of(alloc, &ids)
+        let places = places_of(alloc, &ids)?;
+        Ok(Elements {
+            count: ids.len(),
+            packages: document.packages.as_slice().len(),
+            files: document.files.as_slice().len(),
+            places,
+        })
     }
 
     /// How many elements there are.
@@ -91,5 +98,47 @@ impl<'a> Elements<'a> {
         ensures { result ≡ element_noted self.now id.now }
     {
         self.places.get(id).copied()
+    }
+
+    /// The package that an identifier names, by its place among the packages.
+    pub fn package(&self, id: &str) -> Option<usize>
+        ensures { (d : DocumentText) → Notes d self.now → result ≡ package_named d id.now }
+    {
+        match self.place(id) {
+            Some(place) => self.package_at(place),
+            None => None,
+        }
+    }
+
+    /// The file that an identifier names, by its place among the files.
+    pub fn file(&self, id: &str) -> Option<usize>
+        ensures { (d : DocumentText) → Notes d self.now → result ≡ file_named d id.now }
+    {
+        match self.place(id) {
+            Some(place) => self.file_at(place),
+            None => None,
+        }
+    }
+
+    // The package that is an element.
+    fn package_at(&self, place: usize) -> Option<usize>
+        ensures { (d : DocumentText) → Notes d self.now → result ≡ package_at d place }
+    {
+        if place > 0 && place <= self.packages {
+            Some(place - 1)
+        } else {
+            None
+        }
+    }
+
+    // The file that is an element.
+    fn file_at(&self, place: usize) -> Option<usize>
+        ensures { (d : DocumentText) → Notes d self.now → result ≡ file_at d place }
+    {
+        if place > self.packages && place - self.packages <= self.files {
+            Some(place - self.packages - 1)
+        } else {
+            None
+        }
     }
 }

@@ -2,8 +2,14 @@
 #![tactic(auto)]
 
 mod arrows;
+mod codes;
+mod contents;
 mod elements;
 mod shipping;
+mod state;
 
+pub use codes::verification_code;
+pub use contents::Contents;
 pub use elements::Elements;
 pub use shipping::shipped;
+pub use state::CodeState;

@@ -5,13 +5,14 @@ ghost use Rattle.std.specs.List.{list_any, filter_map, range_with_len};
 ghost use Rattle.std.specs.List.Sorted.{IsPermutation, IsNonDecreasingBy};
 ghost use Rattle.desk_tagvalue.specs.Documents.{document_text};
 ghost use Rattle.desk_tagvalue.specs.Views.{edge_text};
-ghost use Rattle.desk_bom.specs.Elements.{Notes, element_count};
+ghost use Rattle.desk_bom.specs.Elements.{element_count};
+ghost use Rattle.desk_bom.specs.Notes.{Notes};
 ghost use Rattle.desk_tagvalue.specs.Parts.{DocumentText};
 ghost use Rattle.desk_bom.specs.Marks.{among, IsLeastFrom};
 ghost use Rattle.desk_bom.specs.Shipping.{ships_right, ships_left, arrow_between, touches_document, shipping_arrow, shipping_arrows, describes, is_described, is_start, AreShipped};
 
 use crate::Elements;
-use crate::arrows::{Arrow, Reached};
+use crate::arrows::{Arrow, Reached, arrow_between};
 use desk_tagvalue::{Document, Edge, Package};
 use std::alloc::{AllocError, Global};
 
@@ -30,15 +31,6 @@ fn ships_left(kind: &str) -> bool
     match kind {
         "DESCRIBED_BY" | "CONTAINED_BY" | "DEPENDENCY_OF" | "RUNTIME_DEPENDENCY_OF" => true,
         _ => false,
-    }
-}
-
-fn arrow_between(from: Option<usize>, to: Option<usize>) -> Option<Arrow>
-    ensures { result ≡ arrow_between from to }
-{
-    match (from, to) {
-        (Some(from), Some(to)) => Some(Arrow { from, to }),
-        _ => None,
     }
 }
 
