@@ -4,3 +4,4 @@ pub mod TargetLemmas
 pub mod WalkLemmas
 pub mod ShippingLemmas
 pub mod ContentsLemmas
+pub mod CodeLemmas

@@ -1,10 +1,11 @@
 -- Package verification codes (SPDX 2.3, clause 7.9).
-use Rattle.std.specs.Prelude.{◌≡◌, ◌≢◌, ℕ, not, ◌-◌, ◌==◌, ◌&&◌, ◌||◌, nat_eq, nat_le, Bool, true, false, List, [], ◌∷◌, length, take, drop, map, Option, Some, None, if◌then◌else◌, codes}
+use Rattle.std.specs.Prelude.{◌≡◌, ◌≢◌, ℕ, not, ◌-◌, ◌==◌, ◌&&◌, ◌||◌, nat_eq, nat_le, Bool, true, false, List, [], ◌∷◌, length, take, drop, map, Option, Some, None, if◌then◌else◌, codes, slice_get, Vec}
 use Rattle.std.specs.List.{concat, list_all, list_any, starts_with, ends_with, slice_split}
 use Rattle.std.specs.List.Sorted.{IsPermutation, IsSorted}
 use Rattle.std.specs.Ordering.{nat_cmp}
 use Rattle.std.specs.Cmp.Lexicographic.{slice_cmp}
 use Rattle.std.specs.Str.{bytes_eq}
+use Rattle.std.specs.declared.alloc.Global.{Global}
 use Rattle.std.specs.Result.{result_ok}
 use Rattle.sha1.specs.Sha1.{sha1}
 use Rattle.hex.specs.Hex.{encode_lower, decode_sized}
@@ -50,11 +51,18 @@ plain name = if starts_with nat_eq name (codes "./") then drop 2 name else name
 abbrev pub names_of : List ℕ → List (List ℕ)
 names_of text = map (λ name. plain (trimmed name)) (slice_split (λ b. b == 44) text)
 
+-- what stands between ( and )
+abbrev pub inner_of : List ℕ → List ℕ
+inner_of text = take (length (drop 1 text) - 1) (drop 1 text)
+
 -- the files that a code excludes
 abbrev pub excluded_by : List ℕ → List (List ℕ)
-excluded_by value =
-    if length value == 40 then []
-    else names_of (names_in (take (length (drop 1 (code_list value)) - 1) (drop 1 (code_list value))))
+excluded_by value = if length value == 40 then [] else names_of (names_in (inner_of (code_list value)))
+
+-- the same of what was read of it
+abbrev pub excluded_names : Option (List ℕ) → List (List ℕ)
+excluded_names None = []
+excluded_names (Some text) = names_of text
 
 -- ---- what a code says of a package's files
 
@@ -80,21 +88,30 @@ abbrev pub is_unanalyzed : Option (List ℕ) → Bool
 is_unanalyzed None = false
 is_unanalyzed (Some flag) = bytes_eq (folded flag) (codes "false")
 
--- the digests of which a code can tell
-abbrev pub checked_digests : PackageText → List ℕ → List FileText → Option (List (List ℕ))
-checked_digests p value fs = if is_unanalyzed p.files_analyzed || not (is_code value) then None else digests_of (excluded_by value) fs
+-- the digests of which a code tells, if FilesAnalyzed isn't false, the code is one, and each file that it doesn't exclude has a digest
+abbrev pub checked_digests : Option (List ℕ) → List ℕ → List FileText → Option (List (List ℕ))
+checked_digests flag value fs = if is_unanalyzed flag || not (is_code value) then None else digests_of (excluded_by value) fs
 
 -- what the code of a package says of its files
 abbrev pub IsStateOf : PackageText → List FileText → CodeState → Type 0
 IsStateOf p fs states.Absent = p.verification_code ≡ None
-IsStateOf p fs states.Unchecked = (value : List ℕ) × (p.verification_code ≡ Some value) × (checked_digests p value fs ≡ None)
+IsStateOf p fs states.Unchecked = (value : List ℕ) × (p.verification_code ≡ Some value) × (checked_digests p.files_analyzed value fs ≡ None)
 IsStateOf p fs states.Agrees =
     (value : List ℕ) × (digests : List (List ℕ)) × (code : List ℕ)
-    × (p.verification_code ≡ Some value) × (checked_digests p value fs ≡ Some digests) × IsCode digests code × (folded (code_digits value) ≡ code)
+    × (p.verification_code ≡ Some value) × (checked_digests p.files_analyzed value fs ≡ Some digests) × IsCode digests code × (folded (code_digits value) ≡ code)
 IsStateOf p fs states.Differs =
     (value : List ℕ) × (digests : List (List ℕ)) × (code : List ℕ)
-    × (p.verification_code ≡ Some value) × (checked_digests p value fs ≡ Some digests) × IsCode digests code × (folded (code_digits value) ≢ code)
+    × (p.verification_code ≡ Some value) × (checked_digests p.files_analyzed value fs ≡ Some digests) × IsCode digests code × (folded (code_digits value) ≢ code)
 
--- the state of a package's code
-abbrev pub IsState : DocumentText → PackageText → ℕ → CodeState → Type 0
-IsState d p k state = (fs : List FileText) × AreFilesOf d k fs × IsStateOf p fs state
+-- the state of the code of a package, told by its place
+pub record IsState (d : DocumentText) (k : ℕ) (state : CodeState) : Type 0 where
+  pub owner : PackageText
+  pub at : slice_get d.packages k ≡ Some owner
+  pub files : List FileText
+  pub are : AreFilesOf d k files
+  pub is : IsStateOf owner files state
+
+-- what digests there are
+abbrev pub items_of : Option (Vec (List ℕ) Global) → Option (List (List ℕ))
+items_of None = None
+items_of (Some v) = Some v.items

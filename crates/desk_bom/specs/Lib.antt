@@ -6,4 +6,3 @@ pub mod Shipping
 pub mod Contents
 pub mod Held
 pub mod Codes
-pub mod Named

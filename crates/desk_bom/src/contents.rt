@@ -61,7 +61,11 @@ fn add_own(found: &mut Vec<Arrow>, entries: &[Entry]) -> Result<(), AllocError>
 }
 
 // Adds the files that relationships tie to packages.
-fn add_tied(found: &mut Vec<Arrow>, document: &Document, elements: &Elements) -> Result<(), AllocError>
+fn add_tied(
+    found: &mut Vec<Arrow>,
+    document: &Document,
+    elements: &Elements,
+) -> Result<(), AllocError>
     requires { Notes (document_text document.now) elements.now }
     ensures { OnOk result (found.new.items ≡ found.old.items ++ filter_map (tie (document_text document.now)) (document_text document.now).edges) }
 {
@@ -86,7 +90,11 @@ impl Contents {
     ghost use Rattle.desk_bom.specs.Held.{Holds};
 
     /// Notes the files of a document's packages.
-    pub fn of(alloc: Global, document: &Document, elements: &Elements) -> Result<Contents, AllocError>
+    pub fn of(
+        alloc: Global,
+        document: &Document,
+        elements: &Elements,
+    ) -> Result<Contents, AllocError>
         requires { Notes (document_text document.now) elements.now }
         ensures { IfOk result (Holds (document_text document.now)) }
     {

@@ -19,6 +19,6 @@ returns-clause-members c = λ j.
     let arrows = c.args.self.now.arrows.items in
     let targets = subst (λ l. AreTargets l c.args.owner c.targets.result.now) c.deref.ensures.value c.targets.ensures in (
       λ h. led_to arrows c.targets.result.now c.args.owner j targets
-      (subst (λ l. Contains l j) c.in_ok-places.ensures (Contains-permutation _ _ j (IsPermutation-sym _ _ moved) (Contains-from_dedup _ _ j (rw is at h)))),
+          (subst (λ l. Contains l j) c.in_ok-places.ensures (Contains-permutation _ _ j (IsPermutation-sym _ _ moved) (Contains-from_dedup _ _ j (rw is at h)))),
       λ h. rw is (Contains-dedup_nat _ j (Contains-permutation _ _ j moved (subst (λ l. Contains l j) (sym c.in_ok-places.ensures) (leads_to arrows c.targets.result.now c.args.owner j targets h)))),
     )
