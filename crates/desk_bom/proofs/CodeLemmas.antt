@@ -14,12 +14,15 @@ use Rattle.std.proofs.lemmas.List.Folds.{list_all_at}
 use Rattle.std.proofs.Common.{zero, suc, ◌/◌, ◌%◌, lit<, length-take, get_or-take}
 use Rattle.hex.specs.Hex.{encode_lower, encode_with, lower_digits}
 use Rattle.desk_base.specs.Folded.{folded}
-use Rattle.desk_tagvalue.specs.Parts.{is_hex}
+use Rattle.desk_tagvalue.specs.Parts.{is_hex, DocumentText, PackageText, FileText}
 use Rattle.std.proofs.Common.{append_assoc}
 use Rattle.desk_tagvalue.specs.declared.parts.FileEntry.{FileEntry}
 use Rattle.desk_tagvalue.specs.Views.{file_text}
 use Rattle.desk_bom.proofs.LoopLemmas.{seen_more}
-use Rattle.desk_bom.specs.Codes.{is_list, is_code, is_excluded, digest_spelled, digests_of, both}
+use Rattle.desk_bom.specs.Codes.{is_list, is_code, is_excluded, digest_spelled, digests_of, both, IsStateOf, IsStateAt}
+use Rattle.desk_bom.specs.Contents.{AreFilesOf}
+use Rattle.desk_bom.specs.declared.state.CodeState.{CodeState}
+use Rattle.desk_bom.specs.declared.state.CodeState.TheVariants.{Absent, Unchecked, Agrees, Differs}
 
 false_and : (a b : Bool) → b ≡ false → (a && b) ≡ false
 false_and true b h = h
@@ -102,3 +105,9 @@ module _ (xs : List FileEntry) (i : ℕ) (d : FileEntry) (inside : i < length xs
       ap (λ o. behind_front found (both o (digests_of names (map file_text (drop (i + 1) xs))))) (sym is)
       ∙ ap (λ b. behind_front found (cond b (digests_of names (map file_text (drop (i + 1) xs))) (both (digest_spelled (file_text (get_or xs i d)).sha1) (digests_of names (map file_text (drop (i + 1) xs)))))) (sym other)
       ∙ ap (behind_front found) (sym parted)
+
+pub state_at : (d : DocumentText) (k : ℕ) (p : PackageText) (fs : List FileText) (state : CodeState) → AreFilesOf d k fs → IsStateOf p fs state → IsStateAt d k p state
+state_at d k p fs Absent files is = is
+state_at d k p fs Unchecked files is = (fs, files, is)
+state_at d k p fs Agrees files is = (fs, files, is)
+state_at d k p fs Differs files is = (fs, files, is)

@@ -103,13 +103,16 @@ IsStateOf p fs states.Differs =
     (value : List ℕ) × (digests : List (List ℕ)) × (code : List ℕ)
     × (p.verification_code ≡ Some value) × (checked_digests p.files_analyzed value fs ≡ Some digests) × IsCode digests code × (folded (code_digits value) ≢ code)
 
+-- the same of the files that a package has
+abbrev pub IsStateAt : DocumentText → ℕ → PackageText → CodeState → Type 0
+IsStateAt d k p states.Absent = p.verification_code ≡ None
+IsStateAt d k p state = (fs : List FileText) × AreFilesOf d k fs × IsStateOf p fs state
+
 -- the state of the code of a package, told by its place
 pub record IsState (d : DocumentText) (k : ℕ) (state : CodeState) : Type 0 where
   pub owner : PackageText
   pub at : slice_get d.packages k ≡ Some owner
-  pub files : List FileText
-  pub are : AreFilesOf d k files
-  pub is : IsStateOf owner files state
+  pub is : IsStateAt d k owner state
 
 -- what digests there are
 abbrev pub items_of : Option (Vec (List ℕ) Global) → Option (List (List ℕ))

@@ -2,12 +2,13 @@
 
 ghost use Rattle.std.specs.Prelude.{◌≡◌, ◌||◌, ◌↔◌, ◌<◌, ◌+◌, ◌-◌, ◌∷◌, ◌++◌, [], ℕ, List, IfOk, IfSome, IfNone, OnOk, Some, None, length, take, drop, map, nat_eq, true, false, IsTrue, if◌then◌else◌, ◌==◌, slice_get};
 ghost use Rattle.std.specs.List.{ends_with, starts_with, slice_split, filter_map, list_any};
-ghost use Rattle.std.specs.Ordering.{nat_cmp};
+ghost use Rattle.std.specs.Option.{option_map};
 ghost use Rattle.std.specs.Str.{bytes_eq};
 ghost use Rattle.desk_fields.specs.Text.{trimmed};
 ghost use Rattle.desk_base.specs.Folded.{folded};
 ghost use Rattle.hex.specs.Hex.{encode_lower};
 ghost use Rattle.desk_bom.specs.Elements.{texts};
+ghost use Rattle.desk_bom.specs.Contents.{AreFilesOf};
 ghost use Rattle.desk_tagvalue.specs.Documents.{document_text};
 ghost use Rattle.desk_tagvalue.specs.Entries.{value_text};
 ghost use Rattle.desk_tagvalue.specs.Views.{package_text, file_text};
@@ -236,4 +237,93 @@ fn state_of_code(
         }
         None => Ok(CodeState::Unchecked),
     }
+}
+
+// The file at a place.
+fn file_at<'a>(files: &[FileEntry<'a>], place: usize) -> Option<FileEntry<'a>>
+    ensures { option_map file_text result ≡ slice_get (map file_text files.now) place }
+{
+    if place < files.len() {
+        Some(files[place])
+    } else {
+        None
+    }
+}
+
+// The files at some places.
+fn files_at<'a>(
+    alloc: Global,
+    files: &[FileEntry<'a>],
+    places: &[usize],
+) -> Result<Vec<FileEntry<'a>>, AllocError>
+    ensures { IfOk result (λ v. map file_text v.items ≡ filter_map (slice_get (map file_text files.now)) places.now) }
+{
+    let mut found = Vec::with_capacity(alloc, places.len())?;
+    for place in places {
+        match file_at(files, *place) {
+            Some(file) => found.push(file)?,
+            None => {}
+        }
+    }
+    Ok(found)
+}
+
+fn package_at<'d, 'a>(document: &'d Document<'a>, place: usize) -> &'d Package<'a>
+    requires { place < length document.now.packages }
+    ensures { slice_get (document_text document.now).packages place ≡ Some (package_text result.now) }
+{
+    &document.packages.as_slice()[place]
+}
+
+impl Contents {
+    ghost use Rattle.desk_bom.specs.Held.{Holds};
+
+    // The files of a package.
+    fn files_of<'a>(
+        &self,
+        alloc: Global,
+        document: &Document<'a>,
+        owner: usize,
+    ) -> Result<Vec<FileEntry<'a>>, AllocError>
+        requires { Holds (document_text document.now) self.now }
+        ensures { IfOk result (λ v. AreFilesOf (document_text document.now) owner (map file_text v.items)) }
+    {
+        let places = self.files(alloc, owner)?;
+        let files = files_at(alloc, document.files.as_slice(), &places)?;
+        Ok(files)
+    }
+
+    /// What the code of a package says of its files: the package of the document that was noted, by its place among the packages.
+    pub fn code_state(
+        &self,
+        alloc: Global,
+        document: &Document,
+        owner: usize,
+    ) -> Result<CodeState, AllocError>
+        requires held { Holds (document_text document.now) self.now }
+        requires within { owner < length document.now.packages }
+        ensures { IfOk result (IsState (document_text document.now) owner) }
+    {
+        let package = package_at(document, owner);
+        match package.verification_code {
+            Some(value) => {
+                let files = self.files_of(alloc, document, owner)?;
+                let state = state_of_code(alloc, package, value, &files)?;
+                Ok(state)
+            }
+            None => Ok(CodeState::Absent),
+        }
+    }
+}
+
+/// What the code of a package says of its files (SPDX 2.3, clause 7.9), the package by its place among the packages of the
+/// document. Who asks for many packages notes the files of all once, by `Contents`.
+pub fn code_state(alloc: Global, document: &Document, owner: usize) -> Result<CodeState, AllocError>
+    requires { owner < length document.now.packages }
+    ensures { IfOk result (IsState (document_text document.now) owner) }
+{
+    let elements = Elements::of(alloc, document)?;
+    let contents = Contents::of(alloc, document, &elements)?;
+    let state = contents.code_state(alloc, document, owner)?;
+    Ok(state)
 }
