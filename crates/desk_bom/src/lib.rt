@@ -12,4 +12,4 @@ pub use codes::verification_code;
 pub use contents::Contents;
 pub use elements::Elements;
 pub use shipping::shipped;
-pub use state::{CodeState, code_state, is_code};
+pub use state::{CodeState, code_state, is_code, is_unanalyzed};

@@ -180,7 +180,8 @@ fn digests_of(
     Ok(Some(digests))
 }
 
-fn is_unanalyzed(flag: Option<&str>) -> bool
+/// Whether a `FilesAnalyzed` is false, in capitals or small letters (SPDX 2.3, clause 7.8; absent means true).
+pub fn is_unanalyzed(flag: Option<&str>) -> bool
     ensures { result ≡ is_unanalyzed (value_text flag.entry) }
 {
     match flag {
