@@ -1,4 +1,4 @@
-//! Tests of `desk_bom`: which packages ship, codes of digests, and what codes say of files, on small documents, hostile ones and
+//! Tests of `desk_bom` and `desk_findings`: which packages ship, codes of digests, what codes say of files, and findings, on small documents, hostile ones and
 //! drafts as the writer makes them.
 #![tactic(auto)]
 
@@ -8,6 +8,8 @@ mod codes;
 mod digests;
 #[cfg(test)]
 mod drafts;
+#[cfg(test)]
+mod findings;
 #[cfg(test)]
 mod hostile;
 #[cfg(test)]

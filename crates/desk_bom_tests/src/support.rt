@@ -1,6 +1,7 @@
 //! What a test is told of a document. Want of memory is no answer but an error.
 
 use desk_bom::{CodeState, Contents, Elements, code_state, shipped};
+use desk_findings::{Finding, FindingKind, findings};
 use desk_tagvalue::{DocFault, Document, read};
 use std::alloc::{AllocError, Global};
 use std::process::Abort;
@@ -128,4 +129,40 @@ pub fn states_of(alloc: Global, body: &str) -> Result<String, AllocError> {
 pub fn states_of_many(alloc: Global, body: &str) -> Result<String, AllocError> {
     let text = [HEAD, body].concat(alloc)?;
     states_in_text(alloc, &text)
+}
+
+fn put_finding(text: &mut String, alloc: Global, finding: &Finding) -> Result<(), AllocError> {
+    if !text.is_empty() {
+        text.push_str(",")?;
+    }
+    put_number(text, alloc, finding.line as usize)?;
+    put_number(text, alloc, usize::from(finding.kind.number()))?;
+    put(text, finding.kind.name())?;
+    match finding.kind {
+        FindingKind::MissingField(field) => put(text, field.name()),
+        _ => Ok(()),
+    }
+}
+
+// The findings of a document.
+fn findings_in(alloc: Global, document: &Document) -> Result<String, AllocError> {
+    let mut told = String::new(alloc);
+    for finding in findings(alloc, document)? {
+        put_finding(&mut told, alloc, &finding)?;
+    }
+    Ok(told)
+}
+
+/// The findings of a text, or its fault.
+pub fn findings_in_text(alloc: Global, text: &str) -> Result<String, AllocError> {
+    match read(alloc, text.as_bytes()) {
+        Ok(document) => findings_in(alloc, &document),
+        Err(fault) => fault_text(alloc, fault),
+    }
+}
+
+/// The findings of a document with this body.
+pub fn findings_of(alloc: Global, body: &str) -> Result<String, AllocError> {
+    let text = [HEAD, body].concat(alloc)?;
+    findings_in_text(alloc, &text)
 }
