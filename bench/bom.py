@@ -59,7 +59,7 @@ def one_package():
 DOCUMENTS = {
     "mixed-1": lambda: mixed(2500, 10000),
     "mixed-2": lambda: mixed(5000, 20000),
-    "mixed-4": lambda: mixed(10000, 40000),
+    "mixed-4": lambda: mixed(9200, 36000),
     "chain": chain,
     "shared-file": shared,
     "one-package": one_package,
