@@ -10,6 +10,7 @@ CRATES =
 
 program = crates/desk_program
 documents = crates/desk_documents_bench
+bom = crates/desk_bom_bench
 
 all: build
 
@@ -86,6 +87,8 @@ bench: build
 	@cd $(documents) && { rt run >../../build/log 2>&1 || { cat ../../build/log; exit 1; }; }
 	@python3 bench/documents.py $(documents)/out/desk_documents_bench build/documents
 	@python3 bench/import.py build/desk $(documents)/out/desk_documents_bench build/scripts
+	@cd $(bom) && { rt run >../../build/log 2>&1 || { cat ../../build/log; exit 1; }; }
+	@python3 bench/bom.py $(bom)/out/desk_bom_bench build/bom
 
 install: build
 	mkdir -p $(DESTDIR)$(PREFIX)/bin

@@ -61,7 +61,7 @@ pub fn skip_blanks(text: &str) -> &str
 }
 
 /// The text without the blanks at its ends.
-pub(crate) fn trimmed(text: &str) -> &str
+pub fn trimmed(text: &str) -> &str
     ensures { result.now ≡ trimmed text.now }
 {
     let text = skip_blanks(text);

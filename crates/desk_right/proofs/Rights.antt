@@ -1,12 +1,15 @@
 -- Right readings: there is one, and all tell the same.
-use Rattle.std.proofs.Common.{◌≡◌, ◌∙◌, ◌⊎◌, inl, inr, ℕ, List, sym, subst, ap, refl}
+use Rattle.std.proofs.Common.{◌≡◌, ◌∙◌, ◌⊎◌, inl, inr, ℕ, List, [], ◌∷◌, sym, subst, ap, refl, absurd}
 use Rattle.std.specs.Prelude.{Result, Contains}
+use Rattle.std.tactics.Arith.{omega}
 use Rattle.desk_fields.specs.declared.fault.DocFault.{DocFault}
 use Rattle.desk_expr.specs.declared.term.Term.{Term}
 use Rattle.desk_expr.specs.Tree.{Tree}
 use Rattle.desk_expr.specs.Meaning.{Holds, CanGo, IsFirst, IsMinimal}
 use Rattle.desk_expr_laws.proofs.Texts.{tree_of_text}
 use Rattle.desk_expr_laws.proofs.Verdicts as choices
+use Rattle.desk_expr_laws.proofs.Needed.{spelled_needs}
+use Rattle.desk_expr.proofs.Minimal.{holds_more}
 use Rattle.desk_document_laws.proofs.EachDocument.{each_document}
 use Rattle.desk_rows.specs.Readings.{Readings}
 use Rattle.desk_base.specs.declared.profile.Profile.{Profile}
@@ -43,6 +46,13 @@ pub minimal_choice : (w : Readings) → AreRight w → (profile : Profile) (text
 minimal_choice w right profile text words is =
     let found = judgement profile text words in
     minimal_by profile text words (subst (Judges profile text words) (sym (right.verdict profile text words found.0 found.1) ∙ is) found.1)
+
+-- an empty list of terms is minimal for no spelled expression
+none_is_minimal : (profile : Profile) (text : List ℕ) → (e : Tree) × (ts : List Term) × IsExpression profile text e × AreTerms [] ts × IsMinimal ts e → ⊥
+none_is_minimal profile text (e, [], is, are, minimal) = spelled_needs profile text e is.1 (holds_more (Contains []) (λ t. ⊥) (λ t (c : Contains [] t). absurd (omega c.1)) e minimal.0)
+
+pub some_chosen : (w : Readings) → AreRight w → (profile : Profile) (text : List ℕ) → w.verdict profile text [] ≡ Minimal → ⊥
+some_chosen w right profile text is = none_is_minimal profile text (minimal_choice w right profile text [] is)
 
 -- all right readings tell the same
 

@@ -14,7 +14,7 @@ fn is_id(text: &str) -> bool
 }
 
 /// What follows a front with which the text begins.
-pub(crate) fn behind<'a>(text: &'a str, front: &str) -> Option<&'a str>
+pub fn behind<'a>(text: &'a str, front: &str) -> Option<&'a str>
     ensures none { IfNone result (starts_with nat_eq text.now front.now ≡ false) }
     ensures some { IfSome result (λ rest. starts_with nat_eq text.now front.now ≡ true) }
     ensures rest { IfSome result (λ rest. rest.now ≡ drop (length front.now) text.now) }

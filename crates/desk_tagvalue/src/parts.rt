@@ -139,7 +139,8 @@ fn is_hex(byte: u8) -> bool
     }
 }
 
-fn all_hex(bytes: &[u8]) -> bool
+/// Whether all bytes are hexadecimal digits, in either case.
+pub fn all_hex(bytes: &[u8]) -> bool
     ensures { result ≡ list_all is_hex bytes.now }
 {
     for byte in bytes {
@@ -150,8 +151,8 @@ fn all_hex(bytes: &[u8]) -> bool
     true
 }
 
-// The digits of a checksum that is a SHA1.
-fn sha1_digits(value: &str) -> Option<&str>
+/// The 40 digits of a checksum that is a SHA1 (SPDX 2.3, clause 8.4).
+pub fn sha1_digits(value: &str) -> Option<&str>
     ensures { value_text result ≡ (if is_sha1 value.now then Some (drop 6 value.now) else None) }
 {
     let digits = behind(value, "SHA1: ")?;

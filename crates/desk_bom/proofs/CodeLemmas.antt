@@ -1,0 +1,113 @@
+-- Codes and what they exclude.
+use Rattle.std.proofs.Common.{◌≡◌, ◌∙◌, ℕ, ◌+◌, ◌-◌, ◌<◌, ◌≤◌, Bool, true, false, cond, List, [], ◌∷◌, ◌++◌, length, take, drop, get_or, ap, sym, subst, refl, arith, eqb, Option, Some, None}
+use Rattle.std.specs.Prelude.{◌&&◌, ◌||◌, ◌↔◌, IfNone, IfSome, IsTrue, All, MatchOption, codes, nat_le, map}
+use Rattle.std.specs.List.{starts_with, ends_with, list_all, list_any}
+use Rattle.std.specs.Str.Pattern.{FindsTextSuffix, StripsSuffix}
+use Rattle.std.specs.Str.{IsCharBoundary, IsUtf8}
+use Rattle.std.proofs.lemmas.Str.Pattern.{ends_text}
+use denote.Ref.{Bor}
+use Rattle.std.specs.Char.{to_ascii_lowercase}
+use Rattle.std.proofs.lemmas.Str.{IsCharBoundary-after_ascii}
+use Rattle.std.proofs.lemmas.Bool.{leb-true}
+use Rattle.std.proofs.lemmas.Bool.Decides.{nat_tests}
+use Rattle.std.proofs.lemmas.List.Folds.{list_all_at}
+use Rattle.std.proofs.Common.{zero, suc, ◌/◌, ◌%◌, lit<, length-take, get_or-take}
+use Rattle.hex.specs.Hex.{encode_lower, encode_with, lower_digits}
+use Rattle.desk_base.specs.Folded.{folded}
+use Rattle.desk_tagvalue.specs.Parts.{is_hex, DocumentText, PackageText, FileText}
+use Rattle.std.proofs.Common.{append_assoc}
+use Rattle.desk_tagvalue.specs.declared.parts.FileEntry.{FileEntry}
+use Rattle.desk_tagvalue.specs.Views.{file_text}
+use Rattle.desk_bom.proofs.LoopLemmas.{seen_more}
+use Rattle.desk_bom.specs.Codes.{is_list, is_code, is_excluded, digest_spelled, digests_of, both, IsStateOf, IsStateAt}
+use Rattle.desk_bom.specs.Contents.{AreFilesOf}
+use Rattle.desk_bom.specs.declared.state.CodeState.{CodeState}
+use Rattle.desk_bom.specs.declared.state.CodeState.TheVariants.{Absent, Unchecked, Agrees, Differs}
+
+false_and : (a b : Bool) → b ≡ false → (a && b) ≡ false
+false_and true b h = h
+false_and false b h = refl
+
+pub not_list : (text rest : List ℕ) (r : Option (Bor (List ℕ))) → rest ≡ drop 1 text → MatchOption r (FindsTextSuffix (codes ")") rest None) (λ x. StripsSuffix (FindsTextSuffix (codes ")")) rest x.now) → IfNone r (is_list text ≡ false)
+not_list text rest None is h = false_and (starts_with eqb text (codes "(")) (ends_with eqb (drop 1 text) (codes ")")) (ap (λ l. ends_with eqb l (codes ")")) (sym is) ∙ sym (ends_text false (codes ")") rest h))
+not_list text rest (Some x) is h = tt
+
+-- digests in front of others, if those are there
+abbrev pub behind_front : List (List ℕ) → Option (List (List ℕ)) → Option (List (List ℕ))
+behind_front xs None = None
+behind_front xs (Some ys) = Some (xs ++ ys)
+
+hex_is_ascii : (b : ℕ) → is_hex b ≡ true → b < 128
+hex_is_ascii b h = grind (arith, nat_tests)
+
+and_parts3 : (a b c : Bool) → (a && b && c) ≡ true → (a ≡ true) × (b ≡ true)
+and_parts3 true true c h = (refl, refl)
+and_parts3 true false c h = absurd cc
+and_parts3 false b c h = absurd cc
+
+hex_at : (xs : List ℕ) (i : ℕ) → i < length xs → list_all is_hex xs ≡ true → is_hex (get_or xs i 0) ≡ true
+hex_at xs i inside all = at (is_hex (get_or xs i 0)) refl
+  where
+    at : (b : Bool) → is_hex (get_or xs i 0) ≡ b → is_hex (get_or xs i 0) ≡ true
+    at true e = e
+    at false e = let f = list_all_at is_hex xs i 0 inside e in absurd cc
+
+-- where the text can't be cut behind 40 bytes, it begins with no 40 digits
+pub not_cut : (value : List ℕ) → IsUtf8 value → (IsCharBoundary value 40 → ⊥) → is_code value ≡ false
+not_cut value utf8 uncut = at (is_code value) refl
+  where
+    at : (b : Bool) → is_code value ≡ b → is_code value ≡ false
+    at false e = e
+    at true e =
+        let parts = and_parts3 (nat_le 40 (length value)) (list_all is_hex (take 40 value)) _ e in
+        let long = leb-true 40 (length value) parts.0 in
+        let taken = length-take 40 value in
+        let digit = hex_at (take 40 value) 39 (omega arith) parts.1 in
+        let ascii : get_or value 39 0 < 128 = subst (λ b. b < 128) (get_or-take 40 value 39 0 (lit< tt)) (hex_is_ascii (get_or (take 40 value) 39 0) digit) in
+        absurd (uncut (IsCharBoundary-after_ascii value 39 utf8 (omega arith) ascii))
+
+small_at : (xs : List ℕ) (k : ℕ) → map to_ascii_lowercase xs ≡ xs → to_ascii_lowercase (get_or xs k 0) ≡ get_or xs k 0
+small_at [] k h = refl
+small_at (x ∷ xs) zero h = cc
+small_at (x ∷ xs) (suc k) h = small_at xs k cc
+
+-- small digits stay
+pub folded-encode : (ds : List ℕ) → folded (encode_lower ds) ≡ encode_lower ds
+unfolding encode_with
+folded-encode [] = refl
+folded-encode (d ∷ ds) =
+    ap (λ c. c ∷ to_ascii_lowercase (get_or lower_digits (d % 16) 0) ∷ folded (encode_lower ds)) (small_at lower_digits (d / 16) refl)
+    ∙ ap (λ c. get_or lower_digits (d / 16) 0 ∷ c ∷ folded (encode_lower ds)) (small_at lower_digits (d % 16) refl)
+    ∙ ap (λ l. get_or lower_digits (d / 16) 0 ∷ get_or lower_digits (d % 16) 0 ∷ l) (folded-encode ds)
+
+one_behind : (found : List (List ℕ)) (x : List ℕ) (rest : Option (List (List ℕ))) → behind_front (found ++ x ∷ []) rest ≡ behind_front found (both (Some x) rest)
+one_behind found x None = refl
+one_behind found x (Some ys) = ap (λ l. Some l) (append_assoc found (x ∷ []) ys)
+
+module _ (xs : List FileEntry) (i : ℕ) (d : FileEntry) (inside : i < length xs) (names : List (List ℕ)) where
+  parted : digests_of names (map file_text (drop i xs)) ≡ cond (is_excluded names (file_text (get_or xs i d))) (digests_of names (map file_text (drop (i + 1) xs)))
+      (both (digest_spelled (file_text (get_or xs i d)).sha1) (digests_of names (map file_text (drop (i + 1) xs))))
+  parted = ap (digests_of names) (seen_more file_text xs i d inside)
+
+  pub excluded_passed : is_excluded names (file_text (get_or xs i d)) ≡ true → digests_of names (map file_text (drop (i + 1) xs)) ≡ digests_of names (map file_text (drop i xs))
+  excluded_passed is = sym (parted ∙ rw is)
+
+  pub digest_passed : (found : List (List ℕ)) (digest : List ℕ) → is_excluded names (file_text (get_or xs i d)) ≡ false → digest_spelled (file_text (get_or xs i d)).sha1 ≡ Some digest
+      → behind_front (found ++ digest ∷ []) (digests_of names (map file_text (drop (i + 1) xs))) ≡ behind_front found (digests_of names (map file_text (drop i xs)))
+  digest_passed found digest other is =
+      one_behind found digest (digests_of names (map file_text (drop (i + 1) xs))) ∙ ap (λ o. behind_front found (both o (digests_of names (map file_text (drop (i + 1) xs))))) (sym is)
+      ∙ ap (λ b. behind_front found (cond b (digests_of names (map file_text (drop (i + 1) xs))) (both (digest_spelled (file_text (get_or xs i d)).sha1) (digests_of names (map file_text (drop (i + 1) xs)))))) (sym other)
+      ∙ ap (behind_front found) (sym parted)
+
+  pub digest_missing : (found : List (List ℕ)) → is_excluded names (file_text (get_or xs i d)) ≡ false → digest_spelled (file_text (get_or xs i d)).sha1 ≡ None
+      → ◌≡◌ {A = Option (List (List ℕ))} None (behind_front found (digests_of names (map file_text (drop i xs))))
+  digest_missing found other is =
+      ap (λ o. behind_front found (both o (digests_of names (map file_text (drop (i + 1) xs))))) (sym is)
+      ∙ ap (λ b. behind_front found (cond b (digests_of names (map file_text (drop (i + 1) xs))) (both (digest_spelled (file_text (get_or xs i d)).sha1) (digests_of names (map file_text (drop (i + 1) xs)))))) (sym other)
+      ∙ ap (behind_front found) (sym parted)
+
+pub state_at : (d : DocumentText) (k : ℕ) (p : PackageText) (fs : List FileText) (state : CodeState) → AreFilesOf d k fs → IsStateOf p fs state → IsStateAt d k p state
+state_at d k p fs Absent files is = is
+state_at d k p fs Unchecked files is = (fs, files, is)
+state_at d k p fs Agrees files is = (fs, files, is)
+state_at d k p fs Differs files is = (fs, files, is)

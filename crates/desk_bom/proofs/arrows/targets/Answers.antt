@@ -1,0 +1,17 @@
+use Rattle.std.proofs.Common.{ℕ, ◌≤◌, ◌<◌, ◌-◌, length, take, drop, rules, ltb, leb}
+use Rattle.std.proofs.lemmas.List.Sorted.{IsPartitionedBy-ltb, IsPartitionedBy-leb, IsPartitionPoint-from_clause, IsNonDecreasingBy-take, IsNonDecreasingBy-drop}
+use Rattle.std.proofs.lemmas.List.{take_rest}
+use Rattle.desk_bom.specs.declared.arrows.Arrow.{Arrow}
+use Rattle.desk_bom.proofs.TargetLemmas.{are_targets}
+use Rattle.desk_bom.proofs.arrows.targets.Goals as goal
+
+pub returns : goal.returns
+returns c =
+    let xs = c.args.arrows.now in
+    let from = λ (x : Arrow). x.from in
+    let s = c.partition_point-start.result in
+    let rest = take (length xs - s) (drop s xs) in
+    let sorted = IsNonDecreasingBy-take from (length xs - s) (drop s xs) (IsNonDecreasingBy-drop from s xs c.requires) in
+    are_targets xs rest c.args.place s c.partition_point-end.result (take_rest xs s)
+    (IsPartitionPoint-from_clause (λ x. ltb x.from c.args.place) xs s c.partition_point-start.ensures.partitioned (IsPartitionedBy-ltb from xs c.args.place c.requires) (λ a r q k. search rules))
+    (IsPartitionPoint-from_clause (λ x. leb x.from c.args.place) rest c.partition_point-end.result c.partition_point-end.ensures.partitioned (IsPartitionedBy-leb from rest c.args.place sorted) (λ a r q k. search rules))

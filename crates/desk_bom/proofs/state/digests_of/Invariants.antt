@@ -1,0 +1,14 @@
+use Rattle.std.proofs.Common.{◌≡◌, ℕ, List, drop}
+use Rattle.std.specs.Prelude.{map}
+use Rattle.std.specs.List.{list_any}
+use Rattle.std.specs.Str.{bytes_eq}
+use Rattle.desk_tagvalue.specs.Seen.{has_key}
+use Rattle.desk_tagvalue.specs.Views.{file_text}
+use Rattle.desk_bom.specs.Codes.{digests_of}
+use Rattle.desk_bom.proofs.CodeLemmas.{behind_front}
+use Rattle.desk_bom.proofs.state.digests_of.Given as goal
+
+-- the digests so far, and those of the rest, are all
+abbrev pub invariant-loop-file : goal.invariant-loop-file
+invariant-loop-file l = (names : List (List ℕ)) → ((q : List ℕ) → has_key q l.excluded ≡ list_any (λ name. bytes_eq name q) names)
+    → behind_front l.digests.items (digests_of names (map file_text (drop l.file-index l.files))) ≡ digests_of names (map file_text l.files)

@@ -1,0 +1,15 @@
+//! What an SPDX document (SPDX 2.3) says of a bill of materials.
+#![tactic(auto)]
+
+mod arrows;
+mod codes;
+mod contents;
+mod elements;
+mod shipping;
+mod state;
+
+pub use codes::verification_code;
+pub use contents::Contents;
+pub use elements::Elements;
+pub use shipping::shipped;
+pub use state::{CodeState, code_state, is_code, is_unanalyzed};

@@ -1,0 +1,330 @@
+//! What the code of a package says of its files.
+
+ghost use Rattle.std.specs.Prelude.{◌≡◌, ◌||◌, ◌↔◌, ◌<◌, ◌+◌, ◌-◌, ◌∷◌, ◌++◌, [], ℕ, List, IfOk, IfSome, IfNone, OnOk, Some, None, length, take, drop, map, nat_eq, true, false, IsTrue, if◌then◌else◌, ◌==◌, slice_get};
+ghost use Rattle.std.specs.List.{ends_with, starts_with, slice_split, filter_map, list_any};
+ghost use Rattle.std.specs.Option.{option_map};
+ghost use Rattle.std.specs.Str.{bytes_eq};
+ghost use Rattle.desk_fields.specs.Text.{trimmed};
+ghost use Rattle.desk_base.specs.Folded.{folded};
+ghost use Rattle.hex.specs.Hex.{encode_lower};
+ghost use Rattle.desk_bom.specs.Elements.{texts};
+ghost use Rattle.desk_bom.specs.Contents.{AreFilesOf};
+ghost use Rattle.desk_tagvalue.specs.Documents.{document_text};
+ghost use Rattle.desk_tagvalue.specs.Entries.{value_text};
+ghost use Rattle.desk_tagvalue.specs.Views.{package_text, file_text};
+ghost use Rattle.desk_tagvalue.specs.Parts.{DocumentText};
+ghost use Rattle.desk_bom.specs.Codes.{IsCode, items_of, code_digits, code_list, is_list, is_code, names_in, plain, names_of, excluded_by, excluded_names, inner_of, is_excluded, digest_spelled, digests_of, is_unanalyzed, checked_digests, IsStateOf, IsState};
+ghost use Rattle.desk_tagvalue.specs.Seen.{has_key};
+
+use crate::codes::verification_code;
+use crate::{Contents, Elements};
+use desk_fields::{skip_blanks, trimmed};
+use desk_tagvalue::{Document, FileEntry, Package, all_hex, behind};
+use hex::FromHex;
+use std::alloc::{AllocError, Global};
+use std::collections::BTreeSet;
+
+/// What the verification code of a package says of its files (SPDX 2.3, clause 7.9).
+#[derive(Debug, Clone, Copy, PartialEq, Eq)]
+pub enum CodeState {
+    /// The package has no code.
+    Absent,
+    /// The code can't be checked: `FilesAnalyzed` is false, the code is of another form, or a file that isn't excluded has no SHA1.
+    Unchecked,
+    /// The code is that of the files.
+    Agrees,
+    /// The code is another.
+    Differs,
+}
+
+/// The digits of a code and what it excludes, as they stand in the field.
+#[derive(Clone, Copy)]
+pub(crate) struct CodeField<'a> {
+    digits: &'a str,
+    names: Option<&'a str>,
+}
+
+// A name of a file without a leading `./`.
+fn plain(name: &str) -> &str
+    ensures { result.now ≡ plain name.now }
+{
+    match behind(name, "./") {
+        Some(rest) => rest,
+        None => name,
+    }
+}
+
+// What stands between `(` and `)`.
+fn listed(text: &str) -> Option<&str>
+    ensures none { IfNone result (is_list text.now ≡ false) }
+    ensures some { IfSome result (λ inner. is_list text.now ≡ true) }
+    ensures inner { IfSome result (λ inner. inner.now ≡ inner_of text.now) }
+{
+    match behind(text, "(") {
+        Some(rest) => rest.strip_suffix(")"),
+        None => None,
+    }
+}
+
+// The names, without what may stand before them.
+fn names_in(inner: &str) -> &str
+    ensures { result.now ≡ names_in inner.now }
+{
+    match behind(inner, "excludes: ") {
+        Some(names) => names,
+        None => inner,
+    }
+}
+
+// The parts of a code of the standard's form.
+fn code_field(value: &str) -> Option<CodeField<'_>>
+    ensures none { IfNone result (is_code value.now ≡ false) }
+    ensures some { IfSome result (λ f. is_code value.now ≡ true) }
+    ensures digits { IfSome result (λ f. f.digits.now ≡ code_digits value.now) }
+    ensures names { IfSome result (λ f. excluded_names (value_text f.names) ≡ excluded_by value.now) }
+{
+    let Some((digits, rest)) = value.split_at_checked(40) else {
+        return None;
+    };
+    if !all_hex(digits.as_bytes()) {
+        return None;
+    }
+    if rest.is_empty() {
+        return Some(CodeField {
+            digits,
+            names: None,
+        });
+    }
+    match listed(skip_blanks(rest)) {
+        Some(inner) => Some(CodeField {
+            digits,
+            names: Some(names_in(inner)),
+        }),
+        None => None,
+    }
+}
+
+/// Whether a value is a code (SPDX 2.3, clause 7.9): 40 hexadecimal digits, and then perhaps names of files in parentheses.
+pub fn is_code(value: &str) -> bool
+    ensures { result ≡ is_code value.now }
+{
+    code_field(value).is_some()
+}
+
+// The parts of a text between commas.
+fn parts_of(alloc: Global, text: &str) -> Result<Vec<&str>, AllocError>
+    ensures { IfOk result (λ v. texts v.items ≡ slice_split (λ b. b == 44) text.now) }
+{
+    text.split(',').collect(alloc)
+}
+
+fn add_name<'a>(names: &mut BTreeSet<&'a str>, part: &'a str) -> Result<(), AllocError>
+    ensures { OnOk result ((q : List ℕ) → has_key q names.new ≡ (bytes_eq (plain (trimmed part.now)) q || has_key q names.old)) }
+{
+    names.insert(plain(trimmed(part)))?;
+    Ok(())
+}
+
+// The names that stand in some parts.
+fn names_of<'a>(alloc: Global, parts: &[&'a str]) -> Result<BTreeSet<&'a str>, AllocError>
+    ensures { IfOk result (λ s. (q : List ℕ) → has_key q s ≡ list_any (λ name. bytes_eq name q) (map (λ part. plain (trimmed part)) (texts parts.now))) }
+{
+    let mut names = BTreeSet::new(alloc);
+    for part in parts {
+        add_name(&mut names, part)?;
+    }
+    Ok(names)
+}
+
+// The names that a code excludes.
+fn excluded_names<'a>(alloc: Global, text: Option<&'a str>) -> Result<BTreeSet<&'a str>, AllocError>
+    ensures { IfOk result (λ s. (q : List ℕ) → has_key q s ≡ list_any (λ name. bytes_eq name q) (excluded_names (value_text text.entry))) }
+{
+    match text {
+        Some(text) => {
+            let parts = parts_of(alloc, text)?;
+            let names = names_of(alloc, &parts)?;
+            Ok(names)
+        }
+        None => Ok(BTreeSet::new(alloc)),
+    }
+}
+
+fn digest_spelled(digits: Option<&str>) -> Option<[u8; 20]>
+    ensures { result ≡ digest_spelled (value_text digits.entry) }
+{
+    match digits {
+        Some(digits) => <[u8; 20] as FromHex>::from_hex(digits).ok(),
+        None => None,
+    }
+}
+
+// The digests of the files that aren't excluded, if each has one.
+fn digests_of(
+    alloc: Global,
+    excluded: &BTreeSet<&str>,
+    files: &[FileEntry],
+) -> Result<Option<Vec<[u8; 20]>>, AllocError>
+    ensures { (names : List (List ℕ)) → ((q : List ℕ) → has_key q excluded.now ≡ list_any (λ name. bytes_eq name q) names) → IfOk result (λ ds. items_of ds ≡ digests_of names (map file_text files.now)) }
+{
+    let mut digests = Vec::new(alloc);
+    for file in files {
+        if excluded.contains(plain(file.name)) {
+            continue;
+        }
+        match digest_spelled(file.sha1) {
+            Some(digest) => digests.push(digest)?,
+            None => return Ok(None),
+        }
+    }
+    Ok(Some(digests))
+}
+
+/// Whether a `FilesAnalyzed` is false, in capitals or small letters (SPDX 2.3, clause 7.8; absent means true).
+pub fn is_unanalyzed(flag: Option<&str>) -> bool
+    ensures { result ≡ is_unanalyzed (value_text flag.entry) }
+{
+    match flag {
+        Some(flag) => flag.eq_ignore_ascii_case("false"),
+        None => false,
+    }
+}
+
+// Whether digits are those of a code, in either case.
+fn is_same(digits: &str, code: &[u8; 40]) -> bool
+    ensures { (ds : List ℕ) → code.now ≡ encode_lower ds → IsTrue result ↔ (folded digits.now ≡ code.now) }
+{
+    digits.as_bytes().eq_ignore_ascii_case(code)
+}
+
+// The digests of which a code tells.
+fn checked_digests(
+    alloc: Global,
+    package: &Package,
+    value: &str,
+    files: &[FileEntry],
+) -> Result<Option<Vec<[u8; 20]>>, AllocError>
+    ensures { IfOk result (λ ds. items_of ds ≡ checked_digests (value_text «package».now.files_analyzed) value.now (map file_text files.now)) }
+{
+    if is_unanalyzed(package.files_analyzed) {
+        return Ok(None);
+    }
+    let field = match code_field(value) {
+        Some(field) => field,
+        None => return Ok(None),
+    };
+    let excluded = excluded_names(alloc, field.names)?;
+    let digests = digests_of(alloc, &excluded, files)?;
+    Ok(digests)
+}
+
+// What the code that a package has says of its files.
+fn state_of_code(
+    alloc: Global,
+    package: &Package,
+    value: &str,
+    files: &[FileEntry],
+) -> Result<CodeState, AllocError>
+    requires { value_text «package».now.verification_code ≡ Some value.now }
+    ensures { IfOk result (IsStateOf (package_text «package».now) (map file_text files.now)) }
+{
+    match checked_digests(alloc, package, value, files)? {
+        Some(digests) => {
+            let code = verification_code(alloc, &digests)?;
+            match code_field(value) {
+                Some(field) if is_same(field.digits, &code) => Ok(CodeState::Agrees),
+                _ => Ok(CodeState::Differs),
+            }
+        }
+        None => Ok(CodeState::Unchecked),
+    }
+}
+
+// The file at a place.
+fn file_at<'a>(files: &[FileEntry<'a>], place: usize) -> Option<FileEntry<'a>>
+    ensures { option_map file_text result ≡ slice_get (map file_text files.now) place }
+{
+    if place < files.len() {
+        Some(files[place])
+    } else {
+        None
+    }
+}
+
+// The files at some places.
+fn files_at<'a>(
+    alloc: Global,
+    files: &[FileEntry<'a>],
+    places: &[usize],
+) -> Result<Vec<FileEntry<'a>>, AllocError>
+    ensures { IfOk result (λ v. map file_text v.items ≡ filter_map (slice_get (map file_text files.now)) places.now) }
+{
+    let mut found = Vec::with_capacity(alloc, places.len())?;
+    for place in places {
+        match file_at(files, *place) {
+            Some(file) => found.push(file)?,
+            None => {}
+        }
+    }
+    Ok(found)
+}
+
+fn package_at<'d, 'a>(document: &'d Document<'a>, place: usize) -> &'d Package<'a>
+    requires { place < length document.now.packages }
+    ensures { slice_get (document_text document.now).packages place ≡ Some (package_text result.now) }
+{
+    &document.packages.as_slice()[place]
+}
+
+impl Contents {
+    ghost use Rattle.desk_bom.specs.Held.{Holds};
+
+    // The files of a package.
+    fn files_of<'a>(
+        &self,
+        alloc: Global,
+        document: &Document<'a>,
+        owner: usize,
+    ) -> Result<Vec<FileEntry<'a>>, AllocError>
+        requires { Holds (document_text document.now) self.now }
+        ensures { IfOk result (λ v. AreFilesOf (document_text document.now) owner (map file_text v.items)) }
+    {
+        let places = self.files(alloc, owner)?;
+        let files = files_at(alloc, document.files.as_slice(), &places)?;
+        Ok(files)
+    }
+
+    /// What the code of a package says of its files: the package of the document that was noted, by its place among the packages.
+    pub fn code_state(
+        &self,
+        alloc: Global,
+        document: &Document,
+        owner: usize,
+    ) -> Result<CodeState, AllocError>
+        requires held { Holds (document_text document.now) self.now }
+        requires within { owner < length document.now.packages }
+        ensures { IfOk result (IsState (document_text document.now) owner) }
+    {
+        let package = package_at(document, owner);
+        match package.verification_code {
+            Some(value) => {
+                let files = self.files_of(alloc, document, owner)?;
+                let state = state_of_code(alloc, package, value, &files)?;
+                Ok(state)
+            }
+            None => Ok(CodeState::Absent),
+        }
+    }
+}
+
+/// What the code of a package says of its files (SPDX 2.3, clause 7.9), the package by its place among the packages of the
+/// document. Who asks for many packages notes the files of all once, by `Contents`.
+pub fn code_state(alloc: Global, document: &Document, owner: usize) -> Result<CodeState, AllocError>
+    requires { owner < length document.now.packages }
+    ensures { IfOk result (IsState (document_text document.now) owner) }
+{
+    let elements = Elements::of(alloc, document)?;
+    let contents = Contents::of(alloc, document, &elements)?;
+    let state = contents.code_state(alloc, document, owner)?;
+    Ok(state)
+}

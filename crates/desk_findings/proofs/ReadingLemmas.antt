@@ -1,0 +1,35 @@
+-- Readings of values.
+use Rattle.std.proofs.Common.{◌≡◌, ◌∙◌, ◌⊎◌, ⊎_elim, inl, inr, ℕ, Bool, true, false, List, [], ◌∷◌, ap, sym, refl}
+use Rattle.std.specs.Prelude.{◌&&◌, ◌||◌, ◌↔◌, not, nat_eq, Option, Some, None, Contains, codes}
+use Rattle.std.specs.List.{list_any, starts_with}
+use Rattle.std.specs.Str.{bytes_eq}
+use Rattle.std.proofs.lemmas.List.Folds.{Any-from_list_any, list_any-from_Any}
+use Rattle.desk_expr.specs.declared.term.Term.{Term}
+use Rattle.desk_expr.specs.Tree.{Tree}
+use Rattle.desk_expr.specs.Spelling.{Spells, SpellsWithin}
+use Rattle.desk_findings.specs.Fields.{IsRead}
+
+-- where the text spells one tree at most, a value that spells one is read as it
+pub read_as : (text : List ℕ) (e : Tree) (o : Option Tree) → SpellsWithin text e → IsRead text o → ((a b : Tree) → Spells text a → Spells text b → a ≡ b) → Some e ≡ o
+read_as text e None spelled is only = absurd (is e spelled)
+read_as text e (Some a) spelled is only = ap (λ t. Some t) (only e a (spelled.1, spelled.2, spelled.3) (is.1, is.2, is.3))
+
+pub read_as_none : (text : List ℕ) (o : Option Tree) → ((e : Tree) → SpellsWithin text e → ⊥) → IsRead text o → None ≡ o
+read_as_none text None never is = refl
+read_as_none text (Some e) never is = absurd (never e is)
+
+-- lists with the same members pass a test alike
+same_test : (a b : Bool) → (a ≡ true → b ≡ true) → (b ≡ true → a ≡ true) → a ≡ b
+same_test true true f g = refl
+same_test false false f g = refl
+same_test true false f g = sym (f refl)
+same_test false true f g = g refl
+
+any_goes : {X : Type 0} (p : X → Bool) (xs ys : List X) → ((x : X) → Contains xs x → Contains ys x) → list_any p xs ≡ true → list_any p ys ≡ true
+any_goes p xs ys goes h =
+    let some = Any-from_list_any p xs h in
+    let there = goes some.1 (some.0, some.2, some.3) in
+    list_any-from_Any p ys (there.0, some.1, there.1, there.2, some.4)
+
+pub any_same : {X : Type 0} (p : X → Bool) (xs ys : List X) → ((x : X) → Contains xs x ↔ Contains ys x) → list_any p xs ≡ list_any p ys
+any_same p xs ys same = same_test (list_any p xs) (list_any p ys) (any_goes p xs ys (λ x. (same x).0)) (any_goes p ys xs (λ x. (same x).1))

@@ -1,0 +1,5 @@
+pub mod Kinds
+pub mod Fields
+pub mod Findings
+pub mod Placed
+pub mod Known

@@ -1,0 +1,7 @@
+-- A field in its section, without where it lies in memory.
+use Rattle.desk_tagvalue.specs.Entries.{entry_text}
+use Rattle.desk_findings.specs.declared.field.Placed.{Placed}
+use Rattle.desk_findings.specs.Fields.{FieldAt}
+
+abbrev pub placed_text : Placed → FieldAt
+placed_text p = record { section = p.section; packages = p.packages; entry = entry_text p.entry }
