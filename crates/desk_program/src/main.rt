@@ -87,12 +87,7 @@ fn answer(rt: &(impl Print + Input), alloc: Global, call: &Call) -> Result<u8, F
         Call::Alternatives {
             expression,
             profile,
-        } => commands::alternatives(
-            alloc,
-            expression.as_str(),
-            profile,
-            &mut io::writer(rt),
-        ),
+        } => commands::alternatives(alloc, expression.as_str(), *profile, &mut io::writer(rt)),
         Call::Script => {
             keep_large_blocks(alloc);
             // The process ends with the script, so the desk is left to the system and not freed row by row.
