@@ -64,30 +64,44 @@ Replies to requests, a line each, over a desk in memory
 
 Reads requests from standard input, one JSON object on each line, and writes one line of JSON for
 each line that is not blank, before it reads on. It starts with an empty desk, and goes on past
-what is refused. A line of more than 8 MiB is no request.
+what is refused. A line of more than 8 MiB is no request. It stops after 1,048,576 reads.
 
-Requests, with an example of each:
+Requests, with an example of each and its reply:
 
   load a catalogue of duties, as TOML
-    {\"do\":\"catalogue\",\"text\":\"forms = [\\\"binary\\\"]\"}
+    > {\"do\":\"catalogue\",\"text\":\"forms = [\\\"binary\\\"]\"}
+    < {\"revision\":1}
   import an SPDX 2.3 document, as tag-value
-    {\"do\":\"import\",\"text\":\"SPDXVersion: SPDX-2.3\\n..\"}
+    > {\"do\":\"import\",\"text\":\"SPDXVersion: SPDX-2.3\\n..\"}
+    < {\"document\":1,\"new\":true}
   the same, of a document whose expressions may have and, or, with in small letters
-    {\"do\":\"import\",\"profile\":2,\"text\":\"SPDXVersion: SPDX-2.3\\n..\"}
+    > {\"do\":\"import\",\"profile\":2,\"text\":\"SPDXVersion: SPDX-2.3\\n..\"}
+    < {\"document\":2,\"new\":true}
   open a release that ships in a form of the catalogue
-    {\"do\":\"open\",\"form\":\"binary\",\"release\":\"r1\"}
+    > {\"do\":\"open\",\"form\":\"binary\",\"release\":\"r1\"}
+    < {\"done\":true}
   attach a document to it
-    {\"do\":\"attach\",\"document\":1,\"release\":\"r1\"}
+    > {\"do\":\"attach\",\"document\":1,\"release\":\"r1\"}
+    < {\"done\":true}
   choose terms for a package of the document
-    {\"do\":\"choose\",\"document\":1,\"package\":\"SPDXRef-p\",\"release\":\"r1\",\"terms\":[\"MIT\"]}
+    > {\"do\":\"choose\",\"document\":1,\"package\":\"SPDXRef-p\",\"release\":\"r1\",\"terms\":[\"MIT\"]}
+    < {\"done\":true}
   freeze the release, which raises its duties
-    {\"do\":\"freeze\",\"day\":\"2025-03-03\",\"release\":\"r1\"}
+    > {\"do\":\"freeze\",\"day\":\"2025-03-03\",\"release\":\"r1\"}
+    < {\"count\":1,\"first\":1}
   meet a duty
-    {\"do\":\"meet\",\"day\":\"2025-03-04\",\"duty\":1,\"text\":\"notices.txt\"}
+    > {\"do\":\"meet\",\"day\":\"2025-03-04\",\"duty\":1,\"text\":\"notices.txt\"}
+    < {\"done\":true}
   list the duties of a release
-    {\"ask\":\"duties\",\"release\":\"r1\"}
+    > {\"ask\":\"duties\",\"release\":\"r1\"}
+    < {\"rows\":[[1,1,\"SPDXRef-p\",\"mit\",\"MIT\",\"include-text\",\"met\",\"2025-03-04\"]]}
   count them: raised, open, met, waived, withdrawn
-    {\"ask\":\"totals\",\"release\":\"r1\"}";
+    > {\"ask\":\"totals\",\"release\":\"r1\"}
+    < {\"rows\":[[1,0,1,0,0]]}
+
+What is refused changes nothing, and is told with its number, its name and where it is:
+
+    < {\"at\":[\"mit\"],\"name\":\"NotMinimal\",\"refused\":18}";
 
 const SCRIPT_AFTER_HELP: &str = "\
 Statuses:

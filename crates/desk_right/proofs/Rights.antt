@@ -1,7 +1,6 @@
 -- Right readings: there is one, and all tell the same.
-use Rattle.std.proofs.Common.{◌≡◌, ◌∙◌, ◌⊎◌, inl, inr, ℕ, List, [], ◌∷◌, sym, subst, ap, refl, absurd}
+use Rattle.std.proofs.Common.{◌≡◌, ◌∙◌, ◌⊎◌, inl, inr, ℕ, List, [], ◌∷◌, sym, subst, ap, refl, arith}
 use Rattle.std.specs.Prelude.{Result, Contains}
-use Rattle.std.tactics.Arith.{omega}
 use Rattle.desk_fields.specs.declared.fault.DocFault.{DocFault}
 use Rattle.desk_expr.specs.declared.term.Term.{Term}
 use Rattle.desk_expr.specs.Tree.{Tree}
@@ -49,7 +48,8 @@ minimal_choice w right profile text words is =
 
 -- an empty list of terms is minimal for no spelled expression
 none_is_minimal : (profile : Profile) (text : List ℕ) → (e : Tree) × (ts : List Term) × IsExpression profile text e × AreTerms [] ts × IsMinimal ts e → ⊥
-none_is_minimal profile text (e, [], is, are, minimal) = spelled_needs profile text e is.1 (holds_more (Contains []) (λ t. ⊥) (λ t (c : Contains [] t). absurd (omega c.1)) e minimal.0)
+none_is_minimal profile text (e, [], is, are, minimal) = spelled_needs profile text e is.1 (holds_more (Contains []) (λ t. ⊥) (λ t (c : Contains [] t). absurd (omega (arith, c.1))) e minimal.0)
+none_is_minimal profile text (e, _ ∷ _, is, are, minimal) = elim are [ ]
 
 pub some_chosen : (w : Readings) → AreRight w → (profile : Profile) (text : List ℕ) → w.verdict profile text [] ≡ Minimal → ⊥
 some_chosen w right profile text is = none_is_minimal profile text (minimal_choice w right profile text [] is)
