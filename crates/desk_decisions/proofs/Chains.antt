@@ -108,7 +108,7 @@ module _ {Left : Type 0} where
     decides_carried old mid new (Make x change) (Ok y) s sound is did =
         let made = did.1 in
         let follows : new.is_honest → (t : Tables) → old.holds t → Follows change t =
-            λ h t held. subst (λ (d : Change). Follows d t) (sym ((is (made.honest h) t held).1)) (change_follows w t c) in
+        λ h t held. subst (λ (d : Change). Follows d t) (sym ((is (made.honest h) t held).1)) (change_follows w t c) in
         record {
           right = λ h t u held. did.0 ∙ (is (made.honest h) t held).0;
           stays = λ h o. made.stays h;

@@ -14,7 +14,9 @@ use crate::plan::refused;
 use desk_access::store::Store;
 use desk_access::texts::Texts;
 use desk_base::{Items, Text};
-use desk_rows::{Answer, Catalogue, CatalogueRow, Change, Fault, Limit, Plan, Refusal, Rule, RuleRow};
+use desk_rows::{
+    Answer, Catalogue, CatalogueRow, Change, Fault, Limit, Plan, Refusal, Rule, RuleRow,
+};
 use std::alloc::{AllocError, Global};
 
 /// How many revisions of the catalogue a desk keeps.

@@ -240,13 +240,7 @@ fn choose_at<T: Texts>(
     if let Some(refusal) = judge(alloc, texts, place.profile, &place.row, terms.as_slice())? {
         return Ok(refused(refusal));
     }
-    Ok(done(chosen(
-        alloc,
-        release,
-        place.document,
-        package_id,
-        terms,
-    )?))
+    Ok(done(chosen(alloc, release, place.document, package_id, terms)?))
 }
 
 /// Chooses terms that were read.
@@ -265,9 +259,7 @@ fn choose_terms<T: Texts, S: Store>(
 {
     match find_place(store, release, document, package_id)? {
         Found::Nowhere(refusal) => Ok(refused(refusal)),
-        Found::Here(place) => Ok(choose_at(
-            alloc, texts, release, &place, package_id, terms,
-        )?),
+        Found::Here(place) => Ok(choose_at(alloc, texts, release, &place, package_id, terms)?),
     }
 }
 

@@ -15,8 +15,8 @@ use desk_access::store::Store;
 use desk_access::texts::Texts;
 use desk_base::Items;
 use desk_rows::{
-    Answer, Change, Document, DocumentRow, ExtractedRow, Fault, Limit, Package, PackageRow,
-    Plan, Profile, Reference, Refusal,
+    Answer, Change, Document, DocumentRow, ExtractedRow, Fault, Limit, Package, PackageRow, Plan,
+    Profile, Reference, Refusal,
 };
 use std::alloc::{AllocError, Global};
 

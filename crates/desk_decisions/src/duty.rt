@@ -90,12 +90,7 @@ fn release_state<S: Store>(store: &mut S, name: &Text) -> Result<ReleaseState, F
 }
 
 /// Meets a duty that was found.
-fn meet_found<S: Store>(
-    store: &mut S,
-    row: &DutyRow,
-    day: Day,
-    text: &Text,
-) -> Result<Plan, Fault>
+fn meet_found<S: Store>(store: &mut S, row: &DutyRow, day: Day, text: &Text) -> Result<Plan, Fault>
     ensures plan { IfOk result (λ plan. OfRows (λ t. IsPlan (meet_duty (unwrap_or (state_found t row.now.release) ReleaseState.IsOpen) (steps_found t row.now.number) row.now.state) (met_change t row.now.number day text.now) plan) (S.seen store.old) (S.seen store.new)) }
     ensures kept { Plans (S.seen store.old) (S.seen store.new) result }
     ensures fault { IfErr result (MayFail S.tells) }

@@ -4,19 +4,20 @@ use Rattle.std.specs.Prelude.{◌&&◌, ◌||◌, ◌↔◌, not, nat_eq, Option
 use Rattle.std.specs.List.{list_any, starts_with}
 use Rattle.std.specs.Str.{bytes_eq}
 use Rattle.std.proofs.lemmas.List.Folds.{Any-from_list_any, list_any-from_Any}
+use Rattle.desk_base.specs.declared.profile.Profile.{Profile}
 use Rattle.desk_expr.specs.declared.term.Term.{Term}
 use Rattle.desk_expr.specs.Tree.{Tree}
-use Rattle.desk_expr.specs.Spelling.{Spells, SpellsWithin}
+use Rattle.desk_expr.specs.Spelling.{SpellsBy, SpellsWithinBy}
 use Rattle.desk_findings.specs.Fields.{IsRead}
 
 -- where the text spells one tree at most, a value that spells one is read as it
-pub read_as : (text : List ℕ) (e : Tree) (o : Option Tree) → SpellsWithin text e → IsRead text o → ((a b : Tree) → Spells text a → Spells text b → a ≡ b) → Some e ≡ o
-read_as text e None spelled is only = absurd (is e spelled)
-read_as text e (Some a) spelled is only = ap (λ t. Some t) (only e a (spelled.1, spelled.2, spelled.3) (is.1, is.2, is.3))
+pub read_as : (profile : Profile) (text : List ℕ) (e : Tree) (o : Option Tree) → SpellsWithinBy profile text e → IsRead profile text o → ((a b : Tree) → SpellsBy profile text a → SpellsBy profile text b → a ≡ b) → Some e ≡ o
+read_as profile text e None spelled is only = absurd (is e spelled)
+read_as profile text e (Some a) spelled is only = ap (λ t. Some t) (only e a (spelled.1, spelled.2, spelled.3) (is.1, is.2, is.3))
 
-pub read_as_none : (text : List ℕ) (o : Option Tree) → ((e : Tree) → SpellsWithin text e → ⊥) → IsRead text o → None ≡ o
-read_as_none text None never is = refl
-read_as_none text (Some e) never is = absurd (never e is)
+pub read_as_none : (profile : Profile) (text : List ℕ) (o : Option Tree) → ((e : Tree) → SpellsWithinBy profile text e → ⊥) → IsRead profile text o → None ≡ o
+read_as_none profile text None never is = refl
+read_as_none profile text (Some e) never is = absurd (never e is)
 
 -- lists with the same members pass a test alike
 same_test : (a b : Bool) → (a ≡ true → b ≡ true) → (b ≡ true → a ≡ true) → a ≡ b

@@ -3,10 +3,11 @@ use Rattle.std.specs.Prelude.{◌≡◌, ℕ, ◌+◌, ◌-◌, ◌&&◌, ◌||�
 use Rattle.std.specs.List.{list_any, starts_with}
 use Rattle.std.specs.Str.{bytes_eq}
 use Rattle.desk_base.specs.Folded.{folded}
+use Rattle.desk_base.specs.declared.profile.Profile.{Profile}
 use Rattle.desk_expr.specs.declared.term.Term.{Term}
 use Rattle.desk_expr.specs.Tree.{Tree}
 use Rattle.desk_expr.specs.Occurring.{leaves}
-use Rattle.desk_expr.specs.Spelling.{SpellsWithin}
+use Rattle.desk_expr.specs.Spelling.{SpellsWithinBy}
 use Rattle.desk_fields.specs.declared.tag.Tag.{Tag}
 use Rattle.desk_fields.specs.declared.tag.Tag.TheVariants as tags
 use Rattle.desk_fields.specs.Tags.{same_tag}
@@ -30,14 +31,14 @@ is_only_word word text = bytes_eq (first_word text) word && length (skip_blanks 
 abbrev pub is_no_licence : List ℕ → Bool
 is_no_licence text = is_only_word (codes "NONE") text || is_only_word (codes "NOASSERTION") text
 
--- the expression that a value is, if it is one
-abbrev pub IsRead : List ℕ → Option Tree → Type 0
-IsRead text None = (e : Tree) → SpellsWithin text e → ⊥
-IsRead text (Some e) = SpellsWithin text e
+-- the expression that a value is by a profile of operators, if it is one
+abbrev pub IsRead : Profile → List ℕ → Option Tree → Type 0
+IsRead profile text None = (e : Tree) → SpellsWithinBy profile text e → ⊥
+IsRead profile text (Some e) = SpellsWithinBy profile text e
 
--- a reading of values as expressions
-abbrev pub IsReading : (List ℕ → Option Tree) → Type 0
-IsReading reads = (text : List ℕ) → IsRead text (reads text)
+-- a reading of values as expressions by a profile of operators
+abbrev pub IsReading : Profile → (List ℕ → Option Tree) → Type 0
+IsReading profile reads = (text : List ℕ) → IsRead profile text (reads text)
 
 abbrev pub is_licence_field : Tag → Bool
 is_licence_field tags.PackageConcluded = true

@@ -6,6 +6,7 @@ ghost use Rattle.std.specs.List.Sorted.{IsPermutation, IsSorted};
 ghost use Rattle.std.specs.Str.{bytes_eq};
 ghost use Rattle.desk_fields.specs.declared.tag.Tag.TheVariants as tags;
 ghost use Rattle.desk_fields.specs.Tags.{same_tag};
+ghost use Rattle.desk_base.specs.declared.profile.Profile.TheVariants.{Capitals};
 ghost use Rattle.desk_expr.specs.Tree.{Tree};
 ghost use Rattle.desk_tagvalue.specs.Documents.{document_text};
 ghost use Rattle.desk_tagvalue.specs.Entries.{entry_text};
@@ -32,6 +33,7 @@ use crate::finding::{Finding, FindingKind, note};
 use crate::missing::{
     add_dangling, add_of_document, add_of_extracted, add_of_files, add_of_packages,
 };
+use desk_base::Profile;
 use desk_bom::{CodeState, Contents, Elements};
 use desk_expr::Expr;
 use desk_fields::Tag;
@@ -42,6 +44,7 @@ use std::collections::BTreeSet;
 /// What fields are compared with.
 #[derive(Drop)]
 struct Known<'a> {
+    profile: Profile,
     defined: BTreeSet<&'a str>,
     states: Vec<CodeState>,
 }
@@ -110,13 +113,9 @@ fn uses_undefined_in(
 }
 
 // What a licence field tells, which is read once.
-fn licence_of(
-    alloc: Global,
-    defined: &BTreeSet<&str>,
-    field: &Placed,
-) -> Result<Licence, AllocError>
-    ensures bad { (reads : List ℕ → Option Tree) → IsReading reads → IfOk result (λ l. l.is_bad ≡ is_bad_expression reads (placed_text field.now)) }
-    ensures undefined { (reads : List ℕ → Option Tree) → IsReading reads → (d : DocumentText) → ((q : List ℕ) → has_key q defined.now ≡ list_any (λ x. bytes_eq x.id q) d.extracted) → IfOk result (λ l. l.is_undefined ≡ is_undefined_use reads d (placed_text field.now)) }
+fn licence_of(alloc: Global, known: &Known, field: &Placed) -> Result<Licence, AllocError>
+    ensures bad { (reads : List ℕ → Option Tree) → IsReading known.now.profile reads → IfOk result (λ l. l.is_bad ≡ is_bad_expression reads (placed_text field.now)) }
+    ensures undefined { (reads : List ℕ → Option Tree) → IsReading known.now.profile reads → (d : DocumentText) → ((q : List ℕ) → has_key q known.now.defined ≡ list_any (λ x. bytes_eq x.id q) d.extracted) → IfOk result (λ l. l.is_undefined ≡ is_undefined_use reads d (placed_text field.now)) }
 {
     let nothing = Licence {
         is_bad: false,
@@ -126,10 +125,10 @@ fn licence_of(
     if !is_licence_field(tag) || is_misplaced(field) || is_no_licence(field.entry.value) {
         return Ok(nothing);
     }
-    match read_value(alloc, field.entry.value)? {
+    match read_value(alloc, field.entry.value, known.profile)? {
         Some(expr) => Ok(Licence {
             is_bad: false,
-            is_undefined: uses_undefined_in(alloc, defined, tag, &expr)?,
+            is_undefined: uses_undefined_in(alloc, &known.defined, tag, &expr)?,
         }),
         None => Ok(Licence {
             is_bad: true,
@@ -146,10 +145,10 @@ fn add_of_field(
     document: &Document,
     field: &Placed,
 ) -> Result<(), AllocError>
-    ensures { (reads : List ℕ → Option Tree) → IsReading reads → Defines (document_text document.now) known.now.defined → OnOk result (found.new.items ≡ found.old.items ++ field_findings reads (state_in known.now.states.items) (document_text document.now) (placed_text field.now)) }
+    ensures { (reads : List ℕ → Option Tree) → IsReading known.now.profile reads → Defines (document_text document.now) known.now.defined → OnOk result (found.new.items ≡ found.old.items ++ field_findings reads (state_in known.now.states.items) (document_text document.now) (placed_text field.now)) }
 {
     let line = u64::from(field.entry.line);
-    let licence = licence_of(alloc, &known.defined, field)?;
+    let licence = licence_of(alloc, known, field)?;
     note(found, is_unknown(field), line, FindingKind::UnknownTag)?;
     note(found, is_misplaced(field), line, FindingKind::Misplaced)?;
     note(found, licence.is_bad, line, FindingKind::BadExpression)?;
@@ -189,7 +188,7 @@ fn add_of_fields(
     document: &Document,
 ) -> Result<(), AllocError>
     requires { Defines (document_text document.now) known.now.defined }
-    ensures { (reads : List ℕ → Option Tree) → IsReading reads → OnOk result (found.new.items ≡ found.old.items ++ flat_map (field_findings reads (state_in known.now.states.items) (document_text document.now)) (fields_in sections.Document 0 (document_text document.now).entries)) }
+    ensures { (reads : List ℕ → Option Tree) → IsReading known.now.profile reads → OnOk result (found.new.items ≡ found.old.items ++ flat_map (field_findings reads (state_in known.now.states.items) (document_text document.now)) (fields_in sections.Document 0 (document_text document.now).entries)) }
 {
     let entries = document.entries.as_slice();
     let mut section = SectionKind::Document;
@@ -214,15 +213,21 @@ fn known_of<'a>(
     alloc: Global,
     document: &Document<'a>,
     elements: &Elements,
+    profile: Profile,
 ) -> Result<Known<'a>, AllocError>
     requires { Notes (document_text document.now) elements.now }
+    ensures profile { IfOk result (λ k. k.profile ≡ profile) }
     ensures defined { IfOk result (λ k. Defines (document_text document.now) k.defined) }
     ensures states { IfOk result (λ k. AreStates (document_text document.now) (state_in k.states.items)) }
 {
     let contents = Contents::of(alloc, document, elements)?;
     let states = states_in(alloc, document, &contents)?;
     let defined = defined_in(alloc, document.extracted.as_slice())?;
-    Ok(Known { defined, states })
+    Ok(Known {
+        profile,
+        defined,
+        states,
+    })
 }
 
 // All findings of a document, kind by kind.
@@ -234,7 +239,7 @@ fn gathered(
 ) -> Result<Vec<Finding>, AllocError>
     requires defined { Defines (document_text document.now) known.now.defined }
     requires elements { Notes (document_text document.now) elements.now }
-    ensures { (reads : List ℕ → Option Tree) → IsReading reads → IfOk result (λ v. v.items ≡ all_findings reads (state_in known.now.states.items) (document_text document.now)) }
+    ensures { (reads : List ℕ → Option Tree) → IsReading known.now.profile reads → IfOk result (λ v. v.items ≡ all_findings reads (state_in known.now.states.items) (document_text document.now)) }
 {
     let mut found = Vec::new(alloc);
     add_of_fields(alloc, &mut found, known, document)?;
@@ -247,12 +252,24 @@ fn gathered(
 }
 
 /// All that isn't as the standard has it in a document, by line, by kind, and for missing fields in the order of `MissingField`.
-pub fn findings(alloc: Global, document: &Document) -> Result<Vec<Finding>, AllocError>
-    ensures { (reads : List ℕ → Option Tree) → IsReading reads → IfOk result (λ v. AreFindings reads (document_text document.now) v.items) }
+/// Licence fields are read by the profile of operators.
+pub fn findings_in(
+    alloc: Global,
+    document: &Document,
+    profile: Profile,
+) -> Result<Vec<Finding>, AllocError>
+    ensures { (reads : List ℕ → Option Tree) → IsReading profile reads → IfOk result (λ v. AreFindings reads (document_text document.now) v.items) }
 {
     let elements = Elements::of(alloc, document)?;
-    let known = known_of(alloc, document, &elements)?;
+    let known = known_of(alloc, document, &elements, profile)?;
     let mut found = gathered(alloc, document, &known, &elements)?;
     found.sort_by_key(|finding| finding.key())?;
     Ok(found)
+}
+
+/// The same where operators are in capitals.
+pub fn findings(alloc: Global, document: &Document) -> Result<Vec<Finding>, AllocError>
+    ensures { (reads : List ℕ → Option Tree) → IsReading Capitals reads → IfOk result (λ v. AreFindings reads (document_text document.now) v.items) }
+{
+    findings_in(alloc, document, Profile::Capitals)
 }

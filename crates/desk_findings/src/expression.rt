@@ -8,7 +8,8 @@ ghost use Rattle.desk_tagvalue.specs.Parts.{DocumentText};
 ghost use Rattle.desk_tagvalue.specs.Seen.{has_key};
 ghost use Rattle.desk_findings.specs.Fields.{is_only_word, is_no_licence, IsReading, is_undefined, uses_undefined};
 
-use desk_expr::{Expr, ParseFault, Term, parse, terms};
+use desk_base::Profile;
+use desk_expr::{Expr, ParseFault, Term, parse_in, terms};
 use desk_fields::{skip_blanks, split_word};
 use desk_tagvalue::behind;
 use std::alloc::{AllocError, Global};
@@ -39,11 +40,15 @@ fn told(fault: ParseFault) -> Result<(), AllocError>
     }
 }
 
-/// The expression that a value is, if it is one.
-pub(crate) fn read_value(alloc: Global, text: &str) -> Result<Option<Expr>, AllocError>
-    ensures { (reads : List ℕ → Option Tree) → IsReading reads → IfOk result (λ e. e ≡ reads text.now) }
+/// The expression that a value is by the profile of operators, if it is one.
+pub(crate) fn read_value(
+    alloc: Global,
+    text: &str,
+    profile: Profile,
+) -> Result<Option<Expr>, AllocError>
+    ensures { (reads : List ℕ → Option Tree) → IsReading profile reads → IfOk result (λ e. e ≡ reads text.now) }
 {
-    match parse(alloc, text) {
+    match parse_in(alloc, text, profile) {
         Ok(expr) => Ok(Some(expr)),
         Err(fault) => {
             told(fault)?;

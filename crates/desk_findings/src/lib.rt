@@ -12,5 +12,5 @@ mod field;
 mod finding;
 mod missing;
 
-pub use document::findings;
+pub use document::{findings, findings_in};
 pub use finding::{Finding, FindingKind, MissingField};

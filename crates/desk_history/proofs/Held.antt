@@ -127,19 +127,19 @@ frozen_by_rule : (w : Readings) (h : List Command) (r day : List ℕ) (f : Froze
 frozen_by_rule w h r day f p term None ships chosen e m = absurd m
 frozen_by_rule w h r day f p term (Some rule) ships chosen e m = elim m [
   | inl is ↦ subst (IsFrozenTerm w (Freeze r day ∷ h)) is (record {
-      later = [];
-      before = h;
-      day = day;
-      row = p;
-      rule = rule;
-      split = refl;
-      ships = ships;
-      document = refl;
-      package_id = refl;
-      chosen = chosen;
-      ruled = e;
-      spelled = refl;
-    })
+    later = [];
+    before = h;
+    day = day;
+    row = p;
+    rule = rule;
+    split = refl;
+    ships = ships;
+    document = refl;
+    package_id = refl;
+    chosen = chosen;
+    ruled = e;
+    spelled = refl;
+  })
   | inr none ↦ absurd none
 ]
 

@@ -24,7 +24,7 @@ returns-clause-plan g c = λ w.
     c.meet_found.result c.in_ok-row.ensures.kept c.meet_found.ensures.kept
     (λ h t held. (
       met_answer w t q row c.args.day.now text (sym (c.in_ok-row.ensures.found h t held) ∙ c.in-Some-2.is) number c.in-Some.ensures.0 note,
-      met_change_is t row.number q day c.args.day.now text number c.in-Some.ensures.1
+      met_change_is t row.number q day c.args.day.now text number c.in-Some.ensures.1,
     ))
     c.meet_found.ensures.plan
 

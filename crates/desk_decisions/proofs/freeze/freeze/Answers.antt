@@ -16,8 +16,8 @@ returns-clause-plan g c = λ w right.
     (λ t. freeze_change_found w t r row.form c.in-Some.day) (λ t. change_for w t (Freeze r day))
     c.freeze_open.result c.in_ok-row.ensures.kept c.freeze_open.ensures.kept
     (λ h t held.
-      let found : release_found t r ≡ Some row = ap (release_found t) (sym c.as_str.ensures) ∙ (sym (c.in_ok-row.ensures.found h t held) ∙ c.in-Some-2.is) in
-      (frozen_answer w t r day row found c.in-Some.ensures.0 c.in_default-unready.ensures, frozen_change w t r day c.in-Some.day row found c.in-Some.ensures.1))
+    let found : release_found t r ≡ Some row = ap (release_found t) (sym c.as_str.ensures) ∙ (sym (c.in_ok-row.ensures.found h t held) ∙ c.in-Some-2.is) in
+    (frozen_answer w t r day row found c.in-Some.ensures.0 c.in_default-unready.ensures, frozen_change w t r day c.in-Some.day row found c.in-Some.ensures.1))
     (c.freeze_open.ensures.plan w right)
 
 pub returns-clause-kept : goal.returns-clause-kept

@@ -44,18 +44,18 @@ returns-clause-plan g c = λ w right.
     c.freeze_gathered.result
     (same_then_same _ _ _ one.kept (same_then_same _ _ _ two.kept three.kept)) c.freeze_gathered.ensures.kept
     (λ h t held.
-      let h2 = three.kept.kept.spared.honest h in
-      let t1 = one.kept.kept.spared.holds t held in
-      let rows : List AttachedRow = c.as_slice.result.now in
-      let are : rows ≡ attached_to t.attached r = c.as_slice.ensures.value ∙ (one.found (two.kept.kept.spared.honest h2) t held ∙ ap (attached_to t.attached) c.as_str.ensures) in
-      let some : (length (attached_to t.attached r) == 0) ≡ false =
-      ap (λ (xs : List AttachedRow). length xs == 0) (sym are) ∙ (ap (λ (n : ℕ). n == 0) c.as_slice.ensures.len ∙ sym c.if-is_empty.ensures) in
-      let ps : List PackageRow = c.as_slice-2.result.now in
-      let shipped : ps ≡ shipped_found t r = c.as_slice-2.ensures.value ∙ (two.found h2 t t1 ∙ ap (λ (xs : List AttachedRow). shipped_of xs t.packages) are) in
-      let fits : Fits w t r form c.args.day new =
-      freeze_fitting w t r form c.args.day ps (record { frozen = c.new.result; owed = c.new-2.result }) new c.in_ok-refusal.field-0 some shipped c.new.ensures.items c.new-2.ensures.items
-      (three.gathered w right h t (two.kept.kept.spared.holds t t1)) c.in_default.is in
-      (fits.answer, fits.rows))
+    let h2 = three.kept.kept.spared.honest h in
+    let t1 = one.kept.kept.spared.holds t held in
+    let rows : List AttachedRow = c.as_slice.result.now in
+    let are : rows ≡ attached_to t.attached r = c.as_slice.ensures.value ∙ (one.found (two.kept.kept.spared.honest h2) t held ∙ ap (attached_to t.attached) c.as_str.ensures) in
+    let some : (length (attached_to t.attached r) == 0) ≡ false =
+    ap (λ (xs : List AttachedRow). length xs == 0) (sym are) ∙ (ap (λ (n : ℕ). n == 0) c.as_slice.ensures.len ∙ sym c.if-is_empty.ensures) in
+    let ps : List PackageRow = c.as_slice-2.result.now in
+    let shipped : ps ≡ shipped_found t r = c.as_slice-2.ensures.value ∙ (two.found h2 t t1 ∙ ap (λ (xs : List AttachedRow). shipped_of xs t.packages) are) in
+    let fits : Fits w t r form c.args.day new =
+    freeze_fitting w t r form c.args.day ps (record { frozen = c.new.result; owed = c.new-2.result }) new c.in_ok-refusal.field-0 some shipped c.new.ensures.items c.new-2.ensures.items
+    (three.gathered w right h t (two.kept.kept.spared.holds t t1)) c.in_default.is in
+    (fits.answer, fits.rows))
     c.freeze_gathered.ensures.plan
 
 pub returns-clause-kept : goal.returns-clause-kept

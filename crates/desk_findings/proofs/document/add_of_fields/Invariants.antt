@@ -15,7 +15,7 @@ abbrev pub invariant-loop-entry : goal.invariant-loop-entry
 invariant-loop-entry l = record {
   packages : l.packages ≤ l.entry-index;
   same : l.entries ≡ l.document.entries;
-  rest : (reads : List ℕ → Option Tree) → IsReading reads
+  rest : (reads : List ℕ → Option Tree) → IsReading l.known.profile reads
       → l.found.items ++ flat_map (field_findings reads (state_in l.known.states.items) (document_text l.document)) (fields_in l.section l.packages (map entry_text (drop l.entry-index l.entries)))
       ≡ l.fn.found.items ++ flat_map (field_findings reads (state_in l.known.states.items) (document_text l.document)) (fields_in sections.Document 0 (map entry_text l.entries));
 }
