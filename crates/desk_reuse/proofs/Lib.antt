@@ -1,0 +1,3 @@
+pub mod Greedy
+pub mod Falls
+pub mod GlobOnce
