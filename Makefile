@@ -10,6 +10,7 @@ CRATES =
 
 program = crates/desk_program
 documents = crates/desk_documents_bench
+globs = crates/desk_globs_bench
 
 all: build
 
@@ -76,7 +77,7 @@ try:
 	@echo 'Trying the program with no proof: this says nothing of its contracts.'
 	@cd $(program) && rt try -- $(ARGS)
 
-# Times the program, beside another one, its scripts, by the rows that a desk holds, and the reading of documents.
+# Times the program, beside another one, its scripts, by the rows that a desk holds, the reading of documents, and patterns of paths.
 bench: build
 	@python3 bench/bench.py build/desk
 	@python3 bench/script.py build/desk build/scripts
@@ -85,6 +86,9 @@ bench: build
 	@cd $(documents) && { rt run >../../build/log 2>&1 || { cat ../../build/log; exit 1; }; }
 	@python3 bench/documents.py $(documents)/out/desk_documents_bench build/documents
 	@python3 bench/import.py build/desk $(documents)/out/desk_documents_bench build/scripts
+	@echo 'Building the program that matches patterns.'
+	@cd $(globs) && { rt run >../../build/log 2>&1 || { cat ../../build/log; exit 1; }; }
+	@python3 bench/globs.py $(globs)/out/desk_globs_bench
 
 install: build
 	mkdir -p $(DESTDIR)$(PREFIX)/bin

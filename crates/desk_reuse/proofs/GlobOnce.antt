@@ -1,5 +1,6 @@
--- A pattern is read in one way.
-use Rattle.std.proofs.Common.{◌≡◌, ◌≢◌, ◌∙◌, ◌⊎◌, inl, inr, ℕ, List, [], ◌∷◌, get_or, sym, subst, ap, refl, arith}
+-- Each text is a pattern, read in one way.
+use Rattle.std.proofs.Common.{◌≡◌, ◌≢◌, ◌∙◌, ◌⊎◌, inl, inr, ℕ, List, [], ◌∷◌, get_or, sym, subst, ap, refl, arith, ⊎_elim}
+use Rattle.std.proofs.lemmas.Bool.Decides.{eqb_tells}
 use Rattle.desk_reuse.specs.declared.glob.Piece.{Piece}
 use Rattle.desk_reuse.specs.declared.glob.Piece.TheVariants.{Byte, InName, InPath}
 use Rattle.desk_reuse.specs.Glob.{Begins, Spells}
@@ -57,3 +58,25 @@ spells_once p (x ∷ xs) (y ∷ ys) a b =
     let z = begins_once p x a.0 y b.0 a.1 b.1 in
     let later = spells_once b.0 xs ys (subst (λ r. Spells r xs) z.1 a.2) b.2 in
     λ i. z.0 i ∷ later i
+
+same : (b c : ℕ) → (b ≡ c) ⊎ (b ≢ c)
+same b c = ⊎_elim (λ t. inl t.1) (λ t. inr t.1) (eqb_tells b c)
+
+abbrev IsSpelled : List ℕ → Type 0
+IsSpelled p = (ps : List Piece) × Spells p ps
+
+begun : (p : List ℕ) (x : Piece) (rest : List ℕ) → Begins p x rest → IsSpelled rest → IsSpelled p
+begun p x rest b s = (x ∷ s.0, (rest, b, s.1))
+
+no_star : (l : List ℕ) → l ≡ [] → get_or l 0 0 ≢ 42
+no_star l is e = let none = ap (λ k. get_or k 0 0) is in omega (arith, e, none)
+
+pub each_spelled : (p : List ℕ) → (ps : List Piece) × Spells p ps
+each_spelled [] = ([], refl)
+each_spelled (b ∷ []) =
+    ⊎_elim (λ star. begun (b ∷ []) InName [] (ap (λ x. x ∷ []) star, no_star [] refl) ([], refl)) (λ other. begun (b ∷ []) (Byte b) [] (inr (refl, other, λ _. refl)) ([], refl)) (same b 42)
+each_spelled (b ∷ c ∷ r) =
+    let whole = b ∷ c ∷ r in
+    let stars = λ (star : b ≡ 42). ⊎_elim (λ second. begun whole InPath r (λ i. star i ∷ second i ∷ r) (each_spelled r)) (λ other. begun whole InName (c ∷ r) (ap (λ x. x ∷ c ∷ r) star, other) (each_spelled (c ∷ r))) (same c 42) in
+    let bytes = λ (other : b ≢ 42). ⊎_elim (λ escape. begun whole (Byte c) r (inl (ap (λ x. x ∷ c ∷ r) escape)) (each_spelled r)) (λ plain. begun whole (Byte b) (c ∷ r) (inr (refl, other, λ e. absurd (plain e))) (each_spelled (c ∷ r))) (same b 92) in
+    ⊎_elim stars bytes (same b 42)

@@ -79,3 +79,8 @@ impl Glob {
 pub fn one_glob()
     ensures { (pattern : List ℕ) (a b : List Piece) → Spells pattern a → Spells pattern b → a ≡ b }
 {}
+
+/// Each text is a pattern.
+pub fn each_text_is_a_glob()
+    ensures { (pattern : List ℕ) → (pieces : List Piece) × Spells pattern pieces }
+{}

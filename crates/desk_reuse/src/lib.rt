@@ -14,6 +14,6 @@ mod matching;
 mod runs;
 mod tags;
 
-pub use glob::{Glob, Piece, one_glob};
+pub use glob::{Glob, Piece, each_text_is_a_glob, one_glob};
 pub use info::{Info, header, one_header};
 pub use tags::Tagged;
