@@ -11,6 +11,7 @@ CRATES =
 program = crates/desk_program
 documents = crates/desk_documents_bench
 bom = crates/desk_bom_bench
+globs = crates/desk_globs_bench
 
 all: build
 
@@ -77,7 +78,7 @@ try:
 	@echo 'Trying the program with no proof: this says nothing of its contracts.'
 	@cd $(program) && rt try -- $(ARGS)
 
-# Times the program, beside another one, its scripts, by the rows that a desk holds, and the reading of documents.
+# Times the program, beside another one, its scripts, by the rows that a desk holds, the reading of documents, and patterns of paths.
 bench: build
 	@python3 bench/bench.py build/desk
 	@python3 bench/alternatives.py build/desk
@@ -89,6 +90,9 @@ bench: build
 	@python3 bench/import.py build/desk $(documents)/out/desk_documents_bench build/scripts
 	@cd $(bom) && { rt run >../../build/log 2>&1 || { cat ../../build/log; exit 1; }; }
 	@python3 bench/bom.py $(bom)/out/desk_bom_bench build/bom
+	@echo 'Building the program that matches patterns.'
+	@cd $(globs) && { rt run >../../build/log 2>&1 || { cat ../../build/log; exit 1; }; }
+	@python3 bench/globs.py $(globs)/out/desk_globs_bench
 
 install: build
 	mkdir -p $(DESTDIR)$(PREFIX)/bin

@@ -1,6 +1,7 @@
 //! What isn't as the standard has it: each kind of finding on both sides, and their order.
 
-use crate::support::{expect, findings_in_text, findings_of};
+use crate::support::{expect, findings_by, findings_in_text, findings_of};
+use desk_base::Profile;
 use std::alloc::AllocError;
 
 // What a document says from line 8 on, and its findings: line, number, name, and the field that is missing.
@@ -458,6 +459,30 @@ fn tells_findings_of_documents(rt: HostRuntime) -> Result<(), AllocError> {
         let answer = findings_in_text(rt.alloc(), text)?;
         expect(&rt, question, &answer, expected);
     }
+    Ok(())
+}
+
+const IN_SMALL_LETTERS: &str = "SPDXVersion: SPDX-2.3\n\
+    DataLicense: CC0-1.0\n\
+    SPDXID: SPDXRef-DOCUMENT\n\
+    DocumentName: d1\n\
+    DocumentNamespace: https://example.org/d1\n\
+    Creator: Tool: x-1\n\
+    Created: 2025-01-01T00:00:00Z\n\
+    PackageName: p\n\
+    SPDXID: SPDXRef-p\n\
+    PackageVersion: 1.0\n\
+    PackageDownloadLocation: NOASSERTION\n\
+    FilesAnalyzed: false\n\
+    PackageLicenseConcluded: MIT or Zlib\n\
+    PackageCopyrightText: Copyright P\n";
+
+#[test]
+fn an_operator_in_small_letters_is_one_by_its_profile(rt: HostRuntime) -> Result<(), AllocError> {
+    let capitals = findings_by(rt.alloc(), IN_SMALL_LETTERS, Profile::Capitals)?;
+    expect(&rt, "capitals", &capitals, "13 3 BadExpression");
+    let either = findings_by(rt.alloc(), IN_SMALL_LETTERS, Profile::Either)?;
+    expect(&rt, "either", &either, "");
     Ok(())
 }
 

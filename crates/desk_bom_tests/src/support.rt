@@ -1,7 +1,8 @@
 //! What a test is told of a document. Want of memory is no answer but an error.
 
+use desk_base::Profile;
 use desk_bom::{CodeState, Contents, Elements, code_state, shipped};
-use desk_findings::{Finding, FindingKind, findings};
+use desk_findings::{Finding, FindingKind, findings, findings_in};
 use desk_tagvalue::{DocFault, Document, read};
 use std::alloc::{AllocError, Global};
 use std::process::Abort;
@@ -145,10 +146,10 @@ fn put_finding(text: &mut String, alloc: Global, finding: &Finding) -> Result<()
 }
 
 // The findings of a document.
-fn findings_in(alloc: Global, document: &Document) -> Result<String, AllocError> {
+fn listed(alloc: Global, found: &[Finding]) -> Result<String, AllocError> {
     let mut told = String::new(alloc);
-    for finding in findings(alloc, document)? {
-        put_finding(&mut told, alloc, &finding)?;
+    for finding in found {
+        put_finding(&mut told, alloc, finding)?;
     }
     Ok(told)
 }
@@ -156,7 +157,15 @@ fn findings_in(alloc: Global, document: &Document) -> Result<String, AllocError>
 /// The findings of a text, or its fault.
 pub fn findings_in_text(alloc: Global, text: &str) -> Result<String, AllocError> {
     match read(alloc, text.as_bytes()) {
-        Ok(document) => findings_in(alloc, &document),
+        Ok(document) => listed(alloc, findings(alloc, &document)?.as_slice()),
+        Err(fault) => fault_text(alloc, fault),
+    }
+}
+
+/// The same where licence fields are read by a profile of operators.
+pub fn findings_by(alloc: Global, text: &str, profile: Profile) -> Result<String, AllocError> {
+    match read(alloc, text.as_bytes()) {
+        Ok(document) => listed(alloc, findings_in(alloc, &document, profile)?.as_slice()),
         Err(fault) => fault_text(alloc, fault),
     }
 }

@@ -39,6 +39,20 @@ fn kept(bytes: &[u8]) -> usize
     n
 }
 
+/// The bytes without the blanks at their end.
+pub fn trim_end_bytes(bytes: &[u8]) -> &[u8]
+    ensures { result.now ≡ trim_end bytes.now }
+{
+    bytes.split_at(kept(bytes)).0
+}
+
+/// The bytes without the blanks at their ends.
+pub fn trimmed_bytes(bytes: &[u8]) -> &[u8]
+    ensures { result.now ≡ trimmed bytes.now }
+{
+    trim_end_bytes(bytes.split_at(blanks(bytes)).1)
+}
+
 fn blanks_end(text: &str) -> usize
     ensures value { result ≡ prefix_len is_blank text.now }
     ensures cut { IsCharBoundary text.now result }

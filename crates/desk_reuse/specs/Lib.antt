@@ -1,0 +1,5 @@
+pub mod Glob
+pub mod Steps
+pub mod Runs
+pub mod Tags
+pub mod Found
