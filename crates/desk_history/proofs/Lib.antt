@@ -17,3 +17,4 @@ mod Told
 mod Distinct
 pub mod OwnKeys
 mod Held
+mod Numbers

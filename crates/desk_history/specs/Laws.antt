@@ -1,19 +1,20 @@
 -- Laws of the recorded history, in the subject's own words.
-use Rattle.std.specs.Prelude.{◌≡◌, ℕ, List, [], ◌∷◌, ◌++◌, map, filter, find, Some, None, Ok, unwrap_or}
-use Rattle.std.specs.List.{filter_map, last_or}
+use Rattle.std.specs.Prelude.{◌≡◌, ℕ, ◌+◌, List, [], ◌∷◌, ◌++◌, length, map, filter, find, Some, None, Ok, unwrap_or}
+use Rattle.std.specs.List.{filter_map, last_or, enumerate_from}
 use Rattle.std.specs.Option.{option_map}
 use Rattle.desk_rows.specs.Lists.{IsIn}
 use Rattle.desk_rows.specs.Readings.{Readings}
 use Rattle.desk_rows.specs.Keys.{is_package, is_document, is_change_of}
 use Rattle.desk_rows.specs.Texts.{sorted_set}
 use Rattle.desk_rows.specs.History.{documents, packages, expression_in, choice, form_of, in_force, rules_in}
-use Rattle.desk_rows.specs.Raised.{rule_adopted, shipped}
+use Rattle.desk_rows.specs.Raised.{rule_adopted, shipped, raised, owed_at}
 use Rattle.desk_rows.specs.declared.reading.Catalogue.{Catalogue}
 use Rattle.desk_rows.specs.declared.reading.Document.{Document}
 use Rattle.desk_rows.specs.declared.reading.Rule.{Rule}
 use Rattle.desk_rows.specs.declared.reading.Verdict.TheVariants.{Minimal}
 use Rattle.desk_rows.specs.declared.row.DocumentRow.{DocumentRow}
 use Rattle.desk_rows.specs.declared.row.PackageRow.{PackageRow}
+use Rattle.desk_rows.specs.declared.row.Owed.{Owed}
 use Rattle.desk_rows.specs.declared.row.DutyRow.{DutyRow}
 use Rattle.desk_rows.specs.declared.row.FrozenRow.{FrozenRow}
 use Rattle.desk_rows.specs.declared.row.ChangeRow.{ChangeRow}
@@ -45,6 +46,16 @@ pub record IsHeldMinimal (w : Readings) (h : List Command) (d : ℕ) (p : List �
   pub concludes : expression_in w document.profile row.concluded ≡ Some expression
   pub set : terms ≡ sorted_set listed
   pub minimal : w.verdict document.profile expression listed ≡ Minimal
+
+-- A duty with its number: a freeze of a release stands in the history and raises it, and what a freeze raises is numbered on from all
+-- that the freezes before it raised.
+pub record IsNumbered (w : Readings) (h : List Command) (d : ℕ × Owed) : Type 0 where
+  pub later : List Command
+  pub before : List Command
+  pub release : List ℕ
+  pub day : List ℕ
+  pub split : h ≡ later ++ Freeze release day ∷ before
+  pub raises : IsIn d (enumerate_from (1 + length (raised w before)) (owed_at w before release))
 
 -- A term that a release was frozen with: a freeze of the release stands in the history, and before it a document that ships the package
 -- was attached, the term was held for it, and the catalogue then in force had a rule for the term's adopted form.

@@ -8,11 +8,11 @@ ghost use Rattle.desk_rows.specs.Lists.{IsIn};
 ghost use Rattle.desk_rows.specs.Readings.{Readings};
 ghost use Rattle.desk_rows.specs.Keys.{is_choice_of};
 ghost use Rattle.desk_rows.specs.History.{choice};
-ghost use Rattle.desk_rows.specs.Raised.{frozen, raised, IsRaised};
+ghost use Rattle.desk_rows.specs.Raised.{frozen, numbered, raised, IsRaised};
 ghost use Rattle.desk_rows.specs.Tables.{tables, standing, choice_row};
 ghost use Rattle.desk_rows.specs.Answers.{answer, noted, IsHistory};
 ghost use Rattle.desk_rows.specs.Queries.{duties_of, totals_of};
-ghost use Rattle.desk_history.specs.Laws.{IsFrozenTerm, IsHeldMinimal, IsMinimalChoice, AreDistinct, key_of, ListsOnce, IsToldBy};
+ghost use Rattle.desk_history.specs.Laws.{IsFrozenTerm, IsHeldMinimal, IsMinimalChoice, IsNumbered, AreDistinct, key_of, ListsOnce, IsToldBy};
 ghost use Rattle.desk_rows.specs.declared.row.Owed.{Owed};
 ghost use Rattle.desk_rows.specs.declared.row.DutyRow.{DutyRow};
 ghost use Rattle.desk_rows.specs.declared.row.FrozenRow.{FrozenRow};
@@ -24,6 +24,14 @@ ghost use Rattle.desk_rows.specs.declared.command.Command.TheVariants.{Choose};
 pub fn raised_exactly()
     ensures held { (w : Readings) (h : List Command) (d : Owed) → IsRaised w h d → IsIn d (raised w h) }
     ensures only { (w : Readings) (h : List Command) (d : Owed) → IsIn d (raised w h) → IsRaised w h d }
+{}
+
+/// The duties with their numbers are those of the freezes of the history, each freeze's numbered on, from 1, from all that the freezes
+/// before it raised. A number that was given stands, whatever is recorded later.
+pub fn duties_are_numbered_on()
+    ensures held { (w : Readings) (h : List Command) (d : ℕ × Owed) → IsNumbered w h d → IsIn d (numbered w h) }
+    ensures only { (w : Readings) (h : List Command) (d : ℕ × Owed) → IsIn d (numbered w h) → IsNumbered w h d }
+    ensures stays { (w : Readings) (later before : List Command) (d : ℕ × Owed) → IsIn d (numbered w before) → IsIn d (numbered w (later ++ before)) }
 {}
 
 /// Each choice that was recorded is a minimal set of its package's concluded expression.

@@ -1,0 +1,65 @@
+-- The number of a duty, by the freeze that raises it; and that it stays.
+use Rattle.std.proofs.Common.{◌≡◌, ℕ, ◌+◌, List, [], ◌∷◌, ◌++◌, length, sym, refl, ap, subst, inl, inr}
+use Rattle.std.specs.List.{enumerate_from}
+use Rattle.desk_rows.specs.Lists.{IsIn}
+use Rattle.desk_rows.specs.Readings.{Readings}
+use Rattle.desk_rows.specs.Raised.{raised, owed_at, numbered}
+use Rattle.desk_history.specs.Laws.{IsNumbered}
+use Rattle.desk_history.proofs.Members.{in_left, in_right, in_cases}
+use Rattle.desk_history.proofs.Freezing.{numbered-append}
+use Rattle.desk_rows.specs.declared.row.Owed.{Owed}
+use Rattle.desk_rows.specs.declared.command.Command.{Command}
+use Rattle.desk_rows.specs.declared.command.Command.TheVariants.{LoadCatalogue, Import, OpenRelease, Attach, Choose, Freeze, Meet}
+
+-- a freeze numbers its duties on from those before it
+numbered-freeze : (w : Readings) (h : List Command) (r day : List ℕ) → numbered w (Freeze r day ∷ h) ≡ numbered w h ++ enumerate_from (1 + length (raised w h)) (owed_at w h r)
+numbered-freeze w h r day = numbered-append 1 (raised w h) (owed_at w h r)
+
+-- what is numbered stays numbered
+stays : (w : Readings) (c : Command) (h : List Command) (d : ℕ × Owed) → IsIn d (numbered w h) → IsIn d (numbered w (c ∷ h))
+stays w (Freeze r day) h d m = subst (λ ds. IsIn d ds) (sym (numbered-freeze w h r day)) (in_left d (numbered w h) (enumerate_from (1 + length (raised w h)) (owed_at w h r)) m)
+stays w (LoadCatalogue text) h d m = m
+stays w (Import bytes profile) h d m = m
+stays w (OpenRelease r f) h d m = m
+stays w (Attach r n) h d m = m
+stays w (Choose r n p texts) h d m = m
+stays w (Meet q day text) h d m = m
+
+pub numbers_stay : (w : Readings) (later before : List Command) (d : ℕ × Owed) → IsIn d (numbered w before) → IsIn d (numbered w (later ++ before))
+numbers_stay w [] before d m = m
+numbers_stay w (c ∷ later) before d m = stays w c (later ++ before) d (numbers_stay w later before d m)
+
+new_numbers : (w : Readings) (h : List Command) (r day : List ℕ) (d : ℕ × Owed) → IsIn d (enumerate_from (1 + length (raised w h)) (owed_at w h r)) → IsIn d (numbered w (Freeze r day ∷ h))
+new_numbers w h r day d m = subst (λ ds. IsIn d ds) (sym (numbered-freeze w h r day)) (in_right d (numbered w h) (enumerate_from (1 + length (raised w h)) (owed_at w h r)) m)
+
+pub is_in_numbered : (w : Readings) (h : List Command) (d : ℕ × Owed) → IsNumbered w h d → IsIn d (numbered w h)
+is_in_numbered w h d is =
+    subst (λ hs. IsIn d (numbered w hs)) (sym is.split)
+    (numbers_stay w is.later (Freeze is.release is.day ∷ is.before) d (new_numbers w is.before is.release is.day d is.raises))
+
+later_numbered : (w : Readings) (c : Command) (h : List Command) (d : ℕ × Owed) → IsNumbered w h d → IsNumbered w (c ∷ h) d
+later_numbered w c h d is = record {
+  later = c ∷ is.later;
+  before = is.before;
+  release = is.release;
+  day = is.day;
+  split = ap (λ hs. c ∷ hs) is.split;
+  raises = is.raises;
+}
+
+here_numbered : (w : Readings) (h : List Command) (r day : List ℕ) (d : ℕ × Owed) → IsIn d (enumerate_from (1 + length (raised w h)) (owed_at w h r)) → IsNumbered w (Freeze r day ∷ h) d
+here_numbered w h r day d m = record { later = []; before = h; release = r; day = day; split = refl; raises = m }
+
+pub numbered_in : (w : Readings) (h : List Command) (d : ℕ × Owed) → IsIn d (numbered w h) → IsNumbered w h d
+numbered_in w [] d m = absurd m
+numbered_in w (Freeze r day ∷ h) d m =
+    elim (in_cases d (numbered w h) (enumerate_from (1 + length (raised w h)) (owed_at w h r)) (subst (λ ds. IsIn d ds) (numbered-freeze w h r day) m)) [
+      | inl old ↦ later_numbered w (Freeze r day) h d (numbered_in w h d old)
+      | inr new ↦ here_numbered w h r day d new
+    ]
+numbered_in w (LoadCatalogue text ∷ h) d m = later_numbered w (LoadCatalogue text) h d (numbered_in w h d m)
+numbered_in w (Import bytes profile ∷ h) d m = later_numbered w (Import bytes profile) h d (numbered_in w h d m)
+numbered_in w (OpenRelease r f ∷ h) d m = later_numbered w (OpenRelease r f) h d (numbered_in w h d m)
+numbered_in w (Attach r n ∷ h) d m = later_numbered w (Attach r n) h d (numbered_in w h d m)
+numbered_in w (Choose r n p texts ∷ h) d m = later_numbered w (Choose r n p texts) h d (numbered_in w h d m)
+numbered_in w (Meet q day text ∷ h) d m = later_numbered w (Meet q day text) h d (numbered_in w h d m)
