@@ -6,15 +6,14 @@ use Rattle.std.specs.Option.{option_or}
 use Rattle.std.specs.Result.{result_ok}
 use Rattle.std.proofs.lemmas.List.Folds.{find-append}
 use Rattle.desk_rows.specs.Lists.{latest, or_else, IsIn}
-use Rattle.desk_rows.specs.Texts.{sorted_set}
 use Rattle.desk_rows.specs.Readings.{Readings}
 use Rattle.desk_rows.specs.Keys.{is_document, is_package}
 use Rattle.desk_rows.specs.History.{choice, documents, form_of, in_force, namespace_in, package_row, packages, packages_in, rules_in, is_package_of, term_set, terms_given}
-use Rattle.desk_rows.specs.Raised.{chosen_in, frozen, frozen_at, frozen_for_terms, frozen_term, frozen_under, rule_adopted, shipped}
+use Rattle.desk_rows.specs.Raised.{chosen_in, frozen, frozen_at, frozen_for_terms, frozen_under, rule_adopted, shipped}
 use Rattle.desk_rows.specs.Answers.{answer, is_recorded, IsHistory}
 use Rattle.desk_history.specs.Laws.{IsFrozenTerm, IsHeldMinimal}
 use Rattle.desk_history.proofs.Members.{in_cases, from_flat_map}
-use Rattle.desk_history.proofs.Chosen.{SamePackage, same_package}
+use Rattle.desk_history.proofs.Chosen.{same_package}
 use Rattle.desk_history.proofs.Minimal.{recorded_is_minimal}
 use Rattle.desk_rows.specs.declared.reading.Rule.{Rule}
 use Rattle.desk_rows.specs.declared.row.DocumentRow.{DocumentRow}

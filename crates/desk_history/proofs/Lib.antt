@@ -18,3 +18,4 @@ mod Distinct
 pub mod OwnKeys
 mod Held
 mod Numbers
+mod Sorting

@@ -1,17 +1,19 @@
 -- Laws of the recorded history, in the subject's own words.
-use Rattle.std.specs.Prelude.{◌≡◌, ℕ, ◌+◌, List, [], ◌∷◌, ◌++◌, length, map, filter, find, Some, None, Ok, unwrap_or}
+use Rattle.std.specs.Prelude.{◌≡◌, ℕ, ◌+◌, nat_lt, Bool, false, List, [], ◌∷◌, ◌++◌, length, map, filter, find, Some, None, Ok, unwrap_or}
 use Rattle.std.specs.List.{filter_map, last_or, enumerate_from}
 use Rattle.std.specs.Option.{option_map}
 use Rattle.desk_rows.specs.Lists.{IsIn}
 use Rattle.desk_rows.specs.Readings.{Readings}
-use Rattle.desk_rows.specs.Keys.{is_package, is_document, is_change_of}
+use Rattle.desk_rows.specs.Keys.{below_by, release_below, attached_order, choice_order, frozen_order, change_below, is_package, is_document, is_change_of}
 use Rattle.desk_rows.specs.Texts.{sorted_set}
 use Rattle.desk_rows.specs.History.{documents, packages, expression_in, choice, form_of, in_force, rules_in}
 use Rattle.desk_rows.specs.Raised.{rule_adopted, shipped, raised, owed_at}
+use Rattle.desk_rows.specs.Tables.{Tables}
 use Rattle.desk_rows.specs.declared.reading.Catalogue.{Catalogue}
 use Rattle.desk_rows.specs.declared.reading.Document.{Document}
 use Rattle.desk_rows.specs.declared.reading.Rule.{Rule}
 use Rattle.desk_rows.specs.declared.reading.Verdict.TheVariants.{Minimal}
+use Rattle.desk_rows.specs.declared.row.CatalogueRow.{CatalogueRow}
 use Rattle.desk_rows.specs.declared.row.DocumentRow.{DocumentRow}
 use Rattle.desk_rows.specs.declared.row.PackageRow.{PackageRow}
 use Rattle.desk_rows.specs.declared.row.Owed.{Owed}
@@ -72,6 +74,32 @@ pub record IsFrozenTerm (w : Readings) (h : List Command) (f : FrozenRow) : Type
   pub chosen : IsIn f.term (choice w before f.release row.document row.id)
   pub ruled : rule_adopted w (rules_in (in_force w before)) (unwrap_or (form_of before f.release) []) f.term ≡ Some rule
   pub spelled : f.rule ≡ rule.spelled
+
+-- no row stands behind one that it goes before
+abbrev pub Ascends : {A : Type 0} → (A → A → Bool) → List A → Type 0
+Ascends below [] = Unit {0}
+Ascends below (x ∷ xs) = ((y : _) → IsIn y xs → below y x ≡ false) × Ascends below xs
+
+abbrev pub revision_below : CatalogueRow → CatalogueRow → Bool
+revision_below a b = nat_lt a.revision b.revision
+
+abbrev pub document_below : DocumentRow → DocumentRow → Bool
+document_below a b = nat_lt a.number b.number
+
+abbrev pub duty_below : DutyRow → DutyRow → Bool
+duty_below a b = nat_lt a.number b.number
+
+-- revisions, documents and duties by number, releases by name, attached documents by release and number, chosen and frozen terms by
+-- release, document, package and term, changes by duty and step
+pub record AreSorted (t : Tables) : Type 0 where
+  pub catalogue : Ascends revision_below t.catalogue
+  pub document : Ascends document_below t.document
+  pub releases : Ascends release_below t.releases
+  pub attached : Ascends (below_by attached_order) t.attached
+  pub choice : Ascends (below_by choice_order) t.choice
+  pub frozen : Ascends (below_by frozen_order) t.frozen
+  pub duty : Ascends duty_below t.duty
+  pub changes : Ascends change_below t.changes
 
 -- no two of some are the same
 abbrev pub AreDistinct : {A : Type 0} → List A → Type 0

@@ -12,7 +12,7 @@ ghost use Rattle.desk_rows.specs.Raised.{frozen, numbered, raised, IsRaised};
 ghost use Rattle.desk_rows.specs.Tables.{tables, standing, choice_row};
 ghost use Rattle.desk_rows.specs.Answers.{answer, noted, IsHistory};
 ghost use Rattle.desk_rows.specs.Queries.{duties_of, totals_of};
-ghost use Rattle.desk_history.specs.Laws.{IsFrozenTerm, IsHeldMinimal, IsMinimalChoice, IsNumbered, AreDistinct, key_of, ListsOnce, IsToldBy};
+ghost use Rattle.desk_history.specs.Laws.{AreSorted, IsFrozenTerm, IsHeldMinimal, IsMinimalChoice, IsNumbered, AreDistinct, key_of, ListsOnce, IsToldBy};
 ghost use Rattle.desk_rows.specs.declared.row.Owed.{Owed};
 ghost use Rattle.desk_rows.specs.declared.row.DutyRow.{DutyRow};
 ghost use Rattle.desk_rows.specs.declared.row.FrozenRow.{FrozenRow};
@@ -71,6 +71,12 @@ pub fn keys_are_distinct()
 /// A duty of the table stands where the last of its changes in the table left it: open after it was raised, met after a Meet.
 pub fn each_place_is_told()
     ensures { (w : Readings) (h : List Command) (duty : DutyRow) → let t = tables w h in IsIn duty t.duty → IsToldBy t.changes duty }
+{}
+
+/// The tables of each list of commands, for each reading of texts, stand in the order of their keys: no row stands behind one that it
+/// goes before. The rules of a revision, and a document's packages and references, stand in the order in which texts list them.
+pub fn tables_are_sorted()
+    ensures { (w : Readings) (h : List Command) → AreSorted (tables w h) }
 {}
 
 /// A recorded history with a recorded command is a recorded history.
