@@ -1,18 +1,21 @@
 -- The answer to each command and query: the first refusal that applies, else what was done. Each is a function of what is looked up.
-use Rattle.std.specs.Prelude.{ℕ, ◌+◌, ◌==◌, ◌&&◌, nat_lt, nat_le, not, Bool, true, false, List, [], ◌∷◌, length, find, slice_index_or, Option, Some, None, is_some, is_none, unwrap_or, Result, Ok, Err, IsTrue, if◌then◌else◌}
+use Rattle.std.specs.Prelude.{ℕ, ◌+◌, ◌==◌, filter, ◌&&◌, nat_lt, nat_le, not, Bool, true, false, List, [], ◌∷◌, length, find, slice_index_or, Option, Some, None, is_some, is_none, unwrap_or, Result, Ok, Err, IsTrue, if◌then◌else◌}
 use Rattle.std.specs.List.{list_any, filter_map}
-use Rattle.std.specs.Option.{option_map, option_map_or}
+use Rattle.std.specs.Option.{option_map, option_map_or, option_and_then}
 use Rattle.std.specs.Result.{result_ok}
 use Rattle.std.specs.Str.{bytes_eq}
 use Rattle.desk_base.specs.Day.{is_day}
 use Rattle.desk_rows.specs.Lists.{or_else}
-use Rattle.desk_rows.specs.Texts.{is_release_name, is_note}
+use Rattle.desk_rows.specs.Texts.{is_before, is_release_name, is_note}
 use Rattle.desk_rows.specs.Readings.{Readings}
 use Rattle.desk_rows.specs.Keys.{is_document, has_namespace, is_package, is_attachment}
-use Rattle.desk_rows.specs.History.{revisions, in_force, rules_in, forms_in, documents, packages, profile_of, expression_in, opened, form_of, state_of, attached, attached_to}
+use Rattle.desk_rows.specs.History.{revisions, in_force, rules_in, forms_in, documents, packages, choice, profile_of, expression_in, opened, form_of, state_of, attached, attached_to}
 use Rattle.desk_rows.specs.declared.row.Owed.{Owed}
 use Rattle.desk_rows.specs.Raised.{shipped, rule_adopted, chosen_in, owed_at, raised, numbered}
-use Rattle.desk_rows.specs.Moves.{moves, place}
+use Rattle.desk_rows.specs.Moves.{duty_at, moves, place, end_after, has_ended}
+use Rattle.desk_rows.specs.States.{goes_from}
+use Rattle.desk_rows.specs.declared.state.Word.{Word}
+use Rattle.desk_rows.specs.declared.state.Word.TheVariants as word
 use Rattle.desk_rows.specs.declared.reading.Catalogue.{Catalogue}
 use Rattle.desk_rows.specs.declared.reading.Rule.{Rule}
 use Rattle.desk_rows.specs.declared.reading.Document.{Document}
@@ -33,12 +36,21 @@ use Rattle.desk_rows.specs.declared.state.DutyState.TheVariants as stands
 use Rattle.desk_rows.specs.declared.command.Answer.{Answer}
 use Rattle.desk_rows.specs.declared.command.Answer.TheVariants as answered
 use Rattle.desk_rows.specs.declared.command.Command.{Command}
-use Rattle.desk_rows.specs.declared.command.Command.TheVariants.{LoadCatalogue, Import, OpenRelease, Attach, Choose, Freeze, Meet}
+use Rattle.desk_rows.specs.declared.command.Command.TheVariants.{LoadCatalogue, Import, OpenRelease, Attach, Choose, Unchoose, Freeze, Meet, Waive, Reopen, Withdraw, CloseDay}
 
 -- the refusal, or the answer where there is none
 abbrev pub refused_or : Option Refusal → Answer → Answer
 refused_or None answer = answer
 refused_or (Some refusal) answer = answered.Refused refusal
+
+-- the first refusal of some that applies, else the answer
+abbrev pub refused_first : List (Option Refusal) → Answer → Answer
+refused_first [] answer = answer
+refused_first (refusal ∷ refusals) answer = refused_or refusal (refused_first refusals answer)
+
+-- a refusal that applies unless this is so
+abbrev pub unless : Bool → Refusal → Option Refusal
+unless so refusal = if so then None else Some refusal
 
 -- LoadCatalogue: a text that is no catalogue, the revisions
 abbrev pub load_answer : Result Catalogue CatalogueFault → ℕ → Answer
@@ -120,6 +132,16 @@ choose_answer w texts state document found is_attached =
     option_map_or (λ i. answered.Refused (why.BadTerm i)) (first_bad w 0 texts)
     (choose_terms w (filter_map w.term texts) state document found is_attached)
 
+-- Unchoose: the release, the document, the package, the state of the release, a package without a choice
+abbrev pub unchoose_answer : ℕ → List ℕ → Option ReleaseState → Bool → Bool → List (List ℕ) → Answer
+unchoose_answer d p state known found chosen = refused_first (
+    unless (is_some state) why.UnknownRelease
+  ∷ unless known why.UnknownDocument
+  ∷ unless found why.UnknownPackage
+  ∷ option_and_then unready state
+  ∷ unless (nat_lt 0 (length chosen)) (why.NoChoice d p)
+  ∷ []) answered.Done
+
 -- Freeze's walk over the shipped packages: the first that fails
 
 -- the first term without adoption
@@ -175,23 +197,39 @@ abbrev pub gone : ReleaseState → Option Refusal
 gone release.Withdrawn = Some (why.ReleaseState release.Withdrawn)
 gone _ = None
 
--- a duty that isn't open
-abbrev pub settled : DutyState → Option Refusal
-settled stands.IsOpen = None
-settled state = Some (why.DutyState state)
+-- a duty that doesn't stand where it could be so moved from
+abbrev pub settled : Word → DutyState → Option Refusal
+settled word state = unless (goes_from word state) (why.DutyState state)
 
--- a move of a duty, after its day and text: the duty, its release's state, its own state, its changes
-abbrev pub meet_duty : ReleaseState → ℕ → DutyState → Answer
-meet_duty state steps place =
-    refused_or (gone state) (refused_or (settled place)
-    (if nat_le 999 steps then answered.Refused (why.Full limit.Changes) else answered.Done))
+-- a waiver with this last day ends before the day
+abbrev pub is_over : List ℕ → Option (List ℕ) → Bool
+is_over day until = option_map_or (λ last. is_before last day) until false
 
--- Meet: the day, the text, the duty, its release's state, its own state, its changes
-abbrev pub meet_answer : List ℕ → List ℕ → ReleaseState → ℕ → Option DutyState → Answer
-meet_answer day text state steps place =
-    if not (is_day day) then answered.Refused why.BadDay
-    else (if not (is_note text) then answered.Refused why.BadText
-    else option_map_or (meet_duty state steps) place (answered.Refused why.UnknownDuty))
+-- Meet, Waive and Reopen: the day, and the last day of a waiver that ends; the text; an end before the day; the duty; its release's
+-- state; its own; its changes
+abbrev pub move_answer : Word → List ℕ → List ℕ → Option (List ℕ) → ReleaseState → ℕ → Option DutyState → Answer
+move_answer word day text until state steps place = refused_first (
+    unless (is_day day && option_map_or is_day until true) why.BadDay
+  ∷ unless (is_note text) why.BadText
+  ∷ unless (not (is_over day until)) why.BadEnd
+  ∷ unless (is_some place) why.UnknownDuty
+  ∷ gone state
+  ∷ option_and_then (settled word) place
+  ∷ unless (nat_lt steps 999) (why.Full limit.Changes)
+  ∷ []) answered.Done
+
+-- Withdraw: the day, the text, the release, its state
+abbrev pub withdraw_answer : List ℕ → List ℕ → Option ReleaseState → Answer
+withdraw_answer day text state = refused_first (
+    unless (is_day day) why.BadDay
+  ∷ unless (is_note text) why.BadText
+  ∷ unless (is_some state) why.UnknownRelease
+  ∷ option_and_then gone state
+  ∷ []) answered.Done
+
+-- CloseDay: the day; so many waivers end
+abbrev pub close_answer : List ℕ → ℕ → Answer
+close_answer day count = refused_first (unless (is_day day) why.BadDay ∷ []) (answered.Closed count)
 
 -- Over a history
 
@@ -202,16 +240,18 @@ release_state h r = option_map (λ form. state_of h r) (form_of h r)
 abbrev pub profile_in : List DocumentRow → PackageRow → Profile
 profile_in rows p = profile_of (find (is_document p.document) rows)
 
--- a duty by its number
-abbrev pub duty_at : Readings → List Command → ℕ → Option (ℕ × Owed)
-duty_at w h q = find (λ d. d.0 == q) (numbered w h)
-
 abbrev pub state_or_open : Option ReleaseState → ReleaseState
 state_or_open state = unwrap_or state release.IsOpen
 
 -- the state of a duty's release
 abbrev pub release_state_of : List Command → Option (ℕ × Owed) → ReleaseState
 release_state_of h duty = option_map_or (λ d. unwrap_or (release_state h d.1.release) release.IsOpen) duty release.IsOpen
+
+-- of a duty with this number
+abbrev pub moved_answer : Readings → List Command → Word → ℕ → List ℕ → List ℕ → Option (List ℕ) → Answer
+moved_answer w h word q day text until =
+    let duty = duty_at w h q in
+    move_answer word day text until (release_state_of h duty) (length (moves w h q)) (option_map (λ d. place w h d.0) duty)
 
 abbrev pub answer : Readings → List Command → Command → Answer
 answer w h (LoadCatalogue text) = load_answer (w.catalogue text) (length (revisions h))
@@ -224,16 +264,30 @@ answer w h (Freeze r day) =
     freeze_answer day (release_state h r) (length (attached_to (attached h) r))
     (walk w (rules_in (in_force w h)) form (profile_in (documents w h)) (chosen_in w h r) (shipped w h r))
     (length (raised w h)) (length (owed_at w h r))
-answer w h (Meet q day text) = meet_answer day text (release_state_of h (duty_at w h q)) (length (moves w h q)) (option_map (λ d. place w h d.0) (duty_at w h q))
+answer w h (Unchoose r d p) =
+    unchoose_answer d p (release_state h r) (is_some (find (is_document d) (documents w h))) (is_some (find (is_package d p) (packages w h))) (choice w h r d p)
+answer w h (Meet q day text) = moved_answer w h word.Met q day text None
+answer w h (Waive q day text until) = moved_answer w h word.Waived q day text until
+answer w h (Reopen q day text) = moved_answer w h word.Reopened q day text None
+answer w h (Withdraw r day text) = withdraw_answer day text (release_state h r)
+answer w h (CloseDay day) = close_answer day (length (filter (λ d. has_ended day (place w h d.0) (end_after (moves w h d.0))) (numbered w h)))
 
--- a refusal that is decided from the command alone: its texts are no catalogue, document, term, name, day or note
+-- by its days and its text
+abbrev pub refused_by : List ℕ → List ℕ → Option (List ℕ) → Bool
+refused_by day text until = not (is_day day && option_map_or is_day until true && is_note text && not (is_over day until))
+
+-- a refusal that is decided from the command alone: its texts are no catalogue, document, term, name, day or note, or its waiver would end before its day
 abbrev pub refused_alone : Readings → Command → Bool
 refused_alone w (LoadCatalogue text) = is_none (result_ok (w.catalogue text))
 refused_alone w (Import bytes profile) = is_none (result_ok (w.document bytes))
 refused_alone w (OpenRelease r form) = not (is_release_name r)
 refused_alone w (Choose r d p texts) = is_some (first_bad w 0 texts)
 refused_alone w (Freeze r day) = not (is_day day)
-refused_alone w (Meet q day text) = not (is_day day && is_note text)
+refused_alone w (Meet q day text) = refused_by day text None
+refused_alone w (Waive q day text until) = refused_by day text until
+refused_alone w (Reopen q day text) = refused_by day text None
+refused_alone w (Withdraw r day text) = refused_by day text None
+refused_alone w (CloseDay day) = not (is_day day)
 refused_alone w _ = false
 
 -- a command is recorded where it is neither refused nor answered Again

@@ -22,9 +22,9 @@ use Rattle.desk_rows.specs.declared.row.PackageRow.{PackageRow}
 use Rattle.desk_rows.specs.declared.row.ExtractedRow.{ExtractedRow}
 use Rattle.desk_rows.specs.declared.row.AttachedRow.{AttachedRow}
 use Rattle.desk_rows.specs.declared.state.ReleaseState.{ReleaseState}
-use Rattle.desk_rows.specs.declared.state.ReleaseState.TheVariants.{IsOpen, Frozen}
+use Rattle.desk_rows.specs.declared.state.ReleaseState.TheVariants.{IsOpen, Frozen, Withdrawn}
 use Rattle.desk_rows.specs.declared.command.Command.{Command}
-use Rattle.desk_rows.specs.declared.command.Command.TheVariants.{LoadCatalogue, Import, OpenRelease, Attach, Choose, Freeze}
+use Rattle.desk_rows.specs.declared.command.Command.TheVariants.{LoadCatalogue, Import, OpenRelease, Attach, Choose, Unchoose, Freeze, Withdraw}
 
 -- Catalogues
 
@@ -143,6 +143,7 @@ form_of h r = latest (form_given r) h
 
 abbrev pub state_given : List ℕ → Command → Option ReleaseState
 state_given r (Freeze r' day) = if bytes_eq r' r then Some Frozen else None
+state_given r (Withdraw r' day text) = if bytes_eq r' r then Some Withdrawn else None
 state_given r _ = None
 
 -- the state of an opened release, by the last command that gives it one
@@ -180,8 +181,11 @@ is_package_of r d p r' d' p' = bytes_eq r' r && (d' == d) && bytes_eq p' p
 
 abbrev pub terms_given : Readings → List ℕ → ℕ → List ℕ → Command → Option (List (List ℕ))
 terms_given w r d p (Choose r' d' p' texts) = if is_package_of r d p r' d' p' then Some (term_set w texts) else None
+terms_given w r d p (Unchoose r' d' p') = if is_package_of r d p r' d' p' then Some [] else None
+terms_given w r d p (Withdraw r' day text) = if bytes_eq r' r then Some [] else None
 terms_given w r d p _ = None
 
--- what is chosen for a package in a release, by the last choice: none where nothing is, since no expression is true under no terms
+-- What is chosen for a package in a release: the terms of the last Choose with no Unchoose and no withdrawal of the release after it,
+-- else none. No recorded choice is of no terms, since no expression is true under none.
 abbrev pub choice : Readings → List Command → List ℕ → ℕ → List ℕ → List (List ℕ)
 choice w h r d p = unwrap_or (latest (terms_given w r d p) h) []

@@ -69,6 +69,9 @@ is_attachment release document row = bytes_eq row.release release && (row.docume
 abbrev pub is_choice_of : List ℕ → ℕ → List ℕ → ChoiceRow → Bool
 is_choice_of release document id row = bytes_eq row.release release && (row.document == document) && bytes_eq row.package_id id
 
+abbrev pub is_choice_in : List ℕ → ChoiceRow → Bool
+is_choice_in release row = bytes_eq row.release release
+
 abbrev pub is_duty : ℕ → DutyRow → Bool
 is_duty number row = row.number == number
 

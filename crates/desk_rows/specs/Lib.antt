@@ -13,3 +13,4 @@ pub mod Numbers
 pub mod Faults
 pub mod Names
 pub mod FaultNumbers
+pub mod States

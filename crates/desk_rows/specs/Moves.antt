@@ -1,50 +1,93 @@
 -- The moves of a duty, where it stands, and its changes.
-use Rattle.std.specs.Prelude.{ℕ, ◌+◌, ◌==◌, ◌&&◌, nat_lt, nat_le, Bool, false, List, [], ◌∷◌, ◌++◌, length, map, None, if◌then◌else◌}
+use Rattle.std.specs.Prelude.{ℕ, ◌+◌, ◌==◌, ◌&&◌, not, nat_lt, nat_le, Bool, false, List, [], ◌∷◌, ◌++◌, length, map, find, Option, Some, None, if◌then◌else◌}
 use Rattle.std.specs.List.{flat_map}
+use Rattle.std.specs.Option.{option_map_or}
+use Rattle.std.specs.Str.{bytes_eq}
 use Rattle.desk_rows.specs.Readings.{Readings}
+use Rattle.desk_rows.specs.Texts.{is_before}
+use Rattle.desk_rows.specs.States.{is_met, is_waived, state_after}
 use Rattle.desk_rows.specs.declared.row.Owed.{Owed}
 use Rattle.desk_rows.specs.Raised.{raised, owed_at, numbered}
 use Rattle.desk_rows.specs.declared.row.DutyRow.{DutyRow}
 use Rattle.desk_rows.specs.declared.row.ChangeRow.{ChangeRow}
 use Rattle.desk_rows.specs.declared.state.DutyState.{DutyState}
 use Rattle.desk_rows.specs.declared.state.DutyState.TheVariants as stands
+use Rattle.desk_rows.specs.declared.state.Word.{Word}
 use Rattle.desk_rows.specs.declared.state.Word.TheVariants as word
 use Rattle.desk_rows.specs.declared.command.Command.{Command}
-use Rattle.desk_rows.specs.declared.command.Command.TheVariants.{Freeze, Meet}
+use Rattle.desk_rows.specs.declared.command.Command.TheVariants.{Freeze, Meet, Waive, Reopen, Withdraw, CloseDay}
 
--- where a duty stands after a move
-abbrev pub place_by : Command → DutyState
-place_by (Meet q day text) = stands.Met
-place_by _ = stands.IsOpen
+-- a move of a duty: its day, word and text, and the last day of a waiver that ends
+pub record Move : Type 0 where
+  pub day : List ℕ
+  pub word : Word
+  pub body : List ℕ
+  pub last_day : Option (List ℕ)
 
--- where a duty stands, by the last of its moves
-abbrev pub place_after : List Command → DutyState
+-- where a duty stands after its moves, the last one first
+abbrev pub place_after : List Move → DutyState
 place_after [] = stands.IsOpen
-place_after (c ∷ cs) = place_by c
+place_after (m ∷ ms) = state_after m.word
 
--- a command moves a numbered duty that these before it have moved: the freeze that raises it, a Meet that names it
-abbrev pub is_move : Readings → ℕ → Command → List Command → List Command → Bool
-is_move w q (Freeze r day) before ms = nat_lt (length (raised w before)) q && nat_le q (length (raised w before) + length (owed_at w before r))
-is_move w q (Meet q' day text) before ms = (q' == q) && nat_le q (length (raised w before))
-is_move w q _ before ms = false
+-- the last day of the last move, if that is a waiver that ends
+abbrev pub end_after : List Move → Option (List ℕ)
+end_after [] = None
+end_after (m ∷ ms) = m.last_day
+
+-- a duty is waived, and the waiver's last day is before this one
+abbrev pub has_ended : List ℕ → DutyState → Option (List ℕ) → Bool
+has_ended day state end = is_waived state && option_map_or (λ last. is_before last day) end false
+
+-- a duty by its number
+abbrev pub duty_at : Readings → List Command → ℕ → Option (ℕ × Owed)
+duty_at w h q = find (λ d. d.0 == q) (numbered w h)
+
+-- a duty with this number was raised for a release
+abbrev pub is_raised_for : Readings → List Command → ℕ → List ℕ → Bool
+is_raised_for w h q r = option_map_or (λ d. bytes_eq d.1.release r) (duty_at w h q) false
+
+-- a freeze of the release after these commands raises the duty with this number
+abbrev pub raises : Readings → List Command → List ℕ → ℕ → Bool
+raises w h r q = nat_lt (length (raised w h)) q && nat_le q (length (raised w h) + length (owed_at w h r))
+
+-- it has been raised
+abbrev pub is_known : Readings → List Command → ℕ → Bool
+is_known w h q = nat_le q (length (raised w h))
+
+abbrev pub move_if : Bool → Move → Option Move
+move_if b m = if b then Some m else None
+
+-- How a command moves duty q, which these before it have moved so: a freeze raises it; Meet, Waive and Reopen name it; a withdrawal of
+-- its release moves it unless it is met, and a CloseDay where its waiver ended before that day.
+abbrev pub move_by : Readings → ℕ → Command → List Command → List Move → Option Move
+move_by w q (Freeze r day) before ms = move_if (raises w before r q) (record { day = day; word = word.Raised; body = []; last_day = None })
+move_by w q (Meet q' day text) before ms = move_if ((q' == q) && is_known w before q) (record { day = day; word = word.Met; body = text; last_day = None })
+move_by w q (Waive q' day text until) before ms = move_if ((q' == q) && is_known w before q) (record { day = day; word = word.Waived; body = text; last_day = until })
+move_by w q (Reopen q' day text) before ms = move_if ((q' == q) && is_known w before q) (record { day = day; word = word.Reopened; body = text; last_day = None })
+move_by w q (Withdraw r day text) before ms =
+    move_if (is_raised_for w before q r && not (is_met (place_after ms))) (record { day = day; word = word.Withdrawn; body = text; last_day = None })
+move_by w q (CloseDay day) before ms = move_if (has_ended day (place_after ms) (end_after ms)) (record { day = day; word = word.Ended; body = []; last_day = None })
+move_by w q _ before ms = None
+
+abbrev pub with_move : Option Move → List Move → List Move
+with_move None ms = ms
+with_move (Some m) ms = m ∷ ms
 
 -- the moves of a duty, the last one first
-abbrev pub moves : Readings → List Command → ℕ → List Command
+abbrev pub moves : Readings → List Command → ℕ → List Move
 moves w [] q = []
-moves w (c ∷ h) q = if is_move w q c h (moves w h q) then c ∷ moves w h q else moves w h q
+moves w (c ∷ h) q = with_move (move_by w q c h (moves w h q)) (moves w h q)
 
 abbrev pub place : Readings → List Command → ℕ → DutyState
 place w h q = place_after (moves w h q)
 
 -- the row of a move
-abbrev pub change_row : ℕ → ℕ → Command → ChangeRow
-change_row q step (Freeze r day) = record { duty = q; step = step; day = day; word = word.Raised; body = []; last_day = None }
-change_row q step (Meet q' day text) = record { duty = q; step = step; day = day; word = word.Met; body = text; last_day = None }
-change_row q step _ = record { duty = q; step = step; day = []; word = word.Raised; body = []; last_day = None }
+abbrev pub change_row : ℕ → ℕ → Move → ChangeRow
+change_row q step m = record { duty = q; step = step; day = m.day; word = m.word; body = m.body; last_day = m.last_day }
 
-abbrev pub change_rows : ℕ → List Command → List ChangeRow
+abbrev pub change_rows : ℕ → List Move → List ChangeRow
 change_rows q [] = []
-change_rows q (c ∷ cs) = change_rows q cs ++ change_row q (length cs + 1) c ∷ []
+change_rows q (m ∷ ms) = change_rows q ms ++ change_row q (length ms + 1) m ∷ []
 
 -- the changes of a duty, in steps from 1
 abbrev pub changes : Readings → List Command → ℕ → List ChangeRow

@@ -1,14 +1,13 @@
 -- The answer to each query.
-use Rattle.std.specs.Prelude.{ℕ, Bool, true, false, List, [], ◌∷◌, length, filter, map, count_by, Option, Some, None, is_some, if◌then◌else◌}
+use Rattle.std.specs.Prelude.{ℕ, List, [], ◌∷◌, length, filter, map, count_by, Option, Some, None, is_some, if◌then◌else◌}
 use Rattle.desk_rows.specs.Readings.{Readings}
 use Rattle.desk_rows.specs.Keys.{is_duty_of}
 use Rattle.desk_rows.specs.History.{form_of}
 use Rattle.desk_rows.specs.Moves.{changes, duties}
+use Rattle.desk_rows.specs.States.{is_open, is_met, is_waived, is_withdrawn}
 use Rattle.desk_rows.specs.declared.refusal.Refusal.TheVariants as why
 use Rattle.desk_rows.specs.declared.row.DutyRow.{DutyRow}
 use Rattle.desk_rows.specs.declared.row.ChangeRow.{ChangeRow}
-use Rattle.desk_rows.specs.declared.state.DutyState.{DutyState}
-use Rattle.desk_rows.specs.declared.state.DutyState.TheVariants as stands
 use Rattle.desk_rows.specs.declared.command.DutyLine.{DutyLine}
 use Rattle.desk_rows.specs.declared.command.Totals.{Totals}
 use Rattle.desk_rows.specs.declared.command.Answer.{Answer}
@@ -16,22 +15,6 @@ use Rattle.desk_rows.specs.declared.command.Answer.TheVariants as answered
 use Rattle.desk_rows.specs.declared.command.Query.{Query}
 use Rattle.desk_rows.specs.declared.command.Query.TheVariants as query
 use Rattle.desk_rows.specs.declared.command.Command.{Command}
-
-abbrev pub is_open : DutyState → Bool
-is_open stands.IsOpen = true
-is_open _ = false
-
-abbrev pub is_met : DutyState → Bool
-is_met stands.Met = true
-is_met _ = false
-
-abbrev pub is_waived : DutyState → Bool
-is_waived stands.Waived = true
-is_waived _ = false
-
-abbrev pub is_withdrawn : DutyState → Bool
-is_withdrawn stands.Withdrawn = true
-is_withdrawn _ = false
 
 -- how many duties there are, and how many of them stand where
 abbrev pub totals_of : List DutyRow → Totals

@@ -2,10 +2,11 @@
 use Rattle.std.specs.Prelude.{ℕ, Bool, not, List, [], ◌∷◌, ◌++◌, filter, map}
 use Rattle.desk_rows.specs.Lists.{put, put_all, updated, in_order}
 use Rattle.desk_rows.specs.Readings.{Readings}
-use Rattle.desk_rows.specs.Keys.{release_below, choice_order, frozen_order, change_below, below_by, attached_order, is_release, is_duty, is_choice_of}
+use Rattle.desk_rows.specs.Keys.{release_below, choice_order, frozen_order, change_below, below_by, attached_order, is_release, is_duty, is_choice_of, is_choice_in}
 use Rattle.desk_rows.specs.History.{revisions, in_force, forms_in, rule_rows, documents, packages, references, opened, names, place_in, form_of, state_of, revision_of, attached, term_set}
 use Rattle.desk_rows.specs.Raised.{frozen}
 use Rattle.desk_rows.specs.Moves.{duties, all_changes}
+use Rattle.desk_rows.specs.States.{state_after}
 use Rattle.std.specs.Prelude.{unwrap_or}
 use Rattle.desk_rows.specs.declared.row.CatalogueRow.{CatalogueRow}
 use Rattle.desk_rows.specs.declared.row.RuleRow.{RuleRow}
@@ -21,12 +22,12 @@ use Rattle.desk_rows.specs.declared.row.FrozenRow.{FrozenRow}
 use Rattle.desk_rows.specs.declared.row.DutyRow.{DutyRow}
 use Rattle.desk_rows.specs.declared.row.ChangeRow.{ChangeRow}
 use Rattle.desk_rows.specs.declared.state.ReleaseState.{ReleaseState}
-use Rattle.desk_rows.specs.declared.state.ReleaseState.TheVariants.{Frozen}
+use Rattle.desk_rows.specs.declared.state.ReleaseState.TheVariants.{Frozen, Withdrawn}
 use Rattle.desk_rows.specs.declared.state.DutyState.{DutyState}
 use Rattle.desk_rows.specs.declared.command.Change.{Change}
 use Rattle.desk_rows.specs.declared.command.Change.TheVariants as change
 use Rattle.desk_rows.specs.declared.command.Command.{Command}
-use Rattle.desk_rows.specs.declared.command.Command.TheVariants.{Choose}
+use Rattle.desk_rows.specs.declared.command.Command.TheVariants.{Choose, Unchoose, Withdraw}
 
 -- all rows, each list sorted by its key; and the forms of the catalogue in force, which stand in its body alone
 pub record Tables : Type 0 where
@@ -63,10 +64,15 @@ choice_row r d p term = record { release = r; document = d; package_id = p; term
 abbrev pub is_other_choice : List ℕ → ℕ → List ℕ → ChoiceRow → Bool
 is_other_choice r d p row = not (is_choice_of r d p row)
 
--- the choices that stand: a later choice for the same package takes the place of an earlier one
+abbrev pub is_choice_elsewhere : List ℕ → ChoiceRow → Bool
+is_choice_elsewhere r row = not (is_choice_in r row)
+
+-- the choices that stand: a later choice for the same package takes the place of an earlier one, and a withdrawn release holds none
 abbrev pub standing : Readings → List Command → List ChoiceRow
 standing w [] = []
 standing w (Choose r d p texts ∷ h) = map (choice_row r d p) (term_set w texts) ++ filter (is_other_choice r d p) (standing w h)
+standing w (Unchoose r d p ∷ h) = filter (is_other_choice r d p) (standing w h)
+standing w (Withdraw r day text ∷ h) = filter (is_choice_elsewhere r) (standing w h)
 standing w (_ ∷ h) = standing w h
 
 abbrev pub tables : Readings → List Command → Tables
@@ -90,8 +96,16 @@ tables w h = record {
 abbrev pub with_release_state : ReleaseState → ℕ → ReleaseRow → ReleaseRow
 with_release_state state revision row = record row { state = state; revision = revision }
 
+abbrev pub withdrawn_release : ReleaseRow → ReleaseRow
+withdrawn_release row = record row { state = Withdrawn }
+
 abbrev pub with_duty_state : DutyState → DutyRow → DutyRow
 with_duty_state state row = record row { state = state }
+
+-- the duties, each that has a change standing where that leaves it
+abbrev pub moved_by : List ChangeRow → List DutyRow → List DutyRow
+moved_by [] rows = rows
+moved_by (change ∷ changes) rows = updated (is_duty change.duty) (with_duty_state (state_after change.word)) (moved_by changes rows)
 
 -- the tables after a change
 abbrev pub applied : Change → Tables → Tables
@@ -110,7 +124,13 @@ applied (change.Froze r revision rows new moved) t = record t {
   duty = t.duty ++ new;
   changes = t.changes ++ moved;
 }
-applied (change.Moved q state row) t = record t {
-  duty = updated (is_duty q) (with_duty_state state) t.duty;
-  changes = put change_below row t.changes;
+applied (change.Moved moved) t = record t {
+  duty = moved_by moved t.duty;
+  changes = put_all change_below moved t.changes;
+}
+applied (change.Withdrew r moved) t = record t {
+  releases = updated (is_release r) withdrawn_release t.releases;
+  choice = filter (is_choice_elsewhere r) t.choice;
+  duty = moved_by moved t.duty;
+  changes = put_all change_below moved t.changes;
 }

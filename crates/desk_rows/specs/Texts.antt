@@ -10,6 +10,10 @@ use Rattle.desk_base.specs.Idstring.{is_idstring_byte}
 abbrev pub text_below : List ℕ → List ℕ → Bool
 text_below a b = is_lt (slice_cmp nat_cmp a b)
 
+-- one day before another: days are written by year, month and day with all their digits (ISO 8601-1), so they sort as dates do
+abbrev pub is_before : List ℕ → List ℕ → Bool
+is_before a b = text_below a b
+
 -- a text in its place among others that are sorted, where it isn't there
 abbrev pub put_new : List ℕ → List (List ℕ) → List (List ℕ)
 put_new x [] = x ∷ []

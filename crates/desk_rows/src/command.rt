@@ -39,10 +39,36 @@ pub enum Command {
         release: Text,
         day: Text,
     },
+    Unchoose {
+        release: Text,
+        document: u64,
+        package_id: Text,
+    },
     Meet {
         duty: u64,
         day: Text,
         text: Text,
+    },
+    Waive {
+        duty: u64,
+        day: Text,
+        text: Text,
+        /// The last day of a waiver that ends.
+        until: Option<Text>,
+    },
+    Reopen {
+        duty: u64,
+        day: Text,
+        text: Text,
+    },
+    Withdraw {
+        release: Text,
+        day: Text,
+        text: Text,
+    },
+    /// The waivers that ended before a day end on it.
+    CloseDay {
+        day: Text,
     },
 }
 
@@ -91,6 +117,8 @@ pub enum Answer {
     Done,
     /// The release was frozen, and its duties, so many, are numbered from the first on.
     Frozen { first: u32, count: u32 },
+    /// So many waivers ended.
+    Closed(u64),
     Duties(Items<DutyLine>),
     Totals(Totals),
     Refused(Refusal),
@@ -124,10 +152,14 @@ pub enum Change {
         duties: Items<DutyRow>,
         changes: Items<ChangeRow>,
     },
+    /// Each of these duties is moved by its change, in the order of their numbers.
     Moved {
-        duty: u32,
-        state: DutyState,
-        change: ChangeRow,
+        changes: Items<ChangeRow>,
+    },
+    /// The release is withdrawn, and these duties are moved.
+    Withdrew {
+        release: Text,
+        changes: Items<ChangeRow>,
     },
 }
 

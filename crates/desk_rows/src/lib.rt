@@ -18,5 +18,6 @@ pub use refusal::{CatalogueFault, CataloguePart, DocumentFault, ExpressionFault,
 pub use row::{
     AdoptionRow, AttachedRow, CatalogueRow, ChangeRow, ChoiceRow, ConclusionRow, DocumentRow,
     DutyRow, ExtractedRow, FrozenRow, Owed, PackageRow, ReleaseRow, RuleRow,
+    Standing,
 };
 pub use state::{DutyState, ReleaseState, Word};

@@ -140,3 +140,12 @@ pub struct ChangeRow {
     /// The last day of a waiver that ends.
     pub last_day: Option<Day>,
 }
+
+/// Where a duty stands: its state, how many changes it has, and the last day of the last one, if that is a waiver that ends.
+#[derive(Debug, Drop)]
+pub struct Standing {
+    pub number: u32,
+    pub state: DutyState,
+    pub steps: u64,
+    pub last_day: Option<Day>,
+}
