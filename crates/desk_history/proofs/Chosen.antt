@@ -15,17 +15,17 @@ use Rattle.std.proofs.Math.Path.{fun_ext}
 use Rattle.desk_rows.specs.Lists.{latest, or_else, in_order}
 use Rattle.desk_rows.specs.Texts.{text_below, put_new, sorted_set}
 use Rattle.desk_rows.specs.Readings.{Readings}
-use Rattle.desk_rows.specs.Keys.{is_choice_of, below_by, choice_order}
+use Rattle.desk_rows.specs.Keys.{is_choice_of, is_choice_in, below_by, choice_order}
 use Rattle.desk_rows.specs.History.{term_set, terms_given, choice, is_package_of}
 use Rattle.desk_rows.specs.Raised.{chosen_in}
-use Rattle.desk_rows.specs.Tables.{tables, standing, choice_row, is_other_choice}
-use Rattle.desk_history.specs.FromTables.{choice_found}
+use Rattle.desk_rows.specs.Tables.{tables, standing, choice_row, is_other_choice, is_choice_elsewhere}
+use Rattle.desk_history.specs.FromTables.{choice_found, terms_found}
 use Rattle.desk_history.proofs.Rows.{texts_equal, same_text}
 use Rattle.desk_history.proofs.Orders.{IsOrder, order_of, filter-in_order, choice_is_order, under, put_first, both, and_left, and_right}
 use Rattle.desk_rows.specs.declared.row.PackageRow.{PackageRow}
 use Rattle.desk_rows.specs.declared.row.ChoiceRow.{ChoiceRow}
 use Rattle.desk_rows.specs.declared.command.Command.{Command}
-use Rattle.desk_rows.specs.declared.command.Command.TheVariants.{Choose}
+use Rattle.desk_rows.specs.declared.command.Command.TheVariants.{Choose, Unchoose, Withdraw}
 
 -- Sorted sets of texts
 
@@ -75,6 +75,10 @@ pub rises-sorted_set : (xs : List (List ℕ)) → rises (sorted_set xs) ≡ true
 rises-sorted_set [] = refl
 rises-sorted_set (x ∷ xs) = rises-put_new x (sorted_set xs) (rises-sorted_set xs)
 
+rises_none : (b : Bool) (o : Option (List (List ℕ))) → rises (unwrap_or o []) ≡ true → rises (unwrap_or (or_else (if b then Some [] else None) o) []) ≡ true
+rises_none true o up = refl
+rises_none false o up = up
+
 rises_or : (w : Readings) (texts : List (List ℕ)) (b : Bool) (o : Option (List (List ℕ))) → rises (unwrap_or o []) ≡ true → rises (unwrap_or (or_else (if b then Some (term_set w texts) else None) o) []) ≡ true
 rises_or w texts true o up = rises-sorted_set (filter_map w.term texts)
 rises_or w texts false o up = up
@@ -82,6 +86,8 @@ rises_or w texts false o up = up
 pub rises-choice : (w : Readings) (h : List Command) (r : List ℕ) (d : ℕ) (p : List ℕ) → rises (choice w h r d p) ≡ true
 rises-choice w [] r d p = refl
 rises-choice w (Choose r' d' p' texts ∷ h) r d p = rises_or w texts (is_package_of r d p r' d' p') (latest (terms_given w r d p) h) (rises-choice w h r d p)
+rises-choice w (Unchoose r' d' p' ∷ h) r d p = rises_none (is_package_of r d p r' d' p') (latest (terms_given w r d p) h) (rises-choice w h r d p)
+rises-choice w (Withdraw r' day text ∷ h) r d p = rises_none (bytes_eq r' r) (latest (terms_given w r d p) h) (rises-choice w h r d p)
 rises-choice w (_ ∷ h) r d p = rises-choice w h r d p
 
 -- The rows of a package's choice
@@ -164,36 +170,66 @@ own_rows r p r' p' d d' true e (t ∷ ts) = rw e (ap (λ xs. choice_row r' d' p'
 own_rows r p r' p' d d' false e (t ∷ ts) = rw e (own_rows r p r' p' d d' false e ts)
 
 -- one more choice
-standing_step : (w : Readings) (h : List Command) (r p r' p' : List ℕ) (d d' : ℕ) (texts : List (List ℕ)) (b : Bool) → is_package_of r d p r' d' p' ≡ b → filter (is_choice_of r d p) (standing w h) ≡ map (choice_row r d p) (choice w h r d p) → filter (is_choice_of r d p) (standing w (Choose r' d' p' texts ∷ h)) ≡ map (choice_row r d p) (unwrap_or (or_else (if b then Some (term_set w texts) else None) (latest (terms_given w r d p) h)) [])
-standing_step w h r p r' p' d d' texts true e rest =
+standing_step : (w : Readings) (h : List Command) (r p r' p' : List ℕ) (d d' : ℕ) (terms : List (List ℕ)) (b : Bool) → is_package_of r d p r' d' p' ≡ b → filter (is_choice_of r d p) (standing w h) ≡ map (choice_row r d p) (choice w h r d p) → filter (is_choice_of r d p) (map (choice_row r' d' p') terms ++ filter (is_other_choice r' d' p') (standing w h)) ≡ map (choice_row r d p) (unwrap_or (or_else (if b then Some terms else None) (latest (terms_given w r d p) h)) [])
+standing_step w h r p r' p' d d' terms true e rest =
     let same = same_package r p r' p' d d' e in
-    filter-append (is_choice_of r d p) (map (choice_row r' d' p') (term_set w texts)) (filter (is_other_choice r' d' p') (standing w h))
-    ∙ (ap (λ rows. rows ++ filter (is_choice_of r d p) (filter (is_other_choice r' d' p') (standing w h))) (own_rows r p r' p' d d' true e (term_set w texts))
-    ∙ (subst (λ x. map (choice_row r' d' p') (term_set w texts) ++ filter (is_choice_of x d p) (filter (is_other_choice r' d' p') (standing w h)) ≡ map (choice_row x d p) (term_set w texts)) same.release
-    (subst (λ x. map (choice_row r' d' p') (term_set w texts) ++ filter (is_choice_of r' x p) (filter (is_other_choice r' d' p') (standing w h)) ≡ map (choice_row r' x p) (term_set w texts)) same.document
-    (subst (λ x. map (choice_row r' d' p') (term_set w texts) ++ filter (is_choice_of r' d' x) (filter (is_other_choice r' d' p') (standing w h)) ≡ map (choice_row r' d' x) (term_set w texts)) same.package_id
-    (ap (λ rows. map (choice_row r' d' p') (term_set w texts) ++ rows) (filter_against (is_choice_of r' d' p') (standing w h)) ∙ append-nil (map (choice_row r' d' p') (term_set w texts)))))))
-standing_step w h r p r' p' d d' texts false e rest =
-    filter-append (is_choice_of r d p) (map (choice_row r' d' p') (term_set w texts)) (filter (is_other_choice r' d' p') (standing w h))
-    ∙ (ap (λ rows. rows ++ filter (is_choice_of r d p) (filter (is_other_choice r' d' p') (standing w h))) (own_rows r p r' p' d d' false e (term_set w texts))
+    filter-append (is_choice_of r d p) (map (choice_row r' d' p') terms) (filter (is_other_choice r' d' p') (standing w h))
+    ∙ (ap (λ rows. rows ++ filter (is_choice_of r d p) (filter (is_other_choice r' d' p') (standing w h))) (own_rows r p r' p' d d' true e terms)
+    ∙ (subst (λ x. map (choice_row r' d' p') terms ++ filter (is_choice_of x d p) (filter (is_other_choice r' d' p') (standing w h)) ≡ map (choice_row x d p) terms) same.release
+    (subst (λ x. map (choice_row r' d' p') terms ++ filter (is_choice_of r' x p) (filter (is_other_choice r' d' p') (standing w h)) ≡ map (choice_row r' x p) terms) same.document
+    (subst (λ x. map (choice_row r' d' p') terms ++ filter (is_choice_of r' d' x) (filter (is_other_choice r' d' p') (standing w h)) ≡ map (choice_row r' d' x) terms) same.package_id
+    (ap (λ rows. map (choice_row r' d' p') terms ++ rows) (filter_against (is_choice_of r' d' p') (standing w h)) ∙ append-nil (map (choice_row r' d' p') terms))))))
+standing_step w h r p r' p' d d' terms false e rest =
+    filter-append (is_choice_of r d p) (map (choice_row r' d' p') terms) (filter (is_other_choice r' d' p') (standing w h))
+    ∙ (ap (λ rows. rows ++ filter (is_choice_of r d p) (filter (is_other_choice r' d' p') (standing w h))) (own_rows r p r' p' d d' false e terms)
     ∙ (filter_apart (is_choice_of r d p) (is_choice_of r' d' p') (λ row f. ruled_out r p r' p' d d' row (is_choice_of r' d' p' row) e f refl) (standing w h)
     ∙ rest))
 
+-- a release that is withdrawn
+gone_step : {A : Type 0} (test other : A → Bool) (x : A) (xs : List A) (b c : Bool) → other x ≡ b → test x ≡ c → (test x ≡ true → other x ≡ true) → filter test (filter (λ x. not (other x)) xs) ≡ []
+    → filter test (cond (not b) (x ∷ filter (λ x. not (other x)) xs) (filter (λ x. not (other x)) xs)) ≡ []
+gone_step test other x xs true c e f all rest = rest
+gone_step test other x xs false true e f all rest = let yes : other x ≡ true = all f in cc
+gone_step test other x xs false false e f all rest = rw f rest
+
+gone_with : {A : Type 0} (test other : A → Bool) → ((x : A) → test x ≡ true → other x ≡ true) → (xs : List A) → filter test (filter (λ x. not (other x)) xs) ≡ []
+gone_with test other all [] = refl
+gone_with test other all (x ∷ xs) = gone_step test other x xs (other x) (test x) refl refl (all x) (gone_with test other all xs)
+
+of_release : (r p : List ℕ) (d : ℕ) (row : ChoiceRow) → is_choice_of r d p row ≡ true → is_choice_in r row ≡ true
+of_release r p d row e = and_left (bytes_eq row.release r) (row.document == d) (and_left (bytes_eq row.release r && (row.document == d)) (bytes_eq row.package_id p) e)
+
+elsewhere : (r r' p : List ℕ) (d : ℕ) (row : ChoiceRow) (b : Bool) → bytes_eq r' r ≡ false → is_choice_of r d p row ≡ true → is_choice_in r' row ≡ b → b ≡ false
+elsewhere r r' p d row false e f g = refl
+elsewhere r r' p d row true e f g =
+    let a : row.release ≡ r = texts_equal row.release r (of_release r p d row f) in
+    let b : row.release ≡ r' = texts_equal row.release r' g in
+    let again : bytes_eq r' r ≡ true = subst (λ x. bytes_eq x r ≡ true) (sym a ∙ b) (same_text r) in
+    cc
+
+standing_withdrawn : (w : Readings) (h : List Command) (r p r' : List ℕ) (d : ℕ) (b : Bool) → bytes_eq r' r ≡ b → filter (is_choice_of r d p) (standing w h) ≡ map (choice_row r d p) (choice w h r d p)
+    → filter (is_choice_of r d p) (filter (is_choice_elsewhere r') (standing w h)) ≡ map (choice_row r d p) (unwrap_or (or_else (if b then Some [] else None) (latest (terms_given w r d p) h)) [])
+standing_withdrawn w h r p r' d true e rest =
+    gone_with (is_choice_of r d p) (is_choice_in r') (λ row f. subst (λ x. is_choice_in x row ≡ true) (sym (texts_equal r' r e)) (of_release r p d row f)) (standing w h)
+standing_withdrawn w h r p r' d false e rest = filter_apart (is_choice_of r d p) (is_choice_in r') (λ row f. elsewhere r r' p d row (is_choice_in r' row) e f refl) (standing w h) ∙ rest
+
 pub standing-choice : (w : Readings) (h : List Command) (r : List ℕ) (d : ℕ) (p : List ℕ) → filter (is_choice_of r d p) (standing w h) ≡ map (choice_row r d p) (choice w h r d p)
 standing-choice w [] r d p = refl
-standing-choice w (Choose r' d' p' texts ∷ h) r d p = standing_step w h r p r' p' d d' texts (is_package_of r d p r' d' p') refl (standing-choice w h r d p)
+standing-choice w (Choose r' d' p' texts ∷ h) r d p = standing_step w h r p r' p' d d' (term_set w texts) (is_package_of r d p r' d' p') refl (standing-choice w h r d p)
+standing-choice w (Unchoose r' d' p' ∷ h) r d p = standing_step w h r p r' p' d d' [] (is_package_of r d p r' d' p') refl (standing-choice w h r d p)
+standing-choice w (Withdraw r' day text ∷ h) r d p = standing_withdrawn w h r p r' d (bytes_eq r' r) refl (standing-choice w h r d p)
 standing-choice w (_ ∷ h) r d p = standing-choice w h r d p
 
 terms_of : (r p : List ℕ) (d : ℕ) (terms : List (List ℕ)) → map (λ row. row.term) (map (choice_row r d p) terms) ≡ terms
 terms_of r p d [] = refl
 terms_of r p d (t ∷ ts) = ap (λ xs. t ∷ xs) (terms_of r p d ts)
 
-choice_at : (w : Readings) (h : List Command) (r : List ℕ) (row : PackageRow) → choice_found (tables w h) r row ≡ chosen_in w h r row
-choice_at w h r row =
-    ap (map (λ row. row.term)) (filter-in_order (below_by choice_order) choice_is_order (is_choice_of r row.document row.id) (standing w h)
-    ∙ (ap (in_order (below_by choice_order)) (standing-choice w h r row.document row.id)
-    ∙ in_order-rows r row.id row.document (choice w h r row.document row.id) (rises-choice w h r row.document row.id)))
-    ∙ terms_of r row.id row.document (choice w h r row.document row.id)
+pub terms-found : (w : Readings) (h : List Command) (r : List ℕ) (d : ℕ) (p : List ℕ) → terms_found (tables w h) r d p ≡ choice w h r d p
+terms-found w h r d p =
+    ap (map (λ row. row.term)) (filter-in_order (below_by choice_order) choice_is_order (is_choice_of r d p) (standing w h)
+    ∙ (ap (in_order (below_by choice_order)) (standing-choice w h r d p)
+    ∙ in_order-rows r p d (choice w h r d p) (rises-choice w h r d p)))
+    ∙ terms_of r p d (choice w h r d p)
 
 pub choice-found : (w : Readings) (h : List Command) (r : List ℕ) → choice_found (tables w h) r ≡ chosen_in w h r
-choice-found w h r = fun_ext (choice_at w h r)
+choice-found w h r = fun_ext (λ (row : PackageRow). terms-found w h r row.document row.id)

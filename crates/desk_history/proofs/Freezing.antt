@@ -1,8 +1,8 @@
 -- What a freeze leaves.
-use Rattle.std.proofs.Common.{◌≡◌, ℕ, ◌+◌, ◌<◌, ◌≤◌, true, false, List, [], ◌∷◌, ◌++◌, length, map, sym, refl, ap, ◌∙◌, arith, length-append, add-zero, suc, inl, inr}
-use Rattle.std.specs.Prelude.{◌&&◌, nat_lt, nat_le, ◌==◌, unwrap_or}
+use Rattle.std.proofs.Common.{Option, Some, None, ◌≡◌, ℕ, ◌+◌, ◌<◌, ◌≤◌, true, false, List, [], ◌∷◌, ◌++◌, length, map, sym, refl, ap, ◌∙◌, arith, length-append, add-zero, suc, inl, inr}
+use Rattle.std.specs.Prelude.{is_some, ◌&&◌, nat_lt, nat_le, ◌==◌, unwrap_or}
 use Rattle.std.specs.List.{flat_map, enumerate_from}
-use Rattle.std.specs.Option.{option_map}
+use Rattle.std.specs.Option.{option_map, option_map_or}
 use Rattle.std.specs.Str.{bytes_eq}
 use Rattle.std.proofs.lemmas.List.{length-map, map-append}
 use Rattle.std.proofs.lemmas.List.Concat.{flat_map-append, flat_map_single}
@@ -13,7 +13,9 @@ use Rattle.desk_rows.specs.Keys.{is_release, below_by, frozen_order}
 use Rattle.desk_rows.specs.History.{revisions, in_force, rules_in, documents, attached, attached_to, names, form_of, state_of}
 use Rattle.desk_rows.specs.declared.row.Owed.{Owed}
 use Rattle.desk_rows.specs.Raised.{raised, owed_at, owed_for, numbered, shipped, chosen_in, frozen, frozen_at, frozen_for}
-use Rattle.desk_rows.specs.Moves.{duties, duty_row, changes, moves, place, is_move, all_changes}
+use Rattle.desk_rows.specs.Moves.{Move, duties, duty_row, changes, moves, place, move_by, raises, duty_at, is_raised_for, all_changes}
+use Rattle.desk_rows.specs.declared.state.Word.TheVariants as word
+use Rattle.desk_history.proofs.Moving.{in_range, known_at}
 use Rattle.desk_rows.specs.Tables.{tables, release_row, with_release_state}
 use Rattle.desk_rows.specs.Answers.{answer, freeze_answer, walk, profile_in}
 use Rattle.desk_history.specs.FromTables.{answer_from, rules_found, form_found, choice_found, owed_found, frozen_found, new_duty, raised_row, new_duties}
@@ -24,7 +26,7 @@ use Rattle.desk_rows.specs.declared.row.DutyRow.{DutyRow}
 use Rattle.desk_rows.specs.declared.row.ChangeRow.{ChangeRow}
 use Rattle.desk_rows.specs.declared.state.ReleaseState.TheVariants.{Frozen}
 use Rattle.desk_rows.specs.declared.command.Command.{Command}
-use Rattle.desk_rows.specs.declared.command.Command.TheVariants.{LoadCatalogue, Import, OpenRelease, Attach, Choose, Freeze, Meet}
+use Rattle.desk_rows.specs.declared.command.Command.TheVariants.{Freeze, Meet, Waive, Reopen, Withdraw}
 
 -- What is looked up
 
@@ -64,27 +66,33 @@ freeze-answer w h r day =
 
 pub raised_fewer : (w : Readings) (c : Command) (h : List Command) → length (raised w h) ≤ length (raised w (c ∷ h))
 raised_fewer w (Freeze r day) h = omega (arith, length-append (raised w h) (owed_at w h r))
-raised_fewer w (LoadCatalogue text) h = omega arith
-raised_fewer w (Import bytes profile) h = omega arith
-raised_fewer w (OpenRelease r f) h = omega arith
-raised_fewer w (Attach r d) h = omega arith
-raised_fewer w (Choose r d p texts) h = omega arith
-raised_fewer w (Meet q day text) h = omega arith
+raised_fewer w c h = omega arith
 
 beyond : (a b q : ℕ) → a + b < q → (nat_lt a q && nat_le q (a + b)) ≡ false
 beyond a b q lt = grind (arith, nat_tests)
 
-beyond_meet : (q' q a : ℕ) → a < q → ((q' == q) && nat_le q a) ≡ false
-beyond_meet q' q a lt = grind (arith, nat_tests)
+not_known : (q' q l : ℕ) → l < q → ((q' == q) && nat_le q l) ≡ false
+not_known q' q l lt = grind (arith, nat_tests)
 
-unmoved_by : (w : Readings) (h : List Command) (c : Command) (q : ℕ) → length (raised w (c ∷ h)) < q → is_move w q c h (moves w h q) ≡ false
-unmoved_by w h (Freeze r day) q lt = beyond (length (raised w h)) (length (owed_at w h r)) q (omega (arith, length-append (raised w h) (owed_at w h r)))
-unmoved_by w h (Meet q' day text) q lt = beyond_meet q' q (length (raised w h)) lt
+out_of_range : (q l : ℕ) → l < q → in_range 1 q l ≡ false
+out_of_range q l lt = grind (arith, nat_tests)
+
+raised_for_none : (r : List ℕ) (o : Option (ℕ × Owed)) → is_some o ≡ false → option_map_or (λ d. bytes_eq d.1.release r) o false ≡ false
+raised_for_none r None e = refl
+raised_for_none r (Some d) e = cc
+
+unmoved_by : (w : Readings) (h : List Command) (c : Command) (q : ℕ) → length (raised w (c ∷ h)) < q → move_by w q c h [] ≡ None
+unmoved_by w h (Freeze r day) q lt = let e : raises w h r q ≡ false = beyond (length (raised w h)) (length (owed_at w h r)) q (omega (arith, length-append (raised w h) (owed_at w h r))) in rw e refl
+unmoved_by w h (Meet q' day text) q lt = rw (not_known q' q (length (raised w h)) lt) refl
+unmoved_by w h (Waive q' day text until) q lt = rw (not_known q' q (length (raised w h)) lt) refl
+unmoved_by w h (Reopen q' day text) q lt = rw (not_known q' q (length (raised w h)) lt) refl
+unmoved_by w h (Withdraw r day text) q lt =
+    let e : is_raised_for w h q r ≡ false = raised_for_none r (duty_at w h q) (known_at w h q ∙ out_of_range q (length (raised w h)) lt) in rw e refl
 unmoved_by w h _ q lt = refl
 
 pub unmoved : (w : Readings) (h : List Command) (q : ℕ) → length (raised w h) < q → moves w h q ≡ []
 unmoved w [] q lt = refl
-unmoved w (c ∷ h) q lt = rw (unmoved_by w h c q lt) (unmoved w h q (let le = raised_fewer w c h in omega arith))
+unmoved w (c ∷ h) q lt = rw (unmoved w h q (let le = raised_fewer w c h in omega arith), unmoved_by w h c q lt) refl
 
 -- numbers from a list's end on
 pub numbered-append : {A : Type 0} (n : ℕ) (xs ys : List A) → enumerate_from n (xs ++ ys) ≡ enumerate_from n xs ++ enumerate_from (n + length xs) ys
@@ -106,11 +114,14 @@ newer_than : (a b k : ℕ) → a < k → k ≤ a + b → (nat_lt a k && nat_le k
 newer_than a b k lt le = grind (arith, nat_tests)
 
 moves_older : (w : Readings) (h : List Command) (r day : List ℕ) (k : ℕ) → k ≤ length (raised w h) → moves w (Freeze r day ∷ h) k ≡ moves w h k
-moves_older w h r day k le = let e : is_move w k (Freeze r day) h (moves w h k) ≡ false = older_than (length (raised w h)) (length (owed_at w h r)) k le in rw e refl
+moves_older w h r day k le = let e : raises w h r k ≡ false = older_than (length (raised w h)) (length (owed_at w h r)) k le in rw e refl
 
-moves_newer : (w : Readings) (h : List Command) (r day : List ℕ) (k : ℕ) → length (raised w h) < k → k ≤ length (raised w h) + length (owed_at w h r) → moves w (Freeze r day ∷ h) k ≡ Freeze r day ∷ []
+abbrev raising : List ℕ → Move
+raising day = record { day = day; word = word.Raised; body = []; last_day = None }
+
+moves_newer : (w : Readings) (h : List Command) (r day : List ℕ) (k : ℕ) → length (raised w h) < k → k ≤ length (raised w h) + length (owed_at w h r) → moves w (Freeze r day ∷ h) k ≡ raising day ∷ []
 moves_newer w h r day k lt le =
-    let e : is_move w k (Freeze r day) h (moves w h k) ≡ true = newer_than (length (raised w h)) (length (owed_at w h r)) k lt le in
+    let e : raises w h r k ≡ true = newer_than (length (raised w h)) (length (owed_at w h r)) k lt le in
     rw (e, unmoved w h k lt) refl
 
 -- The rows

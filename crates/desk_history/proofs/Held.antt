@@ -6,6 +6,7 @@ use Rattle.std.specs.Option.{option_or}
 use Rattle.std.specs.Result.{result_ok}
 use Rattle.std.proofs.lemmas.List.Folds.{find-append}
 use Rattle.desk_rows.specs.Lists.{latest, or_else, IsIn}
+use Rattle.std.specs.Str.{bytes_eq}
 use Rattle.desk_rows.specs.Readings.{Readings}
 use Rattle.desk_rows.specs.Keys.{is_document, is_package}
 use Rattle.desk_rows.specs.History.{choice, documents, form_of, in_force, namespace_in, package_row, packages, packages_in, rules_in, is_package_of, term_set, terms_given}
@@ -20,7 +21,7 @@ use Rattle.desk_rows.specs.declared.row.DocumentRow.{DocumentRow}
 use Rattle.desk_rows.specs.declared.row.FrozenRow.{FrozenRow}
 use Rattle.desk_rows.specs.declared.row.PackageRow.{PackageRow}
 use Rattle.desk_rows.specs.declared.command.Command.{Command}
-use Rattle.desk_rows.specs.declared.command.Command.TheVariants.{LoadCatalogue, Import, OpenRelease, Attach, Choose, Freeze, Meet}
+use Rattle.desk_rows.specs.declared.command.Command.TheVariants.{Import, Choose, Unchoose, Freeze, Withdraw}
 
 -- what is found stays found when more comes behind it
 found_before : {A : Type 0} (test : A → Bool) (xs ys : List A) (x : A) → find test xs ≡ Some x → find test (xs ++ ys) ≡ Some x
@@ -29,22 +30,12 @@ found_before test xs ys x e = find-append test xs ys ∙ ap (λ o. option_or o (
 pub document_stays : (w : Readings) (c : Command) (h : List Command) (d : ℕ) (row : DocumentRow) → find (is_document d) (documents w h) ≡ Some row → find (is_document d) (documents w (c ∷ h)) ≡ Some row
 document_stays w (Import bytes profile) h d row e =
     found_before (is_document d) (documents w h) (record { number = length (documents w h) + 1; namespace = namespace_in (result_ok (w.document bytes)); bytes = bytes; profile = profile } ∷ []) row e
-document_stays w (LoadCatalogue text) h d row e = e
-document_stays w (OpenRelease r f) h d row e = e
-document_stays w (Attach r n) h d row e = e
-document_stays w (Choose r n p texts) h d row e = e
-document_stays w (Freeze r day) h d row e = e
-document_stays w (Meet q day text) h d row e = e
+document_stays w c h d row e = e
 
 pub package_stays : (w : Readings) (c : Command) (h : List Command) (d : ℕ) (p : List ℕ) (row : PackageRow) → find (is_package d p) (packages w h) ≡ Some row → find (is_package d p) (packages w (c ∷ h)) ≡ Some row
 package_stays w (Import bytes profile) h d p row e =
     found_before (is_package d p) (packages w h) (map (package_row (length (documents w h) + 1)) (packages_in (result_ok (w.document bytes)))) row e
-package_stays w (LoadCatalogue text) h d p row e = e
-package_stays w (OpenRelease r f) h d p row e = e
-package_stays w (Attach r n) h d p row e = e
-package_stays w (Choose r n q texts) h d p row e = e
-package_stays w (Freeze r day) h d p row e = e
-package_stays w (Meet q day text) h d p row e = e
+package_stays w c h d p row e = e
 
 held_later : (w : Readings) (c : Command) (h : List Command) (d : ℕ) (p : List ℕ) (terms : List (List ℕ)) → IsHeldMinimal w h d p terms → IsHeldMinimal w (c ∷ h) d p terms
 held_later w c h d p terms is = record {
@@ -83,25 +74,34 @@ held_step w h r p r' p' d d' texts terms true same recorded before e =
     inner x y e = cc
 held_step w h r p r' p' d d' texts terms false same recorded before e = held_later w (Choose r' d' p' texts) h d p terms (before e)
 
--- the last terms that were chosen
-pub held_is_minimal : (w : Readings) (h : List Command) (r : List ℕ) (d : ℕ) (p : List ℕ) (terms : List (List ℕ)) → IsHistory w h → latest (terms_given w r d p) h ≡ Some terms → IsHeldMinimal w h d p terms
-held_is_minimal w [] r d p terms ok e = cc
-held_is_minimal w (Choose r' d' p' texts ∷ h) r d p terms ok e =
-    held_step w h r p r' p' d d' texts terms (is_package_of r d p r' d' p') refl ok.0 (λ before. held_is_minimal w h r d p terms ok.1 before) e
-held_is_minimal w (LoadCatalogue text ∷ h) r d p terms ok e = held_later w (LoadCatalogue text) h d p terms (held_is_minimal w h r d p terms ok.1 e)
-held_is_minimal w (Import bytes profile ∷ h) r d p terms ok e = held_later w (Import bytes profile) h d p terms (held_is_minimal w h r d p terms ok.1 e)
-held_is_minimal w (OpenRelease r' f ∷ h) r d p terms ok e = held_later w (OpenRelease r' f) h d p terms (held_is_minimal w h r d p terms ok.1 e)
-held_is_minimal w (Attach r' n ∷ h) r d p terms ok e = held_later w (Attach r' n) h d p terms (held_is_minimal w h r d p terms ok.1 e)
-held_is_minimal w (Freeze r' day ∷ h) r d p terms ok e = held_later w (Freeze r' day) h d p terms (held_is_minimal w h r d p terms ok.1 e)
-held_is_minimal w (Meet q day text ∷ h) r d p terms ok e = held_later w (Meet q day text) h d p terms (held_is_minimal w h r d p terms ok.1 e)
+-- no choice any more
+none_held : (terms : List (List ℕ)) → Some [] ≡ Some terms → terms ≡ []
+none_held [] e = refl
+none_held (t ∷ ts) e = cc
 
-choice_by : (w : Readings) (h : List Command) (d : ℕ) (p : List ℕ) (o : Option (List (List ℕ))) → ((terms : List (List ℕ)) → o ≡ Some terms → IsHeldMinimal w h d p terms)
+dropped : (w : Readings) (c : Command) (h : List Command) (d : ℕ) (p : List ℕ) (terms : List (List ℕ)) (b : Bool) (o : Option (List (List ℕ))) → (o ≡ Some terms → IsHeldMinimal w h d p terms)
+    → or_else (if b then Some [] else None) o ≡ Some terms → (terms ≡ [] → ⊥) → IsHeldMinimal w (c ∷ h) d p terms
+dropped w c h d p terms true o before e some = absurd (some (none_held terms e))
+dropped w c h d p terms false o before e some = held_later w c h d p terms (before e)
+
+-- the last terms that were chosen
+pub held_is_minimal : (w : Readings) (h : List Command) (r : List ℕ) (d : ℕ) (p : List ℕ) (terms : List (List ℕ)) → IsHistory w h → latest (terms_given w r d p) h ≡ Some terms → (terms ≡ [] → ⊥) → IsHeldMinimal w h d p terms
+held_is_minimal w [] r d p terms ok e some = cc
+held_is_minimal w (Choose r' d' p' texts ∷ h) r d p terms ok e some =
+    held_step w h r p r' p' d d' texts terms (is_package_of r d p r' d' p') refl ok.0 (λ before. held_is_minimal w h r d p terms ok.1 before some) e
+held_is_minimal w (Unchoose r' d' p' ∷ h) r d p terms ok e some =
+    dropped w (Unchoose r' d' p') h d p terms (is_package_of r d p r' d' p') (latest (terms_given w r d p) h) (λ before. held_is_minimal w h r d p terms ok.1 before some) e some
+held_is_minimal w (Withdraw r' day text ∷ h) r d p terms ok e some =
+    dropped w (Withdraw r' day text) h d p terms (bytes_eq r' r) (latest (terms_given w r d p) h) (λ before. held_is_minimal w h r d p terms ok.1 before some) e some
+held_is_minimal w (c ∷ h) r d p terms ok e some = held_later w c h d p terms (held_is_minimal w h r d p terms ok.1 e some)
+
+choice_by : (w : Readings) (h : List Command) (d : ℕ) (p : List ℕ) (o : Option (List (List ℕ))) → ((terms : List (List ℕ)) → o ≡ Some terms → (terms ≡ [] → ⊥) → IsHeldMinimal w h d p terms)
     → (unwrap_or o [] ≡ [] → ⊥) → IsHeldMinimal w h d p (unwrap_or o [])
 choice_by w h d p None held some = absurd (some refl)
-choice_by w h d p (Some terms) held some = held terms refl
+choice_by w h d p (Some terms) held some = held terms refl some
 
 pub choice_is_minimal : (w : Readings) (h : List Command) (r : List ℕ) (d : ℕ) (p : List ℕ) → IsHistory w h → (choice w h r d p ≡ [] → ⊥) → IsHeldMinimal w h d p (choice w h r d p)
-choice_is_minimal w h r d p ok some = choice_by w h d p (latest (terms_given w r d p) h) (λ terms e. held_is_minimal w h r d p terms ok e) some
+choice_is_minimal w h r d p ok some = choice_by w h d p (latest (terms_given w r d p) h) (λ terms e found. held_is_minimal w h r d p terms ok e found) some
 
 -- Frozen terms
 
@@ -153,12 +153,7 @@ frozen_by_freeze w h r day f m =
 pub frozen_in : (w : Readings) (h : List Command) (f : FrozenRow) → IsIn f (frozen w h) → IsFrozenTerm w h f
 frozen_in w [] f m = absurd m
 frozen_in w (Freeze r day ∷ h) f m = elim (in_cases f (frozen_at w h r) (frozen w h) m) [ inl n ↦ frozen_by_freeze w h r day f n | inr l ↦ later_frozen w (Freeze r day) h f (frozen_in w h f l) ]
-frozen_in w (LoadCatalogue text ∷ h) f m = later_frozen w (LoadCatalogue text) h f (frozen_in w h f m)
-frozen_in w (Import bytes profile ∷ h) f m = later_frozen w (Import bytes profile) h f (frozen_in w h f m)
-frozen_in w (OpenRelease r f' ∷ h) f m = later_frozen w (OpenRelease r f') h f (frozen_in w h f m)
-frozen_in w (Attach r n ∷ h) f m = later_frozen w (Attach r n) h f (frozen_in w h f m)
-frozen_in w (Choose r n p texts ∷ h) f m = later_frozen w (Choose r n p texts) h f (frozen_in w h f m)
-frozen_in w (Meet q day text ∷ h) f m = later_frozen w (Meet q day text) h f (frozen_in w h f m)
+frozen_in w (c ∷ h) f m = later_frozen w c h f (frozen_in w h f m)
 
 -- the terms that a release was frozen with were held then, and so a minimal set
 some_in : (x : List ℕ) (xs : List (List ℕ)) → IsIn x xs → xs ≡ [] → ⊥

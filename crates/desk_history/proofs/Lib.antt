@@ -4,7 +4,8 @@ mod Same
 pub mod Lookups
 mod Chosen
 mod Opening
-mod Meeting
+mod Moving
+mod Withdrawing
 mod Freezing
 pub mod Steps
 pub mod Queries

@@ -9,7 +9,7 @@ use Rattle.desk_history.proofs.Members.{in_left, in_right, in_cases}
 use Rattle.desk_history.proofs.Freezing.{numbered-append}
 use Rattle.desk_rows.specs.declared.row.Owed.{Owed}
 use Rattle.desk_rows.specs.declared.command.Command.{Command}
-use Rattle.desk_rows.specs.declared.command.Command.TheVariants.{LoadCatalogue, Import, OpenRelease, Attach, Choose, Freeze, Meet}
+use Rattle.desk_rows.specs.declared.command.Command.TheVariants.{Freeze}
 
 -- a freeze numbers its duties on from those before it
 numbered-freeze : (w : Readings) (h : List Command) (r day : List ℕ) → numbered w (Freeze r day ∷ h) ≡ numbered w h ++ enumerate_from (1 + length (raised w h)) (owed_at w h r)
@@ -18,12 +18,7 @@ numbered-freeze w h r day = numbered-append 1 (raised w h) (owed_at w h r)
 -- what is numbered stays numbered
 stays : (w : Readings) (c : Command) (h : List Command) (d : ℕ × Owed) → IsIn d (numbered w h) → IsIn d (numbered w (c ∷ h))
 stays w (Freeze r day) h d m = subst (λ ds. IsIn d ds) (sym (numbered-freeze w h r day)) (in_left d (numbered w h) (enumerate_from (1 + length (raised w h)) (owed_at w h r)) m)
-stays w (LoadCatalogue text) h d m = m
-stays w (Import bytes profile) h d m = m
-stays w (OpenRelease r f) h d m = m
-stays w (Attach r n) h d m = m
-stays w (Choose r n p texts) h d m = m
-stays w (Meet q day text) h d m = m
+stays w c h d m = m
 
 pub numbers_stay : (w : Readings) (later before : List Command) (d : ℕ × Owed) → IsIn d (numbered w before) → IsIn d (numbered w (later ++ before))
 numbers_stay w [] before d m = m
@@ -57,9 +52,4 @@ numbered_in w (Freeze r day ∷ h) d m =
       | inl old ↦ later_numbered w (Freeze r day) h d (numbered_in w h d old)
       | inr new ↦ here_numbered w h r day d new
     ]
-numbered_in w (LoadCatalogue text ∷ h) d m = later_numbered w (LoadCatalogue text) h d (numbered_in w h d m)
-numbered_in w (Import bytes profile ∷ h) d m = later_numbered w (Import bytes profile) h d (numbered_in w h d m)
-numbered_in w (OpenRelease r f ∷ h) d m = later_numbered w (OpenRelease r f) h d (numbered_in w h d m)
-numbered_in w (Attach r n ∷ h) d m = later_numbered w (Attach r n) h d (numbered_in w h d m)
-numbered_in w (Choose r n p texts ∷ h) d m = later_numbered w (Choose r n p texts) h d (numbered_in w h d m)
-numbered_in w (Meet q day text ∷ h) d m = later_numbered w (Meet q day text) h d (numbered_in w h d m)
+numbered_in w (c ∷ h) d m = later_numbered w c h d (numbered_in w h d m)

@@ -6,13 +6,14 @@ use Rattle.std.specs.Option.{option_map}
 use Rattle.std.specs.Str.{bytes_eq}
 use Rattle.desk_base.specs.Day.{is_day}
 use Rattle.desk_rows.specs.Lists.{latest, or_else, put}
-use Rattle.desk_rows.specs.Texts.{text_below, is_release_name}
+use Rattle.desk_rows.specs.Texts.{text_below, is_release_name, is_note}
 use Rattle.desk_rows.specs.Readings.{Readings}
 use Rattle.desk_rows.specs.Keys.{release_below}
 use Rattle.desk_rows.specs.Raised.{shipped, chosen_in, raised, owed_at}
 use Rattle.desk_rows.specs.History.{in_force, rules_in, documents, attached, attached_to, opened, names, form_of, state_given, state_of, revision_of}
 use Rattle.desk_rows.specs.Tables.{release_row}
-use Rattle.desk_rows.specs.Answers.{IsHistory, is_recorded, release_state, open_answer, freeze_answer, walk, profile_in}
+use Rattle.desk_rows.specs.Answers.{IsHistory, is_recorded, release_state, open_answer, freeze_answer, walk, profile_in, refused_or, unless, withdraw_answer}
+use Rattle.desk_rows.specs.declared.command.Answer.{Answer}
 use Rattle.desk_history.proofs.Rows.{map-put, map_others, text_tells, same_text, texts_turned}
 use Rattle.desk_history.proofs.Lookups.{names-form, length-releases}
 use Rattle.desk_rows.specs.declared.state.ReleaseState.{ReleaseState}
@@ -21,7 +22,7 @@ use Rattle.desk_rows.specs.declared.refusal.Refusal.{Refusal}
 use Rattle.desk_rows.specs.declared.refusal.Refusal.TheVariants as why
 use Rattle.desk_rows.specs.declared.command.Answer.TheVariants as answered
 use Rattle.desk_rows.specs.declared.command.Command.{Command}
-use Rattle.desk_rows.specs.declared.command.Command.TheVariants.{OpenRelease, Freeze}
+use Rattle.desk_rows.specs.declared.command.Command.TheVariants.{OpenRelease, Freeze, Withdraw}
 
 -- a release that is not opened yet has no state and no revision
 pub record IsUntouched (h : List Command) (r : List ℕ) : Type 0 where
@@ -33,6 +34,17 @@ pub frozen_open : (day : List ℕ) (s : Option ReleaseState) (count : ℕ) (faul
 frozen_open day (Some s) count fault old new h = refl
 frozen_open day None count fault old new h =
     (elim (is_day day) as (λ b. IsTrue (is_recorded (if not b then answered.Refused why.BadDay else answered.Refused why.UnknownRelease)) → false ≡ true) [ true ↦ λ e. cc | false ↦ λ e. cc ]) h
+
+-- a withdrawal only of one that was opened
+refused_still : (o : Option Refusal) (a : Answer) → is_recorded a ≡ false → is_recorded (refused_or o a) ≡ false
+refused_still None a e = e
+refused_still (Some r) a e = refl
+
+withdrawn_known : (day text : List ℕ) (s : Option ReleaseState) → IsTrue (is_recorded (withdraw_answer day text s)) → is_some s ≡ true
+withdrawn_known day text (Some s) r = refl
+withdrawn_known day text None r =
+    let none : is_recorded (withdraw_answer day text None) ≡ false =
+    refused_still (unless (is_day day) why.BadDay) _ (refused_still (unless (is_note text) why.BadText) (answered.Refused why.UnknownRelease) refl) in cc
 
 or_else_rest : {B : Type 0} (o p : Option B) → is_some (or_else o p) ≡ false → is_some p ≡ false
 or_else_rest None p h = h
@@ -58,6 +70,10 @@ untouched w (Freeze r' day ∷ h) r ok none =
     let u = untouched w h r ok.1 none in
     let e : bytes_eq r' r ≡ false = another h r r' (frozen_open day (release_state h r') (length (attached_to (attached h) r')) (walk w (rules_in (in_force w h)) (unwrap_or (form_of h r') []) (profile_in (documents w h)) (chosen_in w h r') (shipped w h r')) (length (raised w h)) (length (owed_at w h r')) ok.0) none in
     record { state = rw e u.state; revision = rw e u.revision }
+untouched w (Withdraw r' day text ∷ h) r ok none =
+    let u = untouched w h r ok.1 none in
+    let e : bytes_eq r' r ≡ false = another h r r' (withdrawn_known day text (release_state h r') ok.0) none in
+    record { state = rw e u.state; revision = u.revision }
 untouched w (_ ∷ h) r ok none = let u = untouched w h r ok.1 none in record { state = u.state; revision = u.revision }
 
 -- a release is opened only where its name is free

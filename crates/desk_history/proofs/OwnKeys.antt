@@ -39,7 +39,7 @@ use Rattle.desk_rows.specs.declared.state.ReleaseState.{ReleaseState}
 use Rattle.desk_rows.specs.declared.state.ReleaseState.TheVariants.{IsOpen, Frozen, Withdrawn}
 use Rattle.desk_rows.specs.declared.command.Answer.TheVariants as answered
 use Rattle.desk_rows.specs.declared.command.Command.{Command}
-use Rattle.desk_rows.specs.declared.command.Command.TheVariants.{LoadCatalogue, Import, OpenRelease, Attach, Choose, Freeze, Meet}
+use Rattle.desk_rows.specs.declared.command.Command.TheVariants.{Import, Attach, Freeze, Withdraw}
 
 abbrev Key : Type 0
 Key = List ℕ × ℕ × List ℕ × List ℕ × List ℕ
@@ -144,12 +144,7 @@ belongs w (Import bytes profile ∷ h) p m =
       | inl l ↦ omega (arith, all, belongs w h p l)
       | inr new ↦ (let found = from_map (package_row n) p (packages_in (result_ok (w.document bytes))) new in omega (arith, all, ap (λ (q : PackageRow). q.document) found.2))
     ]
-belongs w (LoadCatalogue text ∷ h) p m = belongs w h p m
-belongs w (OpenRelease r f ∷ h) p m = belongs w h p m
-belongs w (Attach r n ∷ h) p m = belongs w h p m
-belongs w (Choose r n q texts ∷ h) p m = belongs w h p m
-belongs w (Freeze r day ∷ h) p m = belongs w h p m
-belongs w (Meet q day text ∷ h) p m = belongs w h p m
+belongs w (c ∷ h) p m = belongs w h p m
 
 ids_of : (w : Readings) → ListsOnce w → (bytes : List ℕ) (read : Result Document DocumentFault) → w.document bytes ≡ read → AreDistinct (map (λ (p : Package). p.id) (packages_in (result_ok read)))
 ids_of w once bytes (Ok document) e = once.packages bytes document e
@@ -183,12 +178,7 @@ distinct-packages w once (Import bytes profile ∷ h) =
     subst AreDistinct (sym (map-append place_of (packages w h) new))
     (distinct-append (map place_of (packages w h)) (map place_of new) (distinct-packages w once h)
     (distinct-pairs n (packages_in (result_ok (w.document bytes))) (ids_of w once bytes (w.document bytes) refl)) apart)
-distinct-packages w once (LoadCatalogue text ∷ h) = distinct-packages w once h
-distinct-packages w once (OpenRelease r f ∷ h) = distinct-packages w once h
-distinct-packages w once (Attach r n ∷ h) = distinct-packages w once h
-distinct-packages w once (Choose r n q texts ∷ h) = distinct-packages w once h
-distinct-packages w once (Freeze r day ∷ h) = distinct-packages w once h
-distinct-packages w once (Meet q day text ∷ h) = distinct-packages w once h
+distinct-packages w once (c ∷ h) = distinct-packages w once h
 
 -- Attached documents: none is attached twice
 
@@ -214,12 +204,7 @@ distinct-attached w (Attach r d ∷ h) ok =
     let row : AttachedRow = record { release = r; document = d } in
     let none : list_any (is_attachment r d) (attached h) ≡ false = attached_new (release_state h r) (is_some (find (is_document d) (documents w h))) (list_any (is_attachment r d) (attached h)) (length (attached_to (attached h) r)) ok.0 in
     distinct-put (below_by attached_order) row (attached h) (λ m. let some : list_any (is_attachment r d) (attached h) ≡ true = attachment_found row (attached h) m in cc) (distinct-attached w h ok.1)
-distinct-attached w (Import bytes profile ∷ h) ok = distinct-attached w h ok.1
-distinct-attached w (LoadCatalogue text ∷ h) ok = distinct-attached w h ok.1
-distinct-attached w (OpenRelease r f ∷ h) ok = distinct-attached w h ok.1
-distinct-attached w (Choose r n q texts ∷ h) ok = distinct-attached w h ok.1
-distinct-attached w (Freeze r day ∷ h) ok = distinct-attached w h ok.1
-distinct-attached w (Meet q day text ∷ h) ok = distinct-attached w h ok.1
+distinct-attached w (c ∷ h) ok = distinct-attached w h ok.1
 
 same_row : (x y : AttachedRow) → x.release ≡ y.release → x.document ≡ y.document → x ≡ y
 same_row x y e f =
@@ -262,35 +247,31 @@ owed_release w h r d m =
     let p = from_flat_map (λ (p : PackageRow). owed_for_terms w rules form r p (chosen_in w h r p)) d (shipped w h r) m in
     (key_for_terms w h r form p.0 d p.2).0
 
-frozen_now : (r' r : List ℕ) (o : Option ReleaseState) → r' ≡ r → unwrap_or (or_else (if bytes_eq r' r then Some Frozen else None) o) IsOpen ≡ Frozen
-frozen_now r' r o e = let same : bytes_eq r' r ≡ true = subst (λ n. bytes_eq r' n ≡ true) e (same_text r') in rw same refl
+closed_now : (r' r : List ℕ) (o : Option ReleaseState) → r' ≡ r → unwrap_or (or_else (if bytes_eq r' r then Some Frozen else None) o) IsOpen ≢ IsOpen
+closed_now r' r o e = let same : bytes_eq r' r ≡ true = subst (λ n. bytes_eq r' n ≡ true) e (same_text r') in rw same (λ f. cc)
 
-frozen_still : (b : Bool) (o : Option ReleaseState) → unwrap_or o IsOpen ≡ Frozen → unwrap_or (or_else (if b then Some Frozen else None) o) IsOpen ≡ Frozen
-frozen_still true o e = refl
-frozen_still false o e = e
+closed_still : (b : Bool) (s : ReleaseState) (o : Option ReleaseState) → s ≢ IsOpen → unwrap_or o IsOpen ≢ IsOpen → unwrap_or (or_else (if b then Some s else None) o) IsOpen ≢ IsOpen
+closed_still true s o f e = f
+closed_still false s o f e = e
 
--- the release of a duty that was raised is frozen
-raised_frozen : (w : Readings) (h : List Command) (d : Owed) → IsIn d (raised w h) → state_of h d.release ≡ Frozen
-raised_frozen w [] d m = absurd m
-raised_frozen w (Freeze r day ∷ h) d m =
+-- the release of a duty that was raised is not open
+raised_closed : (w : Readings) (h : List Command) (d : Owed) → IsIn d (raised w h) → state_of h d.release ≢ IsOpen
+raised_closed w [] d m = absurd m
+raised_closed w (Freeze r day ∷ h) d m =
     elim (in_cases d (raised w h) (owed_at w h r) m) [
-      | inl l ↦ frozen_still (bytes_eq r d.release) (latest (state_given d.release) h) (raised_frozen w h d l)
-      | inr n ↦ frozen_now r d.release (latest (state_given d.release) h) (sym (owed_release w h r d n))
+      | inl l ↦ closed_still (bytes_eq r d.release) Frozen (latest (state_given d.release) h) (λ e. cc) (raised_closed w h d l)
+      | inr n ↦ closed_now r d.release (latest (state_given d.release) h) (sym (owed_release w h r d n))
     ]
-raised_frozen w (LoadCatalogue text ∷ h) d m = raised_frozen w h d m
-raised_frozen w (Import bytes profile ∷ h) d m = raised_frozen w h d m
-raised_frozen w (OpenRelease r f ∷ h) d m = raised_frozen w h d m
-raised_frozen w (Attach r n ∷ h) d m = raised_frozen w h d m
-raised_frozen w (Choose r n p texts ∷ h) d m = raised_frozen w h d m
-raised_frozen w (Meet q day text ∷ h) d m = raised_frozen w h d m
+raised_closed w (Withdraw r day text ∷ h) d m = closed_still (bytes_eq r d.release) Withdrawn (latest (state_given d.release) h) (λ e. cc) (raised_closed w h d m)
+raised_closed w (c ∷ h) d m = raised_closed w h d m
 
 -- a freeze is recorded only of a release that is open
-open_by : (s : ReleaseState) (count : ℕ) (fault : Option Refusal) (old new : ℕ) → IsTrue (is_recorded (refused_or (unready s) (freeze_open count fault old new))) → s ≢ Frozen
-open_by IsOpen count fault old new e f = cc
-open_by Frozen count fault old new e f = cc
-open_by Withdrawn count fault old new e f = cc
+open_by : (s : ReleaseState) (count : ℕ) (fault : Option Refusal) (old new : ℕ) → IsTrue (is_recorded (refused_or (unready s) (freeze_open count fault old new))) → s ≡ IsOpen
+open_by IsOpen count fault old new e = refl
+open_by Frozen count fault old new e = cc
+open_by Withdrawn count fault old new e = cc
 
-open_on : (b : Bool) (s : ReleaseState) (form : Option (List ℕ)) (count : ℕ) (fault : Option Refusal) (old new : ℕ) → IsTrue (is_recorded (if not b then answered.Refused why.BadDay else option_map_or (λ s. refused_or (unready s) (freeze_open count fault old new)) (option_map (λ (form : List ℕ). s) form) (answered.Refused why.UnknownRelease))) → s ≢ Frozen
+open_on : (b : Bool) (s : ReleaseState) (form : Option (List ℕ)) (count : ℕ) (fault : Option Refusal) (old new : ℕ) → IsTrue (is_recorded (if not b then answered.Refused why.BadDay else option_map_or (λ s. refused_or (unready s) (freeze_open count fault old new)) (option_map (λ (form : List ℕ). s) form) (answered.Refused why.UnknownRelease))) → s ≡ IsOpen
 open_on false s form count fault old new e = cc
 open_on true s None count fault old new e = cc
 open_on true s (Some form) count fault old new e = open_by s count fault old new e
@@ -298,20 +279,15 @@ open_on true s (Some form) count fault old new e = open_by s count fault old new
 pub distinct-raised : (w : Readings) → ListsOnce w → (h : List Command) → IsHistory w h → AreDistinct (map owed_key (raised w h))
 distinct-raised w once [] ok = tt
 distinct-raised w once (Freeze r day ∷ h) ok =
-    let unfrozen : state_of h r ≢ Frozen = open_on (is_day day) (state_of h r) (form_of h r) (length (attached_to (attached h) r)) (walk w (rules_in (in_force w h)) (unwrap_or (form_of h r) []) (profile_in (documents w h)) (chosen_in w h r) (shipped w h r)) (length (raised w h)) (length (owed_at w h r)) ok.0 in
+    let here : state_of h r ≡ IsOpen = open_on (is_day day) (state_of h r) (form_of h r) (length (attached_to (attached h) r)) (walk w (rules_in (in_force w h)) (unwrap_or (form_of h r) []) (profile_in (documents w h)) (chosen_in w h r) (shipped w h r)) (length (raised w h)) (length (owed_at w h r)) ok.0 in
     let apart : (k : Key) → IsIn k (map owed_key (raised w h)) → IsIn k (map owed_key (owed_at w h r)) → ⊥ =
     λ k a b. (let old = from_map owed_key k (raised w h) a in
     let new = from_map owed_key k (owed_at w h r) b in
     let same : old.0.release ≡ r = ap (λ (k : Key). k.0) (old.2 ∙ sym new.2) ∙ owed_release w h r new.0 new.1 in
-    unfrozen (subst (λ n. state_of h n ≡ Frozen) same (raised_frozen w h old.0 old.1))) in
+    subst (λ n. state_of h n ≢ IsOpen) same (raised_closed w h old.0 old.1) here) in
     subst AreDistinct (sym (map-append owed_key (raised w h) (owed_at w h r)))
     (distinct-append (map owed_key (raised w h)) (map owed_key (owed_at w h r)) (distinct-raised w once h ok.1) (distinct-owed w once h r ok.1) apart)
-distinct-raised w once (LoadCatalogue text ∷ h) ok = distinct-raised w once h ok.1
-distinct-raised w once (Import bytes profile ∷ h) ok = distinct-raised w once h ok.1
-distinct-raised w once (OpenRelease r f ∷ h) ok = distinct-raised w once h ok.1
-distinct-raised w once (Attach r n ∷ h) ok = distinct-raised w once h ok.1
-distinct-raised w once (Choose r n p texts ∷ h) ok = distinct-raised w once h ok.1
-distinct-raised w once (Meet q day text ∷ h) ok = distinct-raised w once h ok.1
+distinct-raised w once (c ∷ h) ok = distinct-raised w once h ok.1
 
 keys_of : (w : Readings) (h : List Command) (n : ℕ) (xs : List Owed) → map key_of (map (λ (d : ℕ × Owed). duty_row (place w h d.0) d) (enumerate_from n xs)) ≡ map owed_key xs
 keys_of w h n [] = refl

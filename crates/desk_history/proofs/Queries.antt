@@ -13,7 +13,7 @@ use Rattle.desk_rows.specs.Tables.{Tables, tables}
 use Rattle.desk_rows.specs.Queries.{queried, duty_line, duties_of, totals_of}
 use Rattle.desk_history.specs.FromTables.{queried_from}
 use Rattle.desk_history.proofs.Lookups.{is_found}
-use Rattle.desk_history.proofs.Meeting.{changes-numbered, in_range}
+use Rattle.desk_history.proofs.Moving.{changes-numbered, in_range}
 use Rattle.desk_rows.specs.declared.row.DutyRow.{DutyRow}
 use Rattle.desk_rows.specs.declared.row.ChangeRow.{ChangeRow}
 use Rattle.desk_rows.specs.declared.refusal.Refusal.TheVariants as why

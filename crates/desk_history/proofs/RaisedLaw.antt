@@ -10,17 +10,12 @@ use Rattle.desk_rows.specs.declared.reading.Rule.{Rule}
 use Rattle.desk_rows.specs.declared.row.PackageRow.{PackageRow}
 use Rattle.desk_rows.specs.declared.row.Owed.{Owed}
 use Rattle.desk_rows.specs.declared.command.Command.{Command}
-use Rattle.desk_rows.specs.declared.command.Command.TheVariants.{LoadCatalogue, Import, OpenRelease, Attach, Choose, Freeze, Meet}
+use Rattle.desk_rows.specs.declared.command.Command.TheVariants.{Freeze}
 
 -- what is raised stays raised
 raised_grows : (w : Readings) (c : Command) (h : List Command) (d : Owed) → IsIn d (raised w h) → IsIn d (raised w (c ∷ h))
 raised_grows w (Freeze r day) h d m = in_left d (raised w h) (owed_at w h r) m
-raised_grows w (LoadCatalogue text) h d m = m
-raised_grows w (Import bytes profile) h d m = m
-raised_grows w (OpenRelease r f) h d m = m
-raised_grows w (Attach r n) h d m = m
-raised_grows w (Choose r n p texts) h d m = m
-raised_grows w (Meet q day text) h d m = m
+raised_grows w c h d m = m
 
 raised_there : (w : Readings) (later before : List Command) (r day : List ℕ) (d : Owed) → IsIn d (owed_at w before r) → IsIn d (raised w (later ++ Freeze r day ∷ before))
 raised_there w [] before r day d m = in_right d (raised w before) (owed_at w before r) m
@@ -96,9 +91,4 @@ by_freeze w h r day d m =
 pub raised_in : (w : Readings) (h : List Command) (d : Owed) → IsIn d (raised w h) → IsRaised w h d
 raised_in w [] d m = absurd m
 raised_in w (Freeze r day ∷ h) d m = elim (in_cases d (raised w h) (owed_at w h r) m) [ inl l ↦ later_raised w (Freeze r day) h d (raised_in w h d l) | inr n ↦ by_freeze w h r day d n ]
-raised_in w (LoadCatalogue text ∷ h) d m = later_raised w (LoadCatalogue text) h d (raised_in w h d m)
-raised_in w (Import bytes profile ∷ h) d m = later_raised w (Import bytes profile) h d (raised_in w h d m)
-raised_in w (OpenRelease r f ∷ h) d m = later_raised w (OpenRelease r f) h d (raised_in w h d m)
-raised_in w (Attach r n ∷ h) d m = later_raised w (Attach r n) h d (raised_in w h d m)
-raised_in w (Choose r n p texts ∷ h) d m = later_raised w (Choose r n p texts) h d (raised_in w h d m)
-raised_in w (Meet q day text ∷ h) d m = later_raised w (Meet q day text) h d (raised_in w h d m)
+raised_in w (c ∷ h) d m = later_raised w c h d (raised_in w h d m)

@@ -11,11 +11,10 @@ use Rattle.desk_rows.specs.Texts.{text_below}
 use Rattle.desk_rows.specs.Keys.{below_by, release_below, attached_order, choice_order, frozen_order, change_below}
 use Rattle.desk_rows.specs.History.{revisions, documents, names, opened, namespace_in, attachment}
 use Rattle.desk_rows.specs.Raised.{raised, frozen}
-use Rattle.desk_rows.specs.Moves.{duty_row, place, moves, changes, change_row, change_rows}
+use Rattle.desk_rows.specs.Moves.{Move, duty_row, place, moves, changes, change_row, change_rows}
 use Rattle.desk_rows.specs.Tables.{tables, release_row, standing}
 use Rattle.desk_history.specs.Laws.{Ascends, AreSorted, revision_below, document_below, duty_below}
 use Rattle.desk_history.proofs.Members.{in_cases, from_map}
-use Rattle.desk_history.proofs.Meeting.{change_row-duty, change_row-step}
 use Rattle.desk_history.proofs.Orders.{IsOrder, order_of, over, ascends, ascends-in_order, and_left, and_right, not_true, attached_is_order, choice_is_order}
 use Rattle.desk_rows.specs.declared.row.CatalogueRow.{CatalogueRow}
 use Rattle.desk_rows.specs.declared.row.DocumentRow.{DocumentRow}
@@ -23,7 +22,7 @@ use Rattle.desk_rows.specs.declared.row.DutyRow.{DutyRow}
 use Rattle.desk_rows.specs.declared.row.ChangeRow.{ChangeRow}
 use Rattle.desk_rows.specs.declared.row.Owed.{Owed}
 use Rattle.desk_rows.specs.declared.command.Command.{Command}
-use Rattle.desk_rows.specs.declared.command.Command.TheVariants.{LoadCatalogue, Import, OpenRelease, Attach, Choose, Freeze, Meet}
+use Rattle.desk_rows.specs.declared.command.Command.TheVariants.{LoadCatalogue, Import}
 
 -- rows that were put in order
 
@@ -83,24 +82,14 @@ within_revisions (LoadCatalogue text ∷ h) row m =
       | inl old ↦ omega (arith, within_revisions h row old, length-append (revisions h) (new ∷ []))
       | inr here ↦ (elim here [ inl e ↦ omega (arith, ap (λ (r : CatalogueRow). r.revision) e, length-append (revisions h) (new ∷ [])) | inr none ↦ absurd none ])
     ]
-within_revisions (Import bytes profile ∷ h) row m = within_revisions h row m
-within_revisions (OpenRelease r f ∷ h) row m = within_revisions h row m
-within_revisions (Attach r n ∷ h) row m = within_revisions h row m
-within_revisions (Choose r n p texts ∷ h) row m = within_revisions h row m
-within_revisions (Freeze r day ∷ h) row m = within_revisions h row m
-within_revisions (Meet q day text ∷ h) row m = within_revisions h row m
+within_revisions (c ∷ h) row m = within_revisions h row m
 
 sorted_revisions : (h : List Command) → Ascends revision_below (revisions h)
 sorted_revisions [] = tt
 sorted_revisions (LoadCatalogue text ∷ h) =
     last_row revision_below (revisions h) (record { revision = length (revisions h) + 1; body = text }) (sorted_revisions h)
     (λ row m. not_less (length (revisions h) + 1) row.revision (omega (arith, within_revisions h row m)))
-sorted_revisions (Import bytes profile ∷ h) = sorted_revisions h
-sorted_revisions (OpenRelease r f ∷ h) = sorted_revisions h
-sorted_revisions (Attach r n ∷ h) = sorted_revisions h
-sorted_revisions (Choose r n p texts ∷ h) = sorted_revisions h
-sorted_revisions (Freeze r day ∷ h) = sorted_revisions h
-sorted_revisions (Meet q day text ∷ h) = sorted_revisions h
+sorted_revisions (c ∷ h) = sorted_revisions h
 
 within_documents : (w : Readings) (h : List Command) (row : DocumentRow) → IsIn row (documents w h) → row.number ≤ length (documents w h)
 within_documents w [] row m = absurd m
@@ -110,24 +99,14 @@ within_documents w (Import bytes profile ∷ h) row m =
       | inl old ↦ omega (arith, within_documents w h row old, length-append (documents w h) (new ∷ []))
       | inr here ↦ (elim here [ inl e ↦ omega (arith, ap (λ (r : DocumentRow). r.number) e, length-append (documents w h) (new ∷ [])) | inr none ↦ absurd none ])
     ]
-within_documents w (LoadCatalogue text ∷ h) row m = within_documents w h row m
-within_documents w (OpenRelease r f ∷ h) row m = within_documents w h row m
-within_documents w (Attach r n ∷ h) row m = within_documents w h row m
-within_documents w (Choose r n p texts ∷ h) row m = within_documents w h row m
-within_documents w (Freeze r day ∷ h) row m = within_documents w h row m
-within_documents w (Meet q day text ∷ h) row m = within_documents w h row m
+within_documents w (c ∷ h) row m = within_documents w h row m
 
 sorted_documents : (w : Readings) (h : List Command) → Ascends document_below (documents w h)
 sorted_documents w [] = tt
 sorted_documents w (Import bytes profile ∷ h) =
     last_row document_below (documents w h) (record { number = length (documents w h) + 1; namespace = namespace_in (result_ok (w.document bytes)); bytes = bytes; profile = profile }) (sorted_documents w h)
     (λ row m. not_less (length (documents w h) + 1) row.number (omega (arith, within_documents w h row m)))
-sorted_documents w (LoadCatalogue text ∷ h) = sorted_documents w h
-sorted_documents w (OpenRelease r f ∷ h) = sorted_documents w h
-sorted_documents w (Attach r n ∷ h) = sorted_documents w h
-sorted_documents w (Choose r n p texts ∷ h) = sorted_documents w h
-sorted_documents w (Freeze r day ∷ h) = sorted_documents w h
-sorted_documents w (Meet q day text ∷ h) = sorted_documents w h
+sorted_documents w (c ∷ h) = sorted_documents w h
 
 -- duties and their changes
 
@@ -146,13 +125,13 @@ sorted_duties g is n (x ∷ xs) = (
   sorted_duties g is (n + 1) xs,
 )
 
-change_within : (q : ℕ) (ms : List Command) (row : ChangeRow) → IsIn row (change_rows q ms) → (row.duty ≡ q) × (row.step ≤ length ms)
+change_within : (q : ℕ) (ms : List Move) (row : ChangeRow) → IsIn row (change_rows q ms) → (row.duty ≡ q) × (row.step ≤ length ms)
 change_within q [] row m = absurd m
 change_within q (c ∷ ms) row m =
     elim (in_cases row (change_rows q ms) (change_row q (length ms + 1) c ∷ []) m) [
       | inl old ↦ (let at = change_within q ms row old in (at.0, omega (arith, at.1)))
       | inr here ↦ (elim here [
-        | inl e ↦ (sym (ap (λ (r : ChangeRow). r.duty) e) ∙ change_row-duty q (length ms + 1) c, omega (arith, ap (λ (r : ChangeRow). r.step) e, change_row-step q (length ms + 1) c))
+        | inl e ↦ (sym (ap (λ (r : ChangeRow). r.duty) e), omega (arith, ap (λ (r : ChangeRow). r.step) e))
         | inr none ↦ absurd none
       ])
     ]
@@ -163,14 +142,14 @@ after_step d q s t e le = grind (arith, nat_tests)
 after_duty : (a b s t : ℕ) → a < b → (nat_lt b a || ((b == a) && nat_lt s t)) ≡ false
 after_duty a b s t lt = grind (arith, nat_tests)
 
-sorted_steps : (q : ℕ) (ms : List Command) → Ascends change_below (change_rows q ms)
+sorted_steps : (q : ℕ) (ms : List Move) → Ascends change_below (change_rows q ms)
 sorted_steps q [] = tt
 sorted_steps q (c ∷ ms) =
     last_row change_below (change_rows q ms) (change_row q (length ms + 1) c) (sorted_steps q ms)
     (λ row m.
     let at = change_within q ms row m in
     let new = change_row q (length ms + 1) c in
-    after_step row.duty new.duty new.step row.step (at.0 ∙ sym (change_row-duty q (length ms + 1) c)) (omega (arith, at.1, change_row-step q (length ms + 1) c)))
+    after_step row.duty new.duty new.step row.step at.0 (omega (arith, at.1)))
 
 from_duty : (w : Readings) (h : List Command) (n : ℕ) (xs : List Owed) (row : ChangeRow) → IsIn row (flat_map (λ (d : ℕ × Owed). changes w h d.0) (enumerate_from n xs)) → n ≤ row.duty
 from_duty w h n [] row m = absurd m

@@ -1,24 +1,27 @@
 -- The tables of a history answer and change as the history does.
-use Rattle.std.proofs.Common.{◌≡◌, ℕ, Bool, true, false, List, ◌∷◌, ◌++◌, length, map, sym, refl, ap, ◌∙◌}
+use Rattle.std.proofs.Common.{◌≡◌, ℕ, Bool, true, false, List, ◌∷◌, Option, None, ◌++◌, length, map, sym, refl, ap, ◌∙◌}
 use Rattle.std.specs.Prelude.{if◌then◌else◌, IsTrue, is_some, find, filter}
 use Rattle.std.specs.List.{list_any}
 use Rattle.desk_rows.specs.Lists.{put_all}
 use Rattle.desk_rows.specs.Readings.{Readings}
 use Rattle.desk_rows.specs.Keys.{is_document, is_package, is_attachment, below_by, choice_order}
 use Rattle.desk_rows.specs.History.{opened, form_of, forms_in, in_force, documents, packages, attached, attached_to, term_set}
-use Rattle.desk_rows.specs.Moves.{duties, all_changes}
-use Rattle.desk_rows.specs.Tables.{Tables, tables, applied, standing, choice_row, is_other_choice}
-use Rattle.desk_rows.specs.Answers.{answer, IsHistory, is_recorded, noted, open_answer, attach_answer, choose_answer}
-use Rattle.desk_history.specs.FromTables.{answer_from, change_for, rows_noted, raised_row}
+use Rattle.desk_rows.specs.Moves.{Move, duties, all_changes}
+use Rattle.desk_rows.specs.declared.state.Word.TheVariants as word
+use Rattle.desk_rows.specs.Tables.{Tables, tables, applied, standing, choice_row, is_other_choice, is_choice_elsewhere}
+use Rattle.desk_rows.specs.Answers.{answer, IsHistory, is_recorded, noted, open_answer, attach_answer, choose_answer, unchoose_answer, withdraw_answer, close_answer, moved_answer, release_state}
+use Rattle.desk_history.specs.FromTables.{answer_from, change_for, rows_noted, raised_row, terms_found}
 use Rattle.desk_history.proofs.Same.{same_tables}
 use Rattle.desk_history.proofs.Rows.{in_order-append}
 use Rattle.desk_history.proofs.Orders.{filter-in_order, choice_is_order}
 use Rattle.desk_history.proofs.Lookups.{is_found, length-releases, state-found}
 use Rattle.desk_history.proofs.Opening.{open-releases, open_free}
 use Rattle.desk_history.proofs.Freezing.{freeze-answer, freeze-releases, freeze-duties, freeze-changes, freeze-frozen, new-duties}
-use Rattle.desk_history.proofs.Meeting.{meet-answer, meet-duties, meet-changes}
+use Rattle.desk_history.proofs.Moving.{move-answer, recorded_known, named-duties, named-changes}
+use Rattle.desk_history.proofs.Withdrawing.{withdrawn-releases, withdrawn-duties, withdrawn-changes, ended-duties, ended-changes, ended-count}
+use Rattle.desk_history.proofs.Chosen.{terms-found}
 use Rattle.desk_rows.specs.declared.command.Command.{Command}
-use Rattle.desk_rows.specs.declared.command.Command.TheVariants.{LoadCatalogue, Import, OpenRelease, Attach, Choose, Freeze, Meet}
+use Rattle.desk_rows.specs.declared.command.Command.TheVariants.{LoadCatalogue, Import, OpenRelease, Attach, Choose, Unchoose, Freeze, Meet, Waive, Reopen, Withdraw, CloseDay}
 
 open-answer : (w : Readings) (h : List Command) (r f : List ℕ) → answer_from w (tables w h) (OpenRelease r f) ≡ answer w h (OpenRelease r f)
 open-answer w h r f =
@@ -32,7 +35,14 @@ step-answer w h (OpenRelease r f) = open-answer w h r f
 step-answer w h (Attach r d) = ap (λ s. attach_answer s (is_some (find (is_document d) (documents w h))) (list_any (is_attachment r d) (attached h)) (length (attached_to (attached h) r))) (state-found w h r)
 step-answer w h (Choose r d p texts) = ap (λ s. choose_answer w texts s (find (is_document d) (documents w h)) (find (is_package d p) (packages w h)) (list_any (is_attachment r d) (attached h))) (state-found w h r)
 step-answer w h (Freeze r day) = freeze-answer w h r day
-step-answer w h (Meet q day text) = meet-answer w h q day text
+step-answer w h (Unchoose r d p) =
+    ap (λ s. unchoose_answer d p s (is_some (find (is_document d) (documents w h))) (is_some (find (is_package d p) (packages w h))) (terms_found (tables w h) r d p)) (state-found w h r)
+    ∙ ap (unchoose_answer d p (release_state h r) (is_some (find (is_document d) (documents w h))) (is_some (find (is_package d p) (packages w h)))) (terms-found w h r d p)
+step-answer w h (Meet q day text) = move-answer w h word.Met q day text None
+step-answer w h (Waive q day text until) = move-answer w h word.Waived q day text until
+step-answer w h (Reopen q day text) = move-answer w h word.Reopened q day text None
+step-answer w h (Withdraw r day text) = ap (withdraw_answer day text) (state-found w h r)
+step-answer w h (CloseDay day) = ap (close_answer day) (ended-count w h day)
 
 open-rows : (w : Readings) (h : List Command) (r f : List ℕ) → IsHistory w h → IsTrue (is_recorded (answer w h (OpenRelease r f))) → tables w (OpenRelease r f ∷ h) ≡ applied (change_for w (tables w h) (OpenRelease r f)) (tables w h)
 open-rows w h r f ok recorded =
@@ -53,9 +63,40 @@ freeze-rows w h r day =
     (freeze-duties w h r day ∙ ap (λ rows. duties w h ++ rows) (new-duties w h r))
     (freeze-changes w h r day ∙ ap (λ rows. all_changes w h ++ map (raised_row day) rows) (new-duties w h r))
 
-meet-rows : (w : Readings) (h : List Command) (q : ℕ) (day text : List ℕ) → IsTrue (is_recorded (answer w h (Meet q day text))) → tables w (Meet q day text ∷ h) ≡ applied (change_for w (tables w h) (Meet q day text)) (tables w h)
+unchoose-rows : (w : Readings) (h : List Command) (r p : List ℕ) (d : ℕ) → tables w (Unchoose r d p ∷ h) ≡ applied (change_for w (tables w h) (Unchoose r d p)) (tables w h)
+unchoose-rows w h r p d =
+    same_tables _ _ refl refl refl refl refl refl refl refl refl refl
+    (sym (filter-in_order (below_by choice_order) choice_is_order (is_other_choice r d p) (standing w h)))
+    refl refl refl
+
+-- a command that moves one duty
+meet-rows : (w : Readings) (h : List Command) (q : ℕ) (day text : List ℕ) → IsTrue (is_recorded (moved_answer w h word.Met q day text None)) → tables w (Meet q day text ∷ h) ≡ applied (change_for w (tables w h) (Meet q day text)) (tables w h)
 meet-rows w h q day text recorded =
-    same_tables _ _ refl refl refl refl refl refl refl refl refl refl refl refl (meet-duties w h q day text recorded) (meet-changes w h q day text recorded)
+    let known = recorded_known w h word.Met q day text None recorded in
+    let m : Move = record { day = day; word = word.Met; body = text; last_day = None } in
+    same_tables _ _ refl refl refl refl refl refl refl refl refl refl refl refl (named-duties w h q m known) (named-changes w h q m known)
+
+waive-rows : (w : Readings) (h : List Command) (q : ℕ) (day text : List ℕ) (until : Option (List ℕ)) → IsTrue (is_recorded (moved_answer w h word.Waived q day text until)) → tables w (Waive q day text until ∷ h) ≡ applied (change_for w (tables w h) (Waive q day text until)) (tables w h)
+waive-rows w h q day text until recorded =
+    let known = recorded_known w h word.Waived q day text until recorded in
+    let m : Move = record { day = day; word = word.Waived; body = text; last_day = until } in
+    same_tables _ _ refl refl refl refl refl refl refl refl refl refl refl refl (named-duties w h q m known) (named-changes w h q m known)
+
+reopen-rows : (w : Readings) (h : List Command) (q : ℕ) (day text : List ℕ) → IsTrue (is_recorded (moved_answer w h word.Reopened q day text None)) → tables w (Reopen q day text ∷ h) ≡ applied (change_for w (tables w h) (Reopen q day text)) (tables w h)
+reopen-rows w h q day text recorded =
+    let known = recorded_known w h word.Reopened q day text None recorded in
+    let m : Move = record { day = day; word = word.Reopened; body = text; last_day = None } in
+    same_tables _ _ refl refl refl refl refl refl refl refl refl refl refl refl (named-duties w h q m known) (named-changes w h q m known)
+
+-- commands that move many
+withdraw-rows : (w : Readings) (h : List Command) (r day text : List ℕ) → tables w (Withdraw r day text ∷ h) ≡ applied (change_for w (tables w h) (Withdraw r day text)) (tables w h)
+withdraw-rows w h r day text =
+    same_tables _ _ refl refl refl refl refl refl refl refl (withdrawn-releases w h r day text) refl
+    (sym (filter-in_order (below_by choice_order) choice_is_order (is_choice_elsewhere r) (standing w h)))
+    refl (withdrawn-duties w h r day text) (withdrawn-changes w h r day text)
+
+close-rows : (w : Readings) (h : List Command) (day : List ℕ) → tables w (CloseDay day ∷ h) ≡ applied (change_for w (tables w h) (CloseDay day)) (tables w h)
+close-rows w h day = same_tables _ _ refl refl refl refl refl refl refl refl refl refl refl refl (ended-duties w h day) (ended-changes w h day)
 
 pub recorded-rows : (w : Readings) (h : List Command) (c : Command) → IsHistory w h → IsTrue (is_recorded (answer w h c)) → tables w (c ∷ h) ≡ applied (change_for w (tables w h) c) (tables w h)
 recorded-rows w h (LoadCatalogue text) ok kept = refl
@@ -64,7 +105,12 @@ recorded-rows w h (OpenRelease r f) ok kept = open-rows w h r f ok kept
 recorded-rows w h (Attach r d) ok kept = refl
 recorded-rows w h (Choose r d p texts) ok kept = choose-rows w h r p d texts
 recorded-rows w h (Freeze r day) ok kept = freeze-rows w h r day
+recorded-rows w h (Unchoose r d p) ok kept = unchoose-rows w h r p d
 recorded-rows w h (Meet q day text) ok kept = meet-rows w h q day text kept
+recorded-rows w h (Waive q day text until) ok kept = waive-rows w h q day text until kept
+recorded-rows w h (Reopen q day text) ok kept = reopen-rows w h q day text kept
+recorded-rows w h (Withdraw r day text) ok kept = withdraw-rows w h r day text
+recorded-rows w h (CloseDay day) ok kept = close-rows w h day
 
 noted_rows : (w : Readings) (h : List Command) (c : Command) (b : Bool) → (b ≡ true → tables w (c ∷ h) ≡ applied (change_for w (tables w h) c) (tables w h)) → tables w (if b then c ∷ h else h) ≡ (if b then applied (change_for w (tables w h) c) (tables w h) else tables w h)
 noted_rows w h c true same = same refl

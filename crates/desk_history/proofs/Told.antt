@@ -8,55 +8,42 @@ use Rattle.desk_rows.specs.Lists.{IsIn}
 use Rattle.desk_rows.specs.Readings.{Readings}
 use Rattle.desk_rows.specs.declared.row.Owed.{Owed}
 use Rattle.desk_rows.specs.Raised.{raised, owed_at, numbered}
-use Rattle.desk_rows.specs.Moves.{duties, duty_row, change_rows, change_row, is_move, moves, place, place_by, place_after, all_changes}
-use Rattle.desk_history.specs.Laws.{state_after, IsToldBy}
+use Rattle.desk_rows.specs.Moves.{Move, duties, duty_row, change_rows, change_row, move_by, moves, place, place_after, raises, with_move, all_changes}
+use Rattle.desk_rows.specs.States.{state_after}
+use Rattle.desk_history.specs.Laws.{IsToldBy}
 use Rattle.desk_history.proofs.Members.{from_map}
-use Rattle.desk_history.proofs.Meeting.{in_range}
+use Rattle.desk_history.proofs.Moving.{in_range}
 use Rattle.desk_history.proofs.Queries.{changes-found}
 use Rattle.desk_rows.specs.declared.row.DutyRow.{DutyRow}
 use Rattle.desk_rows.specs.declared.command.Command.{Command}
-use Rattle.desk_rows.specs.declared.command.Command.TheVariants.{LoadCatalogue, Import, OpenRelease, Attach, Choose, Freeze, Meet}
+use Rattle.desk_rows.specs.declared.command.Command.TheVariants.{Freeze}
 
 last_or-end : {A : Type 0} (o : Option A) (xs : List A) (x : A) → last_or o (xs ++ x ∷ []) ≡ Some x
 last_or-end o [] x = refl
 last_or-end o (y ∷ ys) x = last_or-end (Some y) ys x
 
--- the word of a move's row is that of its place
-row_tells : (q step : ℕ) (c : Command) → state_after (change_row q step c).word ≡ place_by c
-row_tells q step (Freeze r day) = refl
-row_tells q step (Meet q' day text) = refl
-row_tells q step _ = refl
-
-abbrev is_moved : List Command → Bool
+abbrev is_moved : List Move → Bool
 is_moved [] = false
 is_moved (m ∷ ms) = true
 
-rows_tell : (q : ℕ) (ms : List Command) → is_moved ms ≡ true → option_map (λ change. state_after change.word) (last_or None (change_rows q ms)) ≡ Some (place_after ms)
+rows_tell : (q : ℕ) (ms : List Move) → is_moved ms ≡ true → option_map (λ change. state_after change.word) (last_or None (change_rows q ms)) ≡ Some (place_after ms)
 rows_tell q [] e = cc
-rows_tell q (m ∷ ms) e =
-    ap (option_map (λ change. state_after change.word)) (last_or-end None (change_rows q ms) (change_row q (length ms + 1) m))
-    ∙ ap Some (row_tells q (length ms + 1) m)
+rows_tell q (m ∷ ms) e = ap (option_map (λ change. state_after change.word)) (last_or-end None (change_rows q ms) (change_row q (length ms + 1) m))
 
 -- a duty that was raised has a move
-moved_more : (b : Bool) (c : Command) (ms : List Command) → is_moved (if b then c ∷ ms else ms) ≡ (b || is_moved ms)
-moved_more true c ms = refl
-moved_more false c ms = refl
-
-or_true : (a b : Bool) → b ≡ true → (a || b) ≡ true
-or_true true b e = refl
-or_true false b e = e
+moved_more : (o : Option Move) (ms : List Move) → is_moved ms ≡ true → is_moved (with_move o ms) ≡ true
+moved_more None ms e = e
+moved_more (Some m) ms e = refl
 
 still_moved : (w : Readings) (h : List Command) (q : ℕ) (c : Command) → is_moved (moves w h q) ≡ true → is_moved (moves w (c ∷ h) q) ≡ true
-still_moved w h q c e = moved_more (is_move w q c h (moves w h q)) c (moves w h q) ∙ or_true (is_move w q c h (moves w h q)) (is_moved (moves w h q)) e
+still_moved w h q c e = moved_more (move_by w q c h (moves w h q)) (moves w h q) e
 
 now_moved : (q a b : ℕ) → in_range 1 q (a + b) ≡ true → in_range 1 q a ≡ false → (nat_lt a q && nat_le q (a + b)) ≡ true
 now_moved q a b e f = grind (arith, nat_tests)
 
 freeze_moves : (w : Readings) (h : List Command) (r day : List ℕ) (q : ℕ) (b : Bool) → in_range 1 q (length (raised w h)) ≡ b → in_range 1 q (length (raised w h) + length (owed_at w h r)) ≡ true → (in_range 1 q (length (raised w h)) ≡ true → is_moved (moves w h q) ≡ true) → is_moved (moves w (Freeze r day ∷ h) q) ≡ true
 freeze_moves w h r day q true e f before = still_moved w h q (Freeze r day) (before e)
-freeze_moves w h r day q false e f before =
-    let here : is_move w q (Freeze r day) h (moves w h q) ≡ true = now_moved q (length (raised w h)) (length (owed_at w h r)) f e in
-    moved_more (is_move w q (Freeze r day) h (moves w h q)) (Freeze r day) (moves w h q) ∙ rw here refl
+freeze_moves w h r day q false e f before = let here : raises w h r q ≡ true = now_moved q (length (raised w h)) (length (owed_at w h r)) f e in rw here refl
 
 none_raised : (q : ℕ) → in_range 1 q 0 ≡ false
 none_raised q = grind (arith, nat_tests)
@@ -65,12 +52,7 @@ raised_moved : (w : Readings) (h : List Command) (q : ℕ) → in_range 1 q (len
 raised_moved w [] q e = let no : in_range 1 q 0 ≡ false = none_raised q in cc
 raised_moved w (Freeze r day ∷ h) q e =
     freeze_moves w h r day q (in_range 1 q (length (raised w h))) refl (ap (in_range 1 q) (sym (length-append (raised w h) (owed_at w h r))) ∙ e) (raised_moved w h q)
-raised_moved w (LoadCatalogue text ∷ h) q e = raised_moved w h q e
-raised_moved w (Import bytes profile ∷ h) q e = raised_moved w h q e
-raised_moved w (OpenRelease r f ∷ h) q e = raised_moved w h q e
-raised_moved w (Attach r n ∷ h) q e = raised_moved w h q e
-raised_moved w (Choose r n p texts ∷ h) q e = raised_moved w h q e
-raised_moved w (Meet q' day text ∷ h) q e = still_moved w h q (Meet q' day text) (raised_moved w h q e)
+raised_moved w (c ∷ h) q e = still_moved w h q c (raised_moved w h q e)
 
 -- the numbers of some
 first_in : (n q k : ℕ) → n ≡ q → in_range n q (k + 1) ≡ true

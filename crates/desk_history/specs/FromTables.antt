@@ -1,16 +1,19 @@
 -- The answer and the change of a command, from the rows of tables: what the code computes.
-use Rattle.std.specs.Prelude.{ℕ, ◌+◌, Bool, List, [], length, filter, map, find, Option, None, is_some, unwrap_or, if◌then◌else◌}
-use Rattle.std.specs.List.{list_any, enumerate_from}
-use Rattle.std.specs.Option.{option_map, option_map_or}
+use Rattle.std.specs.Prelude.{ℕ, ◌+◌, Bool, not, List, [], ◌∷◌, length, filter, map, find, Option, None, is_some, unwrap_or, if◌then◌else◌}
+use Rattle.std.specs.List.{list_any, enumerate_from, last_or}
+use Rattle.std.specs.Option.{option_map, option_map_or, option_and_then}
 use Rattle.std.specs.Result.{result_ok}
 use Rattle.desk_rows.specs.Readings.{Readings}
 use Rattle.desk_rows.specs.Keys.{is_document, is_package, is_release, is_attachment, is_choice_of, is_duty, is_duty_of, is_change_of, is_rule_of}
 use Rattle.desk_rows.specs.History.{rules_in, forms_in, rule_row, namespace_in, packages_in, references_in, package_row, extracted_row, attached_to, term_set}
 use Rattle.desk_rows.specs.declared.row.Owed.{Owed}
 use Rattle.desk_rows.specs.Raised.{shipped_of, owed_for, frozen_for}
-use Rattle.desk_rows.specs.Moves.{duty_row}
+use Rattle.desk_rows.specs.Moves.{Move, duty_row, change_row, has_ended}
+use Rattle.desk_rows.specs.States.{is_met, is_waived}
+use Rattle.desk_rows.specs.declared.row.Standing.{Standing}
+use Rattle.desk_rows.specs.declared.state.Word.{Word}
 use Rattle.desk_rows.specs.Tables.{Tables, applied, choice_row}
-use Rattle.desk_rows.specs.Answers.{load_answer, import_answer, open_answer, attach_answer, choose_answer, freeze_answer, freeze_open, meet_answer, walk, profile_in, is_recorded}
+use Rattle.desk_rows.specs.Answers.{load_answer, import_answer, open_answer, attach_answer, choose_answer, freeze_answer, freeze_open, unchoose_answer, move_answer, withdraw_answer, close_answer, walk, profile_in, is_recorded}
 use Rattle.desk_rows.specs.Queries.{duty_line, totals_of}
 use Rattle.desk_rows.specs.declared.reading.Catalogue.{Catalogue}
 use Rattle.desk_rows.specs.declared.reading.Document.{Document}
@@ -34,7 +37,7 @@ use Rattle.desk_rows.specs.declared.command.Answer.TheVariants as answered
 use Rattle.desk_rows.specs.declared.command.Change.{Change}
 use Rattle.desk_rows.specs.declared.command.Change.TheVariants as change
 use Rattle.desk_rows.specs.declared.command.Command.{Command}
-use Rattle.desk_rows.specs.declared.command.Command.TheVariants.{LoadCatalogue, Import, OpenRelease, Attach, Choose, Freeze, Meet}
+use Rattle.desk_rows.specs.declared.command.Command.TheVariants.{LoadCatalogue, Import, OpenRelease, Attach, Choose, Unchoose, Freeze, Meet, Waive, Reopen, Withdraw, CloseDay}
 use Rattle.desk_rows.specs.declared.command.DutyLine.{DutyLine}
 use Rattle.desk_rows.specs.declared.command.Query.{Query}
 use Rattle.desk_rows.specs.declared.command.Query.TheVariants as query
@@ -57,8 +60,11 @@ rule_of row = record { term = row.term; form = row.form; spelled = row.spelled; 
 abbrev pub rules_found : Tables → List Rule
 rules_found t = map rule_of (filter (is_rule_of (length t.catalogue)) t.rule)
 
+abbrev pub terms_found : Tables → List ℕ → ℕ → List ℕ → List (List ℕ)
+terms_found t r d p = map (λ row. row.term) (filter (is_choice_of r d p) t.choice)
+
 abbrev pub choice_found : Tables → List ℕ → PackageRow → List (List ℕ)
-choice_found t r p = map (λ row. row.term) (filter (is_choice_of r p.document p.id) t.choice)
+choice_found t r p = terms_found t r p.document p.id
 
 abbrev pub shipped_found : Tables → List ℕ → List PackageRow
 shipped_found t r = shipped_of (attached_to t.attached r) t.packages
@@ -73,12 +79,42 @@ steps_found t q = length (filter (is_change_of q) t.changes)
 abbrev pub release_state_found : Tables → Option DutyRow → ReleaseState
 release_state_found t duty = option_map_or (λ row. unwrap_or (state_found t row.release) release.IsOpen) duty release.IsOpen
 
+-- the last day of a duty's last change, if that is a waiver that ends
+abbrev pub end_found : Tables → ℕ → Option (List ℕ)
+end_found t q = option_and_then (λ change. change.last_day) (last_or None (filter (is_change_of q) t.changes))
+
+-- where a duty stands
+abbrev pub standing_found : Tables → DutyRow → Standing
+standing_found t row = record { number = row.number; state = row.state; steps = steps_found t row.number; last_day = end_found t row.number }
+
+-- where the duties of a release stand
+abbrev pub standings_found : Tables → List ℕ → List Standing
+standings_found t r = map (standing_found t) (filter (is_duty_of r) t.duty)
+
+abbrev pub has_waived : DutyRow → Bool
+has_waived row = is_waived row.state
+
+-- where the waived duties stand
+abbrev pub waived_found : Tables → List Standing
+waived_found t = map (standing_found t) (filter has_waived t.duty)
+
+abbrev pub is_unmet : Standing → Bool
+is_unmet s = not (is_met s.state)
+
+-- a waiver's last day is before this one
+abbrev pub ends : List ℕ → Standing → Bool
+ends day s = has_ended day s.state s.last_day
+
 -- what a freeze raises
 abbrev pub owed_found : Readings → Tables → List ℕ → List Owed
 owed_found w t r = owed_for w (rules_found t) (form_found t r) r (choice_found t r) (shipped_found t r)
 
 abbrev pub frozen_found : Readings → Tables → List ℕ → List FrozenRow
 frozen_found w t r = frozen_for w (rules_found t) (form_found t r) r (choice_found t r) (shipped_found t r)
+
+abbrev pub moved_found : Tables → Word → ℕ → List ℕ → List ℕ → Option (List ℕ) → Answer
+moved_found t word q day text until =
+    move_answer word day text until (release_state_found t (duty_found t q)) (steps_found t q) (option_map (λ row. row.state) (duty_found t q))
 
 -- the answer
 abbrev pub answer_from : Readings → Tables → Command → Answer
@@ -91,7 +127,13 @@ answer_from w t (Freeze r day) =
     freeze_answer day (state_found t r) (length (attached_to t.attached r))
     (walk w (rules_found t) (form_found t r) (profile_in t.document) (choice_found t r) (shipped_found t r))
     (length t.duty) (length (owed_found w t r))
-answer_from w t (Meet q day text) = meet_answer day text (release_state_found t (duty_found t q)) (steps_found t q) (option_map (λ row. row.state) (duty_found t q))
+answer_from w t (Unchoose r d p) =
+    unchoose_answer d p (state_found t r) (is_some (find (is_document d) t.document)) (is_some (find (is_package d p) t.packages)) (terms_found t r d p)
+answer_from w t (Meet q day text) = moved_found t word.Met q day text None
+answer_from w t (Waive q day text until) = moved_found t word.Waived q day text until
+answer_from w t (Reopen q day text) = moved_found t word.Reopened q day text None
+answer_from w t (Withdraw r day text) = withdraw_answer day text (state_found t r)
+answer_from w t (CloseDay day) = close_answer day (length (filter (ends day) (waived_found t)))
 
 abbrev pub new_duty : ℕ × Owed → DutyRow
 new_duty d = duty_row stands.IsOpen d
@@ -142,9 +184,19 @@ abbrev pub freeze_change_found : Readings → Tables → List ℕ → List ℕ �
 freeze_change_found w t r form day =
     froze_as t r day (frozen_for w (rules_found t) form r (choice_found t r) (shipped_found t r)) (owed_for w (rules_found t) form r (choice_found t r) (shipped_found t r))
 
-abbrev pub met_change : Tables → ℕ → List ℕ → List ℕ → Change
-met_change t q day text =
-    change.Moved q stands.Met (record { duty = q; step = steps_found t q + 1; day = day; word = word.Met; body = text; last_day = None })
+-- one move of a duty
+abbrev pub moved_change : Tables → ℕ → Move → Change
+moved_change t q m = change.Moved (change_row q (steps_found t q + 1) m ∷ [])
+
+-- the row of a duty's next move
+abbrev pub next_row : Move → Standing → ChangeRow
+next_row m s = change_row s.number (s.steps + 1) m
+
+abbrev pub withdrawn_rows : List ℕ → List ℕ → List Standing → List ChangeRow
+withdrawn_rows day text all = map (next_row (record { day = day; word = word.Withdrawn; body = text; last_day = None })) (filter is_unmet all)
+
+abbrev pub ended_rows : List ℕ → List Standing → List ChangeRow
+ended_rows day all = map (next_row (record { day = day; word = word.Ended; body = []; last_day = None })) (filter (ends day) all)
 
 abbrev pub change_for : Readings → Tables → Command → Change
 change_for w t (LoadCatalogue text) = loaded_change t text (result_ok (w.catalogue text))
@@ -153,7 +205,12 @@ change_for w t (OpenRelease r form) = opened_change t r form
 change_for w t (Attach r d) = change.Attached (record { release = r; document = d })
 change_for w t (Choose r d p texts) = chosen_change r d p (term_set w texts)
 change_for w t (Freeze r day) = froze_change t r day (frozen_found w t r) (new_duties w t r)
-change_for w t (Meet q day text) = met_change t q day text
+change_for w t (Unchoose r d p) = chosen_change r d p []
+change_for w t (Meet q day text) = moved_change t q (record { day = day; word = word.Met; body = text; last_day = None })
+change_for w t (Waive q day text until) = moved_change t q (record { day = day; word = word.Waived; body = text; last_day = until })
+change_for w t (Reopen q day text) = moved_change t q (record { day = day; word = word.Reopened; body = text; last_day = None })
+change_for w t (Withdraw r day text) = change.Withdrew r (withdrawn_rows day text (standings_found t r))
+change_for w t (CloseDay day) = change.Moved (ended_rows day (waived_found t))
 
 -- the rows after an answer
 abbrev pub noted_by : Answer → Change → Tables → Tables

@@ -20,10 +20,7 @@ use Rattle.desk_rows.specs.declared.row.Owed.{Owed}
 use Rattle.desk_rows.specs.declared.row.DutyRow.{DutyRow}
 use Rattle.desk_rows.specs.declared.row.FrozenRow.{FrozenRow}
 use Rattle.desk_rows.specs.declared.row.ChangeRow.{ChangeRow}
-use Rattle.desk_rows.specs.declared.state.DutyState.{DutyState}
-use Rattle.desk_rows.specs.declared.state.DutyState.TheVariants as stands
-use Rattle.desk_rows.specs.declared.state.Word.{Word}
-use Rattle.desk_rows.specs.declared.state.Word.TheVariants as word
+use Rattle.desk_rows.specs.States.{state_after}
 use Rattle.desk_rows.specs.declared.command.Command.{Command}
 use Rattle.desk_rows.specs.declared.command.Command.TheVariants.{Freeze}
 
@@ -114,15 +111,6 @@ key_of duty = (duty.release, duty.document, duty.package_id, duty.term, duty.cod
 pub record ListsOnce (w : Readings) : Type 0 where
   pub packages : (bytes : List ℕ) (document : Document) → w.document bytes ≡ Ok document → AreDistinct (map (λ p. p.id) document.packages)
   pub codes : (text : List ℕ) (catalogue : Catalogue) (rule : Rule) → w.catalogue text ≡ Ok catalogue → IsIn rule catalogue.rules → AreDistinct rule.codes
-
--- where a change with this word leaves a duty
-abbrev pub state_after : Word → DutyState
-state_after word.Raised = stands.IsOpen
-state_after word.Met = stands.Met
-state_after word.Waived = stands.Waived
-state_after word.Reopened = stands.IsOpen
-state_after word.Withdrawn = stands.Withdrawn
-state_after word.Ended = stands.IsOpen
 
 -- a duty stands where the last of its changes left it
 abbrev pub IsToldBy : List ChangeRow → DutyRow → Type 0
