@@ -1,5 +1,6 @@
 -- Which changes go on from the rows of some tables. A store owes nothing to any other change.
-use Rattle.std.specs.Prelude.{◌≡◌, ℕ, ◌+◌, Bool, true, ◌==◌, ◌&&◌, List, [], ◌∷◌, length}
+use Rattle.std.specs.Prelude.{◌≡◌, ℕ, ◌+◌, Bool, true, ◌==◌, ◌&&◌, nat_lt, List, [], ◌∷◌, length, map}
+use Rattle.std.specs.List.{list_all}
 use Rattle.desk_rows.specs.Tables.{Tables}
 use Rattle.desk_rows.specs.declared.row.DutyRow.{DutyRow}
 use Rattle.desk_rows.specs.declared.row.ChangeRow.{ChangeRow}
@@ -17,6 +18,19 @@ abbrev pub are_first : ℕ → List ChangeRow → Bool
 are_first n [] = true
 are_first n (row ∷ rows) = (row.duty == n) && (row.step == 1) && are_first (n + 1) rows
 
+-- the numbers of duties rise
+abbrev pub rise : List ℕ → Bool
+rise [] = true
+rise (n ∷ ns) = list_all (nat_lt n) ns && rise ns
+
+-- each change is the next step of its duty
+abbrev pub are_next : Tables → List ChangeRow → Bool
+are_next t rows = list_all (λ row. row.step == steps_found t row.duty + 1) rows
+
+-- Changes of duties, each with the next step of its own; where the duties of the tables stand by rising numbers, so do the changes.
+abbrev pub AreNext : Tables → List ChangeRow → Type 0
+AreNext t rows = (are_next t rows ≡ true) × (rise (map (λ row. row.number) t.duty) ≡ true → rise (map (λ row. row.duty) rows) ≡ true)
+
 -- a new revision, document or release has the next number, new duties the next ones, a change of a duty its next step
 abbrev pub Follows : Change → Tables → Type 0
 Follows (change.Loaded row rules forms) t = row.revision ≡ length t.catalogue + 1
@@ -24,5 +38,6 @@ Follows (change.Imported row packages references) t = row.number ≡ length t.do
 Follows (change.Opened row) t = row.place ≡ length t.releases + 1
 Follows (change.Froze release revision rows duties changes) t =
     (are_numbered (length t.duty + 1) duties ≡ true) × (are_first (length t.duty + 1) changes ≡ true) × (length changes ≡ length duties)
-Follows (change.Moved duty state row) t = (row.duty ≡ duty) × (row.step ≡ steps_found t duty + 1)
+Follows (change.Moved rows) t = AreNext t rows
+Follows (change.Withdrew release rows) t = AreNext t rows
 Follows _ t = Unit {0}

@@ -10,11 +10,13 @@ ghost use Rattle.desk_access.specs.Seen.{Seen, Looked, OfRows, Wrote};
 ghost use Rattle.desk_rows.specs.Faults.{MayFail};
 ghost use Rattle.desk_rows.specs.History.{attached_to, rule_for};
 ghost use Rattle.desk_rows.specs.Queries.{last_day};
-ghost use Rattle.desk_history.specs.FromTables.{release_found, rules_found, duty_found, steps_found, known_import, known_document};
+ghost use Rattle.desk_history.specs.FromTables.{release_found, rules_found, duty_found, steps_found, standings_found, waived_found, known_import, known_document};
 ghost use Rattle.desk_rows.specs.declared.command.StoreFault.{StoreFault};
 
 use desk_base::{Day, Text};
-use desk_rows::{AttachedRow, Change, DutyRow, Fault, PackageRow, Profile, ReleaseRow, Rule};
+use desk_rows::{
+    AttachedRow, Change, DutyRow, Fault, PackageRow, Profile, ReleaseRow, Rule, Standing,
+};
 
 /// Tables of rows, in memory or in a database. Look-ups leave the rows; `commit` alone writes, all of a change or nothing.
 ///
@@ -138,6 +140,18 @@ pub trait Store {
     /// The duties of a release, by number.
     fn duties_of(&mut self, release: &str) -> Result<Vec<DutyRow>, Fault>
         ensures found { IfOk result (λ found. OfRows (λ t. found.items ≡ filter (is_duty_of release.now) t.duty) (seen self.old) (seen self.new)) }
+        ensures kept { Looked (seen self.old) (seen self.new) result }
+        ensures fault { IfErr result (MayFail tells) };
+
+    /// Where the duties of a release stand, by number.
+    fn standings_of(&mut self, release: &str) -> Result<Vec<Standing>, Fault>
+        ensures found { IfOk result (λ found. OfRows (λ t. found.items ≡ standings_found t release.now) (seen self.old) (seen self.new)) }
+        ensures kept { Looked (seen self.old) (seen self.new) result }
+        ensures fault { IfErr result (MayFail tells) };
+
+    /// Where the waived duties stand, by number.
+    fn waived(&mut self) -> Result<Vec<Standing>, Fault>
+        ensures found { IfOk result (λ found. OfRows (λ t. found.items ≡ waived_found t) (seen self.old) (seen self.new)) }
         ensures kept { Looked (seen self.old) (seen self.new) result }
         ensures fault { IfErr result (MayFail tells) };
 

@@ -1,16 +1,22 @@
 -- The change of each command goes on from the rows that it was made for.
-use Rattle.std.proofs.Common.{◌≡◌, ℕ, ◌+◌, Bool, true, List, [], ◌∷◌, length, map, refl, sym, ap, ◌∙◌, arith}
-use Rattle.std.specs.Prelude.{◌==◌, ◌&&◌}
-use Rattle.std.specs.List.{enumerate_from}
+use Rattle.std.proofs.Common.{◌≡◌, ℕ, ◌+◌, Bool, true, false, cond, List, [], ◌∷◌, length, map, refl, sym, ap, ◌∙◌, arith}
+use Rattle.std.specs.Prelude.{◌==◌, ◌&&◌, nat_lt, filter, Option, None}
+use Rattle.std.specs.List.{enumerate_from, list_all}
 use Rattle.std.proofs.lemmas.Bool.Decides.{nat_tests}
 use Rattle.desk_rows.specs.Readings.{Readings}
 use Rattle.desk_rows.specs.Tables.{Tables}
 use Rattle.desk_rows.specs.declared.row.Owed.{Owed}
 use Rattle.desk_rows.specs.declared.row.DutyRow.{DutyRow}
 use Rattle.desk_rows.specs.declared.command.Command.{Command}
-use Rattle.desk_rows.specs.declared.command.Command.TheVariants.{LoadCatalogue, Import, OpenRelease, Attach, Choose, Freeze, Meet}
-use Rattle.desk_history.specs.FromTables.{change_for, new_duty, raised_row, owed_found}
-use Rattle.desk_access.specs.Follows.{Follows, are_numbered, are_first}
+use Rattle.desk_rows.specs.declared.command.Command.TheVariants.{LoadCatalogue, Import, OpenRelease, Attach, Choose, Unchoose, Freeze, Meet, Waive, Reopen, Withdraw, CloseDay}
+use Rattle.desk_rows.specs.Keys.{is_duty_of}
+use Rattle.desk_rows.specs.Moves.{change_row}
+use Rattle.desk_rows.specs.declared.row.Move.{Move}
+use Rattle.desk_rows.specs.declared.row.ChangeRow.{ChangeRow}
+use Rattle.desk_rows.specs.declared.row.Standing.{Standing}
+use Rattle.desk_rows.specs.declared.state.Word.TheVariants as word
+use Rattle.desk_history.specs.FromTables.{change_for, new_duty, raised_row, owed_found, steps_found, standing_found, is_unmet, ends, has_waived, next_row}
+use Rattle.desk_access.specs.Follows.{Follows, AreNext, are_numbered, are_first, are_next, rise}
 
 same_number : (n : ℕ) → (n == n) ≡ true
 same_number n = grind (arith, nat_tests)
@@ -27,6 +33,73 @@ length-map : {A B : Type 0} (f : A → B) (xs : List A) → length (map f xs) �
 length-map f [] = refl
 length-map f (x ∷ xs) = omega (arith, length-map f xs)
 
+and_left : (a b : Bool) → (a && b) ≡ true → a ≡ true
+and_left true b e = refl
+and_left false b e = e
+
+and_right : (a b : Bool) → (a && b) ≡ true → b ≡ true
+and_right true b e = e
+and_right false b e = cc
+
+both : (a b : Bool) → a ≡ true → b ≡ true → (a && b) ≡ true
+both true b e f = f
+both false b e f = e
+
+-- one change
+next_one : (t : Tables) (q : ℕ) (m : Move) → AreNext t (change_row q (steps_found t q + 1) m ∷ [])
+next_one t q m = (both (steps_found t q + 1 == steps_found t q + 1) true (same_number (steps_found t q + 1)) refl, λ e. refl)
+
+-- the changes of the duties that pass two tests
+abbrev those : Tables → Move → (Standing → Bool) → (DutyRow → Bool) → List DutyRow → List ChangeRow
+those t m is test rows = map (next_row m) (filter is (map (standing_found t) (filter test rows)))
+
+next_all : (t : Tables) (m : Move) (is : Standing → Bool) (test : DutyRow → Bool) (rows : List DutyRow) → are_next t (those t m is test rows) ≡ true
+next_all t m is test [] = refl
+next_all t m is test (row ∷ rows) =
+    let rest = next_all t m is test rows in
+    elim (test row) as (λ b. are_next t (map (next_row m) (filter is (map (standing_found t) (cond b (row ∷ filter test rows) (filter test rows))))) ≡ true) [
+      | false ↦ rest
+      | true ↦ elim (is (standing_found t row)) as (λ b. are_next t (map (next_row m) (cond b (standing_found t row ∷ filter is (map (standing_found t) (filter test rows))) (filter is (map (standing_found t) (filter test rows))))) ≡ true) [
+        | false ↦ rest
+        | true ↦ both (steps_found t row.number + 1 == steps_found t row.number + 1) (are_next t (those t m is test rows)) (same_number (steps_found t row.number + 1)) rest
+      ]
+    ]
+
+abbrev numbers_of : List DutyRow → List ℕ
+numbers_of rows = map (λ (row : DutyRow). row.number) rows
+
+abbrev duties_of : List ChangeRow → List ℕ
+duties_of rows = map (λ (row : ChangeRow). row.duty) rows
+
+above_kept : (t : Tables) (m : Move) (is : Standing → Bool) (test : DutyRow → Bool) (n : ℕ) (rows : List DutyRow) → list_all (nat_lt n) (numbers_of rows) ≡ true → list_all (nat_lt n) (duties_of (those t m is test rows)) ≡ true
+above_kept t m is test n [] e = refl
+above_kept t m is test n (row ∷ rows) e =
+    let here = and_left (nat_lt n row.number) (list_all (nat_lt n) (numbers_of rows)) e in
+    let rest = above_kept t m is test n rows (and_right (nat_lt n row.number) (list_all (nat_lt n) (numbers_of rows)) e) in
+    elim (test row) as (λ b. list_all (nat_lt n) (duties_of (map (next_row m) (filter is (map (standing_found t) (cond b (row ∷ filter test rows) (filter test rows)))))) ≡ true) [
+      | false ↦ rest
+      | true ↦ elim (is (standing_found t row)) as (λ b. list_all (nat_lt n) (duties_of (map (next_row m) (cond b (standing_found t row ∷ filter is (map (standing_found t) (filter test rows))) (filter is (map (standing_found t) (filter test rows)))))) ≡ true) [
+        | false ↦ rest
+        | true ↦ both (nat_lt n row.number) (list_all (nat_lt n) (duties_of (those t m is test rows))) here rest
+      ]
+    ]
+
+rise_kept : (t : Tables) (m : Move) (is : Standing → Bool) (test : DutyRow → Bool) (rows : List DutyRow) → rise (numbers_of rows) ≡ true → rise (duties_of (those t m is test rows)) ≡ true
+rise_kept t m is test [] e = refl
+rise_kept t m is test (row ∷ rows) e =
+    let above = above_kept t m is test row.number rows (and_left (list_all (nat_lt row.number) (numbers_of rows)) (rise (numbers_of rows)) e) in
+    let rest = rise_kept t m is test rows (and_right (list_all (nat_lt row.number) (numbers_of rows)) (rise (numbers_of rows)) e) in
+    elim (test row) as (λ b. rise (duties_of (map (next_row m) (filter is (map (standing_found t) (cond b (row ∷ filter test rows) (filter test rows)))))) ≡ true) [
+      | false ↦ rest
+      | true ↦ elim (is (standing_found t row)) as (λ b. rise (duties_of (map (next_row m) (cond b (standing_found t row ∷ filter is (map (standing_found t) (filter test rows))) (filter is (map (standing_found t) (filter test rows)))))) ≡ true) [
+        | false ↦ rest
+        | true ↦ both (list_all (nat_lt row.number) (duties_of (those t m is test rows))) (rise (duties_of (those t m is test rows))) above rest
+      ]
+    ]
+
+next_many : (t : Tables) (m : Move) (is : Standing → Bool) (test : DutyRow → Bool) → AreNext t (those t m is test t.duty)
+next_many t m is test = (next_all t m is test t.duty, rise_kept t m is test t.duty)
+
 pub change_follows : (w : Readings) (t : Tables) (c : Command) → Follows (change_for w t c) t
 change_follows w t (LoadCatalogue text) = refl
 change_follows w t (Import bytes profile) = refl
@@ -38,4 +111,9 @@ change_follows w t (Freeze r day) = (
   first_on day (length t.duty + 1) (owed_found w t r),
   length-map (raised_row day) (map new_duty (enumerate_from (length t.duty + 1) (owed_found w t r))),
 )
-change_follows w t (Meet q day text) = (refl, refl)
+change_follows w t (Unchoose r d p) = tt
+change_follows w t (Meet q day text) = next_one t q (record { day = day; word = word.Met; body = text; last_day = None })
+change_follows w t (Waive q day text until) = next_one t q (record { day = day; word = word.Waived; body = text; last_day = until })
+change_follows w t (Reopen q day text) = next_one t q (record { day = day; word = word.Reopened; body = text; last_day = None })
+change_follows w t (Withdraw r day text) = next_many t (record { day = day; word = word.Withdrawn; body = text; last_day = None }) is_unmet (is_duty_of r)
+change_follows w t (CloseDay day) = next_many t (record { day = day; word = word.Ended; body = []; last_day = None }) (ends day) has_waived

@@ -3,7 +3,8 @@
 ghost use Rattle.std.specs.Prelude.{◌≡◌, ℕ, IfOk, IfErr, map, filter, length, count_by};
 ghost use Rattle.desk_rows.specs.Faults.{MayFail};
 ghost use Rattle.desk_rows.specs.Keys.{is_change_of};
-ghost use Rattle.desk_rows.specs.Queries.{duty_line, totals_of, is_open, is_met, is_waived, is_withdrawn};
+ghost use Rattle.desk_rows.specs.Queries.{duty_line, totals_of};
+ghost use Rattle.desk_rows.specs.States.{is_open, is_met, is_waived, is_withdrawn};
 ghost use Rattle.desk_access.specs.Seen.{Looked, OfRows};
 ghost use Rattle.desk_history.specs.FromTables.{queried_from, line_found};
 

@@ -11,11 +11,12 @@ ghost use Rattle.desk_history.specs.FromTables.{answer_from, change_for};
 ghost use Rattle.desk_rows.specs.declared.command.Command.TheVariants.{Import};
 
 use crate::catalogue::load_catalogue;
-use crate::choice::choose;
+use crate::choice::{choose, unchoose};
 use crate::document::{import, import_copy};
-use crate::duty::meet;
+use crate::duty::{meet, reopen, waive};
 use crate::freeze::freeze;
 use crate::release::{attach, open_release};
+use crate::withdraw::{close_day, withdraw};
 use desk_access::store::Store;
 use desk_access::texts::Texts;
 use desk_base::Items;
@@ -46,7 +47,21 @@ pub fn plan<T: Texts, S: Store>(
             terms,
         } => choose(alloc, texts, store, release, *document, package_id, terms),
         Command::Freeze { release, day } => freeze(alloc, texts, store, release, day),
-        Command::Meet { duty, day, text } => meet(store, *duty, day, text),
+        Command::Unchoose {
+            release,
+            document,
+            package_id,
+        } => unchoose(alloc, store, release, *document, package_id),
+        Command::Meet { duty, day, text } => meet(alloc, store, *duty, day, text),
+        Command::Waive {
+            duty,
+            day,
+            text,
+            until,
+        } => waive(alloc, store, *duty, day, text, until),
+        Command::Reopen { duty, day, text } => reopen(alloc, store, *duty, day, text),
+        Command::Withdraw { release, day, text } => withdraw(alloc, store, release, day, text),
+        Command::CloseDay { day } => close_day(alloc, store, day),
     }
 }
 

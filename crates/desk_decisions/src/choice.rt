@@ -1,4 +1,4 @@
-//! Terms are chosen for the packages of a release.
+//! Terms are chosen for the packages of a release, and choices dropped.
 
 ghost use Rattle.std.specs.Prelude.{◌≡◌, ◌≤◌, ◌<◌, ◌+◌, ◌++◌, ◌∷◌, [], IfOk, IfErr, OnOk, false, MatchOption, insert, map, length, Ok, Some, None, Option, filter};
 ghost use Rattle.std.specs.Option.{option_map};
@@ -11,9 +11,10 @@ ghost use Rattle.desk_history.specs.FromTables.{chosen_change};
 ghost use Rattle.desk_access.specs.Seen.{Looked, OfRows};
 ghost use Rattle.desk_access.specs.Plans.{IsPlan, IsPlanOf, IsSound, Plans, SparesStore};
 ghost use Rattle.desk_decisions.specs.Walks.{AreTermsOf, choose_found, IsFound, IsOpenPlace};
+ghost use Rattle.desk_decisions.specs.Dropping.{drop_answer, unchoose_in};
 ghost use Rattle.desk_rows.specs.Answers.{judged, refused_alone};
 ghost use Rattle.desk_rows.specs.declared.command.Answer.TheVariants.{Done};
-ghost use Rattle.desk_rows.specs.declared.command.Command.TheVariants.{Choose};
+ghost use Rattle.desk_rows.specs.declared.command.Command.TheVariants.{Choose, Unchoose};
 
 use crate::plan::{done, refused};
 use crate::release::unready;
@@ -287,4 +288,89 @@ pub fn choose<T: Texts, S: Store>(
             alloc, texts, store, release, document, package_id, terms,
         ),
     }
+}
+
+/// The change that drops the choice for a package.
+fn dropped(
+    alloc: Global,
+    release: &Text,
+    document: u32,
+    package_id: &Text,
+) -> Result<Change, AllocError>
+    ensures { IfOk result (λ change. change ≡ chosen_change release.now document package_id.now []) }
+{
+    Ok(Change::Chosen {
+        release: release.clone()?,
+        document,
+        package_id: package_id.clone()?,
+        rows: Items::new(alloc),
+    })
+}
+
+/// Drops the choice for a package, where there is one.
+fn unchoose_terms(
+    alloc: Global,
+    release: &Text,
+    document: u32,
+    package_id: &Text,
+    terms: &[Text],
+) -> Result<Plan, AllocError>
+    ensures plan { IfOk result (IsPlan (drop_answer document package_id.now terms.now) (chosen_change release.now document package_id.now [])) }
+    ensures sound { IfOk result IsSound }
+{
+    if terms.is_empty() {
+        return Ok(refused(Refusal::NoChoice {
+            document,
+            package_id: package_id.clone()?,
+        }));
+    }
+    Ok(done(dropped(alloc, release, document, package_id)?))
+}
+
+/// Drops the choice for a package of a document that was found, in a release in this state.
+fn unchoose_in<S: Store>(
+    alloc: Global,
+    store: &mut S,
+    state: ReleaseState,
+    release: &Text,
+    document: u32,
+    package_id: &Text,
+) -> Result<Plan, Fault>
+    ensures plan { IfOk result (λ plan. OfRows (λ t. IsPlan (unchoose_in t state release.now document package_id.now) (chosen_change release.now document package_id.now []) plan) (S.seen store.old) (S.seen store.new)) }
+    ensures kept { Plans (S.seen store.old) (S.seen store.new) result }
+    ensures fault { IfErr result (MayFail S.tells) }
+{
+    if store
+        .package_row(u64::from(document), package_id.as_str())?
+        .is_none()
+    {
+        return Ok(refused(Refusal::UnknownPackage));
+    }
+    if let Some(refusal) = unready(state) {
+        return Ok(refused(refusal));
+    }
+    let terms = store.chosen(release.as_str(), document, package_id.as_str())?;
+    Ok(unchoose_terms(alloc, release, document, package_id, terms.as_slice())?)
+}
+
+/// Drops the choice for a package in a release.
+pub fn unchoose<S: Store>(
+    alloc: Global,
+    store: &mut S,
+    release: &Text,
+    document: u64,
+    package_id: &Text,
+) -> Result<Plan, Fault>
+    ensures plan { (w : Readings) → IfOk result (λ plan. OfRows (IsPlanOf w (Unchoose release.now document package_id.now) plan) (S.seen store.old) (S.seen store.new)) }
+    ensures kept { Plans (S.seen store.old) (S.seen store.new) result }
+    ensures alone { (w : Readings) → SparesStore (refused_alone w (Unchoose release.now document package_id.now)) result }
+    ensures fault { IfErr result (MayFail S.tells) }
+{
+    let Some(row) = store.release(release.as_str())? else {
+        return Ok(refused(Refusal::UnknownRelease));
+    };
+    let Some((number, _)) = store.document(document)? else {
+        return Ok(refused(Refusal::UnknownDocument));
+    };
+    unchoose_in(alloc, store, row.state, release, number, package_id)
 }

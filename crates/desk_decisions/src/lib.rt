@@ -6,7 +6,7 @@
 //! commits the rows of that answer, all or none: after a refusal, Again or a fault the rows are as they were.
 //!
 //! - `carry_out` is all commands; `answer_to` all questions.
-//! - `catalogue`, `document`, `release`, `choice`, `freeze` and `duty` have one command or two each.
+//! - `catalogue`, `document`, `release`, `choice`, `freeze`, `duty` and `withdraw` have one command to three each.
 #![tactic(auto)]
 
 pub mod ask;
@@ -18,3 +18,4 @@ pub mod duty;
 pub mod freeze;
 mod plan;
 pub mod release;
+pub mod withdraw;

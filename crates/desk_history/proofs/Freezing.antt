@@ -13,7 +13,8 @@ use Rattle.desk_rows.specs.Keys.{is_release, below_by, frozen_order}
 use Rattle.desk_rows.specs.History.{revisions, in_force, rules_in, documents, attached, attached_to, names, form_of, state_of}
 use Rattle.desk_rows.specs.declared.row.Owed.{Owed}
 use Rattle.desk_rows.specs.Raised.{raised, owed_at, owed_for, numbered, shipped, chosen_in, frozen, frozen_at, frozen_for}
-use Rattle.desk_rows.specs.Moves.{Move, duties, duty_row, changes, moves, place, move_by, raises, duty_at, is_raised_for, all_changes}
+use Rattle.desk_rows.specs.declared.row.Move.{Move}
+use Rattle.desk_rows.specs.Moves.{duties, duty_row, changes, moves, place, move_by, raises, duty_at, is_raised_for, all_changes}
 use Rattle.desk_rows.specs.declared.state.Word.TheVariants as word
 use Rattle.desk_history.proofs.Moving.{in_range, known_at}
 use Rattle.desk_rows.specs.Tables.{tables, release_row, with_release_state}

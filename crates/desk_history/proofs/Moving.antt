@@ -14,7 +14,8 @@ use Rattle.desk_rows.specs.Keys.{is_duty, is_change_of, change_below}
 use Rattle.desk_rows.specs.declared.row.Owed.{Owed}
 use Rattle.desk_rows.specs.Raised.{raised, numbered}
 use Rattle.desk_rows.specs.States.{state_after}
-use Rattle.desk_rows.specs.Moves.{Move, move_if, is_known, with_move, duties, duty_row, duty_at, changes, change_rows, change_row, moves, place, place_after, all_changes}
+use Rattle.desk_rows.specs.declared.row.Move.{Move}
+use Rattle.desk_rows.specs.Moves.{move_if, is_known, with_move, duties, duty_row, duty_at, changes, change_rows, change_row, moves, place, place_after, all_changes}
 use Rattle.desk_rows.specs.Tables.{tables, with_duty_state, moved_by}
 use Rattle.desk_rows.specs.Answers.{is_recorded, is_over, unless, refused_or, release_state_of, move_answer, moved_answer}
 use Rattle.desk_history.specs.FromTables.{duty_found, steps_found, release_state_found, moved_found}

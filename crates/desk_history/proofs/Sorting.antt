@@ -11,7 +11,8 @@ use Rattle.desk_rows.specs.Texts.{text_below}
 use Rattle.desk_rows.specs.Keys.{below_by, release_below, attached_order, choice_order, frozen_order, change_below}
 use Rattle.desk_rows.specs.History.{revisions, documents, names, opened, namespace_in, attachment}
 use Rattle.desk_rows.specs.Raised.{raised, frozen}
-use Rattle.desk_rows.specs.Moves.{Move, duty_row, place, moves, changes, change_row, change_rows}
+use Rattle.desk_rows.specs.declared.row.Move.{Move}
+use Rattle.desk_rows.specs.Moves.{duty_row, place, moves, changes, change_row, change_rows}
 use Rattle.desk_rows.specs.Tables.{tables, release_row, standing}
 use Rattle.desk_history.specs.Laws.{Ascends, AreSorted, revision_below, document_below, duty_below}
 use Rattle.desk_history.proofs.Members.{in_cases, from_map}

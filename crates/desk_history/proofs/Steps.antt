@@ -6,7 +6,8 @@ use Rattle.desk_rows.specs.Lists.{put_all}
 use Rattle.desk_rows.specs.Readings.{Readings}
 use Rattle.desk_rows.specs.Keys.{is_document, is_package, is_attachment, below_by, choice_order}
 use Rattle.desk_rows.specs.History.{opened, form_of, forms_in, in_force, documents, packages, attached, attached_to, term_set}
-use Rattle.desk_rows.specs.Moves.{Move, duties, all_changes}
+use Rattle.desk_rows.specs.declared.row.Move.{Move}
+use Rattle.desk_rows.specs.Moves.{duties, all_changes}
 use Rattle.desk_rows.specs.declared.state.Word.TheVariants as word
 use Rattle.desk_rows.specs.Tables.{Tables, tables, applied, standing, choice_row, is_other_choice, is_choice_elsewhere}
 use Rattle.desk_rows.specs.Answers.{answer, IsHistory, is_recorded, noted, open_answer, attach_answer, choose_answer, unchoose_answer, withdraw_answer, close_answer, moved_answer, release_state}

@@ -8,7 +8,8 @@ use Rattle.desk_rows.specs.Lists.{IsIn}
 use Rattle.desk_rows.specs.Readings.{Readings}
 use Rattle.desk_rows.specs.declared.row.Owed.{Owed}
 use Rattle.desk_rows.specs.Raised.{raised, owed_at, numbered}
-use Rattle.desk_rows.specs.Moves.{Move, duties, duty_row, change_rows, change_row, move_by, moves, place, place_after, raises, with_move, all_changes}
+use Rattle.desk_rows.specs.declared.row.Move.{Move}
+use Rattle.desk_rows.specs.Moves.{duties, duty_row, change_rows, change_row, move_by, moves, place, place_after, raises, with_move, all_changes}
 use Rattle.desk_rows.specs.States.{state_after}
 use Rattle.desk_history.specs.Laws.{IsToldBy}
 use Rattle.desk_history.proofs.Members.{from_map}

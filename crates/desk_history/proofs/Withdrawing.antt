@@ -11,7 +11,8 @@ use Rattle.desk_rows.specs.Keys.{is_release, is_duty_of, change_below}
 use Rattle.desk_rows.specs.History.{names, in_force}
 use Rattle.desk_rows.specs.Raised.{raised, numbered}
 use Rattle.desk_rows.specs.States.{is_met, is_waived}
-use Rattle.desk_rows.specs.Moves.{Move, move_if, duty_at, duties, duty_row, change_row, change_rows, moves, place, end_after, has_ended, is_raised_for, all_changes}
+use Rattle.desk_rows.specs.declared.row.Move.{Move}
+use Rattle.desk_rows.specs.Moves.{move_if, duty_at, duties, duty_row, change_row, change_rows, moves, place, end_after, has_ended, is_raised_for, all_changes}
 use Rattle.desk_rows.specs.Tables.{tables, release_row, withdrawn_release, moved_by}
 use Rattle.desk_rows.specs.declared.row.Owed.{Owed}
 use Rattle.desk_rows.specs.declared.row.DutyRow.{DutyRow}

@@ -8,7 +8,8 @@ use Rattle.desk_rows.specs.Keys.{is_document, is_package, is_release, is_attachm
 use Rattle.desk_rows.specs.History.{rules_in, forms_in, rule_row, namespace_in, packages_in, references_in, package_row, extracted_row, attached_to, term_set}
 use Rattle.desk_rows.specs.declared.row.Owed.{Owed}
 use Rattle.desk_rows.specs.Raised.{shipped_of, owed_for, frozen_for}
-use Rattle.desk_rows.specs.Moves.{Move, duty_row, change_row, has_ended}
+use Rattle.desk_rows.specs.declared.row.Move.{Move}
+use Rattle.desk_rows.specs.Moves.{duty_row, change_row, has_ended}
 use Rattle.desk_rows.specs.States.{is_met, is_waived}
 use Rattle.desk_rows.specs.declared.row.Standing.{Standing}
 use Rattle.desk_rows.specs.declared.state.Word.{Word}

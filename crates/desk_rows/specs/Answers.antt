@@ -136,11 +136,11 @@ choose_answer w texts state document found is_attached =
 abbrev pub unchoose_answer : ℕ → List ℕ → Option ReleaseState → Bool → Bool → List (List ℕ) → Answer
 unchoose_answer d p state known found chosen = refused_first (
     unless (is_some state) why.UnknownRelease
-  ∷ unless known why.UnknownDocument
-  ∷ unless found why.UnknownPackage
-  ∷ option_and_then unready state
-  ∷ unless (nat_lt 0 (length chosen)) (why.NoChoice d p)
-  ∷ []) answered.Done
+    ∷ unless known why.UnknownDocument
+    ∷ unless found why.UnknownPackage
+    ∷ option_and_then unready state
+    ∷ unless (nat_lt 0 (length chosen)) (why.NoChoice d p)
+    ∷ []) answered.Done
 
 -- Freeze's walk over the shipped packages: the first that fails
 
@@ -210,22 +210,22 @@ is_over day until = option_map_or (λ last. is_before last day) until false
 abbrev pub move_answer : Word → List ℕ → List ℕ → Option (List ℕ) → ReleaseState → ℕ → Option DutyState → Answer
 move_answer word day text until state steps place = refused_first (
     unless (is_day day && option_map_or is_day until true) why.BadDay
-  ∷ unless (is_note text) why.BadText
-  ∷ unless (not (is_over day until)) why.BadEnd
-  ∷ unless (is_some place) why.UnknownDuty
-  ∷ gone state
-  ∷ option_and_then (settled word) place
-  ∷ unless (nat_lt steps 999) (why.Full limit.Changes)
-  ∷ []) answered.Done
+    ∷ unless (is_note text) why.BadText
+    ∷ unless (not (is_over day until)) why.BadEnd
+    ∷ unless (is_some place) why.UnknownDuty
+    ∷ gone state
+    ∷ option_and_then (settled word) place
+    ∷ unless (nat_lt steps 999) (why.Full limit.Changes)
+    ∷ []) answered.Done
 
 -- Withdraw: the day, the text, the release, its state
 abbrev pub withdraw_answer : List ℕ → List ℕ → Option ReleaseState → Answer
 withdraw_answer day text state = refused_first (
     unless (is_day day) why.BadDay
-  ∷ unless (is_note text) why.BadText
-  ∷ unless (is_some state) why.UnknownRelease
-  ∷ option_and_then gone state
-  ∷ []) answered.Done
+    ∷ unless (is_note text) why.BadText
+    ∷ unless (is_some state) why.UnknownRelease
+    ∷ option_and_then gone state
+    ∷ []) answered.Done
 
 -- CloseDay: the day; so many waivers end
 abbrev pub close_answer : List ℕ → ℕ → Answer

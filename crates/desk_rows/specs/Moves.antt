@@ -12,17 +12,10 @@ use Rattle.desk_rows.specs.declared.row.DutyRow.{DutyRow}
 use Rattle.desk_rows.specs.declared.row.ChangeRow.{ChangeRow}
 use Rattle.desk_rows.specs.declared.state.DutyState.{DutyState}
 use Rattle.desk_rows.specs.declared.state.DutyState.TheVariants as stands
-use Rattle.desk_rows.specs.declared.state.Word.{Word}
+use Rattle.desk_rows.specs.declared.row.Move.{Move}
 use Rattle.desk_rows.specs.declared.state.Word.TheVariants as word
 use Rattle.desk_rows.specs.declared.command.Command.{Command}
 use Rattle.desk_rows.specs.declared.command.Command.TheVariants.{Freeze, Meet, Waive, Reopen, Withdraw, CloseDay}
-
--- a move of a duty: its day, word and text, and the last day of a waiver that ends
-pub record Move : Type 0 where
-  pub day : List ℕ
-  pub word : Word
-  pub body : List ℕ
-  pub last_day : Option (List ℕ)
 
 -- where a duty stands after its moves, the last one first
 abbrev pub place_after : List Move → DutyState

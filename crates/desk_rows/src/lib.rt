@@ -17,7 +17,6 @@ pub use reading::{Catalogue, Document, Package, Profile, Reference, Rule, Verdic
 pub use refusal::{CatalogueFault, CataloguePart, DocumentFault, ExpressionFault, Limit, Refusal};
 pub use row::{
     AdoptionRow, AttachedRow, CatalogueRow, ChangeRow, ChoiceRow, ConclusionRow, DocumentRow,
-    DutyRow, ExtractedRow, FrozenRow, Owed, PackageRow, ReleaseRow, RuleRow,
-    Standing,
+    DutyRow, ExtractedRow, FrozenRow, Move, Owed, PackageRow, ReleaseRow, RuleRow, Standing,
 };
 pub use state::{DutyState, ReleaseState, Word};

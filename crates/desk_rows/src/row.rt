@@ -128,6 +128,15 @@ pub struct DutyRow {
     pub state: DutyState,
 }
 
+/// A move of a duty: its day, word and text, and the last day of a waiver that ends.
+#[derive(Debug, Drop)]
+pub struct Move {
+    pub day: Day,
+    pub word: Word,
+    pub body: Text,
+    pub last_day: Option<Day>,
+}
+
 /// A change of a duty.
 #[derive(Debug, Drop)]
 pub struct ChangeRow {
