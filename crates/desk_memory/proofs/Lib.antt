@@ -1,5 +1,6 @@
 mod Days
 mod Founds
 mod Ledgering
+mod Pushing
 mod Naming
 mod Ruling

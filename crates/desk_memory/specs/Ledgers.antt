@@ -1,6 +1,13 @@
 -- Duties in the order of their numbers, and changes grouped by duties.
-use Rattle.std.specs.Prelude.{◌≡◌, ℕ, zero, suc, ◌++◌, ◌+◌, ◌==◌, ◌&&◌, Bool, true, List, [], ◌∷◌}
-use Rattle.std.specs.List.{flat_map}
+use Rattle.std.specs.Prelude.{◌≡◌, ℕ, zero, suc, ◌++◌, ◌+◌, ◌-◌, ◌==◌, ◌&&◌, nat_le, Bool, true, List, [], ◌∷◌, length, filter, map, Option, None}
+use Rattle.std.specs.List.{flat_map, list_all, last_or}
+use Rattle.std.specs.Option.{option_and_then}
+use Rattle.desk_rows.specs.Lists.{updated}
+use Rattle.desk_rows.specs.Keys.{is_duty, is_change_of}
+use Rattle.desk_rows.specs.States.{state_after}
+use Rattle.desk_rows.specs.Tables.{with_duty_state}
+use Rattle.desk_rows.specs.declared.row.Standing.{Standing}
+use Rattle.desk_memory.specs.declared.ledger.Place.{Place}
 use Rattle.desk_rows.specs.declared.row.DutyRow.{DutyRow}
 use Rattle.desk_rows.specs.declared.row.ChangeRow.{ChangeRow}
 
@@ -32,3 +39,41 @@ more_at (g ∷ gs) (suc i) row = g ∷ more_at gs i row
 -- the changes, each in a group of its own, grouped from n on
 abbrev pub AreSingles : ℕ → List ChangeRow → List (List ChangeRow) → Type 0
 AreSingles n changes groups = (grouped n groups ≡ true) × (all_of groups ≡ changes)
+
+-- the groups with each change behind the others of its duty, the last one first
+abbrev pub pushed : List ChangeRow → List (List ChangeRow) → List (List ChangeRow)
+pushed [] groups = groups
+pushed (row ∷ rows) groups = more_at (pushed rows groups) (row.duty - 1) row
+
+-- where a change leaves its duty
+abbrev pub place_of : ChangeRow → Place
+place_of row = record { duty = row.duty; state = state_after row.word }
+
+abbrev pub is_within : ℕ → Place → Bool
+is_within count place = nat_le 1 place.duty && nat_le place.duty count
+
+-- they are places of so many duties
+abbrev pub AreWithin : ℕ → List Place → Type 0
+AreWithin count places = list_all (is_within count) places ≡ true
+
+-- the places that changes of so many duties leave
+abbrev pub ArePlaces : ℕ → List ChangeRow → List Place → Type 0
+ArePlaces count changes places = (map place_of changes ≡ places) × AreWithin count places
+
+-- the duties where these places put them, the last one first
+abbrev pub standing_by : List Place → List DutyRow → List DutyRow
+standing_by [] rows = rows
+standing_by (place ∷ places) rows = updated (is_duty place.duty) (with_duty_state place.state) (standing_by places rows)
+
+-- the last day of the last change
+abbrev pub end_in : List ChangeRow → Option (List ℕ)
+end_in rows = option_and_then (λ change. change.last_day) (last_or None rows)
+
+-- where a duty with these changes stands
+abbrev pub standing_in : List ChangeRow → DutyRow → Standing
+standing_in changes row = record {
+  number = row.number;
+  state = row.state;
+  steps = length (filter (is_change_of row.number) changes);
+  last_day = end_in (filter (is_change_of row.number) changes);
+}

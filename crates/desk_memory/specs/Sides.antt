@@ -32,3 +32,6 @@ attachment_side release document row = ordering_then (slice_cmp nat_cmp row.rele
 
 abbrev pub choice_side : List ℕ → ℕ → List ℕ → ChoiceRow → Ordering
 choice_side release document id row = ordering_then (ordering_then (slice_cmp nat_cmp row.release release) (nat_cmp row.document document)) (slice_cmp nat_cmp row.package_id id)
+
+abbrev pub holder_side : List ℕ → ChoiceRow → Ordering
+holder_side release row = slice_cmp nat_cmp row.release release

@@ -14,7 +14,7 @@ use Rattle.desk_rows.specs.declared.row.ChoiceRow.{ChoiceRow}
 use Rattle.desk_sorted.specs.Sorted.{IsSideOf}
 use Rattle.desk_sorted.specs.Sides.{side_by, first_less, texts_meet, numbers_meet, then_meets}
 use Rattle.desk_sorted.specs.Orders.{document_order, package_order, release_order}
-use Rattle.desk_memory.specs.Sides.{document_side, packages_side, package_side, release_side, attached_side, attachment_side, choice_side}
+use Rattle.desk_memory.specs.Sides.{document_side, packages_side, package_side, release_side, attached_side, attachment_side, choice_side, holder_side}
 
 -- What keys begin with
 
@@ -55,6 +55,9 @@ attached_splits release =
 pub attachment_splits : (release : List ℕ) (document : ℕ) → IsSideOf attached_order (attachment_side release document)
 attachment_splits release document =
     side_by attached_order (λ row. (row.release, row.document)) pair_cmp (then_total (on_total (λ p. p.0) nat_list_cmp_total) (on_total (λ p. p.1) nat_cmp_total)) (λ x y e. e) (release, document)
+
+pub holder_splits : (release : List ℕ) → IsSideOf choice_order (holder_side release)
+holder_splits release = side_by choice_order (λ row. row.release) (slice_cmp nat_cmp) nat_list_cmp_total (λ x y e. first_less (slice_cmp nat_cmp y.release x.release) _ e) release
 
 pub choice_splits : (release : List ℕ) (document : ℕ) (id : List ℕ) → IsSideOf choice_order (choice_side release document id)
 choice_splits release document id =

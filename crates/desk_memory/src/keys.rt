@@ -1,8 +1,8 @@
 //! What rows are looked up by.
 
-ghost use Rattle.desk_rows.specs.Keys.{is_document, is_package, is_release, is_attached_to, is_attachment, is_choice_of};
-ghost use Rattle.desk_memory.specs.Sides.{document_side, is_package_of, packages_side, package_side, release_side, attached_side, attachment_side, choice_side};
-ghost use Rattle.desk_memory.specs.Splitting.{document_splits, packages_splits, package_splits, package_meets, release_splits, attached_splits, attachment_splits, choice_splits, attachment_meets, choice_meets};
+ghost use Rattle.desk_rows.specs.Keys.{is_document, is_package, is_release, is_attached_to, is_attachment, is_choice_in, is_choice_of};
+ghost use Rattle.desk_memory.specs.Sides.{document_side, is_package_of, packages_side, package_side, release_side, attached_side, attachment_side, choice_side, holder_side};
+ghost use Rattle.desk_memory.specs.Splitting.{document_splits, packages_splits, package_splits, package_meets, release_splits, attached_splits, attachment_splits, choice_splits, holder_splits, attachment_meets, choice_meets};
 ghost use Rattle.desk_sorted.specs.Sides.{texts_meet, numbers_meet};
 ghost use Rattle.desk_memory.specs.Namespaces.{is_named, namespace_order, namespace_side};
 ghost use Rattle.desk_memory.specs.NamespaceLaws.{namespace_total, namespace_splits};
@@ -248,5 +248,25 @@ impl Sought<ChoiceRow> for ByPackage<'_> {
             .cmp(self.release)
             .then(row.document.cmp(&self.document))
             .then(row.package_id.as_str().cmp(self.id))
+    }
+}
+
+/// What is chosen in a release.
+#[derive(Clone, Copy)]
+pub(crate) struct ByHolder<'a> {
+    pub(crate) release: &'a str,
+}
+
+impl Sought<ChoiceRow> for ByHolder<'_> {
+    ghost side = { λ key. holder_side key.release.now };
+
+    ghost is_at = { λ key. is_choice_in key.release.now };
+
+    ghost splits = { λ key. holder_splits key.release.now };
+
+    ghost meets = { λ key row. texts_meet row.release key.release.now };
+
+    fn side_of(&self, row: &ChoiceRow) -> Ordering {
+        row.release.as_str().cmp(self.release)
     }
 }

@@ -1,16 +1,19 @@
 //! The duties and their changes, found by the duties' numbers.
 
-ghost use Rattle.std.specs.Prelude.{◌≡◌, ℕ, Bool, true, ◌+◌, ◌-◌, ◌<◌, ◌≤◌, ◌++◌, ◌∷◌, [], find, filter, map, IfOk, IfErr, IfSome, OnOk, OnErr, length, Option, vec_len, unwrap_or, slice_get};
+ghost use Rattle.std.specs.Prelude.{◌≡◌, ℕ, Bool, true, ◌+◌, ◌-◌, ◌<◌, ◌≤◌, ◌++◌, ◌∷◌, [], find, filter, map, IfOk, IfErr, IfSome, OnOk, OnErr, length, Option, vec_len, unwrap_or, slice_get, List};
 ghost use Rattle.std.specs.Option.{option_copied};
-ghost use Rattle.desk_rows.specs.Lists.{put, updated};
-ghost use Rattle.desk_rows.specs.Keys.{is_duty, is_change_of, change_below};
-ghost use Rattle.desk_rows.specs.Tables.{with_duty_state};
+ghost use Rattle.desk_rows.specs.Lists.{put, put_all, updated};
+ghost use Rattle.desk_rows.specs.States.{is_waived, state_after};
+ghost use Rattle.desk_rows.specs.Keys.{is_duty, is_duty_of, is_change_of, change_below};
+ghost use Rattle.desk_rows.specs.Tables.{moved_by, with_duty_state};
 ghost use Rattle.desk_rows.specs.Queries.{last_day};
-ghost use Rattle.desk_memory.specs.Ledgers.{numbered, grouped, all_of, more_at, AreSingles};
+ghost use Rattle.desk_history.specs.FromTables.{has_waived};
+ghost use Rattle.desk_memory.specs.Ledgers.{end_in, numbered, grouped, all_of, more_at, pushed, place_of, standing_by, standing_in, AreSingles, ArePlaces, AreWithin};
 
 use desk_base::{Day, Items};
-use desk_rows::{ChangeRow, DutyRow, DutyState, Fault};
+use desk_rows::{ChangeRow, DutyRow, DutyState, Fault, Standing, Word};
 use std::alloc::{AllocError, Global};
+use std::mem::replace;
 
 /// The duties, numbered from 1, and the changes of each, in steps from 1.
 #[derive(Drop)]
@@ -60,6 +63,16 @@ fn last_of(rows: &[ChangeRow]) -> Option<Day>
     day
 }
 
+/// The last day of the last change, if that is a waiver that ends.
+fn end_of(rows: &[ChangeRow]) -> Option<Day>
+    ensures { result ≡ end_in rows.now }
+{
+    match rows.last() {
+        Some(row) => row.last_day,
+        None => None,
+    }
+}
+
 /// Whether the numbers of duties go up by one from this number.
 fn is_numbered(first: u64, rows: &[DutyRow]) -> bool
     ensures { result ≡ numbered first rows.now }
@@ -77,7 +90,8 @@ fn is_numbered(first: u64, rows: &[DutyRow]) -> bool
 fn set_state(rows: &mut Vec<DutyRow>, place: usize, state: DutyState)
     requires place { place < vec_len rows.old }
     requires numbered { numbered 1 rows.old.items ≡ true }
-    ensures { rows.new.items ≡ updated (is_duty (1 + place)) (with_duty_state state) rows.old.items }
+    ensures len { vec_len rows.new ≡ vec_len rows.old }
+    ensures state { rows.new.items ≡ updated (is_duty (1 + place)) (with_duty_state state) rows.old.items }
 {
     let row = &mut rows[place];
     row.state = state;
@@ -91,9 +105,208 @@ fn push_change(
     requires { place < vec_len groups.old }
     ensures ok { OnOk result (groups.new.items ≡ more_at groups.old.items place change) }
     ensures err { OnErr result (groups.new.items ≡ groups.old.items) }
+    ensures len { vec_len groups.new ≡ vec_len groups.old }
 {
     let group = &mut groups[place];
     group.push(change)
+}
+
+/// Takes the last change of a group out again.
+fn pop_change(alloc: Global, groups: &mut Vec<Items<ChangeRow>>, place: usize)
+    requires { place < vec_len groups.old }
+    ensures undone { (before : List (List ChangeRow)) (change : ChangeRow) → groups.old.items ≡ more_at before place change → groups.new.items ≡ before }
+    ensures len { vec_len groups.new ≡ vec_len groups.old }
+{
+    let group = &mut groups[place];
+    let mut rows = replace(group, Items::new(alloc)).into_vec();
+    rows.pop();
+    *group = Items::from_vec(rows);
+}
+
+/// How many changes a duty has.
+fn steps_in(groups: &[Items<ChangeRow>], number: u64) -> u64
+    requires { grouped 1 groups.now ≡ true }
+    ensures { result ≡ length (filter (is_change_of number) (all_of groups.now)) }
+{
+    match group_at(groups, number) {
+        Some(group) => group.as_slice().len() as u64,
+        None => 0,
+    }
+}
+
+/// The last day of a duty's last change, if that is a waiver that ends.
+fn end_at(groups: &[Items<ChangeRow>], number: u64) -> Option<Day>
+    requires { grouped 1 groups.now ≡ true }
+    ensures { result ≡ end_in (filter (is_change_of number) (all_of groups.now)) }
+{
+    match group_at(groups, number) {
+        Some(group) => end_of(group.as_slice()),
+        None => None,
+    }
+}
+
+/// Where a duty stands.
+fn standing(groups: &[Items<ChangeRow>], row: &DutyRow) -> Result<Standing, AllocError>
+    requires { grouped 1 groups.now ≡ true }
+    ensures { IfOk result (λ standing. standing ≡ standing_in (all_of groups.now) row.now) }
+{
+    let number = u64::from(row.number);
+    Ok(Standing {
+        number: row.number,
+        state: row.state,
+        steps: steps_in(groups, number),
+        last_day: end_at(groups, number),
+    })
+}
+
+fn standings_of(
+    alloc: Global,
+    rows: &[DutyRow],
+    groups: &[Items<ChangeRow>],
+    release: &str,
+) -> Result<Vec<Standing>, AllocError>
+    requires { grouped 1 groups.now ≡ true }
+    ensures { IfOk result (λ found. found.items ≡ map (standing_in (all_of groups.now)) (filter (is_duty_of release.now) rows.now)) }
+{
+    let mut found = Vec::new(alloc);
+    for row in rows {
+        if row.release.as_str() == release {
+            found.push(standing(groups, row)?)?;
+        }
+    }
+    Ok(found)
+}
+
+fn waived(
+    alloc: Global,
+    rows: &[DutyRow],
+    groups: &[Items<ChangeRow>],
+) -> Result<Vec<Standing>, AllocError>
+    requires { grouped 1 groups.now ≡ true }
+    ensures { IfOk result (λ found. found.items ≡ map (standing_in (all_of groups.now)) (filter has_waived rows.now)) }
+{
+    let mut found = Vec::new(alloc);
+    for row in rows {
+        if row.state == DutyState::Waived {
+            found.push(standing(groups, row)?)?;
+        }
+    }
+    Ok(found)
+}
+
+/// Puts a change behind the others of its duty, or does nothing where it isn't the next one.
+///
+/// A change that isn't the next one of a duty comes from no command; it is answered as want of memory.
+fn push_next(groups: &mut Vec<Items<ChangeRow>>, change: ChangeRow) -> Result<(), Fault>
+    requires { grouped 1 groups.old.items ≡ true }
+    ensures ok { OnOk result (groups.new.items ≡ more_at groups.old.items (change.duty - 1) change) }
+    ensures put { OnOk result (all_of groups.new.items ≡ put change_below change (all_of groups.old.items)) }
+    ensures grouped { grouped 1 groups.new.items ≡ true }
+    ensures err { OnErr result (groups.new.items ≡ groups.old.items) }
+    ensures len { vec_len groups.new ≡ vec_len groups.old }
+    ensures fault { IfErr result (λ fault. fault ≡ Fault.Memory) }
+{
+    if change.duty == 0 || change.step == 0 {
+        return Err(Fault::Memory);
+    }
+    let place = (change.duty - 1) as usize;
+    if place >= groups.len() {
+        return Err(Fault::Memory);
+    }
+    if u64::from(change.step - 1) != steps_in(groups.as_slice(), u64::from(change.duty)) {
+        return Err(Fault::Memory);
+    }
+    let Ok(()) = push_change(groups, place, change) else {
+        return Err(Fault::Memory);
+    };
+    Ok(())
+}
+
+/// Where a change leaves a duty.
+#[derive(Drop)]
+struct Place {
+    duty: u32,
+    state: DutyState,
+}
+
+fn state_after(word: Word) -> DutyState
+    ensures { result ≡ state_after word }
+{
+    match word {
+        Word::Raised | Word::Reopened | Word::Ended => DutyState::IsOpen,
+        Word::Met => DutyState::Met,
+        Word::Waived => DutyState::Waived,
+        Word::Withdrawn => DutyState::Withdrawn,
+    }
+}
+
+/// Where each of some changes leaves its duty, if each is one of so many duties.
+fn places_of(
+    alloc: Global,
+    count: usize,
+    changes: &[ChangeRow],
+) -> Result<Option<Vec<Place>>, AllocError>
+    ensures { IfOk result (λ found. IfSome found (λ places. ArePlaces count changes.now places.items)) }
+{
+    let mut places = Vec::new(alloc);
+    for change in changes {
+        if change.duty == 0 || change.duty as usize > count {
+            return Ok(None);
+        }
+        places.push(Place {
+            duty: change.duty,
+            state: state_after(change.word),
+        })?;
+    }
+    Ok(Some(places))
+}
+
+/// Takes the last changes of these duties out again, one after the other.
+fn pop_all(alloc: Global, groups: &mut Vec<Items<ChangeRow>>, places: &[Place])
+    requires { AreWithin (vec_len groups.old) places.now }
+    ensures undone { (before : List (List ChangeRow)) (changes : List ChangeRow) → map place_of changes ≡ places.now → groups.old.items ≡ pushed changes before → groups.new.items ≡ before }
+    ensures len { vec_len groups.new ≡ vec_len groups.old }
+{
+    for place in places {
+        pop_change(alloc, groups, (place.duty - 1) as usize);
+    }
+}
+
+/// Puts each change behind the others of its duty, the last one first, or does nothing.
+fn push_all(
+    alloc: Global,
+    groups: &mut Vec<Items<ChangeRow>>,
+    mut changes: Vec<ChangeRow>,
+    places: &[Place],
+) -> Result<(), Fault>
+    requires grouped { grouped 1 groups.old.items ≡ true }
+    requires places { ArePlaces (vec_len groups.old) changes.items places.now }
+    ensures put { OnOk result (all_of groups.new.items ≡ put_all change_below changes.items (all_of groups.old.items)) }
+    ensures grouped { grouped 1 groups.new.items ≡ true }
+    ensures err { OnErr result (groups.new.items ≡ groups.old.items) }
+    ensures len { vec_len groups.new ≡ vec_len groups.old }
+    ensures fault { IfErr result (λ fault. fault ≡ Fault.Memory) }
+{
+    while let Some(change) = changes.pop() {
+        if push_next(groups, change).is_err() {
+            pop_all(alloc, groups, &places[changes.len() + 1..]);
+            return Err(Fault::Memory);
+        }
+    }
+    Ok(())
+}
+
+/// Sets the state of each duty, the last one first.
+fn set_states(rows: &mut Vec<DutyRow>, places: &[Place])
+    requires numbered { numbered 1 rows.old.items ≡ true }
+    requires within { AreWithin (vec_len rows.old) places.now }
+    ensures { rows.new.items ≡ standing_by places.now rows.old.items }
+{
+    let mut left = places.len();
+    while left > 0 {
+        left -= 1;
+        set_state(rows, (places[left].duty - 1) as usize, places[left].state);
+    }
 }
 
 /// The first changes of duties, each in a group of its own, if their duties go up by one from this number.
@@ -154,10 +367,22 @@ impl Ledger {
     pub(crate) fn steps(&self, number: u64) -> u64
         ensures { result ≡ length (filter (is_change_of number) (all_of self.now.groups.items)) }
     {
-        match group_at(self.groups.as_slice(), number) {
-            Some(group) => group.as_slice().len() as u64,
-            None => 0,
-        }
+        steps_in(self.groups.as_slice(), number)
+    }
+
+    /// Where the duties of a release stand.
+    pub(crate) fn standings_of(&self, release: &str) -> Result<Vec<Standing>, AllocError>
+        ensures { IfOk result (λ found. found.items ≡ map (standing_in (all_of self.now.groups.items)) (filter (is_duty_of release.now) self.now.duties.items)) }
+    {
+        let groups = self.groups.as_slice();
+        standings_of(self.alloc, self.duties.as_slice(), groups, release)
+    }
+
+    /// Where the waived duties stand.
+    pub(crate) fn waived(&self) -> Result<Vec<Standing>, AllocError>
+        ensures { IfOk result (λ found. found.items ≡ map (standing_in (all_of self.now.groups.items)) (filter has_waived self.now.duties.items)) }
+    {
+        waived(self.alloc, self.duties.as_slice(), self.groups.as_slice())
     }
 
     /// The day of a duty's last change.
@@ -172,35 +397,28 @@ impl Ledger {
 }
 
 impl Ledger {
-    /// Moves a duty by a change that is the next of its own, or does nothing.
+    /// Moves each of some duties by a change that is the next of its own, or does nothing.
     ///
     /// A change that isn't the next one of a duty comes from no command; it is answered as want of memory.
-    pub(crate) fn move_to(
-        &mut self,
-        duty: u32,
-        state: DutyState,
-        change: ChangeRow,
-    ) -> Result<(), Fault>
-        ensures duties { OnOk result (self.new.duties.items ≡ updated (is_duty duty) (with_duty_state state) self.old.duties.items) }
-        ensures changes { OnOk result (all_of self.new.groups.items ≡ put change_below change (all_of self.old.groups.items)) }
+    pub(crate) fn move_all(&mut self, changes: Vec<ChangeRow>) -> Result<(), Fault>
+        ensures duties { OnOk result (self.new.duties.items ≡ moved_by changes.items self.old.duties.items) }
+        ensures changes { OnOk result (all_of self.new.groups.items ≡ put_all change_below changes.items (all_of self.old.groups.items)) }
         ensures duties_err { OnErr result (self.new.duties.items ≡ self.old.duties.items) }
         ensures changes_err { OnErr result (self.new.groups.items ≡ self.old.groups.items) }
         ensures fault { IfErr result (λ fault. fault ≡ Fault.Memory) }
     {
-        if duty == 0 || change.duty != duty {
+        let count = self.duties.len();
+        if self.groups.len() != count {
             return Err(Fault::Memory);
         }
-        let place = (duty - 1) as usize;
-        if place >= self.duties.len() || place >= self.groups.len() {
-            return Err(Fault::Memory);
-        }
-        if change.step == 0 || u64::from(change.step - 1) != self.steps(u64::from(duty)) {
-            return Err(Fault::Memory);
-        }
-        let Ok(()) = push_change(&mut self.groups, place, change) else {
+        let Ok(found) = places_of(self.alloc, count, changes.as_slice()) else {
             return Err(Fault::Memory);
         };
-        set_state(&mut self.duties, place, state);
+        let Some(places) = found else {
+            return Err(Fault::Memory);
+        };
+        push_all(self.alloc, &mut self.groups, changes, places.as_slice())?;
+        set_states(&mut self.duties, places.as_slice());
         Ok(())
     }
 

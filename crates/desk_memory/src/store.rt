@@ -7,20 +7,22 @@ ghost use Rattle.std.specs.List.{list_any};
 ghost use Rattle.std.specs.Str.{bytes_eq};
 ghost use Rattle.desk_rows.specs.Lists.{updated};
 ghost use Rattle.desk_rows.specs.Keys.{is_release, is_document, has_namespace, is_package, is_shipped_by, is_attached_to, is_attachment, is_choice_of, is_duty, is_duty_of, is_change_of, is_rule, is_rule_of};
-ghost use Rattle.desk_rows.specs.Tables.{Tables, applied, with_release_state, with_duty_state};
+ghost use Rattle.desk_rows.specs.Tables.{Tables, applied, with_release_state, withdrawn_release};
 ghost use Rattle.desk_rows.specs.declared.state.ReleaseState.TheVariants.{Frozen};
 ghost use Rattle.desk_memory.specs.Memory.{rows_of, memory_seen};
 ghost use Rattle.desk_history.specs.FromTables.{rule_of};
 
 use crate::documents::Documents;
-use crate::keys::{ByAttachment, ByDocument, ById, ByName, ByNumber, ByPackage, ByRelease};
+use crate::keys::{
+    ByAttachment, ByDocument, ByHolder, ById, ByName, ByNumber, ByPackage, ByRelease,
+};
 use crate::ledger::Ledger;
 use crate::rules::Rules;
 use desk_access::store::Store;
 use desk_base::{Day, Items, Text};
 use desk_rows::{
-    AttachedRow, CatalogueRow, Change, ChangeRow, ChoiceRow, DocumentRow, DutyRow, DutyState,
-    ExtractedRow, Fault, FrozenRow, PackageRow, Profile, ReleaseRow, ReleaseState, Rule, RuleRow,
+    AttachedRow, CatalogueRow, Change, ChangeRow, ChoiceRow, DocumentRow, DutyRow, ExtractedRow,
+    Fault, FrozenRow, PackageRow, Profile, ReleaseRow, ReleaseState, Rule, RuleRow, Standing,
 };
 use desk_sorted::{Appended, Sorted, reserve, run_of};
 use std::alloc::{AllocError, Global};
@@ -176,6 +178,22 @@ fn freeze_release(releases: &mut Sorted<ReleaseRow>, name: &str, revision: u64)
     freeze_rows(&mut releases.rows[run.start..run.end], revision);
 }
 
+fn withdraw_rows(rows: &mut [ReleaseRow])
+    ensures { rows.new ≡ map withdrawn_release rows.old }
+{
+    for row in rows.iter_mut() {
+        row.state = ReleaseState::Withdrawn;
+    }
+}
+
+/// Withdraws the release with a name.
+fn withdraw_release(releases: &mut Sorted<ReleaseRow>, name: &str)
+    ensures { releases.new.rows.items ≡ updated (is_release name.now) withdrawn_release releases.old.rows.items }
+{
+    let run = run_of(releases.rows.as_slice(), &ByName { name });
+    withdraw_rows(&mut releases.rows[run.start..run.end]);
+}
+
 /// Rows in memory, each list by its key.
 #[derive(Drop)]
 pub struct MemStore {
@@ -298,12 +316,25 @@ impl MemStore {
         Ok(())
     }
 
-    fn move_to(&mut self, duty: u32, state: DutyState, change: ChangeRow) -> Result<(), Fault>
-        ensures ok { OnOk result (rows_of self.new ≡ applied (Change.Moved duty state change) (rows_of self.old)) }
+    fn move_all(&mut self, changes: Items<ChangeRow>) -> Result<(), Fault>
+        ensures ok { OnOk result (rows_of self.new ≡ applied (Change.Moved changes) (rows_of self.old)) }
         ensures err { OnErr result (rows_of self.new ≡ rows_of self.old) }
         ensures fault { IfErr result (λ fault. fault ≡ Fault.Memory) }
     {
-        self.ledger.move_to(duty, state, change)?;
+        self.ledger.move_all(changes.into_vec())?;
+        Ok(())
+    }
+
+    fn withdraw(&mut self, release: &Text, changes: Items<ChangeRow>) -> Result<(), Fault>
+        ensures ok { OnOk result (rows_of self.new ≡ applied (Change.Withdrew release.now changes) (rows_of self.old)) }
+        ensures err { OnErr result (rows_of self.new ≡ rows_of self.old) }
+        ensures fault { IfErr result (λ fault. fault ≡ Fault.Memory) }
+    {
+        self.ledger.move_all(changes.into_vec())?;
+        withdraw_release(&mut self.releases, release.as_str());
+        self.choices.cut(&ByHolder {
+            release: release.as_str(),
+        });
         Ok(())
     }
 }
@@ -436,6 +467,20 @@ impl Store for MemStore {
         }
     }
 
+    fn standings_of(&mut self, release: &str) -> Result<Vec<Standing>, Fault> {
+        match self.ledger.standings_of(release) {
+            Ok(found) => Ok(found),
+            Err(_) => Err(Fault::Memory),
+        }
+    }
+
+    fn waived(&mut self) -> Result<Vec<Standing>, Fault> {
+        match self.ledger.waived() {
+            Ok(found) => Ok(found),
+            Err(_) => Err(Fault::Memory),
+        }
+    }
+
     fn steps(&mut self, duty: u64) -> Result<u64, Fault> {
         Ok(self.ledger.steps(duty))
     }
@@ -479,11 +524,8 @@ impl Store for MemStore {
                 duties,
                 changes,
             } => self.freeze(&release, revision, frozen, duties, changes),
-            Change::Moved {
-                duty,
-                state,
-                change,
-            } => self.move_to(duty, state, change),
+            Change::Moved { changes } => self.move_all(changes),
+            Change::Withdrew { release, changes } => self.withdraw(&release, changes),
         }
     }
 }
