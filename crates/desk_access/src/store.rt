@@ -10,7 +10,7 @@ ghost use Rattle.desk_access.specs.Seen.{Seen, Looked, OfRows, Wrote};
 ghost use Rattle.desk_rows.specs.Faults.{MayFail};
 ghost use Rattle.desk_rows.specs.History.{attached_to, rule_for};
 ghost use Rattle.desk_rows.specs.Queries.{last_day};
-ghost use Rattle.desk_history.specs.FromTables.{release_found, rules_found, duty_found, steps_found, standings_found, waived_found, known_import, known_document};
+ghost use Rattle.desk_history.specs.FromTables.{release_found, rules_found, duty_found, steps_found, standings_found, ended_found, known_import, known_document};
 ghost use Rattle.desk_rows.specs.declared.command.StoreFault.{StoreFault};
 
 use desk_base::{Day, Text};
@@ -149,9 +149,9 @@ pub trait Store {
         ensures kept { Looked (seen self.old) (seen self.new) result }
         ensures fault { IfErr result (MayFail tells) };
 
-    /// Where the waived duties stand, by number.
-    fn waived(&mut self) -> Result<Vec<Standing>, Fault>
-        ensures found { IfOk result (λ found. OfRows (λ t. found.items ≡ waived_found t) (seen self.old) (seen self.new)) }
+    /// Where the duties stand that are waived up to a day before this one, by number.
+    fn ended(&mut self, day: Day) -> Result<Vec<Standing>, Fault>
+        ensures found { IfOk result (λ found. OfRows (λ t. found.items ≡ ended_found t day) (seen self.old) (seen self.new)) }
         ensures kept { Looked (seen self.old) (seen self.new) result }
         ensures fault { IfErr result (MayFail tells) };
 

@@ -1,5 +1,5 @@
 -- The change of each command goes on from the rows that it was made for.
-use Rattle.std.proofs.Common.{◌≡◌, ℕ, ◌+◌, Bool, true, false, cond, List, [], ◌∷◌, length, map, refl, sym, ap, ◌∙◌, arith}
+use Rattle.std.proofs.Common.{◌≡◌, ℕ, ◌+◌, Bool, true, false, cond, List, [], ◌∷◌, length, map, refl, sym, ap, ◌∙◌, subst, arith}
 use Rattle.std.specs.Prelude.{◌==◌, ◌&&◌, nat_lt, filter, Option, None}
 use Rattle.std.specs.List.{enumerate_from, list_all}
 use Rattle.std.proofs.lemmas.Bool.Decides.{nat_tests}
@@ -15,7 +15,7 @@ use Rattle.desk_rows.specs.declared.row.Move.{Move}
 use Rattle.desk_rows.specs.declared.row.ChangeRow.{ChangeRow}
 use Rattle.desk_rows.specs.declared.row.Standing.{Standing}
 use Rattle.desk_rows.specs.declared.state.Word.TheVariants as word
-use Rattle.desk_history.specs.FromTables.{change_for, new_duty, raised_row, owed_found, steps_found, standing_found, is_unmet, ends, has_waived, next_row}
+use Rattle.desk_history.specs.FromTables.{change_for, new_duty, raised_row, owed_found, steps_found, standing_found, is_unmet, ends, next_row}
 use Rattle.desk_access.specs.Follows.{Follows, AreNext, are_numbered, are_first, are_next, rise}
 
 same_number : (n : ℕ) → (n == n) ≡ true
@@ -100,6 +100,13 @@ rise_kept t m is test (row ∷ rows) e =
 next_many : (t : Tables) (m : Move) (is : Standing → Bool) (test : DutyRow → Bool) → AreNext t (those t m is test t.duty)
 next_many t m is test = (next_all t m is test t.duty, rise_kept t m is test t.duty)
 
+filter_true : {A : Type 0} (xs : List A) → filter (λ x. true) xs ≡ xs
+filter_true [] = refl
+filter_true (x ∷ xs) = ap (λ ys. x ∷ ys) (filter_true xs)
+
+next_ended : (t : Tables) (m : Move) (test : DutyRow → Bool) → AreNext t (map (next_row m) (map (standing_found t) (filter test t.duty)))
+next_ended t m test = subst (AreNext t) (ap (map (next_row m)) (filter_true (map (standing_found t) (filter test t.duty)))) (next_many t m (λ s. true) test)
+
 pub change_follows : (w : Readings) (t : Tables) (c : Command) → Follows (change_for w t c) t
 change_follows w t (LoadCatalogue text) = refl
 change_follows w t (Import bytes profile) = refl
@@ -116,4 +123,4 @@ change_follows w t (Meet q day text) = next_one t q (record { day = day; word = 
 change_follows w t (Waive q day text until) = next_one t q (record { day = day; word = word.Waived; body = text; last_day = until })
 change_follows w t (Reopen q day text) = next_one t q (record { day = day; word = word.Reopened; body = text; last_day = None })
 change_follows w t (Withdraw r day text) = next_many t (record { day = day; word = word.Withdrawn; body = text; last_day = None }) is_unmet (is_duty_of r)
-change_follows w t (CloseDay day) = next_many t (record { day = day; word = word.Ended; body = []; last_day = None }) (ends day) has_waived
+change_follows w t (CloseDay day) = next_ended t (record { day = day; word = word.Ended; body = []; last_day = None }) (ends t day)

@@ -90,7 +90,7 @@ fn settled(word: Word, state: DutyState) -> Option<Refusal>
 }
 
 /// Whether one day is before another.
-pub(crate) fn is_before(day: Day, other: Day) -> bool
+fn is_before(day: Day, other: Day) -> bool
     ensures { result ≡ is_before day other }
 {
     day.as_bytes().cmp(other.as_bytes()).is_lt()

@@ -4,12 +4,12 @@ ghost use Rattle.std.specs.Prelude.{◌≡◌, ◌+◌, IfOk, IfErr, length, fil
 ghost use Rattle.desk_rows.specs.Readings.{Readings};
 ghost use Rattle.desk_rows.specs.Faults.{MayFail};
 ghost use Rattle.desk_rows.specs.Answers.{refused_alone};
-ghost use Rattle.desk_history.specs.FromTables.{ends, ended_rows, is_unmet, next_row, withdrawn_rows};
+ghost use Rattle.desk_history.specs.FromTables.{ended_rows, is_unmet, next_row, withdrawn_rows};
 ghost use Rattle.desk_access.specs.Seen.{OfRows};
 ghost use Rattle.desk_access.specs.Plans.{IsPlanOf, Plans, SparesStore};
 ghost use Rattle.desk_rows.specs.declared.command.Command.TheVariants.{Withdraw, CloseDay};
 
-use crate::duty::{gone, is_before, is_note, read_day};
+use crate::duty::{gone, is_note, read_day};
 use crate::plan::{done, refused};
 use desk_access::store::Store;
 use desk_base::{Day, Items, Text};
@@ -46,31 +46,11 @@ fn is_unmet(standing: &Standing) -> bool
     standing.state != DutyState::Met
 }
 
-fn ends(day: Day, standing: &Standing) -> bool
-    ensures { result ≡ ends day standing.now }
-{
-    if standing.state != DutyState::Waived {
-        return false;
-    }
-    match standing.last_day {
-        Some(last) => is_before(last, day),
-        None => false,
-    }
-}
-
 /// Those that are not met.
 fn unmet_of(mut standings: Vec<Standing>) -> Vec<Standing>
     ensures { result.items ≡ filter is_unmet standings.items }
 {
     standings.retain(|standing| is_unmet(standing));
-    standings
-}
-
-/// Those whose waivers end.
-fn ended_of(day: Day, mut standings: Vec<Standing>) -> Vec<Standing>
-    ensures { result.items ≡ filter (ends day) standings.items }
-{
-    standings.retain(|standing| ends(day, standing));
     standings
 }
 
@@ -115,18 +95,17 @@ fn withdrew(
 fn ended_rows(
     alloc: Global,
     day: Day,
-    standings: Vec<Standing>,
+    standings: &[Standing],
 ) -> Result<Items<ChangeRow>, AllocError>
-    ensures { IfOk result (λ rows. rows ≡ ended_rows day standings.items) }
+    ensures { IfOk result (λ rows. rows ≡ ended_rows day standings.now) }
 {
-    let ended = ended_of(day, standings);
     let made = Move {
         day,
         word: Word::Ended,
         body: Text::of(alloc, "")?,
         last_day: None,
     };
-    next_rows(alloc, &made, ended.as_slice())
+    next_rows(alloc, &made, standings)
 }
 
 /// Withdraws a release: its duties that are not met are withdrawn with it, and it holds no choice any more.
@@ -181,8 +160,8 @@ pub fn close_day<S: Store>(alloc: Global, store: &mut S, day: &Text) -> Result<P
     let Some(day) = read_day(day) else {
         return Ok(refused(Refusal::BadDay));
     };
-    let standings = store.waived()?;
-    let Ok(changes) = ended_rows(alloc, day, standings) else {
+    let standings = store.ended(day)?;
+    let Ok(changes) = ended_rows(alloc, day, standings.as_slice()) else {
         return Err(Fault::Memory);
     };
     Ok(closed(changes))

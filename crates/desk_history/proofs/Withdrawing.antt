@@ -7,10 +7,10 @@ use Rattle.std.specs.Str.{bytes_eq}
 use Rattle.std.proofs.lemmas.Bool.Decides.{nat_tests}
 use Rattle.desk_rows.specs.Lists.{put_all, updated}
 use Rattle.desk_rows.specs.Readings.{Readings}
-use Rattle.desk_rows.specs.Keys.{is_release, is_duty_of, change_below}
+use Rattle.desk_rows.specs.Keys.{is_release, is_duty_of, is_change_of, change_below}
 use Rattle.desk_rows.specs.History.{names, in_force}
 use Rattle.desk_rows.specs.Raised.{raised, numbered}
-use Rattle.desk_rows.specs.States.{is_met, is_waived}
+use Rattle.desk_rows.specs.States.{is_met}
 use Rattle.desk_rows.specs.declared.row.Move.{Move}
 use Rattle.desk_rows.specs.Moves.{move_if, duty_at, duties, duty_row, change_row, change_rows, moves, place, end_after, has_ended, is_raised_for, all_changes}
 use Rattle.desk_rows.specs.Tables.{tables, release_row, withdrawn_release, moved_by}
@@ -22,7 +22,7 @@ use Rattle.desk_rows.specs.declared.state.DutyState.{DutyState}
 use Rattle.desk_rows.specs.declared.state.Word.TheVariants as word
 use Rattle.desk_rows.specs.declared.command.Command.{Command}
 use Rattle.desk_rows.specs.declared.command.Command.TheVariants.{Withdraw, CloseDay}
-use Rattle.desk_history.specs.FromTables.{standing_found, standings_found, waived_found, has_waived, is_unmet, ends, next_row, withdrawn_rows, ended_rows}
+use Rattle.desk_history.specs.FromTables.{steps_found, end_found, standing_found, standings_found, ended_found, is_unmet, ends, next_row, withdrawn_rows, ended_rows}
 use Rattle.std.proofs.lemmas.List.{length-map}
 use Rattle.desk_history.proofs.Rows.{updated-map, text_tells, texts_turned}
 use Rattle.desk_history.proofs.Moving.{in_range, known_at, changes-numbered, steps-numbered, new_row, new_rows, rows_of, changes_of, after, moved-duties, moved-changes}
@@ -105,19 +105,23 @@ rows_end q [] = refl
 rows_end q (m ∷ ms) = ap (option_and_then (λ (change : ChangeRow). change.last_day)) (last_or-end None (change_rows q ms) (change_row q (length ms + 1) m))
 
 abbrev stands : Readings → List Command → ℕ × Owed → Standing
-stands w h d = record { number = d.0; state = place w h d.0; steps = length (moves w h d.0); last_day = end_after (moves w h d.0) }
+stands w h d = record { number = d.0; state = place w h d.0; steps = length (moves w h d.0) }
+
+steps_same : (w : Readings) (h : List Command) (q : ℕ) → in_range 1 q (length (raised w h)) ≡ true → steps_found (tables w h) q ≡ length (moves w h q)
+steps_same w h q here = steps-numbered w h q 1 (raised w h) ∙ rw here refl
 
 stands-found : (w : Readings) (h : List Command) (d : ℕ × Owed) → Found 1 (raised w h) d → standing_found (tables w h) (duty_row (place w h d.0) d) ≡ stands w h d
 stands-found w h d e =
-    let here = found_range w h d e in
-    let at : ℕ → Option (List ℕ) → Standing = λ steps end. record { number = d.0; state = place w h d.0; steps = steps; last_day = end } in
-    ap (λ (rows : List ChangeRow). at (length rows) (option_and_then (λ (change : ChangeRow). change.last_day) (last_or None rows))) (changes-numbered w h d.0 1 (raised w h) ∙ rw here refl)
-    ∙ (ap (λ end. at (length (change_rows d.0 (moves w h d.0))) end) (rows_end d.0 (moves w h d.0))
-    ∙ ap (λ n. at n (end_after (moves w h d.0))) (sym (steps_same w h d.0 here)))
-  where
-    steps_same : (w : Readings) (h : List Command) (q : ℕ) → in_range 1 q (length (raised w h)) ≡ true → length (moves w h q) ≡ length (change_rows q (moves w h q))
-    steps_same w h q here =
-        sym (steps-numbered w h q 1 (raised w h) ∙ rw here refl) ∙ ap length (changes-numbered w h q 1 (raised w h) ∙ rw here refl)
+    let at : ℕ → Standing = λ steps. record { number = d.0; state = place w h d.0; steps = steps } in
+    ap at (steps_same w h d.0 (found_range w h d e))
+
+rows-found : (w : Readings) (h : List Command) (q : ℕ) → in_range 1 q (length (raised w h)) ≡ true → filter (is_change_of q) (all_changes w h) ≡ change_rows q (moves w h q)
+rows-found w h q here = changes-numbered w h q 1 (raised w h) ∙ rw here refl
+
+end-found : (w : Readings) (h : List Command) (d : ℕ × Owed) → Found 1 (raised w h) d → end_found (tables w h) d.0 ≡ end_after (moves w h d.0)
+end-found w h d e =
+    ap (λ (rows : List ChangeRow). option_and_then (λ (change : ChangeRow). change.last_day) (last_or None rows)) (rows-found w h d.0 (found_range w h d e))
+    ∙ rows_end d.0 (moves w h d.0)
 
 standings : (w : Readings) (h : List Command) (test : DutyRow → Bool) → map (standing_found (tables w h)) (filter test (duties w h)) ≡ map (stands w h) (filter (λ (d : ℕ × Owed). test (duty_row (place w h d.0) d)) (numbered w h))
 standings w h test =
@@ -197,24 +201,26 @@ ending day = record { day = day; word = word.Ended; body = []; last_day = None }
 abbrev is_ended_by : Readings → List Command → List ℕ → ℕ → Bool
 is_ended_by w h day q = has_ended day (place w h q) (end_after (moves w h q))
 
-twice : (a b : Bool) → (a && (a && b)) ≡ (a && b)
-twice true b = refl
-twice false b = refl
+ended_same : (w : Readings) (h : List Command) (day : List ℕ) (d : ℕ × Owed) → Found 1 (raised w h) d → ends (tables w h) day (duty_row (place w h d.0) d) ≡ is_ended_by w h day d.0
+ended_same w h day d e = ap (has_ended day (place w h d.0)) (end-found w h d e)
 
-ended_same : (w : Readings) (h : List Command) (day : List ℕ) (d : ℕ × Owed) → Found 1 (raised w h) d → (has_waived (duty_row (place w h d.0) d) && ends day (stands w h d)) ≡ is_ended_by w h day d.0
-ended_same w h day d e = twice (is_waived (place w h d.0)) _
+ended-standings : (w : Readings) (h : List Command) (day : List ℕ) → ended_found (tables w h) day ≡ map (stands w h) (filter (λ (d : ℕ × Owed). is_ended_by w h day d.0) (numbered w h))
+ended-standings w h day =
+    standings w h (ends (tables w h) day)
+    ∙ ap (map (stands w h)) (filter_found (λ (d : ℕ × Owed). ends (tables w h) day (duty_row (place w h d.0) d)) (λ (d : ℕ × Owed). is_ended_by w h day d.0) 1 (raised w h) (ended_same w h day))
 
-ended-rows : (w : Readings) (h : List Command) (day : List ℕ) → ended_rows day (waived_found (tables w h)) ≡ new_rows (moves w h) (λ q. move_if (is_ended_by w h day q) (ending day)) (numbered w h)
-ended-rows w h day = rows_that w h has_waived (ends day) (is_ended_by w h day) (ending day) (ended_same w h day)
+ended-rows : (w : Readings) (h : List Command) (day : List ℕ) → ended_rows day (ended_found (tables w h) day) ≡ new_rows (moves w h) (λ q. move_if (is_ended_by w h day q) (ending day)) (numbered w h)
+ended-rows w h day =
+    ap (map (next_row (ending day))) (ended-standings w h day)
+    ∙ (map-map (next_row (ending day)) (stands w h) (filter (λ (d : ℕ × Owed). is_ended_by w h day d.0) (numbered w h))
+    ∙ sym (rows_moved (moves w h) (is_ended_by w h day) (ending day) (numbered w h)))
 
-pub ended-duties : (w : Readings) (h : List Command) (day : List ℕ) → duties w (CloseDay day ∷ h) ≡ moved_by (ended_rows day (waived_found (tables w h))) (duties w h)
+pub ended-duties : (w : Readings) (h : List Command) (day : List ℕ) → duties w (CloseDay day ∷ h) ≡ moved_by (ended_rows day (ended_found (tables w h) day)) (duties w h)
 ended-duties w h day = duties_that w h (is_ended_by w h day) (ending day) _ (ended-rows w h day)
 
-pub ended-changes : (w : Readings) (h : List Command) (day : List ℕ) → all_changes w (CloseDay day ∷ h) ≡ put_all change_below (ended_rows day (waived_found (tables w h))) (all_changes w h)
+pub ended-changes : (w : Readings) (h : List Command) (day : List ℕ) → all_changes w (CloseDay day ∷ h) ≡ put_all change_below (ended_rows day (ended_found (tables w h) day)) (all_changes w h)
 ended-changes w h day = changes_that w h (is_ended_by w h day) (ending day) _ (ended-rows w h day)
 
 -- so many
-pub ended-count : (w : Readings) (h : List Command) (day : List ℕ) → length (filter (ends day) (waived_found (tables w h))) ≡ length (filter (λ (d : ℕ × Owed). has_ended day (place w h d.0) (end_after (moves w h d.0))) (numbered w h))
-ended-count w h day =
-    ap length (standings_that w h has_waived (ends day) (λ (d : ℕ × Owed). is_ended_by w h day d.0) (ended_same w h day))
-    ∙ length-map (filter (λ (d : ℕ × Owed). is_ended_by w h day d.0) (numbered w h)) (stands w h)
+pub ended-count : (w : Readings) (h : List Command) (day : List ℕ) → length (ended_found (tables w h) day) ≡ length (filter (λ (d : ℕ × Owed). has_ended day (place w h d.0) (end_after (moves w h d.0))) (numbered w h))
+ended-count w h day = ap length (ended-standings w h day) ∙ length-map (filter (λ (d : ℕ × Owed). is_ended_by w h day d.0) (numbered w h)) (stands w h)

@@ -10,7 +10,7 @@ use Rattle.desk_rows.specs.declared.row.Owed.{Owed}
 use Rattle.desk_rows.specs.Raised.{shipped_of, owed_for, frozen_for}
 use Rattle.desk_rows.specs.declared.row.Move.{Move}
 use Rattle.desk_rows.specs.Moves.{duty_row, change_row, has_ended}
-use Rattle.desk_rows.specs.States.{is_met, is_waived}
+use Rattle.desk_rows.specs.States.{is_met}
 use Rattle.desk_rows.specs.declared.row.Standing.{Standing}
 use Rattle.desk_rows.specs.declared.state.Word.{Word}
 use Rattle.desk_rows.specs.Tables.{Tables, applied, choice_row}
@@ -86,25 +86,22 @@ end_found t q = option_and_then (λ change. change.last_day) (last_or None (filt
 
 -- where a duty stands
 abbrev pub standing_found : Tables → DutyRow → Standing
-standing_found t row = record { number = row.number; state = row.state; steps = steps_found t row.number; last_day = end_found t row.number }
+standing_found t row = record { number = row.number; state = row.state; steps = steps_found t row.number }
 
 -- where the duties of a release stand
 abbrev pub standings_found : Tables → List ℕ → List Standing
 standings_found t r = map (standing_found t) (filter (is_duty_of r) t.duty)
 
-abbrev pub has_waived : DutyRow → Bool
-has_waived row = is_waived row.state
+-- a duty is waived, and the waiver's last day is before this one
+abbrev pub ends : Tables → List ℕ → DutyRow → Bool
+ends t day row = has_ended day row.state (end_found t row.number)
 
--- where the waived duties stand
-abbrev pub waived_found : Tables → List Standing
-waived_found t = map (standing_found t) (filter has_waived t.duty)
+-- where the duties stand whose waivers end
+abbrev pub ended_found : Tables → List ℕ → List Standing
+ended_found t day = map (standing_found t) (filter (ends t day) t.duty)
 
 abbrev pub is_unmet : Standing → Bool
 is_unmet s = not (is_met s.state)
-
--- a waiver's last day is before this one
-abbrev pub ends : List ℕ → Standing → Bool
-ends day s = has_ended day s.state s.last_day
 
 -- what a freeze raises
 abbrev pub owed_found : Readings → Tables → List ℕ → List Owed
@@ -134,7 +131,7 @@ answer_from w t (Meet q day text) = moved_found t word.Met q day text None
 answer_from w t (Waive q day text until) = moved_found t word.Waived q day text until
 answer_from w t (Reopen q day text) = moved_found t word.Reopened q day text None
 answer_from w t (Withdraw r day text) = withdraw_answer day text (state_found t r)
-answer_from w t (CloseDay day) = close_answer day (length (filter (ends day) (waived_found t)))
+answer_from w t (CloseDay day) = close_answer day (length (ended_found t day))
 
 abbrev pub new_duty : ℕ × Owed → DutyRow
 new_duty d = duty_row stands.IsOpen d
@@ -197,7 +194,7 @@ abbrev pub withdrawn_rows : List ℕ → List ℕ → List Standing → List Cha
 withdrawn_rows day text all = map (next_row (record { day = day; word = word.Withdrawn; body = text; last_day = None })) (filter is_unmet all)
 
 abbrev pub ended_rows : List ℕ → List Standing → List ChangeRow
-ended_rows day all = map (next_row (record { day = day; word = word.Ended; body = []; last_day = None })) (filter (ends day) all)
+ended_rows day all = map (next_row (record { day = day; word = word.Ended; body = []; last_day = None })) all
 
 abbrev pub change_for : Readings → Tables → Command → Change
 change_for w t (LoadCatalogue text) = loaded_change t text (result_ok (w.catalogue text))
@@ -211,7 +208,7 @@ change_for w t (Meet q day text) = moved_change t q (record { day = day; word = 
 change_for w t (Waive q day text until) = moved_change t q (record { day = day; word = word.Waived; body = text; last_day = until })
 change_for w t (Reopen q day text) = moved_change t q (record { day = day; word = word.Reopened; body = text; last_day = None })
 change_for w t (Withdraw r day text) = change.Withdrew r (withdrawn_rows day text (standings_found t r))
-change_for w t (CloseDay day) = change.Moved (ended_rows day (waived_found t))
+change_for w t (CloseDay day) = change.Moved (ended_rows day (ended_found t day))
 
 -- the rows after an answer
 abbrev pub noted_by : Answer → Change → Tables → Tables

@@ -5,6 +5,7 @@ use Rattle.std.specs.Option.{option_and_then}
 use Rattle.desk_rows.specs.Lists.{updated}
 use Rattle.desk_rows.specs.Keys.{is_duty, is_change_of}
 use Rattle.desk_rows.specs.States.{state_after}
+use Rattle.desk_rows.specs.Moves.{has_ended}
 use Rattle.desk_rows.specs.Tables.{with_duty_state}
 use Rattle.desk_rows.specs.declared.row.Standing.{Standing}
 use Rattle.desk_memory.specs.declared.ledger.Place.{Place}
@@ -69,11 +70,10 @@ standing_by (place ∷ places) rows = updated (is_duty place.duty) (with_duty_st
 abbrev pub end_in : List ChangeRow → Option (List ℕ)
 end_in rows = option_and_then (λ change. change.last_day) (last_or None rows)
 
+-- a duty with these changes is waived up to a day before this one
+abbrev pub ends_in : List ChangeRow → List ℕ → DutyRow → Bool
+ends_in changes day row = has_ended day row.state (end_in (filter (is_change_of row.number) changes))
+
 -- where a duty with these changes stands
 abbrev pub standing_in : List ChangeRow → DutyRow → Standing
-standing_in changes row = record {
-  number = row.number;
-  state = row.state;
-  steps = length (filter (is_change_of row.number) changes);
-  last_day = end_in (filter (is_change_of row.number) changes);
-}
+standing_in changes row = record { number = row.number; state = row.state; steps = length (filter (is_change_of row.number) changes) }

@@ -3,12 +3,11 @@
 ghost use Rattle.std.specs.Prelude.{◌≡◌, ℕ, Bool, true, ◌+◌, ◌-◌, ◌<◌, ◌≤◌, ◌++◌, ◌∷◌, [], find, filter, map, IfOk, IfErr, IfSome, OnOk, OnErr, length, Option, vec_len, unwrap_or, slice_get, List};
 ghost use Rattle.std.specs.Option.{option_copied};
 ghost use Rattle.desk_rows.specs.Lists.{put, put_all, updated};
-ghost use Rattle.desk_rows.specs.States.{is_waived, state_after};
+ghost use Rattle.desk_rows.specs.States.{state_after};
 ghost use Rattle.desk_rows.specs.Keys.{is_duty, is_duty_of, is_change_of, change_below};
 ghost use Rattle.desk_rows.specs.Tables.{moved_by, with_duty_state};
 ghost use Rattle.desk_rows.specs.Queries.{last_day};
-ghost use Rattle.desk_history.specs.FromTables.{has_waived};
-ghost use Rattle.desk_memory.specs.Ledgers.{end_in, numbered, grouped, all_of, more_at, pushed, place_of, standing_by, standing_in, AreSingles, ArePlaces, AreWithin};
+ghost use Rattle.desk_memory.specs.Ledgers.{end_in, ends_in, numbered, grouped, all_of, more_at, pushed, place_of, standing_by, standing_in, AreSingles, ArePlaces, AreWithin};
 
 use desk_base::{Day, Items};
 use desk_rows::{ChangeRow, DutyRow, DutyState, Fault, Standing, Word};
@@ -146,17 +145,15 @@ fn end_at(groups: &[Items<ChangeRow>], number: u64) -> Option<Day>
 }
 
 /// Where a duty stands.
-fn standing(groups: &[Items<ChangeRow>], row: &DutyRow) -> Result<Standing, AllocError>
+fn standing(groups: &[Items<ChangeRow>], row: &DutyRow) -> Standing
     requires { grouped 1 groups.now ≡ true }
-    ensures { IfOk result (λ standing. standing ≡ standing_in (all_of groups.now) row.now) }
+    ensures { result ≡ standing_in (all_of groups.now) row.now }
 {
-    let number = u64::from(row.number);
-    Ok(Standing {
+    Standing {
         number: row.number,
         state: row.state,
-        steps: steps_in(groups, number),
-        last_day: end_at(groups, number),
-    })
+        steps: steps_in(groups, u64::from(row.number)),
+    }
 }
 
 fn standings_of(
@@ -171,24 +168,39 @@ fn standings_of(
     let mut found = Vec::new(alloc);
     for row in rows {
         if row.release.as_str() == release {
-            found.push(standing(groups, row)?)?;
+            found.push(standing(groups, row))?;
         }
     }
     Ok(found)
 }
 
-fn waived(
+/// Whether a duty is waived up to a day before this one.
+fn ends(groups: &[Items<ChangeRow>], day: Day, row: &DutyRow) -> bool
+    requires { grouped 1 groups.now ≡ true }
+    ensures { result ≡ ends_in (all_of groups.now) day row.now }
+{
+    if row.state != DutyState::Waived {
+        return false;
+    }
+    match end_at(groups, u64::from(row.number)) {
+        Some(last) => last.as_bytes().cmp(day.as_bytes()).is_lt(),
+        None => false,
+    }
+}
+
+fn ended(
     alloc: Global,
     rows: &[DutyRow],
     groups: &[Items<ChangeRow>],
+    day: Day,
 ) -> Result<Vec<Standing>, AllocError>
     requires { grouped 1 groups.now ≡ true }
-    ensures { IfOk result (λ found. found.items ≡ map (standing_in (all_of groups.now)) (filter has_waived rows.now)) }
+    ensures { IfOk result (λ found. found.items ≡ map (standing_in (all_of groups.now)) (filter (ends_in (all_of groups.now) day) rows.now)) }
 {
     let mut found = Vec::new(alloc);
     for row in rows {
-        if row.state == DutyState::Waived {
-            found.push(standing(groups, row)?)?;
+        if ends(groups, day, row) {
+            found.push(standing(groups, row))?;
         }
     }
     Ok(found)
@@ -378,11 +390,12 @@ impl Ledger {
         standings_of(self.alloc, self.duties.as_slice(), groups, release)
     }
 
-    /// Where the waived duties stand.
-    pub(crate) fn waived(&self) -> Result<Vec<Standing>, AllocError>
-        ensures { IfOk result (λ found. found.items ≡ map (standing_in (all_of self.now.groups.items)) (filter has_waived self.now.duties.items)) }
+    /// Where the duties stand that are waived up to a day before this one.
+    pub(crate) fn ended(&self, day: Day) -> Result<Vec<Standing>, AllocError>
+        ensures { IfOk result (λ found. found.items ≡ map (standing_in (all_of self.now.groups.items)) (filter (ends_in (all_of self.now.groups.items) day) self.now.duties.items)) }
     {
-        waived(self.alloc, self.duties.as_slice(), self.groups.as_slice())
+        let groups = self.groups.as_slice();
+        ended(self.alloc, self.duties.as_slice(), groups, day)
     }
 
     /// The day of a duty's last change.

@@ -474,8 +474,8 @@ impl Store for MemStore {
         }
     }
 
-    fn waived(&mut self) -> Result<Vec<Standing>, Fault> {
-        match self.ledger.waived() {
+    fn ended(&mut self, day: Day) -> Result<Vec<Standing>, Fault> {
+        match self.ledger.ended(day) {
             Ok(found) => Ok(found),
             Err(_) => Err(Fault::Memory),
         }

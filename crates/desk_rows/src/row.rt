@@ -150,11 +150,10 @@ pub struct ChangeRow {
     pub last_day: Option<Day>,
 }
 
-/// Where a duty stands: its state, how many changes it has, and the last day of the last one, if that is a waiver that ends.
+/// Where a duty stands: its state, and how many changes it has.
 #[derive(Debug, Drop)]
 pub struct Standing {
     pub number: u32,
     pub state: DutyState,
     pub steps: u64,
-    pub last_day: Option<Day>,
 }
