@@ -84,6 +84,7 @@ answer_has_no_float (answer.Imported n) = refl
 answer_has_no_float (answer.Again n) = refl
 answer_has_no_float answer.Done = refl
 answer_has_no_float (answer.Frozen first count) = refl
+answer_has_no_float (answer.Closed count) = refl
 answer_has_no_float (answer.Duties lines) = rw (duties_have_no_float lines) refl
 answer_has_no_float (answer.Totals totals) = refl
 answer_has_no_float (answer.Refused refusal) = rw (refusal_has_no_float refusal) refl

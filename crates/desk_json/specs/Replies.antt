@@ -27,6 +27,9 @@ done_reply = object (member (codes "done") (boolean true) no_members)
 abbrev pub frozen_reply : ℕ → ℕ → Data
 frozen_reply first count = object (member (codes "count") (whole count) (member (codes "first") (whole first) no_members))
 
+abbrev pub closed_reply : ℕ → Data
+closed_reply count = object (member (codes "closed") (whole count) no_members)
+
 abbrev pub rows_reply : List Data → Data
 rows_reply rows = object (member (codes "rows") (list rows) no_members)
 
@@ -43,6 +46,7 @@ answer_reply (answer.Imported n) = document_reply n true
 answer_reply (answer.Again n) = document_reply n false
 answer_reply answer.Done = done_reply
 answer_reply (answer.Frozen first count) = frozen_reply first count
+answer_reply (answer.Closed count) = closed_reply count
 answer_reply (answer.Duties lines) = rows_reply (map duty_row lines)
 answer_reply (answer.Totals totals) = rows_reply (totals_row totals ∷ [])
 answer_reply (answer.Refused refusal) = refusal_reply refusal

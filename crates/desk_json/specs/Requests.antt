@@ -72,6 +72,42 @@ meet_request d = with_members 4 d
     with_text (codes "text") d (λ text.
     Act (command.Meet duty day text)))))
 
+-- a waiver may have a member for its last day
+abbrev pub waive_until : Data → Option (Option (List ℕ))
+waive_until d = if size d == 4 then Some None else if size d == 5 then option_map Some (text_in (codes "until") d) else None
+
+abbrev pub waive_request : Data → Request
+waive_request d = unwrap_or (option_map (λ until.
+    with_number (codes "duty") d (λ duty.
+    with_text (codes "day") d (λ day.
+    with_text (codes "text") d (λ text.
+    Act (command.Waive duty day text until))))) (waive_until d)) BadCommand
+
+abbrev pub reopen_request : Data → Request
+reopen_request d = with_members 4 d
+    (with_number (codes "duty") d (λ duty.
+    with_text (codes "day") d (λ day.
+    with_text (codes "text") d (λ text.
+    Act (command.Reopen duty day text)))))
+
+abbrev pub unchoose_request : Data → Request
+unchoose_request d = with_members 4 d
+    (with_text (codes "release") d (λ release.
+    with_number (codes "document") d (λ document.
+    with_text (codes "package") d (λ package_id.
+    Act (command.Unchoose release document package_id)))))
+
+abbrev pub withdraw_request : Data → Request
+withdraw_request d = with_members 4 d
+    (with_text (codes "release") d (λ release.
+    with_text (codes "day") d (λ day.
+    with_text (codes "text") d (λ text.
+    Act (command.Withdraw release day text)))))
+
+abbrev pub close_request : Data → Request
+close_request d = with_members 2 d
+    (with_text (codes "day") d (λ day. Act (command.CloseDay day)))
+
 abbrev pub duties_request : Data → Request
 duties_request d = with_members 2 d
     (with_text (codes "release") d (λ release. Ask (query.Duties release)))
@@ -90,6 +126,11 @@ command_request word d =
     else if bytes_eq word (codes "choose") then choose_request d
     else if bytes_eq word (codes "freeze") then freeze_request d
     else if bytes_eq word (codes "meet") then meet_request d
+    else if bytes_eq word (codes "unchoose") then unchoose_request d
+    else if bytes_eq word (codes "waive") then waive_request d
+    else if bytes_eq word (codes "reopen") then reopen_request d
+    else if bytes_eq word (codes "withdraw") then withdraw_request d
+    else if bytes_eq word (codes "close") then close_request d
     else BadCommand
 
 -- the form that the word behind `ask` names

@@ -2,7 +2,7 @@
 
 ghost use Rattle.std.specs.Prelude.{◌≡◌, IfOk, codes};
 ghost use Rattle.serde_json.specs.View.{view};
-ghost use Rattle.desk_json.specs.Requests.{catalogue_request, import_profile, import_request, open_request, attach_request, choose_request, freeze_request, meet_request, duties_request, totals_request, query_request, request_of, request_in, with_text};
+ghost use Rattle.desk_json.specs.Requests.{catalogue_request, import_profile, import_request, open_request, attach_request, choose_request, freeze_request, meet_request, unchoose_request, waive_until, waive_request, reopen_request, withdraw_request, close_request, duties_request, totals_request, query_request, request_of, request_in, with_text};
 
 use crate::fields::{number_at, profile_at, size_of, take_text, text_at, texts_at};
 use crate::request::Request;
@@ -148,6 +148,123 @@ fn read_meet(alloc: Global, value: &Value) -> Result<Request, AllocError>
     Ok(Request::Act(Command::Meet { duty, day, text }))
 }
 
+fn read_unchoose(alloc: Global, value: &Value) -> Result<Request, AllocError>
+    ensures { IfOk result (λ r. r ≡ unchoose_request (view value.now)) }
+{
+    if size_of(value) != 4 {
+        return Ok(Request::BadCommand);
+    }
+    let Some(release) = text_at(value, "release") else {
+        return Ok(Request::BadCommand);
+    };
+    let Some(document) = number_at(value, "document") else {
+        return Ok(Request::BadCommand);
+    };
+    let Some(package_id) = text_at(value, "package") else {
+        return Ok(Request::BadCommand);
+    };
+    let release = Text::of(alloc, release)?;
+    let package_id = Text::of(alloc, package_id)?;
+    Ok(Request::Act(Command::Unchoose {
+        release,
+        document,
+        package_id,
+    }))
+}
+
+/// The last day of a waiver, where the request has room for one.
+fn waive_until(alloc: Global, value: &Value) -> Result<Option<Option<Text>>, AllocError>
+    ensures { IfOk result (λ r. r ≡ waive_until (view value.now)) }
+{
+    match size_of(value) {
+        4 => Ok(Some(None)),
+        5 => match text_at(value, "until") {
+            Some(day) => Ok(Some(Some(Text::of(alloc, day)?))),
+            None => Ok(None),
+        },
+        _ => Ok(None),
+    }
+}
+
+fn read_waive(alloc: Global, value: &Value) -> Result<Request, AllocError>
+    ensures { IfOk result (λ r. r ≡ waive_request (view value.now)) }
+{
+    let Some(until) = waive_until(alloc, value)? else {
+        return Ok(Request::BadCommand);
+    };
+    let Some(duty) = number_at(value, "duty") else {
+        return Ok(Request::BadCommand);
+    };
+    let Some(day) = text_at(value, "day") else {
+        return Ok(Request::BadCommand);
+    };
+    let Some(text) = text_at(value, "text") else {
+        return Ok(Request::BadCommand);
+    };
+    let day = Text::of(alloc, day)?;
+    let text = Text::of(alloc, text)?;
+    Ok(Request::Act(Command::Waive {
+        duty,
+        day,
+        text,
+        until,
+    }))
+}
+
+fn read_reopen(alloc: Global, value: &Value) -> Result<Request, AllocError>
+    ensures { IfOk result (λ r. r ≡ reopen_request (view value.now)) }
+{
+    if size_of(value) != 4 {
+        return Ok(Request::BadCommand);
+    }
+    let Some(duty) = number_at(value, "duty") else {
+        return Ok(Request::BadCommand);
+    };
+    let Some(day) = text_at(value, "day") else {
+        return Ok(Request::BadCommand);
+    };
+    let Some(text) = text_at(value, "text") else {
+        return Ok(Request::BadCommand);
+    };
+    let day = Text::of(alloc, day)?;
+    let text = Text::of(alloc, text)?;
+    Ok(Request::Act(Command::Reopen { duty, day, text }))
+}
+
+fn read_withdraw(alloc: Global, value: &Value) -> Result<Request, AllocError>
+    ensures { IfOk result (λ r. r ≡ withdraw_request (view value.now)) }
+{
+    if size_of(value) != 4 {
+        return Ok(Request::BadCommand);
+    }
+    let Some(release) = text_at(value, "release") else {
+        return Ok(Request::BadCommand);
+    };
+    let Some(day) = text_at(value, "day") else {
+        return Ok(Request::BadCommand);
+    };
+    let Some(text) = text_at(value, "text") else {
+        return Ok(Request::BadCommand);
+    };
+    let release = Text::of(alloc, release)?;
+    let day = Text::of(alloc, day)?;
+    let text = Text::of(alloc, text)?;
+    Ok(Request::Act(Command::Withdraw { release, day, text }))
+}
+
+fn read_close(alloc: Global, value: &Value) -> Result<Request, AllocError>
+    ensures { IfOk result (λ r. r ≡ close_request (view value.now)) }
+{
+    if size_of(value) != 2 {
+        return Ok(Request::BadCommand);
+    }
+    let Some(day) = text_at(value, "day") else {
+        return Ok(Request::BadCommand);
+    };
+    let day = Text::of(alloc, day)?;
+    Ok(Request::Act(Command::CloseDay { day }))
+}
+
 fn read_duties(alloc: Global, value: &Value) -> Result<Request, AllocError>
     ensures { IfOk result (λ r. r ≡ duties_request (view value.now)) }
 {
@@ -195,6 +312,11 @@ fn read_value(alloc: Global, value: &mut Value) -> Result<Request, AllocError>
         Some("choose") => read_choose(alloc, value),
         Some("freeze") => read_freeze(alloc, value),
         Some("meet") => read_meet(alloc, value),
+        Some("unchoose") => read_unchoose(alloc, value),
+        Some("waive") => read_waive(alloc, value),
+        Some("reopen") => read_reopen(alloc, value),
+        Some("withdraw") => read_withdraw(alloc, value),
+        Some("close") => read_close(alloc, value),
         Some(_) => Ok(Request::BadCommand),
         None => read_ask(alloc, value),
     }

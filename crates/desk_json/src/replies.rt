@@ -3,7 +3,7 @@
 ghost use Rattle.std.specs.Prelude.{◌≡◌, ◌∷◌, [], IfOk, codes, string_bytes};
 ghost use Rattle.serde_json.specs.Data.{array, object, member, no_members};
 ghost use Rattle.serde_json.specs.View.{view, items_view};
-ghost use Rattle.desk_json.specs.Replies.{revision_reply, document_reply, done_reply, frozen_reply, refusal_reply, answer_reply, fault_reply, reply_of, reply_text, bad_command_text, fault_word};
+ghost use Rattle.desk_json.specs.Replies.{revision_reply, document_reply, done_reply, frozen_reply, closed_reply, refusal_reply, answer_reply, fault_reply, reply_of, reply_text, bad_command_text, fault_word};
 ghost use Rattle.desk_rows.specs.declared.command.Fault.TheVariants.{Memory};
 ghost use Rattle.desk_rows.specs.declared.command.Outcome.TheVariants.{Failed};
 ghost use Rattle.desk_json.specs.Parts.{list};
@@ -38,6 +38,12 @@ fn frozen(alloc: Global, first: u32, count: u32) -> Result<Value, AllocError>
     json!(in alloc; {"count": count, "first": first})
 }
 
+fn closed(alloc: Global, count: u64) -> Result<Value, AllocError>
+    ensures { IfOk result (λ v. view v ≡ closed_reply count) }
+{
+    json!(in alloc; {"closed": count})
+}
+
 fn rows(alloc: Global, rows: Vec<Value>) -> Result<Value, AllocError>
     ensures { IfOk result (λ v. view v ≡ object (member (codes "rows") (array (items_view rows.items)) no_members)) }
 {
@@ -69,6 +75,7 @@ fn answer(alloc: Global, answer: &Answer) -> Result<Value, AllocError>
         Answer::Again(number) => document(alloc, *number, false),
         Answer::Done => done(alloc),
         Answer::Frozen { first, count } => frozen(alloc, *first, *count),
+        Answer::Closed(count) => closed(alloc, *count),
         Answer::Duties(lines) => rows(alloc, duty_rows(alloc, lines.as_slice())?),
         Answer::Totals(row) => totals(alloc, totals_row(alloc, row)?),
         Answer::Refused(reason) => refusal(alloc, reason),

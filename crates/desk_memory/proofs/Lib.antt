@@ -2,5 +2,6 @@ mod Days
 mod Founds
 mod Ledgering
 mod Pushing
+mod Ending
 mod Naming
 mod Ruling
