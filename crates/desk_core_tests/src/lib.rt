@@ -11,6 +11,8 @@ mod limits;
 #[cfg(test)]
 mod memory;
 #[cfg(test)]
+mod moves;
+#[cfg(test)]
 mod refusals;
 #[cfg(test)]
 mod replies;
