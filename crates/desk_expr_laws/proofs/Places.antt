@@ -7,7 +7,7 @@ use Rattle.desk_expr.specs.Grammar.{Symbol, opening, closing, and_word, or_word,
 use Rattle.desk_expr.specs.Spelling.{closings}
 use Rattle.desk_expr.specs.Rest.{Goal, Want, After, AfterWord, WantException, Closed, Ended}
 use Rattle.desk_expr.proofs.Residual.{OnlyCloses, ended_closes, closed_closes, Lives, ended_lives, closed_lives, after_lives, want_lives, word_lives, exception_lives, after_and, after_or, after_closing, after_closing_none, after_other, after_end, after_end_open, want_opening, want_word, want_other}
-use Rattle.desk_expr.proofs.Steps.{start_rest, word_end, word_closings}
+use Rattle.desk_expr.proofs.Steps.{start_rest, word_end}
 use Rattle.desk_expr_laws.proofs.Trees.{after_exception}
 
 -- the groups that are open, the innermost first: of each, its lists and operands so far

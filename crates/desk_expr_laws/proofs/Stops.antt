@@ -1,5 +1,5 @@
 -- Each text that spells no tree stops, and at one place for one reason.
-use Rattle.std.proofs.Common.{◌≡◌, ◌↔◌, ◌∙◌, ◌⊎◌, inl, inr, ℕ, zero, suc, ◌-◌, ◌<◌, ◌≤◌, List, [], ◌∷◌, ◌++◌, length, take, Option, Some, sym, subst, ap, refl, append_assoc, arith}
+use Rattle.std.proofs.Common.{◌≡◌, ◌↔◌, ◌∙◌, ◌⊎◌, inl, inr, ℕ, zero, suc, ◌-◌, ◌<◌, ◌≤◌, List, [], ◌∷◌, ◌++◌, length, take, Some, sym, subst, ap, refl, append_assoc, arith}
 use Rattle.std.specs.Prelude.{slice_get}
 use Rattle.std.proofs.lemmas.List.{append-nil}
 use Rattle.desk_base.specs.declared.profile.Profile.{Profile}
@@ -12,13 +12,13 @@ use Rattle.desk_expr.specs.Faults.{fault_number}
 use Rattle.desk_expr.specs.Tree.{Tree}
 use Rattle.desk_expr.specs.Tokens.{Lexeme, AreTokensBy}
 use Rattle.desk_expr.specs.Grammar.{Symbol, bad, SpellsTree}
-use Rattle.desk_expr.specs.Spelling.{symbol, symbol_of, symbols, still_open, operand_words, closings, KeepsLimits, AllFronts, Begins, ClosingsComplete, Stands, Reason, StopsAtToken, EndReason, StopsAtEnd, IsStopBy, SpellsWithinBy}
+use Rattle.desk_expr.specs.Spelling.{symbol, symbol_of, symbols, still_open, operand_words, closings, AllFronts, Begins, ClosingsComplete, Stands, Reason, StopsAtToken, EndReason, StopsAtEnd, IsStopBy, SpellsWithinBy}
 use Rattle.desk_expr.proofs.Balance.{no_bad, completed_open}
 use Rattle.desk_expr.proofs.Lexing.{tokens_exist, same_tokens}
 use Rattle.desk_expr.proofs.ParseLemmas.{stop_spells_nothing}
 use Rattle.desk_expr.proofs.ProgressLemmas.{symbols_push, fronts_push}
 use Rattle.std.proofs.str.Laws.{order}
-use Rattle.desk_expr_laws.proofs.Places.{Place, wants, Follows, Goes, Halts, Stepped, step, start, place_lives, IsWhole, NeedsClosings, NeedsMore, AtEnd, ends}
+use Rattle.desk_expr_laws.proofs.Places.{Place, wants, Follows, Goes, Halts, step, start, place_lives, AtEnd, ends}
 
 -- a stop that isn't want of memory
 abbrev pub Stop : Profile → List ℕ → Type 0

@@ -1,5 +1,5 @@
 -- A right reading lists no package of a document and no code of a rule twice.
-use Rattle.std.proofs.Common.{◌≡◌, ◌∙◌, ◌⊎◌, inl, inr, ℕ, ◌+◌, Bool, true, false, List, [], ◌∷◌, map, sym, subst, ap, refl}
+use Rattle.std.proofs.Common.{◌≡◌, ◌∙◌, inl, inr, ℕ, ◌+◌, Bool, true, false, List, [], ◌∷◌, map, sym, subst, ap, refl}
 use Rattle.std.specs.Prelude.{Result, Ok, Err, Option, codes, if◌then◌else◌, length, nat_lt, not}
 use Rattle.std.specs.List.{list_all}
 use Rattle.std.specs.Option.{ok_or}
@@ -20,7 +20,7 @@ use Rattle.desk_rows.specs.declared.refusal.CataloguePart.TheVariants as part
 use Rattle.desk_rows.specs.declared.refusal.CatalogueFault.{CatalogueFault}
 use Rattle.desk_rows.specs.declared.refusal.CatalogueFault.TheVariants.{NotToml, TooLarge, BadTerm, UnknownForm, UnknownDuty}
 use Rattle.desk_history.specs.Laws.{AreDistinct, ListsOnce}
-use Rattle.desk_catalogue.specs.Kept.{put_rule, put_rules, in_order, rule_order}
+use Rattle.desk_catalogue.specs.Kept.{put_rule, put_rules, rule_order}
 use Rattle.desk_catalogue.specs.Reading.{Read, then_read, followed, each, tables_of, forms_of, duties_of, rules_of, rule_written, rule_at, rule_of, RuleTexts, catalogue_of, catalogue_of_table}
 use Rattle.desk_catalogue.specs.Reading as reading
 use Rattle.desk_catalogue.specs.Terms.{licence_of}

@@ -1,7 +1,7 @@
 -- A reading that is right, from what decides whether a text is an expression, what terms are to one, and what reads all bytes.
-use Rattle.std.proofs.Common.{◌≡◌, ◌∙◌, ◌⊎◌, inl, inr, ℕ, Bool, true, false, List, [], ◌∷◌, Option, Some, None, sym, subst, ap, refl}
+use Rattle.std.proofs.Common.{◌≡◌, ◌∙◌, ◌⊎◌, inl, inr, ℕ, Bool, true, false, List, [], ◌∷◌, Option, Some, None, sym, ap, refl}
 use Rattle.std.proofs.lemmas.Bool.{cases_Bool}
-use Rattle.std.specs.Prelude.{is_some, Result, Contains}
+use Rattle.std.specs.Prelude.{is_some, Result}
 use Rattle.desk_fields.specs.declared.fault.DocFault.{DocFault}
 use Rattle.desk_expr.specs.declared.term.Term.{Term}
 use Rattle.desk_expr.specs.Tree.{Tree}
@@ -11,7 +11,7 @@ use Rattle.desk_base.specs.declared.profile.Profile.{Profile}
 use Rattle.desk_rows.specs.declared.refusal.ExpressionFault.{ExpressionFault}
 use Rattle.desk_rows.specs.declared.refusal.ExpressionFault.TheVariants.{Unexpected}
 use Rattle.desk_rows.specs.declared.reading.Verdict.{Verdict}
-use Rattle.desk_rows.specs.declared.reading.Verdict.TheVariants.{NotEnough, Superfluous, Minimal}
+use Rattle.desk_rows.specs.declared.reading.Verdict.TheVariants.{NotEnough}
 use Rattle.desk_catalogue.specs.Reading.{catalogue_of}
 use Rattle.desk_catalogue.specs.Terms.{IsTermOf}
 use Rattle.desk_catalogue.proofs.TermsRead.{reading, terms_read}

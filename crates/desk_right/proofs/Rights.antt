@@ -1,7 +1,6 @@
 -- Right readings: there is one, and all tell the same.
-use Rattle.std.proofs.Common.{◌≡◌, ◌∙◌, ◌⊎◌, inl, inr, ℕ, List, [], ◌∷◌, Option, Some, None, sym, subst, ap, refl, arith}
-use Rattle.std.specs.Prelude.{Result, Contains, is_none}
-use Rattle.desk_fields.specs.declared.fault.DocFault.{DocFault}
+use Rattle.std.proofs.Common.{◌≡◌, ◌∙◌, ◌⊎◌, inl, inr, ℕ, List, [], ◌∷◌, Option, Some, None, sym, subst, ap, arith}
+use Rattle.std.specs.Prelude.{Contains, is_none}
 use Rattle.desk_expr.specs.declared.term.Term.{Term}
 use Rattle.desk_expr.specs.Tree.{Tree}
 use Rattle.desk_expr.specs.Meaning.{Holds, CanGo, IsFirst, IsMinimal}
@@ -16,7 +15,7 @@ use Rattle.desk_rows.specs.declared.refusal.ExpressionFault.{ExpressionFault}
 use Rattle.desk_rows.specs.declared.reading.Verdict.{Verdict}
 use Rattle.desk_rows.specs.declared.reading.Verdict.TheVariants.{NotEnough, Superfluous, Minimal}
 use Rattle.desk_catalogue.specs.Reading.{catalogue_of}
-use Rattle.desk_catalogue.proofs.TermsRead.{same_term, reading}
+use Rattle.desk_catalogue.proofs.TermsRead.{same_term}
 use Rattle.desk_texts.specs.Expressions.{IsExpression, Tells, IsFault, IsVerdict, Judges}
 use Rattle.desk_texts.specs.Terms.{AreTerms}
 use Rattle.desk_texts.specs.Right.{AreRight}
