@@ -1,5 +1,5 @@
 -- A reading that is right, from what decides whether a text is an expression, what terms are to one, and what reads all bytes.
-use Rattle.std.proofs.Common.{◌≡◌, ◌∙◌, ◌⊎◌, inl, inr, ℕ, Bool, true, false, List, [], ◌∷◌, Option, Some, None, sym, ap, refl}
+use Rattle.std.proofs.Common.{◌≡◌, ◌∙◌, ◌⊎◌, inl, inr, ℕ, Bool, true, false, List, [], ◌∷◌, Option, Some, None, sym, subst, ap, refl}
 use Rattle.std.proofs.lemmas.Bool.{cases_Bool}
 use Rattle.std.specs.Prelude.{is_some, Result}
 use Rattle.desk_fields.specs.declared.fault.DocFault.{DocFault}
@@ -19,10 +19,11 @@ use Rattle.desk_tagvalue.specs.Documents.{Spells}
 use Rattle.desk_tagvalue.specs.Parts.{DocumentText}
 use Rattle.desk_tagvalue.proofs.ReadLemmas.{spells_once}
 use Rattle.desk_expr_laws.proofs.Stops.{tree_or_stop, one_stop, stops_spell_nothing}
-use Rattle.desk_texts.specs.Documents.{kept}
+use Rattle.desk_texts.specs.Documents.{Keeps}
 use Rattle.desk_texts.specs.Expressions.{is_no_licence, word_place, IsExpression, IsRead, Tells, fault_of, IsFault, IsVerdict, Judges}
 use Rattle.desk_texts.specs.Terms.{IsTerm, AreTerms, AreAllTerms, reference_in, is_licence, adopted_as}
 use Rattle.desk_texts.specs.Right.{AreRight}
+use Rattle.desk_right.proofs.Ships.{something_kept, kept_once}
 use Rattle.desk_right.proofs.Verdicts.{judged_once}
 
 -- ---- terms
@@ -124,7 +125,7 @@ module _
     pub standard : Readings
     standard = record {
       catalogue = λ text. catalogue_of terms_read.0 text;
-      document = λ bytes. kept (document bytes).0;
+      document = λ bytes. (something_kept (document bytes).0).0;
       term = terms_read.0;
       reference = reference_in;
       is_licence = is_licence;
@@ -139,7 +140,9 @@ module _
     standard_is_right = record {
       term = terms_read.1;
       catalogue = λ text. refl;
-      document = λ bytes read spells. ap kept (spells_once bytes (document bytes).0 read (document bytes).1 spells);
+      document = λ bytes read kept spells keeps.
+          kept_once read (something_kept (document bytes).0).0 kept
+          (subst (λ r. Keeps r (something_kept (document bytes).0).0) (spells_once bytes (document bytes).0 read (document bytes).1 spells) (something_kept (document bytes).0).1) keeps;
       reference = λ term. refl;
       licence = λ term. refl;
       adopted = λ licence term. refl;

@@ -19,6 +19,7 @@ use Rattle.desk_catalogue.proofs.TermsRead.{same_term}
 use Rattle.desk_texts.specs.Expressions.{IsExpression, Tells, IsFault, IsVerdict, Judges}
 use Rattle.desk_texts.specs.Terms.{AreTerms}
 use Rattle.desk_texts.specs.Right.{AreRight}
+use Rattle.desk_right.proofs.Ships.{something_kept}
 use Rattle.desk_right.proofs.Reading.{standard, standard_is_right, judged, told, faulted, faulted_once}
 
 verdict_by : (e : Tree) (ts : List Term) → (Holds (Contains ts) e → ⊥) ⊎ ((Holds (Contains ts) e × (i : ℕ) × IsFirst (CanGo ts e) i) ⊎ IsMinimal ts e) → (v : Verdict) × IsVerdict e ts v
@@ -63,7 +64,10 @@ pub same_catalogue : (v w : Readings) → AreRight v → AreRight w → (text : 
 same_catalogue v w a b text = a.catalogue text ∙ (ap (λ terms. catalogue_of terms text) (λ i t. same_terms_told v w a b t i) ∙ sym (b.catalogue text))
 
 pub same_document : (v w : Readings) → AreRight v → AreRight w → (bytes : List ℕ) → v.document bytes ≡ w.document bytes
-same_document v w a b bytes = let read = each_document bytes in a.document bytes read.0 read.1 ∙ sym (b.document bytes read.0 read.1)
+same_document v w a b bytes =
+    let read = each_document bytes in
+    let kept = something_kept read.0 in
+    a.document bytes read.0 kept.0 read.1 kept.1 ∙ sym (b.document bytes read.0 kept.0 read.1 kept.1)
 
 pub same_verdict : (v w : Readings) → AreRight v → AreRight w → (profile : Profile) (text : List ℕ) (words : List (List ℕ)) → v.verdict profile text words ≡ w.verdict profile text words
 same_verdict v w a b profile text words =

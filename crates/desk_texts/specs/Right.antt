@@ -4,12 +4,14 @@ use Rattle.desk_fields.specs.declared.fault.DocFault.{DocFault}
 use Rattle.desk_rows.specs.Readings.{Readings}
 use Rattle.desk_base.specs.declared.profile.Profile.{Profile}
 use Rattle.desk_rows.specs.declared.reading.Verdict.{Verdict}
+use Rattle.desk_rows.specs.declared.reading.Document.{Document}
+use Rattle.desk_rows.specs.declared.refusal.DocumentFault.{DocumentFault}
 use Rattle.desk_rows.specs.declared.refusal.ExpressionFault.{ExpressionFault}
 use Rattle.desk_catalogue.specs.Reading.{catalogue_of}
 use Rattle.desk_catalogue.specs.Terms.{ReadsTerms}
 use Rattle.desk_tagvalue.specs.Documents.{Spells}
 use Rattle.desk_tagvalue.specs.Parts.{DocumentText}
-use Rattle.desk_texts.specs.Documents.{kept}
+use Rattle.desk_texts.specs.Documents.{Keeps}
 use Rattle.desk_texts.specs.Expressions.{Tells, IsFault, Judges}
 use Rattle.desk_texts.specs.Terms.{reference_in, is_licence, adopted_as}
 
@@ -18,8 +20,8 @@ pub record AreRight (w : Readings) : Type 0 where
   pub term : ReadsTerms w.term
   -- the catalogue that a text is, or its fault
   pub catalogue : (text : List ℕ) → w.catalogue text ≡ catalogue_of w.term text
-  -- the document that bytes spell, or their fault
-  pub document : (bytes : List ℕ) (read : Result DocumentText DocFault) → Spells bytes read → w.document bytes ≡ kept read
+  -- the document that bytes spell, with what ships, or their fault
+  pub document : (bytes : List ℕ) (read : Result DocumentText DocFault) (kept : Result Document DocumentFault) → Spells bytes read → Keeps read kept → w.document bytes ≡ kept
   -- the reference that a printed term names
   pub reference : (term : List ℕ) → w.reference term ≡ reference_in term
   -- whether a printed term is a licence alone
