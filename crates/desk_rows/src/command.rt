@@ -53,6 +53,8 @@ pub enum Query {
     Duties { release: Text },
     /// How many duties of a release stand where.
     Totals { release: Text },
+    /// The changes of a duty, by step.
+    Changes { duty: u64 },
 }
 
 /// A duty of a release, and the day of its last change.
@@ -93,6 +95,7 @@ pub enum Answer {
     Frozen { first: u32, count: u32 },
     Duties(Items<DutyLine>),
     Totals(Totals),
+    Changes(Items<ChangeRow>),
     Refused(Refusal),
 }
 
