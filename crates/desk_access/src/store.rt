@@ -15,7 +15,7 @@ ghost use Rattle.desk_rows.specs.declared.command.StoreFault.{StoreFault};
 
 use desk_base::{Day, Text};
 use desk_rows::{
-    AttachedRow, Change, DutyRow, Fault, PackageRow, Profile, ReleaseRow, Rule, Standing,
+    AttachedRow, Change, ChangeRow, DutyRow, Fault, PackageRow, Profile, ReleaseRow, Rule, Standing,
 };
 
 /// Tables of rows, in memory or in a database. Look-ups leave the rows; `commit` alone writes, all of a change or nothing.
@@ -160,6 +160,12 @@ pub trait Store {
         ensures found { IfOk result (λ n. OfRows (λ t. n ≡ steps_found t duty) (seen self.old) (seen self.new)) }
         ensures kept { Looked (seen self.old) (seen self.new) result }
         ensures misses { OnErr result may_miss }
+        ensures fault { IfErr result (MayFail tells) };
+
+    /// The changes of a duty, by step.
+    fn changes_of(&mut self, duty: u64) -> Result<Vec<ChangeRow>, Fault>
+        ensures found { IfOk result (λ found. OfRows (λ t. found.items ≡ filter (is_change_of duty) t.changes) (seen self.old) (seen self.new)) }
+        ensures kept { Looked (seen self.old) (seen self.new) result }
         ensures fault { IfErr result (MayFail tells) };
 
     /// The day of a duty's last change, if it has one.

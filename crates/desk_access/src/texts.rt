@@ -4,7 +4,9 @@ ghost use Rattle.std.specs.Prelude.{◌≡◌, IfOk};
 ghost use Rattle.desk_rows.specs.Readings.{Readings};
 
 use desk_base::Text;
-use desk_rows::{Catalogue, CatalogueFault, Document, DocumentFault, Profile, Verdict};
+use desk_rows::{
+    Catalogue, CatalogueFault, Document, DocumentFault, ExpressionFault, Profile, Verdict,
+};
 use std::alloc::{AllocError, Global};
 
 /// A reader of texts. It tells which readings are right by its own definitions, and answers as each of these does.
@@ -36,9 +38,26 @@ pub trait Texts {
     fn reference(&self, alloc: Global, term: &str) -> Result<Option<Text>, AllocError>
         ensures { (w : Readings) → are_right w → IfOk result (λ reference. reference ≡ w.reference term.now) };
 
+    /// Whether a printed term is a licence alone: no reference, no plus, no exception.
+    fn is_licence(&self, term: &str) -> bool
+        ensures { (w : Readings) → are_right w → result ≡ w.is_licence term.now };
+
+    /// A licence, with the exception of a printed term.
+    fn adopted_as(&self, alloc: Global, licence: &str, term: &str) -> Result<Text, AllocError>
+        ensures { (w : Readings) → are_right w → IfOk result (λ adopted. adopted ≡ w.adopted_as licence.now term.now) };
+
     /// Whether a text is a licence expression.
     fn is_expression(&self, alloc: Global, profile: Profile, text: &str) -> Result<bool, AllocError>
         ensures { (w : Readings) → are_right w → IfOk result (λ is. is ≡ w.is_expression profile text.now) };
+
+    /// Why a text is no licence expression, if it is none.
+    fn expression_fault(
+        &self,
+        alloc: Global,
+        profile: Profile,
+        text: &str,
+    ) -> Result<Option<ExpressionFault>, AllocError>
+        ensures { (w : Readings) → are_right w → IfOk result (λ fault. fault ≡ w.expression_fault profile text.now) };
 
     /// What printed terms are to the expression that a text spells.
     fn verdict(

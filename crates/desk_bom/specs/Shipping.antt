@@ -1,6 +1,6 @@
 -- The packages that a document ships. The types of relationships are those of SPDX 2.3, clause 11.1; which of them ship is
 -- this project's rule.
-use Rattle.std.specs.Prelude.{◌≡◌, ℕ, ◌+◌, ◌==◌, ◌&&◌, ◌||◌, not, nat_le, Bool, true, false, List, [], length, filter, Option, Some, None, codes, if◌then◌else◌, slice_index_or}
+use Rattle.std.specs.Prelude.{◌≡◌, ℕ, ◌+◌, ◌==◌, ◌&&◌, ◌||◌, not, nat_le, Bool, true, false, List, [], length, filter, map, Option, Some, None, codes, if◌then◌else◌, slice_index_or}
 use Rattle.std.specs.List.{list_any, filter_map, range_with_len}
 use Rattle.std.specs.List.Sorted.{IsPermutation, IsSorted}
 use Rattle.std.specs.Ordering.{nat_cmp}
@@ -63,3 +63,9 @@ pub record AreShipped (d : DocumentText) (places : List ℕ) : Type 0 where
   pub each : IsPermutation (filter (λ k. set (k + 1)) (range_with_len 0 (length d.packages))) places
   -- by their identifiers
   pub ordered : IsSorted (λ j k. slice_cmp nat_cmp (slice_index_or (package_ids d) j []) (slice_index_or (package_ids d) k [])) places
+
+-- of each package, in the order of the document, whether it ships
+pub record AreShippingMarks (d : DocumentText) (marks : List Bool) : Type 0 where
+  pub set : ℕ → Bool
+  pub least : IsLeastFrom (is_start d) (shipping_arrows d) set
+  pub are : marks ≡ map (λ k. set (k + 1)) (range_with_len 0 (length d.packages))

@@ -11,5 +11,5 @@ mod state;
 pub use codes::verification_code;
 pub use contents::Contents;
 pub use elements::Elements;
-pub use shipping::shipped;
+pub use shipping::{shipped, ships};
 pub use state::{CodeState, code_state, is_code, is_unanalyzed};

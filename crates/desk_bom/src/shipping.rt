@@ -1,6 +1,6 @@
 //! The packages that a document ships.
 
-ghost use Rattle.std.specs.Prelude.{◌≡◌, ◌<◌, ◌+◌, ◌||◌, ◌&&◌, nat_le, [], ℕ, IfOk, OnOk, All, length, map, filter, slice_index_or};
+ghost use Rattle.std.specs.Prelude.{◌≡◌, ◌<◌, ◌+◌, ◌||◌, ◌&&◌, ◌^◌, nat_le, [], ℕ, IfOk, OnOk, All, length, map, filter, slice_index_or};
 ghost use Rattle.std.specs.List.{list_any, filter_map, range_with_len};
 ghost use Rattle.std.specs.List.Sorted.{IsPermutation, IsNonDecreasingBy};
 ghost use Rattle.desk_tagvalue.specs.Documents.{document_text};
@@ -9,7 +9,7 @@ ghost use Rattle.desk_bom.specs.Elements.{element_count};
 ghost use Rattle.desk_bom.specs.Notes.{Notes};
 ghost use Rattle.desk_tagvalue.specs.Parts.{DocumentText};
 ghost use Rattle.desk_bom.specs.Marks.{among, IsLeastFrom};
-ghost use Rattle.desk_bom.specs.Shipping.{ships_right, ships_left, arrow_between, touches_document, shipping_arrow, shipping_arrows, describes, is_described, is_start, AreShipped};
+ghost use Rattle.desk_bom.specs.Shipping.{ships_right, ships_left, arrow_between, touches_document, shipping_arrow, shipping_arrows, describes, is_described, is_start, AreShipped, AreShippingMarks};
 
 use crate::Elements;
 use crate::arrows::{Arrow, Reached, arrow_between};
@@ -168,6 +168,27 @@ fn places_of(alloc: Global, named: &[Named]) -> Result<Vec<usize>, AllocError>
     ensures { IfOk result (λ v. v.items ≡ map (λ n. n.place) named.now) }
 {
     named.iter().map(|package| package.place).collect(alloc)
+}
+
+// Of each of so many packages, whether it was reached.
+fn marks_of(alloc: Global, count: usize, reached: &Reached) -> Result<Vec<bool>, AllocError>
+    requires { count < 2 ^ 63 }
+    ensures { IfOk result (λ v. v.items ≡ map (λ k. among reached.now.order.items (k + 1)) (range_with_len 0 count)) }
+{
+    let mut marks = Vec::new(alloc);
+    for package in 0..count {
+        marks.push(reached.has(package + 1))?;
+    }
+    Ok(marks)
+}
+
+/// Of each package of a document, in its order, whether it ships: the same packages as `shipped` tells by their places.
+pub fn ships(alloc: Global, document: &Document) -> Result<Vec<bool>, AllocError>
+    ensures { IfOk result (λ v. AreShippingMarks (document_text document.now) v.items) }
+{
+    let reached = shipping(alloc, document)?;
+    let marks = marks_of(alloc, document.packages.as_slice().len(), &reached)?;
+    Ok(marks)
 }
 
 /// The places of the packages that a document ships, by their identifiers.

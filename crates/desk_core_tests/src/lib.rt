@@ -7,6 +7,8 @@
 #[cfg(test)]
 mod catalogues;
 #[cfg(test)]
+mod changes;
+#[cfg(test)]
 mod limits;
 #[cfg(test)]
 mod memory;
@@ -22,6 +24,8 @@ mod requests;
 mod rows;
 #[cfg(test)]
 mod runs;
+#[cfg(test)]
+mod shipping;
 #[cfg(test)]
 mod streams;
 #[cfg(test)]

@@ -66,6 +66,7 @@ pub fn in_words(alloc: Global, bytes: &[u8]) -> Result<String, AllocError> {
         Request::Ask(Query::Totals { release }) => {
             format!(in alloc; "totals of <{}>", release.as_str())
         }
+        Request::Ask(Query::Changes { duty }) => format!(in alloc; "changes of {duty}"),
         Request::BadCommand => String::from_str(alloc, "no request"),
     }
 }

@@ -131,6 +131,19 @@ pub fn totals<S: Store>(store: &mut S, release: &Text) -> Result<Answer, Fault>
     Ok(Answer::Totals(totals_of(rows.as_slice())))
 }
 
+/// The changes of a duty, by step.
+pub fn changes<S: Store>(store: &mut S, duty: u64) -> Result<Answer, Fault>
+    ensures answer { IfOk result (λ answer. OfRows (λ t. answer ≡ queried_from t (Query.Changes duty)) (S.seen store.old) (S.seen store.new)) }
+    ensures kept { Looked (S.seen store.old) (S.seen store.new) result }
+    ensures fault { IfErr result (MayFail S.tells) }
+{
+    if store.duty(duty)?.is_none() {
+        return Ok(Answer::Refused(Refusal::UnknownDuty));
+    }
+    let rows = store.changes_of(duty)?;
+    Ok(Answer::Changes(Items::from_vec(rows)))
+}
+
 /// Answers a question.
 pub fn answer_to<S: Store>(alloc: Global, store: &mut S, query: &Query) -> Result<Answer, Fault>
     ensures answer { IfOk result (λ answer. OfRows (λ t. answer ≡ queried_from t query.now) (S.seen store.old) (S.seen store.new)) }
@@ -140,5 +153,6 @@ pub fn answer_to<S: Store>(alloc: Global, store: &mut S, query: &Query) -> Resul
     match query {
         Query::Duties { release } => duties(alloc, store, release),
         Query::Totals { release } => totals(store, release),
+        Query::Changes { duty } => changes(store, *duty),
     }
 }

@@ -4,3 +4,5 @@ pub mod Limits
 pub mod Texts
 pub mod Verdicts
 pub mod Needed
+mod Places
+pub mod Stops

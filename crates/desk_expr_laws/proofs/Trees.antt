@@ -29,7 +29,7 @@ after_all K ors ands op r no_and no_or e = (
   (λ k. inl (inl k)),
 )
 
-after_exception : (K : Goal) (ors ands : List Tree) (t u : Term) (x : List ℕ) (r : List Symbol) (e : Tree)
+pub after_exception : (K : Goal) (ors ands : List Tree) (t u : Term) (x : List ℕ) (r : List Symbol) (e : Tree)
     → WantException K ors ands t (word u (Some x) ∷ r) e ↔ After K ors ands (one (with_exception t x)) r e
 after_exception K ors ands t u x r e = (
   (λ (v, y, p, is, k).

@@ -1,7 +1,8 @@
 -- The answers to queries, from tables.
-use Rattle.std.proofs.Common.{◌≡◌, ℕ, ◌+◌, ◌≤◌, true, false, List, [], ◌∷◌, length, map, refl, ap, ◌∙◌, arith}
+use Rattle.std.proofs.Common.{◌≡◌, ℕ, ◌+◌, ◌≤◌, Bool, true, false, List, [], ◌∷◌, Option, Some, None, length, map, refl, sym, ap, ◌∙◌, arith}
 use Rattle.std.specs.Prelude.{if◌then◌else◌, filter, is_some, cond}
 use Rattle.std.specs.List.{enumerate_from}
+use Rattle.std.specs.Option.{option_map}
 use Rattle.std.proofs.lemmas.Bool.Decides.{nat_tests}
 use Rattle.desk_rows.specs.Readings.{Readings}
 use Rattle.desk_rows.specs.Keys.{is_change_of, is_duty_of}
@@ -11,9 +12,10 @@ use Rattle.desk_rows.specs.Raised.{raised}
 use Rattle.desk_rows.specs.Moves.{duty_row, changes, place, all_changes}
 use Rattle.desk_rows.specs.Tables.{Tables, tables}
 use Rattle.desk_rows.specs.Queries.{queried, duty_line, duties_of, totals_of}
-use Rattle.desk_history.specs.FromTables.{queried_from}
+use Rattle.desk_rows.specs.Moves.{duty_at}
+use Rattle.desk_history.specs.FromTables.{queried_from, duty_found}
 use Rattle.desk_history.proofs.Lookups.{is_found}
-use Rattle.desk_history.proofs.Moving.{changes-numbered, in_range}
+use Rattle.desk_history.proofs.Moving.{changes-numbered, in_range, duty-found, known_at}
 use Rattle.desk_rows.specs.declared.row.DutyRow.{DutyRow}
 use Rattle.desk_rows.specs.declared.row.ChangeRow.{ChangeRow}
 use Rattle.desk_rows.specs.declared.refusal.Refusal.TheVariants as why
@@ -45,12 +47,28 @@ lines_from w h r n (x ∷ xs) le e =
 lines-found : (w : Readings) (h : List Command) (r : List ℕ) → map (duty_line (λ q. filter (is_change_of q) (all_changes w h))) (duties_of w h r) ≡ map (duty_line (changes w h)) (duties_of w h r)
 lines-found w h r = lines_from w h r 1 (raised w h) (omega arith) refl
 
+-- the changes of a duty are told just where it is known
+is_mapped : {A B : Type 0} (f : A → B) (o : Option A) → is_some (option_map f o) ≡ is_some o
+is_mapped f None = refl
+is_mapped f (Some x) = refl
+
+duty_known : (w : Readings) (h : List Command) (q : ℕ) → is_some (duty_found (tables w h) q) ≡ is_some (duty_at w h q)
+duty_known w h q = ap is_some (duty-found w h q) ∙ is_mapped (λ d. duty_row (place w h d.0) d) (duty_at w h q)
+
+where_known : (known : Bool) (rows told : List ChangeRow) → (known ≡ true → rows ≡ told) → (if known then answered.Changes rows else answered.Refused why.UnknownDuty) ≡ (if known then answered.Changes told else answered.Refused why.UnknownDuty)
+where_known true rows told same = ap answered.Changes (same refl)
+where_known false rows told same = refl
+
 pub query-answer : (w : Readings) (h : List Command) (q : Query) → queried_from (tables w h) q ≡ queried w h q
 query-answer w h (query.Duties r) =
     ap (λ b. if b then answered.Duties (map (duty_line (λ q. filter (is_change_of q) (all_changes w h))) (duties_of w h r)) else answered.Refused why.UnknownRelease) (is_found w h r)
     ∙ ap (λ rows. if is_some (form_of h r) then answered.Duties rows else answered.Refused why.UnknownRelease) (lines-found w h r)
 query-answer w h (query.Totals r) =
     ap (λ b. if b then answered.Totals (totals_of (duties_of w h r)) else answered.Refused why.UnknownRelease) (is_found w h r)
+query-answer w h (query.Changes q) =
+    ap (λ b. if b then answered.Changes (filter (is_change_of q) (all_changes w h)) else answered.Refused why.UnknownDuty) (duty_known w h q)
+    ∙ where_known (is_some (duty_at w h q)) (filter (is_change_of q) (all_changes w h)) (changes w h q)
+    (λ known. changes-found w h q (sym (known_at w h q) ∙ known))
 
 pub query_at_history : (w : Readings) (h : List Command) (q : Query) (t : Tables) → t ≡ tables w h → queried_from t q ≡ queried w h q
 query_at_history w h q t e = ap (λ u. queried_from u q) e ∙ query-answer w h q

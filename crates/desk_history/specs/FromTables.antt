@@ -237,3 +237,5 @@ queried_from t (query.Duties r) =
     else answered.Refused why.UnknownRelease
 queried_from t (query.Totals r) =
     if is_some (release_found t r) then answered.Totals (totals_of (filter (is_duty_of r) t.duty)) else answered.Refused why.UnknownRelease
+queried_from t (query.Changes q) =
+    if is_some (duty_found t q) then answered.Changes (filter (is_change_of q) t.changes) else answered.Refused why.UnknownDuty

@@ -1,13 +1,14 @@
 -- No reply has a number that is no integer, so its text is the compact one.
-use Rattle.std.proofs.Common.{◌≡◌, List, [], ◌∷◌, false, refl}
+use Rattle.std.proofs.Common.{◌≡◌, ℕ, List, [], ◌∷◌, ◌++◌, Option, Some, None, false, refl}
 use Rattle.std.specs.Prelude.{map}
 use Rattle.serde_json.specs.View.{items_of}
 use Rattle.serde_json.specs.Written.{has_float, items_have_float}
-use Rattle.desk_json.specs.Parts.{duty_row}
+use Rattle.desk_json.specs.Parts.{duty_row, change_values, ending, change_line}
 use Rattle.desk_json.specs.Refusals.{document_fault_values, catalogue_fault_values, refusal_values}
 use Rattle.desk_json.specs.Replies.{answer_reply, reply_of}
 use Rattle.desk_rows.specs.declared.command.Answer.{Answer}
 use Rattle.desk_rows.specs.declared.command.Answer.TheVariants as answer
+use Rattle.desk_rows.specs.declared.row.ChangeRow.{ChangeRow}
 use Rattle.desk_rows.specs.declared.command.DutyLine.{DutyLine}
 use Rattle.desk_rows.specs.declared.command.Outcome.{Outcome}
 use Rattle.desk_rows.specs.declared.command.Outcome.TheVariants as outcome
@@ -21,6 +22,14 @@ use Rattle.desk_rows.specs.declared.refusal.Refusal.TheVariants as why
 duties_have_no_float : (lines : List DutyLine) → items_have_float (items_of (map duty_row lines)) ≡ false
 duties_have_no_float [] = refl
 duties_have_no_float (line ∷ lines) = duties_have_no_float lines
+
+change_has_no_float : (row : ChangeRow) (last : Option (List ℕ)) → items_have_float (items_of (change_values row ++ ending last)) ≡ false
+change_has_no_float row None = refl
+change_has_no_float row (Some day) = refl
+
+changes_have_no_float : (rows : List ChangeRow) → items_have_float (items_of (map change_line rows)) ≡ false
+changes_have_no_float [] = refl
+changes_have_no_float (row ∷ rows) = rw (change_has_no_float row row.last_day) (changes_have_no_float rows)
 
 catalogue_fault_has_no_float : (fault : CatalogueFault) → items_have_float (items_of (catalogue_fault_values fault)) ≡ false
 catalogue_fault_has_no_float catalogue.NotToml = refl
@@ -87,6 +96,7 @@ answer_has_no_float (answer.Frozen first count) = refl
 answer_has_no_float (answer.Closed count) = refl
 answer_has_no_float (answer.Duties lines) = rw (duties_have_no_float lines) refl
 answer_has_no_float (answer.Totals totals) = refl
+answer_has_no_float (answer.Changes rows) = rw (changes_have_no_float rows) refl
 answer_has_no_float (answer.Refused refusal) = rw (refusal_has_no_float refusal) refl
 
 pub reply_has_no_float : (o : Outcome) → has_float (reply_of o) ≡ false

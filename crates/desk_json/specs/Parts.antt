@@ -1,9 +1,10 @@
 -- The parts of replies: numbers, lists and the rows of an answer.
-use Rattle.std.specs.Prelude.{ℕ, List, [], ◌∷◌, Option, Some, None, if◌then◌else◌}
+use Rattle.std.specs.Prelude.{ℕ, List, [], ◌∷◌, ◌++◌, Option, Some, None, if◌then◌else◌}
 use Rattle.std.specs.Str.{is_utf8}
 use Rattle.serde_json.specs.Data.{Data, number, unsigned, string, array}
 use Rattle.serde_json.specs.View.{items_of}
-use Rattle.desk_rows.specs.Names.{duty_state_name}
+use Rattle.desk_rows.specs.Names.{duty_state_name, word_name}
+use Rattle.desk_rows.specs.declared.row.ChangeRow.{ChangeRow}
 use Rattle.desk_rows.specs.declared.command.DutyLine.{DutyLine}
 use Rattle.desk_rows.specs.declared.command.Totals.{Totals}
 
@@ -22,6 +23,17 @@ day_text (Some day) = if is_utf8 day then day else []
 abbrev pub duty_row : DutyLine → Data
 duty_row line = list (whole line.number ∷ whole line.document ∷ string line.package_id ∷ string line.term ∷ string line.rule ∷ string line.code
     ∷ string (duty_state_name line.state) ∷ string (day_text line.day) ∷ [])
+
+-- the step, the day, the word and the text; of a waiver that ends, its last day too
+abbrev pub change_values : ChangeRow → List Data
+change_values row = whole row.step ∷ string (day_text (Some row.day)) ∷ string (word_name row.word) ∷ string row.body ∷ []
+
+abbrev pub ending : Option (List ℕ) → List Data
+ending None = []
+ending (Some day) = string (day_text (Some day)) ∷ []
+
+abbrev pub change_line : ChangeRow → Data
+change_line row = list (change_values row ++ ending row.last_day)
 
 abbrev pub totals_row : Totals → Data
 totals_row t = list (whole t.raised ∷ whole t.still_open ∷ whole t.met ∷ whole t.waived ∷ whole t.withdrawn ∷ [])

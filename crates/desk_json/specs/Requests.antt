@@ -116,6 +116,10 @@ abbrev pub totals_request : Data → Request
 totals_request d = with_members 2 d
     (with_text (codes "release") d (λ release. Ask (query.Totals release)))
 
+abbrev pub changes_request : Data → Request
+changes_request d = with_members 2 d
+    (with_number (codes "duty") d (λ duty. Ask (query.Changes duty)))
+
 -- the form that the word behind `do` names
 abbrev pub command_request : List ℕ → Data → Request
 command_request word d =
@@ -138,6 +142,7 @@ abbrev pub query_request : List ℕ → Data → Request
 query_request word d =
     if bytes_eq word (codes "duties") then duties_request d
     else if bytes_eq word (codes "totals") then totals_request d
+    else if bytes_eq word (codes "changes") then changes_request d
     else BadCommand
 
 -- the request that a value is; one with both `do` and `ask` has a member too many

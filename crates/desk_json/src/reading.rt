@@ -2,7 +2,7 @@
 
 ghost use Rattle.std.specs.Prelude.{◌≡◌, IfOk, codes};
 ghost use Rattle.serde_json.specs.View.{view};
-ghost use Rattle.desk_json.specs.Requests.{catalogue_request, import_profile, import_request, open_request, attach_request, choose_request, freeze_request, meet_request, unchoose_request, waive_until, waive_request, reopen_request, withdraw_request, close_request, duties_request, totals_request, query_request, request_of, request_in, with_text};
+ghost use Rattle.desk_json.specs.Requests.{catalogue_request, import_profile, import_request, open_request, attach_request, choose_request, freeze_request, meet_request, unchoose_request, waive_until, waive_request, reopen_request, withdraw_request, close_request, duties_request, totals_request, changes_request, query_request, request_of, request_in, with_text};
 
 use crate::fields::{number_at, profile_at, size_of, take_text, text_at, texts_at};
 use crate::request::Request;
@@ -291,12 +291,25 @@ fn read_totals(alloc: Global, value: &Value) -> Result<Request, AllocError>
     Ok(Request::Ask(Query::Totals { release }))
 }
 
+fn read_changes(value: &Value) -> Request
+    ensures { result ≡ changes_request (view value.now) }
+{
+    if size_of(value) != 2 {
+        return Request::BadCommand;
+    }
+    let Some(duty) = number_at(value, "duty") else {
+        return Request::BadCommand;
+    };
+    Request::Ask(Query::Changes { duty })
+}
+
 fn read_ask(alloc: Global, value: &Value) -> Result<Request, AllocError>
     ensures { IfOk result (λ r. r ≡ with_text (codes "ask") (view value.now) (λ word. query_request word (view value.now))) }
 {
     match text_at(value, "ask") {
         Some("duties") => read_duties(alloc, value),
         Some("totals") => read_totals(alloc, value),
+        Some("changes") => Ok(read_changes(value)),
         _ => Ok(Request::BadCommand),
     }
 }

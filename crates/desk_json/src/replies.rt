@@ -9,7 +9,7 @@ ghost use Rattle.desk_rows.specs.declared.command.Outcome.TheVariants.{Failed};
 ghost use Rattle.desk_json.specs.Parts.{list};
 
 use crate::refusals::refusal_values;
-use crate::rows::{duty_rows, totals_row};
+use crate::rows::{change_rows, duty_rows, totals_row};
 use desk_rows::{Answer, Fault, Outcome, Refusal};
 use serde_json::{Value, json};
 use std::alloc::{AllocError, Global};
@@ -78,6 +78,7 @@ fn answer(alloc: Global, answer: &Answer) -> Result<Value, AllocError>
         Answer::Closed(count) => closed(alloc, *count),
         Answer::Duties(lines) => rows(alloc, duty_rows(alloc, lines.as_slice())?),
         Answer::Totals(row) => totals(alloc, totals_row(alloc, row)?),
+        Answer::Changes(changes) => rows(alloc, change_rows(alloc, changes.as_slice())?),
         Answer::Refused(reason) => refusal(alloc, reason),
     }
 }

@@ -1,25 +1,32 @@
 //! The rows of answers as JSON.
 
-ghost use Rattle.std.specs.Prelude.{◌≡◌, ℕ, List, IfOk, IsTrue, map};
+ghost use Rattle.std.specs.Prelude.{◌≡◌, ℕ, List, IfOk, IsTrue, Some, map};
 ghost use Rattle.serde_json.specs.View.{view, items_view, items_of};
 ghost use Rattle.desk_base.specs.Day.{is_day};
-ghost use Rattle.desk_json.specs.Parts.{day_text, duty_row, totals_row};
+ghost use Rattle.desk_json.specs.Parts.{day_text, duty_row, change_line, totals_row};
 
 use desk_base::Day;
-use desk_rows::{DutyLine, Totals};
+use desk_rows::{ChangeRow, DutyLine, Totals};
 use serde_json::{Value, json};
 use std::alloc::{AllocError, Global};
+
+/// A day as it is written.
+fn written_day(day: &Day) -> &str
+    ensures { result.now ≡ day_text (Some day.now) }
+{
+    // The bytes of a day are digits and hyphens, so they are text.
+    match str::from_utf8(day.as_bytes()) {
+        Ok(text) => text,
+        Err(_) => "",
+    }
+}
 
 /// The day as it is written, and an empty text where there is none.
 fn day_text(day: &Option<Day>) -> &str
     ensures { result.now ≡ day_text day.now }
 {
     match day {
-        // The bytes of a day are digits and hyphens, so they are text.
-        Some(day) => match str::from_utf8(day.as_bytes()) {
-            Ok(text) => text,
-            Err(_) => "",
-        },
+        Some(day) => written_day(day),
         None => "",
     }
 }
@@ -45,6 +52,33 @@ pub(crate) fn duty_rows(alloc: Global, lines: &[DutyLine]) -> Result<Vec<Value>,
     let mut rows = Vec::new(alloc);
     for line in lines {
         rows.push(duty_row(alloc, line)?)?;
+    }
+    Ok(rows)
+}
+
+fn change_row(alloc: Global, change: &ChangeRow) -> Result<Value, AllocError>
+    ensures { IfOk result (λ v. view v ≡ change_line change.now) }
+{
+    let step = change.step;
+    let day = written_day(&change.day);
+    let word = change.word.name();
+    let body = change.body.as_str();
+    match &change.last_day {
+        Some(last) => {
+            let last = written_day(last);
+            json!(in alloc; [step, day, word, body, last])
+        }
+        None => json!(in alloc; [step, day, word, body]),
+    }
+}
+
+/// A row for each change.
+pub(crate) fn change_rows(alloc: Global, changes: &[ChangeRow]) -> Result<Vec<Value>, AllocError>
+    ensures { IfOk result (λ rows. items_view rows.items ≡ items_of (map change_line changes.now)) }
+{
+    let mut rows = Vec::new(alloc);
+    for change in changes {
+        rows.push(change_row(alloc, change)?)?;
     }
     Ok(rows)
 }

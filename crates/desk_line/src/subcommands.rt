@@ -98,6 +98,9 @@ Requests, with an example of each and its reply:
   count them: raised, open, met, waived, withdrawn
     > {\"ask\":\"totals\",\"release\":\"r1\"}
     < {\"rows\":[[1,0,1,0,0]]}
+  list the changes of a duty: step, day, what it was, text
+    > {\"ask\":\"changes\",\"duty\":1}
+    < {\"rows\":[[1,\"2025-03-03\",\"raised\",\"\"],[2,\"2025-03-04\",\"met\",\"notices.txt\"]]}
 
 What is refused changes nothing, and is told with its number, its name and where it is:
 

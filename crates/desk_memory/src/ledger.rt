@@ -398,6 +398,16 @@ impl Ledger {
         ended(self.alloc, self.duties.as_slice(), groups, day)
     }
 
+    /// The changes of a duty, by step.
+    pub(crate) fn changes(&self, number: u64) -> &[ChangeRow]
+        ensures { result.now ≡ filter (is_change_of number) (all_of self.now.groups.items) }
+    {
+        match group_at(self.groups.as_slice(), number) {
+            Some(group) => group.as_slice(),
+            None => &[],
+        }
+    }
+
     /// The day of a duty's last change.
     pub(crate) fn last_day(&self, number: u64) -> Option<Day>
         ensures { result ≡ last_day (filter (is_change_of number) (all_of self.now.groups.items)) }

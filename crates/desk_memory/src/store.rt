@@ -143,6 +143,29 @@ fn terms_of(alloc: Global, rows: &[ChoiceRow]) -> Result<Vec<Text>, AllocError>
     Ok(terms)
 }
 
+fn change_copy(row: &ChangeRow) -> Result<ChangeRow, AllocError>
+    ensures { IfOk result (λ copy. copy ≡ row.now) }
+{
+    Ok(ChangeRow {
+        duty: row.duty,
+        step: row.step,
+        day: row.day,
+        word: row.word,
+        body: row.body.clone()?,
+        last_day: row.last_day,
+    })
+}
+
+fn change_copies(alloc: Global, rows: &[ChangeRow]) -> Result<Vec<ChangeRow>, AllocError>
+    ensures { IfOk result (λ copies. copies.items ≡ rows.now) }
+{
+    let mut copies = Vec::new(alloc);
+    for row in rows {
+        copies.push(change_copy(row)?)?;
+    }
+    Ok(copies)
+}
+
 fn duties_of(alloc: Global, rows: &[DutyRow], release: &str) -> Result<Vec<DutyRow>, AllocError>
     ensures { IfOk result (λ found. found.items ≡ filter (is_duty_of release.now) rows.now) }
 {
@@ -483,6 +506,13 @@ impl Store for MemStore {
 
     fn steps(&mut self, duty: u64) -> Result<u64, Fault> {
         Ok(self.ledger.steps(duty))
+    }
+
+    fn changes_of(&mut self, duty: u64) -> Result<Vec<ChangeRow>, Fault> {
+        match change_copies(self.alloc, self.ledger.changes(duty)) {
+            Ok(rows) => Ok(rows),
+            Err(_) => Err(Fault::Memory),
+        }
     }
 
     fn last_day(&mut self, duty: u32) -> Result<Option<Day>, Fault> {

@@ -1,3 +1,4 @@
+mod Ships
 mod Verdicts
 mod Reading
 mod Rights

@@ -1,5 +1,5 @@
 -- A right reading lists no package of a document and no code of a rule twice.
-use Rattle.std.proofs.Common.{◌≡◌, ◌∙◌, ◌⊎◌, inl, inr, ℕ, ◌+◌, Bool, true, false, List, [], ◌∷◌, map, sym, subst, ap, refl}
+use Rattle.std.proofs.Common.{◌≡◌, ◌∙◌, inl, inr, ℕ, ◌+◌, Bool, true, false, List, [], ◌∷◌, map, sym, subst, ap, refl}
 use Rattle.std.specs.Prelude.{Result, Ok, Err, Option, codes, if◌then◌else◌, length, nat_lt, not}
 use Rattle.std.specs.List.{list_all}
 use Rattle.std.specs.Option.{ok_or}
@@ -20,7 +20,7 @@ use Rattle.desk_rows.specs.declared.refusal.CataloguePart.TheVariants as part
 use Rattle.desk_rows.specs.declared.refusal.CatalogueFault.{CatalogueFault}
 use Rattle.desk_rows.specs.declared.refusal.CatalogueFault.TheVariants.{NotToml, TooLarge, BadTerm, UnknownForm, UnknownDuty}
 use Rattle.desk_history.specs.Laws.{AreDistinct, ListsOnce}
-use Rattle.desk_catalogue.specs.Kept.{put_rule, put_rules, in_order, rule_order}
+use Rattle.desk_catalogue.specs.Kept.{put_rule, put_rules, rule_order}
 use Rattle.desk_catalogue.specs.Reading.{Read, then_read, followed, each, tables_of, forms_of, duties_of, rules_of, rule_written, rule_at, rule_of, RuleTexts, catalogue_of, catalogue_of_table}
 use Rattle.desk_catalogue.specs.Reading as reading
 use Rattle.desk_catalogue.specs.Terms.{licence_of}
@@ -28,9 +28,10 @@ use Rattle.desk_catalogue.specs.Values.{is_among}
 use Rattle.desk_catalogue.specs.declared.limits.TheConstants as limit
 use Rattle.desk_document_laws.proofs.EachDocument.{each_document}
 use Rattle.desk_tagvalue.specs.Parts.{DocumentText, PackageText}
-use Rattle.desk_texts.specs.Documents.{put_by, sorted_by, package_of, document_of, kept}
+use Rattle.desk_texts.specs.Documents.{put_by, sorted_by, marked, package_of, document_of, Keeps}
 use Rattle.desk_texts.specs.Rising.{Each, Rises}
 use Rattle.desk_texts.specs.Right.{AreRight}
+use Rattle.desk_right.proofs.Ships.{something_kept}
 use Rattle.desk_texts.proofs.Orders.{below_self}
 use Rattle.desk_texts.proofs.Halving.{rises_put}
 
@@ -78,24 +79,26 @@ map_map : {A B C : Type 0} (f : B → C) (g : A → B) (xs : List A) → map f (
 map_map f g [] = refl
 map_map f g (x ∷ xs) = ap (λ l. f (g x) ∷ l) (map_map f g xs)
 
-abbrev id_in : PackageText → List ℕ
-id_in p = p.id
+abbrev id_in : PackageText × Bool → List ℕ
+id_in m = m.0.id
 
 abbrev id_of : Package → List ℕ
 id_of p = p.id
 
-ids_distinct : (ps : List PackageText) → AreDistinct (map id_of (map package_of (sorted_by id_in ps)))
+ids_distinct : (ps : List (PackageText × Bool)) → AreDistinct (map id_of (map package_of (sorted_by id_in ps)))
 ids_distinct ps =
     subst AreDistinct (sym (map_map id_of package_of (sorted_by id_in ps))) (rises_distinct (map id_in (sorted_by id_in ps)) (rises_sorted id_in ps))
 
-of_document : (read : Result DocumentText DocFault) (document : Document) → kept read ≡ Ok document → AreDistinct (map id_of document.packages)
-of_document (Ok d) document e =
-    let same : document_of d ≡ document = cc in subst (λ x. AreDistinct (map id_of x.packages)) same (ids_distinct d.packages)
-of_document (Err f) document e = cc
+of_document : (read : Result DocumentText DocFault) (document : Document) → Keeps read (Ok document) → AreDistinct (map id_of document.packages)
+of_document (Ok d) document (marks, are, e) =
+    let same : document ≡ document_of marks d = cc in subst (λ x. AreDistinct (map id_of x.packages)) (sym same) (ids_distinct (marked d.packages marks))
+of_document (Err f) document e = absurd (cc)
 
 packages_once : (w : Readings) → AreRight w → (bytes : List ℕ) (document : Document) → w.document bytes ≡ Ok document → AreDistinct (map id_of document.packages)
 packages_once w right bytes document e =
-    let read = each_document bytes in of_document read.0 document (sym (right.document bytes read.0 read.1) ∙ e)
+    let read = each_document bytes in
+    let kept = something_kept read.0 in
+    of_document read.0 document (subst (Keeps read.0) (sym (right.document bytes read.0 kept.0 read.1 kept.1) ∙ e) kept.1)
 
 -- ---- codes
 

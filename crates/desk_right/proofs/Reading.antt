@@ -1,25 +1,29 @@
 -- A reading that is right, from what decides whether a text is an expression, what terms are to one, and what reads all bytes.
 use Rattle.std.proofs.Common.{◌≡◌, ◌∙◌, ◌⊎◌, inl, inr, ℕ, Bool, true, false, List, [], ◌∷◌, Option, Some, None, sym, subst, ap, refl}
 use Rattle.std.proofs.lemmas.Bool.{cases_Bool}
-use Rattle.std.specs.Prelude.{is_some, Result, Contains}
+use Rattle.std.specs.Prelude.{is_some, Result}
 use Rattle.desk_fields.specs.declared.fault.DocFault.{DocFault}
 use Rattle.desk_expr.specs.declared.term.Term.{Term}
 use Rattle.desk_expr.specs.Tree.{Tree}
 use Rattle.desk_expr.specs.Spelling.{SpellsWithinBy}
 use Rattle.desk_rows.specs.Readings.{Readings}
 use Rattle.desk_base.specs.declared.profile.Profile.{Profile}
+use Rattle.desk_rows.specs.declared.refusal.ExpressionFault.{ExpressionFault}
+use Rattle.desk_rows.specs.declared.refusal.ExpressionFault.TheVariants.{Unexpected}
 use Rattle.desk_rows.specs.declared.reading.Verdict.{Verdict}
-use Rattle.desk_rows.specs.declared.reading.Verdict.TheVariants.{NotEnough, Superfluous, Minimal}
+use Rattle.desk_rows.specs.declared.reading.Verdict.TheVariants.{NotEnough}
 use Rattle.desk_catalogue.specs.Reading.{catalogue_of}
 use Rattle.desk_catalogue.specs.Terms.{IsTermOf}
 use Rattle.desk_catalogue.proofs.TermsRead.{reading, terms_read}
 use Rattle.desk_tagvalue.specs.Documents.{Spells}
 use Rattle.desk_tagvalue.specs.Parts.{DocumentText}
 use Rattle.desk_tagvalue.proofs.ReadLemmas.{spells_once}
-use Rattle.desk_texts.specs.Documents.{kept}
-use Rattle.desk_texts.specs.Expressions.{is_no_licence, IsExpression, IsRead, Tells, IsVerdict, Judges}
-use Rattle.desk_texts.specs.Terms.{IsTerm, AreTerms, AreAllTerms, reference_in}
+use Rattle.desk_expr_laws.proofs.Stops.{tree_or_stop, one_stop, stops_spell_nothing}
+use Rattle.desk_texts.specs.Documents.{Keeps}
+use Rattle.desk_texts.specs.Expressions.{is_no_licence, word_place, IsExpression, IsRead, Tells, fault_of, IsFault, IsVerdict, Judges}
+use Rattle.desk_texts.specs.Terms.{IsTerm, AreTerms, AreAllTerms, reference_in, is_licence, adopted_as}
 use Rattle.desk_texts.specs.Right.{AreRight}
+use Rattle.desk_right.proofs.Ships.{something_kept, kept_once}
 use Rattle.desk_right.proofs.Verdicts.{judged_once}
 
 -- ---- terms
@@ -59,6 +63,31 @@ tells_once profile text (Some e) false is says = absurd (says e is)
 tells_once profile text None true is says = absurd (is says.0 says.1)
 tells_once profile text None false is says = refl
 
+-- why a value is no expression: it spells a tree or stops, and never both
+faulted_tree : (profile : Profile) (text : List ℕ) → (e : Tree) × SpellsWithinBy profile text e → (f : Option ExpressionFault) × IsFault profile text f
+faulted_tree profile text found = elim (cases_Bool (is_no_licence text)) [
+  | inl none ↦ (Some (Unexpected (word_place text)), inr (found, none, refl))
+  | inr some ↦ (None, (found.0, (some, found.1)))
+]
+
+pub faulted : (profile : Profile) (text : List ℕ) → (f : Option ExpressionFault) × IsFault profile text f
+faulted profile text = elim (tree_or_stop profile text) [
+  | inl found ↦ faulted_tree profile text found
+  | inr stop ↦ (Some (fault_of stop.0), inl (stop.0, stop.1, stop.2, refl))
+]
+
+pub faulted_once : (profile : Profile) (text : List ℕ) (f g : Option ExpressionFault) → IsFault profile text f → IsFault profile text g → f ≡ g
+faulted_once profile text None None h k = refl
+faulted_once profile text None (Some g) h (inl (stop, is, told, same)) = absurd (stops_spell_nothing profile text stop h.0 told is h.1.1)
+faulted_once profile text None (Some g) h (inr (found, none, same)) = let both = sym none ∙ h.1.0 in absurd (cc)
+faulted_once profile text (Some f) None (inl (stop, is, told, same)) k = absurd (stops_spell_nothing profile text stop k.0 told is k.1.1)
+faulted_once profile text (Some f) None (inr (found, none, same)) k = let both = sym none ∙ k.1.0 in absurd (cc)
+faulted_once profile text (Some f) (Some g) (inl (stop, is, told, same)) (inl (stop', is', told', same')) =
+    ap Some (same ∙ ap fault_of (one_stop profile text stop stop' told told' is is') ∙ sym same')
+faulted_once profile text (Some f) (Some g) (inl (stop, is, told, same)) (inr (found, none, same')) = absurd (stops_spell_nothing profile text stop found.0 told is found.1)
+faulted_once profile text (Some f) (Some g) (inr (found, none, same)) (inl (stop, is, told, same')) = absurd (stops_spell_nothing profile text stop found.0 told is found.1)
+faulted_once profile text (Some f) (Some g) (inr (found, none, same)) (inr (found', none', same')) = ap Some (same ∙ sym same')
+
 module _
     (tree : (profile : Profile) (text : List ℕ) → Decides profile text)
     (verdict : (e : Tree) (ts : List Term) → (v : Verdict) × IsVerdict e ts v)
@@ -96,10 +125,13 @@ module _
     pub standard : Readings
     standard = record {
       catalogue = λ text. catalogue_of terms_read.0 text;
-      document = λ bytes. kept (document bytes).0;
+      document = λ bytes. (something_kept (document bytes).0).0;
       term = terms_read.0;
       reference = reference_in;
+      is_licence = is_licence;
+      adopted_as = adopted_as;
       is_expression = λ profile text. is_some (expression_read profile text).0;
+      expression_fault = λ profile text. (faulted profile text).0;
       verdict = λ profile text words. (judged profile text words).0;
     }
 
@@ -108,8 +140,13 @@ module _
     standard_is_right = record {
       term = terms_read.1;
       catalogue = λ text. refl;
-      document = λ bytes read spells. ap kept (spells_once bytes (document bytes).0 read (document bytes).1 spells);
+      document = λ bytes read kept spells keeps.
+          kept_once read (something_kept (document bytes).0).0 kept
+          (subst (λ r. Keeps r (something_kept (document bytes).0).0) (spells_once bytes (document bytes).0 read (document bytes).1 spells) (something_kept (document bytes).0).1) keeps;
       reference = λ term. refl;
+      licence = λ term. refl;
+      adopted = λ licence term. refl;
       expression = λ profile text tells says. tells_once profile text (expression_read profile text).0 tells (expression_read profile text).1 says;
+      fault = λ profile text f is. faulted_once profile text (faulted profile text).0 f (faulted profile text).1 is;
       verdict = λ profile text words v judges. judged_once profile text words (judged profile text words).0 v (judged profile text words).1 judges;
     }

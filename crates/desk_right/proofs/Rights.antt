@@ -1,7 +1,6 @@
 -- Right readings: there is one, and all tell the same.
-use Rattle.std.proofs.Common.{◌≡◌, ◌∙◌, ◌⊎◌, inl, inr, ℕ, List, [], ◌∷◌, sym, subst, ap, refl, arith}
-use Rattle.std.specs.Prelude.{Result, Contains}
-use Rattle.desk_fields.specs.declared.fault.DocFault.{DocFault}
+use Rattle.std.proofs.Common.{◌≡◌, ◌∙◌, ◌⊎◌, inl, inr, ℕ, List, [], ◌∷◌, Option, Some, None, sym, subst, ap, arith}
+use Rattle.std.specs.Prelude.{Contains, is_none}
 use Rattle.desk_expr.specs.declared.term.Term.{Term}
 use Rattle.desk_expr.specs.Tree.{Tree}
 use Rattle.desk_expr.specs.Meaning.{Holds, CanGo, IsFirst, IsMinimal}
@@ -12,14 +11,16 @@ use Rattle.desk_expr.proofs.Minimal.{holds_more}
 use Rattle.desk_document_laws.proofs.EachDocument.{each_document}
 use Rattle.desk_rows.specs.Readings.{Readings}
 use Rattle.desk_base.specs.declared.profile.Profile.{Profile}
+use Rattle.desk_rows.specs.declared.refusal.ExpressionFault.{ExpressionFault}
 use Rattle.desk_rows.specs.declared.reading.Verdict.{Verdict}
 use Rattle.desk_rows.specs.declared.reading.Verdict.TheVariants.{NotEnough, Superfluous, Minimal}
 use Rattle.desk_catalogue.specs.Reading.{catalogue_of}
-use Rattle.desk_catalogue.proofs.TermsRead.{same_term, reading}
-use Rattle.desk_texts.specs.Expressions.{IsExpression, IsVerdict, Judges}
+use Rattle.desk_catalogue.proofs.TermsRead.{same_term}
+use Rattle.desk_texts.specs.Expressions.{IsExpression, Tells, IsFault, IsVerdict, Judges}
 use Rattle.desk_texts.specs.Terms.{AreTerms}
 use Rattle.desk_texts.specs.Right.{AreRight}
-use Rattle.desk_right.proofs.Reading.{standard, standard_is_right, judged, told}
+use Rattle.desk_right.proofs.Ships.{something_kept}
+use Rattle.desk_right.proofs.Reading.{standard, standard_is_right, judged, told, faulted, faulted_once}
 
 verdict_by : (e : Tree) (ts : List Term) → (Holds (Contains ts) e → ⊥) ⊎ ((Holds (Contains ts) e × (i : ℕ) × IsFirst (CanGo ts e) i) ⊎ IsMinimal ts e) → (v : Verdict) × IsVerdict e ts v
 verdict_by e ts (inl none) = (NotEnough, none)
@@ -63,7 +64,10 @@ pub same_catalogue : (v w : Readings) → AreRight v → AreRight w → (text : 
 same_catalogue v w a b text = a.catalogue text ∙ (ap (λ terms. catalogue_of terms text) (λ i t. same_terms_told v w a b t i) ∙ sym (b.catalogue text))
 
 pub same_document : (v w : Readings) → AreRight v → AreRight w → (bytes : List ℕ) → v.document bytes ≡ w.document bytes
-same_document v w a b bytes = let read = each_document bytes in a.document bytes read.0 read.1 ∙ sym (b.document bytes read.0 read.1)
+same_document v w a b bytes =
+    let read = each_document bytes in
+    let kept = something_kept read.0 in
+    a.document bytes read.0 kept.0 read.1 kept.1 ∙ sym (b.document bytes read.0 kept.0 read.1 kept.1)
 
 pub same_verdict : (v w : Readings) → AreRight v → AreRight w → (profile : Profile) (text : List ℕ) (words : List (List ℕ)) → v.verdict profile text words ≡ w.verdict profile text words
 same_verdict v w a b profile text words =
@@ -77,3 +81,27 @@ pub same_expression : (v w : Readings) → AreRight v → AreRight w → (profil
 same_expression v w a b profile text =
     let found = told tree_of_text verdict_of each_document profile text in
     a.expression profile text found.0 found.1 ∙ sym (b.expression profile text found.0 found.1)
+
+pub same_licence : (v w : Readings) → AreRight v → AreRight w → (term : List ℕ) → v.is_licence term ≡ w.is_licence term
+same_licence v w a b term = a.licence term ∙ sym (b.licence term)
+
+pub same_adopted : (v w : Readings) → AreRight v → AreRight w → (licence term : List ℕ) → v.adopted_as licence term ≡ w.adopted_as licence term
+same_adopted v w a b licence term = a.adopted licence term ∙ sym (b.adopted licence term)
+
+pub same_fault : (v w : Readings) → AreRight v → AreRight w → (profile : Profile) (text : List ℕ) → v.expression_fault profile text ≡ w.expression_fault profile text
+same_fault v w a b profile text =
+    let found = faulted profile text in
+    a.fault profile text found.0 found.1 ∙ sym (b.fault profile text found.0 found.1)
+
+-- a value is an expression where it has no fault
+told_by_fault : (profile : Profile) (text : List ℕ) (f : Option ExpressionFault) → IsFault profile text f → Tells profile text (is_none f)
+told_by_fault profile text None is = is
+told_by_fault profile text (Some f) is = λ e expression. none e expression is
+  where
+    none : (e : Tree) → IsExpression profile text e → IsFault profile text (Some f) → ⊥
+    none e expression is = let same = faulted_once profile text None (Some f) (e, expression) is in cc
+
+pub expression_or_fault : (w : Readings) → AreRight w → (profile : Profile) (text : List ℕ) → w.is_expression profile text ≡ is_none (w.expression_fault profile text)
+expression_or_fault w right profile text =
+    let found = faulted profile text in
+    right.expression profile text (is_none found.0) (told_by_fault profile text found.0 found.1) ∙ ap is_none (sym (right.fault profile text found.0 found.1))

@@ -1,6 +1,6 @@
 //! Laws of right readings, each the contract of a function with an empty body.
 
-ghost use Rattle.std.specs.Prelude.{◌≡◌, ℕ, List, []};
+ghost use Rattle.std.specs.Prelude.{◌≡◌, ℕ, List, [], is_none};
 ghost use Rattle.desk_expr.specs.declared.term.Term.{Term};
 ghost use Rattle.desk_expr.specs.Tree.{Tree};
 ghost use Rattle.desk_expr.specs.Meaning.{IsMinimal};
@@ -23,6 +23,9 @@ pub fn one_right_reading()
     ensures references { (v w : Readings) → AreRight v → AreRight w → (term : List ℕ) → v.reference term ≡ w.reference term }
     ensures catalogues { (v w : Readings) → AreRight v → AreRight w → (text : List ℕ) → v.catalogue text ≡ w.catalogue text }
     ensures documents { (v w : Readings) → AreRight v → AreRight w → (bytes : List ℕ) → v.document bytes ≡ w.document bytes }
+    ensures licences { (v w : Readings) → AreRight v → AreRight w → (term : List ℕ) → v.is_licence term ≡ w.is_licence term }
+    ensures adopted { (v w : Readings) → AreRight v → AreRight w → (licence term : List ℕ) → v.adopted_as licence term ≡ w.adopted_as licence term }
+    ensures faults { (v w : Readings) → AreRight v → AreRight w → (profile : Profile) (text : List ℕ) → v.expression_fault profile text ≡ w.expression_fault profile text }
     ensures expressions { (v w : Readings) → AreRight v → AreRight w → (profile : Profile) (text : List ℕ) → v.is_expression profile text ≡ w.is_expression profile text }
     ensures verdicts { (v w : Readings) → AreRight v → AreRight w → (profile : Profile) (text : List ℕ) (words : List (List ℕ)) → v.verdict profile text words ≡ w.verdict profile text words }
 {}
@@ -42,4 +45,9 @@ pub fn choices_have_terms()
 /// (`keys_are_distinct` of `desk_history`).
 pub fn right_readings_list_once()
     ensures { (w : Readings) → AreRight w → ListsOnce w }
+{}
+
+/// By a right reading a text is an expression exactly where it has no fault.
+pub fn expressions_have_no_fault()
+    ensures { (w : Readings) → AreRight w → (profile : Profile) (text : List ℕ) → w.is_expression profile text ≡ is_none (w.expression_fault profile text) }
 {}

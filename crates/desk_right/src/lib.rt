@@ -3,7 +3,8 @@
 //! The desk's contracts hold for each reading of documents, catalogues, terms and expressions that is right (`AreRight` of
 //! `desk_texts`). They would say nothing if no reading were. `right_reading_exists` says that there is one, `one_right_reading`
 //! that all tell the same, `choices_are_minimal_sets` what a right reading's verdict means in the words of the expressions,
-//! `choices_have_terms` that an empty choice is never minimal, and `right_readings_list_once` that it lists nothing twice.
+//! `choices_have_terms` that an empty choice is never minimal, `expressions_have_no_fault` that a text is an expression exactly
+//! where no fault of it is told, and `right_readings_list_once` that it lists nothing twice.
 //!
 //! The reading is put together from what decides each part: each text spells a term or none (`desk_catalogue`), a tree or none,
 //! and each choice has a verdict (`desk_expr_laws`); all bytes spell a document or have a fault (`desk_document_laws`).
@@ -12,6 +13,6 @@
 mod laws;
 
 pub use laws::{
-    choices_are_minimal_sets, choices_have_terms, one_right_reading, right_reading_exists,
-    right_readings_list_once,
+    choices_are_minimal_sets, choices_have_terms, expressions_have_no_fault, one_right_reading,
+    right_reading_exists, right_readings_list_once,
 };

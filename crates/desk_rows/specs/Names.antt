@@ -1,4 +1,4 @@
--- The names by which replies and tables show refusals, states, limits and the parts of a catalogue.
+-- The names by which replies and tables show refusals, states, words of changes, limits and the parts of a catalogue.
 use Rattle.std.specs.Prelude.{ℕ, List, codes}
 use Rattle.desk_rows.specs.declared.refusal.CataloguePart.{CataloguePart}
 use Rattle.desk_rows.specs.declared.refusal.CataloguePart.TheVariants as part
@@ -10,6 +10,16 @@ use Rattle.desk_rows.specs.declared.state.DutyState.{DutyState}
 use Rattle.desk_rows.specs.declared.state.DutyState.TheVariants as duty
 use Rattle.desk_rows.specs.declared.state.ReleaseState.{ReleaseState}
 use Rattle.desk_rows.specs.declared.state.ReleaseState.TheVariants as release
+use Rattle.desk_rows.specs.declared.state.Word.{Word}
+use Rattle.desk_rows.specs.declared.state.Word.TheVariants as word
+
+abbrev pub word_name : Word → List ℕ
+word_name word.Raised = codes "raised"
+word_name word.Met = codes "met"
+word_name word.Waived = codes "waived"
+word_name word.Reopened = codes "reopened"
+word_name word.Withdrawn = codes "withdrawn"
+word_name word.Ended = codes "ended"
 
 abbrev pub refusal_name : Refusal → List ℕ
 refusal_name (why.BadCatalogue a) = codes "BadCatalogue"

@@ -5,6 +5,7 @@ use Rattle.desk_rows.specs.Keys.{is_duty_of}
 use Rattle.desk_rows.specs.History.{form_of}
 use Rattle.desk_rows.specs.Moves.{changes, duties}
 use Rattle.desk_rows.specs.States.{is_open, is_met, is_waived, is_withdrawn}
+use Rattle.desk_rows.specs.Moves.{duty_at}
 use Rattle.desk_rows.specs.declared.refusal.Refusal.TheVariants as why
 use Rattle.desk_rows.specs.declared.row.DutyRow.{DutyRow}
 use Rattle.desk_rows.specs.declared.row.ChangeRow.{ChangeRow}
@@ -53,3 +54,5 @@ queried w h (query.Duties r) =
     if is_some (form_of h r) then answered.Duties (map (duty_line (changes w h)) (duties_of w h r)) else answered.Refused why.UnknownRelease
 queried w h (query.Totals r) =
     if is_some (form_of h r) then answered.Totals (totals_of (duties_of w h r)) else answered.Refused why.UnknownRelease
+queried w h (query.Changes q) =
+    if is_some (duty_at w h q) then answered.Changes (changes w h q) else answered.Refused why.UnknownDuty

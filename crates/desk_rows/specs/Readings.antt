@@ -7,6 +7,7 @@ use Rattle.desk_base.specs.declared.profile.Profile.{Profile}
 use Rattle.desk_rows.specs.declared.reading.Verdict.{Verdict}
 use Rattle.desk_rows.specs.declared.refusal.CatalogueFault.{CatalogueFault}
 use Rattle.desk_rows.specs.declared.refusal.DocumentFault.{DocumentFault}
+use Rattle.desk_rows.specs.declared.refusal.ExpressionFault.{ExpressionFault}
 
 pub record Readings : Type 0 where
   -- the catalogue that a text is, or its fault
@@ -17,7 +18,13 @@ pub record Readings : Type 0 where
   pub term : List ℕ → Option (List ℕ)
   -- the reference that a printed term names, without its exception
   pub reference : List ℕ → Option (List ℕ)
+  -- whether a printed term is a licence alone: no reference, no plus, no exception
+  pub is_licence : List ℕ → Bool
+  -- a licence, with the exception of a printed term
+  pub adopted_as : List ℕ → List ℕ → List ℕ
   -- whether a text is a licence expression
   pub is_expression : Profile → List ℕ → Bool
+  -- why a text is no licence expression, if it is none
+  pub expression_fault : Profile → List ℕ → Option ExpressionFault
   -- what a list of printed terms is to the expression that a text spells
   pub verdict : Profile → List ℕ → List (List ℕ) → Verdict

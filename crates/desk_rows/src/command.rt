@@ -79,6 +79,8 @@ pub enum Query {
     Duties { release: Text },
     /// How many duties of a release stand where.
     Totals { release: Text },
+    /// The changes of a duty, by step.
+    Changes { duty: u64 },
 }
 
 /// A duty of a release, and the day of its last change.
@@ -121,6 +123,7 @@ pub enum Answer {
     Closed(u64),
     Duties(Items<DutyLine>),
     Totals(Totals),
+    Changes(Items<ChangeRow>),
     Refused(Refusal),
 }
 

@@ -50,7 +50,7 @@ impl DutyState {
     }
 }
 
-/// What a change of a duty was.
+/// What a change of a duty was. It is printed as `raised`, `met`, `waived`, `reopened`, `withdrawn` or `ended`.
 #[derive(Clone, Copy, Debug, PartialEq, Eq)]
 pub enum Word {
     Raised,
@@ -59,4 +59,23 @@ pub enum Word {
     Reopened,
     Withdrawn,
     Ended,
+}
+
+impl Word {
+    ghost use Rattle.std.specs.Prelude.{◌≡◌};
+    ghost use Rattle.desk_rows.specs.Names.{word_name};
+
+    /// The word as it is printed.
+    pub fn name(&self) -> &'static str
+        ensures { result.now ≡ word_name self.now }
+    {
+        match self {
+            Word::Raised => "raised",
+            Word::Met => "met",
+            Word::Waived => "waived",
+            Word::Reopened => "reopened",
+            Word::Withdrawn => "withdrawn",
+            Word::Ended => "ended",
+        }
+    }
 }

@@ -1,6 +1,7 @@
 -- What the desk keeps of a document (SPDX 2.3, clauses 6.5, 7 and 10).
-use Rattle.std.specs.Prelude.{ℕ, true, List, [], ◌∷◌, map, Result, Ok, Err, if◌then◌else◌}
+use Rattle.std.specs.Prelude.{◌≡◌, ℕ, Bool, false, List, [], ◌∷◌, drop, map, slice_index_or, Result, Ok, Err, if◌then◌else◌}
 use Rattle.std.specs.Str.{bytes_eq}
+use Rattle.desk_bom.specs.Shipping.{AreShippingMarks}
 use Rattle.desk_fields.specs.declared.fault.DocFault.{DocFault}
 use Rattle.desk_fields.specs.declared.fault.DocFault.TheVariants as doc
 use Rattle.desk_fields.specs.Tags.{tag_name}
@@ -22,24 +23,28 @@ abbrev pub sorted_by : {A : Type 0} → (A → List ℕ) → List A → List A
 sorted_by id [] = []
 sorted_by id (x ∷ xs) = put_by id x (sorted_by id xs)
 
--- a package: each one ships
-abbrev pub package_of : PackageText → Package
-package_of p = record {
-  id = p.id;
-  name = p.name;
-  version = p.version;
-  concluded = p.concluded;
-  copyright = p.copyright;
-  shipped = true;
+-- each package of a list with its mark, which tells whether it ships
+abbrev pub marked : List PackageText → List Bool → List (PackageText × Bool)
+marked [] marks = []
+marked (p ∷ ps) marks = (p, slice_index_or marks 0 false) ∷ marked ps (drop 1 marks)
+
+abbrev pub package_of : PackageText × Bool → Package
+package_of m = record {
+  id = m.0.id;
+  name = m.0.name;
+  version = m.0.version;
+  concluded = m.0.concluded;
+  copyright = m.0.copyright;
+  shipped = m.1;
 }
 
 abbrev pub reference_of : ExtractedText → Reference
 reference_of x = record { id = x.id; body = x.text }
 
-abbrev pub document_of : DocumentText → Document
-document_of d = record {
+abbrev pub document_of : List Bool → DocumentText → Document
+document_of marks d = record {
   namespace = d.namespace;
-  packages = map package_of (sorted_by (λ p. p.id) d.packages);
+  packages = map package_of (sorted_by (λ m. m.0.id) (marked d.packages marks));
   references = map reference_of (sorted_by (λ x. x.id) d.extracted);
 }
 
@@ -59,6 +64,8 @@ fault_of (doc.BadRelationship line) = fault.BadRelationship line
 fault_of doc.TooLarge = fault.TooLarge
 fault_of (doc.TooManyElements line) = fault.TooManyElements line
 
-abbrev pub kept : Result DocumentText DocFault → Result Document DocumentFault
-kept (Ok d) = Ok (document_of d)
-kept (Err f) = Err (fault_of f)
+-- what the desk keeps of bytes that are read so: the document, with the packages that ship by the least set of elements
+-- (`desk_bom`), or the fault
+abbrev pub Keeps : Result DocumentText DocFault → Result Document DocumentFault → Type 0
+Keeps (Ok d) kept = (marks : List Bool) × AreShippingMarks d marks × (kept ≡ Ok (document_of marks d))
+Keeps (Err f) kept = kept ≡ Err (fault_of f)

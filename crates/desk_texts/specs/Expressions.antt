@@ -1,13 +1,19 @@
 -- Licence expressions in the fields of a document (SPDX 2.3, clause 7.13 and Annex D), read by the profile of operators that the
 -- document was imported with.
-use Rattle.std.specs.Prelude.{◌≡◌, ◌⊎◌, ℕ, ◌==◌, ◌&&◌, ◌||◌, Bool, true, false, List, Option, Some, None, length, codes, Contains}
+use Rattle.std.specs.Prelude.{◌≡◌, ◌⊎◌, ℕ, ◌-◌, ◌<◌, ◌==◌, ◌&&◌, ◌||◌, Bool, true, false, List, Option, Some, None, length, codes, Contains}
 use Rattle.std.specs.Str.{bytes_eq}
 use Rattle.desk_base.specs.declared.profile.Profile.{Profile}
 use Rattle.desk_expr.specs.declared.term.Term.{Term}
 use Rattle.desk_expr.specs.Tree.{Tree}
-use Rattle.desk_expr.specs.Spelling.{SpellsWithinBy}
+use Rattle.desk_expr.specs.Faults.{fault_number}
+use Rattle.desk_expr.specs.Grammar.{SpellsTree}
+use Rattle.desk_expr.specs.Spelling.{SpellsWithinBy, IsStopBy}
+use Rattle.desk_expr.specs.declared.fault.ParseFault.{ParseFault}
+use Rattle.desk_expr.specs.declared.fault.ParseFault.TheVariants as parse
 use Rattle.desk_expr.specs.Meaning.{Holds, CanGo, IsFirst, IsMinimal}
 use Rattle.desk_fields.specs.Text.{first_word, after_word, skip_blanks}
+use Rattle.desk_rows.specs.declared.refusal.ExpressionFault.{ExpressionFault}
+use Rattle.desk_rows.specs.declared.refusal.ExpressionFault.TheVariants as fault
 use Rattle.desk_rows.specs.declared.reading.Verdict.{Verdict}
 use Rattle.desk_rows.specs.declared.reading.Verdict.TheVariants.{NotEnough, Superfluous, Minimal}
 use Rattle.desk_texts.specs.Terms.{AreTerms}
@@ -36,6 +42,34 @@ IsRead profile text (Some e) = IsExpression profile text e
 abbrev pub Tells : Profile → List ℕ → Bool → Type 0
 Tells profile text true = (e : Tree) × IsExpression profile text e
 Tells profile text false = IsNoExpression profile text
+
+-- the fault of a text that stops; want of memory is none
+abbrev pub fault_of : ParseFault → ExpressionFault
+fault_of (parse.Memory error) = fault.Empty 0
+fault_of (parse.Empty place) = fault.Empty place
+fault_of (parse.BadToken place) = fault.BadToken place
+fault_of (parse.Unexpected place) = fault.Unexpected place
+fault_of (parse.Unclosed place) = fault.Unclosed place
+fault_of (parse.TooDeep place) = fault.TooDeep place
+fault_of (parse.TooLong place) = fault.TooLong place
+fault_of (parse.TooManyTerms place) = fault.TooManyTerms place
+
+-- where the first word of a text begins
+abbrev pub word_place : List ℕ → ℕ
+word_place text = length text - length (skip_blanks text)
+
+-- the value stops here, for a reason other than want of memory
+abbrev pub StopsBy : Profile → List ℕ → ExpressionFault → Type 0
+StopsBy profile text f = (stop : ParseFault) × IsStopBy SpellsTree profile text stop × (0 < fault_number stop) × (f ≡ fault_of stop)
+
+-- it spells a tree, and is yet NONE or NOASSERTION alone: that word is unexpected
+abbrev pub NamesNone : Profile → List ℕ → ExpressionFault → Type 0
+NamesNone profile text f = ((e : Tree) × SpellsWithinBy profile text e) × (is_no_licence text ≡ true) × (f ≡ fault.Unexpected (word_place text))
+
+-- why a value is no expression, if it is none
+abbrev pub IsFault : Profile → List ℕ → Option ExpressionFault → Type 0
+IsFault profile text None = (e : Tree) × IsExpression profile text e
+IsFault profile text (Some f) = StopsBy profile text f ⊎ NamesNone profile text f
 
 -- what a list of terms is to an expression
 abbrev pub IsVerdict : Tree → List Term → Verdict → Type 0

@@ -2,4 +2,5 @@ pub mod Rising
 pub mod Terms
 pub mod Expressions
 pub mod Documents
+pub mod Shipments
 pub mod Right

@@ -1,27 +1,36 @@
 -- Which readings are right: they tell of each text what it spells.
-use Rattle.std.specs.Prelude.{◌≡◌, ℕ, Bool, List, Result}
+use Rattle.std.specs.Prelude.{◌≡◌, ℕ, Bool, List, Option, Result}
 use Rattle.desk_fields.specs.declared.fault.DocFault.{DocFault}
 use Rattle.desk_rows.specs.Readings.{Readings}
 use Rattle.desk_base.specs.declared.profile.Profile.{Profile}
 use Rattle.desk_rows.specs.declared.reading.Verdict.{Verdict}
+use Rattle.desk_rows.specs.declared.reading.Document.{Document}
+use Rattle.desk_rows.specs.declared.refusal.DocumentFault.{DocumentFault}
+use Rattle.desk_rows.specs.declared.refusal.ExpressionFault.{ExpressionFault}
 use Rattle.desk_catalogue.specs.Reading.{catalogue_of}
 use Rattle.desk_catalogue.specs.Terms.{ReadsTerms}
 use Rattle.desk_tagvalue.specs.Documents.{Spells}
 use Rattle.desk_tagvalue.specs.Parts.{DocumentText}
-use Rattle.desk_texts.specs.Documents.{kept}
-use Rattle.desk_texts.specs.Expressions.{Tells, Judges}
-use Rattle.desk_texts.specs.Terms.{reference_in}
+use Rattle.desk_texts.specs.Documents.{Keeps}
+use Rattle.desk_texts.specs.Expressions.{Tells, IsFault, Judges}
+use Rattle.desk_texts.specs.Terms.{reference_in, is_licence, adopted_as}
 
 pub record AreRight (w : Readings) : Type 0 where
   -- the licence term that a text spells, printed
   pub term : ReadsTerms w.term
   -- the catalogue that a text is, or its fault
   pub catalogue : (text : List ℕ) → w.catalogue text ≡ catalogue_of w.term text
-  -- the document that bytes spell, or their fault
-  pub document : (bytes : List ℕ) (read : Result DocumentText DocFault) → Spells bytes read → w.document bytes ≡ kept read
+  -- the document that bytes spell, with what ships, or their fault
+  pub document : (bytes : List ℕ) (read : Result DocumentText DocFault) (kept : Result Document DocumentFault) → Spells bytes read → Keeps read kept → w.document bytes ≡ kept
   -- the reference that a printed term names
   pub reference : (term : List ℕ) → w.reference term ≡ reference_in term
+  -- whether a printed term is a licence alone
+  pub licence : (term : List ℕ) → w.is_licence term ≡ is_licence term
+  -- a licence with the exception of a printed term
+  pub adopted : (licence term : List ℕ) → w.adopted_as licence term ≡ adopted_as licence term
   -- whether a value is a licence expression by a profile of operators
   pub expression : (profile : Profile) (text : List ℕ) (tells : Bool) → Tells profile text tells → w.is_expression profile text ≡ tells
+  -- why a value is no licence expression, if it is none
+  pub fault : (profile : Profile) (text : List ℕ) (f : Option ExpressionFault) → IsFault profile text f → w.expression_fault profile text ≡ f
   -- what terms are to the expression of a value
   pub verdict : (profile : Profile) (text : List ℕ) (words : List (List ℕ)) (verdict : Verdict) → Judges profile text words verdict → w.verdict profile text words ≡ verdict

@@ -1,9 +1,10 @@
 -- Terms as texts (SPDX 2.3, Annex D.2 to D.4).
-use Rattle.std.specs.Prelude.{ℕ, List, [], ◌∷◌, Option, Some, None, if◌then◌else◌}
+use Rattle.std.specs.Prelude.{ℕ, ◌&&◌, not, Bool, List, [], ◌∷◌, ◌++◌, Option, Some, None, if◌then◌else◌}
+use Rattle.desk_base.specs.Idstring.{is_idstring}
 use Rattle.desk_expr.specs.declared.term.Term.{Term}
 use Rattle.desk_expr.specs.Words.{is_reference}
 use Rattle.desk_expr.specs.Spelling.{SpellsTermWithin}
-use Rattle.desk_fields.specs.Text.{first_word}
+use Rattle.desk_fields.specs.Text.{first_word, after_word}
 
 -- the text spells no term
 abbrev pub SpellsNoTerm : List ℕ → Type 0
@@ -28,3 +29,11 @@ AreAllTerms texts (Some ts) = AreTerms texts ts
 -- the reference that a printed term names: its first word, where that is a reference
 abbrev pub reference_in : List ℕ → Option (List ℕ)
 reference_in term = if is_reference (first_word term) then Some (first_word term) else None
+
+-- a printed term is a licence alone: an idstring (Annex D.2), so without plus and exception, and no reference
+abbrev pub is_licence : List ℕ → Bool
+is_licence term = is_idstring term && not (is_reference term)
+
+-- the licence in place of a printed term's word, and what follows the word: its exception, if it has one
+abbrev pub adopted_as : List ℕ → List ℕ → List ℕ
+adopted_as licence term = licence ++ after_word term

@@ -1,27 +1,37 @@
 //! What the desk keeps of a document.
 
-ghost use Rattle.std.specs.Prelude.{◌≡◌, ◌≢◌, IfOk, OnOk, Option, Result, map, ℕ, List};
+ghost use Rattle.std.specs.Prelude.{◌≡◌, ◌≢◌, IfOk, OnOk, Option, Result, map, drop, slice_index_or, ℕ, Bool, false, List};
 ghost use Rattle.desk_fields.specs.declared.fault.DocFault.{DocFault};
 ghost use Rattle.desk_fields.specs.Tags.{tag_name};
 ghost use Rattle.desk_tagvalue.specs.Documents.{Spells, document_text};
 ghost use Rattle.desk_tagvalue.specs.Entries.{value_text};
 ghost use Rattle.desk_tagvalue.specs.Parts.{DocumentText};
 ghost use Rattle.desk_tagvalue.specs.Views.{package_text, extracted_text};
-ghost use Rattle.desk_texts.specs.Documents.{package_of, reference_of, sorted_by, document_of, fault_of, kept};
+ghost use Rattle.desk_texts.specs.Documents.{package_of, reference_of, sorted_by, marked, document_of, fault_of, Keeps};
+ghost use Rattle.desk_texts.specs.Shipments.{shipment_text};
+ghost use Rattle.desk_bom.specs.Shipping.{AreShippingMarks};
 
 use crate::sorting::{Identified, sorted_by};
 use desk_base::{Items, Text};
+use desk_bom::ships;
 use desk_fields::Tag;
 use desk_rows::{Document, DocumentFault, Package, Reference};
 use desk_tagvalue::{DocFault, Extracted, read};
 use std::alloc::{AllocError, Global};
 use std::collections::VecDeque;
 
-impl Identified for desk_tagvalue::Package<'_> {
-    ghost id_of = { λ p. p.id.now };
+/// A package of a document, and whether the document ships it.
+#[derive(Clone, Copy)]
+struct Shipment<'s, 'a> {
+    text: &'s desk_tagvalue::Package<'a>,
+    ships: bool,
+}
+
+impl Identified for Shipment<'_, '_> {
+    ghost id_of = { λ s. s.text.now.id.now };
 
     fn id(&self) -> &str {
-        self.id
+        self.text.id
     }
 }
 
@@ -42,16 +52,17 @@ fn copy_of(alloc: Global, value: Option<&str>) -> Result<Option<Text>, AllocErro
     }
 }
 
-fn package_of(alloc: Global, text: &desk_tagvalue::Package<'_>) -> Result<Package, AllocError>
-    ensures { IfOk result (λ kept. kept ≡ package_of (package_text text.now)) }
+fn package_of(alloc: Global, shipment: &Shipment<'_, '_>) -> Result<Package, AllocError>
+    ensures { IfOk result (λ kept. kept ≡ package_of (shipment_text shipment.now)) }
 {
+    let text = shipment.text;
     Ok(Package {
         id: Text::of(alloc, text.id)?,
         name: Text::of(alloc, text.name)?,
         version: copy_of(alloc, text.version)?,
         concluded: copy_of(alloc, text.concluded)?,
         copyright: copy_of(alloc, text.copyright)?,
-        shipped: true,
+        shipped: shipment.ships,
     })
 }
 
@@ -66,24 +77,49 @@ fn reference_of(alloc: Global, extracted: &Extracted<'_>) -> Result<Reference, A
 
 fn package_copies(
     alloc: Global,
-    packages: VecDeque<&desk_tagvalue::Package<'_>>,
+    shipments: VecDeque<&Shipment<'_, '_>>,
 ) -> Result<Items<Package>, AllocError>
-    ensures { IfOk result (λ kept. kept ≡ map (λ p. package_of (package_text p.now)) packages.entry.items) }
+    ensures { IfOk result (λ kept. kept ≡ map (λ s. package_of (shipment_text s.now)) shipments.entry.items) }
 {
-    let mut kept = Vec::with_capacity(alloc, packages.len())?;
-    for text in packages {
-        kept.push(package_of(alloc, text)?)?;
+    let mut kept = Vec::with_capacity(alloc, shipments.len())?;
+    for shipment in shipments {
+        kept.push(package_of(alloc, shipment)?)?;
     }
     Ok(Items::from_vec(kept))
 }
 
-fn packages_of(
-    alloc: Global,
-    packages: &[desk_tagvalue::Package<'_>],
-) -> Result<Items<Package>, AllocError>
-    ensures { IfOk result (λ kept. kept ≡ map package_of (sorted_by (λ p. p.id) (map package_text packages.now))) }
+/// The first of some marks, and those behind it.
+fn first_of(marks: &[bool]) -> (bool, &[bool])
+    ensures first { result.0 ≡ slice_index_or marks.now 0 false }
+    ensures behind { result.1.now ≡ drop 1 marks.now }
 {
-    let sorted = sorted_by(alloc, packages)?;
+    match marks.split_first() {
+        Some((mark, behind)) => (*mark, behind),
+        None => (false, marks),
+    }
+}
+
+fn shipments<'s, 'a>(
+    alloc: Global,
+    packages: &'s [desk_tagvalue::Package<'a>],
+    marks: &[bool],
+) -> Result<Vec<Shipment<'s, 'a>>, AllocError>
+    ensures { IfOk result (λ found. map shipment_text found.items ≡ marked (map package_text packages.now) marks.now) }
+{
+    let mut found = Vec::with_capacity(alloc, packages.len())?;
+    let mut rest = marks;
+    for text in packages {
+        let (ships, behind) = first_of(rest);
+        found.push(Shipment { text, ships })?;
+        rest = behind;
+    }
+    Ok(found)
+}
+
+fn packages_of(alloc: Global, shipments: &[Shipment<'_, '_>]) -> Result<Items<Package>, AllocError>
+    ensures { IfOk result (λ kept. kept ≡ map package_of (sorted_by (λ m. m.0.id) (map shipment_text shipments.now))) }
+{
+    let sorted = sorted_by(alloc, shipments)?;
     let kept = package_copies(alloc, sorted)?;
     Ok(kept)
 }
@@ -113,11 +149,13 @@ fn document_of(
     alloc: Global,
     document: &desk_tagvalue::Document<'_>,
 ) -> Result<Document, AllocError>
-    ensures { IfOk result (λ kept. kept ≡ document_of (document_text document.now)) }
+    ensures { IfOk result (λ kept. (marks : List Bool) × AreShippingMarks (document_text document.now) marks × (kept ≡ document_of marks (document_text document.now))) }
 {
+    let marks = ships(alloc, document)?;
+    let shipments = shipments(alloc, document.packages.as_slice(), marks.as_slice())?;
     Ok(Document {
         namespace: Text::of(alloc, document.namespace)?,
-        packages: packages_of(alloc, document.packages.as_slice())?,
+        packages: packages_of(alloc, shipments.as_slice())?,
         references: references_of(alloc, document.extracted.as_slice())?,
     })
 }
@@ -156,12 +194,12 @@ fn fault_of(alloc: Global, fault: DocFault) -> Result<DocumentFault, AllocError>
     }
 }
 
-/// The document that bytes spell, as the desk keeps it, or their fault.
+/// The document that bytes spell, as the desk keeps it, with which of its packages ship, or their fault.
 pub(crate) fn read_document(
     alloc: Global,
     bytes: &[u8],
 ) -> Result<Result<Document, DocumentFault>, AllocError>
-    ensures { IfOk result (λ answer. (read : Result DocumentText DocFault) × Spells bytes.now read × (answer ≡ kept read)) }
+    ensures { IfOk result (λ answer. (read : Result DocumentText DocFault) × Spells bytes.now read × Keeps read answer) }
 {
     match read(alloc, bytes) {
         Ok(document) => Ok(Ok(document_of(alloc, &document)?)),

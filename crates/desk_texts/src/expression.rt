@@ -1,13 +1,14 @@
 //! Licence expressions in the fields of a document.
 
-ghost use Rattle.std.specs.Prelude.{◌≡◌, IfOk, IsTrue, Contains};
-ghost use Rattle.desk_texts.specs.Expressions.{is_only_word, is_no_licence, IsRead, Tells, IsVerdict, Judges};
+ghost use Rattle.std.specs.Prelude.{◌≡◌, ◌<◌, IfOk, OnOk, IsTrue, Contains};
+ghost use Rattle.desk_expr.specs.Faults.{fault_number};
+ghost use Rattle.desk_texts.specs.Expressions.{is_only_word, is_no_licence, word_place, IsRead, Tells, fault_of, IsFault, IsVerdict, Judges};
 
 use crate::term::{read_terms, told};
 use desk_base::Text;
-use desk_expr::{Expr, Profile, Term, check_choice, parse_in};
+use desk_expr::{Expr, ParseFault, Profile, Term, check_choice, parse_in};
 use desk_fields::{skip_blanks, split_word};
-use desk_rows::Verdict;
+use desk_rows::{ExpressionFault, Verdict};
 use std::alloc::{AllocError, Global};
 
 /// Whether a text is one word alone.
@@ -48,6 +49,46 @@ pub(crate) fn is_expression(alloc: Global, text: &str, profile: Profile) -> Resu
     match read_expression(alloc, text, profile)? {
         Some(_) => Ok(true),
         None => Ok(false),
+    }
+}
+
+/// Where the first word of a text begins.
+fn word_place(text: &str) -> usize
+    ensures { result ≡ word_place text.now }
+{
+    text.len() - skip_blanks(text).len()
+}
+
+/// The fault of a text that stops, or want of memory.
+fn fault_of(fault: ParseFault) -> Result<ExpressionFault, AllocError>
+    ensures fault { IfOk result (λ told. told ≡ fault_of fault) }
+    ensures stop { OnOk result (0 < fault_number fault) }
+{
+    match fault {
+        ParseFault::Memory(error) => Err(error),
+        ParseFault::Empty(place) => Ok(ExpressionFault::Empty(place)),
+        ParseFault::BadToken(place) => Ok(ExpressionFault::BadToken(place)),
+        ParseFault::Unexpected(place) => Ok(ExpressionFault::Unexpected(place)),
+        ParseFault::Unclosed(place) => Ok(ExpressionFault::Unclosed(place)),
+        ParseFault::TooDeep(place) => Ok(ExpressionFault::TooDeep(place)),
+        ParseFault::TooLong(place) => Ok(ExpressionFault::TooLong(place)),
+        ParseFault::TooManyTerms(place) => Ok(ExpressionFault::TooManyTerms(place)),
+    }
+}
+
+/// Why a value is no licence expression by a profile of operators, if it is none. A text that stops is told by its stop, also
+/// where it is too long.
+pub(crate) fn expression_fault(
+    alloc: Global,
+    text: &str,
+    profile: Profile,
+) -> Result<Option<ExpressionFault>, AllocError>
+    ensures { IfOk result (IsFault profile text.now) }
+{
+    match parse_in(alloc, text, profile) {
+        Ok(_) if is_no_licence(text) => Ok(Some(ExpressionFault::Unexpected(word_place(text)))),
+        Ok(_) => Ok(None),
+        Err(fault) => Ok(Some(fault_of(fault)?)),
     }
 }
 

@@ -3,11 +3,13 @@
 ghost use Rattle.desk_texts.specs.Right.{AreRight};
 
 use crate::document::read_document;
-use crate::expression::{is_expression, verdict};
-use crate::term::{printed_term, reference_in};
+use crate::expression::{expression_fault, is_expression, verdict};
+use crate::term::{adopted_as, is_licence, printed_term, reference_of};
 use desk_access::texts::Texts;
 use desk_base::Text;
-use desk_rows::{Catalogue, CatalogueFault, Document, DocumentFault, Profile, Verdict};
+use desk_rows::{
+    Catalogue, CatalogueFault, Document, DocumentFault, ExpressionFault, Profile, Verdict,
+};
 use std::alloc::{AllocError, Global};
 
 /// Reads texts as their standards say.
@@ -38,10 +40,15 @@ impl Texts for Standard {
     }
 
     fn reference(&self, alloc: Global, term: &str) -> Result<Option<Text>, AllocError> {
-        match reference_in(term) {
-            Some(reference) => Ok(Some(Text::of(alloc, reference)?)),
-            None => Ok(None),
-        }
+        reference_of(alloc, term)
+    }
+
+    fn is_licence(&self, term: &str) -> bool {
+        is_licence(term)
+    }
+
+    fn adopted_as(&self, alloc: Global, licence: &str, term: &str) -> Result<Text, AllocError> {
+        adopted_as(alloc, licence, term)
     }
 
     fn is_expression(
@@ -51,6 +58,15 @@ impl Texts for Standard {
         text: &str,
     ) -> Result<bool, AllocError> {
         is_expression(alloc, text, profile)
+    }
+
+    fn expression_fault(
+        &self,
+        alloc: Global,
+        profile: Profile,
+        text: &str,
+    ) -> Result<Option<ExpressionFault>, AllocError> {
+        expression_fault(alloc, text, profile)
     }
 
     fn verdict(

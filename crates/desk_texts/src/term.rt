@@ -4,9 +4,9 @@ ghost use Rattle.std.specs.Prelude.{◌≡◌, ◌<◌, IfOk, OnOk};
 ghost use Rattle.std.specs.Option.{option_map};
 ghost use Rattle.desk_expr.specs.Faults.{fault_number};
 ghost use Rattle.desk_catalogue.specs.Terms.{IsTermOf};
-ghost use Rattle.desk_texts.specs.Terms.{IsTerm, AreAllTerms, reference_in};
+ghost use Rattle.desk_texts.specs.Terms.{IsTerm, AreAllTerms, reference_in, is_licence, adopted_as};
 
-use desk_base::Text;
+use desk_base::{Text, is_idstring_of_bytes};
 use desk_expr::{ParseFault, Term, is_reference, parse_term, print_term};
 use desk_fields::split_word;
 use std::alloc::{AllocError, Global};
@@ -62,7 +62,7 @@ pub(crate) fn read_terms(alloc: Global, texts: &[Text]) -> Result<Option<Vec<Ter
 }
 
 /// The reference that a printed term names.
-pub(crate) fn reference_in(term: &str) -> Option<&str>
+fn reference_in(term: &str) -> Option<&str>
     ensures { option_map (λ word. word.now) result ≡ reference_in term.now }
 {
     let (word, _) = split_word(term);
@@ -71,4 +71,31 @@ pub(crate) fn reference_in(term: &str) -> Option<&str>
     } else {
         None
     }
+}
+
+/// The same as a text of its own.
+pub(crate) fn reference_of(alloc: Global, term: &str) -> Result<Option<Text>, AllocError>
+    ensures { IfOk result (λ reference. reference ≡ reference_in term.now) }
+{
+    match reference_in(term) {
+        Some(reference) => Ok(Some(Text::of(alloc, reference)?)),
+        None => Ok(None),
+    }
+}
+
+/// Whether a printed term is a licence alone: no reference, no plus, no exception.
+pub(crate) fn is_licence(term: &str) -> bool
+    ensures { result ≡ is_licence term.now }
+{
+    is_idstring_of_bytes(term.as_bytes()) && !is_reference(term.as_bytes())
+}
+
+/// A licence, with the exception of a printed term.
+pub(crate) fn adopted_as(alloc: Global, licence: &str, term: &str) -> Result<Text, AllocError>
+    ensures { IfOk result (λ adopted. adopted ≡ adopted_as licence.now term.now) }
+{
+    let (_, exception) = split_word(term);
+    let mut adopted = String::from_str(alloc, licence)?;
+    adopted.push_str(exception)?;
+    Text::of(alloc, adopted.as_str())
 }

@@ -1,4 +1,4 @@
-use Rattle.desk_right.proofs.Rights.{same_terms_told, same_reference, same_catalogue, same_document, same_expression, same_verdict}
+use Rattle.desk_right.proofs.Rights.{same_terms_told, same_reference, same_catalogue, same_document, same_licence, same_adopted, same_fault, same_expression, same_verdict}
 use Rattle.desk_right.proofs.laws.one_right_reading.Goals as goal
 
 pub returns-clause-terms : goal.returns-clause-terms
@@ -18,3 +18,12 @@ returns-clause-expressions c = same_expression
 
 pub returns-clause-verdicts : goal.returns-clause-verdicts
 returns-clause-verdicts c = same_verdict
+
+pub returns-clause-licences : goal.returns-clause-licences
+returns-clause-licences c = same_licence
+
+pub returns-clause-adopted : goal.returns-clause-adopted
+returns-clause-adopted c = same_adopted
+
+pub returns-clause-faults : goal.returns-clause-faults
+returns-clause-faults c = same_fault
