@@ -7,7 +7,7 @@ use Rattle.desk_tagvalue.specs.declared.parts.FileEntry.{FileEntry}
 use Rattle.desk_tagvalue.specs.declared.parts.Snippet.{Snippet}
 use Rattle.desk_tagvalue.specs.Parts.{PackageText, FileText, SnippetText}
 use Rattle.desk_tagvalue.specs.Views.{package_text, file_text, snippet_text}
-use Rattle.std.specs.BTreeMap.{BTreeMap, get_by, UpdatesBy}
+use Rattle.std.specs.BTreeMap.{BTreeMap, UpdatesBy}
 use Rattle.std.specs.Ordering.{nat_cmp}
 use Rattle.std.specs.Cmp.Lexicographic.{slice_cmp}
 use Rattle.std.specs.Str.{bytes_eq}

@@ -5,3 +5,4 @@ pub mod WalkLemmas
 pub mod ShippingLemmas
 pub mod ContentsLemmas
 pub mod CodeLemmas
+pub mod OneState

@@ -1,4 +1,3 @@
-use Rattle.std.proofs.Common.{ℕ}
 use Rattle.desk_bom.specs.Elements.{texts}
 use Rattle.desk_bom.proofs.ElementLemmas.{FirstPlaces}
 use Rattle.desk_bom.proofs.elements.places_of.Given as goal
