@@ -5,6 +5,7 @@ mod arrows;
 mod codes;
 mod contents;
 mod elements;
+mod places;
 mod shipping;
 mod state;
 

@@ -7,7 +7,7 @@ ghost use Rattle.std.specs.Str.{bytes_eq};
 ghost use Rattle.desk_fields.specs.Text.{trimmed};
 ghost use Rattle.desk_base.specs.Folded.{folded};
 ghost use Rattle.hex.specs.Hex.{encode_lower};
-ghost use Rattle.desk_bom.specs.Elements.{texts};
+ghost use Rattle.desk_bom.specs.Places.{texts};
 ghost use Rattle.desk_bom.specs.Contents.{AreFilesOf};
 ghost use Rattle.desk_tagvalue.specs.Documents.{document_text};
 ghost use Rattle.desk_tagvalue.specs.Entries.{value_text};

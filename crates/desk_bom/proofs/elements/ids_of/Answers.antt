@@ -1,6 +1,6 @@
 use Rattle.std.proofs.Common.{◌∙◌, ◌++◌, ap}
 use Rattle.std.specs.Prelude.{map}
-use Rattle.desk_bom.specs.Elements.{texts}
+use Rattle.desk_bom.specs.Places.{texts}
 use Rattle.desk_bom.proofs.ElementLemmas.{ids_joined}
 use Rattle.desk_bom.proofs.elements.ids_of.Goals as goal
 
