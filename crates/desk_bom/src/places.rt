@@ -41,7 +41,7 @@ fn guesses_of(alloc: Global, ids: &[&str]) -> Result<Vec<usize>, AllocError>
     ensures room { IfOk result (λ v. 0 < length v.items) }
     ensures first { IfOk result (λ v. (s : ℕ) → s < length v.items → slice_index_or v.items s 0 < length ids.now → place_of (slice_index_or (texts ids.now) (slice_index_or v.items s 0) []) (texts ids.now) ≡ Some (slice_index_or v.items s 0)) }
 {
-    let slots = ids.len().saturating_mul(4).saturating_add(1);
+    let slots = ids.len().saturating_mul(8).saturating_add(1);
     let mut guesses = vec![in alloc; ids.len(); slots]?;
     for i in (0..ids.len()).rev() {
         let slot = slot_of(ids[i], slots);
