@@ -3,7 +3,7 @@ use Rattle.std.proofs.Common.{◌≡◌, ◌↔◌, ◌∙◌, ◌⊎◌, inl, i
 use Rattle.std.specs.Prelude.{map, fold, IfOk, IfErr, alloc_error, ◌≢◌, ◌&&◌, not, if◌then◌else◌}
 use Rattle.std.proofs.lemmas.List.{append-nil, length-map}
 use Rattle.desk_base.specs.declared.profile.Profile.{Profile}
-use Rattle.desk_base.specs.declared.limits.TheConstants as limit
+use Rattle.desk_base.specs.Limits as limit
 use Rattle.desk_expr.specs.declared.cut.TokenCuts.{TokenCuts}
 use Rattle.desk_expr.specs.declared.fault.ParseFault.{ParseFault}
 use Rattle.desk_expr.specs.declared.fault.ParseFault.TheVariants.{Empty, BadToken, Unexpected, Unclosed, TooDeep, TooLong, TooManyTerms, Memory}
@@ -206,7 +206,7 @@ only_memory : (profile : Profile) (text : List ℕ) (f : ParseFault) → f ≡ M
 only_memory profile text f is = subst (IsStopBy SpellsTerm profile text) (sym is) tt
 
 module _ (profile : Profile) (text : List ℕ) (yielded : List Token) (t : Token) (cuts new : TokenCuts) where
-  at_token : (f : ParseFault) → length text ≤ limit.EXPRESSION_BYTES → StopsAtToken SpellsTerm profile text f → Reason SpellsTerm (map lexeme yielded) (lexeme t) f → IsStopBy SpellsTerm profile text f
+  at_token : (f : ParseFault) → length text ≤ limit.expression_bytes → StopsAtToken SpellsTerm profile text f → Reason SpellsTerm (map lexeme yielded) (lexeme t) f → IsStopBy SpellsTerm profile text f
   at_token (Empty p) short at reason = absurd reason
   at_token (BadToken p) short at reason = (short, at)
   at_token (Unexpected p) short at reason = (short, inl at)
@@ -216,7 +216,7 @@ module _ (profile : Profile) (text : List ℕ) (yielded : List Token) (t : Token
   at_token (TooManyTerms p) short at reason = (short, at)
   at_token (Memory e) short at reason = tt
 
-  pub stop_at_token : (f : ParseFault) → length text ≤ limit.EXPRESSION_BYTES → SoFar profile text yielded cuts → TokenGiven cuts (Some t) new → AllFronts (Stands SpellsTerm) (map lexeme yielded) → (f ≡ Memory alloc_error) ⊎ Reason SpellsTerm (map lexeme yielded) (lexeme t) f → IsStopBy SpellsTerm profile text f
+  pub stop_at_token : (f : ParseFault) → length text ≤ limit.expression_bytes → SoFar profile text yielded cuts → TokenGiven cuts (Some t) new → AllFronts (Stands SpellsTerm) (map lexeme yielded) → (f ≡ Memory alloc_error) ⊎ Reason SpellsTerm (map lexeme yielded) (lexeme t) f → IsStopBy SpellsTerm profile text f
   stop_at_token f short so_far given stands (inl is) = only_memory profile text f is
   stop_at_token f short so_far given stands (inr reason) =
       let behind = tokens_exist cuts.profile t.end new.rest.now in
@@ -243,7 +243,7 @@ word_ends v t = ((λ h. elim h [ inl a ↦ a.1 | inr (u, x, e, same) ↦ absurd 
 pub done_ends : (v : Term) → TermEnds (state.Done v) v
 done_ends v t = ((λ h. h.1), (λ h. (refl, h)))
 
-module _ (profile : Profile) (text : List ℕ) (ts : List Lexeme) (m : TermState) (short : length text ≤ limit.EXPRESSION_BYTES) (are : AreTokensBy profile 0 text ts) (read : TermRead ts m) where
+module _ (profile : Profile) (text : List ℕ) (ts : List Lexeme) (m : TermState) (short : length text ≤ limit.expression_bytes) (are : AreTokensBy profile 0 text ts) (read : TermRead ts m) where
   pub spelled_at_end : (r : Result Term ParseFault) → IfOk r (TermEnds m) → IfOk r (SpellsTermWithinBy profile text)
   spelled_at_end (Ok t) h =
       (short, (ts, are, subst (λ l. SpellsTerm l t) (append-nil (symbols ts)) ((read.rest [] t).1 ((h t).1 refl))))
