@@ -28,7 +28,7 @@ use Rattle.desk_expr.proofs.ParseLemmas.{SoFar, symbols_behind, symbols_split}
 
 -- ---- steps
 
-term_inv : (r : List Symbol) (t : Term) → SpellsTerm r t → ((o : Option (List ℕ)) × (r ≡ word t o ∷ [])) ⊎ ((v u : Term) × (o : Option (List ℕ)) × (x : List ℕ) × (r ≡ word v o ∷ with_word ∷ word u (Some x) ∷ []) × (with_exception v x ≡ t))
+pub term_inv : (r : List Symbol) (t : Term) → SpellsTerm r t → ((o : Option (List ℕ)) × (r ≡ word t o ∷ [])) ⊎ ((v u : Term) × (o : Option (List ℕ)) × (x : List ℕ) × (r ≡ word v o ∷ with_word ∷ word u (Some x) ∷ []) × (with_exception v x ≡ t))
 term_inv r t (bare _ o) = inl (o, refl)
 term_inv r t (excepted v u o x) = inr (v, u, o, x, refl, refl)
 
@@ -112,7 +112,7 @@ words_few : (b : Bool) (ss : List Symbol) → operand_words_after b ss ≤ lengt
 words_few b [] = omega arith
 words_few b (s ∷ ss) = omega (arith, one_at_most (is_word s && not b), words_few (is_with s) ss)
 
-term_short : (ss : List Symbol) (t : Term) → SpellsTerm ss t → length ss ≤ 3
+pub term_short : (ss : List Symbol) (t : Term) → SpellsTerm ss t → length ss ≤ 3
 term_short ss t (bare v o) = omega arith
 term_short ss t (excepted v u o x) = omega arith
 
@@ -288,7 +288,7 @@ spells_term_once profile text a b (ts, are, h) (us, are', k) =
 
 -- ---- a text that stops spells no term
 
-good_term : (ss : List Symbol) (t : Term) → SpellsTerm ss t → (front behind : List Symbol) → ss ≡ front ++ bad ∷ behind → ⊥
+pub good_term : (ss : List Symbol) (t : Term) → SpellsTerm ss t → (front behind : List Symbol) → ss ≡ front ++ bad ∷ behind → ⊥
 good_term ss t h [] behind is = elim (term_inv ss t h) [ inl (o, e) ↦ let same = sym e ∙ is in cc | inr (v, u, o, x, e, k) ↦ let same = sym e ∙ is in cc ]
 good_term ss t h (a ∷ []) behind is = elim (term_inv ss t h) [ inl (o, e) ↦ let same = sym e ∙ is in cc | inr (v, u, o, x, e, k) ↦ let same = sym e ∙ is in cc ]
 good_term ss t h (a ∷ b ∷ []) behind is = elim (term_inv ss t h) [ inl (o, e) ↦ let same = sym e ∙ is in cc | inr (v, u, o, x, e, k) ↦ let same = sym e ∙ is in cc ]

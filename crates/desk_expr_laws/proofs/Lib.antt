@@ -4,3 +4,9 @@ pub mod Limits
 pub mod Texts
 pub mod Verdicts
 pub mod Needed
+pub mod Begun
+pub mod Splits
+pub mod OneStop
+pub mod Stops
+pub mod TreeStops
+pub mod TermStops

@@ -1,10 +1,10 @@
 -- No spelled tree is true under no terms.
-use Rattle.std.proofs.Common.{◌≡◌, ℕ, List, [], ◌∷◌, inl, inr, subst, sym}
+use Rattle.std.proofs.Common.{ℕ, List, [], ◌∷◌, inl, inr, subst, sym}
 use Rattle.desk_base.specs.declared.profile.Profile.{Profile}
 use Rattle.desk_expr.specs.declared.term.Term.{Term}
-use Rattle.desk_expr.specs.Tree.{Tree, Trees, one, all, any, no_more, more, parts_of}
-use Rattle.desk_expr.specs.Meaning.{Holds, AllHold, SomeHolds}
-use Rattle.desk_expr.specs.Grammar.{Symbol, Operand, a_term, a_group, AndList, one_operand, and_more, OrList, one_list, or_more, SpellsTerm, SpellsTree, all_of, any_of}
+use Rattle.desk_expr.specs.Tree.{Tree, parts_of}
+use Rattle.desk_expr.specs.Meaning.{Holds, SomeHolds}
+use Rattle.desk_expr.specs.Grammar.{Symbol, Operand, a_term, a_group, AndList, one_operand, and_more, OrList, one_list, or_more, all_of, any_of}
 use Rattle.desk_expr.specs.Spelling.{SpellsWithinBy}
 
 -- no term at all

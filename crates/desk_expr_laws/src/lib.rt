@@ -8,15 +8,21 @@
 //! worth something. Both are constructive: each is a function that decides, so there is a reader of
 //! texts and a judge of choices that fit the definitions, whatever memory is at hand.
 //!
-//! Neither has a second answer: that a text spells one tree at most is the clause `only` of
+//! Where a text spells nothing, `some_stop` and `some_term_stop` say that it stops at some place for some reason, and `one_stop`
+//! and `one_term_stop` that it has only one such stop.
+//!
+//! A tree and a verdict have no second answer: that a text spells one tree at most is the clause `only` of
 //! `desk_expr::parse_in`, and that a choice has one verdict is `one_verdict`.
 #![tactic(auto)]
 
-ghost use Rattle.std.specs.Prelude.{◌≡◌, ◌⊎◌, ℕ, List, Contains};
+ghost use Rattle.std.specs.Prelude.{◌≡◌, ◌⊎◌, ◌<◌, ℕ, List, Contains};
+ghost use Rattle.desk_expr.specs.declared.fault.ParseFault.{ParseFault};
+ghost use Rattle.desk_expr.specs.Faults.{fault_number};
+ghost use Rattle.desk_expr.specs.Grammar.{SpellsTree, SpellsTerm};
 ghost use Rattle.desk_expr.specs.declared.term.Term.{Term};
 ghost use Rattle.desk_expr.specs.Meaning.{Holds, CanGo, IsFirst, IsMinimal};
 ghost use Rattle.desk_expr.specs.Tree.{Tree};
-ghost use Rattle.desk_expr.specs.Spelling.{SpellsWithinBy};
+ghost use Rattle.desk_expr.specs.Spelling.{SpellsWithinBy, SpellsTermWithinBy, IsStopBy};
 ghost use Rattle.desk_base.specs.declared.profile.Profile.{Profile};
 
 /// Each text spells a tree within the limits, or spells none, by each profile of operators.
@@ -39,4 +45,24 @@ pub fn one_verdict()
 /// No tree that a text spells is true under no terms.
 pub fn some_term_is_needed()
     ensures { (profile : Profile) (text : List ℕ) (e : Tree) → SpellsWithinBy profile text e → Holds (λ _. ⊥) e → ⊥ }
+{}
+
+/// A text that spells no tree within the limits has a stop other than want of memory, which has the number 0.
+pub fn some_stop()
+    ensures { (profile : Profile) (text : List ℕ) → ((e : Tree) → SpellsWithinBy profile text e → ⊥) → (f : ParseFault) × (0 < fault_number f) × IsStopBy SpellsTree profile text f }
+{}
+
+/// It has only one.
+pub fn one_stop()
+    ensures { (profile : Profile) (text : List ℕ) (f g : ParseFault) → 0 < fault_number f → 0 < fault_number g → IsStopBy SpellsTree profile text f → IsStopBy SpellsTree profile text g → f ≡ g }
+{}
+
+/// A text that spells no term has such a stop, too.
+pub fn some_term_stop()
+    ensures { (profile : Profile) (text : List ℕ) → ((t : Term) → SpellsTermWithinBy profile text t → ⊥) → (f : ParseFault) × (0 < fault_number f) × IsStopBy SpellsTerm profile text f }
+{}
+
+/// It has only one.
+pub fn one_term_stop()
+    ensures { (profile : Profile) (text : List ℕ) (f g : ParseFault) → 0 < fault_number f → 0 < fault_number g → IsStopBy SpellsTerm profile text f → IsStopBy SpellsTerm profile text g → f ≡ g }
 {}
