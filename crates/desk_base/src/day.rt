@@ -29,6 +29,8 @@ impl Model for Day {
 }
 
 impl Clone for Day {
+    ghost is_clone = { λ a b. b ≡ a };
+
     fn clone(&self) -> Result<Day, std::alloc::AllocError> {
         Ok(*self)
     }

@@ -1,4 +1,5 @@
-//! The desk's limits, each in one place.
+//! The desk's limits, each in one place. Definitions don't read these: they have their own (`specs/Limits.antt`), so that a
+//! limit that is changed here alone is refused where it is cited.
 
 /// The bytes of the longest licence expression that is read.
 pub const EXPRESSION_BYTES: usize = 16_384;
@@ -20,6 +21,3 @@ pub const LISTED_TERMS: usize = 128;
 
 /// How many minimal sets the first parts of a node of an expression may have where the minimal sets are listed.
 pub const LISTED_SETS: usize = 64;
-
-/// The most that a term costs.
-pub const TERM_COST: u64 = 1_000_000;

@@ -1,7 +1,8 @@
 //! Bytes as lines.
 
 ghost use Rattle.std.specs.Prelude.{◌≡◌, ◌+◌, ◌<◌, ◌^◌, ℕ, List, length, IfOk};
-ghost use Rattle.std.specs.Iterator.{at_most};
+ghost use Rattle.std.specs.Iterator.{at_most, Drains};
+ghost use Rattle.desk_base.specs.declared.lines.Line.{Line};
 ghost use Rattle.desk_base.specs.Lines.{IsLine, AreLines, CutsInto, LineText};
 
 use memchr::memchr;
@@ -56,11 +57,14 @@ pub struct Lines<'a> {
 }
 
 impl<'a> Lines<'a> {
-    /// The lines of some bytes. They end by LF or CRLF, the last one also by the end of the bytes;
+    ghost use Rattle.desk_base.specs.NextLine.{LineGiven};
+
+    /// The lines of some bytes: what calls of `next` give until there is none. They end by LF or CRLF, the last one also by the end of the bytes;
     /// a CR alone is an ordinary byte.
     pub fn of(bytes: &'a [u8]) -> Lines<'a>
         ensures rest { result.rest.now ≡ bytes.now }
         ensures number { result.number ≡ 1 }
+        ensures lines { (given : List Line) → Drains LineGiven result given → AreLines 1 bytes.now given }
     {
         Lines {
             rest: bytes,

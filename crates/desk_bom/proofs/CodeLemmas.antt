@@ -1,7 +1,7 @@
 -- Codes and what they exclude.
-use Rattle.std.proofs.Common.{◌≡◌, ◌∙◌, ℕ, ◌+◌, ◌-◌, ◌<◌, ◌≤◌, Bool, true, false, cond, List, [], ◌∷◌, ◌++◌, length, take, drop, get_or, ap, sym, subst, refl, arith, eqb, Option, Some, None}
-use Rattle.std.specs.Prelude.{◌&&◌, ◌||◌, ◌↔◌, IfNone, IfSome, IsTrue, All, MatchOption, codes, nat_le, map}
-use Rattle.std.specs.List.{starts_with, ends_with, list_all, list_any}
+use Rattle.std.proofs.Common.{◌≡◌, ◌∙◌, ℕ, ◌+◌, ◌<◌, Bool, true, false, cond, List, [], ◌∷◌, ◌++◌, length, take, drop, get_or, ap, sym, subst, refl, arith, eqb, Option, Some, None}
+use Rattle.std.specs.Prelude.{◌&&◌, IfNone, MatchOption, codes, nat_le, map}
+use Rattle.std.specs.List.{starts_with, ends_with, list_all}
 use Rattle.std.specs.Str.Pattern.{FindsTextSuffix, StripsSuffix}
 use Rattle.std.specs.Str.{IsCharBoundary, IsUtf8}
 use Rattle.std.proofs.lemmas.Str.Pattern.{ends_text}

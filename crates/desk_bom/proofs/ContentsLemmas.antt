@@ -1,11 +1,10 @@
 -- The files between a PackageName and the next one, field by field.
-use Rattle.std.proofs.Common.{◌≡◌, ◌∙◌, ℕ, ◌+◌, ◌<◌, Bool, true, false, cond, List, ◌∷◌, length, drop, get_or, ap, sym}
+use Rattle.std.proofs.Common.{◌≡◌, ◌∙◌, ℕ, ◌+◌, ◌<◌, true, false, cond, List, length, drop, get_or, ap, sym}
 use Rattle.std.specs.Prelude.{map}
 use Rattle.desk_fields.specs.declared.tag.Tag.TheVariants as tags
 use Rattle.desk_fields.specs.Tags.{same_tag}
 use Rattle.desk_tagvalue.specs.declared.entries.Entry.{Entry}
-use Rattle.desk_tagvalue.specs.Entries.{EntryText, entry_text}
-use Rattle.desk_bom.specs.declared.arrows.Arrow.{Arrow}
+use Rattle.desk_tagvalue.specs.Entries.{entry_text}
 use Rattle.desk_bom.specs.Contents.{own_files, onto_package}
 use Rattle.desk_bom.proofs.LoopLemmas.{seen_more}
 

@@ -7,14 +7,14 @@ use Rattle.desk_tagvalue.specs.declared.parts.FileEntry.{FileEntry}
 use Rattle.desk_tagvalue.specs.declared.parts.Snippet.{Snippet}
 use Rattle.desk_tagvalue.specs.Parts.{PackageText, FileText, SnippetText}
 use Rattle.desk_tagvalue.specs.Views.{package_text, file_text, snippet_text}
-use Rattle.std.specs.BTreeMap.{BTreeMap, get_by, UpdatesBy}
+use Rattle.std.specs.BTreeMap.{BTreeMap, UpdatesBy}
 use Rattle.std.specs.Ordering.{nat_cmp}
 use Rattle.std.specs.Cmp.Lexicographic.{slice_cmp}
 use Rattle.std.specs.Str.{bytes_eq}
 use Rattle.std.proofs.lemmas.List.{drop_more, drop_all}
 use Rattle.std.proofs.lemmas.Map.Text.{btree_map_updates_str}
 use denote.Ref.{Bor}
-use Rattle.desk_bom.specs.Elements.{place_in, place_of, later}
+use Rattle.desk_bom.specs.Places.{place_in, place_of, later}
 
 -- a place behind others
 abbrev pub from : ℕ → Option ℕ → Option ℕ
@@ -25,11 +25,11 @@ from i (Some n) = Some (i + n)
 abbrev pub FirstPlaces : BTreeMap (Bor (List ℕ)) ℕ → ℕ → List (List ℕ) → Type 0
 FirstPlaces m i ids = (id : List ℕ) → place_in m id ≡ from i (place_of id (drop i ids))
 
-one_on : (i : ℕ) (place : Option ℕ) → from (i + 1) place ≡ from i (later place)
+pub one_on : (i : ℕ) (place : Option ℕ) → from (i + 1) place ≡ from i (later place)
 one_on i None = refl
 one_on i (Some n) = let e : i + 1 + n ≡ i + (n + 1) = omega arith in ap (λ k. Some k) e
 
-from_zero : (place : Option ℕ) → from 0 place ≡ place
+pub from_zero : (place : Option ℕ) → from 0 place ≡ place
 from_zero None = refl
 from_zero (Some n) = let e : 0 + n ≡ n = omega arith in ap (λ k. Some k) e
 

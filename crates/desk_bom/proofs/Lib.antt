@@ -5,3 +5,5 @@ pub mod WalkLemmas
 pub mod ShippingLemmas
 pub mod ContentsLemmas
 pub mod CodeLemmas
+pub mod Guesses
+pub mod OneState

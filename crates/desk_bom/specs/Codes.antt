@@ -1,5 +1,5 @@
 -- Package verification codes (SPDX 2.3, clause 7.9).
-use Rattle.std.specs.Prelude.{◌≡◌, ◌≢◌, ℕ, not, ◌-◌, ◌==◌, ◌&&◌, ◌||◌, nat_eq, nat_le, Bool, true, false, List, [], ◌∷◌, length, take, drop, map, Option, Some, None, if◌then◌else◌, codes, slice_get, Vec}
+use Rattle.std.specs.Prelude.{◌≡◌, ◌≢◌, ℕ, not, ◌-◌, ◌==◌, ◌&&◌, ◌||◌, nat_eq, nat_le, Bool, false, List, [], ◌∷◌, length, take, drop, map, Option, Some, None, if◌then◌else◌, codes, slice_get, Vec}
 use Rattle.std.specs.List.{concat, list_all, list_any, starts_with, ends_with, slice_split}
 use Rattle.std.specs.List.Sorted.{IsPermutation, IsSorted}
 use Rattle.std.specs.Ordering.{nat_cmp}

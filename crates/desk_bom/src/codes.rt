@@ -1,6 +1,6 @@
 //! Package verification codes.
 
-ghost use Rattle.std.specs.Prelude.{◌≡◌, IfOk, map};
+ghost use Rattle.std.specs.Prelude.{◌≡◌, ℕ, List, IfOk, map};
 ghost use Rattle.std.specs.List.{concat};
 ghost use Rattle.sha1.specs.Sha1.{sha1};
 ghost use Rattle.hex.specs.Hex.{encode_lower};
@@ -50,3 +50,8 @@ pub fn verification_code(alloc: Global, digests: &[[u8; 20]]) -> Result<[u8; 40]
     texts.sort_unstable();
     Ok(digits_of(&digest_of_all(&texts)))
 }
+
+/// Some digests have one code.
+pub fn one_code()
+    ensures { (digests : List (List ℕ)) (a b : List ℕ) → IsCode digests a → IsCode digests b → a ≡ b }
+{}

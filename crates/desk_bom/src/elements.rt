@@ -1,16 +1,17 @@
 //! The elements of a document by their identifiers.
 
-ghost use Rattle.std.specs.Prelude.{◌≡◌, ◌++◌, ◌∷◌, [], ℕ, List, IfOk, OnOk, codes, map, length};
+ghost use Rattle.std.specs.Prelude.{◌≡◌, ◌++◌, ◌∷◌, ◌<◌, ◌%◌, [], ℕ, List, IfOk, OnOk, Some, codes, map, length, slice_index_or};
 ghost use Rattle.std.specs.Option.{option_copied};
 ghost use Rattle.desk_tagvalue.specs.Documents.{document_text};
-ghost use Rattle.desk_bom.specs.Elements.{texts, element_ids, element_named, place_in, place_of, element_noted, element_count};
+ghost use Rattle.desk_bom.specs.Places.{texts, tail_number, slot_of, place_in, place_of};
+ghost use Rattle.desk_bom.specs.Elements.{element_ids, element_named, element_noted, element_count};
 ghost use Rattle.desk_bom.specs.Notes.{Notes};
 ghost use Rattle.desk_bom.specs.Contents.{package_at, file_at, package_named, file_named};
 ghost use Rattle.desk_tagvalue.specs.Parts.{DocumentText};
 
+use crate::places::Places;
 use desk_tagvalue::{Document, FileEntry, Package, Snippet};
 use std::alloc::{AllocError, Global};
-use std::collections::BTreeMap;
 
 /// Which element of a document an identifier names (SPDX 2.3, clauses 6.3, 7.2, 8.2 and 9.1).
 #[derive(Drop)]
@@ -18,7 +19,7 @@ pub struct Elements<'a> {
     count: usize,
     packages: usize,
     files: usize,
-    places: BTreeMap<&'a str, usize>,
+    places: Places<'a>,
 }
 
 fn add_packages<'a>(ids: &mut Vec<&'a str>, packages: &[Package<'a>]) -> Result<(), AllocError>
@@ -60,29 +61,18 @@ fn ids_of<'a>(alloc: Global, document: &Document<'a>) -> Result<Vec<&'a str>, Al
     Ok(ids)
 }
 
-// The first place of each identifier.
-fn places_of<'a>(alloc: Global, ids: &[&'a str]) -> Result<BTreeMap<&'a str, usize>, AllocError>
-    ensures { IfOk result (λ places. (id : List ℕ) → place_in places id ≡ place_of id (texts ids.now)) }
-{
-    let mut places = BTreeMap::new(alloc);
-    for i in (0..ids.len()).rev() {
-        places.insert(ids[i], i)?;
-    }
-    Ok(places)
-}
-
 impl<'a> Elements<'a> {
     /// Notes the elements of a document.
     pub fn of(alloc: Global, document: &Document<'a>) -> Result<Elements<'a>, AllocError>
         ensures { IfOk result (Notes (document_text document.now)) }
     {
         let ids = ids_of(alloc, document)?;
-        let places = places_of(alloc, &ids)?;
+        let count = ids.len();
         Ok(Elements {
-            count: ids.len(),
+            count,
             packages: document.packages.as_slice().len(),
             files: document.files.as_slice().len(),
-            places,
+            places: Places::of(alloc, ids)?,
         })
     }
 
@@ -97,7 +87,7 @@ impl<'a> Elements<'a> {
     pub fn place(&self, id: &str) -> Option<usize>
         ensures { result ≡ element_noted self.now id.now }
     {
-        self.places.get(id).copied()
+        self.places.get(id)
     }
 
     /// The package that an identifier names, by its place among the packages.

@@ -5,11 +5,12 @@ mod arrows;
 mod codes;
 mod contents;
 mod elements;
+mod places;
 mod shipping;
 mod state;
 
-pub use codes::verification_code;
+pub use codes::{one_code, verification_code};
 pub use contents::Contents;
 pub use elements::Elements;
 pub use shipping::{shipped, ships};
-pub use state::{CodeState, code_state, is_code, is_unanalyzed};
+pub use state::{CodeState, code_state, is_code, is_unanalyzed, one_state};

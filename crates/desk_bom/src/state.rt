@@ -7,12 +7,13 @@ ghost use Rattle.std.specs.Str.{bytes_eq};
 ghost use Rattle.desk_fields.specs.Text.{trimmed};
 ghost use Rattle.desk_base.specs.Folded.{folded};
 ghost use Rattle.hex.specs.Hex.{encode_lower};
-ghost use Rattle.desk_bom.specs.Elements.{texts};
+ghost use Rattle.desk_bom.specs.Places.{texts};
 ghost use Rattle.desk_bom.specs.Contents.{AreFilesOf};
 ghost use Rattle.desk_tagvalue.specs.Documents.{document_text};
 ghost use Rattle.desk_tagvalue.specs.Entries.{value_text};
 ghost use Rattle.desk_tagvalue.specs.Views.{package_text, file_text};
 ghost use Rattle.desk_tagvalue.specs.Parts.{DocumentText};
+ghost use Rattle.desk_bom.specs.declared.state.CodeState.{CodeState};
 ghost use Rattle.desk_bom.specs.Codes.{IsCode, items_of, code_digits, code_list, is_list, is_code, names_in, plain, names_of, excluded_by, excluded_names, inner_of, is_excluded, digest_spelled, digests_of, is_unanalyzed, checked_digests, IsStateOf, IsState};
 ghost use Rattle.desk_tagvalue.specs.Seen.{has_key};
 
@@ -328,3 +329,8 @@ pub fn code_state(alloc: Global, document: &Document, owner: usize) -> Result<Co
     let state = contents.code_state(alloc, document, owner)?;
     Ok(state)
 }
+
+/// A package's code has one state.
+pub fn one_state()
+    ensures { (d : DocumentText) (owner : ℕ) (a b : CodeState) → IsState d owner a → IsState d owner b → a ≡ b }
+{}

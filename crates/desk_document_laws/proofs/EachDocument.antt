@@ -9,17 +9,18 @@ use Rattle.desk_fields.specs.declared.fault.DocFault.TheVariants as faults
 use Rattle.desk_fields.specs.Cutting.{Reads, FieldText, behind_mark}
 use Rattle.desk_tagvalue.specs.Entries.{read_entry}
 use Rattle.desk_tagvalue.specs.Parts.{DocumentText}
-use Rattle.desk_tagvalue.specs.Documents.{limit, judged, Spells, too_large, no_text, no_fields, fields}
+use Rattle.desk_base.specs.Limits.{document_bytes}
+use Rattle.desk_tagvalue.specs.Documents.{judged, Spells, too_large, no_text, no_fields, fields}
 use Rattle.desk_document_laws.proofs.EachText.{each_text}
 
 abbrev pub Spelling : List ℕ → Type 0
 Spelling bytes = (r : Result DocumentText DocFault) × Spells bytes r
 
-spelled : (bytes : List ℕ) (r : Result (List FieldText) DocFault) → length bytes ≤ limit → IsUtf8 bytes → Reads 1 (behind_mark bytes) r → Spelling bytes
+spelled : (bytes : List ℕ) (r : Result (List FieldText) DocFault) → length bytes ≤ document_bytes → IsUtf8 bytes → Reads 1 (behind_mark bytes) r → Spelling bytes
 spelled bytes (Ok fs) small utf8 reads = (judged (map read_entry fs), fields bytes fs small utf8 reads)
 spelled bytes (Err fault) small utf8 reads = (Err fault, no_fields bytes fault small utf8 reads)
 
-spelled_small : (bytes : List ℕ) → length bytes ≤ limit → Spelling bytes
+spelled_small : (bytes : List ℕ) → length bytes ≤ document_bytes → Spelling bytes
 spelled_small bytes small =
     elim (cases_Bool (is_utf8 bytes)) [
       | inl is ↦ let r = each_text 1 (behind_mark bytes) in spelled bytes r.0 small (IsUtf8-from_is_utf8 bytes is) r.1
@@ -28,7 +29,7 @@ spelled_small bytes small =
 
 pub each_document : (bytes : List ℕ) → Spelling bytes
 each_document bytes =
-    elim (cases_lt limit (length bytes)) [
+    elim (cases_lt document_bytes (length bytes)) [
       | inl large ↦ (Err faults.TooLarge, too_large bytes large)
       | inr small ↦ spelled_small bytes small
     ]

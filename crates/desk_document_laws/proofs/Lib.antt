@@ -3,3 +3,4 @@ pub mod Closing
 pub mod FirstPiece
 pub mod EachText
 pub mod EachDocument
+pub mod EachCutting

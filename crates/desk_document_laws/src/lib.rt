@@ -12,15 +12,30 @@
 //! or a fault. Whether bytes are UTF-8 is told by std's own test.
 #![tactic(auto)]
 
-ghost use Rattle.std.specs.Prelude.{ℕ, List, Result};
+ghost use Rattle.std.specs.Prelude.{◌≡◌, ◌↔◌, ℕ, List, Option, Result};
 ghost use Rattle.desk_fields.specs.declared.fault.DocFault.{DocFault};
-ghost use Rattle.desk_fields.specs.Cutting.{Reads, FieldText};
+ghost use Rattle.desk_fields.specs.Cutting.{Reads, FieldText, Cut, IsCutting, said_by};
 ghost use Rattle.desk_tagvalue.specs.Parts.{DocumentText};
 ghost use Rattle.desk_tagvalue.specs.Documents.{Spells};
 
 /// A text from a line on has a reading: the fields of a cutting, or a fault.
 pub fn each_text_is_read()
     ensures { (line : ℕ) (text : List ℕ) → (r : Result (List FieldText) DocFault) × Reads line text r }
+{}
+
+/// A text from a line on is cut into pieces in some way, up to its end or to a fault.
+pub fn each_text_is_cut()
+    ensures { (line : ℕ) (text : List ℕ) → (cuts : List Cut) × (fault : Option DocFault) × IsCutting line text cuts fault }
+{}
+
+/// It is cut in one way.
+pub fn one_cutting_of_a_text()
+    ensures { (line : ℕ) (text : List ℕ) (a b : List Cut) (f g : Option DocFault) → IsCutting line text a f → IsCutting line text b g → (a ≡ b) × (f ≡ g) }
+{}
+
+/// What is read of a text is what its cutting says.
+pub fn reading_is_cutting()
+    ensures { (line : ℕ) (text : List ℕ) (r : Result (List FieldText) DocFault) → Reads line text r ↔ ((cuts : List Cut) × (fault : Option DocFault) × IsCutting line text cuts fault × (r ≡ said_by line cuts fault)) }
 {}
 
 /// Bytes spell a document, or have a fault.

@@ -3,7 +3,7 @@ use Rattle.std.proofs.Common.{◌≡◌, ◌∙◌, ◌⊎◌, inl, inr, ℕ, su
 use Rattle.std.specs.Prelude.{map, IfOk, IfErr, alloc_error}
 use Rattle.std.proofs.lemmas.List.{map-append, append-nil}
 use Rattle.desk_base.specs.declared.profile.Profile.{Profile}
-use Rattle.desk_base.specs.declared.limits.TheConstants as limit
+use Rattle.desk_base.specs.Limits as limit
 use Rattle.desk_expr.specs.declared.cut.TokenCuts.{TokenCuts}
 use Rattle.desk_expr.specs.declared.fault.ParseFault.{ParseFault}
 use Rattle.desk_expr.specs.declared.fault.ParseFault.TheVariants.{Empty, BadToken, Unexpected, Unclosed, TooDeep, TooLong, TooManyTerms, Memory}
@@ -54,7 +54,7 @@ module _ (profile : Profile) (text : List ℕ) (yielded : List Token) (t : Token
       let behind = tokens_exist cuts.profile t.end new.rest.now in
       (map lexeme yielded, lexeme t, behind.0, so_far (lexeme t ∷ behind.0) (new.rest.now, given.0, behind.1), stands, reason)
 
-  pub stop_at_token : (f : ParseFault) → length text ≤ limit.EXPRESSION_BYTES → SoFar profile text yielded cuts → TokenGiven cuts (Some t) new → AllFronts (Stands SpellsTree) (map lexeme yielded) → StopsAfter (map lexeme yielded) (lexeme t) f → IsStopBy SpellsTree profile text f
+  pub stop_at_token : (f : ParseFault) → length text ≤ limit.expression_bytes → SoFar profile text yielded cuts → TokenGiven cuts (Some t) new → AllFronts (Stands SpellsTree) (map lexeme yielded) → StopsAfter (map lexeme yielded) (lexeme t) f → IsStopBy SpellsTree profile text f
   stop_at_token (Empty p) short so_far given stands h = absurd h
   stop_at_token (BadToken p) short so_far given stands h = (short, at_token (BadToken p) so_far given stands h)
   stop_at_token (Unexpected p) short so_far given stands h = (short, inl (at_token (Unexpected p) so_far given stands h))
@@ -72,7 +72,7 @@ nothing_started : (profile : Profile) (text : List ℕ) (ts : List Lexeme) → A
 nothing_started profile text [] are is = are
 nothing_started profile text (t ∷ ts) are is = absurd (cc)
 
-pub stop_at_end : (profile : Profile) (text : List ℕ) (ts : List Lexeme) (f : ParseFault) → length text ≤ limit.EXPRESSION_BYTES → AreTokensBy profile 0 text ts → AllFronts (Stands SpellsTree) ts → EndsAfter ts (length text) f → IsStopBy SpellsTree profile text f
+pub stop_at_end : (profile : Profile) (text : List ℕ) (ts : List Lexeme) (f : ParseFault) → length text ≤ limit.expression_bytes → AreTokensBy profile 0 text ts → AllFronts (Stands SpellsTree) ts → EndsAfter ts (length text) f → IsStopBy SpellsTree profile text f
 stop_at_end profile text ts (Empty p) short are stands h = (short, nothing_started profile text ts are h.0, h.1)
 stop_at_end profile text ts (BadToken p) short are stands h = absurd h
 stop_at_end profile text ts (Unexpected p) short are stands h = (short, inr (at_end profile text ts (Unexpected p) are stands h.0 h.1))
@@ -152,7 +152,7 @@ faults_spell_nothing profile text (Err f) h = stop_spells_nothing profile text f
 
 -- ---- the end of the loop
 
-module _ (profile : Profile) (text : List ℕ) (ts : List Lexeme) (short : length text ≤ limit.EXPRESSION_BYTES) (are : AreTokensBy profile 0 text ts) (stands : AllFronts (Stands SpellsTree) ts) where
+module _ (profile : Profile) (text : List ℕ) (ts : List Lexeme) (short : length text ≤ limit.expression_bytes) (are : AreTokensBy profile 0 text ts) (stands : AllFronts (Stands SpellsTree) ts) where
   keeps_limits : AllFronts KeepsLimits ts
   keeps_limits n = record { depth = (stands n).depth; terms = (stands n).terms }
 

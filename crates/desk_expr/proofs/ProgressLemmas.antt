@@ -3,7 +3,7 @@ use Rattle.std.proofs.Common.{◌≡◌, ◌↔◌, ◌∙◌, ℕ, zero, suc, �
 use Rattle.std.specs.Prelude.{fold, slice_get, ◌&&◌, not, if◌then◌else◌, ◌≢◌}
 use Rattle.std.proofs.lemmas.List.{map-append, append-nil, take_all, take-append-le}
 use Rattle.std.proofs.str.Laws.{order}
-use Rattle.desk_base.specs.declared.limits.TheConstants as limit
+use Rattle.desk_base.specs.Limits as limit
 use Rattle.desk_expr.specs.declared.reader.Group.{Group}
 use Rattle.desk_expr.specs.declared.reader.Reader.{Reader}
 use Rattle.desk_expr.specs.declared.reader.State.{State}
@@ -125,8 +125,8 @@ module _ (front : List Lexeme) (t : Lexeme) (m : Progress) (read : HasRead front
         started = start ∙ sym (started_push front t);
         stands = fronts_push (Stands SpellsTree) front t read.stands (record {
           begins = begins (front ++ t ∷ []) n.reader stands;
-          depth = subst (λ p. length p ≤ limit.OPEN_PARENTHESES) places counts.depth;
-          terms = subst (λ k. k ≤ limit.EXPRESSION_TERMS) terms counts.few;
+          depth = subst (λ p. length p ≤ limit.open_parentheses) places counts.depth;
+          terms = subst (λ k. k ≤ limit.expression_terms) terms counts.few;
         });
       }
 
@@ -146,14 +146,14 @@ module _ (front : List Lexeme) (t : Lexeme) (m : Progress) (read : HasRead front
   over n steps (Unclosed p) h = h
   over n steps (TooDeep p) h = (
     begins (front ++ t ∷ []) n (stands_push front t m.reader n read.rest steps),
-    subst (λ l. limit.OPEN_PARENTHESES < length l) open_is h.0,
+    subst (λ l. limit.open_parentheses < length l) open_is h.0,
     h.1,
   )
   over n steps (TooLong p) h = h
   over n steps (TooManyTerms p) h = (
     begins (front ++ t ∷ []) n (stands_push front t m.reader n read.rest steps),
-    subst (λ l. length l ≤ limit.OPEN_PARENTHESES) open_is h.0,
-    subst (λ k. limit.EXPRESSION_TERMS < k) terms_is h.1,
+    subst (λ l. length l ≤ limit.open_parentheses) open_is h.0,
+    subst (λ k. limit.expression_terms < k) terms_is h.1,
     h.2,
   )
   over n steps (Memory e) h = tt

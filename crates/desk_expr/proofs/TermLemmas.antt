@@ -3,7 +3,7 @@ use Rattle.std.proofs.Common.{◌≡◌, ◌↔◌, ◌∙◌, ◌⊎◌, inl, i
 use Rattle.std.specs.Prelude.{map, fold, IfOk, IfErr, alloc_error, ◌≢◌, ◌&&◌, not, if◌then◌else◌}
 use Rattle.std.proofs.lemmas.List.{append-nil, length-map}
 use Rattle.desk_base.specs.declared.profile.Profile.{Profile}
-use Rattle.desk_base.specs.declared.limits.TheConstants as limit
+use Rattle.desk_base.specs.Limits as limit
 use Rattle.desk_expr.specs.declared.cut.TokenCuts.{TokenCuts}
 use Rattle.desk_expr.specs.declared.fault.ParseFault.{ParseFault}
 use Rattle.desk_expr.specs.declared.fault.ParseFault.TheVariants.{Empty, BadToken, Unexpected, Unclosed, TooDeep, TooLong, TooManyTerms, Memory}
@@ -28,7 +28,7 @@ use Rattle.desk_expr.proofs.ParseLemmas.{SoFar, symbols_behind, symbols_split}
 
 -- ---- steps
 
-term_inv : (r : List Symbol) (t : Term) → SpellsTerm r t → ((o : Option (List ℕ)) × (r ≡ word t o ∷ [])) ⊎ ((v u : Term) × (o : Option (List ℕ)) × (x : List ℕ) × (r ≡ word v o ∷ with_word ∷ word u (Some x) ∷ []) × (with_exception v x ≡ t))
+pub term_inv : (r : List Symbol) (t : Term) → SpellsTerm r t → ((o : Option (List ℕ)) × (r ≡ word t o ∷ [])) ⊎ ((v u : Term) × (o : Option (List ℕ)) × (x : List ℕ) × (r ≡ word v o ∷ with_word ∷ word u (Some x) ∷ []) × (with_exception v x ≡ t))
 term_inv r t (bare _ o) = inl (o, refl)
 term_inv r t (excepted v u o x) = inr (v, u, o, x, refl, refl)
 
@@ -112,7 +112,7 @@ words_few : (b : Bool) (ss : List Symbol) → operand_words_after b ss ≤ lengt
 words_few b [] = omega arith
 words_few b (s ∷ ss) = omega (arith, one_at_most (is_word s && not b), words_few (is_with s) ss)
 
-term_short : (ss : List Symbol) (t : Term) → SpellsTerm ss t → length ss ≤ 3
+pub term_short : (ss : List Symbol) (t : Term) → SpellsTerm ss t → length ss ≤ 3
 term_short ss t (bare v o) = omega arith
 term_short ss t (excepted v u o x) = omega arith
 
@@ -206,7 +206,7 @@ only_memory : (profile : Profile) (text : List ℕ) (f : ParseFault) → f ≡ M
 only_memory profile text f is = subst (IsStopBy SpellsTerm profile text) (sym is) tt
 
 module _ (profile : Profile) (text : List ℕ) (yielded : List Token) (t : Token) (cuts new : TokenCuts) where
-  at_token : (f : ParseFault) → length text ≤ limit.EXPRESSION_BYTES → StopsAtToken SpellsTerm profile text f → Reason SpellsTerm (map lexeme yielded) (lexeme t) f → IsStopBy SpellsTerm profile text f
+  at_token : (f : ParseFault) → length text ≤ limit.expression_bytes → StopsAtToken SpellsTerm profile text f → Reason SpellsTerm (map lexeme yielded) (lexeme t) f → IsStopBy SpellsTerm profile text f
   at_token (Empty p) short at reason = absurd reason
   at_token (BadToken p) short at reason = (short, at)
   at_token (Unexpected p) short at reason = (short, inl at)
@@ -216,7 +216,7 @@ module _ (profile : Profile) (text : List ℕ) (yielded : List Token) (t : Token
   at_token (TooManyTerms p) short at reason = (short, at)
   at_token (Memory e) short at reason = tt
 
-  pub stop_at_token : (f : ParseFault) → length text ≤ limit.EXPRESSION_BYTES → SoFar profile text yielded cuts → TokenGiven cuts (Some t) new → AllFronts (Stands SpellsTerm) (map lexeme yielded) → (f ≡ Memory alloc_error) ⊎ Reason SpellsTerm (map lexeme yielded) (lexeme t) f → IsStopBy SpellsTerm profile text f
+  pub stop_at_token : (f : ParseFault) → length text ≤ limit.expression_bytes → SoFar profile text yielded cuts → TokenGiven cuts (Some t) new → AllFronts (Stands SpellsTerm) (map lexeme yielded) → (f ≡ Memory alloc_error) ⊎ Reason SpellsTerm (map lexeme yielded) (lexeme t) f → IsStopBy SpellsTerm profile text f
   stop_at_token f short so_far given stands (inl is) = only_memory profile text f is
   stop_at_token f short so_far given stands (inr reason) =
       let behind = tokens_exist cuts.profile t.end new.rest.now in
@@ -243,7 +243,7 @@ word_ends v t = ((λ h. elim h [ inl a ↦ a.1 | inr (u, x, e, same) ↦ absurd 
 pub done_ends : (v : Term) → TermEnds (state.Done v) v
 done_ends v t = ((λ h. h.1), (λ h. (refl, h)))
 
-module _ (profile : Profile) (text : List ℕ) (ts : List Lexeme) (m : TermState) (short : length text ≤ limit.EXPRESSION_BYTES) (are : AreTokensBy profile 0 text ts) (read : TermRead ts m) where
+module _ (profile : Profile) (text : List ℕ) (ts : List Lexeme) (m : TermState) (short : length text ≤ limit.expression_bytes) (are : AreTokensBy profile 0 text ts) (read : TermRead ts m) where
   pub spelled_at_end : (r : Result Term ParseFault) → IfOk r (TermEnds m) → IfOk r (SpellsTermWithinBy profile text)
   spelled_at_end (Ok t) h =
       (short, (ts, are, subst (λ l. SpellsTerm l t) (append-nil (symbols ts)) ((read.rest [] t).1 ((h t).1 refl))))
@@ -288,7 +288,7 @@ spells_term_once profile text a b (ts, are, h) (us, are', k) =
 
 -- ---- a text that stops spells no term
 
-good_term : (ss : List Symbol) (t : Term) → SpellsTerm ss t → (front behind : List Symbol) → ss ≡ front ++ bad ∷ behind → ⊥
+pub good_term : (ss : List Symbol) (t : Term) → SpellsTerm ss t → (front behind : List Symbol) → ss ≡ front ++ bad ∷ behind → ⊥
 good_term ss t h [] behind is = elim (term_inv ss t h) [ inl (o, e) ↦ let same = sym e ∙ is in cc | inr (v, u, o, x, e, k) ↦ let same = sym e ∙ is in cc ]
 good_term ss t h (a ∷ []) behind is = elim (term_inv ss t h) [ inl (o, e) ↦ let same = sym e ∙ is in cc | inr (v, u, o, x, e, k) ↦ let same = sym e ∙ is in cc ]
 good_term ss t h (a ∷ b ∷ []) behind is = elim (term_inv ss t h) [ inl (o, e) ↦ let same = sym e ∙ is in cc | inr (v, u, o, x, e, k) ↦ let same = sym e ∙ is in cc ]

@@ -1,6 +1,6 @@
 -- One token more in the counts that the limits are about.
 use Rattle.std.specs.Prelude.{◌≡◌, ℕ, ◌+◌, ◌<◌, ◌≤◌, ◌&&◌, Bool, not, if◌then◌else◌, length}
-use Rattle.desk_base.specs.declared.limits.TheConstants as limit
+use Rattle.desk_base.specs.Limits as limit
 use Rattle.desk_expr.specs.declared.counts.Counts.{Counts}
 use Rattle.desk_expr.specs.declared.fault.ParseFault.{ParseFault}
 use Rattle.desk_expr.specs.declared.fault.ParseFault.TheVariants.{Empty, BadToken, Unexpected, Unclosed, TooDeep, TooLong, TooManyTerms, Memory}
@@ -16,15 +16,15 @@ pub record CountsToken (old : Counts) (t : Lexeme) (new : Counts) : Type 0 where
   pub open_places : new.open_places.items ≡ open_after old.open_places.items t
   pub terms : new.terms ≡ terms_after old.terms old.after_with t
   pub after_with : new.after_with ≡ is_with (symbol_of t)
-  pub depth : length new.open_places.items ≤ limit.OPEN_PARENTHESES
-  pub few : new.terms ≤ limit.EXPRESSION_TERMS
+  pub depth : length new.open_places.items ≤ limit.open_parentheses
+  pub few : new.terms ≤ limit.expression_terms
 
 -- why a token is over a limit
 abbrev pub IsOver : Counts → Lexeme → ParseFault → Type 0
-IsOver old t (TooDeep place) = (limit.OPEN_PARENTHESES < length (open_after old.open_places.items t)) × (place ≡ t.start)
+IsOver old t (TooDeep place) = (limit.open_parentheses < length (open_after old.open_places.items t)) × (place ≡ t.start)
 IsOver old t (TooManyTerms place) =
-    (length (open_after old.open_places.items t) ≤ limit.OPEN_PARENTHESES)
-    × (limit.EXPRESSION_TERMS < terms_after old.terms old.after_with t)
+    (length (open_after old.open_places.items t) ≤ limit.open_parentheses)
+    × (limit.expression_terms < terms_after old.terms old.after_with t)
     × (place ≡ t.start)
 IsOver old t (Memory error) = Unit {0}
 IsOver old t (Empty place) = ⊥

@@ -1,6 +1,6 @@
 -- Which text spells which tree or term, and where a text that spells none stops.
 use Rattle.std.specs.Prelude.{◌≡◌, ◌≢◌, ◌⊎◌, ℕ, zero, suc, ◌+◌, ◌-◌, ◌<◌, ◌≤◌, Bool, true, false, ◌&&◌, not, if◌then◌else◌, List, [], ◌∷◌, ◌++◌, length, take, map, fold, slice_get, Some}
-use Rattle.desk_base.specs.declared.limits.TheConstants as limit
+use Rattle.desk_base.specs.Limits as limit
 use Rattle.desk_expr.specs.declared.fault.ParseFault.{ParseFault}
 use Rattle.desk_expr.specs.declared.fault.ParseFault.TheVariants.{Empty, BadToken, Unexpected, Unclosed, TooDeep, TooLong, TooManyTerms, Memory}
 use Rattle.desk_expr.specs.declared.token.Kind.{Kind}
@@ -65,8 +65,8 @@ operand_words ss = operand_words_after false ss
 
 -- the tokens keep the limits
 pub record KeepsLimits (ts : List Lexeme) : Type 0 where
-  pub depth : length (still_open ts) ≤ limit.OPEN_PARENTHESES
-  pub terms : operand_words (symbols ts) ≤ limit.EXPRESSION_TERMS
+  pub depth : length (still_open ts) ≤ limit.open_parentheses
+  pub terms : operand_words (symbols ts) ≤ limit.expression_terms
 
 -- a fact holds of each front of the list, the list itself included
 abbrev pub AllFronts : (List Lexeme → Type 0) → List Lexeme → Type 0
@@ -81,7 +81,7 @@ SpellsBy profile text e = (ts : List Lexeme) × AreTokensBy profile 0 text ts ×
 -- the text spells the tree within the limits
 abbrev pub SpellsWithinBy : Profile → List ℕ → Tree → Type 0
 SpellsWithinBy profile text e =
-    (length text ≤ limit.EXPRESSION_BYTES)
+    (length text ≤ limit.expression_bytes)
     × (ts : List Lexeme) × AreTokensBy profile 0 text ts × SpellsTree (symbols ts) e × AllFronts KeepsLimits ts
 
 -- the text spells one term and nothing else
@@ -90,7 +90,7 @@ SpellsTermAloneBy profile text t = (ts : List Lexeme) × AreTokensBy profile 0 t
 
 -- and is not too long
 abbrev pub SpellsTermWithinBy : Profile → List ℕ → Term → Type 0
-SpellsTermWithinBy profile text t = (length text ≤ limit.EXPRESSION_BYTES) × SpellsTermAloneBy profile text t
+SpellsTermWithinBy profile text t = (length text ≤ limit.expression_bytes) × SpellsTermAloneBy profile text t
 
 -- ---- the same with operators in capitals
 
@@ -125,8 +125,8 @@ module _ {A : Type 0} (Language : List Symbol → A → Type 0) where
   -- a front that may stand: it begins a list of the language and keeps the limits
   pub record Stands (front : List Lexeme) : Type 0 where
     pub begins : Begins (symbols front)
-    pub depth : length (still_open front) ≤ limit.OPEN_PARENTHESES
-    pub terms : operand_words (symbols front) ≤ limit.EXPRESSION_TERMS
+    pub depth : length (still_open front) ≤ limit.open_parentheses
+    pub terms : operand_words (symbols front) ≤ limit.expression_terms
 
   -- why a token can't stand after a front, the first reason that applies
   abbrev pub Reason : List Lexeme → Lexeme → ParseFault → Type 0
@@ -134,11 +134,11 @@ module _ {A : Type 0} (Language : List Symbol → A → Type 0) where
   Reason front t (Unexpected place) =
       (t.kind ≢ kind.Bad) × (Begins (symbols (front ++ t ∷ [])) → ⊥) × (place ≡ t.start)
   Reason front t (TooDeep place) =
-      Begins (symbols (front ++ t ∷ [])) × (limit.OPEN_PARENTHESES < length (still_open (front ++ t ∷ []))) × (place ≡ t.start)
+      Begins (symbols (front ++ t ∷ [])) × (limit.open_parentheses < length (still_open (front ++ t ∷ []))) × (place ≡ t.start)
   Reason front t (TooManyTerms place) =
       Begins (symbols (front ++ t ∷ []))
-      × (length (still_open (front ++ t ∷ [])) ≤ limit.OPEN_PARENTHESES)
-      × (limit.EXPRESSION_TERMS < operand_words (symbols (front ++ t ∷ [])))
+      × (length (still_open (front ++ t ∷ [])) ≤ limit.open_parentheses)
+      × (limit.expression_terms < operand_words (symbols (front ++ t ∷ [])))
       × (place ≡ t.start)
   Reason front t (Empty place) = ⊥
   Reason front t (Unclosed place) = ⊥
@@ -173,15 +173,15 @@ module _ {A : Type 0} (Language : List Symbol → A → Type 0) where
 
   -- the stop of a text that is read by a profile; want of memory may be told of any text
   abbrev pub IsStopBy : Profile → List ℕ → ParseFault → Type 0
-  IsStopBy profile text (TooLong place) = (limit.EXPRESSION_BYTES < length text) × (place ≡ 0)
-  IsStopBy profile text (Empty place) = (length text ≤ limit.EXPRESSION_BYTES) × AreTokensBy profile 0 text [] × (place ≡ 0)
-  IsStopBy profile text (BadToken place) = (length text ≤ limit.EXPRESSION_BYTES) × StopsAtToken profile text (BadToken place)
+  IsStopBy profile text (TooLong place) = (limit.expression_bytes < length text) × (place ≡ 0)
+  IsStopBy profile text (Empty place) = (length text ≤ limit.expression_bytes) × AreTokensBy profile 0 text [] × (place ≡ 0)
+  IsStopBy profile text (BadToken place) = (length text ≤ limit.expression_bytes) × StopsAtToken profile text (BadToken place)
   IsStopBy profile text (Unexpected place) =
-      (length text ≤ limit.EXPRESSION_BYTES)
+      (length text ≤ limit.expression_bytes)
       × (StopsAtToken profile text (Unexpected place) ⊎ StopsAtEnd profile text (Unexpected place))
-  IsStopBy profile text (Unclosed place) = (length text ≤ limit.EXPRESSION_BYTES) × StopsAtEnd profile text (Unclosed place)
-  IsStopBy profile text (TooDeep place) = (length text ≤ limit.EXPRESSION_BYTES) × StopsAtToken profile text (TooDeep place)
-  IsStopBy profile text (TooManyTerms place) = (length text ≤ limit.EXPRESSION_BYTES) × StopsAtToken profile text (TooManyTerms place)
+  IsStopBy profile text (Unclosed place) = (length text ≤ limit.expression_bytes) × StopsAtEnd profile text (Unclosed place)
+  IsStopBy profile text (TooDeep place) = (length text ≤ limit.expression_bytes) × StopsAtToken profile text (TooDeep place)
+  IsStopBy profile text (TooManyTerms place) = (length text ≤ limit.expression_bytes) × StopsAtToken profile text (TooManyTerms place)
   IsStopBy profile text (Memory error) = Unit {0}
 
   -- the same with operators in capitals

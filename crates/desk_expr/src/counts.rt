@@ -1,7 +1,7 @@
 //! Counts what the limits of an expression are about: open parentheses and terms.
 
 ghost use Rattle.std.specs.Prelude.{◌≡◌, ◌≤◌, ◌-◌, ℕ, List, OnOk, IfOk, IfErr, [], false, length, slice_get, Some};
-ghost use Rattle.desk_base.specs.declared.limits.TheConstants.{EXPRESSION_TERMS as most_terms};
+ghost use Rattle.desk_base.specs.Limits.{expression_terms as most_terms};
 ghost use Rattle.desk_expr.specs.Tokens.{lexeme};
 ghost use Rattle.desk_expr.specs.Spelling.{symbol, open_after, is_word, is_with};
 

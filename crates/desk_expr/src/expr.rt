@@ -2,7 +2,7 @@
 
 ghost use Rattle.std.specs.Prelude.{◌≡◌, ◌≤◌, ℕ, IfOk, IsTrue, vec_len};
 ghost use Rattle.desk_expr.specs.Tree.{one, all, any, parts_of};
-ghost use Rattle.desk_expr.specs.View.{IsTopOf};
+ghost use Rattle.desk_expr.specs.View.{IsTopOf, IsWellFormed};
 
 use crate::term::Term;
 use std::alloc::AllocError;
@@ -129,7 +129,8 @@ impl Expr {
 
     /// What is at the top: the term, or the parts.
     pub fn shape(&self) -> Shape<'_>
-        ensures { IsTopOf result self.now }
+        ensures top { IsTopOf result self.now }
+        ensures well_formed { IsWellFormed result }
     {
         match &self.node {
             Node::One(leaf) => Shape::One(leaf.term()),

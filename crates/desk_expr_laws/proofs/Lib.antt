@@ -4,5 +4,10 @@ pub mod Limits
 pub mod Texts
 pub mod Verdicts
 pub mod Needed
-mod Places
+pub mod Begun
+pub mod Splits
+pub mod OneStop
 pub mod Stops
+pub mod TreeStops
+pub mod TermStops
+pub mod TreeOrStop

@@ -2,16 +2,16 @@
 use Rattle.std.proofs.Common.{◌∙◌, inl, inr, List, length, take, sym, subst}
 use Rattle.std.proofs.lemmas.List.{take_all}
 use Rattle.std.proofs.Math.Seq.{take-length}
-use Rattle.desk_base.specs.declared.limits.TheConstants as limit
+use Rattle.desk_base.specs.Limits as limit
 use Rattle.desk_expr.specs.Tokens.{Lexeme}
 use Rattle.desk_expr.specs.Spelling.{symbols, still_open, operand_words, KeepsLimits, AllFronts}
 use Rattle.desk_expr_laws.proofs.Decide.{Decided, decided_le, decided_all}
 
 keeps_or_not : (ts : List Lexeme) → Decided (KeepsLimits ts)
 keeps_or_not ts =
-    elim (decided_le (length (still_open ts)) limit.OPEN_PARENTHESES) [
+    elim (decided_le (length (still_open ts)) limit.open_parentheses) [
       | inr deep ↦ inr (λ keeps. deep keeps.depth)
-      | inl depth ↦ elim (decided_le (operand_words (symbols ts)) limit.EXPRESSION_TERMS) [
+      | inl depth ↦ elim (decided_le (operand_words (symbols ts)) limit.expression_terms) [
         | inr many ↦ inr (λ keeps. many keeps.terms)
         | inl terms ↦ inl (record { depth = depth; terms = terms })
       ]

@@ -18,7 +18,7 @@ fewer : (K : Goal) (n : ℕ) → Known K (suc n) → Known K n
 fewer K n known x r few = known x r (omega (arith, few))
 
 -- where neither AND nor OR follows an operand, the whole list has ended
-after_all : (K : Goal) (ors ands : List Tree) (op : Tree) (r : List Symbol) → ((q : List Symbol) → r ≢ and_word ∷ q) → ((q : List Symbol) → r ≢ or_word ∷ q)
+pub after_all : (K : Goal) (ors ands : List Tree) (op : Tree) (r : List Symbol) → ((q : List Symbol) → r ≢ and_word ∷ q) → ((q : List Symbol) → r ≢ or_word ∷ q)
     → (e : Tree) → After K ors ands op r e ↔ K (any_of (ors ++ all_of (ands ++ op ∷ []) ∷ [])) r e
 after_all K ors ands op r no_and no_or e = (
   (λ h. elim h [
@@ -39,7 +39,7 @@ after_exception K ors ands t u x r e = (
   (λ k. (u, x, r, refl, k)),
 )
 
-after_group : (K : Goal) (ors ands : List Tree) (op : Tree) (r : List Symbol) (e : Tree) → Closed K ors ands op (closing ∷ r) e ↔ After K ors ands op r e
+pub after_group : (K : Goal) (ors ands : List Tree) (op : Tree) (r : List Symbol) (e : Tree) → Closed K ors ands op (closing ∷ r) e ↔ After K ors ands op r e
 after_group K ors ands op r e = (
   (λ (p, is, k). let same : p ≡ r = cc in subst (λ s. After K ors ands op s e) same k),
   (λ k. (r, refl, k)),

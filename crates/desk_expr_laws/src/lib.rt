@@ -5,39 +5,29 @@
 //! `IsMinimal`) are relations of `desk_expr`, and a relation may hold of nothing. A contract that
 //! speaks of whatever tree a text spells says something only where each text is known to spell a
 //! tree or to spell none. `tree_or_none` says that, and `verdict_exists` says that each choice is
-//! worth something; `tree_or_stop` says that a text which spells no tree stops somewhere. All are
-//! constructive: each is a function that decides, so there is a reader of texts and a judge of choices
-//! that fit the definitions, whatever memory is at hand.
+//! worth something. Both are constructive: each is a function that decides, so there is a reader of
+//! texts and a judge of choices that fit the definitions, whatever memory is at hand.
 //!
-//! None has a second answer: that a text spells one tree at most is the clause `only` of
-//! `desk_expr::parse_in`, that it stops at one place is `one_stop`, and that a choice has one verdict is
-//! `one_verdict`.
+//! Where a text spells nothing, `some_stop` and `some_term_stop` say that it stops at some place for some reason, and `one_stop`
+//! and `one_term_stop` that it has only one such stop.
+//!
+//! A tree and a verdict have no second answer: that a text spells one tree at most is the clause `only` of
+//! `desk_expr::parse_in`, and that a choice has one verdict is `one_verdict`.
 #![tactic(auto)]
 
-ghost use Rattle.std.specs.Prelude.{◌≡◌, ◌⊎◌, ℕ, ◌<◌, List, Contains};
+ghost use Rattle.std.specs.Prelude.{◌≡◌, ◌⊎◌, ◌<◌, ℕ, List, Contains};
+ghost use Rattle.desk_expr.specs.declared.fault.ParseFault.{ParseFault};
+ghost use Rattle.desk_expr.specs.Faults.{fault_number};
+ghost use Rattle.desk_expr.specs.Grammar.{SpellsTree, SpellsTerm};
 ghost use Rattle.desk_expr.specs.declared.term.Term.{Term};
 ghost use Rattle.desk_expr.specs.Meaning.{Holds, CanGo, IsFirst, IsMinimal};
 ghost use Rattle.desk_expr.specs.Tree.{Tree};
-ghost use Rattle.desk_expr.specs.Faults.{fault_number};
-ghost use Rattle.desk_expr.specs.Grammar.{SpellsTree};
-ghost use Rattle.desk_expr.specs.Spelling.{SpellsWithinBy, IsStopBy};
-ghost use Rattle.desk_expr.specs.declared.fault.ParseFault.{ParseFault};
+ghost use Rattle.desk_expr.specs.Spelling.{SpellsWithinBy, SpellsTermWithinBy, IsStopBy};
 ghost use Rattle.desk_base.specs.declared.profile.Profile.{Profile};
 
 /// Each text spells a tree within the limits, or spells none, by each profile of operators.
 pub fn tree_or_none()
     ensures { (profile : Profile) (text : List ℕ) → ((e : Tree) × SpellsWithinBy profile text e) ⊎ ((e : Tree) → SpellsWithinBy profile text e → ⊥) }
-{}
-
-/// Each text spells a tree within the limits, or stops at some place for some reason other than want of memory.
-pub fn tree_or_stop()
-    ensures { (profile : Profile) (text : List ℕ) → ((e : Tree) × SpellsWithinBy profile text e) ⊎ ((f : ParseFault) × IsStopBy SpellsTree profile text f × (0 < fault_number f)) }
-{}
-
-/// It stops at one place, for one reason, and a text that stops spells no tree.
-pub fn one_stop()
-    ensures same { (profile : Profile) (text : List ℕ) (f g : ParseFault) → 0 < fault_number f → 0 < fault_number g → IsStopBy SpellsTree profile text f → IsStopBy SpellsTree profile text g → f ≡ g }
-    ensures none { (profile : Profile) (text : List ℕ) (f : ParseFault) (e : Tree) → 0 < fault_number f → IsStopBy SpellsTree profile text f → SpellsWithinBy profile text e → ⊥ }
 {}
 
 /// A list of terms doesn't satisfy a tree; or it does, and there is a first place whose term can go; or it is minimal.
@@ -55,4 +45,24 @@ pub fn one_verdict()
 /// No tree that a text spells is true under no terms.
 pub fn some_term_is_needed()
     ensures { (profile : Profile) (text : List ℕ) (e : Tree) → SpellsWithinBy profile text e → Holds (λ _. ⊥) e → ⊥ }
+{}
+
+/// A text that spells no tree within the limits has a stop other than want of memory, which has the number 0.
+pub fn some_stop()
+    ensures { (profile : Profile) (text : List ℕ) → ((e : Tree) → SpellsWithinBy profile text e → ⊥) → (f : ParseFault) × (0 < fault_number f) × IsStopBy SpellsTree profile text f }
+{}
+
+/// It has only one.
+pub fn one_stop()
+    ensures { (profile : Profile) (text : List ℕ) (f g : ParseFault) → 0 < fault_number f → 0 < fault_number g → IsStopBy SpellsTree profile text f → IsStopBy SpellsTree profile text g → f ≡ g }
+{}
+
+/// A text that spells no term has such a stop, too.
+pub fn some_term_stop()
+    ensures { (profile : Profile) (text : List ℕ) → ((t : Term) → SpellsTermWithinBy profile text t → ⊥) → (f : ParseFault) × (0 < fault_number f) × IsStopBy SpellsTerm profile text f }
+{}
+
+/// It has only one.
+pub fn one_term_stop()
+    ensures { (profile : Profile) (text : List ℕ) (f g : ParseFault) → 0 < fault_number f → 0 < fault_number g → IsStopBy SpellsTerm profile text f → IsStopBy SpellsTerm profile text g → f ≡ g }
 {}

@@ -61,7 +61,7 @@ with_field : (f : FieldText) (p : Piece) (r : Result (List FieldText) DocFault) 
 with_field f p (Ok fs) is = ap (λ g. Ok (onto f.line g fs)) is
 with_field f p (Err e) is = refl
 
-reads_field : (line : ℕ) (text : List ℕ) (f : FieldText) (after : ℕ) (rest : List ℕ) → IsNext line text f after rest → (r : Result (List FieldText) DocFault) → Reads after rest r → Reads line text (with_front (f ∷ []) r)
+pub reads_field : (line : ℕ) (text : List ℕ) (f : FieldText) (after : ℕ) (rest : List ℕ) → IsNext line text f after rest → (r : Result (List FieldText) DocFault) → Reads after rest r → Reads line text (with_front (f ∷ []) r)
 reads_field line text f after rest n r h =
     let later = more f.line n.whole n.piece n.end rest r n.begins (subst (λ k. Reads k rest r) n.behind h) in
     reads_skipped line text f.line n.whole n.skips (with_front (f ∷ []) r) (subst (Reads f.line n.whole) (with_field f n.piece r n.gives) later)

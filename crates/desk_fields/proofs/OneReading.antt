@@ -95,13 +95,13 @@ ways line t a (fails n w f h) = fault f h refl
 opened_some : (t f g i : List ℕ) → t ≡ opened f g i → 0 < length t
 opened_some t f g i cut = let a = ap length cut ∙ length-append f (58 ∷ (g ++ (codes "<text>" ++ i))) in omega arith
 
-fails_some : (line : ℕ) (t : List ℕ) (f : DocFault) → Fails line t f → 0 < length t
+pub fails_some : (line : ℕ) (t : List ℕ) (f : DocFault) → Fails line t f → 0 < length t
 fails_some line t (NoColon n) h = line_some t h.0 h.1 h.2 h.4.cut h.4.ends
 fails_some line t (OpenText n) h = opened_some t h.0 h.1 h.2 h.4
 fails_some line t (AfterText n) h = opened_some t h.0 h.1 _ h.7
 fails_some line t f h = absurd h
 
-not_nothing : (t : List ℕ) → t ≡ [] → 0 < length t → ⊥
+pub not_nothing : (t : List ℕ) → t ≡ [] → 0 < length t → ⊥
 not_nothing t e some = let zero = ap length e in omega arith
 
 pub reads_once : (line : ℕ) (t : List ℕ) (a b : Result (List FieldText) DocFault) → Reads line t a → Reads line t b → a ≡ b

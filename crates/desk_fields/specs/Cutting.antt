@@ -69,3 +69,35 @@ pub data Reads : ℕ → List ℕ → Result (List FieldText) DocFault → Type 
   done : (line : ℕ) → Reads line [] (Ok [])
   more : (line : ℕ) (whole : List ℕ) (p : Piece) (end : LineEnd) (rest : List ℕ) (r : Result (List FieldText) DocFault) → Begins whole p end rest → Reads (line_after line p) rest r → Reads line whole (with_piece line p r)
   fails : (line : ℕ) (whole : List ℕ) (f : DocFault) → Fails line whole f → Reads line whole (Err f)
+
+-- ---- the same with the pieces themselves
+
+-- a piece with its end
+pub record Cut : Type 0 where
+  pub piece : Piece
+  pub end : LineEnd
+
+-- a text is these pieces, each with its end, and what follows them: each byte of it lies in just one
+abbrev pub AreCuts : List ℕ → List Cut → List ℕ → Type 0
+AreCuts whole [] rest = whole ≡ rest
+AreCuts whole (c ∷ cs) rest = (after : List ℕ) × Begins whole c.piece c.end after × AreCuts after cs rest
+
+-- the line behind pieces that begin at a line
+abbrev pub line_behind : ℕ → List Cut → ℕ
+line_behind line [] = line
+line_behind line (c ∷ cs) = line_behind (line_after line c.piece) cs
+
+-- the fields that they give
+abbrev pub fields_of : ℕ → List Cut → List FieldText
+fields_of line [] = []
+fields_of line (c ∷ cs) = onto line (given c.piece) (fields_of (line_after line c.piece) cs)
+
+-- the text from a line on is these pieces and nothing else; or these, and then what begins with none, with its fault
+abbrev pub IsCutting : ℕ → List ℕ → List Cut → Option DocFault → Type 0
+IsCutting line whole cuts None = AreCuts whole cuts []
+IsCutting line whole cuts (Some fault) = (rest : List ℕ) × AreCuts whole cuts rest × Fails (line_behind line cuts) rest fault
+
+-- what the cutting says: its fields, or its fault
+abbrev pub said_by : ℕ → List Cut → Option DocFault → Result (List FieldText) DocFault
+said_by line cuts None = Ok (fields_of line cuts)
+said_by line cuts (Some fault) = Err fault

@@ -1,11 +1,11 @@
 -- Which field comes next behind pieces that give none.
-use Rattle.std.specs.Prelude.{◌≡◌, ℕ, ◌+◌, ◌≤◌, List, [], length, Option, Some, None, Result, Ok, Err}
+use Rattle.std.specs.Prelude.{◌≡◌, ℕ, ◌+◌, ◌≤◌, List, [], ◌∷◌, length, Option, Some, None, Result, Ok, Err}
 use Rattle.desk_base.specs.declared.lines.LineEnd.{LineEnd}
 use Rattle.desk_fields.specs.declared.fault.DocFault.{DocFault}
 use Rattle.desk_fields.specs.declared.scan.Field.{Field}
 use Rattle.desk_fields.specs.declared.scanner.Scanner.{Scanner}
 use Rattle.desk_fields.specs.Pieces.{Piece, given}
-use Rattle.desk_fields.specs.Cutting.{Begins, Fails, FieldText, line_after}
+use Rattle.desk_fields.specs.Cutting.{Begins, Fails, FieldText, line_after, with_front}
 use Rattle.desk_fields.specs.Found.{field_text}
 
 -- pieces that give no field lead from the text at a line to another
@@ -41,3 +41,15 @@ FieldGiven s None new = (at : ℕ) × Skips s.line s.rest.now at [] × (new.rest
 FieldGiven s (Some (Ok f)) new =
     IsNext s.line s.rest.now (field_text f) new.line new.rest.now × (new.line + length new.rest.now ≤ s.line + length s.rest.now)
 FieldGiven s (Some (Err fault)) new = FailsNext s.line s.rest.now fault × (new.rest.now ≡ [])
+
+-- what the fields that were given one by one say of the text: all of them, or the fault
+abbrev pub reading : List (Result Field DocFault) → Result (List FieldText) DocFault
+reading [] = Ok []
+reading (Ok f ∷ more) = with_front (field_text f ∷ []) (reading more)
+reading (Err fault ∷ more) = Err fault
+
+-- nothing is given behind a fault
+abbrev pub EndsAtFault : List (Result Field DocFault) → Type 0
+EndsAtFault [] = Unit {0}
+EndsAtFault (Ok f ∷ more) = EndsAtFault more
+EndsAtFault (Err fault ∷ more) = more ≡ []

@@ -1,8 +1,9 @@
 //! The fields of a text, one after another.
 
 ghost use Rattle.std.specs.Prelude.{◌≡◌, ◌+◌, ◌≤◌, ◌<◌, ◌^◌, ◌⊎◌, ℕ, List, [], length, map, IfOk, IfErr, IfSome, IfNone, Ok, Err, Result, IsUtf8};
-ghost use Rattle.std.specs.Iterator.{at_most};
+ghost use Rattle.std.specs.Iterator.{at_most, Drains};
 ghost use Rattle.desk_fields.specs.declared.fault.DocFault.{DocFault};
+ghost use Rattle.desk_fields.specs.declared.scan.Field.{Field};
 ghost use Rattle.desk_fields.specs.Cutting.{Reads, behind_mark, FieldText};
 ghost use Rattle.desk_fields.specs.Found.{field_text};
 
@@ -34,10 +35,14 @@ fn behind_mark(text: &str) -> &str
 }
 
 impl<'a> Scanner<'a> {
-    /// The fields of a text, from the first.
+    ghost use Rattle.desk_fields.specs.NextField.{FieldGiven, reading, EndsAtFault};
+
+    /// The fields of a text, from the first: what calls of `next` give until there is none.
     pub fn of(text: &'a str) -> Scanner<'a>
         ensures rest { result.rest.now ≡ behind_mark text.now }
         ensures line { result.line ≡ 1 }
+        ensures fields { (given : List (Result Field DocFault)) → Drains FieldGiven result given → Reads 1 (behind_mark text.now) (reading given) }
+        ensures last { (given : List (Result Field DocFault)) → Drains FieldGiven result given → EndsAtFault given }
     {
         Scanner {
             rest: behind_mark(text),
@@ -88,7 +93,7 @@ pub fn fields<'a>(alloc: Global, text: &'a str) -> Result<Vec<Field<'a>>, DocFau
     Ok(found)
 }
 
-/// A text is read in one way: as one list of fields, or with one fault.
+/// A text is read in one way, whatever line it begins on: as one list of fields, or with one fault.
 pub fn one_reading()
-    ensures { (text : List ℕ) (a b : Result (List FieldText) DocFault) → Reads 1 text a → Reads 1 text b → a ≡ b }
+    ensures { (line : ℕ) (text : List ℕ) (a b : Result (List FieldText) DocFault) → Reads line text a → Reads line text b → a ≡ b }
 {}

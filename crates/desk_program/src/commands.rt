@@ -1,9 +1,10 @@
 //! The subcommands, each a function over what it reads and writes.
 
-ghost use Rattle.std.specs.Prelude.{◌≡◌, ◌==◌, if◌then◌else◌, ◌++◌, ◌∷◌, [], ℕ, ◌<◌, IfOk, IfErr, OnErr, List, map};
-ghost use Rattle.std.specs.Io.KnownBytes.{Appends, Keeps};
+ghost use Rattle.std.specs.Prelude.{◌≡◌, ◌==◌, if◌then◌else◌, ◌++◌, ◌∷◌, [], ℕ, ◌<◌, IfOk, IfErr, OnErr, List, length, map, ◌⊎◌};
+ghost use Rattle.std.specs.Io.KnownBytes.{Appends, Consumes, Keeps};
 ghost use Rattle.desk_expr.specs.Faults.{fault_number};
-ghost use Rattle.desk_script.specs.Script.{AreLeft, IsFront, IsScript};
+ghost use Rattle.desk_script.specs.Faults.{IsOfReader, IsOfReply};
+ghost use Rattle.desk_script.specs.Script.{AreLeft, IsCutOff, IsFront, IsScript};
 ghost use Rattle.desk_script.specs.declared.serving.ScriptEnd.{ScriptEnd};
 ghost use Rattle.desk_program.specs.Failures.{IfMemory, OfScript};
 ghost use Rattle.desk_program.specs.Report.{IsReadTo, IsReport, IsVerdict, SpellTerms, Tells, TellsOnce};
@@ -120,7 +121,9 @@ pub fn script<D: Desk, R: Read, W: Write>(
         × IsScript D.are_right D.tells bytes (D.seen desk.old) (D.seen desk.new) (W.contents writer.old) (W.contents writer.new) end
         × (end.failed ≡ 0) × (status ≡ (if end.refused == 0 then 0 else 1))) }
     ensures failed { IfErr result (OfScript
-        ((bytes : List ℕ) × AreLeft (R.remaining reader.old) bytes × IsFront D.are_right D.tells bytes (D.seen desk.old) (D.seen desk.new))
+        (λ fault. ((bytes : List ℕ) × AreLeft (R.remaining reader.old) bytes × IsFront D.are_right D.tells bytes (D.seen desk.old) (D.seen desk.new))
+        × (IsOfReply fault ⊎ ((bytes : List ℕ) × IsOfReader fault (length bytes) × Consumes (R.remaining reader.old) (R.remaining reader.new) bytes
+        × IsCutOff D.are_right D.tells bytes (D.seen desk.old) (D.seen desk.new) (W.contents writer.old) (W.contents writer.new))))
         (λ count. (bytes : List ℕ) × AreLeft (R.remaining reader.old) bytes × (end : ScriptEnd)
         × IsScript D.are_right D.tells bytes (D.seen desk.old) (D.seen desk.new) (W.contents writer.old) (W.contents writer.new) end
         × (end.failed ≡ count) × (0 < count))) }

@@ -18,7 +18,8 @@ use Rattle.desk_catalogue.proofs.TermsRead.{reading, terms_read}
 use Rattle.desk_tagvalue.specs.Documents.{Spells}
 use Rattle.desk_tagvalue.specs.Parts.{DocumentText}
 use Rattle.desk_tagvalue.proofs.ReadLemmas.{spells_once}
-use Rattle.desk_expr_laws.proofs.Stops.{tree_or_stop, one_stop, stops_spell_nothing}
+use Rattle.desk_expr_laws.proofs.TreeOrStop.{tree_or_stop, stops_spell_nothing}
+use Rattle.desk_expr_laws.proofs.TreeStops.{one_stop}
 use Rattle.desk_texts.specs.Documents.{Keeps}
 use Rattle.desk_texts.specs.Expressions.{is_no_licence, word_place, IsExpression, IsRead, Tells, fault_of, IsFault, IsVerdict, Judges}
 use Rattle.desk_texts.specs.Terms.{IsTerm, AreTerms, AreAllTerms, reference_in, is_licence, adopted_as}

@@ -142,6 +142,7 @@ module _ (is_right : Readings → Type 0) (tells : StoreFault → Type 0) {Left 
     rest = h.came;
     replies = h.serves.replies;
     begins = h.begins;
+    fed = h.fed;
     no_lf = h.no_lf;
     replied = h.serves.replied;
     written = h.serves.written;

@@ -64,6 +64,7 @@ module _ (is_right : Readings → Type 0) (tells : StoreFault → Type 0) {Left 
     pub rest : List ℕ
     pub replies : List Reply
     pub begins : BeginsWith 1 bytes lines rest
+    pub fed : All (λ l. l.end ≢ Nothing) lines
     pub no_lf : All (λ b. b ≢ 10) rest
     pub replied : AreReplied is_right tells before (requests_of lines) replies after
     pub written : Appends old new (lines_of replies)

@@ -1,6 +1,6 @@
 //! Cuts what is read into lines, and serves each as soon as it is whole.
 
-ghost use Rattle.std.specs.Prelude.{◌≡◌, ◌≢◌, ◌∷◌, ◌++◌, ◌+◌, ◌≤◌, ◌<◌, ◌^◌, [], List, ℕ, OnOk, OnErr, IfOk, IfErr, Option, MatchOption, All, length, ◌⊎◌};
+ghost use Rattle.std.specs.Prelude.{◌≡◌, ◌≢◌, ◌∷◌, ◌++◌, ◌+◌, ◌*◌, ◌≤◌, ◌<◌, ◌^◌, [], List, ℕ, OnOk, OnErr, IfOk, IfErr, Option, MatchOption, All, length, ◌⊎◌};
 ghost use Rattle.std.specs.Io.KnownBytes.{Consumes};
 ghost use Rattle.desk_script.specs.Faults.{IsOfReader, IsOfReply};
 ghost use Rattle.desk_script.specs.Script.{AreLeft, HasServed, IsCutOff, IsFront, IsFrontAt, IsPart, IsScript};
@@ -98,7 +98,8 @@ fn finish<D: Desk, W: Write>(
 /// Reads requests, a line each, and writes a reply line for each line that isn't blank. Replies go out line by line: each is
 /// written and flushed before the next line is served.
 ///
-/// It goes on past refusals and faults, and counts them. At most 1,048,576 times the reader is asked for bytes. After a fault of
+/// It goes on past refusals and faults, and counts them. At most 1,048,576 times the reader is asked for bytes, each time for at
+/// most 65,536. After a fault of
 /// the reader, of the writer or of memory for a line or a reply, what was accepted stands. Where the reader failed, or was asked
 /// too often, each line that ended among the bytes it gave is replied, and each reply written.
 pub fn script<D: Desk, R: Read, W: Write>(
@@ -114,6 +115,7 @@ pub fn script<D: Desk, R: Read, W: Write>(
     ensures fault { IfErr result (λ fault. IsOfReply fault ⊎ ((bytes : List ℕ) × IsOfReader fault (length bytes)
         × Consumes (R.remaining reader.old) (R.remaining reader.new) bytes
         × IsCutOff D.are_right D.tells bytes (D.seen desk.old) (D.seen desk.new) (W.contents writer.old) (W.contents writer.new))) }
+    ensures taken { (bytes : List ℕ) × Consumes (R.remaining reader.old) (R.remaining reader.new) bytes × (length bytes ≤ 1048576 * 65536) }
 {
     let mut end = ScriptEnd {
         refused: 0,

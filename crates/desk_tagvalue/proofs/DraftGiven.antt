@@ -12,7 +12,8 @@ use Rattle.desk_tagvalue.specs.Entries.{EntryText, value_of, read_entry}
 use Rattle.desk_tagvalue.specs.Faults.{first_fault, first_of}
 use Rattle.desk_tagvalue.specs.Missing.{missing_of, missing_of_document, missing_of_elements, is_absent}
 use Rattle.desk_tagvalue.specs.Parts.{head_of, Section, section_at, sections_of, begins_with, parts_of, package_of, file_of, snippet_of, extracted_of, edge_of, edges_of, DocumentText, document_of, text_of, sha1_of}
-use Rattle.desk_tagvalue.specs.Documents.{limit, judged, unless, Spells, fields}
+use Rattle.desk_base.specs.Limits.{document_bytes}
+use Rattle.desk_tagvalue.specs.Documents.{judged, unless, Spells, fields}
 use Rattle.desk_tagvalue.specs.Drafts.{draft_lines}
 use Rattle.desk_tagvalue.specs.Written.{Adds, fields_of_lines}
 use Rattle.desk_tagvalue.specs.Given.{AreFiles, IsPackage, IsOnlyPackage, IsOnlyEdge, GivesDraft}
@@ -129,7 +130,7 @@ draft_given d p rest is = record {
 }
 
 -- a draft's text spells a document that says what the draft says
-pub draft_read : (d : Draft) (t : List ℕ) → Adds [] (draft_lines d) t → IsUtf8 t → length t ≤ limit → length d.files ≤ 9999 → (x : DocumentText) × Spells t (Ok x) × GivesDraft d x
+pub draft_read : (d : Draft) (t : List ℕ) → Adds [] (draft_lines d) t → IsUtf8 t → length t ≤ document_bytes → length d.files ≤ 9999 → (x : DocumentText) × Spells t (Ok x) × GivesDraft d x
 draft_read d t adds utf8 small few =
     let w = entries_of_draft d in
     let es = head_entries d w.0 w.1 in

@@ -16,14 +16,15 @@ use Rattle.desk_tagvalue.specs.Entries.{EntryText, AreEntries, entry_text, read_
 use Rattle.desk_tagvalue.specs.Faults.{first_fault, first_of, field_fault, place_fault, double_fault, value_fault, is_too_many, is_again, is_misspelt, names, is_taken, is_version}
 use Rattle.desk_tagvalue.specs.Missing.{missing_of, missing_of_document, missing_of_elements, is_absent, is_unnamed}
 use Rattle.desk_tagvalue.specs.Parts.{DocumentText, document_of, head_of}
-use Rattle.desk_tagvalue.specs.Documents.{document_text, limit, judged, unless, Spells, too_large, no_text, no_fields, fields}
+use Rattle.desk_base.specs.Limits.{document_bytes}
+use Rattle.desk_tagvalue.specs.Documents.{document_text, judged, unless, Spells, too_large, no_text, no_fields, fields}
 
 pub one_entry_more : (es : List Entry) (e : Entry) (fs : List FieldText) (f : FieldText) → map entry_text es ≡ map read_entry fs → entry_text e ≡ read_entry f
     → map entry_text (es ++ (e ∷ [])) ≡ map read_entry (fs ++ (f ∷ []))
 one_entry_more es e fs f h k = map-append entry_text es (e ∷ []) ∙ (λ i. h i ++ (k i ∷ [])) ∙ sym (map-append read_entry fs (f ∷ []))
 
 -- what the fields that were cut are judged to be
-pub spells_judged : (bytes text : List ℕ) (es : List EntryText) (r : Result DocumentText DocFault) → length bytes ≤ limit → IsUtf8 bytes → text ≡ bytes → AreEntries text es
+pub spells_judged : (bytes text : List ℕ) (es : List EntryText) (r : Result DocumentText DocFault) → length bytes ≤ document_bytes → IsUtf8 bytes → text ≡ bytes → AreEntries text es
     → judged es ≡ r → Spells bytes r
 spells_judged bytes text es r small utf8 same h is =
     subst (Spells bytes) (ap judged (sym h.2) ∙ is) (fields bytes h.0 small utf8 (subst (λ t. Reads 1 (behind_mark t) (Ok h.0)) same h.1))
@@ -39,16 +40,16 @@ err_from bytes es (Ok d) spells h = tt
 err_from bytes es (Err e) spells (inl h) = inl h
 err_from bytes es (Err e) spells (inr h) = inr (spells (Err e) h)
 
-pub err_cut : (bytes text : List ℕ) (f : DocFault) → length bytes ≤ limit → IsUtf8 bytes → text ≡ bytes → (f ≡ faults.Memory) ⊎ Reads 1 (behind_mark text) (Err f) → (f ≡ faults.Memory) ⊎ Spells bytes (Err f)
+pub err_cut : (bytes text : List ℕ) (f : DocFault) → length bytes ≤ document_bytes → IsUtf8 bytes → text ≡ bytes → (f ≡ faults.Memory) ⊎ Reads 1 (behind_mark text) (Err f) → (f ≡ faults.Memory) ⊎ Spells bytes (Err f)
 err_cut bytes text f small utf8 same (inl h) = inl h
 err_cut bytes text f small utf8 same (inr h) = inr (no_fields bytes f small utf8 (subst (λ t. Reads 1 (behind_mark t) (Err f)) same h))
 
 -- the ways in which bytes may spell something
 data Ways (bytes : List ℕ) (r : Result DocumentText DocFault) : Type 0 where
-  large : limit < length bytes → r ≡ Err faults.TooLarge → Ways bytes r
-  broken : length bytes ≤ limit → (IsUtf8 bytes → ⊥) → r ≡ Err faults.NotUtf8 → Ways bytes r
-  uncut : (fault : DocFault) → length bytes ≤ limit → IsUtf8 bytes → Reads 1 (behind_mark bytes) (Err fault) → r ≡ Err fault → Ways bytes r
-  cut : (fs : List FieldText) → length bytes ≤ limit → IsUtf8 bytes → Reads 1 (behind_mark bytes) (Ok fs) → r ≡ judged (map read_entry fs) → Ways bytes r
+  large : document_bytes < length bytes → r ≡ Err faults.TooLarge → Ways bytes r
+  broken : length bytes ≤ document_bytes → (IsUtf8 bytes → ⊥) → r ≡ Err faults.NotUtf8 → Ways bytes r
+  uncut : (fault : DocFault) → length bytes ≤ document_bytes → IsUtf8 bytes → Reads 1 (behind_mark bytes) (Err fault) → r ≡ Err fault → Ways bytes r
+  cut : (fs : List FieldText) → length bytes ≤ document_bytes → IsUtf8 bytes → Reads 1 (behind_mark bytes) (Ok fs) → r ≡ judged (map read_entry fs) → Ways bytes r
 
 ways : (bytes : List ℕ) (r : Result DocumentText DocFault) → Spells bytes r → Ways bytes r
 ways bytes r (too_large b h) = large h refl

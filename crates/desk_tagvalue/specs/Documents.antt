@@ -1,5 +1,6 @@
 -- The document that bytes spell, or the fault for which they are none.
 use Rattle.std.specs.Prelude.{ℕ, ◌<◌, ◌≤◌, List, [], length, map, Option, Some, None, Result, Ok, Err, IsUtf8}
+use Rattle.desk_base.specs.Limits.{document_bytes}
 use Rattle.desk_fields.specs.declared.fault.DocFault.{DocFault}
 use Rattle.desk_fields.specs.declared.fault.DocFault.TheVariants as faults
 use Rattle.desk_fields.specs.Cutting.{Reads, FieldText, behind_mark}
@@ -23,10 +24,6 @@ document_text d = record {
   edges = map edge_text d.edges;
 }
 
--- 4 MiB
-abbrev pub limit : ℕ
-limit = 4194304
-
 abbrev pub unless : Option DocFault → DocumentText → Result DocumentText DocFault
 unless None d = Ok d
 unless (Some fault) d = Err fault
@@ -37,7 +34,7 @@ judged es = unless (first_of (first_fault [] es) (missing_of es)) (document_of e
 
 -- too many bytes; no text; no fields; or what the fields are
 pub data Spells : List ℕ → Result DocumentText DocFault → Type 0 where
-  too_large : (bytes : List ℕ) → limit < length bytes → Spells bytes (Err faults.TooLarge)
-  no_text : (bytes : List ℕ) → length bytes ≤ limit → (IsUtf8 bytes → ⊥) → Spells bytes (Err faults.NotUtf8)
-  no_fields : (bytes : List ℕ) (fault : DocFault) → length bytes ≤ limit → IsUtf8 bytes → Reads 1 (behind_mark bytes) (Err fault) → Spells bytes (Err fault)
-  fields : (bytes : List ℕ) (fs : List FieldText) → length bytes ≤ limit → IsUtf8 bytes → Reads 1 (behind_mark bytes) (Ok fs) → Spells bytes (judged (map read_entry fs))
+  too_large : (bytes : List ℕ) → document_bytes < length bytes → Spells bytes (Err faults.TooLarge)
+  no_text : (bytes : List ℕ) → length bytes ≤ document_bytes → (IsUtf8 bytes → ⊥) → Spells bytes (Err faults.NotUtf8)
+  no_fields : (bytes : List ℕ) (fault : DocFault) → length bytes ≤ document_bytes → IsUtf8 bytes → Reads 1 (behind_mark bytes) (Err fault) → Spells bytes (Err fault)
+  fields : (bytes : List ℕ) (fs : List FieldText) → length bytes ≤ document_bytes → IsUtf8 bytes → Reads 1 (behind_mark bytes) (Ok fs) → Spells bytes (judged (map read_entry fs))

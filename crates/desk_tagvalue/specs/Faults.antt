@@ -2,6 +2,7 @@
 use Rattle.std.specs.Prelude.{ℕ, ◌&&◌, ◌||◌, not, Bool, true, false, List, [], ◌∷◌, Option, Some, None, is_some, if◌then◌else◌, codes, count_by, nat_le}
 use Rattle.std.specs.List.{list_any}
 use Rattle.std.specs.Str.{bytes_eq}
+use Rattle.desk_base.specs.Limits.{document_elements}
 use Rattle.desk_fields.specs.declared.tag.Tag.{Tag}
 use Rattle.desk_fields.specs.declared.tag.Tag.TheVariants as tags
 use Rattle.desk_fields.specs.declared.fault.DocFault.{DocFault}
@@ -37,9 +38,9 @@ abbrev pub section : List EntryText → List EntryText
 section [] = []
 section (e ∷ es) = if begins e then e ∷ [] else e ∷ section es
 
--- the field begins an element, and 10,000 are there
+-- the field begins an element, and as many are there as a document may have
 abbrev pub is_too_many : List EntryText → EntryText → Bool
-is_too_many before e = begins e && nat_le 10000 (count_by begins before)
+is_too_many before e = begins e && nat_le document_elements (count_by begins before)
 
 -- the field stands once, and is there
 abbrev pub is_again : List EntryText → EntryText → Bool

@@ -4,7 +4,7 @@ ghost use Rattle.std.specs.Prelude.{◌≡◌, ◌≤◌, ◌<◌, ◌+◌, ◌^
 ghost use Rattle.desk_fields.specs.declared.fault.DocFault.{DocFault};
 ghost use Rattle.desk_fields.specs.Cutting.{Reads, behind_mark};
 ghost use Rattle.desk_fields.specs.Found.{field_text};
-ghost use Rattle.desk_tagvalue.specs.Documents.{limit};
+ghost use Rattle.desk_base.specs.Limits.{document_bytes};
 ghost use Rattle.desk_tagvalue.specs.Entries.{AreEntries, entry_text, read_entry, value_text, value_of};
 
 use desk_fields::{DocFault, Field, Scanner, Tag};
@@ -45,7 +45,7 @@ fn most_fields(text: &str) -> usize
 
 /// All fields of a text with their tags read. Room for the most of them is taken once, and what they don't need given back.
 pub(crate) fn entries_of<'a>(alloc: Global, text: &'a str) -> Result<Vec<Entry<'a>>, DocFault>
-    requires { length text.now ≤ limit }
+    requires { length text.now ≤ document_bytes }
     ensures ok { IfOk result (λ v. AreEntries text.now (map entry_text v.items)) }
     ensures err { IfErr result (λ e. (e ≡ DocFault.Memory) ⊎ Reads 1 (behind_mark text.now) (Err e)) }
 {

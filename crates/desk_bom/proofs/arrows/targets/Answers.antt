@@ -1,4 +1,4 @@
-use Rattle.std.proofs.Common.{ℕ, ◌≤◌, ◌<◌, ◌-◌, length, take, drop, rules, ltb, leb}
+use Rattle.std.proofs.Common.{◌-◌, length, take, drop, rules, ltb, leb}
 use Rattle.std.proofs.lemmas.List.Sorted.{IsPartitionedBy-ltb, IsPartitionedBy-leb, IsPartitionPoint-from_clause, IsNonDecreasingBy-take, IsNonDecreasingBy-drop}
 use Rattle.std.proofs.lemmas.List.{take_rest}
 use Rattle.desk_bom.specs.declared.arrows.Arrow.{Arrow}

@@ -1,7 +1,6 @@
-use Rattle.std.proofs.Common.{◌≡◌, ◌∙◌, ◌+◌, ◌++◌, List, ap, sym, arith, drop}
+use Rattle.std.proofs.Common.{◌∙◌, ◌+◌, ◌++◌, ap, sym, arith, drop}
 use Rattle.std.specs.Prelude.{map}
 use Rattle.desk_tagvalue.specs.Entries.{entry_text}
-use Rattle.desk_bom.specs.declared.arrows.Arrow.{Arrow}
 use Rattle.desk_bom.specs.Contents.{own_files}
 use Rattle.desk_bom.proofs.ContentsLemmas.{package_passed, file_passed, other_passed}
 use Rattle.desk_bom.proofs.contents.add_own.Goals as goal

@@ -1,6 +1,6 @@
 use Rattle.std.proofs.Common.{◌≡◌, ◌++◌, take}
 use Rattle.std.specs.Prelude.{map}
-use Rattle.desk_bom.specs.Elements.{texts}
+use Rattle.desk_bom.specs.Places.{texts}
 use Rattle.desk_bom.proofs.elements.add_snippets.Given as goal
 
 -- those so far were added

@@ -1,8 +1,6 @@
-use Rattle.std.proofs.Common.{◌∙◌, ◌++◌, [], ◌∷◌, ap, sym}
-use Rattle.std.specs.Prelude.{map, codes}
-use Rattle.std.proofs.lemmas.Simd.{map-map}
-use Rattle.desk_tagvalue.specs.Views.{package_text, file_text, snippet_text}
-use Rattle.desk_bom.specs.Elements.{texts}
+use Rattle.std.proofs.Common.{◌∙◌, ◌++◌, ap}
+use Rattle.std.specs.Prelude.{map}
+use Rattle.desk_bom.specs.Places.{texts}
 use Rattle.desk_bom.proofs.ElementLemmas.{ids_joined}
 use Rattle.desk_bom.proofs.elements.ids_of.Goals as goal
 

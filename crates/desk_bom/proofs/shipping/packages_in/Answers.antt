@@ -1,4 +1,4 @@
-use Rattle.std.proofs.Common.{◌≡◌, ◌∙◌, ℕ, ◌+◌, ◌<◌, [], ◌∷◌, ◌++◌, length, get_or, ap, sym, subst}
+use Rattle.std.proofs.Common.{◌≡◌, ◌∙◌, ℕ, ◌+◌, [], ap, sym, subst}
 use Rattle.std.specs.Prelude.{map, All, slice_index_or}
 use Rattle.std.proofs.lemmas.List.{map_push, get_or-map}
 use Rattle.std.proofs.lemmas.List.Elements.{All-push}

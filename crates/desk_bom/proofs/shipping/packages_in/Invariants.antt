@@ -1,4 +1,4 @@
-use Rattle.std.proofs.Common.{◌≡◌, ◌+◌, [], take}
+use Rattle.std.proofs.Common.{◌≡◌, ◌+◌, []}
 use Rattle.std.specs.Prelude.{map, filter, All, slice_index_or}
 use Rattle.std.specs.List.{range_with_len}
 use Rattle.desk_bom.specs.Marks.{among}

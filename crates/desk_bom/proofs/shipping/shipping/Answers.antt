@@ -1,4 +1,4 @@
-use Rattle.std.proofs.Common.{◌≡◌, ◌∙◌, subst, sym, ap, rules, length, ◌<◌}
+use Rattle.std.proofs.Common.{◌∙◌, subst, sym, rules, length, ◌<◌}
 use Rattle.std.specs.Prelude.{All}
 use Rattle.std.proofs.lemmas.List.Sorted.{IsNonDecreasingBy-from_sort_by_key, All-permutation}
 use Rattle.std.specs.List.Sorted.{IsNonDecreasingBy, IsPermutation}

@@ -1,10 +1,9 @@
-use Rattle.std.proofs.Common.{◌≡◌, ◌∙◌, ◌+◌, ◌++◌, List, ℕ, get_or, ap, sym, drop}
+use Rattle.std.proofs.Common.{◌∙◌, ◌+◌, ap, sym, drop}
 use Rattle.std.specs.Prelude.{map}
 use Rattle.std.specs.List.{list_any}
 use Rattle.std.specs.Str.{bytes_eq}
-use Rattle.desk_tagvalue.specs.Seen.{has_key}
 use Rattle.desk_tagvalue.specs.Views.{file_text}
-use Rattle.desk_bom.specs.Codes.{digests_of, is_excluded}
+use Rattle.desk_bom.specs.Codes.{digests_of}
 use Rattle.desk_bom.proofs.CodeLemmas.{behind_front, excluded_passed, digest_passed, digest_missing}
 use Rattle.desk_bom.proofs.state.digests_of.Goals as goal
 

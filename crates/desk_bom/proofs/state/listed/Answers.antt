@@ -1,4 +1,3 @@
-use Rattle.std.proofs.Common.{subst}
 use Rattle.desk_bom.proofs.CodeLemmas.{not_list}
 use Rattle.desk_bom.proofs.state.listed.Goals as goal
 

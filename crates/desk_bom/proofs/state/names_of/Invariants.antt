@@ -4,7 +4,7 @@ use Rattle.std.specs.List.{list_any}
 use Rattle.std.specs.Str.{bytes_eq}
 use Rattle.desk_fields.specs.Text.{trimmed}
 use Rattle.desk_tagvalue.specs.Seen.{has_key}
-use Rattle.desk_bom.specs.Elements.{texts}
+use Rattle.desk_bom.specs.Places.{texts}
 use Rattle.desk_bom.specs.Codes.{plain}
 use Rattle.desk_bom.proofs.state.names_of.Given as goal
 

@@ -67,18 +67,18 @@ returns-in-Err-clause-complete c =
 pub returns-clause-spelled : goal.returns-clause-spelled
 returns-clause-spelled c =
     let ts : List Lexeme = map lexeme c.loop-token.yielded in
-    let are : AreTokensBy c.args.profile 0 c.args.text.now ts = subst (AreTokensBy c.args.profile 0 c.args.text.now) (append-nil ts) (c.loop-token.invariant.so_far [] c.in-None.ensures.steps) in
+    let are : AreTokensBy c.args.profile 0 c.args.text.now ts = subst (AreTokensBy c.args.profile 0 c.args.text.now) (append-nil ts) (c.loop-token.invariant.so_far [] c.in-None.ensures.steps.0) in
     spelled_at_end c.args.profile c.args.text.now ts c.loop-token.state c.if-text-gt-EXPRESSION_BYTES.false are c.loop-token.invariant.read c.finish.result c.finish.ensures.ok
 
 pub returns-clause-stop : goal.returns-clause-stop
 returns-clause-stop c =
     let ts : List Lexeme = map lexeme c.loop-token.yielded in
-    let are : AreTokensBy c.args.profile 0 c.args.text.now ts = subst (AreTokensBy c.args.profile 0 c.args.text.now) (append-nil ts) (c.loop-token.invariant.so_far [] c.in-None.ensures.steps) in
+    let are : AreTokensBy c.args.profile 0 c.args.text.now ts = subst (AreTokensBy c.args.profile 0 c.args.text.now) (append-nil ts) (c.loop-token.invariant.so_far [] c.in-None.ensures.steps.0) in
     stopped_at_end c.args.profile c.args.text.now ts c.loop-token.state c.if-text-gt-EXPRESSION_BYTES.false are c.loop-token.invariant.read c.finish.result c.finish.ensures.err
 
 pub returns-clause-complete : goal.returns-clause-complete
 returns-clause-complete c =
     let ts : List Lexeme = map lexeme c.loop-token.yielded in
-    let are : AreTokensBy c.args.profile 0 c.args.text.now ts = subst (AreTokensBy c.args.profile 0 c.args.text.now) (append-nil ts) (c.loop-token.invariant.so_far [] c.in-None.ensures.steps) in
+    let are : AreTokensBy c.args.profile 0 c.args.text.now ts = subst (AreTokensBy c.args.profile 0 c.args.text.now) (append-nil ts) (c.loop-token.invariant.so_far [] c.in-None.ensures.steps.0) in
     faults_spell_no_term c.args.profile c.args.text.now c.finish.result
     (stopped_at_end c.args.profile c.args.text.now ts c.loop-token.state c.if-text-gt-EXPRESSION_BYTES.false are c.loop-token.invariant.read c.finish.result c.finish.ensures.err)

@@ -9,7 +9,7 @@ use Rattle.desk_expr.proofs.token.tokens_in.Goals as goal
 
 -- calls of next until there is none give the tokens of what is left
 all_given : (given : List Token) (cuts last after : TokenCuts) → Yields TokenGiven cuts given last → TokenGiven last None after → AreTokensBy cuts.profile cuts.place cuts.rest.now (map lexeme given)
-all_given [] cuts last after same none = subst (λ (c : TokenCuts). AreTokensBy c.profile c.place c.rest.now []) (sym same) none
+all_given [] cuts last after same none = subst (λ (c : TokenCuts). AreTokensBy c.profile c.place c.rest.now []) (sym same) none.0
 all_given (t ∷ given) cuts last after (next, step, more) none =
     let behind : AreTokensBy next.profile next.place next.rest.now (map lexeme given) = all_given given next last after more none in
     (next.rest.now, step.0, subst (λ o. AreTokensBy o t.end next.rest.now (map lexeme given)) step.2 (subst (λ p. AreTokensBy next.profile p next.rest.now (map lexeme given)) step.1 behind))

@@ -13,6 +13,7 @@ loop-turn-init g c = record {
   read = Consumes-nil (g.R.Read.remaining c.args.reader.now);
   served = HasServed-came g.D.Desk.are_right g.D.Desk.tells 1 [] (g.D.Desk.seen c.args.desk.now) (g.W.Write.contents c.args.writer.now) (record { refused = 0; failed = 0 }) c.new-line.result c.new-line.ensures (All-nil (λ (b : ℕ). b ≢ 10));
   turns = omega arith;
+  few = omega arith;
   refused = omega arith;
   failed = omega arith;
 }
@@ -119,6 +120,53 @@ loop-turn-preserved g c =
           (g.W.Write.contents c.args.writer.now) (g.W.Write.contents c.loop-turn.writer) (g.W.Write.contents c.feed.new.writer) (record { refused = 0; failed = 0 }) c.loop-turn.end c.feed.new.end c.loop-turn.line c.feed.new.line at.served
           (c.in_ok-feed.ensures.ok (1 + length at.served.lines) at.served.came at.served.shows at.served.no_lf);
       turns = omega (arith, at.turns, taken, front, c.if-taken-eq0.false);
+      few = omega (arith, at.few, taken, front);
       refused = omega (arith, at.refused, few.0, taken);
       failed = omega (arith, at.failed, few.1, taken);
     }
+
+-- ---- the bytes that were taken
+
+pub returns-in_default-clause-taken : goal.returns-in_default-clause-taken
+returns-in_default-clause-taken g c =
+    let at = c.loop-turn.invariant in (
+      at.front,
+      Consumes-kept (g.R.Read.remaining c.args.reader.now) (g.R.Read.remaining c.loop-turn.reader) (g.R.Read.remaining c.read.new.self) at.front at.read c.in_default.ensures.bytes,
+      omega (arith, at.few),
+    )
+
+pub returns-clause-taken : goal.returns-clause-taken
+returns-clause-taken g c = let at = c.loop-turn.invariant in (at.front, at.read, omega (arith, at.few))
+
+pub returns-in_err-finish-clause-taken : goal.returns-in_err-finish-clause-taken
+returns-in_err-finish-clause-taken g c =
+    let at = c.loop-turn.invariant in
+    let got = take c.in-Ok.taken c.read.new.buf in
+    let none : got ≡ [] = ap (λ (n : ℕ). take n c.read.new.buf) c.if-taken-eq0.true in
+    let long : length (at.front ++ got) ≡ length at.front + length got = length-append at.front got in (
+      at.front ++ got,
+      Consumes-trans (g.R.Read.remaining c.args.reader.now) (g.R.Read.remaining c.loop-turn.reader) (g.R.Read.remaining c.read.new.self) at.front got at.read c.in-Ok.ensures.bytes.0,
+      omega (arith, at.few, long, ap length none),
+    )
+
+pub returns-then-taken-eq0-clause-taken : goal.returns-then-taken-eq0-clause-taken
+returns-then-taken-eq0-clause-taken g c =
+    let at = c.loop-turn.invariant in
+    let got = take c.in-Ok.taken c.read.new.buf in
+    let none : got ≡ [] = ap (λ (n : ℕ). take n c.read.new.buf) c.if-taken-eq0.true in
+    let long : length (at.front ++ got) ≡ length at.front + length got = length-append at.front got in (
+      at.front ++ got,
+      Consumes-trans (g.R.Read.remaining c.args.reader.now) (g.R.Read.remaining c.loop-turn.reader) (g.R.Read.remaining c.read.new.self) at.front got at.read c.in-Ok.ensures.bytes.0,
+      omega (arith, at.few, long, ap length none),
+    )
+
+pub returns-in_err-feed-clause-taken : goal.returns-in_err-feed-clause-taken
+returns-in_err-feed-clause-taken g c =
+    let at = c.loop-turn.invariant in
+    let got = take c.in-Ok.taken c.read.new.buf in
+    let taken : length got ≡ min c.in-Ok.taken (length c.read.new.buf) = length-take c.in-Ok.taken c.read.new.buf in
+    let long : length (at.front ++ got) ≡ length at.front + length got = length-append at.front got in (
+      at.front ++ got,
+      Consumes-trans (g.R.Read.remaining c.args.reader.now) (g.R.Read.remaining c.loop-turn.reader) (g.R.Read.remaining c.read.new.self) at.front got at.read c.in-Ok.ensures.bytes.0,
+      omega (arith, at.few, long, taken),
+    )

@@ -10,6 +10,7 @@ invariant-loop-turn g l = record {
   served : HasServed g.D.Desk.are_right g.D.Desk.tells 1 front (g.D.Desk.seen l.fn.desk) (g.D.Desk.seen l.desk) (g.W.Write.contents l.fn.writer)
       (g.W.Write.contents l.writer) (record { refused = 0; failed = 0 }) l.end l.line;
   turns : l.turn ≤ length front;
+  few : length front ≤ l.turn * 65536;
   refused : l.end.refused ≤ l.turn * 65536;
   failed : l.end.failed ≤ l.turn * 65536;
 }

@@ -4,7 +4,7 @@ use Rattle.desk_fields.specs.Cutting.{behind_mark}
 use Rattle.desk_fields.specs.Found.{field_text}
 use Rattle.desk_fields.specs.NextField.{FieldGiven}
 use Rattle.desk_fields.proofs.Loops.{step_field, reads_end, reads_fault}
-use Rattle.desk_tagvalue.specs.Documents.{limit}
+use Rattle.desk_base.specs.Limits.{document_bytes}
 use Rattle.desk_tagvalue.specs.Entries.{entry_text}
 use Rattle.desk_tagvalue.proofs.ReadLemmas.{one_entry_more}
 use Rattle.desk_tagvalue.proofs.entries.entries_of.Goals as goal
@@ -15,7 +15,7 @@ loop-field-preserved c =
     let new = c.next.new.self in
     let step = subst (λ f. FieldGiven it (Some f) new) c.in-Ok.is c.in-Some.ensures.steps in
     let old = c.loop-field.invariant in
-    let room : new.line + length new.rest.now ≤ 1 + limit = let a = old.0 in let b = step.1 in omega arith in
+    let room : new.line + length new.rest.now ≤ 1 + document_bytes = let a = old.0 in let b = step.1 in omega arith in
     let items = ap (map entry_text) c.in_ok-push-in-Ok.ensures.items ∙ one_entry_more c.loop-field.entries.items c.entry_of.result old.1 (field_text c.in-Ok.field) old.2 c.entry_of.ensures in
     (room, old.1 ++ (field_text c.in-Ok.field ∷ []), items, step_field (behind_mark c.args.text.now) old.1 it.line it.rest.now (field_text c.in-Ok.field) new.line new.rest.now step.0 old.3)
 

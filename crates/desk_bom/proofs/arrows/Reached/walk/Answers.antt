@@ -1,4 +1,4 @@
-use Rattle.std.proofs.Common.{◌≡◌, ◌∙◌, ◌+◌, ◌≤◌, ◌<◌, length, subst, sym, ap, arith}
+use Rattle.std.proofs.Common.{◌∙◌, ◌+◌, ◌<◌, length, subst, sym, ap, arith}
 use Rattle.std.specs.Prelude.{All}
 use Rattle.desk_bom.specs.Marks.{among}
 use Rattle.desk_bom.proofs.WalkLemmas.{Walks, walks_more, walks_skip, walks_all, targets_within}

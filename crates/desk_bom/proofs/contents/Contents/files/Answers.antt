@@ -1,10 +1,9 @@
-use Rattle.std.proofs.Common.{◌≡◌, ◌∙◌, ap, subst, sym, ℕ}
-use Rattle.std.specs.Prelude.{map, Contains}
+use Rattle.std.proofs.Common.{subst, sym}
+use Rattle.std.specs.Prelude.{Contains}
 use Rattle.std.proofs.lemmas.List.Filters.{dedup_is}
 use Rattle.std.proofs.lemmas.List.Kept.{Contains-dedup_nat, Contains-from_dedup}
 use Rattle.std.proofs.lemmas.List.Sorted.{Contains-permutation, IsPermutation-sym}
 use Rattle.std.proofs.lemmas.Map.Keys.{IsStrictlyIncreasing-dedup}
-use Rattle.desk_bom.specs.declared.arrows.Arrow.{Arrow}
 use Rattle.desk_bom.specs.Targets.{AreTargets}
 use Rattle.desk_bom.proofs.TargetLemmas.{led_to, leads_to}
 use Rattle.desk_bom.proofs.contents.Contents.files.Goals as goal

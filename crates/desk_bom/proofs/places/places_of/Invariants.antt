@@ -1,7 +1,6 @@
-use Rattle.std.proofs.Common.{ℕ}
-use Rattle.desk_bom.specs.Elements.{texts}
+use Rattle.desk_bom.specs.Places.{texts}
 use Rattle.desk_bom.proofs.ElementLemmas.{FirstPlaces}
-use Rattle.desk_bom.proofs.elements.places_of.Given as goal
+use Rattle.desk_bom.proofs.places.places_of.Given as goal
 
 -- the first place of each identifier among the last
 abbrev pub invariant-loop-i : goal.invariant-loop-i

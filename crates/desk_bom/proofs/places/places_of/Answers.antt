@@ -2,9 +2,9 @@ use Rattle.std.proofs.Common.{◌≡◌, ◌+◌, ◌-◌, ◌<◌, [], length, 
 use Rattle.std.proofs.lemmas.List.{get_or-map, length-map}
 use denote.Ref.{Bor}
 use Rattle.std.proofs.Common.{List, ℕ}
-use Rattle.desk_bom.specs.Elements.{texts}
+use Rattle.desk_bom.specs.Places.{texts}
 use Rattle.desk_bom.proofs.ElementLemmas.{FirstPlaces, first_places_more}
-use Rattle.desk_bom.proofs.elements.places_of.Goals as goal
+use Rattle.desk_bom.proofs.places.places_of.Goals as goal
 
 pub loop-i-preserved : goal.loop-i-preserved
 loop-i-preserved c =
