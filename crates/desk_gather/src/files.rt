@@ -49,8 +49,9 @@ fn placed<'a>(
     Ok(Ok(tree))
 }
 
-/// The files by path, or the first path that can't stand there.
-pub(crate) fn tree_of<'a>(
+/// The bytes of files by path, or the first fault: more than 10,000 files, or the first path that can't stand in a tree or stands
+/// there already.
+pub fn tree_of<'a>(
     alloc: Global,
     files: &'a [SourceFile],
 ) -> Result<Result<BTreeMap<&'a str, &'a [u8]>, GatherFault>, AllocError>
@@ -76,8 +77,8 @@ pub(crate) fn files_of<'a>(
     Ok(files)
 }
 
-/// The bytes of the file at a path.
-pub(crate) fn bytes_at<'a>(tree: &BTreeMap<&'a str, &'a [u8]>, path: &str) -> Option<&'a [u8]>
+/// The bytes of the file at a path. Takes no memory.
+pub fn bytes_at<'a>(tree: &BTreeMap<&'a str, &'a [u8]>, path: &str) -> Option<&'a [u8]>
     ensures { option_map (λ bytes. bytes.now) result ≡ bytes_at (tree_in tree.now) path.now }
 {
     match tree.get(path) {

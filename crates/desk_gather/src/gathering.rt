@@ -152,8 +152,8 @@ fn infos_of<'a>(
     Ok(Ok(infos))
 }
 
-// The information of a tree's files.
-fn gathered(
+/// As `gather`, with want of memory told apart from the faults of the tree.
+pub fn gathered(
     alloc: Global,
     files: &[SourceFile],
 ) -> Result<Result<Vec<FileInfo>, GatherFault>, AllocError>

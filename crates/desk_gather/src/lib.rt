@@ -21,6 +21,6 @@ mod paths;
 mod tomls;
 
 pub use fault::GatherFault;
-pub use files::SourceFile;
-pub use gathering::{FileInfo, gather};
+pub use files::{SourceFile, bytes_at, tree_of};
+pub use gathering::{FileInfo, gather, gathered};
 pub use laws::one_reader;
