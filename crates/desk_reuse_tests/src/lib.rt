@@ -1,9 +1,11 @@
-//! Tests of `desk_reuse`, `desk_annotations` and `desk_gather`: patterns of paths, the notices and licences of files, REUSE.toml
-//! files, and what is gathered of a tree.
+//! Tests of `desk_reuse`, `desk_annotations`, `desk_gather` and `desk_draft`: patterns of paths, the notices and licences of files,
+//! REUSE.toml files, what is gathered of a tree, and its draft.
 #![tactic(auto)]
 
 #[cfg(test)]
 mod annotations;
+#[cfg(test)]
+mod drafts;
 #[cfg(test)]
 mod globs;
 #[cfg(test)]

@@ -13,7 +13,7 @@ fn file(alloc: Global, path: &str, bytes: &[u8]) -> Result<SourceFile, AllocErro
     })
 }
 
-fn files(alloc: Global, tree: &str) -> Result<Vec<SourceFile>, AllocError> {
+pub(crate) fn files(alloc: Global, tree: &str) -> Result<Vec<SourceFile>, AllocError> {
     let mut files = Vec::new(alloc);
     for part in tree.split('@') {
         if let Some((path, text)) = part.split_once('\n') {
@@ -89,7 +89,7 @@ fn expect(
     Ok(())
 }
 
-const LAYERED: &str = "@src/a.c
+pub(crate) const LAYERED: &str = "@src/a.c
 // SPDX-License-Identifier: MIT
 @src/x/b.c
 int x;
