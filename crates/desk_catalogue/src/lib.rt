@@ -35,4 +35,5 @@ mod values;
 
 pub use laws::{first_rule_counts, one_catalogue, terms_are_read};
 pub use lookup::{has_form, rule, spelled};
+pub use order::sorted_set;
 pub use reading::read;

@@ -49,8 +49,8 @@ pub(crate) fn distinct(alloc: Global, listed: &[&str]) -> Result<Items<Text>, Al
     Ok(kept)
 }
 
-/// The texts sorted, each once.
-pub(crate) fn sorted_set(alloc: Global, listed: Vec<&str>) -> Result<Items<Text>, AllocError>
+/// The texts sorted by their bytes, each once. The only error is want of memory.
+pub fn sorted_set(alloc: Global, listed: Vec<&str>) -> Result<Items<Text>, AllocError>
     ensures { IfOk result (λ sorted. sorted ≡ sorted_set (texts_in listed.entry)) }
 {
     let mut listed = listed;

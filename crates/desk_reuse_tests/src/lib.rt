@@ -1,7 +1,14 @@
-//! Tests of `desk_reuse`: patterns of paths, and the notices and licences of files.
+//! Tests of `desk_reuse`, `desk_annotations`, `desk_gather` and `desk_draft`: patterns of paths, the notices and licences of files,
+//! REUSE.toml files, what is gathered of a tree, and its draft.
 #![tactic(auto)]
 
+#[cfg(test)]
+mod annotations;
+#[cfg(test)]
+mod drafts;
 #[cfg(test)]
 mod globs;
 #[cfg(test)]
 mod headers;
+#[cfg(test)]
+mod trees;

@@ -1,0 +1,5 @@
+pub mod Numbers
+pub mod Right
+pub mod Values
+pub mod Reading
+pub mod Shown

@@ -1,0 +1,35 @@
+//! Annotations.
+
+use desk_base::{Items, Text};
+use desk_reuse::Glob;
+
+/// How an annotation stands to what a file states itself.
+#[derive(Clone, Copy, Debug, PartialEq, Eq)]
+pub enum Precedence {
+    /// It counts where the file states nothing itself.
+    Closest,
+    /// It counts beside what the file states itself.
+    Aggregate,
+    /// It counts in place of what the file states itself.
+    Override,
+}
+
+/// What a REUSE.toml says of the files that match one of its paths.
+#[derive(Debug, Drop)]
+pub struct Annotation {
+    /// Patterns of paths, which are relative to the folder of the REUSE.toml.
+    pub paths: Items<Glob>,
+    /// How it stands to what a file states itself.
+    pub precedence: Precedence,
+    /// Copyright notices, as they are written.
+    pub notices: Items<Text>,
+    /// Licence expressions, as they are written.
+    pub licences: Items<Text>,
+}
+
+/// The annotations of a REUSE.toml.
+#[derive(Debug, Drop)]
+pub struct Annotations {
+    /// In their order.
+    pub list: Items<Annotation>,
+}

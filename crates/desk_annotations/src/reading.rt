@@ -1,0 +1,83 @@
+//! Reads a text as a REUSE.toml.
+
+ghost use Rattle.std.specs.Prelude.{◌≡◌, ◌⊎◌, IfOk, IfErr, Ok, Err, alloc_error, codes};
+ghost use Rattle.toml.specs.Data.{get_member};
+ghost use Rattle.toml.specs.View.{table_view};
+ghost use Rattle.desk_annotations.specs.Right.{Reading, IsRight};
+ghost use Rattle.desk_annotations.specs.Reading.{listed, annotations_of_table, annotations_of};
+ghost use Rattle.desk_annotations.specs.Shown.{Gives};
+
+use crate::annotation::{Annotation, Annotations};
+use crate::entries::each_annotation;
+use crate::fault::{AnnotationFault, AnnotationsFault};
+use crate::values::{is_version, member};
+use desk_base::Items;
+use std::alloc::{AllocError, Global};
+use toml::Table;
+
+// The annotations that are listed in a table.
+fn listed(
+    alloc: Global,
+    table: &Table,
+) -> Result<Result<Vec<Annotation>, AnnotationsFault>, AllocError>
+    ensures { (r : Reading) → IsRight r → IfOk result (Gives (listed r (get_member (codes "annotations") (table_view table.now))) (λ list. list.items)) }
+{
+    let Some(value) = member(table, "annotations") else {
+        return Ok(Ok(Vec::new(alloc)));
+    };
+    match value.as_array() {
+        Some(values) => each_annotation(alloc, values.as_slice()),
+        None => Ok(Err(AnnotationsFault::BadAnnotation(0, AnnotationFault::BadKind))),
+    }
+}
+
+// The annotations of a table.
+fn of_table(
+    alloc: Global,
+    table: &Table,
+) -> Result<Result<Vec<Annotation>, AnnotationsFault>, AllocError>
+    ensures { (r : Reading) → IsRight r → IfOk result (Gives (annotations_of_table r (table_view table.now)) (λ list. list.items)) }
+{
+    if is_version(member(table, "version")) {
+        listed(alloc, table)
+    } else {
+        Ok(Err(AnnotationsFault::BadToml))
+    }
+}
+
+// The annotations of a text.
+fn of_text(
+    alloc: Global,
+    text: &str,
+) -> Result<Result<Vec<Annotation>, AnnotationsFault>, AllocError>
+    ensures { (r : Reading) → IsRight r → IfOk result (Gives (annotations_of r text.now) (λ list. list.items)) }
+{
+    match toml::table_from_str(alloc, text) {
+        Ok(table) => of_table(alloc, &table),
+        Err(error) => {
+            if error.is_memory() {
+                Err(AllocError)
+            } else {
+                Ok(Err(AnnotationsFault::BadToml))
+            }
+        }
+    }
+}
+
+impl Annotations {
+    /// The annotations of a REUSE.toml, or its first fault: those of the whole document first, then those of each annotation in turn.
+    ///
+    /// For each right reading the answer is that of `annotations_of`; `Memory` is want of memory and nothing else.
+    pub fn read(alloc: Global, text: &str) -> Result<Annotations, AnnotationsFault>
+        ensures ok { (r : Reading) → IsRight r → IfOk result (λ a. annotations_of r text.now ≡ Ok a.list) }
+        ensures err { (r : Reading) → IsRight r → IfErr result (λ f. (f ≡ AnnotationsFault.Memory alloc_error) ⊎ (annotations_of r text.now ≡ Err f)) }
+    {
+        match of_text(alloc, text) {
+            Ok(Ok(list)) => Ok(Annotations {
+                list: Items::from_vec(list),
+            }),
+            Ok(Err(fault)) => Err(fault),
+            Err(error) => Err(AnnotationsFault::Memory(error)),
+        }
+    }
+}

@@ -1,0 +1,135 @@
+//! The files of a draft.
+
+ghost use Rattle.std.specs.Prelude.{◌≡◌, [], IfOk, OnOk, map, unwrap_or, ◌++◌};
+ghost use Rattle.std.specs.List.{list_any, flat_map};
+ghost use Rattle.desk_gather.specs.Readers.{Reader, IsRightReader};
+ghost use Rattle.desk_gather.specs.Shown.{tree_in};
+ghost use Rattle.desk_draft.specs.Drafts.{bytes_of, file_of, files_of, is_bare, package_licences, package_notices};
+ghost use Rattle.desk_draft.specs.Shown.{Gives, texts_in};
+
+use crate::texts::{copyright_of, expression_read};
+use desk_base::{Items, Text};
+use desk_catalogue::sorted_set;
+use desk_gather::{FileInfo, GatherFault, bytes_at};
+use desk_tagvalue::DraftFile;
+use sha1::Sha1;
+use std::alloc::{AllocError, Global};
+use std::collections::BTreeMap;
+
+// The bytes of a file.
+fn bytes_of<'a>(tree: &BTreeMap<&'a str, &'a [u8]>, path: &str) -> &'a [u8]
+    ensures { result.now ≡ bytes_of (tree_in tree.now) path.now }
+{
+    match bytes_at(tree, path) {
+        Some(bytes) => bytes,
+        None => &[],
+    }
+}
+
+// What the draft says of a file.
+fn file_of<'a>(
+    alloc: Global,
+    tree: &BTreeMap<&'a str, &'a [u8]>,
+    info: &FileInfo,
+) -> Result<Result<DraftFile, GatherFault>, AllocError>
+    ensures { (r : Reader) → IsRightReader r → IfOk result (λ f. f ≡ file_of r (tree_in tree.now) info.now) }
+{
+    let concluded = match expression_read(alloc, info.licences.as_slice())? {
+        Ok(concluded) => concluded,
+        Err(fault) => return Ok(Err(fault)),
+    };
+    Ok(Ok(DraftFile {
+        path: info.path.clone()?,
+        digest: Sha1::digest(bytes_of(tree, info.path.as_str())),
+        concluded,
+        copyright: copyright_of(alloc, info.notices.as_slice())?,
+    }))
+}
+
+/// What the draft says of the files, in their order.
+pub(crate) fn files_of<'a>(
+    alloc: Global,
+    tree: &BTreeMap<&'a str, &'a [u8]>,
+    infos: &[FileInfo],
+) -> Result<Result<Vec<DraftFile>, GatherFault>, AllocError>
+    ensures { (r : Reader) → IsRightReader r → IfOk result (Gives (files_of r (tree_in tree.now) infos.now) (λ v. v.items)) }
+{
+    let mut files = Vec::new(alloc);
+    for info in infos {
+        match file_of(alloc, tree, info)? {
+            Ok(file) => files.push(file)?,
+            Err(fault) => return Ok(Err(fault)),
+        }
+    }
+    Ok(Ok(files))
+}
+
+/// The digests of files.
+pub(crate) fn digests_of(alloc: Global, files: &[DraftFile]) -> Result<Vec<[u8; 20]>, AllocError>
+    ensures { IfOk result (λ v. v.items ≡ map (λ f. f.digest) files.now) }
+{
+    let mut digests = Vec::new(alloc);
+    for file in files {
+        digests.push(file.digest)?;
+    }
+    Ok(digests)
+}
+
+// Adds texts to borrowed ones.
+fn add<'a>(list: &mut Vec<&'a str>, more: &'a [Text]) -> Result<(), AllocError>
+    ensures { OnOk result (texts_in list.new ≡ texts_in list.old ++ more.now) }
+{
+    for text in more {
+        list.push(text.as_str())?;
+    }
+    Ok(())
+}
+
+// Whether some file has no licence.
+fn is_bare(infos: &[FileInfo]) -> bool
+    ensures { result ≡ list_any is_bare infos.now }
+{
+    for info in infos {
+        if info.licences.as_slice().is_empty() {
+            return true;
+        }
+    }
+    false
+}
+
+fn all_licences<'a>(alloc: Global, infos: &'a [FileInfo]) -> Result<Vec<&'a str>, AllocError>
+    ensures { IfOk result (λ v. texts_in v ≡ flat_map (λ i. i.licences) infos.now) }
+{
+    let mut list = Vec::new(alloc);
+    for info in infos {
+        add(&mut list, info.licences.as_slice())?;
+    }
+    Ok(list)
+}
+
+fn all_notices<'a>(alloc: Global, infos: &'a [FileInfo]) -> Result<Vec<&'a str>, AllocError>
+    ensures { IfOk result (λ v. texts_in v ≡ flat_map (λ i. i.notices) infos.now) }
+{
+    let mut list = Vec::new(alloc);
+    for info in infos {
+        add(&mut list, info.notices.as_slice())?;
+    }
+    Ok(list)
+}
+
+/// The distinct licences of all files, and none where some file has none.
+pub(crate) fn package_licences(alloc: Global, infos: &[FileInfo]) -> Result<Items<Text>, AllocError>
+    ensures { IfOk result (λ t. t ≡ package_licences infos.now) }
+{
+    if is_bare(infos) {
+        return Ok(Items::new(alloc));
+    }
+    sorted_set(alloc, all_licences(alloc, infos)?)
+}
+
+/// The distinct notices of all files.
+pub(crate) fn package_notices(alloc: Global, infos: &[FileInfo]) -> Result<Items<Text>, AllocError>
+    ensures { IfOk result (λ t. t ≡ package_notices infos.now) }
+{
+    sorted_set(alloc, all_notices(alloc, infos)?)
+}

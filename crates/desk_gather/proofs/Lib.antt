@@ -1,0 +1,10 @@
+pub mod EachLemmas
+pub mod TreeLemmas
+pub mod FolderLemmas
+pub mod Running
+pub mod ReaderLemmas
+pub mod PlacedLemmas
+pub mod TomlLemmas
+pub mod StatedLemmas
+pub mod RestLemmas
+pub mod GatheredLemmas

@@ -1,0 +1,60 @@
+-- What the code's values show of the definitions'.
+use Rattle.std.specs.Prelude.{◌≡◌, ℕ, List, map, Vec, Result, Ok, Err}
+use Rattle.std.specs.BTreeMap.{BTreeMap}
+use Rattle.std.specs.declared.alloc.Global.{Global}
+use denote.Ref.{Bor}
+use Rattle.desk_annotations.specs.declared.annotation.Annotation.{Annotation}
+use Rattle.desk_reuse.specs.Tags.{tag_text}
+use Rattle.desk_reuse.specs.declared.info.Info.{Info}
+use Rattle.desk_gather.specs.Readers.{Stated}
+use Rattle.desk_gather.specs.declared.fault.GatherFault.{GatherFault}
+use Rattle.desk_gather.specs.declared.files.File.{File}
+use Rattle.desk_gather.specs.declared.files.SourceFile.{SourceFile}
+use Rattle.desk_gather.specs.declared.tomls.Toml.{Toml}
+use Rattle.desk_gather.specs.Trees.{Read}
+use Rattle.desk_gather.specs.Tomls.{TomlText}
+
+-- a result is what is read, seen as it shows
+abbrev pub Gives : {A B : Type 0} → Read B → (A → B) → Result A GatherFault → Type 0
+Gives read show (Ok x) = read ≡ Ok (show x)
+Gives read show (Err fault) = read ≡ Err fault
+
+-- the bytes of borrowed texts
+abbrev pub texts : List (Bor (List ℕ)) → List (List ℕ)
+texts borrowed = map (λ (text : Bor (List ℕ)). text.now) borrowed
+
+abbrev pub texts_in : Vec (Bor (List ℕ)) Global → List (List ℕ)
+texts_in v = texts v.items
+
+-- a file without where it lies in memory
+abbrev pub file_of : File → SourceFile
+file_of f = record { path = f.path.now; bytes = f.bytes.now }
+
+abbrev pub files_of : List File → List SourceFile
+files_of fs = map file_of fs
+
+abbrev pub Tree : Type 0
+Tree = BTreeMap (Bor (List ℕ)) (Bor (List ℕ))
+
+abbrev pub file_at : Bor (List ℕ) × Bor (List ℕ) → SourceFile
+file_at e = record { path = e.0.now; bytes = e.1.now }
+
+abbrev pub entries_of : List (Bor (List ℕ) × Bor (List ℕ)) → List SourceFile
+entries_of es = map file_at es
+
+-- the files of a map by path
+abbrev pub tree_in : Tree → List SourceFile
+tree_in m = entries_of m.entries
+
+abbrev pub toml_in : Toml → TomlText
+toml_in t = record { folder = t.folder.now; annotations = t.annotations.list }
+
+abbrev pub tomls_in : List Toml → List TomlText
+tomls_in ts = map toml_in ts
+
+abbrev pub annotations_of : List (Bor Annotation) → List Annotation
+annotations_of list = map (λ (a : Bor Annotation). a.now) list
+
+-- what a file states, without where it lies in memory
+abbrev pub stated_of : Info → Stated
+stated_of i = record { notices = map tag_text i.notices.items; licences = map tag_text i.licences.items }

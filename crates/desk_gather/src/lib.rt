@@ -1,0 +1,26 @@
+//! Gathers what the files of a source tree are under (REUSE Specification 3.3): for each covered file its copyright notices and its
+//! licences, by what it states itself and by the REUSE.toml files from the root to its folder.
+//!
+//! - `gathered` (`specs/Gathering.antt`) is a function of the files: the information of each covered file by path, or the first
+//!   fault. It sorts the files by path (`specs/Trees.antt`), reads the REUSE.toml files (`specs/Tomls.antt`), and takes for each
+//!   file the annotations that count, one a folder at most (`specs/Information.antt`).
+//! - A file's information is given by cases: an override, or what the file states itself with the aggregates and the nearest
+//!   `closest` annotation. The code goes down the folders once.
+//! - The definitions are over a `Reader`: the pieces of patterns, the licence expressions, the matches of paths and what files
+//!   state themselves. `gather` answers as they say for each reader that is right by the definitions of `desk_reuse` and
+//!   `desk_expr` (`IsRightReader`), and all right readers are one (`one_reader`).
+#![tactic(auto)]
+
+mod counting;
+mod fault;
+mod files;
+mod gathering;
+mod information;
+mod laws;
+mod paths;
+mod tomls;
+
+pub use fault::GatherFault;
+pub use files::{SourceFile, bytes_at, tree_of};
+pub use gathering::{FileInfo, gather, gathered};
+pub use laws::one_reader;
