@@ -92,6 +92,21 @@ Requests, with an example of each and its reply:
   meet a duty
     > {\"do\":\"meet\",\"day\":\"2025-03-04\",\"duty\":1,\"text\":\"notices.txt\"}
     < {\"done\":true}
+  drop the choice for a package
+    > {\"do\":\"unchoose\",\"document\":1,\"package\":\"SPDXRef-p\",\"release\":\"r1\"}
+    < {\"done\":true}
+  waive a duty, for good or up to a last day
+    > {\"do\":\"waive\",\"day\":\"2025-03-04\",\"duty\":1,\"text\":\"asked\",\"until\":\"2025-03-31\"}
+    < {\"done\":true}
+  reopen a duty that is met or waived
+    > {\"do\":\"reopen\",\"day\":\"2025-03-06\",\"duty\":1,\"text\":\"not so\"}
+    < {\"done\":true}
+  end the waivers whose last day is before this one
+    > {\"do\":\"close\",\"day\":\"2025-04-01\"}
+    < {\"closed\":1}
+  withdraw a release, with its duties that are not met
+    > {\"do\":\"withdraw\",\"day\":\"2025-03-05\",\"release\":\"r1\",\"text\":\"not shipped\"}
+    < {\"done\":true}
   list the duties of a release
     > {\"ask\":\"duties\",\"release\":\"r1\"}
     < {\"rows\":[[1,1,\"SPDXRef-p\",\"mit\",\"MIT\",\"include-text\",\"met\",\"2025-03-04\"]]}
