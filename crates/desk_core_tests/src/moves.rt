@@ -254,3 +254,26 @@ const MANY_CHANGES: &str = r#"«499:{"do":"meet","duty":1,"day":"2025-03-04","te
 fn a_duty_has_at_most_999_changes_before_it_is_withdrawn(rt: HostRuntime) -> Result<(), Fail> {
     follow(&rt, rt.alloc(), &[THREE_DUTIES, MANY_CHANGES])
 }
+
+const READ: &str = r#"read {"do":"waive","duty":7,"day":"d","text":"t"}
+waive 7 on <d> by <t>
+read {"until":"u","text":"t","duty":7,"day":"d","do":"waive"}
+waive 7 on <d> by <t> until <u>
+read {"do":"reopen","duty":7,"day":"d","text":"t"}
+reopen 7 on <d> by <t>
+read {"do":"withdraw","release":"r","day":"d","text":"t"}
+withdraw <r> on <d> by <t>
+read {"do":"close","day":"d"}
+close <d>
+read {"do":"unchoose","release":"r","document":3,"package":"p"}
+unchoose for 3 <p> in <r>
+read {"do":"unchoose","release":"r","document":3,"package":"p","terms":[]}
+no request
+read {"do":"waive","duty":7,"day":"d","text":"t","until":1}
+no request
+"#;
+
+#[test]
+fn reads_moves(rt: HostRuntime) -> Result<(), Fail> {
+    follow(&rt, rt.alloc(), &[READ])
+}

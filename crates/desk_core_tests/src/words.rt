@@ -53,6 +53,45 @@ fn command_in_words(alloc: Global, command: &Command) -> Result<String, AllocErr
             let duty = format!(in alloc; "meet {duty} on <")?;
             [duty.as_str(), day.as_str(), "> by <", text.as_str(), ">"].concat(alloc)
         }
+        other => later_command_in_words(alloc, other),
+    }
+}
+
+fn later_command_in_words(alloc: Global, command: &Command) -> Result<String, AllocError> {
+    match command {
+        Command::Unchoose {
+            release,
+            document,
+            package_id,
+        } => {
+            let document = format!(in alloc; "unchoose for {document} <")?;
+            let (release, package) = (release.as_str(), package_id.as_str());
+            [document.as_str(), package, "> in <", release, ">"].concat(alloc)
+        }
+        Command::Waive {
+            duty,
+            day,
+            text,
+            until,
+        } => {
+            let duty = format!(in alloc; "waive {duty} on <")?;
+            let until = match until {
+                Some(last) => ["> until <", last.as_str(), ">"].concat(alloc)?,
+                None => String::from_str(alloc, ">")?,
+            };
+            let (duty, until) = (duty.as_str(), until.as_str());
+            [duty, day.as_str(), "> by <", text.as_str(), until].concat(alloc)
+        }
+        Command::Reopen { duty, day, text } => {
+            let duty = format!(in alloc; "reopen {duty} on <")?;
+            [duty.as_str(), day.as_str(), "> by <", text.as_str(), ">"].concat(alloc)
+        }
+        Command::Withdraw { release, day, text } => {
+            let (release, day) = (release.as_str(), day.as_str());
+            ["withdraw <", release, "> on <", day, "> by <", text.as_str(), ">"].concat(alloc)
+        }
+        Command::CloseDay { day } => ["close <", day.as_str(), ">"].concat(alloc),
+        _ => String::from_str(alloc, "no request"),
     }
 }
 
