@@ -20,3 +20,4 @@ pub mod OwnKeys
 mod Held
 mod Numbers
 mod Sorting
+mod Ends

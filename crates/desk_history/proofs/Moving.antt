@@ -1,5 +1,5 @@
 -- What commands that move duties leave, one duty or many.
-use Rattle.std.proofs.Common.{◌≡◌, ◌≢◌, ℕ, ◌+◌, ◌<◌, ◌≤◌, Bool, true, false, cond, List, [], ◌∷◌, ◌++◌, length, Option, Some, None, sym, refl, ap, ◌∙◌, subst, arith, append_assoc, length-append, append-nil, add-one, inl, inr}
+use Rattle.std.proofs.Common.{◌≡◌, ◌≢◌, ℕ, ◌+◌, ◌<◌, ◌≤◌, Bool, true, false, cond, List, [], ◌∷◌, ◌++◌, length, Option, Some, None, sym, refl, ap, ◌∙◌, arith, append_assoc, length-append, append-nil, add-one, inl, inr}
 use Rattle.std.specs.Prelude.{if◌then◌else◌, find, filter, map, ◌||◌, ◌&&◌, nat_lt, nat_le, ◌==◌, is_some, unwrap_or, IsTrue, not}
 use Rattle.std.specs.List.{flat_map, list_any, list_all, enumerate_from}
 use Rattle.std.specs.Option.{option_map, option_map_or}

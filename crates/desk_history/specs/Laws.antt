@@ -1,5 +1,5 @@
 -- Laws of the recorded history, in the subject's own words.
-use Rattle.std.specs.Prelude.{◌≡◌, ℕ, ◌+◌, nat_lt, Bool, false, List, [], ◌∷◌, ◌++◌, length, map, filter, find, Some, None, Ok, unwrap_or}
+use Rattle.std.specs.Prelude.{◌≡◌, ℕ, ◌+◌, nat_lt, Bool, true, false, List, [], ◌∷◌, ◌++◌, length, map, filter, find, Some, None, Ok, unwrap_or}
 use Rattle.std.specs.List.{filter_map, last_or, enumerate_from}
 use Rattle.std.specs.Option.{option_map}
 use Rattle.desk_rows.specs.Lists.{IsIn}
@@ -21,6 +21,10 @@ use Rattle.desk_rows.specs.declared.row.DutyRow.{DutyRow}
 use Rattle.desk_rows.specs.declared.row.FrozenRow.{FrozenRow}
 use Rattle.desk_rows.specs.declared.row.ChangeRow.{ChangeRow}
 use Rattle.desk_rows.specs.States.{state_after}
+use Rattle.desk_rows.specs.Texts.{is_before}
+use Rattle.desk_rows.specs.Moves.{moves}
+use Rattle.desk_rows.specs.declared.row.Move.{Move}
+use Rattle.desk_rows.specs.declared.state.Word.TheVariants as word
 use Rattle.desk_rows.specs.declared.command.Command.{Command}
 use Rattle.desk_rows.specs.declared.command.Command.TheVariants.{Freeze}
 
@@ -115,3 +119,13 @@ pub record ListsOnce (w : Readings) : Type 0 where
 -- a duty stands where the last of its changes left it
 abbrev pub IsToldBy : List ChangeRow → DutyRow → Type 0
 IsToldBy changes duty = option_map (λ change. state_after change.word) (last_or None (filter (is_change_of duty.number) changes)) ≡ Some duty.state
+
+-- the last move of a duty is a waiver, whose last day is before this day
+pub record IsOver (w : Readings) (h : List Command) (day : List ℕ) (q : ℕ) : Type 0 where
+  pub last : Move
+  pub before : List Move
+  pub end : List ℕ
+  pub is : moves w h q ≡ last ∷ before
+  pub waives : last.word ≡ word.Waived
+  pub until : last.last_day ≡ Some end
+  pub over : is_before end day ≡ true

@@ -3,7 +3,7 @@
 //! the tables of a history.
 #![tactic(auto)]
 
-ghost use Rattle.std.specs.Prelude.{◌≡◌, ℕ, ◌+◌, ◌++◌, [], ◌∷◌, List, map, filter};
+ghost use Rattle.std.specs.Prelude.{◌≡◌, ◌⊎◌, true, false, ℕ, ◌+◌, ◌++◌, [], ◌∷◌, List, map, filter};
 ghost use Rattle.desk_rows.specs.Lists.{IsIn};
 ghost use Rattle.desk_rows.specs.Readings.{Readings};
 ghost use Rattle.desk_rows.specs.Keys.{is_choice_of};
@@ -17,7 +17,11 @@ ghost use Rattle.desk_rows.specs.declared.row.Owed.{Owed};
 ghost use Rattle.desk_rows.specs.declared.row.DutyRow.{DutyRow};
 ghost use Rattle.desk_rows.specs.declared.row.FrozenRow.{FrozenRow};
 ghost use Rattle.desk_rows.specs.declared.command.Command.{Command};
-ghost use Rattle.desk_rows.specs.declared.command.Command.TheVariants.{Choose};
+ghost use Rattle.desk_rows.specs.Moves.{moves, place, is_raised_for};
+ghost use Rattle.desk_rows.specs.States.{is_met};
+ghost use Rattle.desk_history.specs.Laws.{IsOver};
+ghost use Rattle.desk_rows.specs.declared.state.DutyState.TheVariants.{IsOpen, Met, Withdrawn};
+ghost use Rattle.desk_rows.specs.declared.command.Command.TheVariants.{Choose, CloseDay, Withdraw};
 
 /// A duty is raised exactly where a freeze of its release stands in the history, and before it a document that ships the package
 /// was attached, the term was chosen for it, and the catalogue in force owed the code for the term's adopted form.
@@ -68,9 +72,23 @@ pub fn keys_are_distinct()
     ensures { (w : Readings) (h : List Command) → ListsOnce w → IsHistory w h → let t = tables w h in AreDistinct (map key_of t.duty) }
 {}
 
-/// A duty of the table stands where the last of its changes in the table left it: open after it was raised, met after a Meet.
+/// A duty of the table stands where the last of its changes in the table left it: open after it was raised, reopened or its waiver
+/// ended, met after a Meet, waived after a Waive, withdrawn after a withdrawal.
 pub fn each_place_is_told()
     ensures { (w : Readings) (h : List Command) (duty : DutyRow) → let t = tables w h in IsIn duty t.duty → IsToldBy t.changes duty }
+{}
+
+/// A withdrawal leaves a met duty as it is, withdraws each other duty of its release, and leaves the release without a choice.
+pub fn withdrawals_leave_met_duties()
+    ensures met { (w : Readings) (h : List Command) (r day text : List ℕ) (q : ℕ) → place w h q ≡ Met → moves w (Withdraw r day text ∷ h) q ≡ moves w h q }
+    ensures others { (w : Readings) (h : List Command) (r day text : List ℕ) (q : ℕ) → is_raised_for w h q r ≡ true → is_met (place w h q) ≡ false → place w (Withdraw r day text ∷ h) q ≡ Withdrawn }
+    ensures choices { (w : Readings) (h : List Command) (r day text : List ℕ) (d : ℕ) (p : List ℕ) → choice w (Withdraw r day text ∷ h) r d p ≡ [] }
+{}
+
+/// A CloseDay moves a duty only where its last move is a waiver whose last day is before that day, and opens it there.
+pub fn waivers_end_after_their_last_day()
+    ensures ends { (w : Readings) (h : List Command) (day : List ℕ) (q : ℕ) → IsOver w h day q → place w (CloseDay day ∷ h) q ≡ IsOpen }
+    ensures only { (w : Readings) (h : List Command) (day : List ℕ) (q : ℕ) → (moves w (CloseDay day ∷ h) q ≡ moves w h q) ⊎ IsOver w h day q }
 {}
 
 /// The tables of each list of commands, for each reading of texts, stand in the order of their keys: no row stands behind one that it
