@@ -3,7 +3,7 @@
 use crate::trees::{LAYERED, files};
 use desk_draft::draft;
 use desk_gather::{GatherFault, SourceFile};
-use desk_tagvalue::write;
+use desk_tagvalue::{WriteFault, write};
 use std::alloc::{AllocError, Global};
 
 // The text of a draft, or its fault.
@@ -18,7 +18,8 @@ fn told(alloc: Global, files: &[SourceFile]) -> Result<String, AllocError> {
     match made {
         Ok(draft) => match write(alloc, &draft) {
             Ok(text) => Ok(text),
-            Err(_) => String::from_str(alloc, "not written"),
+            Err(WriteFault::BadValue) => String::from_str(alloc, "BadValue"),
+            Err(WriteFault::Memory) => Err(AllocError),
         },
         Err(GatherFault::ExpressionTooLong) => String::from_str(alloc, "ExpressionTooLong"),
         Err(GatherFault::Memory(error)) => Err(error),
