@@ -11,7 +11,7 @@ use Rattle.std.proofs.lemmas.Bool.Decides.{eqb_tells}
 use Rattle.sha1.specs.Sha1.{sha1}
 use Rattle.hex.specs.Hex.{encode_lower}
 use Rattle.desk_bom.specs.Codes.{IsCode}
-use Rattle.desk_bom_laws.proofs.Ordered.{sorted_list, one_sorted_list}
+use Rattle.desk_bom_laws.proofs.Ordered.{sorted_list}
 
 text_total : IsTotalOrder (slice_cmp nat_cmp)
 text_total = lists_total nat_cmp_total

@@ -1,2 +1,3 @@
 mod Ordered
 mod Codes
+mod States
