@@ -98,7 +98,8 @@ IFS= read -r licence <"$here/unicode-ident/expression"
 ask 3-too-many "$licence" MIT Apache-2.0 Unicode-3.0
 ask 4-too-few "$licence" MIT
 ask_small
-cat "$here/first-release/script.jsonl" "$here/first-release/duties.jsonl" | add 6-release script
+cat "$here/first-release/script.jsonl" "$here/first-release/duties.jsonl" "$here/first-release/later.jsonl" |
+    add 6-release script
 
 if [ -n "$desk" ]; then
     echo 'This is the program that was proved and built.'
@@ -120,7 +121,8 @@ show 3-too-many 4-too-few
 echo 'The same licence with its operators in small letters, read by the profile that takes them:'
 echo
 show 5-small
-echo 'A first release: requests (>), each with its reply (<). The last one asks for the duties of the release.'
+echo 'A first release: requests (>), each with its reply (<). At last its duty is reopened, waived up to'
+echo 'a day, open again after it, and withdrawn with the release.'
 echo
-echo '$ cat examples/first-release/script.jsonl examples/first-release/duties.jsonl | desk script'
+echo '$ cd examples/first-release; cat script.jsonl duties.jsonl later.jsonl | desk script'
 show_script 6-release
