@@ -35,3 +35,12 @@ fn gives_codes(rt: HostRuntime) -> Result<(), AllocError> {
     }
     Ok(())
 }
+
+// With `rt try --test --fail-alloc N` the Nth allocation fails: the answer is then want of memory, and else the right one.
+#[test]
+fn gives_a_code_or_tells_want_of_memory(rt: HostRuntime) {
+    let (digests, expected) = CODES[2];
+    if let Ok(answer) = code_of(rt.alloc(), digests) {
+        expect(&rt, "the code", &answer, expected);
+    }
+}
