@@ -1,5 +1,5 @@
 -- A text spells a tree or stops, and never both.
-use Rattle.std.proofs.Common.{◌⊎◌, inl, inr, ℕ, ◌<◌, List, arith}
+use Rattle.std.proofs.Common.{◌⊎◌, inl, inr, ap, ℕ, ◌<◌, List, arith}
 use Rattle.desk_base.specs.declared.profile.Profile.{Profile}
 use Rattle.desk_expr.specs.declared.fault.ParseFault.{ParseFault}
 use Rattle.desk_expr.specs.Faults.{fault_number}
