@@ -1,25 +1,23 @@
 -- The code of each package has a state, and one: the files of a package are one list.
-use Rattle.std.proofs.Common.{◌≡◌, ◌≢◌, ◌↔◌, ◌∙◌, ◌⊎◌, inl, inr, ℕ, zero, suc, ◌<◌, true, false, List, [], ◌∷◌, length, Option, Some, None, sym, subst, ap, refl, arith}
+use Rattle.std.proofs.Common.{◌≡◌, ◌≢◌, ◌⊎◌, inl, inr, ℕ, zero, suc, ◌<◌, true, false, List, [], ◌∷◌, length, Option, Some, None, sym, subst, ap, refl, arith}
 use Rattle.std.specs.Prelude.{◌==◌, nat_eq, if◌then◌else◌, Contains, slice_get}
 use Rattle.std.specs.Ordering.{nat_cmp}
 use Rattle.std.specs.Cmp.{nat_cmp_total}
 use Rattle.std.specs.List.{filter_map, dedup}
-use Rattle.std.specs.List.Sorted.{IsStrictlyIncreasing}
 use Rattle.std.specs.Str.{bytes_eq}
 use Rattle.std.proofs.lemmas.Bool.Decides.{eqb_tells}
 use Rattle.std.proofs.lemmas.Slice.Eq.{bytes_eq-Decides}
 use Rattle.std.specs.Bool.{Decides}
 use Rattle.std.proofs.lemmas.List.Kept.{Contains-dedup_nat, Contains-from_dedup}
 use Rattle.std.proofs.lemmas.List.Sorted.{Contains-permutation, IsPermutation-sym}
-use Rattle.std.proofs.lemmas.Map.Keys.{IsStrictlyIncreasing-dedup, sorted_from_strictly_increasing}
+use Rattle.std.proofs.lemmas.Map.Keys.{IsStrictlyIncreasing-dedup}
 use Rattle.desk_base.specs.Folded.{folded}
 use Rattle.desk_bom.specs.declared.arrows.Arrow.{Arrow}
 use Rattle.desk_bom.specs.declared.state.CodeState.{CodeState}
 use Rattle.desk_bom.specs.declared.state.CodeState.TheVariants as states
-use Rattle.desk_bom.specs.Codes.{IsCode, IsState, IsStateAt, IsStateOf, checked_digests, code_digits}
+use Rattle.desk_bom.specs.Codes.{IsState, IsStateAt, IsStateOf, checked_digests, code_digits}
 use Rattle.desk_bom.specs.Contents.{contents, AreFilesOf}
 use Rattle.desk_tagvalue.specs.Parts.{DocumentText, PackageText, FileText}
-use Rattle.desk_alts.proofs.SetLemmas.{same_sorted}
 use Rattle.desk_bom_laws.proofs.Ordered.{sorted_list}
 use Rattle.desk_bom_laws.proofs.Codes.{code_exists}
 
@@ -66,26 +64,18 @@ files_exist : (d : DocumentText) (k : ℕ) → (fs : List FileText) × AreFilesO
 files_exist d k =
     let all = targets k (contents d) in
     let found = sorted_list nat_cmp nat_cmp_total all in
-    let places = dedup nat_eq found.0 in
-    (filter_map (slice_get d.files) places, record {
-      places = places;
-      once = IsStrictlyIncreasing-dedup found.0 found.2;
-      members = λ j. (
-        (λ at. from_targets k (contents d) j (Contains-permutation found.0 all j (IsPermutation-sym all found.0 found.1) (Contains-from_dedup nat_eq found.0 j at))),
-        (λ at. Contains-dedup_nat found.0 j (Contains-permutation all found.0 j found.1 (in_targets k (contents d) j at))),
-      );
-      are = refl;
-    })
-
-one_places : (as' bs : List ℕ) → IsStrictlyIncreasing as' → IsStrictlyIncreasing bs → ((j : ℕ) → Contains as' j ↔ Contains bs j) → as' ≡ bs
-one_places as' bs up up' same =
-    same_sorted nat_cmp nat_cmp_total as' bs (sorted_from_strictly_increasing as' up) (sorted_from_strictly_increasing bs up') same
-
-one_files : (d : DocumentText) (k : ℕ) (fs gs : List FileText) → AreFilesOf d k fs → AreFilesOf d k gs → fs ≡ gs
-one_files d k fs gs h g =
-    h.are
-    ∙ ap (filter_map (slice_get d.files)) (one_places h.places g.places h.once g.once (λ j. ((λ at. (g.members j).1 ((h.members j).0 at)), (λ at. (h.members j).1 ((g.members j).0 at)))))
-    ∙ sym g.are
+    let places = dedup nat_eq found.0 in (
+      filter_map (slice_get d.files) places,
+      record {
+        places = places;
+        once = IsStrictlyIncreasing-dedup found.0 found.2;
+        members = λ j. (
+          (λ at. from_targets k (contents d) j (Contains-permutation found.0 all j (IsPermutation-sym all found.0 found.1) (Contains-from_dedup nat_eq found.0 j at))),
+          (λ at. Contains-dedup_nat found.0 j (Contains-permutation all found.0 j found.1 (in_targets k (contents d) j at))),
+        );
+        are = refl;
+      },
+    )
 
 -- ---- the state of a code
 
