@@ -88,7 +88,16 @@ fn later_command_in_words(alloc: Global, command: &Command) -> Result<String, Al
         }
         Command::Withdraw { release, day, text } => {
             let (release, day) = (release.as_str(), day.as_str());
-            ["withdraw <", release, "> on <", day, "> by <", text.as_str(), ">"].concat(alloc)
+            [
+                "withdraw <",
+                release,
+                "> on <",
+                day,
+                "> by <",
+                text.as_str(),
+                ">",
+            ]
+            .concat(alloc)
         }
         Command::CloseDay { day } => ["close <", day.as_str(), ">"].concat(alloc),
         _ => String::from_str(alloc, "no request"),
