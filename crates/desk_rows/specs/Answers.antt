@@ -1,5 +1,5 @@
 -- The answer to each command and query: the first refusal that applies, else what was done. Each is a function of what is looked up.
-use Rattle.std.specs.Prelude.{ℕ, ◌+◌, ◌==◌, filter, ◌&&◌, nat_lt, nat_le, not, Bool, true, false, List, [], ◌∷◌, length, find, slice_index_or, Option, Some, None, is_some, is_none, unwrap_or, Result, Ok, Err, IsTrue, if◌then◌else◌}
+use Rattle.std.specs.Prelude.{ℕ, ◌+◌, ◌==◌, filter, ◌&&◌, ◌||◌, nat_lt, nat_le, not, Bool, true, false, List, [], ◌∷◌, length, find, slice_index_or, Option, Some, None, is_some, is_none, unwrap_or, Result, Ok, Err, IsTrue, if◌then◌else◌}
 use Rattle.std.specs.List.{list_any, filter_map}
 use Rattle.std.specs.Option.{option_map, option_map_or, option_and_then}
 use Rattle.std.specs.Result.{result_ok}
@@ -8,8 +8,10 @@ use Rattle.desk_base.specs.Day.{is_day}
 use Rattle.desk_rows.specs.Lists.{or_else}
 use Rattle.desk_rows.specs.Texts.{is_before, is_release_name, is_note}
 use Rattle.desk_rows.specs.Readings.{Readings}
-use Rattle.desk_rows.specs.Keys.{is_document, has_namespace, is_package, is_attachment}
-use Rattle.desk_rows.specs.History.{revisions, in_force, rules_in, forms_in, documents, packages, choice, profile_of, expression_in, opened, form_of, state_of, attached, attached_to}
+use Rattle.desk_rows.specs.Keys.{is_document, has_namespace, is_package, is_attachment, is_adoption_in}
+use Rattle.desk_rows.specs.History.{revisions, in_force, rules_in, forms_in, documents, packages, choice, opened, form_of, state_of, attached, attached_to}
+use Rattle.desk_rows.specs.Conclusions.{conclusions, conclusion_in, adoptions, adoption_row, licence_for, is_reference, is_plain, holder}
+use Rattle.desk_rows.specs.Tables.{release_rows, choices}
 use Rattle.desk_rows.specs.declared.row.Owed.{Owed}
 use Rattle.desk_rows.specs.Raised.{shipped, rule_adopted, chosen_in, owed_at, raised, numbered}
 use Rattle.desk_rows.specs.Moves.{duty_at, moves, place, end_after, has_ended}
@@ -19,11 +21,14 @@ use Rattle.desk_rows.specs.declared.state.Word.TheVariants as word
 use Rattle.desk_rows.specs.declared.reading.Catalogue.{Catalogue}
 use Rattle.desk_rows.specs.declared.reading.Rule.{Rule}
 use Rattle.desk_rows.specs.declared.reading.Document.{Document}
-use Rattle.desk_base.specs.declared.profile.Profile.{Profile}
+use Rattle.desk_base.specs.declared.profile.Profile.TheVariants.{Capitals}
+use Rattle.desk_rows.specs.declared.reading.Conclusion.{Conclusion}
 use Rattle.desk_rows.specs.declared.reading.Verdict.{Verdict}
 use Rattle.desk_rows.specs.declared.reading.Verdict.TheVariants as verdict
 use Rattle.desk_rows.specs.declared.refusal.CatalogueFault.{CatalogueFault}
 use Rattle.desk_rows.specs.declared.refusal.DocumentFault.{DocumentFault}
+use Rattle.desk_rows.specs.declared.refusal.ExpressionFault.{ExpressionFault}
+use Rattle.desk_rows.specs.declared.row.AdoptionRow.{AdoptionRow}
 use Rattle.desk_rows.specs.declared.refusal.Limit.TheVariants as limit
 use Rattle.desk_rows.specs.declared.refusal.Refusal.{Refusal}
 use Rattle.desk_rows.specs.declared.refusal.Refusal.TheVariants as why
@@ -36,7 +41,7 @@ use Rattle.desk_rows.specs.declared.state.DutyState.TheVariants as stands
 use Rattle.desk_rows.specs.declared.command.Answer.{Answer}
 use Rattle.desk_rows.specs.declared.command.Answer.TheVariants as answered
 use Rattle.desk_rows.specs.declared.command.Command.{Command}
-use Rattle.desk_rows.specs.declared.command.Command.TheVariants.{LoadCatalogue, Import, OpenRelease, Attach, Choose, Unchoose, Freeze, Meet, Waive, Reopen, Withdraw, CloseDay}
+use Rattle.desk_rows.specs.declared.command.Command.TheVariants.{LoadCatalogue, Import, OpenRelease, Attach, Choose, Unchoose, Freeze, Meet, Waive, Reopen, Withdraw, CloseDay, Conclude, Adopt}
 
 -- the refusal, or the answer where there is none
 abbrev pub refused_or : Option Refusal → Answer → Answer
@@ -102,35 +107,34 @@ judged terms (verdict.Superfluous i) = answered.Refused (why.NotMinimal (slice_i
 judged terms verdict.Minimal = answered.Done
 
 -- the terms for a package of an open release: no conclusion, else the verdict on them
-abbrev pub choose_for : Readings → List (List ℕ) → Profile → PackageRow → Answer
-choose_for w terms profile p =
-    option_map_or (λ text. judged terms (w.verdict profile text terms)) (expression_in w profile p.concluded)
-    (answered.Refused (why.NoConclusion p.document p.id))
+abbrev pub choose_for : Readings → List (List ℕ) → Option Conclusion → PackageRow → Answer
+choose_for w terms conclusion p =
+    option_map_or (λ c. judged terms (w.verdict c.profile c.text terms)) conclusion (answered.Refused (why.NoConclusion p.document p.id))
 
 -- a release that isn't open, a document that isn't attached or a package that isn't shipped
-abbrev pub choose_shipped : Readings → List (List ℕ) → Bool → Profile → ReleaseState → PackageRow → Answer
-choose_shipped w terms is_attached profile state p =
+abbrev pub choose_shipped : Readings → List (List ℕ) → Bool → (PackageRow → Option Conclusion) → ReleaseState → PackageRow → Answer
+choose_shipped w terms is_attached conclusion state p =
     refused_or (unready state)
-    (if not (is_attached && p.shipped) then answered.Refused why.NotShipped else choose_for w terms profile p)
+    (if not (is_attached && p.shipped) then answered.Refused why.NotShipped else choose_for w terms (conclusion p) p)
 
-abbrev pub choose_package : Readings → List (List ℕ) → Bool → Profile → ReleaseState → Option PackageRow → Answer
-choose_package w terms is_attached profile state found =
-    option_map_or (choose_shipped w terms is_attached profile state) found (answered.Refused why.UnknownPackage)
+abbrev pub choose_package : Readings → List (List ℕ) → Bool → (PackageRow → Option Conclusion) → ReleaseState → Option PackageRow → Answer
+choose_package w terms is_attached conclusion state found =
+    option_map_or (choose_shipped w terms is_attached conclusion state) found (answered.Refused why.UnknownPackage)
 
-abbrev pub choose_document : Readings → List (List ℕ) → Bool → Option PackageRow → ReleaseState → Option DocumentRow → Answer
-choose_document w terms is_attached found state document =
-    option_map_or (λ row. choose_package w terms is_attached row.profile state found) document (answered.Refused why.UnknownDocument)
+abbrev pub choose_document : Readings → List (List ℕ) → Bool → (PackageRow → Option Conclusion) → Option PackageRow → ReleaseState → Option DocumentRow → Answer
+choose_document w terms is_attached conclusion found state document =
+    option_map_or (λ row. choose_package w terms is_attached conclusion state found) document (answered.Refused why.UnknownDocument)
 
 -- the release, the document, the package, the release's state, and the rest
-abbrev pub choose_terms : Readings → List (List ℕ) → Option ReleaseState → Option DocumentRow → Option PackageRow → Bool → Answer
-choose_terms w terms state document found is_attached =
-    option_map_or (λ s. choose_document w terms is_attached found s document) state (answered.Refused why.UnknownRelease)
+abbrev pub choose_terms : Readings → List (List ℕ) → Option ReleaseState → Option DocumentRow → Option PackageRow → Bool → (PackageRow → Option Conclusion) → Answer
+choose_terms w terms state document found is_attached conclusion =
+    option_map_or (λ s. choose_document w terms is_attached conclusion found s document) state (answered.Refused why.UnknownRelease)
 
 -- Choose: a text that is no term, the release, the document, the package, the release's state, and the rest
-abbrev pub choose_answer : Readings → List (List ℕ) → Option ReleaseState → Option DocumentRow → Option PackageRow → Bool → Answer
-choose_answer w texts state document found is_attached =
+abbrev pub choose_answer : Readings → List (List ℕ) → Option ReleaseState → Option DocumentRow → Option PackageRow → Bool → (PackageRow → Option Conclusion) → Answer
+choose_answer w texts state document found is_attached conclusion =
     option_map_or (λ i. answered.Refused (why.BadTerm i)) (first_bad w 0 texts)
-    (choose_terms w (filter_map w.term texts) state document found is_attached)
+    (choose_terms w (filter_map w.term texts) state document found is_attached conclusion)
 
 -- Unchoose: the release, the document, the package, the state of the release, a package without a choice
 abbrev pub unchoose_answer : ℕ → List ℕ → Option ReleaseState → Bool → Bool → List (List ℕ) → Answer
@@ -144,35 +148,44 @@ unchoose_answer d p state known found chosen = refused_first (
 
 -- Freeze's walk over the shipped packages: the first that fails
 
+-- a reference of the document without adoption
+abbrev pub unadopted : Readings → List AdoptionRow → ℕ → List ℕ → Option Refusal
+unadopted w licences d term =
+    option_and_then (λ reference. unless (is_some (licence_for licences d reference)) (why.NotAdopted d reference)) (w.reference term)
+
 -- the first term without adoption
-abbrev pub first_unadopted : Readings → ℕ → List (List ℕ) → Option Refusal
-first_unadopted w d [] = None
-first_unadopted w d (t ∷ ts) = or_else (option_map (λ reference. why.NotAdopted d reference) (w.reference t)) (first_unadopted w d ts)
+abbrev pub first_unadopted : Readings → List AdoptionRow → ℕ → List (List ℕ) → Option Refusal
+first_unadopted w licences d [] = None
+first_unadopted w licences d (t ∷ ts) = or_else (unadopted w licences d t) (first_unadopted w licences d ts)
 
 -- the first term whose adopted form has no rule
-abbrev pub first_unruled : Readings → List Rule → List ℕ → PackageRow → List (List ℕ) → Option Refusal
-first_unruled w rules form p [] = None
-first_unruled w rules form p (t ∷ ts) =
-    if is_some (rule_adopted w rules form t) then first_unruled w rules form p ts else Some (why.NoRule p.document p.id t)
+abbrev pub first_unruled : Readings → List AdoptionRow → List Rule → List ℕ → PackageRow → List (List ℕ) → Option Refusal
+first_unruled w licences rules form p [] = None
+first_unruled w licences rules form p (t ∷ ts) =
+    if is_some (rule_adopted w licences rules form p.document t) then first_unruled w licences rules form p ts
+    else Some (why.NoRule p.document p.id t)
 
 abbrev pub unchosen : PackageRow → List (List ℕ) → Option Refusal
 unchosen p [] = Some (why.NoChoice p.document p.id)
 unchosen p (t ∷ ts) = None
 
-abbrev pub unconcluded : Readings → Profile → PackageRow → Option Refusal
-unconcluded w profile p = if is_some (expression_in w profile p.concluded) then None else Some (why.NoConclusion p.document p.id)
+abbrev pub unconcluded : Option Conclusion → PackageRow → Option Refusal
+unconcluded conclusion p = unless (is_some conclusion) (why.NoConclusion p.document p.id)
 
 -- no conclusion, no choice, a term without adoption
-abbrev pub unready_package : Readings → Profile → List (List ℕ) → PackageRow → Option Refusal
-unready_package w profile terms p = or_else (unconcluded w profile p) (or_else (unchosen p terms) (first_unadopted w p.document terms))
+abbrev pub unready_package : Readings → List AdoptionRow → Option Conclusion → List (List ℕ) → PackageRow → Option Refusal
+unready_package w licences conclusion terms p =
+    or_else (unconcluded conclusion p) (or_else (unchosen p terms) (first_unadopted w licences p.document terms))
 
 -- a package fails by one of these, or by a term without a rule
-abbrev pub package_fault : Readings → List Rule → List ℕ → Profile → List (List ℕ) → PackageRow → Option Refusal
-package_fault w rules form profile terms p = or_else (unready_package w profile terms p) (first_unruled w rules form p terms)
+abbrev pub package_fault : Readings → List AdoptionRow → List Rule → List ℕ → Option Conclusion → List (List ℕ) → PackageRow → Option Refusal
+package_fault w licences rules form conclusion terms p =
+    or_else (unready_package w licences conclusion terms p) (first_unruled w licences rules form p terms)
 
-abbrev pub walk : Readings → List Rule → List ℕ → (PackageRow → Profile) → (PackageRow → List (List ℕ)) → List PackageRow → Option Refusal
-walk w rules form profile chosen [] = None
-walk w rules form profile chosen (p ∷ ps) = or_else (package_fault w rules form (profile p) (chosen p) p) (walk w rules form profile chosen ps)
+abbrev pub walk : Readings → List AdoptionRow → List Rule → List ℕ → (PackageRow → Option Conclusion) → (PackageRow → List (List ℕ)) → List PackageRow → Option Refusal
+walk w licences rules form conclusion chosen [] = None
+walk w licences rules form conclusion chosen (p ∷ ps) =
+    or_else (package_fault w licences rules form (conclusion p) (chosen p) p) (walk w licences rules form conclusion chosen ps)
 
 -- nothing attached
 abbrev pub unattached : ℕ → Option Refusal
@@ -231,14 +244,33 @@ withdraw_answer day text state = refused_first (
 abbrev pub close_answer : List ℕ → ℕ → Answer
 close_answer day count = refused_first (unless (is_day day) why.BadDay ∷ []) (answered.Closed count)
 
+-- Conclude: a text that is no expression, the document, the package, a release that holds a choice for it
+abbrev pub conclude_answer : Option ExpressionFault → Bool → Bool → Option (List ℕ) → Answer
+conclude_answer fault known found held_by = refused_first (
+    option_map (λ f. why.BadExpression f) fault
+    ∷ unless known why.UnknownDocument
+    ∷ unless found why.UnknownPackage
+    ∷ option_map (λ r. why.Chosen r) held_by
+    ∷ []) answered.Done
+
+-- Adopt: a text that is no reference alone, one that is no licence alone, the document, one more adoption than 10,000
+abbrev pub adopt_answer : Bool → Bool → Bool → Bool → ℕ → Answer
+adopt_answer reference licence known already count = refused_first (
+    unless reference (why.BadTerm 0)
+    ∷ unless licence (why.BadTerm 1)
+    ∷ unless known why.UnknownDocument
+    ∷ unless (already || nat_lt count 10000) (why.Full limit.Adoptions)
+    ∷ []) answered.Done
+
 -- Over a history
 
 -- the state of a release, if it was opened
 abbrev pub release_state : List Command → List ℕ → Option ReleaseState
 release_state h r = option_map (λ form. state_of h r) (form_of h r)
 
-abbrev pub profile_in : List DocumentRow → PackageRow → Profile
-profile_in rows p = profile_of (find (is_document p.document) rows)
+-- the conclusion in force for a package
+abbrev pub conclusion : Readings → List Command → PackageRow → Option Conclusion
+conclusion w h = conclusion_in w (documents w h) (conclusions h)
 
 abbrev pub state_or_open : Option ReleaseState → ReleaseState
 state_or_open state = unwrap_or state release.IsOpen
@@ -258,14 +290,21 @@ answer w h (LoadCatalogue text) = load_answer (w.catalogue text) (length (revisi
 answer w h (Import bytes profile) = import_answer (w.document bytes) bytes (documents w h)
 answer w h (OpenRelease r form) = open_answer r form (forms_in (in_force w h)) (is_some (form_of h r)) (length (opened h))
 answer w h (Attach r d) = attach_answer (release_state h r) (is_some (find (is_document d) (documents w h))) (list_any (is_attachment r d) (attached h)) (length (attached_to (attached h) r))
-answer w h (Choose r d p texts) = choose_answer w texts (release_state h r) (find (is_document d) (documents w h)) (find (is_package d p) (packages w h)) (list_any (is_attachment r d) (attached h))
+answer w h (Choose r d p texts) = choose_answer w texts (release_state h r) (find (is_document d) (documents w h)) (find (is_package d p) (packages w h)) (list_any (is_attachment r d) (attached h)) (conclusion w h)
 answer w h (Freeze r day) =
     let form = unwrap_or (form_of h r) [] in
     freeze_answer day (release_state h r) (length (attached_to (attached h) r))
-    (walk w (rules_in (in_force w h)) form (profile_in (documents w h)) (chosen_in w h r) (shipped w h r))
+    (walk w (adoptions w h) (rules_in (in_force w h)) form (conclusion w h) (chosen_in w h r) (shipped w h r))
     (length (raised w h)) (length (owed_at w h r))
 answer w h (Unchoose r d p) =
     unchoose_answer d p (release_state h r) (is_some (find (is_document d) (documents w h))) (is_some (find (is_package d p) (packages w h))) (choice w h r d p)
+answer w h (Conclude d p text) =
+    conclude_answer (w.expression_fault Capitals text) (is_some (find (is_document d) (documents w h))) (is_some (find (is_package d p) (packages w h)))
+    (holder (release_rows h) (choices w h) d p)
+answer w h (Adopt d reference licence) =
+    let row = adoption_row w d reference licence in
+    adopt_answer (is_reference w reference) (is_plain w licence) (is_some (find (is_document d) (documents w h)))
+    (is_some (licence_for (adoptions w h) d row.reference)) (length (filter (is_adoption_in d) (adoptions w h)))
 answer w h (Meet q day text) = moved_answer w h word.Met q day text None
 answer w h (Waive q day text until) = moved_answer w h word.Waived q day text until
 answer w h (Reopen q day text) = moved_answer w h word.Reopened q day text None
@@ -288,6 +327,8 @@ refused_alone w (Waive q day text until) = refused_by day text until
 refused_alone w (Reopen q day text) = refused_by day text None
 refused_alone w (Withdraw r day text) = refused_by day text None
 refused_alone w (CloseDay day) = not (is_day day)
+refused_alone w (Conclude d p text) = is_some (w.expression_fault Capitals text)
+refused_alone w (Adopt d reference licence) = not (is_reference w reference && is_plain w licence)
 refused_alone w _ = false
 
 -- a command is recorded where it is neither refused nor answered Again

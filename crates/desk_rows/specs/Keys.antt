@@ -9,6 +9,8 @@ use Rattle.desk_rows.specs.declared.reading.Rule.{Rule}
 use Rattle.desk_rows.specs.declared.row.RuleRow.{RuleRow}
 use Rattle.desk_rows.specs.declared.row.DocumentRow.{DocumentRow}
 use Rattle.desk_rows.specs.declared.row.PackageRow.{PackageRow}
+use Rattle.desk_rows.specs.declared.row.ConclusionRow.{ConclusionRow}
+use Rattle.desk_rows.specs.declared.row.AdoptionRow.{AdoptionRow}
 use Rattle.desk_rows.specs.declared.row.ReleaseRow.{ReleaseRow}
 use Rattle.desk_rows.specs.declared.row.AttachedRow.{AttachedRow}
 use Rattle.desk_rows.specs.declared.row.ChoiceRow.{ChoiceRow}
@@ -35,6 +37,12 @@ abbrev pub frozen_order : FrozenRow → FrozenRow → Ordering
 frozen_order =
     then_cmp (on (λ row. row.release) (slice_cmp nat_cmp)) (then_cmp (on (λ row. row.document) nat_cmp)
     (then_cmp (on (λ row. row.package_id) (slice_cmp nat_cmp)) (on (λ row. row.term) (slice_cmp nat_cmp))))
+
+abbrev pub conclusion_order : ConclusionRow → ConclusionRow → Ordering
+conclusion_order = then_cmp (on (λ row. row.document) nat_cmp) (on (λ row. row.package_id) (slice_cmp nat_cmp))
+
+abbrev pub adoption_order : AdoptionRow → AdoptionRow → Ordering
+adoption_order = then_cmp (on (λ row. row.document) nat_cmp) (on (λ row. row.reference) (slice_cmp nat_cmp))
 
 abbrev pub change_below : ChangeRow → ChangeRow → Bool
 change_below a b = nat_lt a.duty b.duty || ((a.duty == b.duty) && nat_lt a.step b.step)
@@ -65,6 +73,15 @@ is_attached_to release row = bytes_eq row.release release
 
 abbrev pub is_attachment : List ℕ → ℕ → AttachedRow → Bool
 is_attachment release document row = bytes_eq row.release release && (row.document == document)
+
+abbrev pub is_conclusion : ℕ → List ℕ → ConclusionRow → Bool
+is_conclusion document id row = (row.document == document) && bytes_eq row.package_id id
+
+abbrev pub is_adoption : ℕ → List ℕ → AdoptionRow → Bool
+is_adoption document reference row = (row.document == document) && bytes_eq row.reference reference
+
+abbrev pub is_adoption_in : ℕ → AdoptionRow → Bool
+is_adoption_in document row = row.document == document
 
 abbrev pub is_choice_of : List ℕ → ℕ → List ℕ → ChoiceRow → Bool
 is_choice_of release document id row = bytes_eq row.release release && (row.document == document) && bytes_eq row.package_id id

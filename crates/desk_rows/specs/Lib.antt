@@ -3,6 +3,7 @@ pub mod Texts
 pub mod Readings
 pub mod Keys
 pub mod History
+pub mod Conclusions
 pub mod Raised
 pub mod Moves
 pub mod Tables

@@ -1,5 +1,5 @@
 -- Words on lists. A history has its newest command first.
-use Rattle.std.specs.Prelude.{◌≡◌, ◌⊎◌, Bool, List, [], ◌∷◌, Option, Some, None, if◌then◌else◌}
+use Rattle.std.specs.Prelude.{◌≡◌, ◌⊎◌, Bool, not, filter, List, [], ◌∷◌, Option, Some, None, if◌then◌else◌}
 
 -- the first of two that is there
 abbrev pub or_else : {B : Type 0} → Option B → Option B → Option B
@@ -20,6 +20,10 @@ put below x (y ∷ ys) = if below x y then x ∷ y ∷ ys else y ∷ put below x
 abbrev pub put_all : {A : Type 0} → (A → A → Bool) → List A → List A → List A
 put_all below [] ys = ys
 put_all below (x ∷ xs) ys = put below x (put_all below xs ys)
+
+-- x in its place in a sorted list, instead of what stands at its key
+abbrev pub replaced : {A : Type 0} → (A → A → Bool) → (A → Bool) → A → List A → List A
+replaced below at x xs = put below x (filter (λ y. not (at y)) xs)
 
 -- sorted by insertion
 abbrev pub in_order : {A : Type 0} → (A → A → Bool) → List A → List A

@@ -1,12 +1,14 @@
 -- The duties that freezes raise.
-use Rattle.std.specs.Prelude.{◌≡◌, ℕ, List, [], ◌∷◌, ◌++◌, filter, map, Option, Some, None, is_some, unwrap_or, if◌then◌else◌}
+use Rattle.std.specs.Prelude.{◌≡◌, ℕ, List, [], ◌∷◌, ◌++◌, filter, map, Option, Some, None, unwrap_or}
 use Rattle.std.specs.List.{flat_map, enumerate_from}
 use Rattle.std.specs.Option.{option_and_then}
 use Rattle.desk_rows.specs.Lists.{IsIn}
 use Rattle.desk_rows.specs.Readings.{Readings}
 use Rattle.desk_rows.specs.Keys.{is_shipped_by}
 use Rattle.desk_rows.specs.History.{in_force, rules_in, rule_for, packages, form_of, attached, attached_to, choice}
+use Rattle.desk_rows.specs.Conclusions.{adopted, adoptions}
 use Rattle.desk_rows.specs.declared.reading.Rule.{Rule}
+use Rattle.desk_rows.specs.declared.row.AdoptionRow.{AdoptionRow}
 use Rattle.desk_rows.specs.declared.row.Owed.{Owed}
 use Rattle.desk_rows.specs.declared.row.PackageRow.{PackageRow}
 use Rattle.desk_rows.specs.declared.row.AttachedRow.{AttachedRow}
@@ -21,13 +23,9 @@ shipped_of rows all = flat_map (λ row. filter (is_shipped_by row.document) all)
 abbrev pub shipped : Readings → List Command → List ℕ → List PackageRow
 shipped w h r = shipped_of (attached_to (attached h) r) (packages w h)
 
--- the form in which a term is looked up in the catalogue: none for a reference, since nothing adopts one yet
-abbrev pub adopted : Readings → List ℕ → Option (List ℕ)
-adopted w term = if is_some (w.reference term) then None else Some term
-
--- the rule for the adopted form of a term
-abbrev pub rule_adopted : Readings → List Rule → List ℕ → List ℕ → Option Rule
-rule_adopted w rules form term = option_and_then (λ t. rule_for rules t form) (adopted w term)
+-- the rule for the adopted form of a term of a document
+abbrev pub rule_adopted : Readings → List AdoptionRow → List Rule → List ℕ → ℕ → List ℕ → Option Rule
+rule_adopted w licences rules form d term = option_and_then (λ t. rule_for rules t form) (adopted w licences d term)
 
 -- a code that a term of a package owes under a rule
 abbrev pub owed_code : List ℕ → PackageRow → List ℕ → Rule → List ℕ → Owed
@@ -38,19 +36,19 @@ abbrev pub owed_under : List ℕ → PackageRow → List ℕ → Option Rule →
 owed_under r p term None = []
 owed_under r p term (Some rule) = map (owed_code r p term rule) rule.codes
 
-abbrev pub owed_for_terms : Readings → List Rule → List ℕ → List ℕ → PackageRow → List (List ℕ) → List Owed
-owed_for_terms w rules form r p terms = flat_map (λ term. owed_under r p term (rule_adopted w rules form term)) terms
+abbrev pub owed_for_terms : Readings → List AdoptionRow → List Rule → List ℕ → List ℕ → PackageRow → List (List ℕ) → List Owed
+owed_for_terms w licences rules form r p terms = flat_map (λ term. owed_under r p term (rule_adopted w licences rules form p.document term)) terms
 
 -- what a release owes for its packages and the terms chosen for each, by document, package, term and code
-abbrev pub owed_for : Readings → List Rule → List ℕ → List ℕ → (PackageRow → List (List ℕ)) → List PackageRow → List Owed
-owed_for w rules form r chosen ps = flat_map (λ p. owed_for_terms w rules form r p (chosen p)) ps
+abbrev pub owed_for : Readings → List AdoptionRow → List Rule → List ℕ → List ℕ → (PackageRow → List (List ℕ)) → List PackageRow → List Owed
+owed_for w licences rules form r chosen ps = flat_map (λ p. owed_for_terms w licences rules form r p (chosen p)) ps
 
 abbrev pub chosen_in : Readings → List Command → List ℕ → PackageRow → List (List ℕ)
 chosen_in w h r p = choice w h r p.document p.id
 
 -- what a freeze of the release after these commands raises
 abbrev pub owed_at : Readings → List Command → List ℕ → List Owed
-owed_at w h r = owed_for w (rules_in (in_force w h)) (unwrap_or (form_of h r) []) r (chosen_in w h r) (shipped w h r)
+owed_at w h r = owed_for w (adoptions w h) (rules_in (in_force w h)) (unwrap_or (form_of h r) []) r (chosen_in w h r) (shipped w h r)
 
 -- all duties, each freeze's after those of the freezes before it
 abbrev pub raised : Readings → List Command → List Owed
@@ -70,14 +68,14 @@ abbrev pub frozen_under : List ℕ → PackageRow → List ℕ → Option Rule �
 frozen_under r p term None = []
 frozen_under r p term (Some rule) = frozen_term r p term rule ∷ []
 
-abbrev pub frozen_for_terms : Readings → List Rule → List ℕ → List ℕ → PackageRow → List (List ℕ) → List FrozenRow
-frozen_for_terms w rules form r p terms = flat_map (λ term. frozen_under r p term (rule_adopted w rules form term)) terms
+abbrev pub frozen_for_terms : Readings → List AdoptionRow → List Rule → List ℕ → List ℕ → PackageRow → List (List ℕ) → List FrozenRow
+frozen_for_terms w licences rules form r p terms = flat_map (λ term. frozen_under r p term (rule_adopted w licences rules form p.document term)) terms
 
-abbrev pub frozen_for : Readings → List Rule → List ℕ → List ℕ → (PackageRow → List (List ℕ)) → List PackageRow → List FrozenRow
-frozen_for w rules form r chosen ps = flat_map (λ p. frozen_for_terms w rules form r p (chosen p)) ps
+abbrev pub frozen_for : Readings → List AdoptionRow → List Rule → List ℕ → List ℕ → (PackageRow → List (List ℕ)) → List PackageRow → List FrozenRow
+frozen_for w licences rules form r chosen ps = flat_map (λ p. frozen_for_terms w licences rules form r p (chosen p)) ps
 
 abbrev pub frozen_at : Readings → List Command → List ℕ → List FrozenRow
-frozen_at w h r = frozen_for w (rules_in (in_force w h)) (unwrap_or (form_of h r) []) r (chosen_in w h r) (shipped w h r)
+frozen_at w h r = frozen_for w (adoptions w h) (rules_in (in_force w h)) (unwrap_or (form_of h r) []) r (chosen_in w h r) (shipped w h r)
 
 -- the terms that releases were frozen with
 abbrev pub frozen : Readings → List Command → List FrozenRow
@@ -98,6 +96,6 @@ pub record IsRaised (w : Readings) (h : List Command) (d : Owed) : Type 0 where
   pub document : d.document ≡ row.document
   pub package_id : d.package_id ≡ row.id
   pub chosen : IsIn d.term (choice w before d.release row.document row.id)
-  pub owes : rule_adopted w (rules_in (in_force w before)) (unwrap_or (form_of before d.release) []) d.term ≡ Some rule
+  pub owes : rule_adopted w (adoptions w before) (rules_in (in_force w before)) (unwrap_or (form_of before d.release) []) d.document d.term ≡ Some rule
   pub code : IsIn d.code rule.codes
   pub spelled : d.rule ≡ rule.spelled

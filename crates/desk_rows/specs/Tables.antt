@@ -1,9 +1,10 @@
 -- The desk's tables: what stands in them after a history, and what each change of rows leaves.
 use Rattle.std.specs.Prelude.{ℕ, Bool, not, List, [], ◌∷◌, ◌++◌, filter, map}
-use Rattle.desk_rows.specs.Lists.{put, put_all, updated, in_order}
+use Rattle.desk_rows.specs.Lists.{put, put_all, updated, replaced, in_order}
 use Rattle.desk_rows.specs.Readings.{Readings}
-use Rattle.desk_rows.specs.Keys.{release_below, choice_order, frozen_order, change_below, below_by, attached_order, is_release, is_duty, is_choice_of, is_choice_in}
+use Rattle.desk_rows.specs.Keys.{release_below, choice_order, frozen_order, change_below, below_by, attached_order, conclusion_order, adoption_order, is_release, is_duty, is_choice_of, is_choice_in, is_conclusion, is_adoption}
 use Rattle.desk_rows.specs.History.{revisions, in_force, forms_in, rule_rows, documents, packages, references, opened, names, place_in, form_of, state_of, revision_of, attached, term_set}
+use Rattle.desk_rows.specs.Conclusions.{conclusions, adoptions}
 use Rattle.desk_rows.specs.Raised.{frozen}
 use Rattle.desk_rows.specs.Moves.{duties, all_changes}
 use Rattle.desk_rows.specs.States.{state_after}
@@ -75,6 +76,10 @@ standing w (Unchoose r d p ∷ h) = filter (is_other_choice r d p) (standing w h
 standing w (Withdraw r day text ∷ h) = filter (is_choice_elsewhere r) (standing w h)
 standing w (_ ∷ h) = standing w h
 
+-- the choices that stand, by release, document, package and term
+abbrev pub choices : Readings → List Command → List ChoiceRow
+choices w h = in_order (below_by choice_order) (standing w h)
+
 abbrev pub tables : Readings → List Command → Tables
 tables w h = record {
   catalogue = revisions h;
@@ -83,11 +88,11 @@ tables w h = record {
   document = documents w h;
   packages = packages w h;
   extracted = references w h;
-  conclusion = [];
-  adoption = [];
+  conclusion = conclusions h;
+  adoption = adoptions w h;
   releases = release_rows h;
   attached = attached h;
-  choice = in_order (below_by choice_order) (standing w h);
+  choice = choices w h;
   frozen = in_order (below_by frozen_order) (frozen w h);
   duty = duties w h;
   changes = all_changes w h;
@@ -134,3 +139,5 @@ applied (change.Withdrew r moved) t = record t {
   duty = moved_by moved t.duty;
   changes = put_all change_below moved t.changes;
 }
+applied (change.Concluded row) t = record t { conclusion = replaced (below_by conclusion_order) (is_conclusion row.document row.package_id) row t.conclusion }
+applied (change.Adopted row) t = record t { adoption = replaced (below_by adoption_order) (is_adoption row.document row.reference) row t.adoption }

@@ -3,8 +3,8 @@
 use crate::reading::Profile;
 use crate::refusal::Refusal;
 use crate::row::{
-    AttachedRow, CatalogueRow, ChangeRow, ChoiceRow, DocumentRow, DutyRow, ExtractedRow, FrozenRow,
-    PackageRow, ReleaseRow, RuleRow,
+    AdoptionRow, AttachedRow, CatalogueRow, ChangeRow, ChoiceRow, ConclusionRow, DocumentRow,
+    DutyRow, ExtractedRow, FrozenRow, PackageRow, ReleaseRow, RuleRow,
 };
 use crate::state::DutyState;
 use desk_base::{Day, Items, Text};
@@ -69,6 +69,18 @@ pub enum Command {
     /// The waivers that ended before a day end on it.
     CloseDay {
         day: Text,
+    },
+    /// The office's conclusion for a package, in place of an earlier one.
+    Conclude {
+        document: u64,
+        package_id: Text,
+        expression: Text,
+    },
+    /// A reference of a document is adopted as a licence, in place of an earlier one.
+    Adopt {
+        document: u64,
+        reference: Text,
+        licence: Text,
     },
 }
 
@@ -164,6 +176,10 @@ pub enum Change {
         release: Text,
         changes: Items<ChangeRow>,
     },
+    /// The office's conclusion for a package, in place of an earlier one.
+    Concluded(ConclusionRow),
+    /// The licence of a document's reference, in place of an earlier one.
+    Adopted(AdoptionRow),
 }
 
 /// What a command comes to, decided before anything is written.

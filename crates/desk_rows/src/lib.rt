@@ -13,7 +13,7 @@ pub mod state;
 pub use command::{
     Answer, Change, Command, DutyLine, Fault, Outcome, Plan, Query, StoreFault, Totals,
 };
-pub use reading::{Catalogue, Document, Package, Profile, Reference, Rule, Verdict};
+pub use reading::{Catalogue, Conclusion, Document, Package, Profile, Reference, Rule, Verdict};
 pub use refusal::{CatalogueFault, CataloguePart, DocumentFault, ExpressionFault, Limit, Refusal};
 pub use row::{
     AdoptionRow, AttachedRow, CatalogueRow, ChangeRow, ChoiceRow, ConclusionRow, DocumentRow,

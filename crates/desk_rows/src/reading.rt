@@ -55,6 +55,13 @@ pub struct Document {
     pub references: Items<Reference>,
 }
 
+/// The licence expression that is concluded for a package, as it was written, and the profile that it is read by.
+#[derive(Debug, Drop)]
+pub struct Conclusion {
+    pub profile: Profile,
+    pub text: Text,
+}
+
 /// What a list of terms is to a licence expression.
 #[derive(Clone, Copy, Debug, PartialEq, Eq)]
 pub enum Verdict {
