@@ -10,15 +10,16 @@ use Rattle.std.proofs.lemmas.Bool.Decides.{nat_tests}
 use Rattle.desk_rows.specs.Lists.{put_all, in_order, updated}
 use Rattle.desk_rows.specs.Readings.{Readings}
 use Rattle.desk_rows.specs.Keys.{is_release, below_by, frozen_order}
-use Rattle.desk_rows.specs.History.{revisions, in_force, rules_in, documents, attached, attached_to, names, form_of, state_of}
+use Rattle.desk_rows.specs.History.{revisions, in_force, rules_in, attached, attached_to, names, form_of, state_of}
 use Rattle.desk_rows.specs.declared.row.Owed.{Owed}
+use Rattle.desk_rows.specs.Conclusions.{adoptions}
 use Rattle.desk_rows.specs.Raised.{raised, owed_at, owed_for, numbered, shipped, chosen_in, frozen, frozen_at, frozen_for}
 use Rattle.desk_rows.specs.declared.row.Move.{Move}
 use Rattle.desk_rows.specs.Moves.{duties, duty_row, changes, moves, place, move_by, raises, duty_at, is_raised_for, all_changes}
 use Rattle.desk_rows.specs.declared.state.Word.TheVariants as word
 use Rattle.desk_history.proofs.Moving.{in_range, known_at}
 use Rattle.desk_rows.specs.Tables.{tables, release_row, with_release_state}
-use Rattle.desk_rows.specs.Answers.{answer, freeze_answer, walk, profile_in}
+use Rattle.desk_rows.specs.Answers.{answer, freeze_answer, walk, conclusion}
 use Rattle.desk_history.specs.FromTables.{answer_from, rules_found, form_found, choice_found, owed_found, frozen_found, new_duty, raised_row, new_duties}
 use Rattle.desk_history.proofs.Rows.{updated-map, text_tells, texts_turned, in_order-append, map-map}
 use Rattle.desk_history.proofs.Lookups.{state-found, form-found, rules-found}
@@ -33,21 +34,21 @@ use Rattle.desk_rows.specs.declared.command.Command.TheVariants.{Freeze, Meet, W
 
 pub owed-found : (w : Readings) (h : List Command) (r : List ℕ) → owed_found w (tables w h) r ≡ owed_at w h r
 owed-found w h r =
-    ap (λ rules. owed_for w rules (form_found (tables w h) r) r (choice_found (tables w h) r) (shipped w h r)) (rules-found w h)
-    ∙ (ap (λ form. owed_for w (rules_in (in_force w h)) form r (choice_found (tables w h) r) (shipped w h r)) (form-found w h r)
-    ∙ ap (λ chosen. owed_for w (rules_in (in_force w h)) (unwrap_or (form_of h r) []) r chosen (shipped w h r)) (choice-found w h r))
+    ap (λ rules. owed_for w (adoptions w h) rules (form_found (tables w h) r) r (choice_found (tables w h) r) (shipped w h r)) (rules-found w h)
+    ∙ (ap (λ form. owed_for w (adoptions w h) (rules_in (in_force w h)) form r (choice_found (tables w h) r) (shipped w h r)) (form-found w h r)
+    ∙ ap (λ chosen. owed_for w (adoptions w h) (rules_in (in_force w h)) (unwrap_or (form_of h r) []) r chosen (shipped w h r)) (choice-found w h r))
 
 pub frozen-found : (w : Readings) (h : List Command) (r : List ℕ) → frozen_found w (tables w h) r ≡ frozen_at w h r
 frozen-found w h r =
-    ap (λ rules. frozen_for w rules (form_found (tables w h) r) r (choice_found (tables w h) r) (shipped w h r)) (rules-found w h)
-    ∙ (ap (λ form. frozen_for w (rules_in (in_force w h)) form r (choice_found (tables w h) r) (shipped w h r)) (form-found w h r)
-    ∙ ap (λ chosen. frozen_for w (rules_in (in_force w h)) (unwrap_or (form_of h r) []) r chosen (shipped w h r)) (choice-found w h r))
+    ap (λ rules. frozen_for w (adoptions w h) rules (form_found (tables w h) r) r (choice_found (tables w h) r) (shipped w h r)) (rules-found w h)
+    ∙ (ap (λ form. frozen_for w (adoptions w h) (rules_in (in_force w h)) form r (choice_found (tables w h) r) (shipped w h r)) (form-found w h r)
+    ∙ ap (λ chosen. frozen_for w (adoptions w h) (rules_in (in_force w h)) (unwrap_or (form_of h r) []) r chosen (shipped w h r)) (choice-found w h r))
 
-walk-found : (w : Readings) (h : List Command) (r : List ℕ) → walk w (rules_found (tables w h)) (form_found (tables w h) r) (profile_in (documents w h)) (choice_found (tables w h) r) (shipped w h r) ≡ walk w (rules_in (in_force w h)) (unwrap_or (form_of h r) []) (profile_in (documents w h)) (chosen_in w h r) (shipped w h r)
+walk-found : (w : Readings) (h : List Command) (r : List ℕ) → walk w (adoptions w h) (rules_found (tables w h)) (form_found (tables w h) r) (conclusion w h) (choice_found (tables w h) r) (shipped w h r) ≡ walk w (adoptions w h) (rules_in (in_force w h)) (unwrap_or (form_of h r) []) (conclusion w h) (chosen_in w h r) (shipped w h r)
 walk-found w h r =
-    ap (λ rules. walk w rules (form_found (tables w h) r) (profile_in (documents w h)) (choice_found (tables w h) r) (shipped w h r)) (rules-found w h)
-    ∙ (ap (λ form. walk w (rules_in (in_force w h)) form (profile_in (documents w h)) (choice_found (tables w h) r) (shipped w h r)) (form-found w h r)
-    ∙ ap (λ chosen. walk w (rules_in (in_force w h)) (unwrap_or (form_of h r) []) (profile_in (documents w h)) chosen (shipped w h r)) (choice-found w h r))
+    ap (λ rules. walk w (adoptions w h) rules (form_found (tables w h) r) (conclusion w h) (choice_found (tables w h) r) (shipped w h r)) (rules-found w h)
+    ∙ (ap (λ form. walk w (adoptions w h) (rules_in (in_force w h)) form (conclusion w h) (choice_found (tables w h) r) (shipped w h r)) (form-found w h r)
+    ∙ ap (λ chosen. walk w (adoptions w h) (rules_in (in_force w h)) (unwrap_or (form_of h r) []) (conclusion w h) chosen (shipped w h r)) (choice-found w h r))
 
 length-numbered : {A : Type 0} (n : ℕ) (xs : List A) → length (enumerate_from n xs) ≡ length xs
 length-numbered n [] = refl
@@ -58,10 +59,10 @@ length-duties w h = length-map (numbered w h) (λ d. duty_row (place w h d.0) d)
 
 pub freeze-answer : (w : Readings) (h : List Command) (r day : List ℕ) → answer_from w (tables w h) (Freeze r day) ≡ answer w h (Freeze r day)
 freeze-answer w h r day =
-    ap (λ s. freeze_answer day s (length (attached_to (attached h) r)) (walk w (rules_found (tables w h)) (form_found (tables w h) r) (profile_in (documents w h)) (choice_found (tables w h) r) (shipped w h r)) (length (duties w h)) (length (owed_found w (tables w h) r))) (state-found w h r)
+    ap (λ s. freeze_answer day s (length (attached_to (attached h) r)) (walk w (adoptions w h) (rules_found (tables w h)) (form_found (tables w h) r) (conclusion w h) (choice_found (tables w h) r) (shipped w h r)) (length (duties w h)) (length (owed_found w (tables w h) r))) (state-found w h r)
     ∙ (ap (λ f. freeze_answer day (option_map (λ form. state_of h r) (form_of h r)) (length (attached_to (attached h) r)) f (length (duties w h)) (length (owed_found w (tables w h) r))) (walk-found w h r)
-    ∙ (ap (λ n. freeze_answer day (option_map (λ form. state_of h r) (form_of h r)) (length (attached_to (attached h) r)) (walk w (rules_in (in_force w h)) (unwrap_or (form_of h r) []) (profile_in (documents w h)) (chosen_in w h r) (shipped w h r)) n (length (owed_found w (tables w h) r))) (length-duties w h)
-    ∙ ap (λ xs. freeze_answer day (option_map (λ form. state_of h r) (form_of h r)) (length (attached_to (attached h) r)) (walk w (rules_in (in_force w h)) (unwrap_or (form_of h r) []) (profile_in (documents w h)) (chosen_in w h r) (shipped w h r)) (length (raised w h)) (length xs)) (owed-found w h r)))
+    ∙ (ap (λ n. freeze_answer day (option_map (λ form. state_of h r) (form_of h r)) (length (attached_to (attached h) r)) (walk w (adoptions w h) (rules_in (in_force w h)) (unwrap_or (form_of h r) []) (conclusion w h) (chosen_in w h r) (shipped w h r)) n (length (owed_found w (tables w h) r))) (length-duties w h)
+    ∙ ap (λ xs. freeze_answer day (option_map (λ form. state_of h r) (form_of h r)) (length (attached_to (attached h) r)) (walk w (adoptions w h) (rules_in (in_force w h)) (unwrap_or (form_of h r) []) (conclusion w h) (chosen_in w h r) (shipped w h r)) (length (raised w h)) (length xs)) (owed-found w h r)))
 
 -- Duties that are not raised yet don't move
 

@@ -1,6 +1,6 @@
 -- What is held for a package is a minimal set for its conclusion now, and what a release was frozen with was so at its freeze.
 use Rattle.std.proofs.Common.{◌≡◌, ℕ, ◌+◌, Bool, true, false, List, [], ◌∷◌, ◌++◌, length, map, Option, Some, None, sym, refl, ap, ◌∙◌, subst, inl, inr}
-use Rattle.std.specs.Prelude.{find, IsTrue, if◌then◌else◌, unwrap_or}
+use Rattle.std.specs.Prelude.{find, is_some, IsTrue, if◌then◌else◌, unwrap_or}
 use Rattle.std.specs.List.{filter_map}
 use Rattle.std.specs.Option.{option_or}
 use Rattle.std.specs.Result.{result_ok}
@@ -8,7 +8,10 @@ use Rattle.std.proofs.lemmas.List.Folds.{find-append}
 use Rattle.desk_rows.specs.Lists.{latest, or_else, IsIn}
 use Rattle.std.specs.Str.{bytes_eq}
 use Rattle.desk_rows.specs.Readings.{Readings}
-use Rattle.desk_rows.specs.Keys.{is_document, is_package}
+use Rattle.desk_rows.specs.Keys.{is_document, is_package, is_conclusion}
+use Rattle.desk_rows.specs.Conclusions.{adoptions, conclusion_row, text_given}
+use Rattle.desk_history.proofs.Concluding.{key_number, key_text}
+use Rattle.desk_history.proofs.Holding.{conclusion_stays, unheld}
 use Rattle.desk_rows.specs.History.{choice, documents, form_of, in_force, namespace_in, package_row, packages, packages_in, rules_in, is_package_of, term_set, terms_given}
 use Rattle.desk_rows.specs.Raised.{chosen_in, frozen, frozen_at, frozen_for_terms, frozen_under, rule_adopted, shipped}
 use Rattle.desk_rows.specs.Answers.{answer, is_recorded, IsHistory}
@@ -21,7 +24,7 @@ use Rattle.desk_rows.specs.declared.row.DocumentRow.{DocumentRow}
 use Rattle.desk_rows.specs.declared.row.FrozenRow.{FrozenRow}
 use Rattle.desk_rows.specs.declared.row.PackageRow.{PackageRow}
 use Rattle.desk_rows.specs.declared.command.Command.{Command}
-use Rattle.desk_rows.specs.declared.command.Command.TheVariants.{Import, Choose, Unchoose, Freeze, Withdraw}
+use Rattle.desk_rows.specs.declared.command.Command.TheVariants.{Import, Choose, Unchoose, Freeze, Withdraw, Conclude}
 
 -- what is found stays found when more comes behind it
 found_before : {A : Type 0} (test : A → Bool) (xs ys : List A) (x : A) → find test xs ≡ Some x → find test (xs ++ ys) ≡ Some x
@@ -37,15 +40,15 @@ package_stays w (Import bytes profile) h d p row e =
     found_before (is_package d p) (packages w h) (map (package_row (length (documents w h) + 1)) (packages_in (result_ok (w.document bytes)))) row e
 package_stays w c h d p row e = e
 
-held_later : (w : Readings) (c : Command) (h : List Command) (d : ℕ) (p : List ℕ) (terms : List (List ℕ)) → IsHeldMinimal w h d p terms → IsHeldMinimal w (c ∷ h) d p terms
-held_later w c h d p terms is = record {
+held_later : (w : Readings) (c : Command) (h : List Command) (d : ℕ) (p : List ℕ) (terms : List (List ℕ)) → is_some (text_given d p c) ≡ false → IsHeldMinimal w h d p terms → IsHeldMinimal w (c ∷ h) d p terms
+held_later w c h d p terms silent is = record {
   document = is.document;
   row = is.row;
-  expression = is.expression;
+  concluded = is.concluded;
   listed = is.listed;
   of = document_stays w c h d is.document is.of;
   has = package_stays w c h d p is.row is.has;
-  concludes = is.concludes;
+  concludes = conclusion_stays w c h d p is.document is.row is.of (document_stays w c h d is.document is.of) is.has silent ∙ is.concludes;
   set = is.set;
   minimal = is.minimal;
 }
@@ -60,7 +63,7 @@ held_step w h r p r' p' d d' texts terms true same recorded before e =
     record {
       document = is.document;
       row = is.row;
-      expression = is.expression;
+      concluded = is.concluded;
       listed = filter_map w.term texts;
       of = subst (λ (n : ℕ). find (is_document n) (documents w h) ≡ Some is.document) key.document is.of;
       has = subst (λ (n : ℕ). find (is_package n p) (packages w h) ≡ Some is.row) key.document
@@ -72,17 +75,27 @@ held_step w h r p r' p' d d' texts terms true same recorded before e =
   where
     inner : (x y : List (List ℕ)) → Some x ≡ Some y → x ≡ y
     inner x y e = cc
-held_step w h r p r' p' d d' texts terms false same recorded before e = held_later w (Choose r' d' p' texts) h d p terms (before e)
+held_step w h r p r' p' d d' texts terms false same recorded before e = held_later w (Choose r' d' p' texts) h d p terms refl (before e)
 
 -- no choice any more
 none_held : (terms : List (List ℕ)) → Some [] ≡ Some terms → terms ≡ []
 none_held [] e = refl
 none_held (t ∷ ts) e = cc
 
-dropped : (w : Readings) (c : Command) (h : List Command) (d : ℕ) (p : List ℕ) (terms : List (List ℕ)) (b : Bool) (o : Option (List (List ℕ))) → (o ≡ Some terms → IsHeldMinimal w h d p terms)
+dropped : (w : Readings) (c : Command) (h : List Command) (d : ℕ) (p : List ℕ) (terms : List (List ℕ)) → is_some (text_given d p c) ≡ false → (b : Bool) (o : Option (List (List ℕ))) → (o ≡ Some terms → IsHeldMinimal w h d p terms)
     → or_else (if b then Some [] else None) o ≡ Some terms → (terms ≡ [] → ⊥) → IsHeldMinimal w (c ∷ h) d p terms
-dropped w c h d p terms true o before e some = absurd (some (none_held terms e))
-dropped w c h d p terms false o before e some = held_later w c h d p terms (before e)
+dropped w c h d p terms silent true o before e some = absurd (some (none_held terms e))
+dropped w c h d p terms silent false o before e some = held_later w c h d p terms silent (before e)
+
+-- a conclusion for another package; for this one none is recorded
+held_past : (w : Readings) (h : List Command) (r p p' text : List ℕ) (d d' : ℕ) (terms : List (List ℕ)) (b : Bool) → is_conclusion d p (conclusion_row d' p' text) ≡ b → IsHistory w (Conclude d' p' text ∷ h)
+    → latest (terms_given w r d p) h ≡ Some terms → (terms ≡ [] → ⊥) → IsHeldMinimal w h d p terms → IsHeldMinimal w (Conclude d' p' text ∷ h) d p terms
+held_past w h r p p' text d d' terms false other ok e some is = held_later w (Conclude d' p' text) h d p terms (ap (λ b. is_some (if b then Some text else None)) other) is
+held_past w h r p p' text d d' [] true same ok e some is = absurd (some refl)
+held_past w h r p p' text d d' (t ∷ ts) true same ok e some is =
+    let held : choice w h r d p ≡ t ∷ ts = ap (λ o. unwrap_or o []) e in
+    let there : choice w h r d' p' ≡ t ∷ ts = subst (λ n. choice w h r n p' ≡ t ∷ ts) (sym (key_number d d' p p' same)) (subst (λ q. choice w h r d q ≡ t ∷ ts) (sym (key_text d d' p p' same)) held) in
+    absurd (unheld w h d' p' text r t ts ok.1 ok.0 there)
 
 -- the last terms that were chosen
 pub held_is_minimal : (w : Readings) (h : List Command) (r : List ℕ) (d : ℕ) (p : List ℕ) (terms : List (List ℕ)) → IsHistory w h → latest (terms_given w r d p) h ≡ Some terms → (terms ≡ [] → ⊥) → IsHeldMinimal w h d p terms
@@ -90,10 +103,12 @@ held_is_minimal w [] r d p terms ok e some = cc
 held_is_minimal w (Choose r' d' p' texts ∷ h) r d p terms ok e some =
     held_step w h r p r' p' d d' texts terms (is_package_of r d p r' d' p') refl ok.0 (λ before. held_is_minimal w h r d p terms ok.1 before some) e
 held_is_minimal w (Unchoose r' d' p' ∷ h) r d p terms ok e some =
-    dropped w (Unchoose r' d' p') h d p terms (is_package_of r d p r' d' p') (latest (terms_given w r d p) h) (λ before. held_is_minimal w h r d p terms ok.1 before some) e some
+    dropped w (Unchoose r' d' p') h d p terms refl (is_package_of r d p r' d' p') (latest (terms_given w r d p) h) (λ before. held_is_minimal w h r d p terms ok.1 before some) e some
 held_is_minimal w (Withdraw r' day text ∷ h) r d p terms ok e some =
-    dropped w (Withdraw r' day text) h d p terms (bytes_eq r' r) (latest (terms_given w r d p) h) (λ before. held_is_minimal w h r d p terms ok.1 before some) e some
-held_is_minimal w (c ∷ h) r d p terms ok e some = held_later w c h d p terms (held_is_minimal w h r d p terms ok.1 e some)
+    dropped w (Withdraw r' day text) h d p terms refl (bytes_eq r' r) (latest (terms_given w r d p) h) (λ before. held_is_minimal w h r d p terms ok.1 before some) e some
+held_is_minimal w (Conclude d' p' text ∷ h) r d p terms ok e some =
+    held_past w h r p p' text d d' terms (is_conclusion d p (conclusion_row d' p' text)) refl ok e some (held_is_minimal w h r d p terms ok.1 e some)
+held_is_minimal w (c ∷ h) r d p terms ok e some = held_later w c h d p terms refl (held_is_minimal w h r d p terms ok.1 e some)
 
 choice_by : (w : Readings) (h : List Command) (d : ℕ) (p : List ℕ) (o : Option (List (List ℕ))) → ((terms : List (List ℕ)) → o ≡ Some terms → (terms ≡ [] → ⊥) → IsHeldMinimal w h d p terms)
     → (unwrap_or o [] ≡ [] → ⊥) → IsHeldMinimal w h d p (unwrap_or o [])
@@ -122,7 +137,7 @@ later_frozen w c h f is = record {
 }
 
 frozen_by_rule : (w : Readings) (h : List Command) (r day : List ℕ) (f : FrozenRow) (p : PackageRow) (term : List ℕ) (o : Option Rule) → IsIn p (shipped w h r) → IsIn term (choice w h r p.document p.id)
-    → rule_adopted w (rules_in (in_force w h)) (unwrap_or (form_of h r) []) term ≡ o → IsIn f (frozen_under r p term o) → IsFrozenTerm w (Freeze r day ∷ h) f
+    → rule_adopted w (adoptions w h) (rules_in (in_force w h)) (unwrap_or (form_of h r) []) p.document term ≡ o → IsIn f (frozen_under r p term o) → IsFrozenTerm w (Freeze r day ∷ h) f
 frozen_by_rule w h r day f p term None ships chosen e m = absurd m
 frozen_by_rule w h r day f p term (Some rule) ships chosen e m = elim m [
   | inl is ↦ subst (IsFrozenTerm w (Freeze r day ∷ h)) is (record {
@@ -144,11 +159,12 @@ frozen_by_rule w h r day f p term (Some rule) ships chosen e m = elim m [
 
 frozen_by_freeze : (w : Readings) (h : List Command) (r day : List ℕ) (f : FrozenRow) → IsIn f (frozen_at w h r) → IsFrozenTerm w (Freeze r day ∷ h) f
 frozen_by_freeze w h r day f m =
+    let licences = adoptions w h in
     let rules = rules_in (in_force w h) in
     let form = unwrap_or (form_of h r) [] in
-    let p = from_flat_map (λ (p : PackageRow). frozen_for_terms w rules form r p (chosen_in w h r p)) f (shipped w h r) m in
-    let t = from_flat_map (λ (term : List ℕ). frozen_under r p.0 term (rule_adopted w rules form term)) f (chosen_in w h r p.0) p.2 in
-    frozen_by_rule w h r day f p.0 t.0 (rule_adopted w rules form t.0) p.1 t.1 refl t.2
+    let p = from_flat_map (λ (p : PackageRow). frozen_for_terms w licences rules form r p (chosen_in w h r p)) f (shipped w h r) m in
+    let t = from_flat_map (λ (term : List ℕ). frozen_under r p.0 term (rule_adopted w licences rules form p.0.document term)) f (chosen_in w h r p.0) p.2 in
+    frozen_by_rule w h r day f p.0 t.0 (rule_adopted w licences rules form p.0.document t.0) p.1 t.1 refl t.2
 
 pub frozen_in : (w : Readings) (h : List Command) (f : FrozenRow) → IsIn f (frozen w h) → IsFrozenTerm w h f
 frozen_in w [] f m = absurd m

@@ -3,7 +3,9 @@ mod Orders
 mod Same
 pub mod Lookups
 mod Chosen
+mod Concluding
 mod Opening
+mod Holding
 mod Moving
 mod Withdrawing
 mod Freezing

@@ -9,10 +9,11 @@ use Rattle.desk_rows.specs.Lists.{latest, or_else, put}
 use Rattle.desk_rows.specs.Texts.{text_below, is_release_name, is_note}
 use Rattle.desk_rows.specs.Readings.{Readings}
 use Rattle.desk_rows.specs.Keys.{release_below}
+use Rattle.desk_rows.specs.Conclusions.{adoptions}
 use Rattle.desk_rows.specs.Raised.{shipped, chosen_in, raised, owed_at}
 use Rattle.desk_rows.specs.History.{in_force, rules_in, documents, attached, attached_to, opened, names, form_of, state_given, state_of, revision_of}
 use Rattle.desk_rows.specs.Tables.{release_row}
-use Rattle.desk_rows.specs.Answers.{IsHistory, is_recorded, release_state, open_answer, freeze_answer, walk, profile_in, refused_or, unless, withdraw_answer}
+use Rattle.desk_rows.specs.Answers.{IsHistory, is_recorded, release_state, open_answer, freeze_answer, walk, conclusion, refused_or, unless, withdraw_answer}
 use Rattle.desk_rows.specs.declared.command.Answer.{Answer}
 use Rattle.desk_history.proofs.Rows.{map-put, map_others, text_tells, same_text, texts_turned}
 use Rattle.desk_history.proofs.Lookups.{names-form, length-releases}
@@ -36,7 +37,7 @@ frozen_open day None count fault old new h =
     (elim (is_day day) as (λ b. IsTrue (is_recorded (if not b then answered.Refused why.BadDay else answered.Refused why.UnknownRelease)) → false ≡ true) [ true ↦ λ e. cc | false ↦ λ e. cc ]) h
 
 -- a withdrawal only of one that was opened
-refused_still : (o : Option Refusal) (a : Answer) → is_recorded a ≡ false → is_recorded (refused_or o a) ≡ false
+pub refused_still : (o : Option Refusal) (a : Answer) → is_recorded a ≡ false → is_recorded (refused_or o a) ≡ false
 refused_still None a e = e
 refused_still (Some r) a e = refl
 
@@ -50,7 +51,7 @@ or_else_rest : {B : Type 0} (o p : Option B) → is_some (or_else o p) ≡ false
 or_else_rest None p h = h
 or_else_rest (Some x) p h = cc
 
-is_some-map : {A B : Type 0} (f : A → B) (o : Option A) → is_some (option_map f o) ≡ is_some o
+pub is_some-map : {A B : Type 0} (f : A → B) (o : Option A) → is_some (option_map f o) ≡ is_some o
 is_some-map f None = refl
 is_some-map f (Some x) = refl
 
@@ -68,7 +69,7 @@ untouched w [] r ok none = record { state = refl; revision = refl }
 untouched w (OpenRelease r' f ∷ h) r ok none = let u = untouched w h r ok.1 (or_else_rest (if bytes_eq r' r then Some f else None) (form_of h r) none) in record { state = u.state; revision = u.revision }
 untouched w (Freeze r' day ∷ h) r ok none =
     let u = untouched w h r ok.1 none in
-    let e : bytes_eq r' r ≡ false = another h r r' (frozen_open day (release_state h r') (length (attached_to (attached h) r')) (walk w (rules_in (in_force w h)) (unwrap_or (form_of h r') []) (profile_in (documents w h)) (chosen_in w h r') (shipped w h r')) (length (raised w h)) (length (owed_at w h r')) ok.0) none in
+    let e : bytes_eq r' r ≡ false = another h r r' (frozen_open day (release_state h r') (length (attached_to (attached h) r')) (walk w (adoptions w h) (rules_in (in_force w h)) (unwrap_or (form_of h r') []) (conclusion w h) (chosen_in w h r') (shipped w h r')) (length (raised w h)) (length (owed_at w h r')) ok.0) none in
     record { state = rw e u.state; revision = rw e u.revision }
 untouched w (Withdraw r' day text ∷ h) r ok none =
     let u = untouched w h r ok.1 none in

@@ -15,9 +15,10 @@ use Rattle.desk_rows.specs.Texts.{text_below}
 use Rattle.desk_rows.specs.Readings.{Readings}
 use Rattle.desk_rows.specs.Keys.{is_shipped_by, is_attached_to, is_attachment, below_by, attached_order, is_rule, is_document}
 use Rattle.desk_rows.specs.History.{loaded, namespace_in, in_force, rules_in, rule_for, documents, packages, packages_in, package_row, form_of, state_of, state_given, attached, attached_to}
-use Rattle.desk_rows.specs.Raised.{raised, owed_at, owed_for_terms, owed_under, owed_code, rule_adopted, adopted, shipped, chosen_in}
+use Rattle.desk_rows.specs.Conclusions.{adopted, adoptions}
+use Rattle.desk_rows.specs.Raised.{raised, owed_at, owed_for_terms, owed_under, owed_code, rule_adopted, shipped, chosen_in}
 use Rattle.desk_rows.specs.Moves.{duties, duty_row, place}
-use Rattle.desk_rows.specs.Answers.{is_recorded, IsHistory, attach_answer, freeze_open, refused_or, unready, release_state, walk, profile_in}
+use Rattle.desk_rows.specs.Answers.{is_recorded, IsHistory, attach_answer, freeze_open, refused_or, unready, release_state, walk, conclusion}
 use Rattle.desk_history.specs.Laws.{AreDistinct, ListsOnce, key_of}
 use Rattle.desk_history.proofs.Rows.{same_text, texts_equal, map-map}
 use Rattle.desk_history.proofs.Orders.{under, and_left, and_right}
@@ -94,10 +95,10 @@ distinct-codes r p term rule a =
     subst AreDistinct (sym (map-map owed_key (owed_code r p term rule) rule.codes))
     (distinct-map (λ (code : List ℕ). owed_key (owed_code r p term rule code)) rule.codes (λ x y m n e. ap (λ (k : Key). k.4) e) a)
 
-distinct-under : (w : Readings) → ListsOnce w → (h : List Command) (r : List ℕ) (p : PackageRow) (term form : List ℕ) (o : Option Rule) → rule_adopted w (rules_in (in_force w h)) form term ≡ o → AreDistinct (map owed_key (owed_under r p term o))
+distinct-under : (w : Readings) → ListsOnce w → (h : List Command) (r : List ℕ) (p : PackageRow) (term form : List ℕ) (o : Option Rule) → rule_adopted w (adoptions w h) (rules_in (in_force w h)) form p.document term ≡ o → AreDistinct (map owed_key (owed_under r p term o))
 distinct-under w once h r p term form None e = tt
 distinct-under w once h r p term form (Some rule) e =
-    distinct-codes r p term rule (codes_in w once rule (latest loaded h) (rule_in (rules_in (in_force w h)) form rule (adopted w term) e))
+    distinct-codes r p term rule (codes_in w once rule (latest loaded h) (rule_in (rules_in (in_force w h)) form rule (adopted w (adoptions w h) p.document term) e))
 
 -- Packages: their documents and ids are different
 
@@ -118,21 +119,21 @@ same_place d p e f =
     let pair : ℕ → List ℕ → ℕ × List ℕ = λ n id. (n, id) in
     ap (λ n. pair n d.package_id) e ∙ ap (λ id. pair p.document id) f
 
-key_for_terms : (w : Readings) (h : List Command) (r form : List ℕ) (p : PackageRow) (d : Owed) → IsIn d (owed_for_terms w (rules_in (in_force w h)) form r p (chosen_in w h r p)) → (d.release ≡ r) × (package_of (owed_key d) ≡ place_of p)
+key_for_terms : (w : Readings) (h : List Command) (r form : List ℕ) (p : PackageRow) (d : Owed) → IsIn d (owed_for_terms w (adoptions w h) (rules_in (in_force w h)) form r p (chosen_in w h r p)) → (d.release ≡ r) × (package_of (owed_key d) ≡ place_of p)
 key_for_terms w h r form p d m =
     let rules = rules_in (in_force w h) in
-    let t = from_flat_map (λ (term : List ℕ). owed_under r p term (rule_adopted w rules form term)) d (chosen_in w h r p) m in
-    let key = key_under r p t.0 (rule_adopted w rules form t.0) d t.2 in
+    let t = from_flat_map (λ (term : List ℕ). owed_under r p term (rule_adopted w (adoptions w h) rules form p.document term)) d (chosen_in w h r p) m in
+    let key = key_under r p t.0 (rule_adopted w (adoptions w h) rules form p.document t.0) d t.2 in
     (key.0, same_place d p key.1 key.2)
 
-distinct-terms : (w : Readings) → ListsOnce w → (h : List Command) (r form : List ℕ) (p : PackageRow) → AreDistinct (map owed_key (owed_for_terms w (rules_in (in_force w h)) form r p (chosen_in w h r p)))
+distinct-terms : (w : Readings) → ListsOnce w → (h : List Command) (r form : List ℕ) (p : PackageRow) → AreDistinct (map owed_key (owed_for_terms w (adoptions w h) (rules_in (in_force w h)) form r p (chosen_in w h r p)))
 distinct-terms w once h r form p =
     let rules = rules_in (in_force w h) in
     let terms = chosen_in w h r p in
-    distinct-flat_map (λ (term : List ℕ). owed_under r p term (rule_adopted w rules form term)) owed_key (λ (k : Key). k.3) (λ (term : List ℕ). term) terms
-    (λ term d m. (key_under r p term (rule_adopted w rules form term) d m).3)
+    distinct-flat_map (λ (term : List ℕ). owed_under r p term (rule_adopted w (adoptions w h) rules form p.document term)) owed_key (λ (k : Key). k.3) (λ (term : List ℕ). term) terms
+    (λ term d m. (key_under r p term (rule_adopted w (adoptions w h) rules form p.document term) d m).3)
     (distinct-map (λ (term : List ℕ). term) terms (λ x y m n e. e) (distinct-rises terms (rises-choice w h r p.document p.id)))
-    (λ term m. distinct-under w once h r p term form (rule_adopted w rules form term) refl)
+    (λ term m. distinct-under w once h r p term form (rule_adopted w (adoptions w h) rules form p.document term) refl)
 
 -- a package belongs to a document that was imported
 belongs : (w : Readings) (h : List Command) (p : PackageRow) → IsIn p (packages w h) → p.document ≤ length (documents w h)
@@ -235,7 +236,7 @@ distinct-owed : (w : Readings) → ListsOnce w → (h : List Command) (r : List 
 distinct-owed w once h r ok =
     let rules = rules_in (in_force w h) in
     let form = unwrap_or (form_of h r) [] in
-    distinct-flat_map (λ (p : PackageRow). owed_for_terms w rules form r p (chosen_in w h r p)) owed_key package_of place_of (shipped w h r)
+    distinct-flat_map (λ (p : PackageRow). owed_for_terms w (adoptions w h) rules form r p (chosen_in w h r p)) owed_key package_of place_of (shipped w h r)
     (λ p d m. (key_for_terms w h r form p d m).1)
     (distinct-shipped w once h r ok)
     (λ p m. distinct-terms w once h r form p)
@@ -244,7 +245,7 @@ owed_release : (w : Readings) (h : List Command) (r : List ℕ) (d : Owed) → I
 owed_release w h r d m =
     let rules = rules_in (in_force w h) in
     let form = unwrap_or (form_of h r) [] in
-    let p = from_flat_map (λ (p : PackageRow). owed_for_terms w rules form r p (chosen_in w h r p)) d (shipped w h r) m in
+    let p = from_flat_map (λ (p : PackageRow). owed_for_terms w (adoptions w h) rules form r p (chosen_in w h r p)) d (shipped w h r) m in
     (key_for_terms w h r form p.0 d p.2).0
 
 closed_now : (r' r : List ℕ) (o : Option ReleaseState) → r' ≡ r → unwrap_or (or_else (if bytes_eq r' r then Some Frozen else None) o) IsOpen ≢ IsOpen
@@ -279,7 +280,7 @@ open_on true s (Some form) count fault old new e = open_by s count fault old new
 pub distinct-raised : (w : Readings) → ListsOnce w → (h : List Command) → IsHistory w h → AreDistinct (map owed_key (raised w h))
 distinct-raised w once [] ok = tt
 distinct-raised w once (Freeze r day ∷ h) ok =
-    let here : state_of h r ≡ IsOpen = open_on (is_day day) (state_of h r) (form_of h r) (length (attached_to (attached h) r)) (walk w (rules_in (in_force w h)) (unwrap_or (form_of h r) []) (profile_in (documents w h)) (chosen_in w h r) (shipped w h r)) (length (raised w h)) (length (owed_at w h r)) ok.0 in
+    let here : state_of h r ≡ IsOpen = open_on (is_day day) (state_of h r) (form_of h r) (length (attached_to (attached h) r)) (walk w (adoptions w h) (rules_in (in_force w h)) (unwrap_or (form_of h r) []) (conclusion w h) (chosen_in w h r) (shipped w h r)) (length (raised w h)) (length (owed_at w h r)) ok.0 in
     let apart : (k : Key) → IsIn k (map owed_key (raised w h)) → IsIn k (map owed_key (owed_at w h r)) → ⊥ =
     λ k a b. (let old = from_map owed_key k (raised w h) a in
     let new = from_map owed_key k (owed_at w h r) b in

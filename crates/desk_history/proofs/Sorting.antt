@@ -8,8 +8,10 @@ use Rattle.std.proofs.lemmas.Cmp.{on_total, then_total, nat_list_cmp_total, nat_
 use Rattle.desk_rows.specs.Lists.{IsIn, in_order}
 use Rattle.desk_rows.specs.Readings.{Readings}
 use Rattle.desk_rows.specs.Texts.{text_below}
-use Rattle.desk_rows.specs.Keys.{below_by, release_below, attached_order, choice_order, frozen_order, change_below}
+use Rattle.desk_rows.specs.Keys.{below_by, release_below, attached_order, choice_order, frozen_order, change_below, conclusion_order, adoption_order}
 use Rattle.desk_rows.specs.History.{revisions, documents, names, opened, namespace_in, attachment}
+use Rattle.desk_rows.specs.Conclusions.{conclusions, adoptions}
+use Rattle.desk_history.proofs.Concluding.{ascends_conclusions, ascends_adoptions}
 use Rattle.desk_rows.specs.Raised.{raised, frozen}
 use Rattle.desk_rows.specs.declared.row.Move.{Move}
 use Rattle.desk_rows.specs.Moves.{duty_row, place, moves, changes, change_row, change_rows}
@@ -171,6 +173,8 @@ pub sorted : (w : Readings) (h : List Command) → AreSorted (tables w h)
 sorted w h = record {
   catalogue = sorted_revisions h;
   document = sorted_documents w h;
+  conclusion = each_ascends (below_by conclusion_order) (conclusions h) (ascends_conclusions h);
+  adoption = each_ascends (below_by adoption_order) (adoptions w h) (ascends_adoptions w h);
   releases = ascends_map (release_row h) text_below release_below (λ a b. refl) (names h) (ordered text_below (order_of nat_list_cmp_total) (opened h));
   attached = ordered (below_by attached_order) attached_is_order (filter_map attachment h);
   choice = ordered (below_by choice_order) choice_is_order (standing w h);

@@ -10,7 +10,7 @@ use Rattle.desk_rows.specs.declared.row.Move.{Move}
 use Rattle.desk_rows.specs.Moves.{duties, all_changes}
 use Rattle.desk_rows.specs.declared.state.Word.TheVariants as word
 use Rattle.desk_rows.specs.Tables.{Tables, tables, applied, standing, choice_row, is_other_choice, is_choice_elsewhere}
-use Rattle.desk_rows.specs.Answers.{answer, IsHistory, is_recorded, noted, open_answer, attach_answer, choose_answer, unchoose_answer, withdraw_answer, close_answer, moved_answer, release_state}
+use Rattle.desk_rows.specs.Answers.{answer, IsHistory, is_recorded, noted, open_answer, attach_answer, choose_answer, unchoose_answer, withdraw_answer, close_answer, moved_answer, release_state, conclusion}
 use Rattle.desk_history.specs.FromTables.{answer_from, change_for, rows_noted, raised_row, terms_found}
 use Rattle.desk_history.proofs.Same.{same_tables}
 use Rattle.desk_history.proofs.Rows.{in_order-append}
@@ -22,7 +22,7 @@ use Rattle.desk_history.proofs.Moving.{move-answer, recorded_known, named-duties
 use Rattle.desk_history.proofs.Withdrawing.{withdrawn-releases, withdrawn-duties, withdrawn-changes, ended-duties, ended-changes, ended-count}
 use Rattle.desk_history.proofs.Chosen.{terms-found}
 use Rattle.desk_rows.specs.declared.command.Command.{Command}
-use Rattle.desk_rows.specs.declared.command.Command.TheVariants.{LoadCatalogue, Import, OpenRelease, Attach, Choose, Unchoose, Freeze, Meet, Waive, Reopen, Withdraw, CloseDay}
+use Rattle.desk_rows.specs.declared.command.Command.TheVariants.{LoadCatalogue, Import, OpenRelease, Attach, Choose, Unchoose, Freeze, Meet, Waive, Reopen, Withdraw, CloseDay, Conclude, Adopt}
 
 open-answer : (w : Readings) (h : List Command) (r f : List ℕ) → answer_from w (tables w h) (OpenRelease r f) ≡ answer w h (OpenRelease r f)
 open-answer w h r f =
@@ -34,7 +34,7 @@ step-answer w h (LoadCatalogue text) = refl
 step-answer w h (Import bytes profile) = refl
 step-answer w h (OpenRelease r f) = open-answer w h r f
 step-answer w h (Attach r d) = ap (λ s. attach_answer s (is_some (find (is_document d) (documents w h))) (list_any (is_attachment r d) (attached h)) (length (attached_to (attached h) r))) (state-found w h r)
-step-answer w h (Choose r d p texts) = ap (λ s. choose_answer w texts s (find (is_document d) (documents w h)) (find (is_package d p) (packages w h)) (list_any (is_attachment r d) (attached h))) (state-found w h r)
+step-answer w h (Choose r d p texts) = ap (λ s. choose_answer w texts s (find (is_document d) (documents w h)) (find (is_package d p) (packages w h)) (list_any (is_attachment r d) (attached h)) (conclusion w h)) (state-found w h r)
 step-answer w h (Freeze r day) = freeze-answer w h r day
 step-answer w h (Unchoose r d p) =
     ap (λ s. unchoose_answer d p s (is_some (find (is_document d) (documents w h))) (is_some (find (is_package d p) (packages w h))) (terms_found (tables w h) r d p)) (state-found w h r)
@@ -44,6 +44,8 @@ step-answer w h (Waive q day text until) = move-answer w h word.Waived q day tex
 step-answer w h (Reopen q day text) = move-answer w h word.Reopened q day text None
 step-answer w h (Withdraw r day text) = ap (withdraw_answer day text) (state-found w h r)
 step-answer w h (CloseDay day) = ap (close_answer day) (ended-count w h day)
+step-answer w h (Conclude d p text) = refl
+step-answer w h (Adopt d reference licence) = refl
 
 open-rows : (w : Readings) (h : List Command) (r f : List ℕ) → IsHistory w h → IsTrue (is_recorded (answer w h (OpenRelease r f))) → tables w (OpenRelease r f ∷ h) ≡ applied (change_for w (tables w h) (OpenRelease r f)) (tables w h)
 open-rows w h r f ok recorded =
@@ -112,6 +114,8 @@ recorded-rows w h (Waive q day text until) ok kept = waive-rows w h q day text u
 recorded-rows w h (Reopen q day text) ok kept = reopen-rows w h q day text kept
 recorded-rows w h (Withdraw r day text) ok kept = withdraw-rows w h r day text
 recorded-rows w h (CloseDay day) ok kept = close-rows w h day
+recorded-rows w h (Conclude d p text) ok kept = refl
+recorded-rows w h (Adopt d reference licence) ok kept = refl
 
 noted_rows : (w : Readings) (h : List Command) (c : Command) (b : Bool) → (b ≡ true → tables w (c ∷ h) ≡ applied (change_for w (tables w h) c) (tables w h)) → tables w (if b then c ∷ h else h) ≡ (if b then applied (change_for w (tables w h) c) (tables w h) else tables w h)
 noted_rows w h c true same = same refl

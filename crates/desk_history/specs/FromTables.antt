@@ -4,8 +4,9 @@ use Rattle.std.specs.List.{list_any, enumerate_from, last_or}
 use Rattle.std.specs.Option.{option_map, option_map_or, option_and_then}
 use Rattle.std.specs.Result.{result_ok}
 use Rattle.desk_rows.specs.Readings.{Readings}
-use Rattle.desk_rows.specs.Keys.{is_document, is_package, is_release, is_attachment, is_choice_of, is_duty, is_duty_of, is_change_of, is_rule_of}
+use Rattle.desk_rows.specs.Keys.{is_document, is_package, is_release, is_attachment, is_choice_of, is_duty, is_duty_of, is_change_of, is_rule_of, is_adoption_in}
 use Rattle.desk_rows.specs.History.{rules_in, forms_in, rule_row, namespace_in, packages_in, references_in, package_row, extracted_row, attached_to, term_set}
+use Rattle.desk_rows.specs.Conclusions.{conclusion_in, conclusion_row, adoption_row, licence_for, is_reference, is_plain, holder}
 use Rattle.desk_rows.specs.declared.row.Owed.{Owed}
 use Rattle.desk_rows.specs.Raised.{shipped_of, owed_for, frozen_for}
 use Rattle.desk_rows.specs.declared.row.Move.{Move}
@@ -14,11 +15,13 @@ use Rattle.desk_rows.specs.States.{is_met}
 use Rattle.desk_rows.specs.declared.row.Standing.{Standing}
 use Rattle.desk_rows.specs.declared.state.Word.{Word}
 use Rattle.desk_rows.specs.Tables.{Tables, applied, choice_row}
-use Rattle.desk_rows.specs.Answers.{load_answer, import_answer, open_answer, attach_answer, choose_answer, freeze_answer, freeze_open, unchoose_answer, move_answer, withdraw_answer, close_answer, walk, profile_in, is_recorded}
+use Rattle.desk_rows.specs.Answers.{load_answer, import_answer, open_answer, attach_answer, choose_answer, freeze_answer, freeze_open, unchoose_answer, move_answer, withdraw_answer, close_answer, conclude_answer, adopt_answer, walk, is_recorded}
 use Rattle.desk_rows.specs.Queries.{duty_line, totals_of}
 use Rattle.desk_rows.specs.declared.reading.Catalogue.{Catalogue}
 use Rattle.desk_rows.specs.declared.reading.Document.{Document}
 use Rattle.desk_base.specs.declared.profile.Profile.{Profile}
+use Rattle.desk_base.specs.declared.profile.Profile.TheVariants.{Capitals}
+use Rattle.desk_rows.specs.declared.reading.Conclusion.{Conclusion}
 use Rattle.desk_rows.specs.declared.reading.Rule.{Rule}
 use Rattle.desk_rows.specs.declared.refusal.Refusal.TheVariants as why
 use Rattle.std.specs.Str.{bytes_eq}
@@ -38,7 +41,7 @@ use Rattle.desk_rows.specs.declared.command.Answer.TheVariants as answered
 use Rattle.desk_rows.specs.declared.command.Change.{Change}
 use Rattle.desk_rows.specs.declared.command.Change.TheVariants as change
 use Rattle.desk_rows.specs.declared.command.Command.{Command}
-use Rattle.desk_rows.specs.declared.command.Command.TheVariants.{LoadCatalogue, Import, OpenRelease, Attach, Choose, Unchoose, Freeze, Meet, Waive, Reopen, Withdraw, CloseDay}
+use Rattle.desk_rows.specs.declared.command.Command.TheVariants.{LoadCatalogue, Import, OpenRelease, Attach, Choose, Unchoose, Freeze, Meet, Waive, Reopen, Withdraw, CloseDay, Conclude, Adopt}
 use Rattle.desk_rows.specs.declared.command.DutyLine.{DutyLine}
 use Rattle.desk_rows.specs.declared.command.Query.{Query}
 use Rattle.desk_rows.specs.declared.command.Query.TheVariants as query
@@ -60,6 +63,18 @@ rule_of row = record { term = row.term; form = row.form; spelled = row.spelled; 
 -- the rules of the catalogue in force
 abbrev pub rules_found : Tables → List Rule
 rules_found t = map rule_of (filter (is_rule_of (length t.catalogue)) t.rule)
+
+-- the conclusion in force for a package
+abbrev pub conclusion_found : Readings → Tables → PackageRow → Option Conclusion
+conclusion_found w t = conclusion_in w t.document t.conclusion
+
+-- the first opened release that holds a choice for a package
+abbrev pub holder_found : Tables → ℕ → List ℕ → Option (List ℕ)
+holder_found t d p = holder t.releases t.choice d p
+
+-- how many references of a document are adopted
+abbrev pub adoption_count : Tables → ℕ → ℕ
+adoption_count t d = length (filter (is_adoption_in d) t.adoption)
 
 abbrev pub terms_found : Tables → List ℕ → ℕ → List ℕ → List (List ℕ)
 terms_found t r d p = map (λ row. row.term) (filter (is_choice_of r d p) t.choice)
@@ -105,10 +120,10 @@ is_unmet s = not (is_met s.state)
 
 -- what a freeze raises
 abbrev pub owed_found : Readings → Tables → List ℕ → List Owed
-owed_found w t r = owed_for w (rules_found t) (form_found t r) r (choice_found t r) (shipped_found t r)
+owed_found w t r = owed_for w t.adoption (rules_found t) (form_found t r) r (choice_found t r) (shipped_found t r)
 
 abbrev pub frozen_found : Readings → Tables → List ℕ → List FrozenRow
-frozen_found w t r = frozen_for w (rules_found t) (form_found t r) r (choice_found t r) (shipped_found t r)
+frozen_found w t r = frozen_for w t.adoption (rules_found t) (form_found t r) r (choice_found t r) (shipped_found t r)
 
 abbrev pub moved_found : Tables → Word → ℕ → List ℕ → List ℕ → Option (List ℕ) → Answer
 moved_found t word q day text until =
@@ -120,13 +135,18 @@ answer_from w t (LoadCatalogue text) = load_answer (w.catalogue text) (length t.
 answer_from w t (Import bytes profile) = import_answer (w.document bytes) bytes t.document
 answer_from w t (OpenRelease r form) = open_answer r form t.forms (is_some (release_found t r)) (length t.releases)
 answer_from w t (Attach r d) = attach_answer (state_found t r) (is_some (find (is_document d) t.document)) (list_any (is_attachment r d) t.attached) (length (attached_to t.attached r))
-answer_from w t (Choose r d p texts) = choose_answer w texts (state_found t r) (find (is_document d) t.document) (find (is_package d p) t.packages) (list_any (is_attachment r d) t.attached)
+answer_from w t (Choose r d p texts) = choose_answer w texts (state_found t r) (find (is_document d) t.document) (find (is_package d p) t.packages) (list_any (is_attachment r d) t.attached) (conclusion_found w t)
 answer_from w t (Freeze r day) =
     freeze_answer day (state_found t r) (length (attached_to t.attached r))
-    (walk w (rules_found t) (form_found t r) (profile_in t.document) (choice_found t r) (shipped_found t r))
+    (walk w t.adoption (rules_found t) (form_found t r) (conclusion_found w t) (choice_found t r) (shipped_found t r))
     (length t.duty) (length (owed_found w t r))
 answer_from w t (Unchoose r d p) =
     unchoose_answer d p (state_found t r) (is_some (find (is_document d) t.document)) (is_some (find (is_package d p) t.packages)) (terms_found t r d p)
+answer_from w t (Conclude d p text) =
+    conclude_answer (w.expression_fault Capitals text) (is_some (find (is_document d) t.document)) (is_some (find (is_package d p) t.packages)) (holder_found t d p)
+answer_from w t (Adopt d reference licence) =
+    let row = adoption_row w d reference licence in
+    adopt_answer (is_reference w reference) (is_plain w licence) (is_some (find (is_document d) t.document)) (is_some (licence_for t.adoption d row.reference)) (adoption_count t d)
 answer_from w t (Meet q day text) = moved_found t word.Met q day text None
 answer_from w t (Waive q day text until) = moved_found t word.Waived q day text until
 answer_from w t (Reopen q day text) = moved_found t word.Reopened q day text None
@@ -175,12 +195,12 @@ froze_as t r day rows owed = froze_change t r day rows (map new_duty (enumerate_
 -- the freeze of an open release with this form
 abbrev pub freeze_open_found : Readings → Tables → List ℕ → List ℕ → Answer
 freeze_open_found w t r form =
-    freeze_open (length (attached_to t.attached r)) (walk w (rules_found t) form (profile_in t.document) (choice_found t r) (shipped_found t r))
-    (length t.duty) (length (owed_for w (rules_found t) form r (choice_found t r) (shipped_found t r)))
+    freeze_open (length (attached_to t.attached r)) (walk w t.adoption (rules_found t) form (conclusion_found w t) (choice_found t r) (shipped_found t r))
+    (length t.duty) (length (owed_for w t.adoption (rules_found t) form r (choice_found t r) (shipped_found t r)))
 
 abbrev pub freeze_change_found : Readings → Tables → List ℕ → List ℕ → List ℕ → Change
 freeze_change_found w t r form day =
-    froze_as t r day (frozen_for w (rules_found t) form r (choice_found t r) (shipped_found t r)) (owed_for w (rules_found t) form r (choice_found t r) (shipped_found t r))
+    froze_as t r day (frozen_for w t.adoption (rules_found t) form r (choice_found t r) (shipped_found t r)) (owed_for w t.adoption (rules_found t) form r (choice_found t r) (shipped_found t r))
 
 -- one move of a duty
 abbrev pub moved_change : Tables → ℕ → Move → Change
@@ -204,6 +224,8 @@ change_for w t (Attach r d) = change.Attached (record { release = r; document = 
 change_for w t (Choose r d p texts) = chosen_change r d p (term_set w texts)
 change_for w t (Freeze r day) = froze_change t r day (frozen_found w t r) (new_duties w t r)
 change_for w t (Unchoose r d p) = chosen_change r d p []
+change_for w t (Conclude d p text) = change.Concluded (conclusion_row d p text)
+change_for w t (Adopt d reference licence) = change.Adopted (adoption_row w d reference licence)
 change_for w t (Meet q day text) = moved_change t q (record { day = day; word = word.Met; body = text; last_day = None })
 change_for w t (Waive q day text until) = moved_change t q (record { day = day; word = word.Waived; body = text; last_day = until })
 change_for w t (Reopen q day text) = moved_change t q (record { day = day; word = word.Reopened; body = text; last_day = None })

@@ -4,12 +4,15 @@ use Rattle.std.specs.List.{filter_map, last_or, enumerate_from}
 use Rattle.std.specs.Option.{option_map}
 use Rattle.desk_rows.specs.Lists.{IsIn}
 use Rattle.desk_rows.specs.Readings.{Readings}
-use Rattle.desk_rows.specs.Keys.{below_by, release_below, attached_order, choice_order, frozen_order, change_below, is_package, is_document, is_change_of}
+use Rattle.desk_rows.specs.Keys.{below_by, release_below, attached_order, choice_order, frozen_order, conclusion_order, adoption_order, change_below, is_package, is_document, is_change_of}
 use Rattle.desk_rows.specs.Texts.{sorted_set}
-use Rattle.desk_rows.specs.History.{documents, packages, expression_in, choice, form_of, in_force, rules_in}
+use Rattle.desk_rows.specs.History.{documents, packages, choice, form_of, in_force, rules_in}
+use Rattle.desk_rows.specs.Conclusions.{adoptions}
+use Rattle.desk_rows.specs.Answers.{conclusion}
 use Rattle.desk_rows.specs.Raised.{rule_adopted, shipped, raised, owed_at}
 use Rattle.desk_rows.specs.Tables.{Tables}
 use Rattle.desk_rows.specs.declared.reading.Catalogue.{Catalogue}
+use Rattle.desk_rows.specs.declared.reading.Conclusion.{Conclusion}
 use Rattle.desk_rows.specs.declared.reading.Document.{Document}
 use Rattle.desk_rows.specs.declared.reading.Rule.{Rule}
 use Rattle.desk_rows.specs.declared.reading.Verdict.TheVariants.{Minimal}
@@ -32,23 +35,23 @@ use Rattle.desk_rows.specs.declared.command.Command.TheVariants.{Freeze}
 pub record IsMinimalChoice (w : Readings) (before : List Command) (d : ℕ) (p : List ℕ) (texts : List (List ℕ)) : Type 0 where
   pub document : DocumentRow
   pub row : PackageRow
-  pub expression : List ℕ
+  pub concluded : Conclusion
   pub of : find (is_document d) (documents w before) ≡ Some document
   pub has : find (is_package d p) (packages w before) ≡ Some row
-  pub concludes : expression_in w document.profile row.concluded ≡ Some expression
-  pub minimal : w.verdict document.profile expression (filter_map w.term texts) ≡ Minimal
+  pub concludes : conclusion w before row ≡ Some concluded
+  pub minimal : w.verdict concluded.profile concluded.text (filter_map w.term texts) ≡ Minimal
 
 -- terms that are held for a package after these commands: the package has a concluded expression now, of which they are a minimal set
 pub record IsHeldMinimal (w : Readings) (h : List Command) (d : ℕ) (p : List ℕ) (terms : List (List ℕ)) : Type 0 where
   pub document : DocumentRow
   pub row : PackageRow
-  pub expression : List ℕ
+  pub concluded : Conclusion
   pub listed : List (List ℕ)
   pub of : find (is_document d) (documents w h) ≡ Some document
   pub has : find (is_package d p) (packages w h) ≡ Some row
-  pub concludes : expression_in w document.profile row.concluded ≡ Some expression
+  pub concludes : conclusion w h row ≡ Some concluded
   pub set : terms ≡ sorted_set listed
-  pub minimal : w.verdict document.profile expression listed ≡ Minimal
+  pub minimal : w.verdict concluded.profile concluded.text listed ≡ Minimal
 
 -- A duty with its number: a freeze of a release stands in the history and raises it, and what a freeze raises is numbered on from all
 -- that the freezes before it raised.
@@ -73,7 +76,7 @@ pub record IsFrozenTerm (w : Readings) (h : List Command) (f : FrozenRow) : Type
   pub document : f.document ≡ row.document
   pub package_id : f.package_id ≡ row.id
   pub chosen : IsIn f.term (choice w before f.release row.document row.id)
-  pub ruled : rule_adopted w (rules_in (in_force w before)) (unwrap_or (form_of before f.release) []) f.term ≡ Some rule
+  pub ruled : rule_adopted w (adoptions w before) (rules_in (in_force w before)) (unwrap_or (form_of before f.release) []) row.document f.term ≡ Some rule
   pub spelled : f.rule ≡ rule.spelled
 
 -- no row stands behind one that it goes before
@@ -90,11 +93,13 @@ document_below a b = nat_lt a.number b.number
 abbrev pub duty_below : DutyRow → DutyRow → Bool
 duty_below a b = nat_lt a.number b.number
 
--- revisions, documents and duties by number, releases by name, attached documents by release and number, chosen and frozen terms by
+-- revisions, documents and duties by number, conclusions by document and package, adoptions by document and reference, releases by name, attached documents by release and number, chosen and frozen terms by
 -- release, document, package and term, changes by duty and step
 pub record AreSorted (t : Tables) : Type 0 where
   pub catalogue : Ascends revision_below t.catalogue
   pub document : Ascends document_below t.document
+  pub conclusion : Ascends (below_by conclusion_order) t.conclusion
+  pub adoption : Ascends (below_by adoption_order) t.adoption
   pub releases : Ascends release_below t.releases
   pub attached : Ascends (below_by attached_order) t.attached
   pub choice : Ascends (below_by choice_order) t.choice

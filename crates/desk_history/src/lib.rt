@@ -4,7 +4,8 @@
 #![tactic(auto)]
 
 ghost use Rattle.std.specs.Prelude.{◌≡◌, ◌⊎◌, true, false, ℕ, ◌+◌, ◌++◌, [], ◌∷◌, List, map, filter};
-ghost use Rattle.desk_rows.specs.Lists.{IsIn};
+ghost use Rattle.desk_rows.specs.Conclusions.{adoptions, conclusions, licence_for, licence_given, office_text, text_given};
+ghost use Rattle.desk_rows.specs.Lists.{IsIn, latest};
 ghost use Rattle.desk_rows.specs.Readings.{Readings};
 ghost use Rattle.desk_rows.specs.Keys.{is_choice_of};
 ghost use Rattle.desk_rows.specs.History.{choice};
@@ -59,6 +60,12 @@ pub fn frozen_terms_were_held()
 /// The choice that stands for a package is the last one.
 pub fn last_choice_stands()
     ensures { (w : Readings) (h : List Command) (r : List ℕ) (d : ℕ) (p : List ℕ) → filter (is_choice_of r d p) (standing w h) ≡ map (choice_row r d p) (choice w h r d p) }
+{}
+
+/// What the office concluded last for a package is its conclusion, and what a reference of a document was adopted as last its licence.
+pub fn last_conclusions_and_adoptions_stand()
+    ensures conclusions { (h : List Command) (d : ℕ) (p : List ℕ) → office_text (conclusions h) d p ≡ latest (text_given d p) h }
+    ensures adoptions { (w : Readings) (h : List Command) (d : ℕ) (reference : List ℕ) → licence_for (adoptions w h) d reference ≡ latest (licence_given w d reference) h }
 {}
 
 /// The duties of a release that are open, met, waived and withdrawn make all that it raised.

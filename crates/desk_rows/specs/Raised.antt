@@ -96,6 +96,6 @@ pub record IsRaised (w : Readings) (h : List Command) (d : Owed) : Type 0 where
   pub document : d.document ≡ row.document
   pub package_id : d.package_id ≡ row.id
   pub chosen : IsIn d.term (choice w before d.release row.document row.id)
-  pub owes : rule_adopted w (adoptions w before) (rules_in (in_force w before)) (unwrap_or (form_of before d.release) []) d.document d.term ≡ Some rule
+  pub owes : rule_adopted w (adoptions w before) (rules_in (in_force w before)) (unwrap_or (form_of before d.release) []) row.document d.term ≡ Some rule
   pub code : IsIn d.code rule.codes
   pub spelled : d.rule ≡ rule.spelled
