@@ -10,7 +10,8 @@ ghost use Rattle.desk_access.specs.Seen.{Seen, Looked, OfRows, Wrote};
 ghost use Rattle.desk_rows.specs.Faults.{MayFail};
 ghost use Rattle.desk_rows.specs.History.{attached_to, rule_for};
 ghost use Rattle.desk_rows.specs.Queries.{last_day};
-ghost use Rattle.desk_history.specs.FromTables.{release_found, rules_found, duty_found, steps_found, standings_found, ended_found, known_import, known_document};
+ghost use Rattle.desk_rows.specs.Conclusions.{licence_for, office_text};
+ghost use Rattle.desk_history.specs.FromTables.{adoption_count, holder_found, release_found, rules_found, duty_found, steps_found, standings_found, ended_found, known_import, known_document};
 ghost use Rattle.desk_rows.specs.declared.command.StoreFault.{StoreFault};
 
 use desk_base::{Day, Text};
@@ -123,6 +124,31 @@ pub trait Store {
     fn chosen(&mut self, release: &str, document: u32, id: &str) -> Result<Vec<Text>, Fault>
         ensures found { IfOk result (λ found. OfRows (λ t. found.items ≡ map (λ row. row.term) (filter (is_choice_of release.now document id.now) t.choice)) (seen self.old) (seen self.new)) }
         ensures kept { Looked (seen self.old) (seen self.new) result }
+        ensures fault { IfErr result (MayFail tells) };
+
+    /// What the office concluded for a package of a document.
+    fn conclusion(&mut self, document: u32, id: &str) -> Result<Option<Text>, Fault>
+        ensures found { IfOk result (λ found. OfRows (λ t. found ≡ office_text t.conclusion document id.now) (seen self.old) (seen self.new)) }
+        ensures kept { Looked (seen self.old) (seen self.new) result }
+        ensures fault { IfErr result (MayFail tells) };
+
+    /// The first opened release that holds a choice for a package of a document.
+    fn holder(&mut self, document: u32, id: &str) -> Result<Option<Text>, Fault>
+        ensures found { IfOk result (λ found. OfRows (λ t. found ≡ holder_found t document id.now) (seen self.old) (seen self.new)) }
+        ensures kept { Looked (seen self.old) (seen self.new) result }
+        ensures fault { IfErr result (MayFail tells) };
+
+    /// The licence that a reference of a document is adopted as.
+    fn adoption(&mut self, document: u32, reference: &str) -> Result<Option<Text>, Fault>
+        ensures found { IfOk result (λ found. OfRows (λ t. found ≡ licence_for t.adoption document reference.now) (seen self.old) (seen self.new)) }
+        ensures kept { Looked (seen self.old) (seen self.new) result }
+        ensures fault { IfErr result (MayFail tells) };
+
+    /// How many references of a document are adopted.
+    fn adoption_count(&mut self, document: u32) -> Result<u64, Fault>
+        ensures found { IfOk result (λ n. OfRows (λ t. n ≡ adoption_count t document) (seen self.old) (seen self.new)) }
+        ensures kept { Looked (seen self.old) (seen self.new) result }
+        ensures misses { OnErr result may_miss }
         ensures fault { IfErr result (MayFail tells) };
 
     fn duty(&mut self, number: u64) -> Result<Option<DutyRow>, Fault>

@@ -5,3 +5,4 @@ mod Pushing
 mod Ending
 mod Naming
 mod Ruling
+mod Holding

@@ -5,4 +5,5 @@ pub mod Splitting
 pub mod NamespaceLaws
 pub mod RulePlaces
 pub mod RuleLaws
+pub mod Office
 pub mod Memory

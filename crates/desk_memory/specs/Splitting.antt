@@ -2,19 +2,22 @@
 use Rattle.std.proofs.Common.{◌≡◌, ℕ, true, List, refl}
 use Rattle.std.specs.Prelude.{◌&&◌, ◌==◌}
 use Rattle.std.specs.Ordering.{nat_cmp, is_lt, is_eq, ordering_then, on, then_cmp}
+use Rattle.std.specs.Cmp.{IsTotalOrder}
 use Rattle.std.specs.Cmp.Lexicographic.{slice_cmp}
 use Rattle.std.specs.Str.{bytes_eq}
 use Rattle.std.specs.declared.cmp.Ordering.{Ordering}
 use Rattle.std.specs.declared.cmp.Ordering.TheVariants.{Less, Equal, Greater}
 use Rattle.std.proofs.lemmas.Cmp.{on_total, then_total, nat_list_cmp_total, nat_cmp_total}
-use Rattle.desk_rows.specs.Keys.{attached_order, choice_order, is_package, is_attachment, is_choice_of}
+use Rattle.desk_rows.specs.Keys.{adoption_order, attached_order, choice_order, conclusion_order, is_adoption, is_conclusion, is_package, is_attachment, is_choice_of}
+use Rattle.desk_rows.specs.declared.row.AdoptionRow.{AdoptionRow}
+use Rattle.desk_rows.specs.declared.row.ConclusionRow.{ConclusionRow}
 use Rattle.desk_rows.specs.declared.row.PackageRow.{PackageRow}
 use Rattle.desk_rows.specs.declared.row.AttachedRow.{AttachedRow}
 use Rattle.desk_rows.specs.declared.row.ChoiceRow.{ChoiceRow}
 use Rattle.desk_sorted.specs.Sorted.{IsSideOf}
 use Rattle.desk_sorted.specs.Sides.{side_by, first_less, texts_meet, numbers_meet, then_meets}
 use Rattle.desk_sorted.specs.Orders.{document_order, package_order, release_order}
-use Rattle.desk_memory.specs.Sides.{document_side, packages_side, package_side, release_side, attached_side, attachment_side, choice_side, holder_side}
+use Rattle.desk_memory.specs.Sides.{document_side, packages_side, package_side, conclusion_side, adoption_side, adoptions_side, release_side, attached_side, attachment_side, choice_side, holder_side}
 
 -- What keys begin with
 
@@ -41,9 +44,22 @@ pub packages_splits : (document : ℕ) → IsSideOf package_order (packages_side
 packages_splits document =
     side_by package_order (λ row. row.document) nat_cmp nat_cmp_total (λ x y e. first_less (nat_cmp y.document x.document) (slice_cmp nat_cmp y.id x.id) e) document
 
+number_total : IsTotalOrder number_cmp
+number_total = then_total (on_total (λ p. p.0) nat_cmp_total) (on_total (λ p. p.1) nat_list_cmp_total)
+
 pub package_splits : (document : ℕ) (id : List ℕ) → IsSideOf package_order (package_side document id)
 package_splits document id =
-    side_by package_order (λ row. (row.document, row.id)) number_cmp (then_total (on_total (λ p. p.0) nat_cmp_total) (on_total (λ p. p.1) nat_list_cmp_total)) (λ x y e. e) (document, id)
+    side_by package_order (λ row. (row.document, row.id)) number_cmp number_total (λ x y e. e) (document, id)
+
+pub conclusion_splits : (document : ℕ) (id : List ℕ) → IsSideOf conclusion_order (conclusion_side document id)
+conclusion_splits document id = side_by conclusion_order (λ row. (row.document, row.package_id)) number_cmp number_total (λ x y e. e) (document, id)
+
+pub adoption_splits : (document : ℕ) (reference : List ℕ) → IsSideOf adoption_order (adoption_side document reference)
+adoption_splits document reference = side_by adoption_order (λ row. (row.document, row.reference)) number_cmp number_total (λ x y e. e) (document, reference)
+
+pub adoptions_splits : (document : ℕ) → IsSideOf adoption_order (adoptions_side document)
+adoptions_splits document =
+    side_by adoption_order (λ row. row.document) nat_cmp nat_cmp_total (λ x y e. first_less (nat_cmp y.document x.document) (slice_cmp nat_cmp y.reference x.reference) e) document
 
 pub release_splits : (name : List ℕ) → IsSideOf release_order (release_side name)
 release_splits name = side_by release_order (λ row. row.name) (slice_cmp nat_cmp) nat_list_cmp_total (λ x y e. e) name
@@ -71,6 +87,14 @@ choice_splits release document id =
 pub package_meets : (document : ℕ) (id : List ℕ) (row : PackageRow) → is_package document id row ≡ is_eq (package_side document id row)
 package_meets document id row =
     then_meets (nat_cmp row.document document) (slice_cmp nat_cmp row.id id) (row.document == document) (bytes_eq row.id id) (numbers_meet row.document document) (texts_meet row.id id)
+
+pub conclusion_meets : (document : ℕ) (id : List ℕ) (row : ConclusionRow) → is_conclusion document id row ≡ is_eq (conclusion_side document id row)
+conclusion_meets document id row =
+    then_meets (nat_cmp row.document document) (slice_cmp nat_cmp row.package_id id) (row.document == document) (bytes_eq row.package_id id) (numbers_meet row.document document) (texts_meet row.package_id id)
+
+pub adoption_meets : (document : ℕ) (reference : List ℕ) (row : AdoptionRow) → is_adoption document reference row ≡ is_eq (adoption_side document reference row)
+adoption_meets document reference row =
+    then_meets (nat_cmp row.document document) (slice_cmp nat_cmp row.reference reference) (row.document == document) (bytes_eq row.reference reference) (numbers_meet row.document document) (texts_meet row.reference reference)
 
 pub attachment_meets : (release : List ℕ) (document : ℕ) (row : AttachedRow) → is_attachment release document row ≡ is_eq (attachment_side release document row)
 attachment_meets release document row =

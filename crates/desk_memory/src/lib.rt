@@ -7,6 +7,7 @@
 mod documents;
 mod keys;
 mod ledger;
+mod office;
 mod rules;
 mod store;
 

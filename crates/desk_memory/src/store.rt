@@ -6,7 +6,7 @@ ghost use Rattle.std.specs.Option.{option_copied, option_map};
 ghost use Rattle.std.specs.List.{list_any};
 ghost use Rattle.std.specs.Str.{bytes_eq};
 ghost use Rattle.desk_rows.specs.Lists.{updated};
-ghost use Rattle.desk_rows.specs.Keys.{is_release, is_document, has_namespace, is_package, is_shipped_by, is_attached_to, is_attachment, is_choice_of, is_duty, is_duty_of, is_change_of, is_rule, is_rule_of};
+ghost use Rattle.desk_rows.specs.Keys.{is_release, is_document, has_namespace, is_package, is_adoption, is_adoption_in, is_conclusion, is_shipped_by, is_attached_to, is_attachment, is_choice_of, is_duty, is_duty_of, is_change_of, is_rule, is_rule_of};
 ghost use Rattle.desk_rows.specs.Tables.{Tables, applied, with_release_state, withdrawn_release};
 ghost use Rattle.desk_rows.specs.declared.state.ReleaseState.TheVariants.{Frozen};
 ghost use Rattle.desk_memory.specs.Memory.{rows_of, memory_seen};
@@ -17,6 +17,7 @@ use crate::keys::{
     ByAttachment, ByDocument, ByHolder, ById, ByName, ByNumber, ByPackage, ByRelease,
 };
 use crate::ledger::Ledger;
+use crate::office::{ByAdopting, ByConcluded, ByReference, Office, first_holder};
 use crate::rules::Rules;
 use desk_access::store::Store;
 use desk_base::{Day, Items, Text};
@@ -227,6 +228,7 @@ pub struct MemStore {
     documents: Documents,
     packages: Appended<PackageRow>,
     extracted: Vec<ExtractedRow>,
+    office: Office,
     releases: Sorted<ReleaseRow>,
     attached: Sorted<AttachedRow>,
     choices: Sorted<ChoiceRow>,
@@ -250,6 +252,7 @@ impl MemStore {
             documents: Documents::new(alloc),
             packages: Appended::new(alloc),
             extracted: Vec::new(alloc),
+            office: Office::new(alloc),
             releases: Sorted::new(alloc),
             attached: Sorted::new(alloc),
             choices: Sorted::new(alloc),
@@ -469,6 +472,35 @@ impl Store for MemStore {
         }
     }
 
+    fn conclusion(&mut self, document: u32, id: &str) -> Result<Option<Text>, Fault> {
+        match self.office.conclusions.find(&ByConcluded { document, id }) {
+            Some(row) => Ok(Some(row.expression.clone()?)),
+            None => Ok(None),
+        }
+    }
+
+    fn holder(&mut self, document: u32, id: &str) -> Result<Option<Text>, Fault> {
+        let releases = &self.releases;
+        match first_holder(releases.rows.as_slice(), &self.choices, document, id) {
+            Some(row) => Ok(Some(row.name.clone()?)),
+            None => Ok(None),
+        }
+    }
+
+    fn adoption(&mut self, document: u32, reference: &str) -> Result<Option<Text>, Fault> {
+        match self.office.adoptions.find(&ByReference {
+            document,
+            reference,
+        }) {
+            Some(row) => Ok(Some(row.licence.clone()?)),
+            None => Ok(None),
+        }
+    }
+
+    fn adoption_count(&mut self, document: u32) -> Result<u64, Fault> {
+        Ok(self.office.adoptions.run(&ByAdopting { document }).len() as u64)
+    }
+
     fn duty(&mut self, number: u64) -> Result<Option<DutyRow>, Fault> {
         match self.ledger.find(number) {
             Some(row) => match duty_copy(row) {
@@ -556,6 +588,8 @@ impl Store for MemStore {
             } => self.freeze(&release, revision, frozen, duties, changes),
             Change::Moved { changes } => self.move_all(changes),
             Change::Withdrew { release, changes } => self.withdraw(&release, changes),
+            Change::Concluded(row) => self.office.conclude(row),
+            Change::Adopted(row) => self.office.adopt(row),
         }
     }
 }

@@ -4,7 +4,7 @@ use Rattle.std.specs.Cmp.{IsTotalOrder}
 use Rattle.std.specs.Cmp.Lexicographic.{slice_cmp}
 use Rattle.std.specs.declared.cmp.Ordering.{Ordering}
 use Rattle.std.proofs.lemmas.Cmp.{on_total, then_total, nat_list_cmp_total, nat_cmp_total}
-use Rattle.desk_rows.specs.Keys.{attached_order, choice_order, frozen_order}
+use Rattle.desk_rows.specs.Keys.{adoption_order, attached_order, choice_order, conclusion_order, frozen_order}
 use Rattle.desk_rows.specs.declared.row.DocumentRow.{DocumentRow}
 use Rattle.desk_rows.specs.declared.row.PackageRow.{PackageRow}
 use Rattle.desk_rows.specs.declared.row.ReleaseRow.{ReleaseRow}
@@ -26,6 +26,12 @@ package_total = then_total (on_total (λ row. row.document) nat_cmp_total) (on_t
 
 pub release_total : IsTotalOrder release_order
 release_total = on_total (λ row. row.name) nat_list_cmp_total
+
+pub conclusion_total : IsTotalOrder conclusion_order
+conclusion_total = then_total (on_total (λ row. row.document) nat_cmp_total) (on_total (λ row. row.package_id) nat_list_cmp_total)
+
+pub adoption_total : IsTotalOrder adoption_order
+adoption_total = then_total (on_total (λ row. row.document) nat_cmp_total) (on_total (λ row. row.reference) nat_list_cmp_total)
 
 pub attached_total : IsTotalOrder attached_order
 attached_total = then_total (on_total (λ row. row.release) nat_list_cmp_total) (on_total (λ row. row.document) nat_cmp_total)

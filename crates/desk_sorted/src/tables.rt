@@ -1,10 +1,13 @@
 //! The orders of the tables' rows.
 
-ghost use Rattle.desk_rows.specs.Keys.{attached_order, choice_order, frozen_order};
-ghost use Rattle.desk_sorted.specs.Orders.{document_order, package_order, release_order, document_total, package_total, release_total, attached_total, choice_total, frozen_total};
+ghost use Rattle.desk_rows.specs.Keys.{adoption_order, attached_order, choice_order, conclusion_order, frozen_order};
+ghost use Rattle.desk_sorted.specs.Orders.{document_order, package_order, release_order, document_total, package_total, release_total, attached_total, choice_total, frozen_total, conclusion_total, adoption_total};
 
 use crate::sorted::Keyed;
-use desk_rows::{AttachedRow, ChoiceRow, DocumentRow, FrozenRow, PackageRow, ReleaseRow};
+use desk_rows::{
+    AdoptionRow, AttachedRow, ChoiceRow, ConclusionRow, DocumentRow, FrozenRow, PackageRow,
+    ReleaseRow,
+};
 use std::cmp::Ordering;
 
 impl Keyed for DocumentRow {
@@ -36,6 +39,30 @@ impl Keyed for ReleaseRow {
 
     fn compare(&self, other: &Self) -> Ordering {
         self.name.as_str().cmp(other.name.as_str())
+    }
+}
+
+impl Keyed for ConclusionRow {
+    ghost order = { conclusion_order };
+
+    ghost total = { conclusion_total };
+
+    fn compare(&self, other: &Self) -> Ordering {
+        self.document
+            .cmp(&other.document)
+            .then(self.package_id.as_str().cmp(other.package_id.as_str()))
+    }
+}
+
+impl Keyed for AdoptionRow {
+    ghost order = { adoption_order };
+
+    ghost total = { adoption_total };
+
+    fn compare(&self, other: &Self) -> Ordering {
+        self.document
+            .cmp(&other.document)
+            .then(self.reference.as_str().cmp(other.reference.as_str()))
     }
 }
 
