@@ -35,6 +35,6 @@ module _ {Left : Type 0} where
   ]
 
   pub asks_at : (is_right : Readings → Type 0) (q : Query) (old new : Seen Left) (r : Result Answer Fault)
-      → IfOk r (λ a. OfRows (λ t. a ≡ queried_from t q) old new) → IfOk r (λ a. InHistory is_right (λ w h. a ≡ queried w h q) old new)
-  asks_at is_right q old new (Ok a) is = λ w right honest h ok held. is honest (tables w h) held ∙ query-answer w h q
+      → ((w : Readings) → is_right w → IfOk r (λ a. OfRows (λ t. a ≡ queried_from w t q) old new)) → IfOk r (λ a. InHistory is_right (λ w h. a ≡ queried w h q) old new)
+  asks_at is_right q old new (Ok a) is = λ w right honest h ok held. is w right honest (tables w h) held ∙ query-answer w h q
   asks_at is_right q old new (Err f) is = tt

@@ -136,7 +136,7 @@ impl<T: Texts, S: Store> Desk for TableDesk<T, S> {
     }
 
     fn ask(&mut self, query: &Query) -> Result<Answer, Fault> {
-        answer_to(self.alloc, &mut self.store, query)
+        answer_to(self.alloc, &self.texts, &mut self.store, query)
     }
 }
 

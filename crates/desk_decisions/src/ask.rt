@@ -1,6 +1,7 @@
 //! Questions are answered.
 
 ghost use Rattle.std.specs.Prelude.{◌≡◌, ℕ, IfOk, IfErr, map, filter, length, count_by};
+ghost use Rattle.desk_rows.specs.Readings.{Readings};
 ghost use Rattle.desk_rows.specs.Faults.{MayFail};
 ghost use Rattle.desk_rows.specs.Keys.{is_change_of};
 ghost use Rattle.desk_rows.specs.Queries.{duty_line, totals_of};
@@ -9,6 +10,7 @@ ghost use Rattle.desk_access.specs.Seen.{Looked, OfRows};
 ghost use Rattle.desk_history.specs.FromTables.{queried_from, line_found};
 
 use desk_access::store::Store;
+use desk_access::texts::Texts;
 use desk_base::{Items, Text};
 use desk_rows::{Answer, DutyLine, DutyRow, DutyState, Fault, Query, Refusal, Totals};
 use std::alloc::Global;
@@ -107,7 +109,7 @@ fn totals_of(rows: &[DutyRow]) -> Totals
 
 /// The duties of a release, by number.
 pub fn duties<S: Store>(alloc: Global, store: &mut S, release: &Text) -> Result<Answer, Fault>
-    ensures answer { IfOk result (λ answer. OfRows (λ t. answer ≡ queried_from t (Query.Duties release.now)) (S.seen store.old) (S.seen store.new)) }
+    ensures answer { (w : Readings) → IfOk result (λ answer. OfRows (λ t. answer ≡ queried_from w t (Query.Duties release.now)) (S.seen store.old) (S.seen store.new)) }
     ensures kept { Looked (S.seen store.old) (S.seen store.new) result }
     ensures fault { IfErr result (MayFail S.tells) }
 {
@@ -120,7 +122,7 @@ pub fn duties<S: Store>(alloc: Global, store: &mut S, release: &Text) -> Result<
 
 /// How many duties of a release stand where.
 pub fn totals<S: Store>(store: &mut S, release: &Text) -> Result<Answer, Fault>
-    ensures answer { IfOk result (λ answer. OfRows (λ t. answer ≡ queried_from t (Query.Totals release.now)) (S.seen store.old) (S.seen store.new)) }
+    ensures answer { (w : Readings) → IfOk result (λ answer. OfRows (λ t. answer ≡ queried_from w t (Query.Totals release.now)) (S.seen store.old) (S.seen store.new)) }
     ensures kept { Looked (S.seen store.old) (S.seen store.new) result }
     ensures fault { IfErr result (MayFail S.tells) }
 {
@@ -133,7 +135,7 @@ pub fn totals<S: Store>(store: &mut S, release: &Text) -> Result<Answer, Fault>
 
 /// The changes of a duty, by step.
 pub fn changes<S: Store>(store: &mut S, duty: u64) -> Result<Answer, Fault>
-    ensures answer { IfOk result (λ answer. OfRows (λ t. answer ≡ queried_from t (Query.Changes duty)) (S.seen store.old) (S.seen store.new)) }
+    ensures answer { (w : Readings) → IfOk result (λ answer. OfRows (λ t. answer ≡ queried_from w t (Query.Changes duty)) (S.seen store.old) (S.seen store.new)) }
     ensures kept { Looked (S.seen store.old) (S.seen store.new) result }
     ensures fault { IfErr result (MayFail S.tells) }
 {
@@ -145,8 +147,13 @@ pub fn changes<S: Store>(store: &mut S, duty: u64) -> Result<Answer, Fault>
 }
 
 /// Answers a question.
-pub fn answer_to<S: Store>(alloc: Global, store: &mut S, query: &Query) -> Result<Answer, Fault>
-    ensures answer { IfOk result (λ answer. OfRows (λ t. answer ≡ queried_from t query.now) (S.seen store.old) (S.seen store.new)) }
+pub fn answer_to<T: Texts, S: Store>(
+    alloc: Global,
+    texts: &T,
+    store: &mut S,
+    query: &Query,
+) -> Result<Answer, Fault>
+    ensures answer { (w : Readings) → T.are_right w → IfOk result (λ answer. OfRows (λ t. answer ≡ queried_from w t query.now) (S.seen store.old) (S.seen store.new)) }
     ensures kept { Looked (S.seen store.old) (S.seen store.new) result }
     ensures fault { IfErr result (MayFail S.tells) }
 {

@@ -59,7 +59,7 @@ where_known : (known : Bool) (rows told : List ChangeRow) → (known ≡ true �
 where_known true rows told same = ap answered.Changes (same refl)
 where_known false rows told same = refl
 
-pub query-answer : (w : Readings) (h : List Command) (q : Query) → queried_from (tables w h) q ≡ queried w h q
+pub query-answer : (w : Readings) (h : List Command) (q : Query) → queried_from w (tables w h) q ≡ queried w h q
 query-answer w h (query.Duties r) =
     ap (λ b. if b then answered.Duties (map (duty_line (λ q. filter (is_change_of q) (all_changes w h))) (duties_of w h r)) else answered.Refused why.UnknownRelease) (is_found w h r)
     ∙ ap (λ rows. if is_some (form_of h r) then answered.Duties rows else answered.Refused why.UnknownRelease) (lines-found w h r)
@@ -70,5 +70,5 @@ query-answer w h (query.Changes q) =
     ∙ where_known (is_some (duty_at w h q)) (filter (is_change_of q) (all_changes w h)) (changes w h q)
     (λ known. changes-found w h q (sym (known_at w h q) ∙ known))
 
-pub query_at_history : (w : Readings) (h : List Command) (q : Query) (t : Tables) → t ≡ tables w h → queried_from t q ≡ queried w h q
-query_at_history w h q t e = ap (λ u. queried_from u q) e ∙ query-answer w h q
+pub query_at_history : (w : Readings) (h : List Command) (q : Query) (t : Tables) → t ≡ tables w h → queried_from w t q ≡ queried w h q
+query_at_history w h q t e = ap (λ u. queried_from w u q) e ∙ query-answer w h q

@@ -253,11 +253,11 @@ abbrev pub line_found : Tables → DutyRow → DutyLine
 line_found t row = duty_line (λ q. filter (is_change_of q) t.changes) row
 
 -- the answer to a query
-abbrev pub queried_from : Tables → Query → Answer
-queried_from t (query.Duties r) =
+abbrev pub queried_from : Readings → Tables → Query → Answer
+queried_from w t (query.Duties r) =
     if is_some (release_found t r) then answered.Duties (map (line_found t) (filter (is_duty_of r) t.duty))
     else answered.Refused why.UnknownRelease
-queried_from t (query.Totals r) =
+queried_from w t (query.Totals r) =
     if is_some (release_found t r) then answered.Totals (totals_of (filter (is_duty_of r) t.duty)) else answered.Refused why.UnknownRelease
-queried_from t (query.Changes q) =
+queried_from w t (query.Changes q) =
     if is_some (duty_found t q) then answered.Changes (filter (is_change_of q) t.changes) else answered.Refused why.UnknownDuty

@@ -1,0 +1,10 @@
+use Rattle.desk_decisions.proofs.ask.answer_to.Goals as goal
+
+pub returns-in-Duties-clause-answer : goal.returns-in-Duties-clause-answer
+returns-in-Duties-clause-answer g c = λ w right. rw c.in-Duties.is (c.duties.ensures.answer w)
+
+pub returns-in-Totals-clause-answer : goal.returns-in-Totals-clause-answer
+returns-in-Totals-clause-answer g c = λ w right. rw c.in-Totals.is (c.totals.ensures.answer w)
+
+pub returns-in-Changes-clause-answer : goal.returns-in-Changes-clause-answer
+returns-in-Changes-clause-answer g c = λ w right. rw c.in-Changes.is (c.changes.ensures.answer w)
