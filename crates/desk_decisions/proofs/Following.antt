@@ -8,7 +8,7 @@ use Rattle.desk_rows.specs.Tables.{Tables}
 use Rattle.desk_rows.specs.declared.row.Owed.{Owed}
 use Rattle.desk_rows.specs.declared.row.DutyRow.{DutyRow}
 use Rattle.desk_rows.specs.declared.command.Command.{Command}
-use Rattle.desk_rows.specs.declared.command.Command.TheVariants.{LoadCatalogue, Import, OpenRelease, Attach, Choose, Unchoose, Freeze, Meet, Waive, Reopen, Withdraw, CloseDay}
+use Rattle.desk_rows.specs.declared.command.Command.TheVariants.{LoadCatalogue, Import, OpenRelease, Attach, Choose, Unchoose, Freeze, Meet, Waive, Reopen, Withdraw, CloseDay, Conclude, Adopt}
 use Rattle.desk_rows.specs.Keys.{is_duty_of}
 use Rattle.desk_rows.specs.Moves.{change_row}
 use Rattle.desk_rows.specs.declared.row.Move.{Move}
@@ -124,3 +124,5 @@ change_follows w t (Waive q day text until) = next_one t q (record { day = day; 
 change_follows w t (Reopen q day text) = next_one t q (record { day = day; word = word.Reopened; body = text; last_day = None })
 change_follows w t (Withdraw r day text) = next_many t (record { day = day; word = word.Withdrawn; body = text; last_day = None }) is_unmet (is_duty_of r)
 change_follows w t (CloseDay day) = next_ended t (record { day = day; word = word.Ended; body = []; last_day = None }) (ends t day)
+change_follows w t (Conclude d p text) = tt
+change_follows w t (Adopt d reference licence) = tt

@@ -7,8 +7,8 @@ use Rattle.desk_rows.specs.Readings.{Readings}
 use Rattle.desk_rows.specs.Tables.{Tables}
 use Rattle.desk_rows.specs.History.{attached_to}
 use Rattle.desk_rows.specs.Raised.{frozen_for, owed_for}
-use Rattle.desk_rows.specs.Answers.{walk, profile_in, freeze_fits, unready}
-use Rattle.desk_history.specs.FromTables.{answer_from, change_for, noted_by, froze_as, rules_found, choice_found, shipped_found, release_found, freeze_open_found, freeze_change_found}
+use Rattle.desk_rows.specs.Answers.{walk, freeze_fits, unready}
+use Rattle.desk_history.specs.FromTables.{answer_from, change_for, noted_by, froze_as, conclusion_found, rules_found, choice_found, shipped_found, release_found, freeze_open_found, freeze_change_found}
 use Rattle.desk_decisions.specs.Walks.{GathersAll}
 use Rattle.desk_decisions.specs.declared.freeze.Gathered.{Gathered}
 use Rattle.desk_rows.specs.declared.row.PackageRow.{PackageRow}
@@ -20,8 +20,8 @@ use Rattle.desk_rows.specs.declared.command.Command.TheVariants.{Freeze}
 
 pub freeze_refused : (w : Readings) (t : Tables) (r form : List ℕ) (ps : List PackageRow) (old new : Gathered) (o : Option Refusal) (refusal : Refusal) → (length (attached_to t.attached r) == 0) ≡ false → ps ≡ shipped_found t r → GathersAll w t form r ps old new o → o ≡ Some refusal → answered.Refused refusal ≡ freeze_open_found w t r form
 freeze_refused w t r form ps old new o refusal some e g is =
-    let g1 : walk w (rules_found t) form (profile_in t.document) (choice_found t r) ps ≡ Some refusal = subst (GathersAll w t form r ps old new) is g in
-    let g2 : walk w (rules_found t) form (profile_in t.document) (choice_found t r) (shipped_found t r) ≡ Some refusal = ap (walk w (rules_found t) form (profile_in t.document) (choice_found t r)) (sym e) ∙ g1 in
+    let g1 : walk w t.adoption (rules_found t) form (conclusion_found w t) (choice_found t r) ps ≡ Some refusal = subst (GathersAll w t form r ps old new) is g in
+    let g2 : walk w t.adoption (rules_found t) form (conclusion_found w t) (choice_found t r) (shipped_found t r) ≡ Some refusal = ap (walk w t.adoption (rules_found t) form (conclusion_found w t) (choice_found t r)) (sym e) ∙ g1 in
     sym (rw (some, g2) refl)
 
 pub record Fits (w : Readings) (t : Tables) (r form day : List ℕ) (new : Gathered) : Type 0 where
@@ -31,14 +31,14 @@ pub record Fits (w : Readings) (t : Tables) (r form day : List ℕ) (new : Gathe
 pub freeze_fitting : (w : Readings) (t : Tables) (r form day : List ℕ) (ps : List PackageRow) (old new : Gathered) (o : Option Refusal) → (length (attached_to t.attached r) == 0) ≡ false → ps ≡ shipped_found t r → old.frozen.items ≡ [] → old.owed.items ≡ [] → GathersAll w t form r ps old new o → o ≡ None → Fits w t r form day new
 freeze_fitting w t r form day ps old new o some e no_frozen no_owed g is =
     let g1 = subst (GathersAll w t form r ps old new) is g in
-    let walked : walk w (rules_found t) form (profile_in t.document) (choice_found t r) (shipped_found t r) ≡ None = ap (walk w (rules_found t) form (profile_in t.document) (choice_found t r)) (sym e) ∙ g1.0 in
-    let frozen : new.frozen.items ≡ frozen_for w (rules_found t) form r (choice_found t r) (shipped_found t r) =
-    g1.1 ∙ (ap (λ xs. xs ++ frozen_for w (rules_found t) form r (choice_found t r) ps) no_frozen ∙ ap (frozen_for w (rules_found t) form r (choice_found t r)) e) in
-    let owed : new.owed.items ≡ owed_for w (rules_found t) form r (choice_found t r) (shipped_found t r) =
-    g1.2 ∙ (ap (λ xs. xs ++ owed_for w (rules_found t) form r (choice_found t r) ps) no_owed ∙ ap (owed_for w (rules_found t) form r (choice_found t r)) e) in
+    let walked : walk w t.adoption (rules_found t) form (conclusion_found w t) (choice_found t r) (shipped_found t r) ≡ None = ap (walk w t.adoption (rules_found t) form (conclusion_found w t) (choice_found t r)) (sym e) ∙ g1.0 in
+    let frozen : new.frozen.items ≡ frozen_for w t.adoption (rules_found t) form r (choice_found t r) (shipped_found t r) =
+    g1.1 ∙ (ap (λ xs. xs ++ frozen_for w t.adoption (rules_found t) form r (choice_found t r) ps) no_frozen ∙ ap (frozen_for w t.adoption (rules_found t) form r (choice_found t r)) e) in
+    let owed : new.owed.items ≡ owed_for w t.adoption (rules_found t) form r (choice_found t r) (shipped_found t r) =
+    g1.2 ∙ (ap (λ xs. xs ++ owed_for w t.adoption (rules_found t) form r (choice_found t r) ps) no_owed ∙ ap (owed_for w t.adoption (rules_found t) form r (choice_found t r)) e) in
     record {
       answer = ap (λ xs. freeze_fits (length t.duty) (length xs)) owed ∙ sym (rw (some, walked) refl);
-      rows = ap (λ xs. froze_as t r day xs new.owed.items) frozen ∙ ap (froze_as t r day (frozen_for w (rules_found t) form r (choice_found t r) (shipped_found t r))) owed;
+      rows = ap (λ xs. froze_as t r day xs new.owed.items) frozen ∙ ap (froze_as t r day (frozen_for w t.adoption (rules_found t) form r (choice_found t r) (shipped_found t r))) owed;
     }
 
 pub frozen_answer : (w : Readings) (t : Tables) (r day : List ℕ) (row : ReleaseRow) → release_found t r ≡ Some row → is_day day ≡ true → None ≡ unready row.state → freeze_open_found w t r row.form ≡ answer_from w t (Freeze r day)

@@ -4,16 +4,16 @@ use Rattle.desk_rows.specs.Readings.{Readings}
 use Rattle.std.specs.List.{enumerate_from}
 use Rattle.std.proofs.lemmas.List.{map-append}
 use Rattle.desk_rows.specs.Tables.{Tables}
-use Rattle.desk_history.specs.FromTables.{new_duty, rules_found, choice_found}
+use Rattle.desk_history.specs.FromTables.{new_duty, conclusion_found, rules_found, choice_found}
 use Rattle.desk_decisions.specs.Walks.{Gathers, GathersTerms, GathersPackage}
 use Rattle.desk_decisions.specs.declared.freeze.Gathered.{Gathered}
-use Rattle.desk_base.specs.declared.profile.Profile.{Profile}
 use Rattle.desk_rows.specs.declared.refusal.Refusal.{Refusal}
 use Rattle.desk_rows.specs.declared.row.DutyRow.{DutyRow}
+use Rattle.desk_rows.specs.declared.row.AdoptionRow.{AdoptionRow}
 use Rattle.desk_rows.specs.declared.row.FrozenRow.{FrozenRow}
 use Rattle.desk_rows.specs.declared.row.Owed.{Owed}
 use Rattle.desk_rows.specs.Raised.{owed_for, frozen_for, owed_for_terms, frozen_for_terms, owed_code, frozen_term, rule_adopted}
-use Rattle.desk_rows.specs.Answers.{first_unruled, package_fault, unready_package, profile_in, walk}
+use Rattle.desk_rows.specs.Answers.{first_unruled, package_fault, walk}
 use Rattle.desk_rows.specs.declared.reading.Rule.{Rule}
 use Rattle.desk_rows.specs.declared.row.PackageRow.{PackageRow}
 
@@ -26,13 +26,13 @@ pub more_of : {A : Type 0} (old new here before rest total : List A) → new ≡
 more_of old new here before rest total grown split sofar =
     ap (λ xs. xs ++ rest) grown ∙ (append_assoc old here rest ∙ (ap (λ ys. old ++ ys) (sym split) ∙ sofar))
 
-pub record WalksOn (w : Readings) (rules : List Rule) (form r : List ℕ) (p : PackageRow) (terms rest : List (List ℕ)) (term : List ℕ) (rule : Rule) : Type 0 where
-  pub unruled : first_unruled w rules form p terms ≡ first_unruled w rules form p rest
-  pub frozen : frozen_for_terms w rules form r p terms ≡ (frozen_term r p term rule ∷ []) ++ frozen_for_terms w rules form r p rest
-  pub owed : owed_for_terms w rules form r p terms ≡ map (owed_code r p term rule) rule.codes ++ owed_for_terms w rules form r p rest
+pub record WalksOn (w : Readings) (licences : List AdoptionRow) (rules : List Rule) (form r : List ℕ) (p : PackageRow) (terms rest : List (List ℕ)) (term : List ℕ) (rule : Rule) : Type 0 where
+  pub unruled : first_unruled w licences rules form p terms ≡ first_unruled w licences rules form p rest
+  pub frozen : frozen_for_terms w licences rules form r p terms ≡ (frozen_term r p term rule ∷ []) ++ frozen_for_terms w licences rules form r p rest
+  pub owed : owed_for_terms w licences rules form r p terms ≡ map (owed_code r p term rule) rule.codes ++ owed_for_terms w licences rules form r p rest
 
-pub walks_on : (w : Readings) (rules : List Rule) (form r : List ℕ) (p : PackageRow) (terms rest : List (List ℕ)) (term : List ℕ) (rule : Rule) → terms ≡ term ∷ rest → Some rule ≡ rule_adopted w rules form term → WalksOn w rules form r p terms rest term rule
-walks_on w rules form r p terms rest term rule split found = record {
+pub walks_on : (w : Readings) (licences : List AdoptionRow) (rules : List Rule) (form r : List ℕ) (p : PackageRow) (terms rest : List (List ℕ)) (term : List ℕ) (rule : Rule) → terms ≡ term ∷ rest → Some rule ≡ rule_adopted w licences rules form p.document term → WalksOn w licences rules form r p terms rest term rule
+walks_on w licences rules form r p terms rest term rule split found = record {
   unruled = rw (split, ← found) refl;
   frozen = rw (split, ← found) refl;
   owed = rw (split, ← found) refl;
@@ -52,38 +52,18 @@ duties_push first xs x n rows rows' e f g =
 
 -- Packages
 
-gathers_due : (due due' : Option Refusal) (rows : List FrozenRow) (owed : List Owed) (old new : Gathered) (fault : Option Refusal) → due' ≡ due → Gathers due rows owed old new fault → Gathers due' rows owed old new fault
-gathers_due due due' rows owed old new None e g = (e ∙ g.0, g.1, g.2)
-gathers_due due due' rows owed old new (Some f) e g = e ∙ g
-
-pub gathers_package : (w : Readings) (t t2 : Tables) (form r : List ℕ) (p : PackageRow) (profile : Profile) (terms : List (List ℕ)) (old new : Gathered) (fault : Option Refusal) → t2 ≡ t → terms ≡ choice_found t r p → profile ≡ profile_in t.document p → None ≡ unready_package w profile terms p → GathersTerms w (rules_found t2) form r p terms old new fault → GathersPackage w t form r p old new fault
-gathers_package w t t2 form r p profile terms old new fault s e f ready g =
-    let g1 : GathersTerms w (rules_found t) form r p (choice_found t r p) old new fault =
-    subst (λ (u : Tables). GathersTerms w (rules_found u) form r p (choice_found t r p) old new fault) s (subst (λ (ts : List (List ℕ)). GathersTerms w (rules_found t2) form r p ts old new fault) e g) in
-    let ready1 : None ≡ unready_package w (profile_in t.document p) (choice_found t r p) p =
-    subst (λ (x : Profile). None ≡ unready_package w x (choice_found t r p) p) f (subst (λ (ts : List (List ℕ)). None ≡ unready_package w profile ts p) e ready) in
-    gathers_due (first_unruled w (rules_found t) form p (choice_found t r p)) (package_fault w (rules_found t) form (profile_in t.document p) (choice_found t r p) p)
-    (frozen_for_terms w (rules_found t) form r p (choice_found t r p)) (owed_for_terms w (rules_found t) form r p (choice_found t r p)) old new fault
-    (rw (← ready1) refl) g1
-
-pub unready_gathers : (w : Readings) (t : Tables) (form r : List ℕ) (p : PackageRow) (profile : Profile) (terms : List (List ℕ)) (refusal : Refusal) → terms ≡ choice_found t r p → profile ≡ profile_in t.document p → Some refusal ≡ unready_package w profile terms p → package_fault w (rules_found t) form (profile_in t.document p) (choice_found t r p) p ≡ Some refusal
-unready_gathers w t form r p profile terms refusal e f ready =
-    let ready1 : Some refusal ≡ unready_package w (profile_in t.document p) (choice_found t r p) p =
-    subst (λ (x : Profile). Some refusal ≡ unready_package w x (choice_found t r p) p) f (subst (λ (ts : List (List ℕ)). Some refusal ≡ unready_package w profile ts p) e ready) in
-    rw (← ready1) refl
-
 -- the walk over packages, of which the first fails
-pub walk_fails : (w : Readings) (t : Tables) (form r : List ℕ) (ps rest : List PackageRow) (p : PackageRow) (old new : Gathered) (o : Option Refusal) (refusal : Refusal) → ps ≡ p ∷ rest → GathersPackage w t form r p old new o → o ≡ Some refusal → walk w (rules_found t) form (profile_in t.document) (choice_found t r) ps ≡ Some refusal
+pub walk_fails : (w : Readings) (t : Tables) (form r : List ℕ) (ps rest : List PackageRow) (p : PackageRow) (old new : Gathered) (o : Option Refusal) (refusal : Refusal) → ps ≡ p ∷ rest → GathersPackage w t form r p old new o → o ≡ Some refusal → walk w t.adoption (rules_found t) form (conclusion_found w t) (choice_found t r) ps ≡ Some refusal
 walk_fails w t form r ps rest p old new o refusal split g e =
-    let g1 : package_fault w (rules_found t) form (profile_in t.document p) (choice_found t r p) p ≡ Some refusal = subst (GathersPackage w t form r p old new) e g in
+    let g1 : package_fault w t.adoption (rules_found t) form (conclusion_found w t p) (choice_found t r p) p ≡ Some refusal = subst (GathersPackage w t form r p old new) e g in
     rw (split, g1) refl
 
 pub record PackagesOn (w : Readings) (t : Tables) (form r : List ℕ) (ps rest : List PackageRow) (p : PackageRow) (old new : Gathered) : Type 0 where
-  pub walked : walk w (rules_found t) form (profile_in t.document) (choice_found t r) ps ≡ walk w (rules_found t) form (profile_in t.document) (choice_found t r) rest
-  pub frozen : frozen_for w (rules_found t) form r (choice_found t r) ps ≡ frozen_for_terms w (rules_found t) form r p (choice_found t r p) ++ frozen_for w (rules_found t) form r (choice_found t r) rest
-  pub owed : owed_for w (rules_found t) form r (choice_found t r) ps ≡ owed_for_terms w (rules_found t) form r p (choice_found t r p) ++ owed_for w (rules_found t) form r (choice_found t r) rest
-  pub new_frozen : new.frozen.items ≡ old.frozen.items ++ frozen_for_terms w (rules_found t) form r p (choice_found t r p)
-  pub new_owed : new.owed.items ≡ old.owed.items ++ owed_for_terms w (rules_found t) form r p (choice_found t r p)
+  pub walked : walk w t.adoption (rules_found t) form (conclusion_found w t) (choice_found t r) ps ≡ walk w t.adoption (rules_found t) form (conclusion_found w t) (choice_found t r) rest
+  pub frozen : frozen_for w t.adoption (rules_found t) form r (choice_found t r) ps ≡ frozen_for_terms w t.adoption (rules_found t) form r p (choice_found t r p) ++ frozen_for w t.adoption (rules_found t) form r (choice_found t r) rest
+  pub owed : owed_for w t.adoption (rules_found t) form r (choice_found t r) ps ≡ owed_for_terms w t.adoption (rules_found t) form r p (choice_found t r p) ++ owed_for w t.adoption (rules_found t) form r (choice_found t r) rest
+  pub new_frozen : new.frozen.items ≡ old.frozen.items ++ frozen_for_terms w t.adoption (rules_found t) form r p (choice_found t r p)
+  pub new_owed : new.owed.items ≡ old.owed.items ++ owed_for_terms w t.adoption (rules_found t) form r p (choice_found t r p)
 
 pub packages_on : (w : Readings) (t : Tables) (form r : List ℕ) (ps rest : List PackageRow) (p : PackageRow) (old new : Gathered) (o : Option Refusal) → ps ≡ p ∷ rest → GathersPackage w t form r p old new o → o ≡ None → PackagesOn w t form r ps rest p old new
 packages_on w t form r ps rest p old new o split g e =

@@ -1,3 +1,4 @@
+pub mod Concluding
 pub mod Walks
 pub mod Moving
 pub mod Dropping

@@ -12,6 +12,7 @@ ghost use Rattle.desk_rows.specs.declared.command.Command.TheVariants.{Import};
 
 use crate::catalogue::load_catalogue;
 use crate::choice::{choose, unchoose};
+use crate::conclusion::{adopt, conclude};
 use crate::document::{import, import_copy};
 use crate::duty::{meet, reopen, waive};
 use crate::freeze::freeze;
@@ -62,6 +63,16 @@ pub fn plan<T: Texts, S: Store>(
         Command::Reopen { duty, day, text } => reopen(alloc, store, *duty, day, text),
         Command::Withdraw { release, day, text } => withdraw(alloc, store, release, day, text),
         Command::CloseDay { day } => close_day(alloc, store, day),
+        Command::Conclude {
+            document,
+            package_id,
+            expression,
+        } => conclude(alloc, texts, store, *document, package_id, expression),
+        Command::Adopt {
+            document,
+            reference,
+            licence,
+        } => adopt(alloc, texts, store, *document, reference, licence),
     }
 }
 

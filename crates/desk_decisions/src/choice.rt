@@ -1,7 +1,7 @@
 //! Terms are chosen for the packages of a release, and choices dropped.
 
 ghost use Rattle.std.specs.Prelude.{◌≡◌, ◌≤◌, ◌<◌, ◌+◌, ◌++◌, ◌∷◌, [], IfOk, IfErr, OnOk, false, MatchOption, insert, map, length, Ok, Some, None, Option, filter};
-ghost use Rattle.std.specs.Option.{option_map};
+ghost use Rattle.std.specs.Option.{option_copied};
 ghost use Rattle.desk_rows.specs.Readings.{Readings};
 ghost use Rattle.desk_rows.specs.Faults.{MayFail};
 ghost use Rattle.desk_rows.specs.Texts.{put_new, sorted_set};
@@ -16,13 +16,14 @@ ghost use Rattle.desk_rows.specs.Answers.{judged, refused_alone};
 ghost use Rattle.desk_rows.specs.declared.command.Answer.TheVariants.{Done};
 ghost use Rattle.desk_rows.specs.declared.command.Command.TheVariants.{Choose, Unchoose};
 
+use crate::conclusion::conclusion_of;
 use crate::plan::{done, refused};
 use crate::release::unready;
 use desk_access::store::Store;
 use desk_access::texts::Texts;
 use desk_base::{Items, Text};
 use desk_rows::{
-    Change, ChoiceRow, Fault, PackageRow, Plan, Profile, Refusal, ReleaseState, Verdict,
+    Change, ChoiceRow, Conclusion, Fault, PackageRow, Plan, Refusal, ReleaseState, Verdict,
 };
 use std::alloc::{AllocError, Global};
 
@@ -103,26 +104,24 @@ fn refusal_of(
     }
 }
 
-/// What stands against the terms for a package.
+/// What stands against the terms for a package with this conclusion.
 fn judge<T: Texts>(
     alloc: Global,
     texts: &T,
-    profile: Profile,
+    conclusion: Option<&Conclusion>,
     row: &PackageRow,
     terms: &[Text],
 ) -> Result<Option<Refusal>, AllocError>
-    ensures { (w : Readings) → T.are_right w → IfOk result (λ refusal. refused_or refusal Done ≡ choose_for w terms.now profile row.now) }
+    ensures { (w : Readings) → T.are_right w → IfOk result (λ refusal. refused_or refusal Done ≡ choose_for w terms.now (option_copied conclusion.entry) row.now) }
 {
-    if let Some(text) = &row.concluded {
-        if texts.is_expression(alloc, profile, text.as_str())? {
-            let verdict = texts.verdict(alloc, profile, text.as_str(), terms)?;
-            return refusal_of(alloc, terms, verdict);
-        }
-    }
-    Ok(Some(Refusal::NoConclusion {
-        document: row.document,
-        package_id: row.id.clone()?,
-    }))
+    let Some(found) = conclusion else {
+        return Ok(Some(Refusal::NoConclusion {
+            document: row.document,
+            package_id: row.id.clone()?,
+        }));
+    };
+    let verdict = texts.verdict(alloc, found.profile, found.text.as_str(), terms)?;
+    refusal_of(alloc, terms, verdict)
 }
 
 fn choice_rows(
@@ -170,7 +169,6 @@ fn chosen(
 #[derive(Drop)]
 struct Place {
     document: u32,
-    profile: Profile,
     row: PackageRow,
 }
 
@@ -211,7 +209,7 @@ fn find_place<S: Store>(
     let Some(found) = store.release(release.as_str())? else {
         return Ok(Found::Nowhere(Refusal::UnknownRelease));
     };
-    let Some((number, profile)) = store.document(document)? else {
+    let Some((number, _)) = store.document(document)? else {
         return Ok(Found::Nowhere(Refusal::UnknownDocument));
     };
     let Some(row) = store.package_row(document, package_id.as_str())? else {
@@ -220,25 +218,25 @@ fn find_place<S: Store>(
     let is_attached = store.is_attached(release.as_str(), document)?;
     let place = Place {
         document: number,
-        profile,
         row,
     };
     Ok(open_place(found.state, is_attached, place))
 }
 
-/// Chooses terms that were read, at a place.
+/// Chooses terms that were read, at a place with this conclusion.
 fn choose_at<T: Texts>(
     alloc: Global,
     texts: &T,
     release: &Text,
     place: &Place,
+    conclusion: Option<&Conclusion>,
     package_id: &Text,
     terms: Items<Text>,
 ) -> Result<Plan, AllocError>
-    ensures plan { (w : Readings) → T.are_right w → IfOk result (IsPlan (choose_for w terms place.now.profile place.now.row) (chosen_change release.now place.now.document package_id.now (sorted_set terms))) }
+    ensures plan { (w : Readings) → T.are_right w → IfOk result (IsPlan (choose_for w terms (option_copied conclusion.entry) place.now.row) (chosen_change release.now place.now.document package_id.now (sorted_set terms))) }
     ensures sound { IfOk result IsSound }
 {
-    if let Some(refusal) = judge(alloc, texts, place.profile, &place.row, terms.as_slice())? {
+    if let Some(refusal) = judge(alloc, texts, conclusion, &place.row, terms.as_slice())? {
         return Ok(refused(refusal));
     }
     Ok(done(chosen(alloc, release, place.document, package_id, terms)?))
@@ -260,7 +258,18 @@ fn choose_terms<T: Texts, S: Store>(
 {
     match find_place(store, release, document, package_id)? {
         Found::Nowhere(refusal) => Ok(refused(refusal)),
-        Found::Here(place) => Ok(choose_at(alloc, texts, release, &place, package_id, terms)?),
+        Found::Here(place) => {
+            let conclusion = conclusion_of(alloc, texts, store, &place.row)?;
+            Ok(choose_at(
+                alloc,
+                texts,
+                release,
+                &place,
+                conclusion.as_ref(),
+                package_id,
+                terms,
+            )?)
+        }
     }
 }
 

@@ -4,15 +4,17 @@ ghost use Rattle.std.specs.Prelude.{◌≡◌, ℕ, ◌≤◌, ◌<◌, ◌+◌,
 ghost use Rattle.std.specs.List.{enumerate_from};
 ghost use Rattle.desk_rows.specs.Readings.{Readings};
 ghost use Rattle.desk_rows.specs.Faults.{MayFail};
-ghost use Rattle.desk_rows.specs.History.{attached_to, expression_in};
+ghost use Rattle.desk_rows.specs.History.{attached_to};
+ghost use Rattle.desk_rows.specs.Conclusions.{adopted};
 ghost use Rattle.desk_rows.specs.Raised.{owed_under, owed_code, frozen_term, rule_adopted, shipped_of};
-ghost use Rattle.desk_rows.specs.Answers.{first_unadopted, unconcluded, unready_package, freeze_fits, profile_in, refused_alone};
+ghost use Rattle.desk_rows.specs.Answers.{first_unadopted, unadopted, unready_package, freeze_fits, refused_alone};
 ghost use Rattle.desk_history.specs.FromTables.{rules_found, new_duty, raised_row, froze_rows, froze_as, freeze_open_found, freeze_change_found};
 ghost use Rattle.desk_access.specs.Seen.{Looked, OfRows};
 ghost use Rattle.desk_access.specs.Plans.{IsPlan, IsPlanOf, Plans, SparesStore};
 ghost use Rattle.desk_decisions.specs.Walks.{GathersTerms, GathersPackage, GathersAll};
 ghost use Rattle.desk_rows.specs.declared.command.Command.TheVariants.{Freeze};
 
+use crate::conclusion::conclusion_of;
 use crate::duty::read_day;
 use crate::plan::refused;
 use crate::release::unready;
@@ -20,8 +22,8 @@ use desk_access::store::Store;
 use desk_access::texts::Texts;
 use desk_base::{Day, Items, Text};
 use desk_rows::{
-    Answer, AttachedRow, Change, ChangeRow, DutyRow, DutyState, Fault, FrozenRow, Limit, Owed,
-    PackageRow, Plan, Profile, Refusal, Rule, Word,
+    Answer, AttachedRow, Change, ChangeRow, Conclusion, DutyRow, DutyState, Fault, FrozenRow,
+    Limit, Owed, PackageRow, Plan, Refusal, Rule, Word,
 };
 use std::alloc::{AllocError, Global};
 
@@ -103,42 +105,91 @@ fn add_term(
     Ok(())
 }
 
-/// The rule for the adopted form of a term.
-fn rule_adopted<T: Texts, S: Store>(
+/// The form in which a term of a document is looked up: a reference as the licence that it is adopted as, if it is.
+fn adopted<T: Texts, S: Store>(
     alloc: Global,
     texts: &T,
     store: &mut S,
-    form: &Text,
+    document: u32,
     term: &Text,
-) -> Result<Option<Rule>, Fault>
-    ensures found { (w : Readings) → T.are_right w → IfOk result (λ found. OfRows (λ t. found ≡ rule_adopted w (rules_found t) form.now term.now) (S.seen store.old) (S.seen store.new)) }
+) -> Result<Option<Text>, Fault>
+    ensures found { (w : Readings) → T.are_right w → IfOk result (λ found. OfRows (λ t. found ≡ adopted w t.adoption document term.now) (S.seen store.old) (S.seen store.new)) }
     ensures kept { Looked (S.seen store.old) (S.seen store.new) result }
     ensures fault { IfErr result (MayFail S.tells) }
 {
     let Ok(reference) = texts.reference(alloc, term.as_str()) else {
         return Err(Fault::Memory);
     };
-    if reference.is_some() {
+    let Some(reference) = reference else {
+        return Ok(Some(term.clone()?));
+    };
+    let Some(licence) = store.adoption(document, reference.as_str())? else {
+        return Ok(None);
+    };
+    Ok(Some(texts.adopted_as(alloc, licence.as_str(), term.as_str())?))
+}
+
+/// The rule for the adopted form of a term of a document.
+fn rule_adopted<T: Texts, S: Store>(
+    alloc: Global,
+    texts: &T,
+    store: &mut S,
+    form: &Text,
+    document: u32,
+    term: &Text,
+) -> Result<Option<Rule>, Fault>
+    ensures found { (w : Readings) → T.are_right w → IfOk result (λ found. OfRows (λ t. found ≡ rule_adopted w t.adoption (rules_found t) form.now document term.now) (S.seen store.old) (S.seen store.new)) }
+    ensures kept { Looked (S.seen store.old) (S.seen store.new) result }
+    ensures fault { IfErr result (MayFail S.tells) }
+{
+    match adopted(alloc, texts, store, document, term)? {
+        Some(licence) => store.rule(licence.as_str(), form.as_str()),
+        None => Ok(None),
+    }
+}
+
+/// What stands against a term of a document: it is a reference without adoption.
+fn unadopted<T: Texts, S: Store>(
+    alloc: Global,
+    texts: &T,
+    store: &mut S,
+    document: u32,
+    term: &Text,
+) -> Result<Option<Refusal>, Fault>
+    ensures found { (w : Readings) → T.are_right w → IfOk result (λ refusal. OfRows (λ t. refusal ≡ unadopted w t.adoption document term.now) (S.seen store.old) (S.seen store.new)) }
+    ensures kept { Looked (S.seen store.old) (S.seen store.new) result }
+    ensures fault { IfErr result (MayFail S.tells) }
+{
+    let Ok(reference) = texts.reference(alloc, term.as_str()) else {
+        return Err(Fault::Memory);
+    };
+    let Some(reference) = reference else {
+        return Ok(None);
+    };
+    if store.adoption(document, reference.as_str())?.is_some() {
         return Ok(None);
     }
-    store.rule(term.as_str(), form.as_str())
+    Ok(Some(Refusal::NotAdopted {
+        document,
+        reference,
+    }))
 }
 
 /// The first term of a package without adoption.
-fn first_unadopted<T: Texts>(
+fn first_unadopted<T: Texts, S: Store>(
     alloc: Global,
     texts: &T,
+    store: &mut S,
     document: u32,
     terms: &[Text],
-) -> Result<Option<Refusal>, AllocError>
-    ensures { (w : Readings) → T.are_right w → IfOk result (λ refusal. refusal ≡ first_unadopted w document terms.now) }
+) -> Result<Option<Refusal>, Fault>
+    ensures found { (w : Readings) → T.are_right w → IfOk result (λ refusal. OfRows (λ t. refusal ≡ first_unadopted w t.adoption document terms.now) (S.seen store.old) (S.seen store.new)) }
+    ensures kept { Looked (S.seen store.old) (S.seen store.new) result }
+    ensures fault { IfErr result (MayFail S.tells) }
 {
     for term in terms {
-        if let Some(reference) = texts.reference(alloc, term.as_str())? {
-            return Ok(Some(Refusal::NotAdopted {
-                document,
-                reference,
-            }));
+        if let Some(refusal) = unadopted(alloc, texts, store, document, term)? {
+            return Ok(Some(refusal));
         }
     }
     Ok(None)
@@ -166,12 +217,12 @@ fn freeze_terms<T: Texts, S: Store>(
     terms: &[Text],
     gathered: &mut Gathered,
 ) -> Result<Option<Refusal>, Fault>
-    ensures gathered { (w : Readings) → T.are_right w → IfOk result (λ fault. OfRows (λ t. GathersTerms w (rules_found t) form.now release.now row.now terms.now gathered.old gathered.new fault) (S.seen store.old) (S.seen store.new)) }
+    ensures gathered { (w : Readings) → T.are_right w → IfOk result (λ fault. OfRows (λ t. GathersTerms w t.adoption (rules_found t) form.now release.now row.now terms.now gathered.old gathered.new fault) (S.seen store.old) (S.seen store.new)) }
     ensures kept { Looked (S.seen store.old) (S.seen store.new) result }
     ensures fault { IfErr result (MayFail S.tells) }
 {
     for term in terms {
-        let Some(rule) = rule_adopted(alloc, texts, store, form, term)? else {
+        let Some(rule) = rule_adopted(alloc, texts, store, form, row.document, term)? else {
             return Ok(Some(no_rule(row, term)?));
         };
         let Ok(()) = add_term(gathered, release, row, term, &rule) else {
@@ -181,36 +232,13 @@ fn freeze_terms<T: Texts, S: Store>(
     Ok(None)
 }
 
-/// What stands against a package without a conclusion.
-fn unconcluded<T: Texts>(
-    alloc: Global,
-    texts: &T,
-    profile: Profile,
-    row: &PackageRow,
-) -> Result<Option<Refusal>, AllocError>
-    ensures { (w : Readings) → T.are_right w → IfOk result (λ refusal. refusal ≡ unconcluded w profile row.now) }
+fn no_conclusion(row: &PackageRow) -> Result<Refusal, AllocError>
+    ensures { IfOk result (λ refusal. refusal ≡ Refusal.NoConclusion row.now.document row.now.id) }
 {
-    if let Some(text) = &row.concluded {
-        if texts.is_expression(alloc, profile, text.as_str())? {
-            return Ok(None);
-        }
-    }
-    Ok(Some(Refusal::NoConclusion {
+    Ok(Refusal::NoConclusion {
         document: row.document,
         package_id: row.id.clone()?,
-    }))
-}
-
-/// The profile of a package's document.
-fn profile_of<S: Store>(store: &mut S, row: &PackageRow) -> Result<Profile, Fault>
-    ensures found { IfOk result (λ profile. OfRows (λ t. profile ≡ profile_in t.document row.now) (S.seen store.old) (S.seen store.new)) }
-    ensures kept { Looked (S.seen store.old) (S.seen store.new) result }
-    ensures fault { IfErr result (MayFail S.tells) }
-{
-    match store.document(u64::from(row.document))? {
-        Some((_, profile)) => Ok(profile),
-        None => Ok(Profile::Capitals),
-    }
+    })
 }
 
 fn no_choice(row: &PackageRow) -> Result<Refusal, AllocError>
@@ -222,23 +250,26 @@ fn no_choice(row: &PackageRow) -> Result<Refusal, AllocError>
     })
 }
 
-/// What stands against a package with these terms, apart from rules.
-fn unready_package<T: Texts>(
+/// What stands against a package with this conclusion and these terms, apart from rules.
+fn unready_package<T: Texts, S: Store>(
     alloc: Global,
     texts: &T,
-    profile: Profile,
+    store: &mut S,
+    conclusion: &Option<Conclusion>,
     row: &PackageRow,
     terms: &[Text],
-) -> Result<Option<Refusal>, AllocError>
-    ensures { (w : Readings) → T.are_right w → IfOk result (λ refusal. refusal ≡ unready_package w profile terms.now row.now) }
+) -> Result<Option<Refusal>, Fault>
+    ensures found { (w : Readings) → T.are_right w → IfOk result (λ refusal. OfRows (λ t. refusal ≡ unready_package w t.adoption conclusion.now terms.now row.now) (S.seen store.old) (S.seen store.new)) }
+    ensures kept { Looked (S.seen store.old) (S.seen store.new) result }
+    ensures fault { IfErr result (MayFail S.tells) }
 {
-    if let Some(refusal) = unconcluded(alloc, texts, profile, row)? {
-        return Ok(Some(refusal));
+    if conclusion.is_none() {
+        return Ok(Some(no_conclusion(row)?));
     }
     if terms.is_empty() {
         return Ok(Some(no_choice(row)?));
     }
-    first_unadopted(alloc, texts, row.document, terms)
+    first_unadopted(alloc, texts, store, row.document, terms)
 }
 
 /// Gathers what a package owes, or tells what stands against it.
@@ -255,13 +286,11 @@ fn freeze_package<T: Texts, S: Store>(
     ensures kept { Looked (S.seen store.old) (S.seen store.new) result }
     ensures fault { IfErr result (MayFail S.tells) }
 {
-    let profile = profile_of(store, row)?;
+    let conclusion = conclusion_of(alloc, texts, store, row)?;
     let terms = store.chosen(release.as_str(), row.document, row.id.as_str())?;
-    let Ok(refusal) = unready_package(alloc, texts, profile, row, terms.as_slice()) else {
-        return Err(Fault::Memory);
-    };
-    if let Some(refusal) = refusal {
-        return Ok(Some(refusal));
+    let refusal = unready_package(alloc, texts, store, &conclusion, row, terms.as_slice())?;
+    if refusal.is_some() {
+        return Ok(refusal);
     }
     freeze_terms(
         alloc,

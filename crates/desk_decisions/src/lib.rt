@@ -6,13 +6,14 @@
 //! commits the rows of that answer, all or none: after a refusal, Again or a fault the rows are as they were.
 //!
 //! - `carry_out` is all commands; `answer_to` all questions.
-//! - `catalogue`, `document`, `release`, `choice`, `freeze`, `duty` and `withdraw` have one command to three each.
+//! - `catalogue`, `document`, `release`, `conclusion`, `choice`, `freeze`, `duty` and `withdraw` have one command to three each.
 #![tactic(auto)]
 
 pub mod ask;
 pub mod carry;
 pub mod catalogue;
 pub mod choice;
+pub mod conclusion;
 pub mod document;
 pub mod duty;
 pub mod freeze;

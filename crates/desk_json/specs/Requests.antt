@@ -108,6 +108,20 @@ abbrev pub close_request : Data → Request
 close_request d = with_members 2 d
     (with_text (codes "day") d (λ day. Act (command.CloseDay day)))
 
+abbrev pub conclude_request : Data → Request
+conclude_request d = with_members 4 d
+    (with_number (codes "document") d (λ document.
+    with_text (codes "package") d (λ package_id.
+    with_text (codes "expression") d (λ expression.
+    Act (command.Conclude document package_id expression)))))
+
+abbrev pub adopt_request : Data → Request
+adopt_request d = with_members 4 d
+    (with_number (codes "document") d (λ document.
+    with_text (codes "reference") d (λ reference.
+    with_text (codes "licence") d (λ licence.
+    Act (command.Adopt document reference licence)))))
+
 abbrev pub duties_request : Data → Request
 duties_request d = with_members 2 d
     (with_text (codes "release") d (λ release. Ask (query.Duties release)))
@@ -135,6 +149,8 @@ command_request word d =
     else if bytes_eq word (codes "reopen") then reopen_request d
     else if bytes_eq word (codes "withdraw") then withdraw_request d
     else if bytes_eq word (codes "close") then close_request d
+    else if bytes_eq word (codes "conclude") then conclude_request d
+    else if bytes_eq word (codes "adopt") then adopt_request d
     else BadCommand
 
 -- the form that the word behind `ask` names

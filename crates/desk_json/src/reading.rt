@@ -2,7 +2,7 @@
 
 ghost use Rattle.std.specs.Prelude.{◌≡◌, IfOk, codes};
 ghost use Rattle.serde_json.specs.View.{view};
-ghost use Rattle.desk_json.specs.Requests.{catalogue_request, import_profile, import_request, open_request, attach_request, choose_request, freeze_request, meet_request, unchoose_request, waive_until, waive_request, reopen_request, withdraw_request, close_request, duties_request, totals_request, changes_request, query_request, request_of, request_in, with_text};
+ghost use Rattle.desk_json.specs.Requests.{catalogue_request, import_profile, import_request, open_request, attach_request, choose_request, freeze_request, meet_request, unchoose_request, waive_until, waive_request, reopen_request, withdraw_request, close_request, conclude_request, adopt_request, duties_request, totals_request, changes_request, query_request, request_of, request_in, with_text};
 
 use crate::fields::{number_at, profile_at, size_of, take_text, text_at, texts_at};
 use crate::request::Request;
@@ -231,6 +231,54 @@ fn read_reopen(alloc: Global, value: &Value) -> Result<Request, AllocError>
     Ok(Request::Act(Command::Reopen { duty, day, text }))
 }
 
+fn read_conclude(alloc: Global, value: &Value) -> Result<Request, AllocError>
+    ensures { IfOk result (λ r. r ≡ conclude_request (view value.now)) }
+{
+    if size_of(value) != 4 {
+        return Ok(Request::BadCommand);
+    }
+    let Some(document) = number_at(value, "document") else {
+        return Ok(Request::BadCommand);
+    };
+    let Some(package_id) = text_at(value, "package") else {
+        return Ok(Request::BadCommand);
+    };
+    let Some(expression) = text_at(value, "expression") else {
+        return Ok(Request::BadCommand);
+    };
+    let package_id = Text::of(alloc, package_id)?;
+    let expression = Text::of(alloc, expression)?;
+    Ok(Request::Act(Command::Conclude {
+        document,
+        package_id,
+        expression,
+    }))
+}
+
+fn read_adopt(alloc: Global, value: &Value) -> Result<Request, AllocError>
+    ensures { IfOk result (λ r. r ≡ adopt_request (view value.now)) }
+{
+    if size_of(value) != 4 {
+        return Ok(Request::BadCommand);
+    }
+    let Some(document) = number_at(value, "document") else {
+        return Ok(Request::BadCommand);
+    };
+    let Some(reference) = text_at(value, "reference") else {
+        return Ok(Request::BadCommand);
+    };
+    let Some(licence) = text_at(value, "licence") else {
+        return Ok(Request::BadCommand);
+    };
+    let reference = Text::of(alloc, reference)?;
+    let licence = Text::of(alloc, licence)?;
+    Ok(Request::Act(Command::Adopt {
+        document,
+        reference,
+        licence,
+    }))
+}
+
 fn read_withdraw(alloc: Global, value: &Value) -> Result<Request, AllocError>
     ensures { IfOk result (λ r. r ≡ withdraw_request (view value.now)) }
 {
@@ -329,6 +377,8 @@ fn read_value(alloc: Global, value: &mut Value) -> Result<Request, AllocError>
         Some("waive") => read_waive(alloc, value),
         Some("reopen") => read_reopen(alloc, value),
         Some("withdraw") => read_withdraw(alloc, value),
+        Some("conclude") => read_conclude(alloc, value),
+        Some("adopt") => read_adopt(alloc, value),
         Some("close") => read_close(alloc, value),
         Some(_) => Ok(Request::BadCommand),
         None => read_ask(alloc, value),

@@ -4,7 +4,7 @@ use Rattle.std.specs.List.{list_any}
 use Rattle.desk_rows.specs.Keys.{is_package, is_attachment}
 use Rattle.desk_rows.specs.Tables.{Tables}
 use Rattle.desk_rows.specs.Answers.{choose_shipped}
-use Rattle.desk_history.specs.FromTables.{release_found}
+use Rattle.desk_history.specs.FromTables.{conclusion_found, release_found}
 use Rattle.desk_decisions.proofs.Places.{found_at, is_found, same_number}
 use Rattle.desk_decisions.proofs.choice.find_place.Goals as goal
 
@@ -27,9 +27,9 @@ returns-clause-found g c = λ h t held.
     let a : list_any (is_attachment c.args.release.now d) t.attached ≡ c.in_ok-is_attached.is_attached =
     ap (λ (r : List ℕ). list_any (is_attachment r d) t.attached) (sym c.as_str-3.ensures) ∙ sym (four.found h t t3) in
     is_found t c.args.release.now d c.args.package_id.now c.in-Some.found.state c.in_ok-is_attached.is_attached
-    (record { document = c.in-Some-2.number; profile = c.in-Some-2.profile; row = c.in-Some-3.row }) c.open_place.result c.open_place.ensures
-    (same_number c.in_ok-number.field-0 c.in-Some-2.number d c.in-Some-2.profile c.in-Some-2.is two.same)
+    (record { document = c.in-Some-2.number; row = c.in-Some-3.row }) c.open_place.result c.open_place.ensures
+    (same_number c.in_ok-number.field-0 c.in-Some-2.number d c.in-Some-2.field-0-1 c.in-Some-2.is two.same)
     (λ w terms.
-    found_at w terms t c.args.release.now d c.args.package_id.now c.in-Some.found (c.in-Some-2.number, c.in-Some-2.profile) c.in-Some-3.row
+    found_at w terms t c.args.release.now d c.args.package_id.now c.in-Some.found (c.in-Some-2.number, c.in-Some-2.field-0-1) c.in-Some-3.row
     e1 (sym (two.found h2 t t1) ∙ c.in-Some-2.is) e3
-    ∙ ap (λ b. choose_shipped w terms b c.in-Some-2.profile c.in-Some.found.state c.in-Some-3.row) a)
+    ∙ ap (λ b. choose_shipped w terms b (conclusion_found w t) c.in-Some.found.state c.in-Some-3.row) a)

@@ -40,8 +40,8 @@ loop-row-preserved g c =
           record {
             walked = sym on.walked ∙ before.walked;
             frozen = more_of c.loop-row.gathered.frozen.items c.freeze_package.new.gathered.frozen.items _
-                (frozen_for w (rules_found t) form r (choice_found t r) (drop i ps)) (frozen_for w (rules_found t) form r (choice_found t r) rest) _ on.new_frozen on.frozen before.frozen;
+                (frozen_for w t.adoption (rules_found t) form r (choice_found t r) (drop i ps)) (frozen_for w t.adoption (rules_found t) form r (choice_found t r) rest) _ on.new_frozen on.frozen before.frozen;
             owed = more_of c.loop-row.gathered.owed.items c.freeze_package.new.gathered.owed.items _
-                (owed_for w (rules_found t) form r (choice_found t r) (drop i ps)) (owed_for w (rules_found t) form r (choice_found t r) rest) _ on.new_owed on.owed before.owed;
+                (owed_for w t.adoption (rules_found t) form r (choice_found t r) (drop i ps)) (owed_for w t.adoption (rules_found t) form r (choice_found t r) rest) _ on.new_owed on.owed before.owed;
           };
     }

@@ -1,8 +1,8 @@
 use Rattle.std.proofs.Common.{◌≡◌, ◌++◌, drop}
 use Rattle.desk_rows.specs.Readings.{Readings}
-use Rattle.desk_rows.specs.Answers.{walk, profile_in}
+use Rattle.desk_rows.specs.Answers.{walk}
 use Rattle.desk_rows.specs.Raised.{frozen_for, owed_for}
-use Rattle.desk_history.specs.FromTables.{rules_found, choice_found}
+use Rattle.desk_history.specs.FromTables.{conclusion_found, rules_found, choice_found}
 use Rattle.desk_access.specs.Seen.{Same, OfRows}
 use Rattle.desk_decisions.proofs.freeze.freeze_packages.Given as goal
 
@@ -14,8 +14,8 @@ invariant-loop-row g l =
     record {
       same : Same old new;
       gathered : (w : Readings) → g.T.Texts.are_right w → OfRows (λ t. record {
-        walked : walk w (rules_found t) l.form (profile_in t.document) (choice_found t l.release) rest ≡ walk w (rules_found t) l.form (profile_in t.document) (choice_found t l.release) l.packages;
-        frozen : l.gathered.frozen.items ++ frozen_for w (rules_found t) l.form l.release (choice_found t l.release) rest ≡ l.fn.gathered.frozen.items ++ frozen_for w (rules_found t) l.form l.release (choice_found t l.release) l.packages;
-        owed : l.gathered.owed.items ++ owed_for w (rules_found t) l.form l.release (choice_found t l.release) rest ≡ l.fn.gathered.owed.items ++ owed_for w (rules_found t) l.form l.release (choice_found t l.release) l.packages;
+        walked : walk w t.adoption (rules_found t) l.form (conclusion_found w t) (choice_found t l.release) rest ≡ walk w t.adoption (rules_found t) l.form (conclusion_found w t) (choice_found t l.release) l.packages;
+        frozen : l.gathered.frozen.items ++ frozen_for w t.adoption (rules_found t) l.form l.release (choice_found t l.release) rest ≡ l.fn.gathered.frozen.items ++ frozen_for w t.adoption (rules_found t) l.form l.release (choice_found t l.release) l.packages;
+        owed : l.gathered.owed.items ++ owed_for w t.adoption (rules_found t) l.form l.release (choice_found t l.release) rest ≡ l.fn.gathered.owed.items ++ owed_for w t.adoption (rules_found t) l.form l.release (choice_found t l.release) l.packages;
       }) old new;
     }
