@@ -411,13 +411,13 @@ impl Store for MemStore {
     }
 
     fn document_source(&mut self, number: u64) -> Result<Option<(Items<u8>, Profile)>, Fault> {
-        match self.documents.rows.find(&ByNumber { number }) {
-            Some(row) => match Vec::from_slice(self.alloc, row.bytes.as_slice()) {
-                Ok(bytes) => Ok(Some((Items::from_vec(bytes), row.profile))),
-                Err(_) => Err(Fault::Memory),
-            },
-            None => Ok(None),
-        }
+        let Some(row) = self.documents.rows.find(&ByNumber { number }) else {
+            return Ok(None);
+        };
+        let Ok(bytes) = Vec::from_slice(self.alloc, row.bytes.as_slice()) else {
+            return Err(Fault::Memory);
+        };
+        Ok(Some((Items::from_vec(bytes), row.profile)))
     }
 
     fn package_row(&mut self, document: u64, id: &str) -> Result<Option<PackageRow>, Fault> {
