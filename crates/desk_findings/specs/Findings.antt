@@ -1,9 +1,8 @@
 -- All findings of a document.
-use Rattle.std.specs.Prelude.{◌≡◌, ℕ, ◌<◌, ◌≤◌, ◌&&◌, ◌||◌, not, nat_eq, Bool, List, [], ◌∷◌, ◌++◌, Option, Some, None, is_none, length, codes}
+use Rattle.std.specs.Prelude.{◌≡◌, ℕ, ◌<◌, ◌≤◌, ◌&&◌, ◌||◌, nat_eq, Bool, List, ◌++◌, Option, is_none, length, codes}
 use Rattle.std.specs.List.{flat_map, starts_with}
 use Rattle.std.specs.List.Sorted.{IsPermutation, IsSorted}
 use Rattle.desk_expr.specs.Tree.{Tree}
-use Rattle.desk_fields.specs.declared.tag.Tag.{Tag}
 use Rattle.desk_fields.specs.declared.tag.Tag.TheVariants as tags
 use Rattle.desk_tagvalue.specs.declared.sections.SectionKind.TheVariants as sections
 use Rattle.desk_tagvalue.specs.Entries.{value_of}
