@@ -56,7 +56,7 @@ one_reading profile r s h k = λ i text. read_once profile text (r text) (s text
 
 -- ---- the states of codes
 
-state_by : (d : DocumentText) (k : ℕ) → (k < length d.packages) ⊎ (length d.packages ≤ k) → CodeState
+abbrev state_by : (d : DocumentText) (k : ℕ) → (k < length d.packages) ⊎ (length d.packages ≤ k) → CodeState
 state_by d k (inl within) = (state_exists d k within).0
 state_by d k (inr past) = Absent
 
