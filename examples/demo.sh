@@ -100,10 +100,11 @@ ask 4-too-few "$licence" MIT
 ask_small
 cat "$here/first-release/script.jsonl" "$here/first-release/duties.jsonl" "$here/first-release/later.jsonl" |
     add 6-release script
+add 7-findings script <"$here/findings/script.jsonl"
 
 if [ -n "$desk" ]; then
     echo 'This is the program that was proved and built.'
-    run_program 1-unicode-ident 2-linux-tls 3-too-many 4-too-few 5-small 6-release
+    run_program 1-unicode-ident 2-linux-tls 3-too-many 4-too-few 5-small 6-release 7-findings
 else
     command -v rt >/dev/null || { echo 'This needs rt, the Rattle toolchain.' >&2; exit 1; }
     echo 'This runs the desk WITH NO PROOF: it is compiled and shown, and nothing is checked.'
@@ -126,3 +127,8 @@ echo 'a day, open again after it, and withdrawn with the release.'
 echo
 echo '$ cd examples/first-release; cat script.jsonl duties.jsonl later.jsonl | desk script'
 show_script 6-release
+echo
+echo "What in a document isn't as the standard has it: the line, the number and the name of each finding."
+echo
+echo '$ desk script < examples/findings/script.jsonl'
+show_script 7-findings

@@ -24,6 +24,7 @@ TOP = os.path.join(HERE, "../..")
 FIXTURES = {
     "small catalogue": "examples/first-release/catalogue.toml",
     "small document": "examples/first-release/document.spdx",
+    "document with findings": "examples/findings/document.spdx",
     "later catalogue": "tests/fixtures/later-catalogue.toml",
     "catalogue of real documents": "tests/fixtures/real-documents.toml",
     "document of a build": "tests/documents/build.spdx",

@@ -81,6 +81,10 @@ def duties(rows):
     return line(ask="duties", release="r"), line(rows=rows)
 
 
+def findings(rows):
+    return line(ask="findings", document=1), line(rows=rows)
+
+
 def padded(text, size, filling="#"):
     """The text with a comment behind it that makes it so many bytes."""
     return text + filling * (size - len(text.encode()))
@@ -265,6 +269,20 @@ def lines_of_documents():
     ]
 
 
+def many_findings():
+    unknown = [[HEAD_LINES + n, 1, "UnknownTag"] for n in range(1, 65_538)]
+    yield "65,537 unknown tags", [take(HEAD + "x: y\n" * 65_537), findings(unknown)]
+    packages = "".join(f"PackageName: p\nSPDXID: SPDXRef-{n}\nFilesAnalyzed: no\n" for n in range(10_000))
+    of_each = [row for n in range(10_000) for row in ([HEAD_LINES + 3 * n + 1, 9, "MissingField"], [HEAD_LINES + 3 * n + 3, 10, "BadFlag"])]
+    yield "10,000 packages with two findings each", [take(HEAD + packages), findings(of_each)]
+    code = "PackageVerificationCode: x" + " y" * 32_768 + "\n"
+    bad = "PackageLicenseConcluded: MIT AND" + " " * 65_536 + "\n"
+    yield "long values with findings", [
+        take(HEAD + package(concluded="NONE").replace("PackageLicenseConcluded: NONE\n", bad) + code),
+        findings([[HEAD_LINES + 5, 3, "BadExpression"], [HEAD_LINES + 7, 5, "BadCode"], [HEAD_LINES + 7, 7, "CodeUnwanted"]]),
+    ]
+
+
 def faults_of_documents():
     """Each fault that a text can have; that bytes are no text is no request."""
     start = "SPDXVersion: SPDX-2.3\n"
@@ -411,6 +429,7 @@ SCRIPTS = (
     sizes_of_words,
     sizes_of_catalogues,
     lines_of_documents,
+    many_findings,
     faults_of_documents,
     faults_of_expressions,
     faults_of_catalogues,

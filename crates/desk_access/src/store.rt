@@ -11,10 +11,11 @@ ghost use Rattle.desk_rows.specs.Faults.{MayFail};
 ghost use Rattle.desk_rows.specs.History.{attached_to, rule_for};
 ghost use Rattle.desk_rows.specs.Queries.{last_day};
 ghost use Rattle.desk_rows.specs.Conclusions.{licence_for, office_text};
+ghost use Rattle.desk_rows.specs.Findings.{source_of};
 ghost use Rattle.desk_history.specs.FromTables.{adoption_count, holder_found, release_found, rules_found, duty_found, steps_found, standings_found, ended_found, known_import, known_document};
 ghost use Rattle.desk_rows.specs.declared.command.StoreFault.{StoreFault};
 
-use desk_base::{Day, Text};
+use desk_base::{Day, Items, Text};
 use desk_rows::{
     AttachedRow, Change, ChangeRow, DutyRow, Fault, PackageRow, Profile, ReleaseRow, Rule, Standing,
 };
@@ -77,6 +78,12 @@ pub trait Store {
         ensures same { IfOk result (λ found. IfSome found (λ known. known.0 ≡ number)) }
         ensures kept { Looked (seen self.old) (seen self.new) result }
         ensures misses { OnErr result may_miss }
+        ensures fault { IfErr result (MayFail tells) };
+
+    /// The bytes of a document, and its profile.
+    fn document_source(&mut self, number: u64) -> Result<Option<(Items<u8>, Profile)>, Fault>
+        ensures found { IfOk result (λ found. OfRows (λ t. found ≡ option_map source_of (find (is_document number) t.document)) (seen self.old) (seen self.new)) }
+        ensures kept { Looked (seen self.old) (seen self.new) result }
         ensures fault { IfErr result (MayFail tells) };
 
     /// A package of a document.

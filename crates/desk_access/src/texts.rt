@@ -3,9 +3,10 @@
 ghost use Rattle.std.specs.Prelude.{◌≡◌, IfOk};
 ghost use Rattle.desk_rows.specs.Readings.{Readings};
 
-use desk_base::Text;
+use desk_base::{Items, Text};
 use desk_rows::{
-    Catalogue, CatalogueFault, Document, DocumentFault, ExpressionFault, Profile, Verdict,
+    Catalogue, CatalogueFault, Document, DocumentFault, ExpressionFault, FindingRow, Profile,
+    Verdict,
 };
 use std::alloc::{AllocError, Global};
 
@@ -68,4 +69,13 @@ pub trait Texts {
         terms: &[Text],
     ) -> Result<Verdict, AllocError>
         ensures { (w : Readings) → are_right w → IfOk result (λ verdict. verdict ≡ w.verdict profile text.now terms.now) };
+
+    /// The findings of the document that bytes spell.
+    fn findings(
+        &self,
+        alloc: Global,
+        profile: Profile,
+        bytes: &[u8],
+    ) -> Result<Items<FindingRow>, AllocError>
+        ensures { (w : Readings) → are_right w → IfOk result (λ rows. rows ≡ w.findings profile bytes.now) };
 }

@@ -1,3 +1,3 @@
-mod Ordered
+pub mod Ordered
 mod Codes
-mod States
+pub mod States

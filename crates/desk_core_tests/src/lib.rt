@@ -9,6 +9,8 @@ mod catalogues;
 #[cfg(test)]
 mod changes;
 #[cfg(test)]
+mod findings;
+#[cfg(test)]
 mod limits;
 #[cfg(test)]
 mod memory;

@@ -115,6 +115,9 @@ pub fn in_words(alloc: Global, bytes: &[u8]) -> Result<String, AllocError> {
             format!(in alloc; "totals of <{}>", release.as_str())
         }
         Request::Ask(Query::Changes { duty }) => format!(in alloc; "changes of {duty}"),
+        Request::Ask(Query::Findings { document }) => {
+            format!(in alloc; "findings of {document}")
+        }
         Request::BadCommand => String::from_str(alloc, "no request"),
     }
 }

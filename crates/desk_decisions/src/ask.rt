@@ -9,6 +9,7 @@ ghost use Rattle.desk_rows.specs.States.{is_open, is_met, is_waived, is_withdraw
 ghost use Rattle.desk_access.specs.Seen.{Looked, OfRows};
 ghost use Rattle.desk_history.specs.FromTables.{queried_from, line_found};
 
+use crate::findings::findings;
 use desk_access::store::Store;
 use desk_access::texts::Texts;
 use desk_base::{Items, Text};
@@ -161,5 +162,6 @@ pub fn answer_to<T: Texts, S: Store>(
         Query::Duties { release } => duties(alloc, store, release),
         Query::Totals { release } => totals(store, release),
         Query::Changes { duty } => changes(store, *duty),
+        Query::Findings { document } => findings(alloc, texts, store, *document),
     }
 }

@@ -1,5 +1,5 @@
 -- Findings, field by field.
-use Rattle.std.proofs.Common.{◌≡◌, ◌∙◌, ℕ, ◌+◌, ◌<◌, Bool, true, false, List, [], ◌∷◌, ◌++◌, length, drop, get_or, ap, sym, refl, subst, append_assoc}
+use Rattle.std.proofs.Common.{◌≡◌, ◌∙◌, ℕ, ◌+◌, ◌<◌, Bool, true, false, List, ◌++◌, length, drop, get_or, ap, sym, refl, append_assoc}
 use Rattle.std.specs.Prelude.{◌&&◌, not, map}
 use Rattle.std.specs.List.{flat_map}
 use Rattle.desk_tagvalue.specs.declared.entries.Entry.{Entry}

@@ -1,11 +1,9 @@
 -- Readings of values.
-use Rattle.std.proofs.Common.{◌≡◌, ◌∙◌, ◌⊎◌, ⊎_elim, inl, inr, ℕ, Bool, true, false, List, [], ◌∷◌, ap, sym, refl}
-use Rattle.std.specs.Prelude.{◌&&◌, ◌||◌, ◌↔◌, not, nat_eq, Option, Some, None, Contains, codes}
-use Rattle.std.specs.List.{list_any, starts_with}
-use Rattle.std.specs.Str.{bytes_eq}
+use Rattle.std.proofs.Common.{◌≡◌, ℕ, Bool, true, false, List, ap, sym, refl}
+use Rattle.std.specs.Prelude.{◌↔◌, Option, Some, None, Contains}
+use Rattle.std.specs.List.{list_any}
 use Rattle.std.proofs.lemmas.List.Folds.{Any-from_list_any, list_any-from_Any}
 use Rattle.desk_base.specs.declared.profile.Profile.{Profile}
-use Rattle.desk_expr.specs.declared.term.Term.{Term}
 use Rattle.desk_expr.specs.Tree.{Tree}
 use Rattle.desk_expr.specs.Spelling.{SpellsBy, SpellsWithinBy}
 use Rattle.desk_findings.specs.Fields.{IsRead}

@@ -1,5 +1,5 @@
 -- The fields of a document in their sections, and what single fields tell.
-use Rattle.std.specs.Prelude.{◌≡◌, ℕ, ◌+◌, ◌-◌, ◌&&◌, ◌||◌, ◌==◌, not, nat_eq, Bool, true, false, List, [], ◌∷◌, Option, Some, None, is_none, length, map, codes, if◌then◌else◌, slice_get, option_and_then}
+use Rattle.std.specs.Prelude.{ℕ, ◌+◌, ◌-◌, ◌&&◌, ◌||◌, ◌==◌, not, nat_eq, Bool, true, false, List, [], ◌∷◌, Option, Some, None, is_none, length, codes, if◌then◌else◌, slice_get}
 use Rattle.std.specs.List.{list_any, starts_with}
 use Rattle.std.specs.Str.{bytes_eq}
 use Rattle.desk_base.specs.Folded.{folded}

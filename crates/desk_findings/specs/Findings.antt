@@ -1,9 +1,8 @@
 -- All findings of a document.
-use Rattle.std.specs.Prelude.{◌≡◌, ℕ, ◌<◌, ◌&&◌, ◌||◌, not, nat_eq, Bool, List, [], ◌∷◌, ◌++◌, Option, Some, None, is_none, length, codes}
+use Rattle.std.specs.Prelude.{◌≡◌, ℕ, ◌<◌, ◌≤◌, ◌&&◌, ◌||◌, nat_eq, Bool, List, ◌++◌, Option, is_none, length, codes}
 use Rattle.std.specs.List.{flat_map, starts_with}
 use Rattle.std.specs.List.Sorted.{IsPermutation, IsSorted}
 use Rattle.desk_expr.specs.Tree.{Tree}
-use Rattle.desk_fields.specs.declared.tag.Tag.{Tag}
 use Rattle.desk_fields.specs.declared.tag.Tag.TheVariants as tags
 use Rattle.desk_tagvalue.specs.declared.sections.SectionKind.TheVariants as sections
 use Rattle.desk_tagvalue.specs.Entries.{value_of}
@@ -11,6 +10,7 @@ use Rattle.desk_tagvalue.specs.Parts.{DocumentText, EdgeText, PackageText, FileT
 use Rattle.desk_bom.specs.Codes.{IsState}
 use Rattle.desk_bom.specs.Elements.{element_named}
 use Rattle.desk_bom.specs.declared.state.CodeState.{CodeState}
+use Rattle.desk_bom.specs.declared.state.CodeState.TheVariants.{Absent}
 use Rattle.desk_findings.specs.declared.finding.Finding.{Finding}
 use Rattle.desk_findings.specs.declared.finding.FindingKind.TheVariants as kinds
 use Rattle.desk_findings.specs.declared.finding.MissingField.TheVariants as missing
@@ -64,9 +64,10 @@ all_findings reads state d =
     ++ (flat_map missing_of_file d.files
     ++ flat_map missing_of_extracted d.extracted))))
 
--- the states of the codes of all packages
-abbrev pub AreStates : DocumentText → (ℕ → CodeState) → Type 0
-AreStates d state = (k : ℕ) → k < length d.packages → IsState d k (state k)
+-- the states of the codes of all packages; where there is no package, there is no code
+pub record AreStates (d : DocumentText) (state : ℕ → CodeState) : Type 0 where
+  pub of_packages : (k : ℕ) → k < length d.packages → IsState d k (state k)
+  pub past_packages : (k : ℕ) → length d.packages ≤ k → state k ≡ Absent
 
 -- each of these once, by line, by kind and in the stated order
 pub record AreFindings (reads : List ℕ → Option Tree) (d : DocumentText) (found : List Finding) : Type 0 where

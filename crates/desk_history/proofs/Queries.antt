@@ -69,6 +69,7 @@ query-answer w h (query.Changes q) =
     ap (λ b. if b then answered.Changes (filter (is_change_of q) (all_changes w h)) else answered.Refused why.UnknownDuty) (duty_known w h q)
     ∙ where_known (is_some (duty_at w h q)) (filter (is_change_of q) (all_changes w h)) (changes w h q)
     (λ known. changes-found w h q (sym (known_at w h q) ∙ known))
+query-answer w h (query.Findings d) = refl
 
 pub query_at_history : (w : Readings) (h : List Command) (q : Query) (t : Tables) → t ≡ tables w h → queried_from w t q ≡ queried w h q
 query_at_history w h q t e = ap (λ u. queried_from w u q) e ∙ query-answer w h q

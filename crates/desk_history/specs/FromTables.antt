@@ -17,6 +17,7 @@ use Rattle.desk_rows.specs.declared.state.Word.{Word}
 use Rattle.desk_rows.specs.Tables.{Tables, applied, choice_row}
 use Rattle.desk_rows.specs.Answers.{load_answer, import_answer, open_answer, attach_answer, choose_answer, freeze_answer, freeze_open, unchoose_answer, move_answer, withdraw_answer, close_answer, conclude_answer, adopt_answer, walk, is_recorded}
 use Rattle.desk_rows.specs.Queries.{duty_line, totals_of}
+use Rattle.desk_rows.specs.Findings.{findings_answer}
 use Rattle.desk_rows.specs.declared.reading.Catalogue.{Catalogue}
 use Rattle.desk_rows.specs.declared.reading.Document.{Document}
 use Rattle.desk_base.specs.declared.profile.Profile.{Profile}
@@ -261,3 +262,4 @@ queried_from w t (query.Totals r) =
     if is_some (release_found t r) then answered.Totals (totals_of (filter (is_duty_of r) t.duty)) else answered.Refused why.UnknownRelease
 queried_from w t (query.Changes q) =
     if is_some (duty_found t q) then answered.Changes (filter (is_change_of q) t.changes) else answered.Refused why.UnknownDuty
+queried_from w t (query.Findings d) = findings_answer w (find (is_document d) t.document)

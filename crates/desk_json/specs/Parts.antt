@@ -7,6 +7,7 @@ use Rattle.desk_rows.specs.Names.{duty_state_name, word_name}
 use Rattle.desk_rows.specs.declared.row.ChangeRow.{ChangeRow}
 use Rattle.desk_rows.specs.declared.command.DutyLine.{DutyLine}
 use Rattle.desk_rows.specs.declared.command.Totals.{Totals}
+use Rattle.desk_rows.specs.declared.finding.FindingRow.{FindingRow}
 
 abbrev pub whole : ℕ → Data
 whole n = number (unsigned n)
@@ -37,3 +38,6 @@ change_line row = list (change_values row ++ ending row.last_day)
 
 abbrev pub totals_row : Totals → Data
 totals_row t = list (whole t.raised ∷ whole t.still_open ∷ whole t.met ∷ whole t.waived ∷ whole t.withdrawn ∷ [])
+
+abbrev pub finding_line : FindingRow → Data
+finding_line row = list (whole row.line ∷ whole row.kind ∷ string row.name ∷ [])

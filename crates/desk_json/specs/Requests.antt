@@ -134,6 +134,10 @@ abbrev pub changes_request : Data → Request
 changes_request d = with_members 2 d
     (with_number (codes "duty") d (λ duty. Ask (query.Changes duty)))
 
+abbrev pub findings_request : Data → Request
+findings_request d = with_members 2 d
+    (with_number (codes "document") d (λ document. Ask (query.Findings document)))
+
 -- the form that the word behind `do` names
 abbrev pub command_request : List ℕ → Data → Request
 command_request word d =
@@ -159,6 +163,7 @@ query_request word d =
     if bytes_eq word (codes "duties") then duties_request d
     else if bytes_eq word (codes "totals") then totals_request d
     else if bytes_eq word (codes "changes") then changes_request d
+    else if bytes_eq word (codes "findings") then findings_request d
     else BadCommand
 
 -- the request that a value is; one with both `do` and `ask` has a member too many

@@ -2,7 +2,7 @@
 
 ghost use Rattle.std.specs.Prelude.{◌≡◌, IfOk, codes};
 ghost use Rattle.serde_json.specs.View.{view};
-ghost use Rattle.desk_json.specs.Requests.{catalogue_request, import_profile, import_request, open_request, attach_request, choose_request, freeze_request, meet_request, unchoose_request, waive_until, waive_request, reopen_request, withdraw_request, close_request, conclude_request, adopt_request, duties_request, totals_request, changes_request, query_request, request_of, request_in, with_text};
+ghost use Rattle.desk_json.specs.Requests.{catalogue_request, import_profile, import_request, open_request, attach_request, choose_request, freeze_request, meet_request, unchoose_request, waive_until, waive_request, reopen_request, withdraw_request, close_request, conclude_request, adopt_request, duties_request, totals_request, changes_request, findings_request, query_request, request_of, request_in, with_text};
 
 use crate::fields::{number_at, profile_at, size_of, take_text, text_at, texts_at};
 use crate::request::Request;
@@ -351,6 +351,18 @@ fn read_changes(value: &Value) -> Request
     Request::Ask(Query::Changes { duty })
 }
 
+fn read_findings(value: &Value) -> Request
+    ensures { result ≡ findings_request (view value.now) }
+{
+    if size_of(value) != 2 {
+        return Request::BadCommand;
+    }
+    let Some(document) = number_at(value, "document") else {
+        return Request::BadCommand;
+    };
+    Request::Ask(Query::Findings { document })
+}
+
 fn read_ask(alloc: Global, value: &Value) -> Result<Request, AllocError>
     ensures { IfOk result (λ r. r ≡ with_text (codes "ask") (view value.now) (λ word. query_request word (view value.now))) }
 {
@@ -358,6 +370,7 @@ fn read_ask(alloc: Global, value: &Value) -> Result<Request, AllocError>
         Some("duties") => read_duties(alloc, value),
         Some("totals") => read_totals(alloc, value),
         Some("changes") => Ok(read_changes(value)),
+        Some("findings") => Ok(read_findings(value)),
         _ => Ok(Request::BadCommand),
     }
 }

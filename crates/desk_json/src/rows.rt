@@ -3,10 +3,10 @@
 ghost use Rattle.std.specs.Prelude.{◌≡◌, ℕ, List, IfOk, IsTrue, Some, map};
 ghost use Rattle.serde_json.specs.View.{view, items_view, items_of};
 ghost use Rattle.desk_base.specs.Day.{is_day};
-ghost use Rattle.desk_json.specs.Parts.{day_text, duty_row, change_line, totals_row};
+ghost use Rattle.desk_json.specs.Parts.{day_text, duty_row, change_line, totals_row, finding_line};
 
 use desk_base::Day;
-use desk_rows::{ChangeRow, DutyLine, Totals};
+use desk_rows::{ChangeRow, DutyLine, FindingRow, Totals};
 use serde_json::{Value, json};
 use std::alloc::{AllocError, Global};
 
@@ -94,6 +94,29 @@ pub(crate) fn totals_row(alloc: Global, totals: &Totals) -> Result<Value, AllocE
         withdrawn,
     } = *totals;
     json!(in alloc; [raised, still_open, met, waived, withdrawn])
+}
+
+fn finding_row(alloc: Global, finding: &FindingRow) -> Result<Value, AllocError>
+    ensures { IfOk result (λ v. view v ≡ finding_line finding.now) }
+{
+    let line = finding.line;
+    let kind = finding.kind;
+    let name = finding.name.as_str();
+    json!(in alloc; [line, kind, name])
+}
+
+/// A row for each finding.
+pub(crate) fn finding_rows(
+    alloc: Global,
+    findings: &[FindingRow],
+) -> Result<Vec<Value>, AllocError>
+    ensures { IfOk result (λ rows. items_view rows.items ≡ items_of (map finding_line findings.now)) }
+{
+    let mut rows = Vec::new(alloc);
+    for finding in findings {
+        rows.push(finding_row(alloc, finding)?)?;
+    }
+    Ok(rows)
 }
 
 /// A written day stands in the row of its duty as it is written: its bytes are text.

@@ -116,6 +116,9 @@ Requests, with an example of each and its reply:
   list the changes of a duty: step, day, what it was, text
     > {\"ask\":\"changes\",\"duty\":1}
     < {\"rows\":[[1,\"2025-03-03\",\"raised\",\"\"],[2,\"2025-03-04\",\"met\",\"notices.txt\"]]}
+  list what in a document is not as the standard has it: line, number and name of the kind
+    > {\"ask\":\"findings\",\"document\":1}
+    < {\"rows\":[[13,3,\"BadExpression\"]]}
 
 What is refused changes nothing, and is told with its number, its name and where it is:
 

@@ -413,6 +413,16 @@ impl Store for MemStore {
         }
     }
 
+    fn document_source(&mut self, number: u64) -> Result<Option<(Items<u8>, Profile)>, Fault> {
+        let Some(row) = self.documents.rows.find(&ByNumber { number }) else {
+            return Ok(None);
+        };
+        let Ok(bytes) = Vec::from_slice(self.alloc, row.bytes.as_slice()) else {
+            return Err(Fault::Memory);
+        };
+        Ok(Some((Items::from_vec(bytes), row.profile)))
+    }
+
     fn package_row(&mut self, document: u64, id: &str) -> Result<Option<PackageRow>, Fault> {
         match self.packages.find(&ById { document, id }) {
             Some(row) => match package_copy(row) {

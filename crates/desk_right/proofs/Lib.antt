@@ -1,4 +1,5 @@
 mod Ships
+mod Findings
 mod Verdicts
 mod Reading
 mod Rights

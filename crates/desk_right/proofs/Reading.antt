@@ -24,6 +24,8 @@ use Rattle.desk_texts.specs.Documents.{Keeps}
 use Rattle.desk_texts.specs.Expressions.{is_no_licence, word_place, IsExpression, IsRead, Tells, fault_of, IsFault, IsVerdict, Judges}
 use Rattle.desk_texts.specs.Terms.{IsTerm, AreTerms, AreAllTerms, reference_in, is_licence, adopted_as}
 use Rattle.desk_texts.specs.Right.{AreRight}
+use Rattle.desk_right.proofs.Findings.{rows_exist, rows_once}
+use Rattle.desk_texts.specs.Findings.{Finds}
 use Rattle.desk_right.proofs.Ships.{something_kept, kept_once}
 use Rattle.desk_right.proofs.Verdicts.{judged_once}
 
@@ -134,6 +136,7 @@ module _
       is_expression = λ profile text. is_some (expression_read profile text).0;
       expression_fault = λ profile text. (faulted profile text).0;
       verdict = λ profile text words. (judged profile text words).0;
+      findings = λ profile bytes. (rows_exist profile (document bytes).0).0;
     }
 
     pub standard_is_right : AreRight standard
@@ -150,4 +153,7 @@ module _
       expression = λ profile text tells says. tells_once profile text (expression_read profile text).0 tells (expression_read profile text).1 says;
       fault = λ profile text f is. faulted_once profile text (faulted profile text).0 f (faulted profile text).1 is;
       verdict = λ profile text words v judges. judged_once profile text words (judged profile text words).0 v (judged profile text words).1 judges;
+      findings = λ profile bytes read rows spells finds.
+          rows_once profile read (rows_exist profile (document bytes).0).0 rows
+          (subst (λ r. Finds profile r (rows_exist profile (document bytes).0).0) (spells_once bytes (document bytes).0 read (document bytes).1 spells) (rows_exist profile (document bytes).0).1) finds;
     }

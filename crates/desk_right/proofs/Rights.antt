@@ -19,6 +19,7 @@ use Rattle.desk_catalogue.proofs.TermsRead.{same_term}
 use Rattle.desk_texts.specs.Expressions.{IsExpression, Tells, IsFault, IsVerdict, Judges}
 use Rattle.desk_texts.specs.Terms.{AreTerms}
 use Rattle.desk_texts.specs.Right.{AreRight}
+use Rattle.desk_right.proofs.Findings.{rows_exist}
 use Rattle.desk_right.proofs.Ships.{something_kept}
 use Rattle.desk_right.proofs.Reading.{standard, standard_is_right, judged, told, faulted, faulted_once}
 
@@ -68,6 +69,12 @@ same_document v w a b bytes =
     let read = each_document bytes in
     let kept = something_kept read.0 in
     a.document bytes read.0 kept.0 read.1 kept.1 ∙ sym (b.document bytes read.0 kept.0 read.1 kept.1)
+
+pub same_findings : (v w : Readings) → AreRight v → AreRight w → (profile : Profile) (bytes : List ℕ) → v.findings profile bytes ≡ w.findings profile bytes
+same_findings v w a b profile bytes =
+    let read = each_document bytes in
+    let rows = rows_exist profile read.0 in
+    a.findings profile bytes read.0 rows.0 read.1 rows.1 ∙ sym (b.findings profile bytes read.0 rows.0 read.1 rows.1)
 
 pub same_verdict : (v w : Readings) → AreRight v → AreRight w → (profile : Profile) (text : List ℕ) (words : List (List ℕ)) → v.verdict profile text words ≡ w.verdict profile text words
 same_verdict v w a b profile text words =

@@ -28,6 +28,7 @@ pub fn one_right_reading()
     ensures faults { (v w : Readings) → AreRight v → AreRight w → (profile : Profile) (text : List ℕ) → v.expression_fault profile text ≡ w.expression_fault profile text }
     ensures expressions { (v w : Readings) → AreRight v → AreRight w → (profile : Profile) (text : List ℕ) → v.is_expression profile text ≡ w.is_expression profile text }
     ensures verdicts { (v w : Readings) → AreRight v → AreRight w → (profile : Profile) (text : List ℕ) (words : List (List ℕ)) → v.verdict profile text words ≡ w.verdict profile text words }
+    ensures findings { (v w : Readings) → AreRight v → AreRight w → (profile : Profile) (bytes : List ℕ) → v.findings profile bytes ≡ w.findings profile bytes }
 {}
 
 /// What a right reading calls minimal is a minimal set of terms for the expression that the value spells

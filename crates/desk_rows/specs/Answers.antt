@@ -37,7 +37,6 @@ use Rattle.desk_rows.specs.declared.row.PackageRow.{PackageRow}
 use Rattle.desk_rows.specs.declared.state.ReleaseState.{ReleaseState}
 use Rattle.desk_rows.specs.declared.state.ReleaseState.TheVariants as release
 use Rattle.desk_rows.specs.declared.state.DutyState.{DutyState}
-use Rattle.desk_rows.specs.declared.state.DutyState.TheVariants as stands
 use Rattle.desk_rows.specs.declared.command.Answer.{Answer}
 use Rattle.desk_rows.specs.declared.command.Answer.TheVariants as answered
 use Rattle.desk_rows.specs.declared.command.Command.{Command}

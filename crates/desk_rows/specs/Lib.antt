@@ -8,6 +8,7 @@ pub mod Raised
 pub mod Moves
 pub mod Tables
 pub mod Answers
+pub mod Findings
 pub mod Queries
 pub mod Runs
 pub mod Numbers

@@ -1,8 +1,9 @@
 -- The answer to each query.
-use Rattle.std.specs.Prelude.{ℕ, List, [], ◌∷◌, length, filter, map, count_by, Option, Some, None, is_some, if◌then◌else◌}
+use Rattle.std.specs.Prelude.{ℕ, List, [], ◌∷◌, length, filter, map, find, count_by, Option, Some, None, is_some, if◌then◌else◌}
 use Rattle.desk_rows.specs.Readings.{Readings}
-use Rattle.desk_rows.specs.Keys.{is_duty_of}
-use Rattle.desk_rows.specs.History.{form_of}
+use Rattle.desk_rows.specs.Keys.{is_document, is_duty_of}
+use Rattle.desk_rows.specs.History.{documents, form_of}
+use Rattle.desk_rows.specs.Findings.{findings_answer}
 use Rattle.desk_rows.specs.Moves.{changes, duties}
 use Rattle.desk_rows.specs.States.{is_open, is_met, is_waived, is_withdrawn}
 use Rattle.desk_rows.specs.Moves.{duty_at}
@@ -56,3 +57,4 @@ queried w h (query.Totals r) =
     if is_some (form_of h r) then answered.Totals (totals_of (duties_of w h r)) else answered.Refused why.UnknownRelease
 queried w h (query.Changes q) =
     if is_some (duty_at w h q) then answered.Changes (changes w h q) else answered.Refused why.UnknownDuty
+queried w h (query.Findings d) = findings_answer w (find (is_document d) (documents w h))

@@ -5,6 +5,7 @@ use Rattle.desk_rows.specs.declared.reading.Catalogue.{Catalogue}
 use Rattle.desk_rows.specs.declared.reading.Document.{Document}
 use Rattle.desk_base.specs.declared.profile.Profile.{Profile}
 use Rattle.desk_rows.specs.declared.reading.Verdict.{Verdict}
+use Rattle.desk_rows.specs.declared.finding.FindingRow.{FindingRow}
 use Rattle.desk_rows.specs.declared.refusal.CatalogueFault.{CatalogueFault}
 use Rattle.desk_rows.specs.declared.refusal.DocumentFault.{DocumentFault}
 use Rattle.desk_rows.specs.declared.refusal.ExpressionFault.{ExpressionFault}
@@ -28,3 +29,5 @@ pub record Readings : Type 0 where
   pub expression_fault : Profile → List ℕ → Option ExpressionFault
   -- what a list of printed terms is to the expression that a text spells
   pub verdict : Profile → List ℕ → List (List ℕ) → Verdict
+  -- the findings of the document that bytes spell
+  pub findings : Profile → List ℕ → List FindingRow

@@ -1,5 +1,6 @@
 //! Commands, queries and what they are answered.
 
+use crate::finding::FindingRow;
 use crate::reading::Profile;
 use crate::refusal::Refusal;
 use crate::row::{
@@ -93,6 +94,8 @@ pub enum Query {
     Totals { release: Text },
     /// The changes of a duty, by step.
     Changes { duty: u64 },
+    /// What in a document isn't as its standard has it.
+    Findings { document: u64 },
 }
 
 /// A duty of a release, and the day of its last change.
@@ -136,6 +139,7 @@ pub enum Answer {
     Duties(Items<DutyLine>),
     Totals(Totals),
     Changes(Items<ChangeRow>),
+    Findings(Items<FindingRow>),
     Refused(Refusal),
 }
 

@@ -5,6 +5,7 @@
 #![tactic(auto)]
 
 pub mod command;
+pub mod finding;
 pub mod reading;
 pub mod refusal;
 pub mod row;
@@ -13,6 +14,7 @@ pub mod state;
 pub use command::{
     Answer, Change, Command, DutyLine, Fault, Outcome, Plan, Query, StoreFault, Totals,
 };
+pub use finding::FindingRow;
 pub use reading::{Catalogue, Conclusion, Document, Package, Profile, Reference, Rule, Verdict};
 pub use refusal::{CatalogueFault, CataloguePart, DocumentFault, ExpressionFault, Limit, Refusal};
 pub use row::{

@@ -3,4 +3,5 @@ pub mod Terms
 pub mod Expressions
 pub mod Documents
 pub mod Shipments
+pub mod Findings
 pub mod Right

@@ -7,12 +7,14 @@ use Rattle.desk_rows.specs.declared.reading.Verdict.{Verdict}
 use Rattle.desk_rows.specs.declared.reading.Document.{Document}
 use Rattle.desk_rows.specs.declared.refusal.DocumentFault.{DocumentFault}
 use Rattle.desk_rows.specs.declared.refusal.ExpressionFault.{ExpressionFault}
+use Rattle.desk_rows.specs.declared.finding.FindingRow.{FindingRow}
 use Rattle.desk_catalogue.specs.Reading.{catalogue_of}
 use Rattle.desk_catalogue.specs.Terms.{ReadsTerms}
 use Rattle.desk_tagvalue.specs.Documents.{Spells}
 use Rattle.desk_tagvalue.specs.Parts.{DocumentText}
 use Rattle.desk_texts.specs.Documents.{Keeps}
 use Rattle.desk_texts.specs.Expressions.{Tells, IsFault, Judges}
+use Rattle.desk_texts.specs.Findings.{Finds}
 use Rattle.desk_texts.specs.Terms.{reference_in, is_licence, adopted_as}
 
 pub record AreRight (w : Readings) : Type 0 where
@@ -34,3 +36,5 @@ pub record AreRight (w : Readings) : Type 0 where
   pub fault : (profile : Profile) (text : List ℕ) (f : Option ExpressionFault) → IsFault profile text f → w.expression_fault profile text ≡ f
   -- what terms are to the expression of a value
   pub verdict : (profile : Profile) (text : List ℕ) (words : List (List ℕ)) (verdict : Verdict) → Judges profile text words verdict → w.verdict profile text words ≡ verdict
+  -- the findings of the document that bytes spell, by a profile of operators
+  pub findings : (profile : Profile) (bytes : List ℕ) (read : Result DocumentText DocFault) (rows : List FindingRow) → Spells bytes read → Finds profile read rows → w.findings profile bytes ≡ rows

@@ -7,6 +7,7 @@
 
 mod document;
 mod expression;
+mod findings;
 mod sorting;
 mod standard;
 mod term;

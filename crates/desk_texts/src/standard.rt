@@ -4,11 +4,13 @@ ghost use Rattle.desk_texts.specs.Right.{AreRight};
 
 use crate::document::read_document;
 use crate::expression::{expression_fault, is_expression, verdict};
+use crate::findings::read_findings;
 use crate::term::{adopted_as, is_licence, printed_term, reference_of};
 use desk_access::texts::Texts;
-use desk_base::Text;
+use desk_base::{Items, Text};
 use desk_rows::{
-    Catalogue, CatalogueFault, Document, DocumentFault, ExpressionFault, Profile, Verdict,
+    Catalogue, CatalogueFault, Document, DocumentFault, ExpressionFault, FindingRow, Profile,
+    Verdict,
 };
 use std::alloc::{AllocError, Global};
 
@@ -77,5 +79,14 @@ impl Texts for Standard {
         terms: &[Text],
     ) -> Result<Verdict, AllocError> {
         verdict(alloc, text, profile, terms)
+    }
+
+    fn findings(
+        &self,
+        alloc: Global,
+        profile: Profile,
+        bytes: &[u8],
+    ) -> Result<Items<FindingRow>, AllocError> {
+        read_findings(alloc, bytes, profile)
     }
 }

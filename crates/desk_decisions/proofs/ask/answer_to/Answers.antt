@@ -8,3 +8,6 @@ returns-in-Totals-clause-answer g c = λ w right. rw c.in-Totals.is (c.totals.en
 
 pub returns-in-Changes-clause-answer : goal.returns-in-Changes-clause-answer
 returns-in-Changes-clause-answer g c = λ w right. rw c.in-Changes.is (c.changes.ensures.answer w)
+
+pub returns-in-Findings-clause-answer : goal.returns-in-Findings-clause-answer
+returns-in-Findings-clause-answer g c = λ w right. rw c.in-Findings.is (c.findings.ensures.answer w right)

@@ -1,4 +1,4 @@
-use Rattle.std.proofs.Common.{◌≡◌, ◌∙◌, ◌+◌, ℕ, ap, sym, arith}
+use Rattle.std.proofs.Common.{◌∙◌, ◌+◌, ap, sym, arith}
 use Rattle.std.specs.Prelude.{if◌then◌else◌}
 use Rattle.desk_tagvalue.specs.Documents.{document_text}
 use Rattle.desk_findings.specs.Findings.{field_findings}

@@ -1,4 +1,4 @@
-use Rattle.desk_right.proofs.Rights.{same_terms_told, same_reference, same_catalogue, same_document, same_licence, same_adopted, same_fault, same_expression, same_verdict}
+use Rattle.desk_right.proofs.Rights.{same_terms_told, same_reference, same_catalogue, same_document, same_licence, same_adopted, same_fault, same_expression, same_verdict, same_findings}
 use Rattle.desk_right.proofs.laws.one_right_reading.Goals as goal
 
 pub returns-clause-terms : goal.returns-clause-terms
@@ -27,3 +27,6 @@ returns-clause-adopted c = same_adopted
 
 pub returns-clause-faults : goal.returns-clause-faults
 returns-clause-faults c = same_fault
+
+pub returns-clause-findings : goal.returns-clause-findings
+returns-clause-findings c = same_findings
