@@ -31,4 +31,6 @@ mod streams;
 #[cfg(test)]
 mod support;
 #[cfg(test)]
+mod twice;
+#[cfg(test)]
 mod words;
