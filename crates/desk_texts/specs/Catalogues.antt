@@ -4,6 +4,6 @@ use Rattle.desk_rows.specs.declared.reading.Catalogue.{Catalogue}
 use Rattle.desk_rows.specs.declared.refusal.CatalogueFault.{CatalogueFault}
 use Rattle.desk_catalogue.specs.declared.catalogue.Catalogue.{Catalogue as WholeCatalogue}
 
-abbrev pub kept : Result WholeCatalogue CatalogueFault → Result Catalogue CatalogueFault
-kept (Ok catalogue) = Ok (record { forms = catalogue.forms; rules = catalogue.rules })
-kept (Err fault) = Err fault
+abbrev pub kept_catalogue : Result WholeCatalogue CatalogueFault → Result Catalogue CatalogueFault
+kept_catalogue (Ok catalogue) = Ok (record { forms = catalogue.forms; rules = catalogue.rules })
+kept_catalogue (Err fault) = Err fault

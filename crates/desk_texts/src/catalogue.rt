@@ -3,7 +3,7 @@
 ghost use Rattle.std.specs.Prelude.{◌≡◌, ℕ, List, Option, IfOk};
 ghost use Rattle.desk_catalogue.specs.Reading.{catalogue_of};
 ghost use Rattle.desk_catalogue.specs.Terms.{ReadsTerms};
-ghost use Rattle.desk_texts.specs.Catalogues.{kept};
+ghost use Rattle.desk_texts.specs.Catalogues.{kept_catalogue};
 
 use desk_catalogue::CatFault;
 use desk_rows::{Catalogue, CatalogueFault};
@@ -14,7 +14,7 @@ pub(crate) fn read_catalogue(
     alloc: Global,
     text: &str,
 ) -> Result<Result<Catalogue, CatalogueFault>, AllocError>
-    ensures { (terms : List ℕ → Option (List ℕ)) → ReadsTerms terms → IfOk result (λ read. read ≡ kept (catalogue_of terms text.now)) }
+    ensures { (terms : List ℕ → Option (List ℕ)) → ReadsTerms terms → IfOk result (λ read. read ≡ kept_catalogue (catalogue_of terms text.now)) }
 {
     match desk_catalogue::Catalogue::read(alloc, text) {
         Ok(read) => {
