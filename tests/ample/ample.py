@@ -236,13 +236,25 @@ def sizes_of_catalogues():
     ]
     note, body = "n" * (64 * KIB), "text" + "\n" * 3_000_000
     more = f'note = "{note}"\n[[text]]\nlicence = "MIT"\nbody = """{body}"""\n'
-    yield "values of other keys", [load(catalogue(more=more))]
+    yield "a value of another key and a text of 3 MB", [load(catalogue(more=more))]
     codes = [f"{'c' * 58}-{n:05}" for n in range(1_000)]
     yield "1,000 codes of 64 bytes", [load(catalogue(codes=codes, title="t" * 256))]
     rules = "".join(f'[[rule]]\nterm = "x{n}"\nform = "binary"\nduties = []\n' for n in range(20_000))
     yield "20,000 rules", [
         load(catalogue(more=rules)),
         load(catalogue(more=rules + '[[rule]]\nterm = "x"\n'), refused(1, "BadCatalogue", 2, "rule", 20_001)),
+        load(
+            catalogue(more=rules + '[[rule]]\nterm = "X0"\nform = "binary"\nduties = []\n'),
+            refused(1, "BadCatalogue", 7, "rule", 20_001),
+        ),
+    ]
+    texts = "".join(f'[[text]]\nlicence = "x{n}"\nbody = ""\n' for n in range(20_000))
+    yield "20,000 texts", [
+        load(catalogue(more=texts)),
+        load(
+            catalogue(more=texts + '[[text]]\nlicence = "X19999"\nbody = ""\n'),
+            refused(1, "BadCatalogue", 7, "text", 20_000),
+        ),
     ]
 
 
@@ -347,6 +359,14 @@ def faults_of_catalogues():
         ('forms = ["a"]\n' + rule.format("LicenseRef-1", "a", ""), (4, "rule", 0)),
         ('forms = ["a"]\n' + rule.format("A", "b", ""), (5, "rule", 0)),
         ('forms = ["a"]\n' + rule.format("A", "a", '"c"'), (6, "rule", 0)),
+        ('forms = ["a", "a"]', (7, "forms", 1)),
+        ('forms = ["a"]\n' + '[[duty]]\ncode = "c"\ntitle = "t"\n' * 2, (7, "duty", 1)),
+        ('forms = ["a"]\n' + rule.format("A", "a", "") + rule.format("a", "a", ""), (7, "rule", 1)),
+        ('forms = ["a"]\nduty = [{code = "c", title = "t"}]\n' + rule.format("A", "a", '"c", "c"'), (7, "rule", 0)),
+        ('forms = ["a"]\ntext = [1]', (3, "text", 0)),
+        ('forms = ["a"]\n[[text]]\nlicence = "A"', (2, "text", 0)),
+        ('forms = ["a"]\n[[text]]\nlicence = "A+"\nbody = ""', (4, "text", 0)),
+        ('forms = ["a"]\n' + '[[text]]\nlicence = "A"\nbody = ""\n' * 2, (7, "text", 1)),
     ]
     yield "each fault of catalogues", [load(text, refused(1, "BadCatalogue", *at)) for text, at in rows]
 

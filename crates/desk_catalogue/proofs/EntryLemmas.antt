@@ -1,45 +1,55 @@
--- A list of entries, read one after the other.
-use Rattle.std.proofs.Common.{◌≡◌, ◌∙◌, ℕ, ◌+◌, ◌<◌, ◌≤◌, List, [], ◌∷◌, ◌++◌, length, get_or, drop, sym, ap, refl, append_assoc, add-one}
-use Rattle.std.specs.Prelude.{Ok, Err}
-use Rattle.std.proofs.lemmas.List.{append-nil, drop_more, drop_all}
+-- A list of values, each put to what those before it gave.
+use Rattle.std.proofs.Common.{◌≡◌, ◌∙◌, ℕ, ◌+◌, ◌<◌, ◌≤◌, Bool, true, false, cond, List, [], ◌∷◌, length, get_or, drop, sym, ap, refl, add-one}
+use Rattle.std.specs.Prelude.{Ok, Err, not}
+use Rattle.std.proofs.lemmas.List.{drop_more, drop_all}
 use Rattle.toml.specs.Data.{Data}
 use Rattle.toml.specs.View.{view, items_view}
 use Rattle.toml.specs.declared.value.Value.{Value}
 use Rattle.desk_rows.specs.declared.refusal.CatalogueFault.{CatalogueFault}
-use Rattle.desk_catalogue.specs.Reading.{Read, each, followed, count}
+use Rattle.desk_catalogue.specs.Reading.{Read, then_read, each, count}
 
--- what is read so far, and what the rest gives
-abbrev pub onto : {A : Type 0} → List A → Read (List A) → Read (List A)
-onto done (Ok xs) = Ok (done ++ xs)
-onto done (Err fault) = Err fault
+module _ {S : Type 0} (put : S → ℕ → Data → Read S) (state : S) (vs : List Value) (i : ℕ) where
+  -- one value more
+  pub each_go : (v : Value) (next : S) → i < length vs → put state i (view (get_or vs i v)) ≡ Ok next → each put next (i + 1) (items_view (drop (i + 1) vs)) ≡ each put state i (items_view (drop i vs))
+  each_go v next within is =
+      sym (ap (λ l. each put state i (items_view l)) (drop_more vs i v within) ∙ ap (λ r. then_read r (λ s. each put s (i + 1) (items_view (drop (i + 1) vs)))) is)
 
-pub onto-nil : {A : Type 0} (r : Read (List A)) → onto [] r ≡ r
-onto-nil (Ok xs) = refl
-onto-nil (Err fault) = refl
+  -- a fault
+  pub each_fault : (v : Value) (fault : CatalogueFault) → i < length vs → put state i (view (get_or vs i v)) ≡ Err fault → Err fault ≡ each put state i (items_view (drop i vs))
+  each_fault v fault within is =
+      sym (ap (λ l. each put state i (items_view l)) (drop_more vs i v within) ∙ ap (λ r. then_read r (λ s. each put s (i + 1) (items_view (drop (i + 1) vs)))) is)
 
-onto-followed : {A : Type 0} (done : List A) (x : A) (r : Read (List A)) → onto done (followed (Ok x) r) ≡ onto (done ++ x ∷ []) r
-onto-followed done x (Ok xs) = ap Ok (sym (append_assoc done (x ∷ []) xs))
-onto-followed done x (Err fault) = refl
-
--- one value more
-pub onto-item : {A : Type 0} (entry : ℕ → Data → Read A) (done : List A) (vs : List Value) (i : ℕ) (v : Value) (x : A) → i < length vs → entry i (view (get_or vs i v)) ≡ Ok x
-    → onto done (each entry i (items_view (drop i vs))) ≡ onto (done ++ x ∷ []) (each entry (i + 1) (items_view (drop (i + 1) vs)))
-onto-item entry done vs i v x within is =
-    ap (λ l. onto done (each entry i (items_view l))) (drop_more vs i v within)
-    ∙ ap (λ r. onto done (followed r (each entry (i + 1) (items_view (drop (i + 1) vs))))) is
-    ∙ onto-followed done x (each entry (i + 1) (items_view (drop (i + 1) vs)))
-
--- a fault
-pub onto-fault : {A : Type 0} (entry : ℕ → Data → Read A) (done : List A) (vs : List Value) (i : ℕ) (v : Value) (fault : CatalogueFault) → i < length vs → entry i (view (get_or vs i v)) ≡ Err fault
-    → onto done (each entry i (items_view (drop i vs))) ≡ Err fault
-onto-fault entry done vs i v fault within is =
-    ap (λ l. onto done (each entry i (items_view l))) (drop_more vs i v within)
-    ∙ ap (λ r. onto done (followed r (each entry (i + 1) (items_view (drop (i + 1) vs))))) is
-
--- the end
-pub onto-end : {A : Type 0} (entry : ℕ → Data → Read A) (done : List A) (vs : List Value) (i : ℕ) → length vs ≤ i → onto done (each entry i (items_view (drop i vs))) ≡ Ok done
-onto-end entry done vs i past = ap (λ l. onto done (each entry i (items_view l))) (drop_all i vs past) ∙ ap Ok (append-nil done)
+  -- the end
+  pub each_end : length vs ≤ i → each put state i (items_view (drop i vs)) ≡ Ok state
+  each_end past = ap (λ l. each put state i (items_view l)) (drop_all i vs past)
 
 pub count-items_view : (vs : List Value) → count (items_view vs) ≡ length vs
 count-items_view [] = refl
 count-items_view (v ∷ vs) = ap (λ n. n + 1) (count-items_view vs) ∙ add-one (length vs)
+
+-- a value that is refused where it was there before
+module _ {A S : Type 0} (entry : ℕ → Data → Read A) (has : S → A → Bool) (twice : ℕ → CatalogueFault) (add : S → A → S) where
+  abbrev one : S → ℕ → A → Read S
+  one state index x = cond (has state x) (Err (twice index)) (Ok (add state x))
+
+  abbrev step : S → ℕ → Data → Read S
+  step state index d = then_read (entry index d) (one state index)
+
+  module _ (state : S) (vs : List Value) (i : ℕ) (v : Value) (x : A) (within : i < length vs) (is : entry i (view (get_or vs i v)) ≡ Ok x) where
+    stepped : (b : Bool) → not (has state x) ≡ not b → step state i (view (get_or vs i v)) ≡ cond b (Err (twice i)) (Ok (add state x))
+    stepped b there = ap (λ r. then_read r (one state i)) is ∙ ap (λ b. cond b (Err (twice i)) (Ok (add state x))) (same (has state x) b there)
+      where
+        same : (a b : Bool) → not a ≡ not b → a ≡ b
+        same true true h = refl
+        same true false h = sym h
+        same false true h = sym h
+        same false false h = refl
+
+    pub step_twice : not (has state x) ≡ false → Err (twice i) ≡ each step state i (items_view (drop i vs))
+    step_twice there = each_fault step state vs i v (twice i) within (stepped true there)
+
+    pub step_added : not (has state x) ≡ true → (next : S) → next ≡ add state x → each step next (i + 1) (items_view (drop (i + 1) vs)) ≡ each step state i (items_view (drop i vs))
+    step_added new next put = ap (λ s. each step s (i + 1) (items_view (drop (i + 1) vs))) put ∙ each_go step state vs i v (add state x) within (stepped false new)
+
+  pub step_fault : (state : S) (vs : List Value) (i : ℕ) (v : Value) (fault : CatalogueFault) → i < length vs → entry i (view (get_or vs i v)) ≡ Err fault → Err fault ≡ each step state i (items_view (drop i vs))
+  step_fault state vs i v fault within is = each_fault step state vs i v fault within (ap (λ r. then_read r (one state i)) is)

@@ -1,19 +1,24 @@
 -- Texts and rules in their places.
-use Rattle.std.proofs.Common.{◌≡◌, ◌∙◌, ℕ, Bool, true, false, cond, List, [], ◌∷◌, ◌++◌, map, sym, ap, refl, Ordering, Less, Equal, Greater, nat_cmp, is_eq}
+use Rattle.std.proofs.Common.{◌≡◌, ◌∙◌, inl, inr, ℕ, Bool, true, false, cond, List, [], ◌∷◌, ◌++◌, map, Option, Some, sym, ap, refl, Ordering, Less, Equal, Greater, nat_cmp, is_eq}
+use Rattle.std.specs.Prelude.{◌&&◌, ◌||◌, not, is_some}
 use Rattle.std.specs.Ordering.{is_lt, on, then_cmp, match_ordering, ordering_then}
 use Rattle.std.specs.Str.{bytes_eq}
 use Rattle.std.specs.Cmp.Lexicographic.{slice_cmp}
-use Rattle.std.specs.BTreeMap.{insert_entry}
+use Rattle.std.specs.BTreeMap.{insert_entry, is_at}
+use Rattle.std.specs.Map.{lookup}
 use Rattle.std.specs.BTreeSet.{insert_key}
 use Rattle.std.proofs.lemmas.Map.Text.{is_eq-slice_cmp}
+use Rattle.std.proofs.lemmas.Bool.{cases_Bool, false≢true}
 use Rattle.std.proofs.lemmas.Map.Lookups.{exact_bytes}
+use Rattle.std.proofs.lemmas.Slice.Eq.{bytes_eq-Decides}
 use denote.Ref.{Bor}
+use Rattle.desk_rows.specs.Keys.{is_rule}
 use Rattle.desk_rows.specs.declared.reading.Rule.{Rule}
 use Rattle.desk_rows.specs.Texts.{text_below, put_new, sorted_set}
 use Rattle.desk_catalogue.specs.declared.order.Subject.{Subject}
 use Rattle.desk_catalogue.specs.declared.order.Said.{Said}
-use Rattle.desk_catalogue.specs.Kept.{put_rule, put_rules}
-use Rattle.desk_catalogue.specs.Shown.{texts}
+use Rattle.desk_catalogue.specs.Kept.{put_rule, has_rule}
+use Rattle.desk_catalogue.specs.Shown.{texts, rule_of_entry}
 
 -- ---- texts
 
@@ -48,16 +53,6 @@ texts-insert_key (x ∷ xs) k =
 
 -- ---- rules
 
-abbrev pub rule_of_entry : Subject × Said → Rule
-rule_of_entry e = record { term = e.0.term; form = e.0.form; spelled = e.1.spelled; codes = e.1.codes }
-
-abbrev pub rules_of_entries : List (Subject × Said) → List Rule
-rules_of_entries es = map rule_of_entry es
-
-pub put_rules-last : (xs : List Rule) (x : Rule) (sorted : List Rule) → put_rules (xs ++ x ∷ []) sorted ≡ put_rules xs (put_rule x sorted)
-put_rules-last [] x sorted = refl
-put_rules-last (y ∷ ys) x sorted = ap (put_rule y) (put_rules-last ys x sorted)
-
 abbrev pub subject_cmp : Subject → Subject → Ordering
 subject_cmp = then_cmp (on (λ s. s.term) (slice_cmp nat_cmp)) (on (λ s. s.form) (slice_cmp nat_cmp))
 
@@ -73,14 +68,61 @@ same_subject a b is =
     let form : a.form ≡ b.form = exact_bytes a.form b.form both.1 in
     (λ i. record { term = term i; form = form i })
 
+abbrev rules_of_entries : List (Subject × Said) → List Rule
+rules_of_entries es = map rule_of_entry es
+
 by_rule_order : (o : Ordering) (x y z : List (Subject × Said)) (y' : List Rule) → (o ≡ Equal → rules_of_entries y ≡ y') → rules_of_entries (match_ordering o x y z) ≡ match_ordering o (rules_of_entries x) y' (rules_of_entries z)
 by_rule_order Less x y z y' is = refl
 by_rule_order Equal x y z y' is = is refl
 by_rule_order Greater x y z y' is = refl
 
-pub rules-insert_entry : (es : List (Subject × Said)) (k : Subject) (v : Said) → rules_of_entries (insert_entry subject_cmp es k v) ≡ put_rule (rule_of_entry (k, v)) (rules_of_entries es)
+pub rules-insert_entry : (es : List (Subject × Said)) (k : Subject) (v : Said) → map rule_of_entry (insert_entry subject_cmp es k v) ≡ put_rule (rule_of_entry (k, v)) (map rule_of_entry es)
 rules-insert_entry [] k v = refl
 rules-insert_entry (e ∷ es) k v =
     by_rule_order (subject_cmp k e.0) ((k, v) ∷ e ∷ es) ((e.0, v) ∷ es) (e ∷ insert_entry subject_cmp es k v) (rule_of_entry (k, v) ∷ rules_of_entries es)
     (λ is. ap (λ s. rule_of_entry (s, v) ∷ rules_of_entries es) (sym (same_subject k e.0 is)))
     ∙ ap (λ l. match_ordering (subject_cmp k e.0) (rule_of_entry (k, v) ∷ rule_of_entry e ∷ rules_of_entries es) (rule_of_entry (k, v) ∷ rules_of_entries es) (rule_of_entry e ∷ l)) (rules-insert_entry es k v)
+
+-- ---- what is among some already
+
+-- texts are the same both ways round
+pub flipped : (a b : List ℕ) → bytes_eq a b ≡ bytes_eq b a
+flipped a b =
+    elim (cases_Bool (bytes_eq a b)) [
+      | inl same ↦ same ∙ sym ((bytes_eq-Decides b a).1 (sym ((bytes_eq-Decides a b).0 same)))
+      | inr other ↦ elim (cases_Bool (bytes_eq b a)) [
+        | inl same ↦ absurd (false≢true (sym other ∙ (bytes_eq-Decides a b).1 (sym ((bytes_eq-Decides b a).0 same))))
+        | inr other' ↦ other ∙ sym other'
+      ]
+    ]
+
+either_equal : (o p : Ordering) → is_eq (ordering_then o p) ≡ (is_eq o && is_eq p)
+either_equal Less p = refl
+either_equal Equal p = refl
+either_equal Greater p = refl
+
+at_subject : (k : Subject) (r : Subject × Said) → is_eq (subject_cmp k r.0) ≡ is_rule k.term k.form (rule_of_entry r)
+at_subject k r =
+    let terms : is_eq (slice_cmp nat_cmp k.term r.0.term) ≡ bytes_eq r.0.term k.term = is_eq-slice_cmp k.term r.0.term ∙ flipped k.term r.0.term in
+    let forms : is_eq (slice_cmp nat_cmp k.form r.0.form) ≡ bytes_eq r.0.form k.form = is_eq-slice_cmp k.form r.0.form ∙ flipped k.form r.0.form in
+    either_equal (slice_cmp nat_cmp k.term r.0.term) (slice_cmp nat_cmp k.form r.0.form) ∙ (λ i. terms i && forms i)
+
+some_or : {X : Type 0} (b : Bool) (x : X) (o : Option X) → is_some (cond b (Some x) o) ≡ (b || is_some o)
+some_or true x o = refl
+some_or false x o = refl
+
+has_entry : (es : List (Subject × Said)) (k : Subject) (v : Said) → is_some (lookup (is_at (subject_cmp k)) es) ≡ has_rule (map rule_of_entry es) (rule_of_entry (k, v))
+has_entry [] k v = refl
+has_entry (e ∷ es) k v =
+    some_or (is_at (subject_cmp k) e.0) e.1 (lookup (is_at (subject_cmp k)) es)
+    ∙ (λ i. at_subject k e i || has_entry es k v i)
+
+turned : (b c : Bool) → b ≡ not c → c ≡ not b
+turned true true is = is
+turned true false is = refl
+turned false true is = refl
+turned false false is = is
+
+-- none was there before
+pub was_new : (es : List (Subject × Said)) (k : Subject) (v : Said) (before : Option Said) (new : Bool) → before ≡ lookup (is_at (subject_cmp k)) es → is_some before ≡ not new → new ≡ not (has_rule (map rule_of_entry es) (rule_of_entry (k, v)))
+was_new es k v before new is told = turned (is_some before) new told ∙ ap (λ o. not (is_some o)) is ∙ ap not (has_entry es k v)

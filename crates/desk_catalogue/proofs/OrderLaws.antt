@@ -1,21 +1,22 @@
--- Sorted rules: each pair of term and form stands once, and what is found for it is the first that was listed.
-use Rattle.std.proofs.Common.{◌≡◌, ◌∙◌, ℕ, Bool, true, false, cond, List, [], ◌∷◌, Some, sym, ap, refl, rules, Ordering, Less, Equal, Greater, nat_cmp}
-use Rattle.std.specs.Prelude.{◌&&◌, find}
-use Rattle.std.specs.Cmp.{IsTotalOrder, tied_itself}
+-- The rules of a catalogue are sorted, each pair of term and form once.
+use Rattle.std.proofs.Common.{◌≡◌, ◌∙◌, ℕ, ◌+◌, Bool, true, false, cond, List, [], ◌∷◌, length, Option, Ok, Err, subst, ap, refl, rules, Ordering, Less, Equal, Greater}
+use Rattle.std.specs.Prelude.{codes, nat_lt}
+use Rattle.std.specs.Option.{ok_or}
+use Rattle.std.specs.Cmp.{IsTotalOrder}
 use Rattle.std.specs.Cmp.Rules.{comparing}
-use Rattle.std.specs.Cmp.Lexicographic.{slice_cmp}
 use Rattle.std.specs.List.{AllByRecursion}
 use Rattle.std.specs.List.Sorted.{IsStrictlySortedBy}
-use Rattle.std.specs.Ordering.{match_ordering, ordering_reverse, ordering_then}
-use Rattle.std.specs.Str.{bytes_eq}
-use Rattle.std.proofs.lemmas.Bool.{and_parts, false≢true}
-use Rattle.std.proofs.lemmas.Cmp.{nat_list_cmp_total}
-use Rattle.std.proofs.lemmas.Map.Lookups.{exact_bytes}
-use Rattle.std.proofs.lemmas.Slice.Eq.{bytes_eq-Decides}
-use Rattle.desk_rows.specs.Keys.{is_rule}
+use Rattle.std.specs.Ordering.{match_ordering, ordering_reverse}
+use Rattle.toml.specs.Data.{Data, Items, no_items, item, Members, get_member}
+use Rattle.toml.specs.Parse.{parse_document}
 use Rattle.desk_rows.specs.declared.reading.Rule.{Rule}
-use Rattle.desk_catalogue.specs.Kept.{rule_order, put_rule, in_order}
-use Rattle.desk_catalogue.proofs.KeptLemmas.{both_equal}
+use Rattle.desk_rows.specs.declared.refusal.CataloguePart.TheVariants as part
+use Rattle.desk_rows.specs.declared.refusal.CatalogueFault.{CatalogueFault}
+use Rattle.desk_rows.specs.declared.refusal.CatalogueFault.TheVariants.{NotToml, TooLarge, Twice}
+use Rattle.desk_catalogue.specs.declared.catalogue.Catalogue.{Catalogue}
+use Rattle.desk_catalogue.specs.Limits as limit
+use Rattle.desk_catalogue.specs.Kept.{rule_order, put_rule, has_rule}
+use Rattle.desk_catalogue.specs.Reading.{Read, then_read, each, tables_of, forms_of, duties_of, rule_at, with_one, with_rule, rules_of, licence_texts_of, catalogue_of_table, catalogue_of}
 
 rule_order_total : IsTotalOrder rule_order
 rule_order_total = search (comparing, rules)
@@ -43,57 +44,63 @@ sorted_put x (r ∷ rs) h =
     ] in
     placed (rule_order x r) refl
 
-pub in_order_sorted : (rules : List Rule) → IsStrictlySortedBy rule_order (in_order rules)
+-- ---- what holds after each value
+
+-- what comes next, where there was no fault
+pub then_by : {A B : Type 0} (r : Read A) (next : A → Read B) (y : B) → then_read r next ≡ Ok y → (x : A) × (r ≡ Ok x) × (next x ≡ Ok y)
+then_by (Ok x) next y e = (x, refl, e)
+then_by (Err fault) next y e = cc
+
+pub unless : {A : Type 0} (b : Bool) (f : CatalogueFault) (r : Read A) (x : A) → cond b (Err f) r ≡ Ok x → r ≡ Ok x
+unless true f r x e = cc
+unless false f r x e = e
+
+abbrev out : {A : Type 0} → A → Read A → A
+out d (Ok x) = x
+out d (Err fault) = d
+
+abbrev read : {A : Type 0} → A → Read A
+read x = Ok x
+
+pub same_read : {A : Type 0} (x y : A) → read x ≡ Ok y → x ≡ y
+same_read x y e = ap (out x) e
+
+pub each_holds : {S : Type 0} (P : S → Type 0) (put : S → ℕ → Data → Read S) → ((s : S) (i : ℕ) (d : Data) (t : S) → P s → put s i d ≡ Ok t → P t) → (s : S) (i : ℕ) (ds : Items) (t : S) → P s → each put s i ds ≡ Ok t → P t
+each_holds P put step s i no_items t p e = subst P (same_read s t e) p
+each_holds P put step s i (item d ds) t p e =
+    let found = then_by (put s i d) (λ next. each put next (i + 1) ds) t e in
+    each_holds P put step found.0 (i + 1) ds t (step s i d found.0 p found.1) found.2
+
+-- what holds of the rules when each is put in its place
+pub rules_hold : (P : List Rule → Type 0) (terms : List ℕ → Option (List ℕ)) (forms duties : List (List ℕ)) (listed : Option Data) (rules : List Rule)
+    → P [] → ((index : ℕ) (d : Data) (rule : Rule) (rs : List Rule) → rule_at terms forms duties index d ≡ Ok rule → P rs → P (put_rule rule rs)) → rules_of terms forms duties listed ≡ Ok rules → P rules
+rules_hold P terms forms duties listed rules none more e =
+    let found = then_by (tables_of part.Rule listed) (each (with_rule terms forms duties) [] 0) rules e in
+    each_holds P (with_rule terms forms duties) step [] 0 found.0 rules none found.2
+  where
+    step : (rs : List Rule) (i : ℕ) (d : Data) (ts : List Rule) → P rs → with_rule terms forms duties rs i d ≡ Ok ts → P ts
+    step rs i d ts p e =
+        let found = then_by (rule_at terms forms duties i d) (with_one rs i) ts e in
+        subst P (same_read (put_rule found.0 rs) ts (unless (has_rule rs found.0) (Twice part.Rule i) (Ok (put_rule found.0 rs)) ts found.2)) (more i d found.0 rs found.1 p)
+
+-- the rules of a catalogue are those that its table lists
+pub rules_read : (terms : List ℕ → Option (List ℕ)) (text : List ℕ) (catalogue : Catalogue) → catalogue_of terms text ≡ Ok catalogue
+    → (ms : Members) × (forms : List (List ℕ)) × (duties : List (List ℕ)) × (rules_of terms forms duties (get_member (codes "rule") ms) ≡ Ok catalogue.rules)
+rules_read terms text catalogue e =
+    let small = unless (nat_lt limit.catalogue_bytes (length text)) TooLarge (then_read (ok_or (parse_document text) NotToml) (catalogue_of_table terms)) catalogue e in
+    let table = then_by (ok_or (parse_document text) NotToml) (catalogue_of_table terms) catalogue small in
+    let ms = table.0 in
+    let forms = then_by (forms_of (get_member (codes "forms") ms)) _ catalogue table.2 in
+    let duties = then_by (duties_of (get_member (codes "duty") ms)) _ catalogue forms.2 in
+    let rules = then_by (rules_of terms forms.0 duties.0 (get_member (codes "rule") ms)) _ catalogue duties.2 in
+    let texts = then_by (licence_texts_of (get_member (codes "text") ms)) _ catalogue rules.2 in
+    (ms, forms.0, duties.0, rules.1 ∙ ap (λ c. Ok c.rules) (same_read _ catalogue texts.2))
+
+no_rules_sorted : IsStrictlySortedBy rule_order []
 unfolding IsStrictlySortedBy
-in_order_sorted [] = tt
-in_order_sorted (x ∷ xs) = sorted_put x (in_order xs) (in_order_sorted xs)
+no_rules_sorted = tt
 
--- two rules for one pair are tied
-pair_of : (term form : List ℕ) (r : Rule) → is_rule term form r ≡ true → (r.term ≡ term) × (r.form ≡ form)
-pair_of term form r h =
-    let both = and_parts (bytes_eq r.term term) (bytes_eq r.form form) h in
-    ((bytes_eq-Decides r.term term).0 both.0, (bytes_eq-Decides r.form form).0 both.1)
-
-tied : (term form : List ℕ) (x r : Rule) → is_rule term form x ≡ true → is_rule term form r ≡ true → rule_order x r ≡ Equal
-tied term form x r h k =
-    let a = pair_of term form x h in
-    let b = pair_of term form r k in
-    let terms : slice_cmp nat_cmp x.term r.term ≡ Equal = ap (slice_cmp nat_cmp x.term) (b.0 ∙ sym a.0) ∙ tied_itself nat_list_cmp_total x.term in
-    let forms : slice_cmp nat_cmp x.form r.form ≡ Equal = ap (slice_cmp nat_cmp x.form) (b.1 ∙ sym a.1) ∙ tied_itself nat_list_cmp_total x.form in
-    (λ i. ordering_then (terms i) (forms i))
-
-same_test : (term form : List ℕ) (x r : Rule) → rule_order x r ≡ Equal → is_rule term form x ≡ is_rule term form r
-same_test term form x r is =
-    let both = both_equal (slice_cmp nat_cmp x.term r.term) (slice_cmp nat_cmp x.form r.form) is in
-    (λ i. bytes_eq (exact_bytes x.term r.term both.0 i) term && bytes_eq (exact_bytes x.form r.form both.1 i) form)
-
-same_choice : {X : Type 0} (a b : Bool) (u v w : X) → a ≡ b → cond a u w ≡ cond a u (cond b v w)
-same_choice true b u v w is = refl
-same_choice false false u v w is = refl
-same_choice false true u v w is = absurd (false≢true is)
-
-other_choice : {X : Type 0} (a b : Bool) (u v w : X) → (a ≡ true → b ≡ true → ⊥) → cond b v (cond a u w) ≡ cond a u (cond b v w)
-other_choice true true u v w h = absurd (h refl refl)
-other_choice true false u v w h = refl
-other_choice false true u v w h = refl
-other_choice false false u v w h = refl
-
-not_greater : Equal ≡ Greater → ⊥
-not_greater h = cc
-
-find_put : (term form : List ℕ) (x : Rule) (rs : List Rule) → find (is_rule term form) (put_rule x rs) ≡ cond (is_rule term form x) (Some x) (find (is_rule term form) rs)
-find_put term form x [] = refl
-find_put term form x (r ∷ rs) =
-    let is_one = is_rule term form in
-    let placed : (o : Ordering) → rule_order x r ≡ o → find is_one (match_ordering o (x ∷ r ∷ rs) (x ∷ rs) (r ∷ put_rule x rs)) ≡ cond (is_one x) (Some x) (find is_one (r ∷ rs)) = λ o. elim o as (λ o. rule_order x r ≡ o → find is_one (match_ordering o (x ∷ r ∷ rs) (x ∷ rs) (r ∷ put_rule x rs)) ≡ cond (is_one x) (Some x) (find is_one (r ∷ rs))) [
-      | Less ↦ λ is. refl
-      | Equal ↦ λ is. same_choice (is_one x) (is_one r) (Some x) (Some r) (find is_one rs) (same_test term form x r is)
-      | Greater ↦ λ is.
-          ap (cond (is_one r) (Some r)) (find_put term form x rs)
-          ∙ other_choice (is_one x) (is_one r) (Some x) (Some r) (find is_one rs) (λ h k. not_greater (sym (tied term form x r h k) ∙ is))
-    ] in
-    placed (rule_order x r) refl
-
-pub find-in_order : (rules : List Rule) (term form : List ℕ) → find (is_rule term form) (in_order rules) ≡ find (is_rule term form) rules
-find-in_order [] term form = refl
-find-in_order (x ∷ xs) term form = find_put term form x (in_order xs) ∙ ap (cond (is_rule term form x) (Some x)) (find-in_order xs term form)
+pub rules_sorted : (terms : List ℕ → Option (List ℕ)) (text : List ℕ) (catalogue : Catalogue) → catalogue_of terms text ≡ Ok catalogue → IsStrictlySortedBy rule_order catalogue.rules
+rules_sorted terms text catalogue e =
+    let read = rules_read terms text catalogue e in
+    rules_hold (IsStrictlySortedBy rule_order) terms read.1 read.2 (get_member (codes "rule") read.0) catalogue.rules no_rules_sorted (λ index d rule rs is sorted. sorted_put rule rs sorted) read.3

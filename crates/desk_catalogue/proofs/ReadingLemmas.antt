@@ -1,5 +1,5 @@
 -- The parts of a catalogue, put together.
-use Rattle.std.proofs.Common.{◌≡◌, ◌∙◌, ℕ, Bool, cond, List, length, Option, Some, Result, Ok, Err, sym, ap, subst}
+use Rattle.std.proofs.Common.{◌≡◌, ◌∙◌, ℕ, Bool, cond, List, [], length, Option, Some, Result, Ok, Err, sym, ap, subst}
 use Rattle.std.specs.Prelude.{IfOk, codes}
 use Rattle.std.specs.Option.{ok_or}
 use Rattle.toml.specs.Data.{Data, get_member, Members}
@@ -9,8 +9,10 @@ use Rattle.desk_rows.specs.declared.reading.Rule.{Rule}
 use Rattle.desk_rows.specs.declared.refusal.CatalogueFault.{CatalogueFault}
 use Rattle.desk_rows.specs.declared.refusal.CatalogueFault.TheVariants.{BadKind, BadTerm}
 use Rattle.desk_rows.specs.declared.refusal.CataloguePart.TheVariants as part
+use Rattle.desk_catalogue.specs.declared.catalogue.Catalogue.{Catalogue}
+use Rattle.desk_catalogue.specs.declared.catalogue.LicenceText.{LicenceText}
 use Rattle.desk_catalogue.specs.Terms.{licence_of}
-use Rattle.desk_catalogue.specs.Reading.{Read, then_read, each, form_at, is_form_count, forms_listed, forms_of, duties_of, rules_of, RuleTexts, rule_written, rule_of, rule_at, kept, catalogue_of_table}
+use Rattle.desk_catalogue.specs.Reading.{Read, then_read, each, with_form, is_form_count, forms_listed, forms_of, duties_of, rules_of, licence_texts_of, RuleTexts, rule_written, rule_of, rule_at, catalogue_of_table}
 use Rattle.desk_catalogue.specs.Shown.{Gives}
 use Rattle.desk_catalogue.proofs.EntryLemmas.{count-items_view}
 
@@ -25,10 +27,10 @@ gives_along r x y show e h = subst (λ z. IfOk r (Gives z show)) e h
 
 -- ---- how many forms there are
 
-pub forms_counted : (vs : List Value) (b : Bool) → is_form_count (length vs) ≡ b → cond b (each form_at 0 (items_view vs)) (Err (BadKind part.Forms 0)) ≡ forms_listed (Some (items_view vs))
+pub forms_counted : (vs : List Value) (b : Bool) → is_form_count (length vs) ≡ b → cond b (each with_form [] 0 (items_view vs)) (Err (BadKind part.Forms 0)) ≡ forms_listed (Some (items_view vs))
 forms_counted vs b is =
-    sym (ap (λ n. cond (is_form_count n) (each form_at 0 (items_view vs)) (Err (BadKind part.Forms 0))) (count-items_view vs)
-    ∙ ap (λ c. cond c (each form_at 0 (items_view vs)) (Err (BadKind part.Forms 0))) is)
+    sym (ap (λ n. cond (is_form_count n) (each with_form [] 0 (items_view vs)) (Err (BadKind part.Forms 0))) (count-items_view vs)
+    ∙ ap (λ c. cond c (each with_form [] 0 (items_view vs)) (Err (BadKind part.Forms 0))) is)
 
 -- ---- a rule
 
@@ -40,14 +42,30 @@ rule_found terms forms duties index d texts term written is =
 
 -- ---- the whole
 
+abbrev whole : List (List ℕ) → List Rule → List LicenceText → Catalogue
+whole forms rules texts = record { forms = forms; rules = rules; texts = texts }
+
 module _ (terms : List ℕ → Option (List ℕ)) (ms : Members) (forms duties : List (List ℕ)) (has_forms : forms_of (get_member (codes "forms") ms) ≡ Ok forms) (has_duties : duties_of (get_member (codes "duty") ms) ≡ Ok duties) where
-  by_rules : catalogue_of_table terms ms ≡ then_read (rules_of terms forms duties (get_member (codes "rule") ms)) (λ rules. Ok (kept forms rules))
+  abbrev rules : Read (List Rule)
+  rules = rules_of terms forms duties (get_member (codes "rule") ms)
+
+  abbrev texts : Read (List LicenceText)
+  texts = licence_texts_of (get_member (codes "text") ms)
+
+  by_rules : catalogue_of_table terms ms ≡ then_read rules (λ rs. then_read texts (λ ts. Ok (whole forms rs ts)))
   by_rules =
-      ap (λ r. then_read r (λ fs. then_read (duties_of (get_member (codes "duty") ms)) (λ ds. then_read (rules_of terms fs ds (get_member (codes "rule") ms)) (λ rules. Ok (kept fs rules))))) has_forms
-      ∙ ap (λ r. then_read r (λ ds. then_read (rules_of terms forms ds (get_member (codes "rule") ms)) (λ rules. Ok (kept forms rules)))) has_duties
+      ap (λ r. then_read r (λ fs. then_read (duties_of (get_member (codes "duty") ms)) (λ ds. then_read (rules_of terms fs ds (get_member (codes "rule") ms)) (λ rs. then_read texts (λ ts. Ok (whole fs rs ts)))))) has_forms
+      ∙ ap (λ r. then_read r (λ ds. then_read (rules_of terms forms ds (get_member (codes "rule") ms)) (λ rs. then_read texts (λ ts. Ok (whole forms rs ts))))) has_duties
 
-  pub catalogue_found : (rules : List Rule) → rules_of terms forms duties (get_member (codes "rule") ms) ≡ Ok rules → Ok (kept forms rules) ≡ catalogue_of_table terms ms
-  catalogue_found rules is = sym (by_rules ∙ ap (λ r. then_read r (λ rs. Ok (kept forms rs))) is)
+  pub rules_fail : (fault : CatalogueFault) → rules_of terms forms duties (get_member (codes "rule") ms) ≡ Err fault → Err fault ≡ catalogue_of_table terms ms
+  rules_fail fault is = sym (by_rules ∙ ap (λ r. then_read r (λ rs. then_read texts (λ ts. Ok (whole forms rs ts)))) is)
 
-  pub catalogue_fails : (fault : CatalogueFault) → rules_of terms forms duties (get_member (codes "rule") ms) ≡ Err fault → Err fault ≡ catalogue_of_table terms ms
-  catalogue_fails fault is = sym (by_rules ∙ ap (λ r. then_read r (λ rs. Ok (kept forms rs))) is)
+  module _ (rs : List Rule) (has_rules : rules_of terms forms duties (get_member (codes "rule") ms) ≡ Ok rs) where
+    by_texts : catalogue_of_table terms ms ≡ then_read texts (λ ts. Ok (whole forms rs ts))
+    by_texts = by_rules ∙ ap (λ r. then_read r (λ rs. then_read texts (λ ts. Ok (whole forms rs ts)))) has_rules
+
+    pub texts_fail : (fault : CatalogueFault) → licence_texts_of (get_member (codes "text") ms) ≡ Err fault → Err fault ≡ catalogue_of_table terms ms
+    texts_fail fault is = sym (by_texts ∙ ap (λ r. then_read r (λ ts. Ok (whole forms rs ts))) is)
+
+    pub catalogue_found : (ts : List LicenceText) → licence_texts_of (get_member (codes "text") ms) ≡ Ok ts → Ok (whole forms rs ts) ≡ catalogue_of_table terms ms
+    catalogue_found ts is = sym (by_texts ∙ ap (λ r. then_read r (λ ts. Ok (whole forms rs ts))) is)

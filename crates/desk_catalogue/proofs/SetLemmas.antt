@@ -1,37 +1,26 @@
--- Sets of borrowed texts.
-use Rattle.std.proofs.Common.{◌≡◌, ◌∙◌, ℕ, ◌+◌, ◌<◌, Bool, true, false, cond, List, length, get_or, drop, sym, ap, refl}
-use Rattle.std.specs.Prelude.{◌||◌, ◌&&◌}
-use Rattle.std.specs.List.{list_all}
+-- Sets of texts and of ids.
+use Rattle.std.proofs.Common.{◌≡◌, ◌∙◌, ℕ, ◌+◌, ◌<◌, Bool, true, false, cond, List, [], ◌∷◌, ◌++◌, length, get_or, drop, sym, ap, refl, nat_cmp}
+use Rattle.std.specs.Prelude.{◌||◌, ◌&&◌, not}
+use Rattle.std.specs.List.{list_all, list_any}
+use Rattle.std.specs.BTreeMap.{is_at}
+use Rattle.std.specs.BTreeSet.{BTreeSet, contains_by, Updates}
+use Rattle.std.specs.Cmp.Lexicographic.{slice_cmp}
 use Rattle.std.specs.Str.{bytes_eq}
-use Rattle.std.specs.BTreeSet.{BTreeSet, UpdatesBy}
 use Rattle.std.proofs.lemmas.Map.Text.{is_eq-slice_cmp}
 use Rattle.std.proofs.lemmas.List.{drop_more}
+use Rattle.std.proofs.lemmas.List.Folds.{list_any-append}
 use denote.Ref.{Bor}
+use Rattle.desk_base.specs.Folded.{folded}
+use Rattle.desk_catalogue.specs.declared.catalogue.LicenceText.{LicenceText}
+use Rattle.desk_catalogue.specs.Kept.{is_text_of}
 use Rattle.desk_catalogue.specs.Values.{is_among}
-use Rattle.desk_catalogue.specs.Shown.{texts, has_text}
-use Rattle.desk_catalogue.proofs.KeptLemmas.{borrowed_cmp}
+use Rattle.desk_catalogue.specs.Shown.{texts, HasIds}
+use Rattle.desk_catalogue.proofs.KeptLemmas.{flipped}
 
-either : (b c : Bool) → cond b true c ≡ (b || c)
-either true c = refl
-either false c = refl
-
--- one text more
-one_more : (v : Bor (List ℕ)) (old new : BTreeSet (Bor (List ℕ))) → UpdatesBy borrowed_cmp (borrowed_cmp v) old new true → (q : List ℕ) → has_text new q ≡ (bytes_eq v.now q || has_text old q)
-one_more v old new h q =
-    h.0 (record v { now = q }) ∙ ap (λ b. cond b true (has_text old q)) (is_eq-slice_cmp v.now q) ∙ either (bytes_eq v.now q) (has_text old q)
-
-or_moves : (a b c : Bool) → (b || (a || c)) ≡ ((a || b) || c)
-or_moves true true c = refl
-or_moves true false c = refl
-or_moves false b c = refl
-
--- a text goes from those to come to those in the set
-pub set_step : (listed : List (Bor (List ℕ))) (i : ℕ) (v : Bor (List ℕ)) (old new : BTreeSet (Bor (List ℕ))) → i < length listed → UpdatesBy borrowed_cmp (borrowed_cmp (get_or listed i v)) old new true
-    → (q : List ℕ) → (is_among (texts (drop (i + 1) listed)) q || has_text new q) ≡ (is_among (texts (drop i listed)) q || has_text old q)
-set_step listed i v old new within h q =
-    ap (λ b. is_among (texts (drop (i + 1) listed)) q || b) (one_more (get_or listed i v) old new h q)
-    ∙ or_moves (bytes_eq (get_or listed i v).now q) (is_among (texts (drop (i + 1) listed)) q) (has_text old q)
-    ∙ ap (λ l. is_among (texts l) q || has_text old q) (sym (drop_more listed i v within))
+-- a text is found in a set where it is among its texts
+pub has_text : (ks : List (Bor (List ℕ))) (q : List ℕ) → list_any (is_at (λ (k : Bor (List ℕ)). slice_cmp nat_cmp q k.now)) ks ≡ is_among (texts ks) q
+has_text [] q = refl
+has_text (k ∷ ks) q = (λ i. (is_eq-slice_cmp q k.now ∙ flipped q k.now) i || has_text ks q i)
 
 -- a code that is known, and one that isn't
 pub all_go : (known : List (List ℕ)) (listed : List (Bor (List ℕ))) (i : ℕ) (v : Bor (List ℕ)) → i < length listed → is_among known (get_or listed i v).now ≡ true
@@ -43,3 +32,29 @@ pub all_stop : (known : List (List ℕ)) (listed : List (Bor (List ℕ))) (i : �
     → false ≡ list_all (is_among known) (texts (drop i listed))
 all_stop known listed i v within is =
     sym (ap (λ b. b && list_all (is_among known) (texts (drop (i + 1) listed))) is) ∙ ap (λ l. list_all (is_among known) (texts l)) (sym (drop_more listed i v within))
+
+-- ---- ids of texts
+
+either : (b c : Bool) → cond b true c ≡ (c || b)
+either true true = refl
+either true false = refl
+either false true = refl
+either false false = refl
+
+-- an id is new where none of the texts has it
+pub is_new : (listed : List LicenceText) (seen : BTreeSet (List ℕ)) (text : LicenceText) (key : List ℕ) (added : Bool) → key ≡ folded text.licence → HasIds listed seen → added ≡ not (contains_by (slice_cmp nat_cmp key) seen) → not (list_any (is_text_of text.licence) listed) ≡ added
+is_new listed seen text key added is has told = sym (told ∙ ap (λ k. not (contains_by (slice_cmp nat_cmp k) seen)) is ∙ ap not (has text.licence))
+
+-- one text more
+pub ids_more : (listed : List LicenceText) (text : LicenceText) (old new : BTreeSet (List ℕ)) (key : List ℕ) → key ≡ folded text.licence → Updates (slice_cmp nat_cmp) old new key true → HasIds listed old → (more : List LicenceText) → more ≡ listed ++ text ∷ [] → HasIds more new
+ids_more listed text old new key is h has more put = λ id.
+    h.0 (folded id)
+    ∙ (λ i. cond ((is_eq-slice_cmp key (folded id) ∙ ap (λ k. bytes_eq k (folded id)) is) i) true (has id i))
+    ∙ either (is_text_of id text) (list_any (is_text_of id) listed)
+    ∙ ap (λ b. list_any (is_text_of id) listed || b) (none_more (is_text_of id text))
+    ∙ sym (list_any-append (is_text_of id) listed (text ∷ []))
+    ∙ ap (list_any (is_text_of id)) (sym put)
+  where
+    none_more : (b : Bool) → b ≡ (b || false)
+    none_more true = refl
+    none_more false = refl

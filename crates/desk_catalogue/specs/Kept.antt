@@ -1,32 +1,33 @@
--- What a catalogue keeps of entries that stand twice, and in which order.
-use Rattle.std.specs.Prelude.{ℕ, List, [], ◌∷◌, ◌++◌, fold, if◌then◌else◌}
+-- What a catalogue keeps, and in which order.
+use Rattle.std.specs.Prelude.{ℕ, ◌==◌, Bool, List, [], ◌∷◌, length}
+use Rattle.std.specs.List.{list_any}
 use Rattle.std.specs.Ordering.{nat_cmp, on, then_cmp, match_ordering}
+use Rattle.std.specs.Str.{bytes_eq}
 use Rattle.std.specs.Cmp.Lexicographic.{slice_cmp}
 use Rattle.std.specs.declared.cmp.Ordering.{Ordering}
+use Rattle.desk_base.specs.Folded.{folded}
+use Rattle.desk_rows.specs.Keys.{is_rule}
+use Rattle.desk_rows.specs.Texts.{sorted_set}
 use Rattle.desk_rows.specs.declared.reading.Rule.{Rule}
-use Rattle.desk_catalogue.specs.Values.{is_among}
+use Rattle.desk_catalogue.specs.declared.catalogue.LicenceText.{LicenceText}
 
--- a text at the end, unless it is there
-abbrev pub added : List (List ℕ) → List ℕ → List (List ℕ)
-added texts text = if is_among texts text then texts else texts ++ text ∷ []
-
--- the texts in their order, each once
-abbrev pub distinct : List (List ℕ) → List (List ℕ)
-distinct texts = fold added [] texts
+-- none of the texts stands twice: as a set they are as many
+abbrev pub stand_once : List (List ℕ) → Bool
+stand_once texts = length (sorted_set texts) == length texts
 
 -- rules are sorted by term, then by form
 abbrev pub rule_order : Rule → Rule → Ordering
 rule_order = then_cmp (on (λ rule. rule.term) (slice_cmp nat_cmp)) (on (λ rule. rule.form) (slice_cmp nat_cmp))
 
--- a rule at its place in sorted rules; one for the same term and form gives way to it
+-- a rule at its place in sorted rules
 abbrev pub put_rule : Rule → List Rule → List Rule
 put_rule rule [] = rule ∷ []
 put_rule rule (r ∷ rs) = match_ordering (rule_order rule r) (rule ∷ r ∷ rs) (rule ∷ rs) (r ∷ put_rule rule rs)
 
-abbrev pub put_rules : List Rule → List Rule → List Rule
-put_rules [] sorted = sorted
-put_rules (rule ∷ rules) sorted = put_rule rule (put_rules rules sorted)
+-- one of the rules is for the same term and form
+abbrev pub has_rule : List Rule → Rule → Bool
+has_rule rules rule = list_any (is_rule rule.term rule.form) rules
 
--- the rules sorted: of those for one term and form the first, which is put last
-abbrev pub in_order : List Rule → List Rule
-in_order rules = put_rules rules []
+-- the text is that of a licence or an exception, whose ids compare without regard to case (SPDX 2.3, Annex D.2)
+abbrev pub is_text_of : List ℕ → LicenceText → Bool
+is_text_of id text = bytes_eq (folded text.licence) (folded id)

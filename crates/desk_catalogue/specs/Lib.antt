@@ -1,6 +1,7 @@
+pub mod Limits
 pub mod Values
 pub mod Terms
-pub mod Reading
 pub mod Kept
+pub mod Reading
 pub mod Lookup
 pub mod Shown

@@ -3,9 +3,11 @@ use Rattle.std.specs.Prelude.{ℕ, List, Bool, Option, option_map, find}
 use Rattle.desk_expr.specs.declared.term.Term.{Term}
 use Rattle.desk_expr.specs.Printing.{printed_term}
 use Rattle.desk_rows.specs.Keys.{is_rule}
-use Rattle.desk_rows.specs.declared.reading.Catalogue.{Catalogue}
 use Rattle.desk_rows.specs.declared.reading.Rule.{Rule}
+use Rattle.desk_catalogue.specs.declared.catalogue.Catalogue.{Catalogue}
+use Rattle.desk_catalogue.specs.declared.catalogue.LicenceText.{LicenceText}
 use Rattle.desk_catalogue.specs.Values.{is_among}
+use Rattle.desk_catalogue.specs.Kept.{is_text_of}
 
 -- the rule for a term, which the catalogue keeps as it is printed, in a form
 abbrev pub rule_for : Catalogue → Term → List ℕ → Option Rule
@@ -21,3 +23,14 @@ spelled_for catalogue term form = option_map (λ rule. rule.spelled) (rule_for c
 
 abbrev pub has_form : Catalogue → List ℕ → Bool
 has_form catalogue form = is_among catalogue.forms form
+
+-- the text of a licence or an exception, by its id in any case
+abbrev pub text_for : Catalogue → List ℕ → Option LicenceText
+text_for catalogue id = find (is_text_of id) catalogue.texts
+
+abbrev pub body_for : Catalogue → List ℕ → Option (List ℕ)
+body_for catalogue id = option_map (λ text. text.body) (text_for catalogue id)
+
+-- the id as the catalogue spells it
+abbrev pub title_for : Catalogue → List ℕ → Option (List ℕ)
+title_for catalogue id = option_map (λ text. text.licence) (text_for catalogue id)

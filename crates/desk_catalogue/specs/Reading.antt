@@ -1,21 +1,22 @@
--- The catalogue that a text is, or its first fault: `forms`, then the duty tables, then the rule tables, each by its keys in the
--- order below, first an absent key, then a value of another kind, then what it names.
-use Rattle.std.specs.Prelude.{ℕ, ◌+◌, ◌&&◌, not, nat_lt, nat_le, Bool, List, [], ◌∷◌, length, codes, Option, Some, None, Result, Ok, Err, if◌then◌else◌}
+-- The catalogue that a text is, or its first fault: `forms`, then the duty tables, the rule tables and the text tables, each table
+-- whole before the next one: first an absent key, then a value of another kind, then what it names, then what stands twice.
+use Rattle.std.specs.Prelude.{ℕ, ◌+◌, ◌&&◌, not, nat_lt, nat_le, Bool, List, [], ◌∷◌, ◌++◌, length, codes, Option, Some, None, Result, Ok, Err, if◌then◌else◌}
 use Rattle.std.specs.Option.{ok_or}
-use Rattle.std.specs.List.{list_all}
+use Rattle.std.specs.List.{list_all, list_any}
 use Rattle.toml.specs.Data.{Data, as_str, as_array, as_table, get_member, Items, no_items, item, Members}
 use Rattle.toml.specs.Parse.{parse_document}
-use Rattle.desk_rows.specs.Texts.{sorted_set}
-use Rattle.desk_rows.specs.declared.reading.Catalogue.{Catalogue}
+use Rattle.desk_rows.specs.Texts.{put_new, sorted_set}
 use Rattle.desk_rows.specs.declared.reading.Rule.{Rule}
 use Rattle.desk_rows.specs.declared.refusal.CataloguePart.{CataloguePart}
 use Rattle.desk_rows.specs.declared.refusal.CataloguePart.TheVariants as part
 use Rattle.desk_rows.specs.declared.refusal.CatalogueFault.{CatalogueFault}
-use Rattle.desk_rows.specs.declared.refusal.CatalogueFault.TheVariants.{NotToml, Missing, BadKind, BadTerm, UnknownForm, UnknownDuty, TooLarge}
-use Rattle.desk_catalogue.specs.Values.{id_of, title_of, texts_of, is_among}
+use Rattle.desk_rows.specs.declared.refusal.CatalogueFault.TheVariants.{NotToml, Missing, BadKind, BadTerm, UnknownForm, UnknownDuty, Twice, TooLarge}
+use Rattle.desk_catalogue.specs.declared.catalogue.Catalogue.{Catalogue}
+use Rattle.desk_catalogue.specs.declared.catalogue.LicenceText.{LicenceText}
+use Rattle.desk_catalogue.specs.Limits as limit
+use Rattle.desk_catalogue.specs.Values.{id_of, title_of, texts_of, is_among, is_text_id}
 use Rattle.desk_catalogue.specs.Terms.{licence_of}
-use Rattle.desk_catalogue.specs.Kept.{distinct, in_order}
-use Rattle.desk_catalogue.specs.declared.limits.TheConstants as limit
+use Rattle.desk_catalogue.specs.Kept.{stand_once, put_rule, has_rule, is_text_of}
 
 -- something, or its fault
 abbrev pub Read : Type 0 → Type 0
@@ -28,15 +29,10 @@ then_read (Err fault) next = Err fault
 
 -- ---- lists
 
-abbrev pub followed : {A : Type 0} → Read A → Read (List A) → Read (List A)
-followed (Ok x) (Ok xs) = Ok (x ∷ xs)
-followed (Ok x) (Err fault) = Err fault
-followed (Err fault) more = Err fault
-
--- each item in turn, with its index, or the first fault
-abbrev pub each : {A : Type 0} → (ℕ → Data → Read A) → ℕ → Items → Read (List A)
-each entry index no_items = Ok []
-each entry index (item d ds) = followed (entry index d) (each entry (index + 1) ds)
+-- each value in turn, with its index, put to what those before it gave; or the first fault
+abbrev pub each : {S : Type 0} → (S → ℕ → Data → Read S) → S → ℕ → Items → Read S
+each put state index no_items = Ok state
+each put state index (item d ds) = then_read (put state index d) (λ next. each put next (index + 1) ds)
 
 abbrev pub count : Items → ℕ
 count no_items = 0
@@ -47,22 +43,30 @@ abbrev pub tables_of : CataloguePart → Option Data → Read Items
 tables_of p None = Ok no_items
 tables_of p (Some d) = ok_or (as_array d) (BadKind p 0)
 
--- ---- forms
+-- ---- forms, of which each entry's kind comes before any that stands twice
 
 abbrev pub form_at : ℕ → Data → Read (List ℕ)
 form_at index d = ok_or (id_of d) (BadKind part.Forms index)
 
+abbrev pub with_form : List (List ℕ) → ℕ → Data → Read (List (List ℕ))
+with_form forms index d = then_read (form_at index d) (λ form. Ok (forms ++ form ∷ []))
+
 -- 1 to 16
 abbrev pub is_form_count : ℕ → Bool
-is_form_count n = nat_le 1 n && nat_le n limit.FORMS
+is_form_count n = nat_le 1 n && nat_le n limit.forms
 
 abbrev pub forms_listed : Option Items → Read (List (List ℕ))
 forms_listed None = Err (BadKind part.Forms 0)
-forms_listed (Some ds) = if is_form_count (count ds) then each form_at 0 ds else Err (BadKind part.Forms 0)
+forms_listed (Some ds) = if is_form_count (count ds) then each with_form [] 0 ds else Err (BadKind part.Forms 0)
+
+-- the forms, where none stands among those before it
+abbrev pub forms_once : List (List ℕ) → ℕ → List (List ℕ) → Read (List (List ℕ))
+forms_once before index [] = Ok before
+forms_once before index (form ∷ forms) = if is_among before form then Err (Twice part.Forms index) else forms_once (before ++ form ∷ []) (index + 1) forms
 
 abbrev pub forms_of : Option Data → Read (List (List ℕ))
 forms_of None = Err (Missing part.Forms 0)
-forms_of (Some d) = forms_listed (as_array d)
+forms_of (Some d) = then_read (forms_listed (as_array d)) (forms_once [] 0)
 
 -- ---- duties, of which the codes are kept
 
@@ -79,6 +83,16 @@ duty_of_keys index None title = Err (Missing part.Duty index)
 abbrev pub duty_at : ℕ → Data → Read (List ℕ)
 duty_at index d = then_read (ok_or (as_table d) (BadKind part.Duty index))
     (λ ms. duty_of_keys index (get_member (codes "code") ms) (get_member (codes "title") ms))
+
+-- the codes so far, sorted, with one more
+abbrev pub with_code : List (List ℕ) → ℕ → List ℕ → Read (List (List ℕ))
+with_code codes_before index code = if is_among codes_before code then Err (Twice part.Duty index) else Ok (put_new code codes_before)
+
+abbrev pub with_duty : List (List ℕ) → ℕ → Data → Read (List (List ℕ))
+with_duty codes_before index d = then_read (duty_at index d) (with_code codes_before index)
+
+abbrev pub duties_of : Option Data → Read (List (List ℕ))
+duties_of duties = then_read (tables_of part.Duty duties) (each with_duty [] 0)
 
 -- ---- rules
 
@@ -109,7 +123,8 @@ abbrev pub rule_of : List (List ℕ) → List (List ℕ) → ℕ → RuleTexts �
 rule_of forms duties index texts term =
     if not (is_among forms texts.form) then Err (UnknownForm part.Rule index)
     else (if not (list_all (is_among duties) texts.duties) then Err (UnknownDuty part.Rule index)
-    else Ok (record { term = term; form = texts.form; spelled = texts.term; codes = sorted_set texts.duties }))
+    else (if not (stand_once texts.duties) then Err (Twice part.Rule index)
+    else Ok (record { term = term; form = texts.form; spelled = texts.term; codes = sorted_set texts.duties })))
 
 -- over what the texts of terms say, the forms and the codes of duties
 abbrev pub rule_at : (List ℕ → Option (List ℕ)) → List (List ℕ) → List (List ℕ) → ℕ → Data → Read Rule
@@ -118,26 +133,56 @@ rule_at terms forms duties index d =
     then_read (ok_or (licence_of terms texts.term) (BadTerm part.Rule index))
     (rule_of forms duties index texts))
 
--- ---- the whole
+-- the rules so far, sorted, with one more
+abbrev pub with_one : List Rule → ℕ → Rule → Read (List Rule)
+with_one rules index rule = if has_rule rules rule then Err (Twice part.Rule index) else Ok (put_rule rule rules)
+
+abbrev pub with_rule : (List ℕ → Option (List ℕ)) → List (List ℕ) → List (List ℕ) → List Rule → ℕ → Data → Read (List Rule)
+with_rule terms forms duties rules index d = then_read (rule_at terms forms duties index d) (with_one rules index)
 
 abbrev pub rules_of : (List ℕ → Option (List ℕ)) → List (List ℕ) → List (List ℕ) → Option Data → Read (List Rule)
-rules_of terms forms duties rules = then_read (tables_of part.Rule rules) (each (rule_at terms forms duties) 0)
+rules_of terms forms duties rules = then_read (tables_of part.Rule rules) (each (with_rule terms forms duties) [] 0)
 
-abbrev pub duties_of : Option Data → Read (List (List ℕ))
-duties_of duties = then_read (tables_of part.Duty duties) (each duty_at 0)
+-- ---- texts of licences and exceptions
 
--- forms that stand twice are kept once; of rules for one term and form the first is kept
-abbrev pub kept : List (List ℕ) → List Rule → Catalogue
-kept forms rules = record { forms = distinct forms; rules = in_order rules }
+abbrev pub text_of : ℕ → List ℕ → List ℕ → Read LicenceText
+text_of index licence body = if is_text_id licence then Ok (record { licence = licence; body = body }) else Err (BadTerm part.Text index)
+
+abbrev pub text_of_values : ℕ → Option (List ℕ) → Option (List ℕ) → Read LicenceText
+text_of_values index (Some licence) (Some body) = text_of index licence body
+text_of_values index (Some licence) None = Err (BadKind part.Text index)
+text_of_values index None body = Err (BadKind part.Text index)
+
+abbrev pub text_of_keys : ℕ → Option Data → Option Data → Read LicenceText
+text_of_keys index (Some licence) (Some body) = text_of_values index (as_str licence) (as_str body)
+text_of_keys index (Some licence) None = Err (Missing part.Text index)
+text_of_keys index None body = Err (Missing part.Text index)
+
+abbrev pub text_at : ℕ → Data → Read LicenceText
+text_at index d = then_read (ok_or (as_table d) (BadKind part.Text index))
+    (λ ms. text_of_keys index (get_member (codes "licence") ms) (get_member (codes "body") ms))
+
+-- the texts so far, with one more
+abbrev pub with_one_text : List LicenceText → ℕ → LicenceText → Read (List LicenceText)
+with_one_text texts index text = if list_any (is_text_of text.licence) texts then Err (Twice part.Text index) else Ok (texts ++ text ∷ [])
+
+abbrev pub with_text : List LicenceText → ℕ → Data → Read (List LicenceText)
+with_text texts index d = then_read (text_at index d) (with_one_text texts index)
+
+abbrev pub licence_texts_of : Option Data → Read (List LicenceText)
+licence_texts_of texts = then_read (tables_of part.Text texts) (each with_text [] 0)
+
+-- ---- the whole
 
 abbrev pub catalogue_of_table : (List ℕ → Option (List ℕ)) → Members → Read Catalogue
 catalogue_of_table terms ms =
     then_read (forms_of (get_member (codes "forms") ms)) (λ forms.
     then_read (duties_of (get_member (codes "duty") ms)) (λ duties.
     then_read (rules_of terms forms duties (get_member (codes "rule") ms)) (λ rules.
-    Ok (kept forms rules))))
+    then_read (licence_texts_of (get_member (codes "text") ms)) (λ texts.
+    Ok (record { forms = forms; rules = rules; texts = texts })))))
 
 abbrev pub catalogue_of : (List ℕ → Option (List ℕ)) → List ℕ → Read Catalogue
 catalogue_of terms text =
-    if nat_lt limit.CATALOGUE_BYTES (length text) then Err TooLarge
+    if nat_lt limit.catalogue_bytes (length text) then Err TooLarge
     else then_read (ok_or (parse_document text) NotToml) (catalogue_of_table terms)

@@ -1,14 +1,22 @@
 -- What the code's values show of the definitions'.
-use Rattle.std.specs.Prelude.{◌≡◌, ℕ, Bool, List, map, Vec, Result, Ok, Err}
+use Rattle.std.specs.Prelude.{◌≡◌, ⊤, ℕ, List, map, Vec, Result, Ok, Err}
 use Rattle.std.specs.Ordering.{nat_cmp}
 use Rattle.std.specs.Cmp.Lexicographic.{slice_cmp}
+use Rattle.std.specs.List.{list_any}
+use Rattle.std.specs.BTreeMap.{BTreeMap}
 use Rattle.std.specs.BTreeSet.{BTreeSet, contains_by}
 use Rattle.std.specs.declared.alloc.Global.{Global}
 use denote.Ref.{Bor}
+use Rattle.desk_base.specs.Folded.{folded}
+use Rattle.desk_rows.specs.declared.reading.Rule.{Rule}
 use Rattle.desk_rows.specs.declared.refusal.CatalogueFault.{CatalogueFault}
 use Rattle.desk_catalogue.specs.declared.rules.Written.{Written}
-use Rattle.desk_catalogue.specs.declared.rules.Known.{Known}
-use Rattle.desk_catalogue.specs.Values.{is_among}
+use Rattle.desk_catalogue.specs.declared.fault.CatFault.{CatFault}
+use Rattle.desk_catalogue.specs.declared.fault.CatFault.TheVariants.{Refused, Memory}
+use Rattle.desk_catalogue.specs.declared.catalogue.LicenceText.{LicenceText}
+use Rattle.desk_catalogue.specs.declared.order.Subject.{Subject}
+use Rattle.desk_catalogue.specs.declared.order.Said.{Said}
+use Rattle.desk_catalogue.specs.Kept.{is_text_of}
 use Rattle.desk_catalogue.specs.Reading.{Read, RuleTexts}
 
 -- a result is what is read, seen as it shows
@@ -26,15 +34,23 @@ texts_in v = texts v.items
 abbrev pub rule_texts_in : Written → RuleTexts
 rule_texts_in rule = record { term = rule.term.now; form = rule.form.now; duties = texts_in rule.duties }
 
--- whether a text is in a set of borrowed texts
-abbrev pub has_text : BTreeSet (Bor (List ℕ)) → List ℕ → Bool
-has_text set text = contains_by (λ (k : Bor (List ℕ)). slice_cmp nat_cmp text k.now) set
+-- the texts of a set
+abbrev pub codes_in : BTreeSet (Bor (List ℕ)) → List (List ℕ)
+codes_in set = texts set.keys
 
--- the set has these texts and no others
-abbrev pub IsSetOf : List (List ℕ) → BTreeSet (Bor (List ℕ)) → Type 0
-IsSetOf members set = (text : List ℕ) → has_text set text ≡ is_among members text
+-- the rules that a map tells of what they are for
+abbrev pub rule_of_entry : Subject × Said → Rule
+rule_of_entry e = record { term = e.0.term; form = e.0.form; spelled = e.1.spelled; codes = e.1.codes }
 
--- what is known before the rules are read: the forms, and the codes of duties
-pub record Knows (forms duties : List (List ℕ)) (known : Known) : Type 0 where
-  pub has_forms : texts_in known.forms ≡ forms
-  pub has_duties : IsSetOf duties known.duties
+abbrev pub rules_in : BTreeMap Subject Said → List Rule
+rules_in rules = map rule_of_entry rules.entries
+
+-- the set has the ids of these texts, in small letters
+abbrev pub HasIds : List LicenceText → BTreeSet (List ℕ) → Type 0
+HasIds texts seen = (id : List ℕ) → contains_by (slice_cmp nat_cmp (folded id)) seen ≡ list_any (is_text_of id) texts
+
+-- a text is read so, or there was no memory
+abbrev pub IsRead : {A : Type 0} → Read A → Result A CatFault → Type 0
+IsRead read (Ok x) = read ≡ Ok x
+IsRead read (Err (Refused fault)) = read ≡ Err fault
+IsRead read (Err (Memory error)) = ⊤

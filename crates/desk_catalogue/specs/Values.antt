@@ -1,19 +1,24 @@
 -- What the values of a catalogue may be, as TOML gives them.
-use Rattle.std.specs.Prelude.{ℕ, ◌&&◌, nat_le, Bool, List, [], ◌∷◌, length, Option, Some, None, option_map, option_and_then, if◌then◌else◌}
+use Rattle.std.specs.Prelude.{ℕ, ◌&&◌, not, nat_le, Bool, List, [], ◌∷◌, length, Option, Some, None, option_map, option_and_then, if◌then◌else◌}
 use Rattle.std.specs.List.{list_all, list_any}
 use Rattle.std.specs.Str.{bytes_eq}
 use Rattle.toml.specs.Data.{Data, as_str, as_array, Items, no_items, item}
 use Rattle.desk_base.specs.Idstring.{is_idstring}
 use Rattle.desk_rows.specs.Texts.{is_shown}
-use Rattle.desk_catalogue.specs.declared.limits.TheConstants as limit
+use Rattle.desk_expr.specs.Words.{begins_like_reference}
+use Rattle.desk_catalogue.specs.Limits as limit
 
 -- a form, or the code of a duty: an idstring (SPDX 2.3, Annex D.2) of at most 64 bytes
 abbrev pub is_id : List ℕ → Bool
-is_id text = is_idstring text && nat_le (length text) limit.ID_BYTES
+is_id text = is_idstring text && nat_le (length text) limit.id_bytes
 
 -- a title: 1 to 256 bytes without control bytes
 abbrev pub is_title : List ℕ → Bool
-is_title text = nat_le 1 (length text) && nat_le (length text) limit.TITLE_BYTES && list_all is_shown text
+is_title text = nat_le 1 (length text) && nat_le (length text) limit.title_bytes && list_all is_shown text
+
+-- what a text may be the text of: a licence or an exception by its id (SPDX 2.3, Annex D.2), which doesn't begin as references do
+abbrev pub is_text_id : List ℕ → Bool
+is_text_id text = is_idstring text && not (begins_like_reference text)
 
 abbrev pub if_passes : (List ℕ → Bool) → List ℕ → Option (List ℕ)
 if_passes test text = if test text then Some text else None

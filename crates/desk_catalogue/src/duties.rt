@@ -1,10 +1,10 @@
 //! The duties of a catalogue, of which the codes are kept.
 
-ghost use Rattle.std.specs.Prelude.{◌≡◌, IfOk, codes};
+ghost use Rattle.std.specs.Prelude.{◌≡◌, [], IfOk, codes};
 ghost use Rattle.toml.specs.Data.{get_member};
 ghost use Rattle.toml.specs.View.{view, table_view, items_view};
-ghost use Rattle.desk_catalogue.specs.Reading.{each, duty_at, duties_of};
-ghost use Rattle.desk_catalogue.specs.Shown.{Gives, texts, texts_in, IsSetOf};
+ghost use Rattle.desk_catalogue.specs.Reading.{each, duty_at, with_duty, duties_of};
+ghost use Rattle.desk_catalogue.specs.Shown.{Gives, codes_in};
 
 use crate::entries::tables_of;
 use crate::values::{id_of, member, title_of};
@@ -35,43 +35,36 @@ fn duty_at(value: &Value, index: usize) -> Result<&str, CatalogueFault>
     }
 }
 
-// The codes of a list of duties.
+// The codes of a list of duties, where none stands twice.
 fn each_duty<'a>(
     alloc: Global,
     values: &'a [Value],
-) -> Result<Result<Vec<&'a str>, CatalogueFault>, AllocError>
-    ensures { IfOk result (Gives (each duty_at 0 (items_view values.now)) texts_in) }
+) -> Result<Result<BTreeSet<&'a str>, CatalogueFault>, AllocError>
+    ensures { IfOk result (Gives (each with_duty [] 0 (items_view values.now)) codes_in) }
 {
-    let mut duties = Vec::new(alloc);
+    let mut duties = BTreeSet::new(alloc);
     for (i, value) in values.iter().enumerate() {
         match duty_at(value, i) {
-            Ok(code) => duties.push(code)?,
+            Ok(code) => {
+                if !duties.insert(code)? {
+                    return Ok(Err(CatalogueFault::Twice(CataloguePart::Duty, i)));
+                }
+            }
             Err(fault) => return Ok(Err(fault)),
         }
     }
     Ok(Ok(duties))
 }
 
-/// The codes of the duties, as they are listed.
+/// The codes of the duties.
 pub(crate) fn duties_of(
     alloc: Global,
     table: &Table,
-) -> Result<Result<Vec<&str>, CatalogueFault>, AllocError>
-    ensures { IfOk result (Gives (duties_of (get_member (codes "duty") (table_view table.now))) texts_in) }
+) -> Result<Result<BTreeSet<&str>, CatalogueFault>, AllocError>
+    ensures { IfOk result (Gives (duties_of (get_member (codes "duty") (table_view table.now))) codes_in) }
 {
     match tables_of(table, "duty", CataloguePart::Duty) {
         Ok(values) => each_duty(alloc, values),
         Err(fault) => Ok(Err(fault)),
     }
-}
-
-/// The set of some texts.
-pub(crate) fn set_of<'a>(alloc: Global, listed: &[&'a str]) -> Result<BTreeSet<&'a str>, AllocError>
-    ensures { IfOk result (IsSetOf (texts listed.now)) }
-{
-    let mut set = BTreeSet::new(alloc);
-    for text in listed {
-        set.insert(*text)?;
-    }
-    Ok(set)
 }

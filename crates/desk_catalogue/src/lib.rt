@@ -1,5 +1,6 @@
 //! Catalogues of duties: a TOML document that lists the forms in which software is shipped, the
-//! duties by their codes, and rules that say which duties a licence term owes in a form.
+//! duties by their codes, rules that say which duties a licence term owes in a form, and the texts
+//! of licences and exceptions.
 //!
 //! ```toml
 //! forms = ["binary"]
@@ -10,20 +11,27 @@
 //! term = "MIT"
 //! form = "binary"
 //! duties = ["include-text"]
+//! [[text]]
+//! licence = "MIT"
+//! body = "Permission is hereby granted, .."
 //! ```
 //!
 //! `catalogue_of` (specs/Reading.antt) is a function of the text: the catalogue, or the first
 //! fault with its part and index. It speaks of the table that `toml` reads in the text and, by a
-//! function that it is given, of the terms that texts spell. `read` answers as it says for each
-//! such function that is right by `desk_expr`'s definition of a spelled term (`ReadsTerms`); there
-//! is one (`terms_are_read`), and they all give one answer (`one_catalogue`).
+//! function that it is given, of the terms that texts spell. `Catalogue::read` answers as it says
+//! for each such function that is right by `desk_expr`'s definition of a spelled term
+//! (`ReadsTerms`); there is one (`terms_are_read`), and they all give one answer
+//! (`one_catalogue`).
 //!
-//! A catalogue keeps equal forms once, of two rules for one term and form the first, and the codes
-//! of a rule sorted, each once (`first_rule_counts`). Licence texts aren't read.
+//! Nothing is dropped silently: a form, a code, a term with a form or the licence of a text that
+//! stands twice is a fault, and so the rules that are kept are sorted, each pair once
+//! (`rules_stand_once`).
 #![tactic(auto)]
 
+mod catalogue;
 mod duties;
 mod entries;
+mod fault;
 mod forms;
 mod laws;
 pub mod limits;
@@ -31,9 +39,10 @@ mod lookup;
 mod order;
 mod reading;
 mod rules;
+mod texts;
 mod values;
 
-pub use laws::{first_rule_counts, one_catalogue, terms_are_read};
-pub use lookup::{has_form, rule, spelled};
+pub use catalogue::{Catalogue, LicenceText};
+pub use fault::CatFault;
+pub use laws::{one_catalogue, rules_stand_once, terms_are_read};
 pub use order::sorted_set;
-pub use reading::read;

@@ -1,14 +1,14 @@
-//! Which of the entries that stand twice are kept, and in which order.
+//! Rules and codes in their order.
 
-ghost use Rattle.std.specs.Prelude.{◌≡◌, IfOk};
+ghost use Rattle.std.specs.Prelude.{◌≡◌, not, IfOk, OnOk, Some, None, if◌then◌else◌};
 ghost use Rattle.std.specs.Ordering.{nat_cmp, on, then_cmp, as_partial_cmp};
 ghost use Rattle.std.specs.Cmp.{partial_order_from_own_ties};
 ghost use Rattle.std.specs.Cmp.Rules.{comparing};
 ghost use Rattle.std.specs.Cmp.Lexicographic.{slice_cmp};
 ghost use Rattle.std.proofs.Common.{rules};
 ghost use Rattle.desk_rows.specs.Texts.{sorted_set};
-ghost use Rattle.desk_catalogue.specs.Kept.{distinct, in_order};
-ghost use Rattle.desk_catalogue.specs.Shown.{texts, texts_in};
+ghost use Rattle.desk_catalogue.specs.Kept.{stand_once, put_rule, has_rule};
+ghost use Rattle.desk_catalogue.specs.Shown.{texts_in, rules_in};
 ghost use Rattle.desk_catalogue.specs.Values.{is_among};
 
 use desk_base::{Items, Text};
@@ -17,36 +17,11 @@ use std::alloc::{AllocError, Global};
 use std::cmp::Ordering;
 use std::collections::{BTreeMap, BTreeSet};
 
-/// Whether a text is among some.
-pub(crate) fn is_among(listed: &[&str], text: &str) -> bool
-    ensures { result ≡ is_among (texts listed.now) text.now }
-{
-    for other in listed {
-        if *other == text {
-            return true;
-        }
-    }
-    false
-}
-
 /// Whether a text is among some that are kept.
 pub(crate) fn is_kept(kept: &[Text], text: &str) -> bool
     ensures { result ≡ is_among kept.now text.now }
 {
     kept.iter().any(|other| other.as_str() == text)
-}
-
-/// The texts in their order, each once.
-pub(crate) fn distinct(alloc: Global, listed: &[&str]) -> Result<Items<Text>, AllocError>
-    ensures { IfOk result (λ kept. kept ≡ distinct (texts listed.now)) }
-{
-    let mut kept = Items::new(alloc);
-    for text in listed {
-        if !is_kept(kept.as_slice(), text) {
-            kept.push(Text::of(alloc, text)?)?;
-        }
-    }
-    Ok(kept)
 }
 
 /// The texts sorted by their bytes, each once. The only error is want of memory.
@@ -106,31 +81,54 @@ pub(crate) struct Said {
     codes: Items<Text>,
 }
 
-/// The rules sorted by term and form; of those for one term and form the first.
-pub(crate) fn in_order(alloc: Global, rules: Vec<Rule>) -> Result<Items<Rule>, AllocError>
-    ensures { IfOk result (λ sorted. sorted ≡ in_order rules.items) }
+/// Adds a rule, and tells whether there was none for its term and form.
+pub(crate) fn add_rule(rules: &mut BTreeMap<Subject, Said>, rule: Rule) -> Result<bool, AllocError>
+    ensures added { IfOk result (λ added. added ≡ not (has_rule (rules_in rules.old) rule)) }
+    ensures rules { OnOk result (rules_in rules.new ≡ put_rule rule (rules_in rules.old)) }
 {
-    let mut rules = rules;
-    let mut said = BTreeMap::new(alloc);
-    while let Some(rule) = rules.pop() {
-        let Rule {
-            term,
-            form,
-            spelled,
-            codes,
-        } = rule;
-        said.insert(Subject { term, form }, Said { spelled, codes })?;
-    }
-    let mut sorted = Items::new(alloc);
-    for (subject, words) in said {
+    let Rule {
+        term,
+        form,
+        spelled,
+        codes,
+    } = rule;
+    let before = rules.insert(Subject { term, form }, Said { spelled, codes })?;
+    Ok(before.is_none())
+}
+
+/// The rules of a map, in its order.
+pub(crate) fn rules_in(
+    alloc: Global,
+    rules: BTreeMap<Subject, Said>,
+) -> Result<Items<Rule>, AllocError>
+    ensures { IfOk result (λ listed. listed ≡ rules_in rules) }
+{
+    let mut listed = Items::new(alloc);
+    for (subject, said) in rules {
         let Subject { term, form } = subject;
-        let Said { spelled, codes } = words;
-        sorted.push(Rule {
+        let Said { spelled, codes } = said;
+        listed.push(Rule {
             term,
             form,
             spelled,
             codes,
         })?;
     }
-    Ok(sorted)
+    Ok(listed)
+}
+
+/// The codes of a rule sorted by their bytes, or none where one stands twice.
+pub(crate) fn codes_once(
+    alloc: Global,
+    listed: Vec<&str>,
+) -> Result<Option<Items<Text>>, AllocError>
+    ensures { IfOk result (λ read. read ≡ (if stand_once (texts_in listed.entry) then Some (sorted_set (texts_in listed.entry)) else None)) }
+{
+    let number = listed.len();
+    let sorted = sorted_set(alloc, listed)?;
+    if sorted.as_slice().len() == number {
+        Ok(Some(sorted))
+    } else {
+        Ok(None)
+    }
 }

@@ -1,16 +1,20 @@
 //! Reads a text as a catalogue.
 
-ghost use Rattle.std.specs.Prelude.{◌≡◌, ℕ, List, Option, IfOk};
+ghost use Rattle.std.specs.Prelude.{◌≡◌, ℕ, List, Option, Ok, IfOk};
 ghost use Rattle.toml.specs.View.{table_view};
 ghost use Rattle.desk_catalogue.specs.Terms.{ReadsTerms};
 ghost use Rattle.desk_catalogue.specs.Reading.{catalogue_of_table, catalogue_of};
+ghost use Rattle.desk_catalogue.specs.Shown.{IsRead};
 
-use crate::duties::{duties_of, set_of};
+use crate::catalogue::Catalogue;
+use crate::duties::duties_of;
+use crate::fault::CatFault;
 use crate::forms::forms_of;
 use crate::limits;
-use crate::order::{distinct, in_order};
+use crate::order::rules_in;
 use crate::rules::{Known, rules_of};
-use desk_rows::{Catalogue, CatalogueFault};
+use crate::texts::texts_of;
+use desk_rows::CatalogueFault;
 use std::alloc::{AllocError, Global};
 use toml::Table;
 
@@ -29,35 +33,48 @@ fn catalogue_of_table(
         Ok(duties) => duties,
         Err(fault) => return Ok(Err(fault)),
     };
-    let duties = set_of(alloc, duties.as_slice())?;
     let known = Known { forms, duties };
     let rules = match rules_of(alloc, &known, table)? {
         Ok(rules) => rules,
         Err(fault) => return Ok(Err(fault)),
     };
-    let forms = distinct(alloc, known.forms.as_slice())?;
-    let rules = in_order(alloc, rules)?;
-    Ok(Ok(Catalogue { forms, rules }))
+    let texts = match texts_of(alloc, table)? {
+        Ok(texts) => texts,
+        Err(fault) => return Ok(Err(fault)),
+    };
+    let rules = rules_in(alloc, rules)?;
+    let Known { forms, duties: _ } = known;
+    Ok(Ok(Catalogue {
+        forms,
+        rules,
+        texts,
+    }))
 }
 
-/// The catalogue that a text is, or its first fault.
-///
-/// For each function that gives the terms that texts spell, the answer is that of `catalogue_of`;
-/// `AllocError` is want of memory and nothing else.
-pub fn read(alloc: Global, text: &str) -> Result<Result<Catalogue, CatalogueFault>, AllocError>
-    ensures { (terms : List ℕ → Option (List ℕ)) → ReadsTerms terms → IfOk result (λ read. read ≡ catalogue_of terms text.now) }
-{
-    if text.len() > limits::CATALOGUE_BYTES {
-        return Ok(Err(CatalogueFault::TooLarge));
-    }
-    match toml::table_from_str(alloc, text) {
-        Ok(table) => catalogue_of_table(alloc, &table),
-        Err(error) => {
-            if error.is_memory() {
-                Err(AllocError)
-            } else {
-                Ok(Err(CatalogueFault::NotToml))
+impl Catalogue {
+    /// The catalogue that a text is, or its first fault.
+    ///
+    /// For each function that gives the terms that texts spell, the answer is that of
+    /// `catalogue_of`; `CatFault::Memory` is want of memory and nothing else.
+    pub fn read(alloc: Global, text: &str) -> Result<Catalogue, CatFault>
+        ensures { (terms : List ℕ → Option (List ℕ)) → ReadsTerms terms → IsRead (catalogue_of terms text.now) result }
+    {
+        if text.len() > limits::CATALOGUE_BYTES {
+            return Err(CatFault::Refused(CatalogueFault::TooLarge));
+        }
+        let table = match toml::table_from_str(alloc, text) {
+            Ok(table) => table,
+            Err(error) => {
+                if error.is_memory() {
+                    return Err(CatFault::Memory(AllocError));
+                }
+                return Err(CatFault::Refused(CatalogueFault::NotToml));
             }
+        };
+        match catalogue_of_table(alloc, &table) {
+            Ok(Ok(catalogue)) => Ok(catalogue),
+            Ok(Err(fault)) => Err(CatFault::Refused(fault)),
+            Err(error) => Err(CatFault::Memory(error)),
         }
     }
 }

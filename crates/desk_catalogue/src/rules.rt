@@ -1,23 +1,22 @@
 //! The rules of a catalogue.
 
-ghost use Rattle.std.specs.Prelude.{◌≡◌, ℕ, List, Option, IfOk, codes};
+ghost use Rattle.std.specs.Prelude.{◌≡◌, ℕ, List, [], Option, IfOk, codes};
 ghost use Rattle.std.specs.List.{list_all};
 ghost use Rattle.toml.specs.Data.{as_str, get_member};
 ghost use Rattle.toml.specs.View.{view, table_view, items_view};
-ghost use Rattle.desk_expr.specs.Words.{begins_like_reference};
 ghost use Rattle.desk_catalogue.specs.Terms.{ReadsTerms, licence_of};
 ghost use Rattle.desk_catalogue.specs.Values.{is_among, texts_of};
-ghost use Rattle.desk_catalogue.specs.Reading.{each, rule_texts, rule_written, rule_of, rule_at, rules_of};
-ghost use Rattle.desk_catalogue.specs.Shown.{Gives, texts, rule_texts_in, IsSetOf, Knows};
+ghost use Rattle.desk_catalogue.specs.Reading.{each, rule_texts, rule_written, rule_of, rule_at, with_rule, rules_of};
+ghost use Rattle.desk_catalogue.specs.Shown.{Gives, texts, rule_texts_in, codes_in, rules_in};
 
 use crate::entries::tables_of;
-use crate::order::{is_among, sorted_set};
-use crate::values::{member, texts_of};
-use desk_base::Text;
+use crate::order::{Said, Subject, add_rule, codes_once, is_kept};
+use crate::values::{begins_like_reference, member, texts_of};
+use desk_base::{Items, Text};
 use desk_expr::{ParseFault, parse_term, print_term};
 use desk_rows::{CatalogueFault, CataloguePart, Rule};
 use std::alloc::{AllocError, Global};
-use std::collections::BTreeSet;
+use std::collections::{BTreeMap, BTreeSet};
 use toml::{Table, Value};
 
 /// The texts of a rule.
@@ -31,7 +30,7 @@ pub(crate) struct Written<'a> {
 /// What rules may name: the forms, and the codes of duties.
 #[derive(Drop)]
 pub(crate) struct Known<'a> {
-    pub(crate) forms: Vec<&'a str>,
+    pub(crate) forms: Items<Text>,
     pub(crate) duties: BTreeSet<&'a str>,
 }
 
@@ -80,14 +79,6 @@ fn rule_texts<'a>(
     }
 }
 
-// Whether a printed term is a reference.
-fn is_reference(printed: &str) -> bool
-    ensures { result ≡ begins_like_reference printed.now }
-{
-    let bytes = printed.as_bytes();
-    bytes.starts_with(b"LicenseRef-") || bytes.starts_with(b"DocumentRef-")
-}
-
 // The printed term of a text that spells one that is no reference.
 fn licence_of(alloc: Global, text: &str) -> Result<Option<Text>, AllocError>
     ensures { (terms : List ℕ → Option (List ℕ)) → ReadsTerms terms → IfOk result (λ term. term ≡ licence_of terms text.now) }
@@ -95,7 +86,7 @@ fn licence_of(alloc: Global, text: &str) -> Result<Option<Text>, AllocError>
     match parse_term(alloc, text) {
         Ok(term) => {
             let printed = print_term(alloc, &term)?;
-            if is_reference(printed.as_str()) {
+            if begins_like_reference(printed.as_str()) {
                 return Ok(None);
             }
             let printed = Text::of(alloc, printed.as_str())?;
@@ -110,7 +101,7 @@ fn licence_of(alloc: Global, text: &str) -> Result<Option<Text>, AllocError>
 
 // Whether each code is one of a duty.
 fn are_duties(listed: &[&str], duties: &BTreeSet<&str>) -> bool
-    ensures { (known : List (List ℕ)) → IsSetOf known duties.now → result ≡ list_all (is_among known) (texts listed.now) }
+    ensures { result ≡ list_all (is_among (codes_in duties.now)) (texts listed.now) }
 {
     for code in listed {
         if !duties.contains(*code) {
@@ -128,9 +119,9 @@ fn rule_of(
     written: Written<'_>,
     term: Text,
 ) -> Result<Result<Rule, CatalogueFault>, AllocError>
-    ensures { (forms duties : List (List ℕ)) → Knows forms duties known.now → IfOk result (λ rule. rule ≡ rule_of forms duties index (rule_texts_in written.entry) term) }
+    ensures { IfOk result (λ rule. rule ≡ rule_of known.now.forms (codes_in known.now.duties) index (rule_texts_in written.entry) term) }
 {
-    if !is_among(known.forms.as_slice(), written.form) {
+    if !is_kept(known.forms.as_slice(), written.form) {
         return Ok(Err(CatalogueFault::UnknownForm(CataloguePart::Rule, index)));
     }
     if !are_duties(written.duties.as_slice(), &known.duties) {
@@ -138,7 +129,9 @@ fn rule_of(
     }
     let form = Text::of(alloc, written.form)?;
     let spelled = Text::of(alloc, written.term)?;
-    let codes = sorted_set(alloc, written.duties)?;
+    let Some(codes) = codes_once(alloc, written.duties)? else {
+        return Ok(Err(CatalogueFault::Twice(CataloguePart::Rule, index)));
+    };
     Ok(Ok(Rule {
         term,
         form,
@@ -154,7 +147,7 @@ fn rule_at(
     index: usize,
     value: &Value,
 ) -> Result<Result<Rule, CatalogueFault>, AllocError>
-    ensures { (terms : List ℕ → Option (List ℕ)) → ReadsTerms terms → (forms duties : List (List ℕ)) → Knows forms duties known.now → IfOk result (λ rule. rule ≡ rule_at terms forms duties index (view value.now)) }
+    ensures { (terms : List ℕ → Option (List ℕ)) → ReadsTerms terms → IfOk result (λ rule. rule ≡ rule_at terms known.now.forms (codes_in known.now.duties) index (view value.now)) }
 {
     let written = match rule_written(alloc, value, index)? {
         Ok(written) => written,
@@ -166,31 +159,35 @@ fn rule_at(
     }
 }
 
-// The rules of a list, in its order.
+// The rules of a list, where no term and form stands twice.
 fn each_rule(
     alloc: Global,
     known: &Known<'_>,
     values: &[Value],
-) -> Result<Result<Vec<Rule>, CatalogueFault>, AllocError>
-    ensures { (terms : List ℕ → Option (List ℕ)) → ReadsTerms terms → (forms duties : List (List ℕ)) → Knows forms duties known.now → IfOk result (Gives (each (rule_at terms forms duties) 0 (items_view values.now)) (λ rules. rules.items)) }
+) -> Result<Result<BTreeMap<Subject, Said>, CatalogueFault>, AllocError>
+    ensures { (terms : List ℕ → Option (List ℕ)) → ReadsTerms terms → IfOk result (Gives (each (with_rule terms known.now.forms (codes_in known.now.duties)) [] 0 (items_view values.now)) rules_in) }
 {
-    let mut rules = Vec::new(alloc);
+    let mut rules = BTreeMap::new(alloc);
     for (i, value) in values.iter().enumerate() {
         match rule_at(alloc, known, i, value)? {
-            Ok(rule) => rules.push(rule)?,
+            Ok(rule) => {
+                if !add_rule(&mut rules, rule)? {
+                    return Ok(Err(CatalogueFault::Twice(CataloguePart::Rule, i)));
+                }
+            }
             Err(fault) => return Ok(Err(fault)),
         }
     }
     Ok(Ok(rules))
 }
 
-/// The rules, as they are listed.
+/// The rules.
 pub(crate) fn rules_of(
     alloc: Global,
     known: &Known<'_>,
     table: &Table,
-) -> Result<Result<Vec<Rule>, CatalogueFault>, AllocError>
-    ensures { (terms : List ℕ → Option (List ℕ)) → ReadsTerms terms → (forms duties : List (List ℕ)) → Knows forms duties known.now → IfOk result (Gives (rules_of terms forms duties (get_member (codes "rule") (table_view table.now))) (λ rules. rules.items)) }
+) -> Result<Result<BTreeMap<Subject, Said>, CatalogueFault>, AllocError>
+    ensures { (terms : List ℕ → Option (List ℕ)) → ReadsTerms terms → IfOk result (Gives (rules_of terms known.now.forms (codes_in known.now.duties) (get_member (codes "rule") (table_view table.now))) rules_in) }
 {
     match tables_of(table, "rule", CataloguePart::Rule) {
         Ok(values) => each_rule(alloc, known, values),

@@ -4,8 +4,9 @@ ghost use Rattle.std.specs.Prelude.{◌≡◌, IfOk, option_map, map};
 ghost use Rattle.std.specs.List.{list_all};
 ghost use Rattle.toml.specs.Data.{get_member};
 ghost use Rattle.toml.specs.View.{view, table_view, items_view};
+ghost use Rattle.desk_expr.specs.Words.{begins_like_reference};
 ghost use Rattle.desk_rows.specs.Texts.{is_shown};
-ghost use Rattle.desk_catalogue.specs.Values.{is_id, is_title, id_of, title_of, strings, texts_of};
+ghost use Rattle.desk_catalogue.specs.Values.{is_id, is_text_id, is_title, id_of, title_of, strings, texts_of};
 
 use crate::limits;
 use desk_base::is_idstring_of_bytes;
@@ -23,6 +24,21 @@ fn is_id(text: &str) -> bool
     ensures { result ≡ is_id text.now }
 {
     is_idstring_of_bytes(text.as_bytes()) && text.len() <= limits::ID_BYTES
+}
+
+/// Whether a text begins as references do.
+pub(crate) fn begins_like_reference(text: &str) -> bool
+    ensures { result ≡ begins_like_reference text.now }
+{
+    let bytes = text.as_bytes();
+    bytes.starts_with(b"LicenseRef-") || bytes.starts_with(b"DocumentRef-")
+}
+
+/// Whether a text is an id that may have a text.
+pub(crate) fn is_text_id(text: &str) -> bool
+    ensures { result ≡ is_text_id text.now }
+{
+    is_idstring_of_bytes(text.as_bytes()) && !begins_like_reference(text)
 }
 
 // Whether the byte is no control byte.

@@ -1,9 +1,9 @@
 //! Catalogues as people write them, each of their faults, and look-ups.
 
 use crate::support::follow;
-use desk_catalogue::{has_form, read, rule, spelled};
+use desk_catalogue::{CatFault, Catalogue};
 use desk_expr::{Term, parse_term};
-use desk_rows::{Catalogue, CatalogueFault, CataloguePart};
+use desk_rows::{CatalogueFault, CataloguePart};
 use std::alloc::{AllocError, Global};
 use std::test::Fail;
 
@@ -119,10 +119,10 @@ const FIRST_PART_THAT_FAILS: &str = r#"{"do":"catalogue","text":"a ="}
 {"at":[2,"rule",0],"name":"BadCatalogue","refused":1}
 "#;
 
-const LIMITS: &str = r#"# 16 forms, and 17
-{"do":"catalogue","text":"forms = [«15:\"a\",»\"z\"]\n"}
+const LIMITS: &str = r#"# 16 forms, and 17, of which the last one stands twice
+{"do":"catalogue","text":"forms = [«16:\"f%\",»]\n"}
 {"revision":1}
-{"do":"catalogue","text":"forms = [«15:\"a\",»\"z\",\"a\"]\n"}
+{"do":"catalogue","text":"forms = [«16:\"f%\",»\"f1\"]\n"}
 {"at":[3,"forms",0],"name":"BadCatalogue","refused":1}
 # a form and a code of 64 bytes, and of 65
 {"do":"catalogue","text":"forms = [\"«64:x»\"]\n"}
@@ -138,9 +138,11 @@ const LIMITS: &str = r#"# 16 forms, and 17
 {"revision":4}
 {"do":"catalogue","text":"forms = [\"a\"]\n[[duty]]\ncode = \"c\"\ntitle = \"«257:t»\"\n"}
 {"at":[3,"duty",0],"name":"BadCatalogue","refused":1}
-# 4,194,304 bytes, one more, and so many that are no TOML
+"#;
+
+const SIZE: &str = r#"# 4,194,304 bytes, one more, and so many that are no TOML
 {"do":"catalogue","text":"forms = [\"a\"]\n#«4194289:x»"}
-{"revision":5}
+{"revision":1}
 {"do":"catalogue","text":"forms = [\"a\"]\n#«4194290:x»"}
 {"at":[8],"name":"BadCatalogue","refused":1}
 {"do":"catalogue","text":"«4194305:=»"}
@@ -164,6 +166,11 @@ fn tells_faults_of_catalogues(rt: HostRuntime) -> Result<(), Fail> {
 #[test]
 fn holds_the_limits_of_catalogues(rt: HostRuntime) -> Result<(), Fail> {
     follow(&rt, rt.alloc(), &[LIMITS])
+}
+
+#[test]
+fn holds_the_size_of_catalogues(rt: HostRuntime) -> Result<(), Fail> {
+    follow(&rt, rt.alloc(), &[SIZE])
 }
 
 /// The forms, and each rule as `TERM/FORM/SPELLED:CODE,CODE,`.
@@ -190,19 +197,18 @@ fn shown(alloc: Global, catalogue: &Catalogue) -> Result<String, AllocError> {
 }
 
 fn shown_of(alloc: Global, text: &str) -> Result<String, AllocError> {
-    match read(alloc, text)? {
+    match Catalogue::read(alloc, text) {
         Ok(catalogue) => shown(alloc, &catalogue),
-        Err(_) => String::from_str(alloc, "a fault"),
+        Err(CatFault::Refused(_)) => String::from_str(alloc, "a fault"),
+        Err(CatFault::Memory(error)) => Err(error),
     }
 }
 
-/// Copies are dropped, and rules and codes sorted.
+/// Rules and codes are sorted, forms and texts stay in their order.
 const SORTED: (&str, &str) = (
-    "forms = [\"source\", \"binary\", \"source\"]\n\
+    "forms = [\"source\", \"binary\"]\n\
     [[duty]]\ncode = \"b\"\ntitle = \"B\"\n[[duty]]\ncode = \"a\"\ntitle = \"A\"\n\
-    [[duty]]\ncode = \"b\"\ntitle = \"B again\"\n\
-    [[rule]]\nterm = \" MIT\"\nform = \"source\"\nduties = [\"b\", \"a\", \"b\"]\n\
-    [[rule]]\nterm = \"mit\"\nform = \"source\"\nduties = []\n\
+    [[rule]]\nterm = \" MIT\"\nform = \"source\"\nduties = [\"b\", \"a\"]\n\
     [[rule]]\nterm = \"MIT\"\nform = \"binary\"\nduties = []\n\
     [[rule]]\nterm = \"GPL-2.0+ WITH Classpath-exception-2.0\"\nform = \"source\"\nduties = [\"a\"]\n\
     [[rule]]\nterm = \"GPL-2.0+\"\nform = \"source\"\nduties = [\"b\"]\n\
@@ -215,7 +221,7 @@ const SORTED: (&str, &str) = (
 const INLINE: &str = "# forms\nforms = [ 'binary', # the only one\n]\nnote = 1\n\
     duty = [{ code = 'include-text', title = \"Ship é\", more = [] }]\n\
     rule = [{ duties = ['include-text'], form = \"\"\"binary\"\"\", term = \"M\\u0049T\" }]\n\
-    [text]\nbody = 1\n";
+    text = [{ licence = 'MIT', body = '' }]\n";
 
 const CRLF: &str =
     "forms = [\"binary\"]\r\n[[duty]]\r\ncode = \"include-text\"\r\ntitle = \"T\"\r\n\
@@ -249,10 +255,10 @@ fn said(
     term: &Term,
     form: &str,
 ) -> Result<String, AllocError> {
-    let known = has_form(catalogue, form);
-    let spelling = spelled(catalogue, term, form).unwrap_or("no rule");
+    let known = catalogue.has_form(form);
+    let spelling = catalogue.spelled(term, form).unwrap_or("no rule");
     let mut words = format!(in alloc; "{known} {spelling}")?;
-    for code in rule(catalogue, term, form).unwrap_or_default() {
+    for code in catalogue.rule(term, form).unwrap_or_default() {
         words.push_str(", ")?;
         words.push_str(code.as_str())?;
     }
@@ -260,7 +266,7 @@ fn said(
 }
 
 fn said_by(alloc: Global, text: &str, term: &str, form: &str) -> Result<String, AllocError> {
-    match (read(alloc, text)?, parse_term(alloc, term)) {
+    match (Catalogue::read(alloc, text), parse_term(alloc, term)) {
         (Ok(catalogue), Ok(term)) => said(alloc, &catalogue, &term, form),
         _ => String::from_str(alloc, "no catalogue or no term"),
     }
@@ -301,9 +307,10 @@ fn tells_terms_apart(rt: HostRuntime) -> Result<(), Fail> {
 }
 
 fn fault_of(alloc: Global, text: &str) -> Result<Option<CatalogueFault>, AllocError> {
-    match read(alloc, text)? {
+    match Catalogue::read(alloc, text) {
         Ok(_) => Ok(None),
-        Err(fault) => Ok(Some(fault)),
+        Err(CatFault::Refused(fault)) => Ok(Some(fault)),
+        Err(CatFault::Memory(error)) => Err(error),
     }
 }
 
@@ -312,9 +319,10 @@ fn fault_of(alloc: Global, text: &str) -> Result<Option<CatalogueFault>, AllocEr
 fn fault_of_front(bytes: usize) -> Option<CatalogueFault> {
     match bytes {
         0 => Some(CatalogueFault::Missing(CataloguePart::Forms, 0)),
-        18 | 19 | 81 | 82 | 145 | 146 | 154 | 155 | 170 | 171 | 188 | 189 => None,
+        18 | 19 | 81 | 82 | 145 | 146 | 188 | 189 => None,
         27 | 28 | 49 | 50 => Some(CatalogueFault::Missing(CataloguePart::Duty, 0)),
         90 | 91 | 103 | 104 | 119 | 120 => Some(CatalogueFault::Missing(CataloguePart::Rule, 0)),
+        154 | 155 | 170 | 171 => Some(CatalogueFault::Missing(CataloguePart::Text, 0)),
         _ => Some(CatalogueFault::NotToml),
     }
 }

@@ -20,6 +20,7 @@ use Rattle.desk_tagvalue.specs.Parts.{DocumentText}
 use Rattle.desk_tagvalue.proofs.ReadLemmas.{spells_once}
 use Rattle.desk_expr_laws.proofs.TreeOrStop.{tree_or_stop, stops_spell_nothing}
 use Rattle.desk_expr_laws.proofs.TreeStops.{one_stop}
+use Rattle.desk_texts.specs.Catalogues.{kept_catalogue}
 use Rattle.desk_texts.specs.Documents.{Keeps}
 use Rattle.desk_texts.specs.Expressions.{is_no_licence, word_place, IsExpression, IsRead, Tells, fault_of, IsFault, IsVerdict, Judges}
 use Rattle.desk_texts.specs.Terms.{IsTerm, AreTerms, AreAllTerms, reference_in, is_licence, adopted_as}
@@ -127,7 +128,7 @@ module _
 
     pub standard : Readings
     standard = record {
-      catalogue = λ text. catalogue_of terms_read.0 text;
+      catalogue = λ text. kept_catalogue (catalogue_of terms_read.0 text);
       document = λ bytes. (something_kept (document bytes).0).0;
       term = terms_read.0;
       reference = reference_in;

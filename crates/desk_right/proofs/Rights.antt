@@ -15,6 +15,7 @@ use Rattle.desk_rows.specs.declared.refusal.ExpressionFault.{ExpressionFault}
 use Rattle.desk_rows.specs.declared.reading.Verdict.{Verdict}
 use Rattle.desk_rows.specs.declared.reading.Verdict.TheVariants.{NotEnough, Superfluous, Minimal}
 use Rattle.desk_catalogue.specs.Reading.{catalogue_of}
+use Rattle.desk_texts.specs.Catalogues.{kept_catalogue}
 use Rattle.desk_catalogue.proofs.TermsRead.{same_term}
 use Rattle.desk_texts.specs.Expressions.{IsExpression, Tells, IsFault, IsVerdict, Judges}
 use Rattle.desk_texts.specs.Terms.{AreTerms}
@@ -62,7 +63,7 @@ pub same_terms_told : (v w : Readings) → AreRight v → AreRight w → (text :
 same_terms_told v w a b text = same_term text (v.term text) (w.term text) (a.term text) (b.term text)
 
 pub same_catalogue : (v w : Readings) → AreRight v → AreRight w → (text : List ℕ) → v.catalogue text ≡ w.catalogue text
-same_catalogue v w a b text = a.catalogue text ∙ (ap (λ terms. catalogue_of terms text) (λ i t. same_terms_told v w a b t i) ∙ sym (b.catalogue text))
+same_catalogue v w a b text = a.catalogue text ∙ (ap (λ terms. kept_catalogue (catalogue_of terms text)) (λ i t. same_terms_told v w a b t i) ∙ sym (b.catalogue text))
 
 pub same_document : (v w : Readings) → AreRight v → AreRight w → (bytes : List ℕ) → v.document bytes ≡ w.document bytes
 same_document v w a b bytes =

@@ -12,6 +12,7 @@ use Rattle.desk_catalogue.specs.Reading.{catalogue_of}
 use Rattle.desk_catalogue.specs.Terms.{ReadsTerms}
 use Rattle.desk_tagvalue.specs.Documents.{Spells}
 use Rattle.desk_tagvalue.specs.Parts.{DocumentText}
+use Rattle.desk_texts.specs.Catalogues.{kept_catalogue}
 use Rattle.desk_texts.specs.Documents.{Keeps}
 use Rattle.desk_texts.specs.Expressions.{Tells, IsFault, Judges}
 use Rattle.desk_texts.specs.Findings.{Finds}
@@ -20,8 +21,8 @@ use Rattle.desk_texts.specs.Terms.{reference_in, is_licence, adopted_as}
 pub record AreRight (w : Readings) : Type 0 where
   -- the licence term that a text spells, printed
   pub term : ReadsTerms w.term
-  -- the catalogue that a text is, or its fault
-  pub catalogue : (text : List ℕ) → w.catalogue text ≡ catalogue_of w.term text
+  -- the catalogue that a text is, of which the forms and the rules are kept, or its fault
+  pub catalogue : (text : List ℕ) → w.catalogue text ≡ kept_catalogue (catalogue_of w.term text)
   -- the document that bytes spell, with what ships, or their fault
   pub document : (bytes : List ℕ) (read : Result DocumentText DocFault) (kept : Result Document DocumentFault) → Spells bytes read → Keeps read kept → w.document bytes ≡ kept
   -- the reference that a printed term names

@@ -5,6 +5,7 @@
 //! `specs/Right.antt`, in the words of the readers below: of each text they tell what it spells.
 #![tactic(auto)]
 
+mod catalogue;
 mod document;
 mod expression;
 mod findings;

@@ -2,6 +2,7 @@
 
 ghost use Rattle.desk_texts.specs.Right.{AreRight};
 
+use crate::catalogue::read_catalogue;
 use crate::document::read_document;
 use crate::expression::{expression_fault, is_expression, verdict};
 use crate::findings::read_findings;
@@ -26,7 +27,7 @@ impl Texts for Standard {
         alloc: Global,
         text: &str,
     ) -> Result<Result<Catalogue, CatalogueFault>, AllocError> {
-        desk_catalogue::read(alloc, text)
+        read_catalogue(alloc, text)
     }
 
     fn document(

@@ -1,31 +1,40 @@
-use Rattle.std.proofs.Common.{◌∙◌, ap, subst, refl, codes, Ok}
+use Rattle.std.proofs.Common.{◌∙◌, ap, subst, codes, Ok}
 use Rattle.toml.specs.Data.{get_member}
 use Rattle.toml.specs.View.{table_view}
-use Rattle.desk_catalogue.specs.Reading.{forms_of, duties_of, rules_of}
-use Rattle.desk_catalogue.specs.Kept.{distinct}
-use Rattle.desk_catalogue.specs.Shown.{Gives, texts, texts_in, IsSetOf, Knows}
-use Rattle.desk_catalogue.proofs.ReadingLemmas.{catalogue_found, catalogue_fails}
+use Rattle.desk_catalogue.specs.Reading.{forms_of, duties_of, rules_of, licence_texts_of}
+use Rattle.desk_catalogue.specs.Shown.{Gives, codes_in, rules_in}
+use Rattle.desk_catalogue.proofs.ReadingLemmas.{catalogue_found, rules_fail, texts_fail}
 use Rattle.desk_catalogue.proofs.reading.catalogue_of_table.Goals as goal
 
 pub returns-in-Err-3 : goal.returns-in-Err-3
 returns-in-Err-3 c = λ terms h.
     let ms = table_view c.args.table.now in
-    let forms = texts_in c.in-Ok.forms in
-    let duties = texts_in c.in-Ok-2.duties in
-    let has_forms = subst (Gives (forms_of (get_member (codes "forms") ms)) texts_in) c.in-Ok.is c.in_ok-forms.ensures in
-    let has_duties = subst (Gives (duties_of (get_member (codes "duty") ms)) texts_in) c.in-Ok-2.is c.in_ok-duties.ensures in
-    let known : Knows forms duties _ = record { has_forms = refl; has_duties = subst (λ l. IsSetOf (texts l) c.in_ok-duties-2.duties) c.as_slice.ensures.value c.in_ok-duties-2.ensures } in
-    let rules = subst (Gives (rules_of terms forms duties (get_member (codes "rule") ms)) (λ rules. rules.items)) c.in-Err-3.is (c.in_ok-rules.ensures terms h forms duties known) in
-    catalogue_fails terms ms forms duties has_forms has_duties c.in-Err-3.fault rules
+    let forms = c.in-Ok.forms in
+    let duties = codes_in c.in-Ok-2.duties in
+    let has_forms = subst (Gives (forms_of (get_member (codes "forms") ms)) (λ forms. forms)) c.in-Ok.is c.in_ok-forms.ensures in
+    let has_duties = subst (Gives (duties_of (get_member (codes "duty") ms)) codes_in) c.in-Ok-2.is c.in_ok-duties.ensures in
+    let fails = subst (Gives (rules_of terms forms duties (get_member (codes "rule") ms)) rules_in) c.in-Err-3.is (c.in_ok-rules.ensures terms h) in
+    rules_fail terms ms forms duties has_forms has_duties c.in-Err-3.fault fails
+
+pub returns-in-Err-4 : goal.returns-in-Err-4
+returns-in-Err-4 c = λ terms h.
+    let ms = table_view c.args.table.now in
+    let forms = c.in-Ok.forms in
+    let duties = codes_in c.in-Ok-2.duties in
+    let has_forms = subst (Gives (forms_of (get_member (codes "forms") ms)) (λ forms. forms)) c.in-Ok.is c.in_ok-forms.ensures in
+    let has_duties = subst (Gives (duties_of (get_member (codes "duty") ms)) codes_in) c.in-Ok-2.is c.in_ok-duties.ensures in
+    let has_rules = subst (Gives (rules_of terms forms duties (get_member (codes "rule") ms)) rules_in) c.in-Ok-3.is (c.in_ok-rules.ensures terms h) in
+    let fails = subst (Gives (licence_texts_of (get_member (codes "text") ms)) (λ texts. texts)) c.in-Err-4.is c.in_ok-texts.ensures in
+    texts_fail terms ms forms duties has_forms has_duties (rules_in c.in-Ok-3.rules) has_rules c.in-Err-4.fault fails
 
 pub returns : goal.returns
 returns c = λ terms h.
     let ms = table_view c.args.table.now in
-    let forms = texts_in c.in-Ok.forms in
-    let duties = texts_in c.in-Ok-2.duties in
-    let has_forms = subst (Gives (forms_of (get_member (codes "forms") ms)) texts_in) c.in-Ok.is c.in_ok-forms.ensures in
-    let has_duties = subst (Gives (duties_of (get_member (codes "duty") ms)) texts_in) c.in-Ok-2.is c.in_ok-duties.ensures in
-    let known : Knows forms duties _ = record { has_forms = refl; has_duties = subst (λ l. IsSetOf (texts l) c.in_ok-duties-2.duties) c.as_slice.ensures.value c.in_ok-duties-2.ensures } in
-    let rules = subst (Gives (rules_of terms forms duties (get_member (codes "rule") ms)) (λ rules. rules.items)) c.in-Ok-3.is (c.in_ok-rules.ensures terms h forms duties known) in
-    let kept_forms = c.in_ok-forms-2.ensures ∙ ap (λ l. distinct (texts l)) c.as_slice-2.ensures.value in
-    (λ i. Ok (record { forms = kept_forms i; rules = c.in_ok-rules-2.ensures i })) ∙ catalogue_found terms ms forms duties has_forms has_duties c.in-Ok-3.rules.items rules
+    let forms = c.in-Ok.forms in
+    let duties = codes_in c.in-Ok-2.duties in
+    let has_forms = subst (Gives (forms_of (get_member (codes "forms") ms)) (λ forms. forms)) c.in-Ok.is c.in_ok-forms.ensures in
+    let has_duties = subst (Gives (duties_of (get_member (codes "duty") ms)) codes_in) c.in-Ok-2.is c.in_ok-duties.ensures in
+    let has_rules = subst (Gives (rules_of terms forms duties (get_member (codes "rule") ms)) rules_in) c.in-Ok-3.is (c.in_ok-rules.ensures terms h) in
+    let has_texts = subst (Gives (licence_texts_of (get_member (codes "text") ms)) (λ texts. texts)) c.in-Ok-4.is c.in_ok-texts.ensures in
+    ap (λ rules. Ok (record { forms = forms; rules = rules; texts = c.in-Ok-4.texts })) c.in_ok-rules-2.ensures
+    ∙ catalogue_found terms ms forms duties has_forms has_duties (rules_in c.in-Ok-3.rules) has_rules c.in-Ok-4.texts has_texts

@@ -1,0 +1,23 @@
+//! What is kept of a catalogue.
+
+use desk_base::{Items, Text};
+use desk_rows::Rule;
+
+/// The text of a licence or of an exception.
+#[derive(Debug, Drop)]
+pub struct LicenceText {
+    /// The id, as the catalogue spells it.
+    pub licence: Text,
+    pub body: Text,
+}
+
+/// A catalogue: no form, no term with a form and no licence of a text stands in it twice.
+#[derive(Debug, Drop)]
+pub struct Catalogue {
+    /// The forms, in their order.
+    pub forms: Items<Text>,
+    /// The rules, sorted by term and form.
+    pub rules: Items<Rule>,
+    /// The texts, in their order.
+    pub texts: Items<LicenceText>,
+}

@@ -1,0 +1,16 @@
+//! Why a text is not read as a catalogue.
+
+use desk_rows::CatalogueFault;
+use std::alloc::AllocError;
+use thiserror::Error;
+
+/// Why a text is not read as a catalogue.
+#[derive(Clone, Copy, Debug, PartialEq, Eq, Error)]
+pub enum CatFault {
+    /// It is none: its first fault.
+    #[error("no catalogue: {0:?}")]
+    Refused(CatalogueFault),
+    /// No memory was left.
+    #[error(transparent)]
+    Memory(#[from(alloc)] AllocError),
+}
