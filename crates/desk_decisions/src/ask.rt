@@ -10,6 +10,7 @@ ghost use Rattle.desk_access.specs.Seen.{Looked, OfRows};
 ghost use Rattle.desk_history.specs.FromTables.{queried_from, line_found};
 
 use crate::findings::findings;
+use crate::packages::release;
 use desk_access::store::Store;
 use desk_access::texts::Texts;
 use desk_base::{Items, Text};
@@ -163,5 +164,6 @@ pub fn answer_to<T: Texts, S: Store>(
         Query::Totals { release } => totals(store, release),
         Query::Changes { duty } => changes(store, *duty),
         Query::Findings { document } => findings(alloc, texts, store, *document),
+        Query::Release { release: name } => release(alloc, texts, store, name),
     }
 }

@@ -328,7 +328,7 @@ fn freeze_packages<T: Texts, S: Store>(
 
 #[tactic(auto, using(crate::proofs::Chains::same_then_kept, crate::proofs::Chains::same_then_same))]
 /// The shipped packages of documents that are attached.
-fn shipped_packages<S: Store>(
+pub(crate) fn shipped_packages<S: Store>(
     alloc: Global,
     store: &mut S,
     attached: &[AttachedRow],

@@ -2,21 +2,26 @@
 use Rattle.std.proofs.Common.{◌≡◌, ℕ, ◌+◌, ◌≤◌, Bool, true, false, List, [], ◌∷◌, Option, Some, None, length, map, refl, sym, ap, ◌∙◌, arith}
 use Rattle.std.specs.Prelude.{if◌then◌else◌, filter, is_some, cond}
 use Rattle.std.specs.List.{enumerate_from}
-use Rattle.std.specs.Option.{option_map}
+use Rattle.std.specs.Option.{option_map, option_map_or}
 use Rattle.std.proofs.lemmas.Bool.Decides.{nat_tests}
 use Rattle.desk_rows.specs.Readings.{Readings}
 use Rattle.desk_rows.specs.Keys.{is_change_of, is_duty_of}
 use Rattle.desk_rows.specs.History.{form_of}
 use Rattle.desk_rows.specs.declared.row.Owed.{Owed}
-use Rattle.desk_rows.specs.Raised.{raised}
+use Rattle.desk_rows.specs.Raised.{raised, chosen_in, shipped}
 use Rattle.desk_rows.specs.Moves.{duty_row, changes, place, all_changes}
-use Rattle.desk_rows.specs.Tables.{Tables, tables}
-use Rattle.desk_rows.specs.Queries.{queried, duty_line, duties_of, totals_of}
+use Rattle.desk_rows.specs.Tables.{Tables, tables, release_row}
+use Rattle.desk_rows.specs.Answers.{conclusion}
+use Rattle.desk_rows.specs.Queries.{queried, duty_line, package_line, duties_of, totals_of}
 use Rattle.desk_rows.specs.Moves.{duty_at}
-use Rattle.desk_history.specs.FromTables.{queried_from, duty_found}
-use Rattle.desk_history.proofs.Lookups.{is_found}
+use Rattle.desk_history.specs.FromTables.{queried_from, choice_found, duty_found}
+use Rattle.desk_history.proofs.Lookups.{is_found, release_found-tables}
+use Rattle.desk_history.proofs.Chosen.{choice-found}
 use Rattle.desk_history.proofs.Moving.{changes-numbered, in_range, duty-found, known_at}
 use Rattle.desk_rows.specs.declared.row.DutyRow.{DutyRow}
+use Rattle.desk_rows.specs.declared.row.PackageRow.{PackageRow}
+use Rattle.desk_rows.specs.declared.row.ReleaseRow.{ReleaseRow}
+use Rattle.desk_rows.specs.declared.command.Answer.{Answer}
 use Rattle.desk_rows.specs.declared.row.ChangeRow.{ChangeRow}
 use Rattle.desk_rows.specs.declared.refusal.Refusal.TheVariants as why
 use Rattle.desk_rows.specs.declared.command.Answer.TheVariants as answered
@@ -59,6 +64,13 @@ where_known : (known : Bool) (rows told : List ChangeRow) → (known ≡ true �
 where_known true rows told same = ap answered.Changes (same refl)
 where_known false rows told same = refl
 
+release_told : (w : Readings) (h : List Command) (r : List ℕ) → queried_from w (tables w h) (query.Release r) ≡ queried w h (query.Release r)
+release_told w h r =
+    let told : ReleaseRow → (PackageRow → List (List ℕ)) → Answer = λ row chosen. answered.Release row (map (package_line (conclusion w h) chosen) (shipped w h r)) in
+    ap (λ o. option_map_or (λ row. told row (choice_found (tables w h) r)) o (answered.Refused why.UnknownRelease)) (release_found-tables w h r)
+    ∙ (ap (λ chosen. option_map_or (λ row. told row chosen) (if is_some (form_of h r) then Some (release_row h r) else None) (answered.Refused why.UnknownRelease)) (choice-found w h r)
+    ∙ (elim (is_some (form_of h r)) as (λ b. option_map_or (λ row. told row (chosen_in w h r)) (if b then Some (release_row h r) else None) (answered.Refused why.UnknownRelease) ≡ (if b then told (release_row h r) (chosen_in w h r) else answered.Refused why.UnknownRelease)) [ true ↦ refl | false ↦ refl ]))
+
 pub query-answer : (w : Readings) (h : List Command) (q : Query) → queried_from w (tables w h) q ≡ queried w h q
 query-answer w h (query.Duties r) =
     ap (λ b. if b then answered.Duties (map (duty_line (λ q. filter (is_change_of q) (all_changes w h))) (duties_of w h r)) else answered.Refused why.UnknownRelease) (is_found w h r)
@@ -70,6 +82,7 @@ query-answer w h (query.Changes q) =
     ∙ where_known (is_some (duty_at w h q)) (filter (is_change_of q) (all_changes w h)) (changes w h q)
     (λ known. changes-found w h q (sym (known_at w h q) ∙ known))
 query-answer w h (query.Findings d) = refl
+query-answer w h (query.Release r) = release_told w h r
 
 pub query_at_history : (w : Readings) (h : List Command) (q : Query) (t : Tables) → t ≡ tables w h → queried_from w t q ≡ queried w h q
 query_at_history w h q t e = ap (λ u. queried_from w u q) e ∙ query-answer w h q

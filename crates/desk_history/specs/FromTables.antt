@@ -16,7 +16,7 @@ use Rattle.desk_rows.specs.declared.row.Standing.{Standing}
 use Rattle.desk_rows.specs.declared.state.Word.{Word}
 use Rattle.desk_rows.specs.Tables.{Tables, applied, choice_row}
 use Rattle.desk_rows.specs.Answers.{load_answer, import_answer, open_answer, attach_answer, choose_answer, freeze_answer, freeze_open, unchoose_answer, move_answer, withdraw_answer, close_answer, conclude_answer, adopt_answer, walk, is_recorded}
-use Rattle.desk_rows.specs.Queries.{duty_line, totals_of}
+use Rattle.desk_rows.specs.Queries.{duty_line, package_line, totals_of}
 use Rattle.desk_rows.specs.Findings.{findings_answer}
 use Rattle.desk_rows.specs.declared.reading.Catalogue.{Catalogue}
 use Rattle.desk_rows.specs.declared.reading.Document.{Document}
@@ -263,3 +263,6 @@ queried_from w t (query.Totals r) =
 queried_from w t (query.Changes q) =
     if is_some (duty_found t q) then answered.Changes (filter (is_change_of q) t.changes) else answered.Refused why.UnknownDuty
 queried_from w t (query.Findings d) = findings_answer w (find (is_document d) t.document)
+queried_from w t (query.Release r) =
+    option_map_or (λ row. answered.Release row (map (package_line (conclusion_found w t) (choice_found t r)) (shipped_found t r))) (release_found t r)
+    (answered.Refused why.UnknownRelease)

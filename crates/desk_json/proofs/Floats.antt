@@ -1,15 +1,17 @@
 -- No reply has a number that is no integer, so its text is the compact one.
 use Rattle.std.proofs.Common.{◌≡◌, ℕ, List, [], ◌∷◌, ◌++◌, Option, Some, None, false, refl}
 use Rattle.std.specs.Prelude.{map}
+use Rattle.serde_json.specs.Data.{string}
 use Rattle.serde_json.specs.View.{items_of}
 use Rattle.serde_json.specs.Written.{has_float, items_have_float}
-use Rattle.desk_json.specs.Parts.{duty_row, change_values, ending, change_line, finding_line}
+use Rattle.desk_json.specs.Parts.{duty_row, change_values, ending, change_line, finding_line, package_values}
 use Rattle.desk_json.specs.Refusals.{document_fault_values, catalogue_fault_values, refusal_values}
 use Rattle.desk_json.specs.Replies.{answer_reply, reply_of}
 use Rattle.desk_rows.specs.declared.command.Answer.{Answer}
 use Rattle.desk_rows.specs.declared.command.Answer.TheVariants as answer
 use Rattle.desk_rows.specs.declared.row.ChangeRow.{ChangeRow}
 use Rattle.desk_rows.specs.declared.command.DutyLine.{DutyLine}
+use Rattle.desk_rows.specs.declared.command.PackageLine.{PackageLine}
 use Rattle.desk_rows.specs.declared.finding.FindingRow.{FindingRow}
 use Rattle.desk_rows.specs.declared.command.Outcome.{Outcome}
 use Rattle.desk_rows.specs.declared.command.Outcome.TheVariants as outcome
@@ -35,6 +37,14 @@ changes_have_no_float (row ∷ rows) = rw (change_has_no_float row row.last_day)
 findings_have_no_float : (rows : List FindingRow) → items_have_float (items_of (map finding_line rows)) ≡ false
 findings_have_no_float [] = refl
 findings_have_no_float (row ∷ rows) = findings_have_no_float rows
+
+terms_have_no_float : (terms : List (List ℕ)) → items_have_float (items_of (map string terms)) ≡ false
+terms_have_no_float [] = refl
+terms_have_no_float (term ∷ terms) = terms_have_no_float terms
+
+packages_have_no_float : (lines : List PackageLine) → items_have_float (items_of (map package_values lines)) ≡ false
+packages_have_no_float [] = refl
+packages_have_no_float (line ∷ lines) = rw (terms_have_no_float line.terms) (packages_have_no_float lines)
 
 catalogue_fault_has_no_float : (fault : CatalogueFault) → items_have_float (items_of (catalogue_fault_values fault)) ≡ false
 catalogue_fault_has_no_float catalogue.NotToml = refl
@@ -103,6 +113,7 @@ answer_has_no_float (answer.Duties lines) = rw (duties_have_no_float lines) refl
 answer_has_no_float (answer.Totals totals) = refl
 answer_has_no_float (answer.Changes rows) = rw (changes_have_no_float rows) refl
 answer_has_no_float (answer.Findings rows) = rw (findings_have_no_float rows) refl
+answer_has_no_float (answer.Release row lines) = rw (packages_have_no_float lines) refl
 answer_has_no_float (answer.Refused refusal) = rw (refusal_has_no_float refusal) refl
 
 pub reply_has_no_float : (o : Outcome) → has_float (reply_of o) ≡ false

@@ -1,11 +1,13 @@
 -- The parts of replies: numbers, lists and the rows of an answer.
-use Rattle.std.specs.Prelude.{ℕ, List, [], ◌∷◌, ◌++◌, Option, Some, None, if◌then◌else◌}
+use Rattle.std.specs.Prelude.{ℕ, List, [], ◌∷◌, ◌++◌, map, unwrap_or, Option, Some, None, if◌then◌else◌}
 use Rattle.std.specs.Str.{is_utf8}
 use Rattle.serde_json.specs.Data.{Data, number, unsigned, string, array}
 use Rattle.serde_json.specs.View.{items_of}
-use Rattle.desk_rows.specs.Names.{duty_state_name, word_name}
+use Rattle.desk_rows.specs.Names.{duty_state_name, release_state_name, word_name}
 use Rattle.desk_rows.specs.declared.row.ChangeRow.{ChangeRow}
+use Rattle.desk_rows.specs.declared.row.ReleaseRow.{ReleaseRow}
 use Rattle.desk_rows.specs.declared.command.DutyLine.{DutyLine}
+use Rattle.desk_rows.specs.declared.command.PackageLine.{PackageLine}
 use Rattle.desk_rows.specs.declared.command.Totals.{Totals}
 use Rattle.desk_rows.specs.declared.finding.FindingRow.{FindingRow}
 
@@ -38,6 +40,17 @@ change_line row = list (change_values row ++ ending row.last_day)
 
 abbrev pub totals_row : Totals → Data
 totals_row t = list (whole t.raised ∷ whole t.still_open ∷ whole t.met ∷ whole t.waived ∷ whole t.withdrawn ∷ [])
+
+-- the release, its form and state, and the revision of the catalogue at its freeze
+abbrev pub release_line : ReleaseRow → Data
+release_line row = list (string row.name ∷ string row.form ∷ string (release_state_name row.state) ∷ whole row.revision ∷ [])
+
+abbrev pub term_list : List (List ℕ) → Data
+term_list terms = list (map string terms)
+
+-- a package: an empty text where it has no conclusion
+abbrev pub package_values : PackageLine → Data
+package_values line = list (whole line.document ∷ string line.package_id ∷ string line.name ∷ string (unwrap_or line.conclusion []) ∷ term_list line.terms ∷ [])
 
 abbrev pub finding_line : FindingRow → Data
 finding_line row = list (whole row.line ∷ whole row.kind ∷ string row.name ∷ [])

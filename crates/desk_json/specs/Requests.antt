@@ -157,6 +157,10 @@ command_request word d =
     else if bytes_eq word (codes "adopt") then adopt_request d
     else BadCommand
 
+abbrev pub release_request : Data → Request
+release_request d = with_members 2 d
+    (with_text (codes "release") d (λ release. Ask (query.Release release)))
+
 -- the form that the word behind `ask` names
 abbrev pub query_request : List ℕ → Data → Request
 query_request word d =
@@ -164,6 +168,7 @@ query_request word d =
     else if bytes_eq word (codes "totals") then totals_request d
     else if bytes_eq word (codes "changes") then changes_request d
     else if bytes_eq word (codes "findings") then findings_request d
+    else if bytes_eq word (codes "release") then release_request d
     else BadCommand
 
 -- the request that a value is; one with both `do` and `ask` has a member too many

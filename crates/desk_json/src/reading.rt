@@ -2,7 +2,7 @@
 
 ghost use Rattle.std.specs.Prelude.{◌≡◌, IfOk, codes};
 ghost use Rattle.serde_json.specs.View.{view};
-ghost use Rattle.desk_json.specs.Requests.{catalogue_request, import_profile, import_request, open_request, attach_request, choose_request, freeze_request, meet_request, unchoose_request, waive_until, waive_request, reopen_request, withdraw_request, close_request, conclude_request, adopt_request, duties_request, totals_request, changes_request, findings_request, query_request, request_of, request_in, with_text};
+ghost use Rattle.desk_json.specs.Requests.{catalogue_request, import_profile, import_request, open_request, attach_request, choose_request, freeze_request, meet_request, unchoose_request, waive_until, waive_request, reopen_request, withdraw_request, close_request, conclude_request, adopt_request, duties_request, totals_request, changes_request, findings_request, release_request, query_request, request_of, request_in, with_text};
 
 use crate::fields::{number_at, profile_at, size_of, take_text, text_at, texts_at};
 use crate::request::Request;
@@ -363,6 +363,19 @@ fn read_findings(value: &Value) -> Request
     Request::Ask(Query::Findings { document })
 }
 
+fn read_release(alloc: Global, value: &Value) -> Result<Request, AllocError>
+    ensures { IfOk result (λ r. r ≡ release_request (view value.now)) }
+{
+    if size_of(value) != 2 {
+        return Ok(Request::BadCommand);
+    }
+    let Some(release) = text_at(value, "release") else {
+        return Ok(Request::BadCommand);
+    };
+    let release = Text::of(alloc, release)?;
+    Ok(Request::Ask(Query::Release { release }))
+}
+
 fn read_ask(alloc: Global, value: &Value) -> Result<Request, AllocError>
     ensures { IfOk result (λ r. r ≡ with_text (codes "ask") (view value.now) (λ word. query_request word (view value.now))) }
 {
@@ -371,6 +384,7 @@ fn read_ask(alloc: Global, value: &Value) -> Result<Request, AllocError>
         Some("totals") => read_totals(alloc, value),
         Some("changes") => Ok(read_changes(value)),
         Some("findings") => Ok(read_findings(value)),
+        Some("release") => read_release(alloc, value),
         _ => Ok(Request::BadCommand),
     }
 }

@@ -9,7 +9,7 @@ ghost use Rattle.desk_rows.specs.declared.command.Outcome.TheVariants.{Failed};
 ghost use Rattle.desk_json.specs.Parts.{list};
 
 use crate::refusals::refusal_values;
-use crate::rows::{change_rows, duty_rows, finding_rows, totals_row};
+use crate::rows::{change_rows, duty_rows, finding_rows, release_rows, totals_row};
 use desk_rows::{Answer, Fault, Outcome, Refusal};
 use serde_json::{Value, json};
 use std::alloc::{AllocError, Global};
@@ -80,6 +80,9 @@ fn answer(alloc: Global, answer: &Answer) -> Result<Value, AllocError>
         Answer::Totals(row) => totals(alloc, totals_row(alloc, row)?),
         Answer::Changes(changes) => rows(alloc, change_rows(alloc, changes.as_slice())?),
         Answer::Findings(findings) => rows(alloc, finding_rows(alloc, findings.as_slice())?),
+        Answer::Release { release, packages } => {
+            rows(alloc, release_rows(alloc, release, packages.as_slice())?)
+        }
         Answer::Refused(reason) => refusal(alloc, reason),
     }
 }

@@ -1,12 +1,13 @@
 //! The rows of answers as JSON.
 
-ghost use Rattle.std.specs.Prelude.{◌≡◌, ℕ, List, IfOk, IsTrue, Some, map};
+ghost use Rattle.std.specs.Prelude.{◌≡◌, ◌∷◌, [], ℕ, List, IfOk, IsTrue, Some, map, unwrap_or};
+ghost use Rattle.serde_json.specs.Data.{string};
 ghost use Rattle.serde_json.specs.View.{view, items_view, items_of};
 ghost use Rattle.desk_base.specs.Day.{is_day};
-ghost use Rattle.desk_json.specs.Parts.{day_text, duty_row, change_line, totals_row, finding_line};
+ghost use Rattle.desk_json.specs.Parts.{day_text, duty_row, change_line, totals_row, finding_line, release_line, term_list, package_values};
 
-use desk_base::Day;
-use desk_rows::{ChangeRow, DutyLine, FindingRow, Totals};
+use desk_base::{Day, Text};
+use desk_rows::{ChangeRow, DutyLine, FindingRow, PackageLine, ReleaseRow, Totals};
 use serde_json::{Value, json};
 use std::alloc::{AllocError, Global};
 
@@ -94,6 +95,71 @@ pub(crate) fn totals_row(alloc: Global, totals: &Totals) -> Result<Value, AllocE
         withdrawn,
     } = *totals;
     json!(in alloc; [raised, still_open, met, waived, withdrawn])
+}
+
+/// A release, its form and state, and the revision of the catalogue at its freeze.
+fn release_row(alloc: Global, row: &ReleaseRow) -> Result<Value, AllocError>
+    ensures { IfOk result (λ v. view v ≡ release_line row.now) }
+{
+    let name = row.name.as_str();
+    let form = row.form.as_str();
+    let state = row.state.name();
+    let revision = row.revision;
+    json!(in alloc; [name, form, state, revision])
+}
+
+fn term_value(alloc: Global, term: &Text) -> Result<Value, AllocError>
+    ensures { IfOk result (λ v. view v ≡ string term.now) }
+{
+    let term = term.as_str();
+    json!(in alloc; term)
+}
+
+fn term_values(alloc: Global, terms: &[Text]) -> Result<Value, AllocError>
+    ensures { IfOk result (λ v. view v ≡ term_list terms.now) }
+{
+    let mut values = Vec::new(alloc);
+    for term in terms {
+        values.push(term_value(alloc, term)?)?;
+    }
+    Ok(Value::Array(values))
+}
+
+/// The text, and an empty one where there is none.
+fn text_or_empty(text: &Option<Text>) -> &str
+    ensures { result.now ≡ unwrap_or text.now [] }
+{
+    match text {
+        Some(text) => text.as_str(),
+        None => "",
+    }
+}
+
+fn package_row(alloc: Global, line: &PackageLine) -> Result<Value, AllocError>
+    ensures { IfOk result (λ v. view v ≡ package_values line.now) }
+{
+    let document = line.document;
+    let package_id = line.package_id.as_str();
+    let name = line.name.as_str();
+    let conclusion = text_or_empty(&line.conclusion);
+    let terms = term_values(alloc, line.terms.as_slice())?;
+    json!(in alloc; [document, package_id, name, conclusion, terms])
+}
+
+/// A row for a release, and one for each of its packages.
+pub(crate) fn release_rows(
+    alloc: Global,
+    release: &ReleaseRow,
+    packages: &[PackageLine],
+) -> Result<Vec<Value>, AllocError>
+    ensures { IfOk result (λ rows. items_view rows.items ≡ items_of (release_line release.now ∷ map package_values packages.now)) }
+{
+    let mut rows = Vec::new(alloc);
+    rows.push(release_row(alloc, release)?)?;
+    for line in packages {
+        rows.push(package_row(alloc, line)?)?;
+    }
+    Ok(rows)
 }
 
 fn finding_row(alloc: Global, finding: &FindingRow) -> Result<Value, AllocError>

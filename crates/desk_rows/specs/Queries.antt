@@ -8,6 +8,13 @@ use Rattle.desk_rows.specs.Moves.{changes, duties}
 use Rattle.desk_rows.specs.States.{is_open, is_met, is_waived, is_withdrawn}
 use Rattle.desk_rows.specs.Moves.{duty_at}
 use Rattle.desk_rows.specs.declared.refusal.Refusal.TheVariants as why
+use Rattle.std.specs.Option.{option_map}
+use Rattle.desk_rows.specs.Raised.{chosen_in, shipped}
+use Rattle.desk_rows.specs.Tables.{release_row}
+use Rattle.desk_rows.specs.Answers.{conclusion}
+use Rattle.desk_rows.specs.declared.reading.Conclusion.{Conclusion}
+use Rattle.desk_rows.specs.declared.row.PackageRow.{PackageRow}
+use Rattle.desk_rows.specs.declared.command.PackageLine.{PackageLine}
 use Rattle.desk_rows.specs.declared.row.DutyRow.{DutyRow}
 use Rattle.desk_rows.specs.declared.row.ChangeRow.{ChangeRow}
 use Rattle.desk_rows.specs.declared.command.DutyLine.{DutyLine}
@@ -50,6 +57,16 @@ duty_line changed row = record {
 abbrev pub duties_of : Readings → List Command → List ℕ → List DutyRow
 duties_of w h r = filter (is_duty_of r) (duties w h)
 
+-- the line of a package, by its conclusion in force and what is chosen for it
+abbrev pub package_line : (PackageRow → Option Conclusion) → (PackageRow → List (List ℕ)) → PackageRow → PackageLine
+package_line concluded chosen p = record {
+  document = p.document;
+  package_id = p.id;
+  name = p.name;
+  conclusion = option_map (λ c. c.text) (concluded p);
+  terms = chosen p;
+}
+
 abbrev pub queried : Readings → List Command → Query → Answer
 queried w h (query.Duties r) =
     if is_some (form_of h r) then answered.Duties (map (duty_line (changes w h)) (duties_of w h r)) else answered.Refused why.UnknownRelease
@@ -58,3 +75,6 @@ queried w h (query.Totals r) =
 queried w h (query.Changes q) =
     if is_some (duty_at w h q) then answered.Changes (changes w h q) else answered.Refused why.UnknownDuty
 queried w h (query.Findings d) = findings_answer w (find (is_document d) (documents w h))
+queried w h (query.Release r) =
+    if is_some (form_of h r) then answered.Release (release_row h r) (map (package_line (conclusion w h) (chosen_in w h r)) (shipped w h r))
+    else answered.Refused why.UnknownRelease

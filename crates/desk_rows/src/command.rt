@@ -96,6 +96,8 @@ pub enum Query {
     Changes { duty: u64 },
     /// What in a document isn't as its standard has it.
     Findings { document: u64 },
+    /// A release, and the packages that it ships with what is concluded and chosen for each.
+    Release { release: Text },
 }
 
 /// A duty of a release, and the day of its last change.
@@ -110,6 +112,16 @@ pub struct DutyLine {
     pub state: DutyState,
     /// The day of the last change.
     pub day: Option<Day>,
+}
+
+/// A package that a release ships, with the text of its conclusion and what is chosen for it.
+#[derive(Debug, Drop)]
+pub struct PackageLine {
+    pub document: u32,
+    pub package_id: Text,
+    pub name: Text,
+    pub conclusion: Option<Text>,
+    pub terms: Items<Text>,
 }
 
 /// How many duties of a release were raised, and how many of these stand where.
@@ -140,6 +152,10 @@ pub enum Answer {
     Totals(Totals),
     Changes(Items<ChangeRow>),
     Findings(Items<FindingRow>),
+    Release {
+        release: ReleaseRow,
+        packages: Items<PackageLine>,
+    },
     Refused(Refusal),
 }
 
