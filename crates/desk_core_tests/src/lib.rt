@@ -17,6 +17,8 @@ mod memory;
 #[cfg(test)]
 mod moves;
 #[cfg(test)]
+mod office;
+#[cfg(test)]
 mod refusals;
 #[cfg(test)]
 mod replies;

@@ -150,7 +150,7 @@ const ROUND_RELEASES: &str =
 {"do":"meet","duty":2,"day":"2025-03-04","text":"n"}
 {"at":[],"name":"UnknownDuty","refused":23}
 # what the desk doesn't know
-{"do":"conclude","document":1,"package":"SPDXRef-p","expression":"MIT"}
+{"do":"publish","release":"r1"}
 {"fault":"command"}
 {"ask":"totals","release":"r1"}
 {"rows":[[1,0,1,0,0]]}

@@ -83,6 +83,12 @@ Requests, with an example of each and its reply:
   attach a document to it
     > {\"do\":\"attach\",\"document\":1,\"release\":\"r1\"}
     < {\"done\":true}
+  conclude a licence expression for a package, in place of the document's
+    > {\"do\":\"conclude\",\"document\":1,\"expression\":\"MIT\",\"package\":\"SPDXRef-p\"}
+    < {\"done\":true}
+  adopt a reference of a document as a licence
+    > {\"do\":\"adopt\",\"document\":1,\"licence\":\"MIT\",\"reference\":\"LicenseRef-1\"}
+    < {\"done\":true}
   choose terms for a package of the document
     > {\"do\":\"choose\",\"document\":1,\"package\":\"SPDXRef-p\",\"release\":\"r1\",\"terms\":[\"MIT\"]}
     < {\"done\":true}
@@ -119,6 +125,9 @@ Requests, with an example of each and its reply:
   list what in a document is not as the standard has it: line, number and name of the kind
     > {\"ask\":\"findings\",\"document\":1}
     < {\"rows\":[[13,3,\"BadExpression\"]]}
+  tell a release, its form, state and revision, and its packages with conclusion and choice
+    > {\"ask\":\"release\",\"release\":\"r1\"}
+    < {\"rows\":[[\"r1\",\"binary\",\"frozen\",1],[1,\"SPDXRef-p\",\"p\",\"MIT\",[\"mit\"]]]}
 
 What is refused changes nothing, and is told with its number, its name and where it is:
 
