@@ -26,6 +26,12 @@ read {"ask":"duties","release":"r1"}
 duties of <r1>
 read {"ask":"totals","release":"r1"}
 totals of <r1>
+read {"do":"conclude","document":1,"package":"SPDXRef-p","expression":"MIT OR Zlib"}
+conclude <MIT OR Zlib> for <SPDXRef-p> of 1
+read {"do":"adopt","document":2,"reference":"LicenseRef-1","licence":"MIT"}
+adopt <LicenseRef-1> of 2 as <MIT>
+read {"ask":"release","release":"r1"}
+release <r1>
 "#;
 
 /// Blanks, the order of members, escapes, the ends of the numbers, and a text that is long.
@@ -52,6 +58,22 @@ import <«65536:0123456789abcdef»> in capitals
 
 /// A member that is missing, a member too many, and members of another kind.
 const OTHER_MEMBERS: &str = r#"read {"do":"catalogue"}
+no request
+read {"do":"conclude","document":1,"package":"SPDXRef-p"}
+no request
+read {"do":"conclude","document":1,"package":"SPDXRef-p","expression":"MIT","profile":1}
+no request
+read {"do":"conclude","document":"1","package":"SPDXRef-p","expression":"MIT"}
+no request
+read {"do":"adopt","document":1,"reference":"LicenseRef-1"}
+no request
+read {"do":"adopt","document":1,"reference":"LicenseRef-1","licence":"MIT","release":"r1"}
+no request
+read {"do":"adopt","document":1,"reference":"LicenseRef-1","licence":["MIT"]}
+no request
+read {"ask":"release"}
+no request
+read {"ask":"release","release":"r1","document":1}
 no request
 read {"do":"catalogue","text":"","release":"r1"}
 no request

@@ -100,6 +100,22 @@ fn later_command_in_words(alloc: Global, command: &Command) -> Result<String, Al
             .concat(alloc)
         }
         Command::CloseDay { day } => ["close <", day.as_str(), ">"].concat(alloc),
+        Command::Conclude {
+            document,
+            package_id,
+            expression,
+        } => {
+            let (package_id, expression) = (package_id.as_str(), expression.as_str());
+            format!(in alloc; "conclude <{expression}> for <{package_id}> of {document}")
+        }
+        Command::Adopt {
+            document,
+            reference,
+            licence,
+        } => {
+            let (reference, licence) = (reference.as_str(), licence.as_str());
+            format!(in alloc; "adopt <{reference}> of {document} as <{licence}>")
+        }
         _ => String::from_str(alloc, "no request"),
     }
 }
@@ -117,6 +133,9 @@ pub fn in_words(alloc: Global, bytes: &[u8]) -> Result<String, AllocError> {
         Request::Ask(Query::Changes { duty }) => format!(in alloc; "changes of {duty}"),
         Request::Ask(Query::Findings { document }) => {
             format!(in alloc; "findings of {document}")
+        }
+        Request::Ask(Query::Release { release }) => {
+            format!(in alloc; "release <{}>", release.as_str())
         }
         Request::BadCommand => String::from_str(alloc, "no request"),
     }
