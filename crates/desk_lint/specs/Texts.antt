@@ -1,7 +1,7 @@
 -- The texts of licences that a tree has (REUSE Specification 3.3, "Licensing Information" and "License Files"). 46 is `.` and 47 is `/`.
-use Rattle.std.specs.Prelude.{ℕ, ◌==◌, ◌||◌, nat_eq, List, drop, codes, Option, Some, None, option_map, unwrap_or, if◌then◌else◌}
+use Rattle.std.specs.Prelude.{ℕ, ◌==◌, ◌||◌, nat_eq, List, length, take, drop, codes, Option, Some, None, option_map, unwrap_or, if◌then◌else◌}
 use Rattle.std.specs.List.{list_any, filter_map, starts_with, ends_with}
-use Rattle.std.specs.Path.{rsplit_once}
+use Rattle.std.specs.Path.{rfind_below}
 use Rattle.desk_base.specs.Folded.{folded}
 use Rattle.desk_expr.specs.Words.{is_reference}
 use Rattle.desk_gather.specs.declared.files.SourceFile.{SourceFile}
@@ -16,7 +16,7 @@ text_name path = if starts_with nat_eq path (codes "LICENSES/") then if_text (dr
 
 -- a name without the part from its last full stop on
 abbrev pub stem : List ℕ → List ℕ
-stem name = unwrap_or (option_map (λ (s : List ℕ × List ℕ). s.0) (rsplit_once 46 name)) name
+stem name = unwrap_or (option_map (λ end. take end name) (rfind_below 46 name (length name))) name
 
 -- what an identifier is compared by: a reference byte for byte, a licence or an exception without regard to case
 abbrev pub key_of : List ℕ → List ℕ

@@ -1,6 +1,6 @@
 //! What a tree lacks.
 
-ghost use Rattle.std.specs.Prelude.{◌≡◌, ◌⊎◌, ◌×◌, List, IfOk, IfErr, Ok, Err, alloc_error};
+ghost use Rattle.std.specs.Prelude.{◌≡◌, ◌⊎◌, ℕ, List, IfOk, IfErr, Ok, Err, alloc_error};
 ghost use Rattle.desk_gather.specs.declared.gathering.FileInfo.{FileInfo};
 ghost use Rattle.desk_gather.specs.Readers.{Reader, IsRightReader};
 ghost use Rattle.desk_gather.specs.Gathering.{gathered};
@@ -34,10 +34,7 @@ fn lists_of<'a>(
 }
 
 // The lists of a tree, with want of memory told apart from its faults.
-fn linted(
-    alloc: Global,
-    files: &[SourceFile],
-) -> Result<Result<Lint, GatherFault>, AllocError>
+fn linted(alloc: Global, files: &[SourceFile]) -> Result<Result<Lint, GatherFault>, AllocError>
     ensures ok { (r : Reader) → IsRightReader r → IfOk result (λ x. IfOk x (IsLint r files.now)) }
     ensures err { (r : Reader) → IsRightReader r → IfOk result (λ x. IfErr x (λ f. gathered r files.now ≡ Err f)) }
 {

@@ -1,10 +1,10 @@
 //! The lists of what a tree lacks.
 
-ghost use Rattle.std.specs.Prelude.{◌≡◌, IfOk, map};
+ghost use Rattle.std.specs.Prelude.{◌≡◌, ◌++◌, IfOk, OnOk, map};
 ghost use Rattle.desk_catalogue.specs.Shown.{texts, IsSetOf};
 ghost use Rattle.desk_lint.specs.Texts.{TextFile};
 ghost use Rattle.desk_lint.specs.Lists.{missing, unused, is_bare, bare};
-ghost use Rattle.desk_lint.specs.Shown.{bytes_in, texts_in};
+ghost use Rattle.desk_lint.specs.Shown.{bytes_in, only, texts_in};
 
 use crate::texts::LicenceText;
 use desk_base::{Items, Key, Text};
@@ -56,6 +56,40 @@ fn keys_of<'a>(alloc: Global, listed: &'a [LicenceText<'_>]) -> Result<Vec<&'a s
     Ok(keys)
 }
 
+// The set of the keys of texts.
+fn known_by<'a>(
+    alloc: Global,
+    listed: &'a [LicenceText<'_>],
+) -> Result<BTreeSet<&'a str>, AllocError>
+    ensures { IfOk result (IsSetOf (map (λ (t : TextFile). t.key) (texts_in listed.now))) }
+{
+    let keys = keys_of(alloc, listed)?;
+    set_of(alloc, keys.as_slice())
+}
+
+// The set of keys.
+fn known_of<'a>(alloc: Global, keys: &'a [Key]) -> Result<BTreeSet<&'a str>, AllocError>
+    ensures { IfOk result (IsSetOf keys.now) }
+{
+    let keys = borrowed(alloc, keys)?;
+    set_of(alloc, keys.as_slice())
+}
+
+// Adds a text where it belongs to a list.
+fn add_if(
+    alloc: Global,
+    list: &mut Items<Text>,
+    belongs: bool,
+    text: &str,
+) -> Result<(), AllocError>
+    ensures { OnOk result (list.new ≡ list.old ++ only belongs text.now) }
+{
+    if belongs {
+        list.push(Text::of(alloc, text)?)?;
+    }
+    Ok(())
+}
+
 /// The keys that are used and have no text.
 pub(crate) fn missing(
     alloc: Global,
@@ -64,13 +98,11 @@ pub(crate) fn missing(
 ) -> Result<Items<Text>, AllocError>
     ensures { IfOk result (λ lacking. lacking ≡ missing used.now (texts_in listed.now)) }
 {
-    let keys = keys_of(alloc, listed)?;
-    let known = set_of(alloc, keys.as_slice())?;
+    let known = known_by(alloc, listed)?;
     let mut lacking = Items::new(alloc);
     for key in used {
-        if !known.contains(key.as_str()) {
-            lacking.push(Text::of(alloc, key.as_str())?)?;
-        }
+        let lacks = !known.contains(key.as_str());
+        add_if(alloc, &mut lacking, lacks, key.as_str())?;
     }
     Ok(lacking)
 }
@@ -83,13 +115,11 @@ pub(crate) fn unused(
 ) -> Result<Items<Text>, AllocError>
     ensures { IfOk result (λ paths. paths ≡ unused used.now (texts_in listed.now)) }
 {
-    let keys = borrowed(alloc, used)?;
-    let known = set_of(alloc, keys.as_slice())?;
+    let known = known_of(alloc, used)?;
     let mut paths = Items::new(alloc);
     for text in listed {
-        if !known.contains(text.key.as_str()) {
-            paths.push(Text::of(alloc, text.path)?)?;
-        }
+        let needless = !known.contains(text.key.as_str());
+        add_if(alloc, &mut paths, needless, text.path)?;
     }
     Ok(paths)
 }

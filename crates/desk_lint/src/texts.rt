@@ -43,8 +43,8 @@ fn text_name(path: &str) -> Option<&str>
 fn stem(name: &str) -> &str
     ensures { result.now ≡ stem name.now }
 {
-    match name.rsplit_once('.') {
-        Some((stem, _)) => stem,
+    match name.rfind('.') {
+        Some(end) => name.split_at(end).0,
         None => name,
     }
 }
