@@ -14,7 +14,8 @@ use clap::{ArgMatches, Command};
 use desk_base::Text;
 use std::alloc::{AllocError, Global};
 
-const ABOUT: &str = "Writes the SPDX document of a source tree, by what its files say of their licences";
+const ABOUT: &str =
+    "Writes the SPDX document of a source tree, by what its files say of their licences";
 
 const LONG_ABOUT: &str = "\
 Writes the SPDX document of a source tree, by what its files say of their licences
@@ -57,7 +58,12 @@ fn named_tree_command<'a>(alloc: Global) -> Result<Command<'a>, AllocError>
         .long_about(LONG_ABOUT)
         .after_help(AFTER_HELP)
         .arg(word_arg(alloc, "DIR", "The folder of the tree"))?
-        .arg(wanted_arg(alloc, "NAME", "name", "The name of the document and of its package"))
+        .arg(wanted_arg(
+            alloc,
+            "NAME",
+            "name",
+            "The name of the document and of its package",
+        ))
 }
 
 /// The subcommand as `clap` reads it.
@@ -66,8 +72,18 @@ pub(crate) fn gather_command<'a>(alloc: Global) -> Result<Command<'a>, AllocErro
     ensures local { IfOk result (λ c. (out-Command c).has_globals ≡ false) }
 {
     named_tree_command(alloc)?
-        .arg(wanted_arg(alloc, "NAMESPACE", "namespace", "The URI that no other document has"))?
-        .arg(wanted_arg(alloc, "CREATED", "created", "When it is made, as 2025-01-01T00:00:00Z"))
+        .arg(wanted_arg(
+            alloc,
+            "NAMESPACE",
+            "namespace",
+            "The URI that no other document has",
+        ))?
+        .arg(wanted_arg(
+            alloc,
+            "CREATED",
+            "created",
+            "When it is made, as 2025-01-01T00:00:00Z",
+        ))
 }
 
 /// The call with the values of these matches, or `None` where they lack one, or one can't stand in its field.

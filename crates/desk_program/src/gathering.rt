@@ -9,7 +9,7 @@ ghost use Rattle.desk_program.specs.Gathering.{gathering_status, Gathers};
 
 use crate::failure::Failure;
 use desk_gather::SourceFile;
-use desk_tree_texts::{Gathering, TextFault, gathering};
+use desk_tree_texts::{Gathering, TextFault, document_of};
 use std::alloc::Global;
 use std::io::Write;
 
@@ -29,7 +29,7 @@ fn gathered(
     ensures ok { (r : Reader) → IsRightReader r → IfOk result (IsGathering r files.now (record { name = name.now; namespace = namespace.now; created = created.now })) }
     ensures err { (r : Reader) → IsRightReader r → IfErr result (IfBadValue (IsUnwritable r files.now (record { name = name.now; namespace = namespace.now; created = created.now }))) }
 {
-    match gathering(alloc, files, name, namespace, created) {
+    match document_of(alloc, files, name, namespace, created) {
         Ok(answer) => Ok(answer),
         Err(TextFault::Memory(error)) => Err(Failure::Memory(error)),
         Err(TextFault::BadValue) => Err(Failure::BadValue),

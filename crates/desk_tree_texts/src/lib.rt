@@ -6,4 +6,4 @@
 
 mod document;
 
-pub use document::{Gathering, TextFault, gathering};
+pub use document::{Gathering, TextFault, document_of};
