@@ -20,8 +20,8 @@ use Rattle.desk_tree_texts.specs.declared.document.TextFault.TheVariants.{BadVal
 -- a fault's line: its name, and each of its values behind a space; want of memory has none
 abbrev pub fault_line : GatherFault → List ℕ
 fault_line (BadToml file) = codes "fault: BadToml " ++ file ++ codes "\n"
-fault_line (BadAnnotation file index kind) = codes "fault: BadAnnotation " ++ file ++ codes " " ++ decimal index ++ codes " " ++ decimal (kind_number kind) ++ codes "\n"
-fault_line (BadExpression file line) = codes "fault: BadExpression " ++ file ++ codes " " ++ decimal line ++ codes "\n"
+fault_line (BadAnnotation file index kind) = codes "fault: BadAnnotation " ++ (file ++ (codes " " ++ (decimal index ++ (codes " " ++ (decimal (kind_number kind) ++ codes "\n")))))
+fault_line (BadExpression file line) = codes "fault: BadExpression " ++ (file ++ (codes " " ++ (decimal line ++ codes "\n")))
 fault_line BadPath = codes "fault: BadPath\n"
 fault_line TwicePath = codes "fault: TwicePath\n"
 fault_line TooManyFiles = codes "fault: TooManyFiles\n"

@@ -1,6 +1,6 @@
 //! The text of a tree's document.
 
-ghost use Rattle.std.specs.Prelude.{◌≡◌, [], All, IfOk, IfErr};
+ghost use Rattle.std.specs.Prelude.{◌≡◌, ◌++◌, [], All, IfOk, IfErr, codes, decimal};
 ghost use Rattle.std.specs.String.{string_bytes};
 ghost use Rattle.desk_gather.specs.Readers.{Reader, IsRightReader};
 ghost use Rattle.desk_tagvalue.specs.Drafts.{draft_lines};
@@ -33,6 +33,20 @@ pub enum Gathering {
     Fault(GatherFault),
 }
 
+// The line of a bad annotation.
+fn annotation_line(alloc: Global, file: &str, index: usize, kind: u8) -> Result<String, AllocError>
+    ensures { IfOk result (λ text. string_bytes text ≡ codes "fault: BadAnnotation " ++ (file.now ++ (codes " " ++ (decimal index ++ (codes " " ++ (decimal kind ++ codes "\n")))))) }
+{
+    format!(in alloc; "fault: BadAnnotation {file} {index} {kind}\n")
+}
+
+// The line of a bad expression.
+fn expression_line(alloc: Global, file: &str, line: u64) -> Result<String, AllocError>
+    ensures { IfOk result (λ text. string_bytes text ≡ codes "fault: BadExpression " ++ (file.now ++ (codes " " ++ (decimal line ++ codes "\n")))) }
+{
+    format!(in alloc; "fault: BadExpression {file} {line}\n")
+}
+
 // The line of a fault.
 fn fault_line(alloc: Global, fault: &GatherFault) -> Result<String, AllocError>
     ensures { IfOk result (λ text. string_bytes text ≡ fault_line fault.now) }
@@ -43,14 +57,9 @@ fn fault_line(alloc: Global, fault: &GatherFault) -> Result<String, AllocError>
             format!(in alloc; "fault: BadToml {file}\n")
         }
         GatherFault::BadAnnotation(file, index, kind) => {
-            let file = file.as_str();
-            let number = kind.number();
-            format!(in alloc; "fault: BadAnnotation {file} {index} {number}\n")
+            annotation_line(alloc, file.as_str(), *index, kind.number())
         }
-        GatherFault::BadExpression(file, line) => {
-            let file = file.as_str();
-            format!(in alloc; "fault: BadExpression {file} {line}\n")
-        }
+        GatherFault::BadExpression(file, line) => expression_line(alloc, file.as_str(), *line),
         GatherFault::BadPath => String::from_str(alloc, "fault: BadPath\n"),
         GatherFault::TwicePath => String::from_str(alloc, "fault: TwicePath\n"),
         GatherFault::TooManyFiles => String::from_str(alloc, "fault: TooManyFiles\n"),
