@@ -7,9 +7,10 @@ use Rattle.desk_base.specs.Profiles.{profile_numbered}
 use Rattle.desk_base.specs.declared.profile.Profile.{Profile}
 use Rattle.clap.specs.declared.error.kind.ErrorKind.TheVariants.{InvalidValue, MissingSubcommand, OutOfMemory}
 use Rattle.clap.specs.declared.error.Error.{Error}
+use Rattle.desk_line.specs.Fields.{if_stands}
 use Rattle.desk_line.specs.Words.{desk_app}
 use Rattle.desk_line.specs.declared.call.Call.{Call}
-use Rattle.desk_line.specs.declared.call.Call.TheVariants.{Check, Alternatives, Script}
+use Rattle.desk_line.specs.declared.call.Call.TheVariants.{Check, Alternatives, Script, Gather}
 use Rattle.desk_line.specs.declared.call.LineFault.{LineFault}
 use Rattle.desk_line.specs.declared.call.LineFault.TheVariants.{Memory, Usage}
 
@@ -30,12 +31,22 @@ check_in rows = option_and_then (λ expression. option_and_then (λ terms. optio
 abbrev pub alternatives_in : List Row → Option Call
 alternatives_in rows = option_and_then (λ expression. option_map (λ profile. Alternatives expression profile) (profile_in rows)) (first_of (codes "EXPR") rows)
 
+-- a value that can stand in a field
+abbrev pub field_in : Text → List Row → Option Text
+field_in id rows = option_and_then if_stands (first_of id rows)
+
+-- the call of `gather` with these values
+abbrev pub gather_in : List Row → Option Call
+gather_in rows = option_and_then (λ folder. option_and_then (λ name. option_and_then (λ namespace. option_map (λ created. Gather folder name namespace created)
+    (field_in (codes "CREATED") rows)) (field_in (codes "NAMESPACE") rows)) (field_in (codes "NAME") rows)) (first_of (codes "DIR") rows)
+
 -- the call of a subcommand with these values
 abbrev pub call_in : Text → List Row → Option Call
 call_in name rows =
     if bytes_eq name (codes "check") then check_in rows
     else if bytes_eq name (codes "alternatives") then alternatives_in rows
     else if bytes_eq name (codes "script") then Some Script
+    else if bytes_eq name (codes "gather") then gather_in rows
     else None
 
 -- the call of the subcommand that was met, if any

@@ -32,6 +32,17 @@ alternatives_app = with_rule (with_rule (new_app (codes "alternatives")) profile
 abbrev pub script_app : App
 script_app = new_app (codes "script")
 
+-- `--LONG NAME`, which must be used
+abbrev pub wanted : Text → Text → Rule
+wanted name long = record (new_rule name) { long = Some long; required = true }
+
+-- `gather DIR --name NAME --namespace NAMESPACE --created CREATED`
+abbrev pub named_tree_app : App
+named_tree_app = with_rule (with_rule (new_app (codes "gather")) (word (codes "DIR"))) (wanted (codes "NAME") (codes "name"))
+
+abbrev pub gather_app : App
+gather_app = with_rule (with_rule named_tree_app (wanted (codes "NAMESPACE") (codes "namespace"))) (wanted (codes "CREATED") (codes "created"))
+
 -- `desk`, which has a version, asks for a subcommand, and shows its help where there are no words
 abbrev pub desk_alone : App
 desk_alone = on_top (λ s. record s { has_version = true; subcommand_required = true; arg_required_else_help = true })
@@ -42,4 +53,4 @@ abbrev pub judging_app : App
 judging_app = with_subcommand (with_subcommand desk_alone check_app.top) alternatives_app.top
 
 abbrev pub desk_app : App
-desk_app = with_subcommand judging_app script_app.top
+desk_app = with_subcommand (with_subcommand judging_app script_app.top) gather_app.top

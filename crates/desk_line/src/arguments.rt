@@ -2,7 +2,7 @@
 
 ghost use Rattle.std.specs.Prelude.{◌≡◌, false};
 ghost use Rattle.clap.specs.Words.{rule_of};
-ghost use Rattle.desk_line.specs.Words.{option, word, words};
+ghost use Rattle.desk_line.specs.Words.{option, wanted, word, words};
 
 use clap::Arg;
 use std::alloc::Global;
@@ -22,6 +22,14 @@ pub fn option_arg<'a>(
         .long(long)
         .default_value(value)
         .help(help)
+}
+
+/// A named value that must be there.
+pub fn wanted_arg<'a>(alloc: Global, name: &'a str, long: &'a str, help: &'a str) -> Arg<'a>
+    ensures rule { rule_of result ≡ wanted name.entry.now long.entry.now }
+    ensures local { result.global ≡ false }
+{
+    Arg::new(alloc, name).long(long).required(true).help(help)
 }
 
 /// A word that must stand in its place.

@@ -22,6 +22,13 @@ pub enum Call {
     },
     /// Replies to the requests of standard input, a line each.
     Script,
+    /// The document of the tree of files in a folder, with its name, its namespace and when it was made.
+    Gather {
+        folder: Text,
+        name: Text,
+        namespace: Text,
+        created: Text,
+    },
 }
 
 /// Why a command line gave no call.

@@ -11,6 +11,8 @@
 mod alternatives;
 mod arguments;
 mod call;
+mod fields;
+mod gather;
 mod reading;
 mod subcommands;
 mod values;

@@ -13,6 +13,9 @@ use std::alloc::{AllocError, Global};
 
 const NO_SUBCOMMAND: &str = "a subcommand is wanted";
 
+const NO_FIELD: &str = "a value of --name, --namespace or --created cannot stand in its field: it \
+has a line feed or a blank at an end, or begins with <text>";
+
 const NO_PROFILE: &str = "the value of --profile is 1 or 2";
 
 impl From<AllocError> for LineFault {
@@ -40,6 +43,7 @@ fn lacking(matches: &ArgMatches<'_>) -> (ErrorKind, &'static str)
     ensures { IsAmong result.0 (lacking (subcommand_rows_of matches.now)) }
 {
     match matches.subcommand() {
+        Some((name, _)) if name == "gather" => (ErrorKind::InvalidValue, NO_FIELD),
         Some(_) => (ErrorKind::InvalidValue, NO_PROFILE),
         None => (ErrorKind::MissingSubcommand, NO_SUBCOMMAND),
     }

@@ -8,6 +8,7 @@ ghost use Rattle.clap.specs.Words.{rule_of};
 
 use crate::alternatives::alternatives_command;
 use crate::arguments::{option_arg, word_arg, words_arg};
+use crate::gather::gather_command;
 use clap::{Arg, Command};
 use std::alloc::{AllocError, Global};
 
@@ -193,5 +194,7 @@ pub fn desk_command<'a>(alloc: Global) -> Result<Command<'a>, AllocError>
     ensures shape { IfOk result (λ c. app_of c ≡ desk_app) }
     ensures local { IfOk result (λ c. (out-Command c).has_globals ≡ false) }
 {
-    judging_command(alloc)?.subcommand(script_command(alloc)?)
+    judging_command(alloc)?
+        .subcommand(script_command(alloc)?)?
+        .subcommand(gather_command(alloc)?)
 }

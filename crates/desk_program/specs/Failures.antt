@@ -2,12 +2,28 @@
 use Rattle.std.specs.Prelude.{ℕ}
 use Rattle.desk_script.specs.declared.serving.ScriptFault.{ScriptFault}
 use Rattle.desk_program.specs.declared.failure.Failure.{Failure}
-use Rattle.desk_program.specs.declared.failure.Failure.TheVariants.{Memory, Write, Script, Failed}
+use Rattle.desk_program.specs.declared.failure.Failure.TheVariants.{Memory, Script, Failed, BadValue}
 
 -- the fact holds where memory was wanting
 abbrev pub IfMemory : Type 0 → Failure → Type 0
 IfMemory fact (Memory error) = fact
 IfMemory fact _ = Unit {0}
+
+-- where some value can't stand in its field
+abbrev pub IfBadValue : Type 0 → Failure → Type 0
+IfBadValue fact BadValue = fact
+IfBadValue fact _ = Unit {0}
+
+-- where there was nothing to tell for one of these
+abbrev pub IfUntold : Type 0 → Failure → Type 0
+IfUntold fact (Memory error) = fact
+IfUntold fact BadValue = fact
+IfUntold fact _ = Unit {0}
+
+-- the program's status: the command line is wrong, where a value can't stand; or a fault
+abbrev pub failure_status : Failure → ℕ
+failure_status BadValue = 2
+failure_status _ = 3
 
 -- what holds where a script stopped by a fault, which the failure tells, and where so many of its requests failed; it has no other
 -- failure

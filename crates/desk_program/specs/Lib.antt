@@ -1,3 +1,4 @@
 pub mod Report
 pub mod Failures
 pub mod Listing
+pub mod Gathering

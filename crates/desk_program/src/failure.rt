@@ -1,6 +1,7 @@
 //! Why a subcommand could not do its work.
 
 use desk_script::ScriptFault;
+use desk_trees::TreeFault;
 use std::alloc::AllocError;
 use std::io;
 use thiserror::Error;
@@ -18,6 +19,27 @@ pub enum Failure {
     /// So many requests of a script failed.
     #[error("requests that failed: {0}")]
     Failed(u64),
+    /// The files of a tree can't be had.
+    #[error("{0}")]
+    Tree(TreeFault),
+    /// Some value of a document can't be read back from its field.
+    #[error("a value cannot stand in its field of the document: a licence of a REUSE.toml has blanks at its ends")]
+    BadValue,
+}
+
+impl Failure {
+    ghost use Rattle.std.specs.Prelude.{◌≡◌};
+    ghost use Rattle.desk_program.specs.Failures.{failure_status};
+
+    /// The program's status: 2 where a value can't stand in its field, and else 3.
+    pub fn status(&self) -> u8
+        ensures { result ≡ failure_status self.now }
+    {
+        match self {
+            Failure::BadValue => 2,
+            _ => 3,
+        }
+    }
 }
 
 impl From<AllocError> for Failure {
@@ -39,5 +61,16 @@ impl From<io::Error> for Failure {
 
     fn from(error: io::Error) -> Failure {
         Failure::Write(error)
+    }
+}
+
+impl From<TreeFault> for Failure {
+    ghost use Rattle.std.specs.Prelude.{◌≡◌};
+    ghost use Rattle.desk_program.specs.declared.failure.Failure.TheVariants.{Tree};
+
+    ghost from_gives = { λ fault failure. failure ≡ Tree fault };
+
+    fn from(fault: TreeFault) -> Failure {
+        Failure::Tree(fault)
     }
 }

@@ -7,6 +7,7 @@
 
 mod commands;
 mod failure;
+mod gathering;
 mod listing;
 mod report;
 
@@ -14,22 +15,23 @@ use crate::failure::Failure;
 use desk_core::desk::MemDesk;
 use desk_line::{Call, LineFault, line};
 use desk_texts::Standard;
+use desk_trees::files_of;
 use std::alloc::{AllocError, Global};
 use std::io::BufWriter;
 use std::mem::ManuallyDrop;
 use std::process::ExitCode;
-use std::rt::Env;
+use std::rt::{Env, Files};
 use std::{env, io};
 
 const USAGE: u8 = 2;
-
-const FAILED: u8 = 3;
 
 /// The bytes of a block larger than any that one request takes.
 const LARGE_BYTES: usize = 16_777_216;
 
 /// Does what the words ask for, and answers the status.
-fn run(rt: &(impl Env + Print + Input + Eprint + AllocGlobal)) -> Result<u8, Failure> {
+fn run<R: Env + Files + Print + Input + Eprint + AllocGlobal + Clone + Drop>(
+    rt: &R,
+) -> Result<u8, Failure> {
     let alloc = rt.alloc();
     let owned = match env::args(rt) {
         Ok(owned) => owned.collect::<Vec<String>>(alloc)?,
@@ -67,7 +69,11 @@ fn keep_large_blocks(alloc: Global) {
     }
 }
 
-fn answer(rt: &(impl Print + Input), alloc: Global, call: &Call) -> Result<u8, Failure> {
+fn answer<R: Files + Print + Input + AllocGlobal + Clone + Drop>(
+    rt: &R,
+    alloc: Global,
+    call: &Call,
+) -> Result<u8, Failure> {
     match call {
         Call::Check {
             expression,
@@ -95,6 +101,22 @@ fn answer(rt: &(impl Print + Input), alloc: Global, call: &Call) -> Result<u8, F
             let mut writer = BufWriter::new(alloc, io::writer(rt))?;
             commands::script(alloc, &mut *desk, &mut rt.reader(), &mut writer)
         }
+        Call::Gather {
+            folder,
+            name,
+            namespace,
+            created,
+        } => {
+            let files = files_of(rt, folder.as_str())?;
+            commands::gather(
+                alloc,
+                files.as_slice(),
+                name.as_str(),
+                namespace.as_str(),
+                created.as_str(),
+                &mut io::writer(rt),
+            )
+        }
     }
 }
 
@@ -104,7 +126,7 @@ fn main(rt: HostRuntime) -> ExitCode {
         Err(failure) => {
             // Where standard error fails too, there is nobody left to tell.
             let _told = eprintln!(rt; "error: {failure}");
-            ExitCode::from(FAILED)
+            ExitCode::from(failure.status())
         }
     }
 }

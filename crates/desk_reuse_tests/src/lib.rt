@@ -1,5 +1,5 @@
-//! Tests of `desk_reuse`, `desk_annotations`, `desk_gather` and `desk_draft`: patterns of paths, the notices and licences of files,
-//! REUSE.toml files, what is gathered of a tree, and its draft.
+//! Tests of `desk_reuse`, `desk_annotations`, `desk_gather`, `desk_lint` and `desk_draft`: patterns of paths, the notices and licences
+//! of files, REUSE.toml files, what is gathered of a tree, what it lacks, and its draft.
 #![tactic(auto)]
 
 #[cfg(test)]
@@ -10,5 +10,7 @@ mod drafts;
 mod globs;
 #[cfg(test)]
 mod headers;
+#[cfg(test)]
+mod lints;
 #[cfg(test)]
 mod trees;

@@ -23,7 +23,7 @@ pub(crate) fn files(alloc: Global, tree: &str) -> Result<Vec<SourceFile>, AllocE
     Ok(files)
 }
 
-fn write_texts(text: &mut String, texts: &[Text]) -> Result<(), AllocError> {
+pub(crate) fn write_texts(text: &mut String, texts: &[Text]) -> Result<(), AllocError> {
     for each in texts {
         let value = each.as_str();
         write!(text, " [{value}]")?;
@@ -40,7 +40,7 @@ fn write_info(text: &mut String, info: &FileInfo) -> Result<(), AllocError> {
     text.push_str(";")
 }
 
-fn write_fault(text: &mut String, fault: &GatherFault) -> Result<(), AllocError> {
+pub(crate) fn write_fault(text: &mut String, fault: &GatherFault) -> Result<(), AllocError> {
     match fault {
         GatherFault::BadToml(path) => {
             text.push_str("BadToml ")?;

@@ -1,0 +1,4 @@
+pub mod SortedOnce
+pub mod UsedLemmas
+pub mod ListLemmas
+pub mod StemLemmas

@@ -1,0 +1,16 @@
+//! Why the files of a folder can't be had.
+
+use std::alloc::AllocError;
+use std::io;
+use thiserror::Error;
+
+/// Why the files of a folder can't be had.
+#[derive(Debug, Drop, Error)]
+pub enum TreeFault {
+    /// No memory was left.
+    #[error("no memory is left")]
+    Memory(#[from(alloc)] AllocError),
+    /// A file or folder can't be read, or a name in it isn't UTF-8: its path, and why.
+    #[error("cannot read {0:?}: {1}")]
+    Read(String, io::Error),
+}

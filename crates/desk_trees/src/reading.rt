@@ -1,0 +1,82 @@
+//! What the files of a tree hold.
+
+ghost use Rattle.std.specs.Prelude.{◌≡◌, IfOk, map};
+ghost use Rattle.std.specs.String.{string_bytes};
+ghost use Rattle.desk_trees.specs.Walking.{AreByPath};
+
+use crate::fault::TreeFault;
+use crate::walking::{paths_of, place};
+use desk_base::{Items, Text};
+use desk_gather::SourceFile;
+use std::fs;
+use std::rt::Files;
+
+/// How many files a tree may have of which something is gathered.
+const MOST_READ: usize = 10_000;
+
+// The file at a path.
+fn file_at<R: Files + AllocGlobal + Clone + Drop>(
+    rt: &R,
+    root: &str,
+    path: &str,
+) -> Result<SourceFile, TreeFault>
+    ensures { IfOk result (λ f. f.path ≡ path.now) }
+{
+    let alloc = rt.alloc();
+    let place = place(alloc, root, path)?;
+    match fs::read(rt, place.as_str()) {
+        Ok(bytes) => Ok(SourceFile {
+            path: Text::of(alloc, path)?,
+            bytes: Items::from_vec(bytes),
+        }),
+        Err(error) => Err(TreeFault::Read(place, error)),
+    }
+}
+
+// The files at some paths.
+fn read<R: Files + AllocGlobal + Clone + Drop>(
+    rt: &R,
+    root: &str,
+    paths: &[String],
+) -> Result<Vec<SourceFile>, TreeFault>
+    ensures { IfOk result (λ files. map (λ f. f.path) files.items ≡ map string_bytes paths.now) }
+{
+    let mut files = Vec::new(rt.alloc());
+    for path in paths {
+        files.push(file_at(rt, root, path.as_str())?)?;
+    }
+    Ok(files)
+}
+
+// The files at some paths, without what they hold.
+fn named<R: Files + AllocGlobal + Clone + Drop>(
+    rt: &R,
+    paths: &[String],
+) -> Result<Vec<SourceFile>, TreeFault>
+    ensures { IfOk result (λ files. map (λ f. f.path) files.items ≡ map string_bytes paths.now) }
+{
+    let alloc = rt.alloc();
+    let mut files = Vec::new(alloc);
+    for path in paths {
+        files.push(SourceFile {
+            path: Text::of(alloc, path.as_str())?,
+            bytes: Items::new(alloc),
+        })?;
+    }
+    Ok(files)
+}
+
+/// The files below a folder by path: all but links, what else is neither a file nor a folder, and `.git` at the root. Of a folder
+/// with more than 10,000 files, of which nothing is gathered, 10,001 or more are given, and no bytes.
+pub fn files_of<R: Files + AllocGlobal + Clone + Drop>(
+    rt: &R,
+    root: &str,
+) -> Result<Vec<SourceFile>, TreeFault>
+    ensures { IfOk result (λ files. AreByPath files.items) }
+{
+    let paths = paths_of(rt, root)?;
+    if paths.len() > MOST_READ {
+        return named(rt, paths.as_slice());
+    }
+    read(rt, root, paths.as_slice())
+}
