@@ -50,8 +50,7 @@ fn tells_the_findings_by_the_profile_of_the_document(rt: HostRuntime) -> Result<
 }
 
 /// What a request of findings has besides its document.
-const REQUESTS: &str =
-    r#"read {"ask":"findings","document":1}
+const REQUESTS: &str = r#"read {"ask":"findings","document":1}
 findings of 1
 read {"document":9223372036854775807,"ask":"findings"}
 findings of 9223372036854775807
