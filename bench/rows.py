@@ -1,8 +1,9 @@
 """Times `desk script` by the rows that a desk holds: python3 bench/rows.py PROGRAM
 
 Two desks, each once with a tenth of the rows and once with all: one with 4,096 documents and as many releases, each attached, chosen
-and frozen; and one with a single release whose freeze raises 100,000 duties, each of which is met. The requests of a step are sent
-together, and its time ends with its last reply. Each time is the least of three runs.
+and frozen, with a conclusion and an adoption for each; and one with a single release whose freeze raises 100,000 duties, each of which
+is met, reopened and waived up to a day, after which all waivers end at once and the release is withdrawn. The requests of a step are
+sent together, and its time ends with its last reply. Each time is the least of three runs.
 """
 
 import json
@@ -54,7 +55,11 @@ def releases(count):
         ("import", [document(n, 1) for n in each]),
         ("open", [line(do="open", release=f"r{n}", form="binary") for n in each]),
         ("attach", [line(do="attach", release=f"r{n}", document=n) for n in each]),
+        ("conclude", [line(do="conclude", document=n, package="SPDXRef-p0", expression="MIT OR Zlib") for n in each]),
+        ("adopt", [line(do="adopt", document=n, reference="LicenseRef-1", licence="MIT") for n in each]),
         ("choose", [choose(f"r{n}", n, 0) for n in each]),
+        ("unchoose", [line(do="unchoose", release=f"r{n}", document=n, package="SPDXRef-p0") for n in each]),
+        ("choose again", [choose(f"r{n}", n, 0) for n in each]),
         ("freeze", [line(do="freeze", release=f"r{n}", day="2025-03-03") for n in each]),
         ("meet", [line(do="meet", duty=n, day="2025-03-04", text="notices.txt") for n in each]),
     ]
@@ -70,7 +75,13 @@ def duties(count):
         ("attach", [line(do="attach", release="r", document=1)]),
         ("choose", [choose("r", 1, n) for n in range(packages)]),
         ("freeze", [line(do="freeze", release="r", day="2025-03-03")]),
+        ("release", [line(ask="release", release="r")]),
         ("meet", [line(do="meet", duty=n + 1, day="2025-03-04", text="notices.txt") for n in range(count)]),
+        ("reopen", [line(do="reopen", duty=n + 1, day="2025-03-05", text="again") for n in range(count)]),
+        ("waive", [line(do="waive", duty=n + 1, day="2025-03-06", text="w", until="2025-03-31") for n in range(count)]),
+        ("close", [line(do="close", day="2025-04-01")]),
+        ("changes", [line(ask="changes", duty=n + 1) for n in range(count)]),
+        ("withdraw", [line(do="withdraw", release="r", day="2025-04-02", text="w")]),
     ]
 
 
