@@ -138,6 +138,16 @@ abbrev pub findings_request : Data → Request
 findings_request d = with_members 2 d
     (with_number (codes "document") d (λ document. Ask (query.Findings document)))
 
+-- the forms that the words of the ledger behind `do` name
+abbrev pub ledger_request : List ℕ → Data → Request
+ledger_request word d =
+    if bytes_eq word (codes "meet") then meet_request d
+    else if bytes_eq word (codes "waive") then waive_request d
+    else if bytes_eq word (codes "reopen") then reopen_request d
+    else if bytes_eq word (codes "withdraw") then withdraw_request d
+    else if bytes_eq word (codes "close") then close_request d
+    else BadCommand
+
 -- the form that the word behind `do` names
 abbrev pub command_request : List ℕ → Data → Request
 command_request word d =
@@ -147,15 +157,10 @@ command_request word d =
     else if bytes_eq word (codes "attach") then attach_request d
     else if bytes_eq word (codes "choose") then choose_request d
     else if bytes_eq word (codes "freeze") then freeze_request d
-    else if bytes_eq word (codes "meet") then meet_request d
     else if bytes_eq word (codes "unchoose") then unchoose_request d
-    else if bytes_eq word (codes "waive") then waive_request d
-    else if bytes_eq word (codes "reopen") then reopen_request d
-    else if bytes_eq word (codes "withdraw") then withdraw_request d
-    else if bytes_eq word (codes "close") then close_request d
     else if bytes_eq word (codes "conclude") then conclude_request d
     else if bytes_eq word (codes "adopt") then adopt_request d
-    else BadCommand
+    else ledger_request word d
 
 abbrev pub release_request : Data → Request
 release_request d = with_members 2 d

@@ -2,7 +2,7 @@
 
 ghost use Rattle.std.specs.Prelude.{◌≡◌, IfOk, codes};
 ghost use Rattle.serde_json.specs.View.{view};
-ghost use Rattle.desk_json.specs.Requests.{catalogue_request, import_profile, import_request, open_request, attach_request, choose_request, freeze_request, meet_request, unchoose_request, waive_until, waive_request, reopen_request, withdraw_request, close_request, conclude_request, adopt_request, duties_request, totals_request, changes_request, findings_request, release_request, query_request, request_of, request_in, with_text};
+ghost use Rattle.desk_json.specs.Requests.{catalogue_request, import_profile, import_request, open_request, attach_request, choose_request, freeze_request, meet_request, unchoose_request, waive_until, waive_request, reopen_request, withdraw_request, close_request, conclude_request, adopt_request, ledger_request, duties_request, totals_request, changes_request, findings_request, release_request, query_request, request_of, request_in, with_text};
 
 use crate::fields::{number_at, profile_at, size_of, take_text, text_at, texts_at};
 use crate::request::Request;
@@ -389,6 +389,20 @@ fn read_ask(alloc: Global, value: &Value) -> Result<Request, AllocError>
     }
 }
 
+/// A command of the ledger.
+fn read_ledger(alloc: Global, value: &Value) -> Result<Request, AllocError>
+    ensures { IfOk result (λ r. r ≡ with_text (codes "do") (view value.now) (λ word. ledger_request word (view value.now))) }
+{
+    match text_at(value, "do") {
+        Some("meet") => read_meet(alloc, value),
+        Some("waive") => read_waive(alloc, value),
+        Some("reopen") => read_reopen(alloc, value),
+        Some("withdraw") => read_withdraw(alloc, value),
+        Some("close") => read_close(alloc, value),
+        _ => Ok(Request::BadCommand),
+    }
+}
+
 fn read_value(alloc: Global, value: &mut Value) -> Result<Request, AllocError>
     ensures { IfOk result (λ r. r ≡ request_of (view value.old)) }
 {
@@ -399,15 +413,10 @@ fn read_value(alloc: Global, value: &mut Value) -> Result<Request, AllocError>
         Some("attach") => read_attach(alloc, value),
         Some("choose") => read_choose(alloc, value),
         Some("freeze") => read_freeze(alloc, value),
-        Some("meet") => read_meet(alloc, value),
         Some("unchoose") => read_unchoose(alloc, value),
-        Some("waive") => read_waive(alloc, value),
-        Some("reopen") => read_reopen(alloc, value),
-        Some("withdraw") => read_withdraw(alloc, value),
         Some("conclude") => read_conclude(alloc, value),
         Some("adopt") => read_adopt(alloc, value),
-        Some("close") => read_close(alloc, value),
-        Some(_) => Ok(Request::BadCommand),
+        Some(_) => read_ledger(alloc, value),
         None => read_ask(alloc, value),
     }
 }

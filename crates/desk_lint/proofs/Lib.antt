@@ -1,4 +1,5 @@
 pub mod SortedOnce
 pub mod UsedLemmas
 pub mod ListLemmas
+mod SetLemmas
 pub mod StemLemmas

@@ -1,4 +1,5 @@
 pub mod Texts
 pub mod Used
+pub mod Sets
 pub mod Lists
 pub mod Shown

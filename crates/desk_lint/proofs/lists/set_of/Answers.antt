@@ -1,5 +1,5 @@
 use Rattle.std.proofs.Common.{◌∙◌}
-use Rattle.desk_catalogue.proofs.SetLemmas.{set_step}
+use Rattle.desk_lint.proofs.SetLemmas.{set_step}
 use Rattle.desk_lint.proofs.lists.set_of.Goals as goal
 
 pub loop-text-preserved : goal.loop-text-preserved
