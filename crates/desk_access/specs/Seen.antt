@@ -1,5 +1,5 @@
 -- What is seen of a store, and what a call may do to it.
-use Rattle.std.specs.Prelude.{◌≡◌, ◌⊎◌, Bool, true, false, Result, Ok, Err}
+use Rattle.std.specs.Prelude.{◌≡◌, ◌⊎◌, true, false, Result, Ok, Err}
 use Rattle.desk_rows.specs.Tables.{Tables, applied}
 use Rattle.desk_rows.specs.Answers.{is_recorded}
 use Rattle.desk_rows.specs.declared.command.Change.{Change}

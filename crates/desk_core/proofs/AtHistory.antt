@@ -1,22 +1,18 @@
 -- What a store does over tables, a desk does over the histories whose tables they are.
-use Rattle.std.proofs.Common.{◌≡◌, ◌⊎◌, inl, inr, true, List, ◌∷◌, [], ◌++◌, length, Result, Ok, Err, refl, sym, ap, subst, ◌∙◌}
+use Rattle.std.proofs.Common.{◌≡◌, inl, inr, true, Result, Ok, Err, sym, ap, subst, ◌∙◌}
 use Rattle.std.specs.Prelude.{IfOk}
 use Rattle.desk_rows.specs.Readings.{Readings}
-use Rattle.desk_rows.specs.Faults.{MayBecome, MayAllBecome}
 use Rattle.desk_rows.specs.Tables.{Tables, tables, applied}
-use Rattle.desk_rows.specs.Answers.{answer, is_recorded, IsHistory}
+use Rattle.desk_rows.specs.Answers.{answer, is_recorded}
 use Rattle.desk_rows.specs.Queries.{queried}
-use Rattle.desk_rows.specs.Runs.{IsAnswer, history_with}
 use Rattle.desk_rows.specs.declared.command.Answer.{Answer}
 use Rattle.desk_rows.specs.declared.command.Command.{Command}
 use Rattle.desk_rows.specs.declared.command.Fault.{Fault}
-use Rattle.desk_rows.specs.declared.command.Outcome.{Outcome}
 use Rattle.desk_rows.specs.declared.command.Query.{Query}
-use Rattle.desk_rows.specs.declared.command.StoreFault.{StoreFault}
 use Rattle.desk_history.specs.FromTables.{answer_from, change_for, queried_from}
 use Rattle.desk_history.proofs.Steps.{step-answer, recorded-rows}
 use Rattle.desk_history.proofs.Queries.{query-answer}
-use Rattle.desk_access.specs.Seen.{Seen, Kept, Same, OfRows, Minds, Decides, Answered}
+use Rattle.desk_access.specs.Seen.{Seen, OfRows, Decides}
 use Rattle.desk_core.specs.Desks.{CarriesOut, InHistory}
 
 module _ {Left : Type 0} where

@@ -92,8 +92,7 @@ fn refuses_conclusions_in_order(rt: HostRuntime) -> Result<(), Fail> {
     follow(&rt, rt.alloc(), &[OPEN, CONCLUDE_REFUSALS])
 }
 
-const HOLDERS: &str =
-    r#"{"do":"open","release":"a","form":"binary"}
+const HOLDERS: &str = r#"{"do":"open","release":"a","form":"binary"}
 {"done":true}
 {"do":"attach","release":"a","document":1}
 {"done":true}
@@ -201,8 +200,7 @@ fn adopts_a_reference_in_each_document(rt: HostRuntime) -> Result<(), Fail> {
     follow(&rt, rt.alloc(), &[TWO_DOCUMENTS])
 }
 
-const ADOPT_REFUSALS: &str =
-    r#"{"do":"adopt","document":9,"reference":"MIT","licence":"MIT"}
+const ADOPT_REFUSALS: &str = r#"{"do":"adopt","document":9,"reference":"MIT","licence":"MIT"}
 {"at":[0],"name":"BadTerm","refused":8}
 {"do":"adopt","document":9,"reference":"LicenseRef-1 WITH e","licence":"MIT+"}
 {"at":[0],"name":"BadTerm","refused":8}
@@ -342,8 +340,7 @@ fn keeps_10000_adoptions_of_a_document(rt: HostRuntime) -> Result<(), Fail> {
     follow(&rt, rt.alloc(), &[ADOPTIONS_FILL])
 }
 
-const RELEASES: &str =
-    r#"{"ask":"release","release":"r9"}
+const RELEASES: &str = r#"{"ask":"release","release":"r9"}
 {"at":[],"name":"UnknownRelease","refused":12}
 {"ask":"release","release":"r1"}
 {"rows":[["r1","binary","open",0],[1,"SPDXRef-p","p","MIT",[]]]}

@@ -1,5 +1,5 @@
 -- One call after another, and what a plan comes to when it is carried out.
-use Rattle.std.proofs.Common.{◌≡◌, ◌⊎◌, Bool, true, false, inl, inr, refl, sym, ap, subst, ◌∙◌, Result, Ok, Err}
+use Rattle.std.proofs.Common.{◌≡◌, Bool, true, false, inl, inr, sym, ap, subst, ◌∙◌, Result, Ok, Err}
 use Rattle.desk_rows.specs.Readings.{Readings}
 use Rattle.desk_rows.specs.Tables.{Tables, applied}
 use Rattle.desk_rows.specs.Answers.{is_recorded}
@@ -15,7 +15,7 @@ use Rattle.desk_access.specs.Follows.{Follows}
 use Rattle.std.specs.Prelude.{IfOk, IfErr}
 use Rattle.desk_rows.specs.Faults.{MayFail}
 use Rattle.std.specs.Result.{IsErr}
-use Rattle.desk_access.specs.Seen.{Seen, Spared, Kept, Same, Looked, OfRows, Made, Failed, Minds, Decides, Faulted}
+use Rattle.desk_access.specs.Seen.{Seen, Kept, Same, Looked, OfRows, Minds, Decides}
 use Rattle.desk_access.specs.Plans.{IsPlan, IsPlanOf, IsSound, SparesStore, Plans, Carries}
 use Rattle.desk_decisions.proofs.Following.{change_follows}
 

@@ -5,12 +5,11 @@ use Rattle.std.specs.Option.{option_map, option_map_or, option_and_then}
 use Rattle.desk_base.specs.Day.{is_day}
 use Rattle.desk_rows.specs.Texts.{is_note}
 use Rattle.desk_rows.specs.Tables.{Tables}
-use Rattle.desk_rows.specs.Answers.{is_over, refused_by, refused_first, unless, gone, settled, move_answer}
+use Rattle.desk_rows.specs.Answers.{is_over, refused_by, refused_first, unless, gone, settled}
 use Rattle.desk_rows.specs.declared.refusal.Refusal.TheVariants as why
 use Rattle.desk_rows.specs.declared.refusal.Limit.TheVariants as limit
 use Rattle.desk_rows.specs.declared.command.Answer.TheVariants as answered
 use Rattle.desk_rows.specs.declared.row.DutyRow.{DutyRow}
-use Rattle.desk_rows.specs.declared.state.DutyState.{DutyState}
 use Rattle.desk_rows.specs.declared.state.ReleaseState.{ReleaseState}
 use Rattle.desk_rows.specs.declared.state.ReleaseState.TheVariants.{IsOpen}
 use Rattle.desk_rows.specs.declared.state.Word.{Word}

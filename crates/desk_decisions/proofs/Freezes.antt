@@ -8,13 +8,12 @@ use Rattle.desk_rows.specs.Tables.{Tables}
 use Rattle.desk_rows.specs.History.{attached_to}
 use Rattle.desk_rows.specs.Raised.{frozen_for, owed_for}
 use Rattle.desk_rows.specs.Answers.{walk, freeze_fits, unready}
-use Rattle.desk_history.specs.FromTables.{answer_from, change_for, noted_by, froze_as, conclusion_found, rules_found, choice_found, shipped_found, release_found, freeze_open_found, freeze_change_found}
+use Rattle.desk_history.specs.FromTables.{answer_from, change_for, froze_as, conclusion_found, rules_found, choice_found, shipped_found, release_found, freeze_open_found, freeze_change_found}
 use Rattle.desk_decisions.specs.Walks.{GathersAll}
 use Rattle.desk_decisions.specs.declared.freeze.Gathered.{Gathered}
 use Rattle.desk_rows.specs.declared.row.PackageRow.{PackageRow}
 use Rattle.desk_rows.specs.declared.row.ReleaseRow.{ReleaseRow}
 use Rattle.desk_rows.specs.declared.refusal.Refusal.{Refusal}
-use Rattle.desk_rows.specs.declared.command.Answer.{Answer}
 use Rattle.desk_rows.specs.declared.command.Answer.TheVariants as answered
 use Rattle.desk_rows.specs.declared.command.Command.TheVariants.{Freeze}
 

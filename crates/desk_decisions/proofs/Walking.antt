@@ -5,12 +5,11 @@ use Rattle.std.specs.List.{enumerate_from}
 use Rattle.std.proofs.lemmas.List.{map-append}
 use Rattle.desk_rows.specs.Tables.{Tables}
 use Rattle.desk_history.specs.FromTables.{new_duty, conclusion_found, rules_found, choice_found}
-use Rattle.desk_decisions.specs.Walks.{Gathers, GathersTerms, GathersPackage}
+use Rattle.desk_decisions.specs.Walks.{GathersPackage}
 use Rattle.desk_decisions.specs.declared.freeze.Gathered.{Gathered}
 use Rattle.desk_rows.specs.declared.refusal.Refusal.{Refusal}
 use Rattle.desk_rows.specs.declared.row.DutyRow.{DutyRow}
 use Rattle.desk_rows.specs.declared.row.AdoptionRow.{AdoptionRow}
-use Rattle.desk_rows.specs.declared.row.FrozenRow.{FrozenRow}
 use Rattle.desk_rows.specs.declared.row.Owed.{Owed}
 use Rattle.desk_rows.specs.Raised.{owed_for, frozen_for, owed_for_terms, frozen_for_terms, owed_code, frozen_term, rule_adopted}
 use Rattle.desk_rows.specs.Answers.{first_unruled, package_fault, walk}

@@ -1,14 +1,12 @@
 -- What the steps of a move of a duty have found.
-use Rattle.std.specs.Prelude.{◌≡◌, ℕ, Bool, true, false, List, [], ◌∷◌, ◌&&◌, nat_lt, Option, Some, None, is_some}
-use Rattle.std.specs.Option.{option_map, option_map_or, option_and_then}
+use Rattle.std.specs.Prelude.{◌≡◌, ℕ, true, false, List, [], ◌∷◌, ◌&&◌, nat_lt, Option, Some, None, is_some}
+use Rattle.std.specs.Option.{option_map_or, option_and_then}
 use Rattle.desk_base.specs.Day.{is_day}
 use Rattle.desk_rows.specs.Tables.{Tables}
 use Rattle.desk_rows.specs.Answers.{refused_first, unless, refused_by, move_answer, gone, settled}
-use Rattle.desk_rows.specs.declared.row.Move.{Move}
 use Rattle.desk_rows.specs.declared.state.DutyState.{DutyState}
 use Rattle.desk_rows.specs.declared.state.ReleaseState.{ReleaseState}
 use Rattle.desk_rows.specs.declared.state.Word.{Word}
-use Rattle.desk_rows.specs.declared.refusal.Refusal.{Refusal}
 use Rattle.desk_rows.specs.declared.refusal.Refusal.TheVariants as why
 use Rattle.desk_rows.specs.declared.refusal.Limit.TheVariants as limit
 use Rattle.desk_rows.specs.declared.command.Answer.{Answer}

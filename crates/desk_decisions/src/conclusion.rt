@@ -80,11 +80,7 @@ pub(crate) fn conclusion_of<T: Texts, S: Store>(
     Ok(own_conclusion(alloc, texts, profile, row)?)
 }
 
-fn concluded(
-    document: u32,
-    package_id: &Text,
-    expression: &Text,
-) -> Result<Plan, AllocError>
+fn concluded(document: u32, package_id: &Text, expression: &Text) -> Result<Plan, AllocError>
     ensures { IfOk result (λ plan. plan ≡ Plan.Make Done (Change.Concluded (conclusion_row document package_id.now expression.now))) }
 {
     Ok(done(Change::Concluded(ConclusionRow {
@@ -165,11 +161,7 @@ fn read_reference<T: Texts>(
 }
 
 /// The licence alone that a text spells.
-fn read_licence<T: Texts>(
-    alloc: Global,
-    texts: &T,
-    text: &Text,
-) -> Result<Option<Text>, AllocError>
+fn read_licence<T: Texts>(alloc: Global, texts: &T, text: &Text) -> Result<Option<Text>, AllocError>
     ensures { (w : Readings) → T.are_right w → IfOk result (λ found. found ≡ licence_alone w text.now) }
 {
     match texts.term(alloc, text.as_str())? {

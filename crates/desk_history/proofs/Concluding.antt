@@ -1,19 +1,17 @@
 -- Conclusions and adoptions: the last one counts, and none is recorded for a package that a choice is held for.
-use Rattle.std.proofs.Common.{◌≡◌, ℕ, ◌+◌, Bool, true, false, cond, List, [], ◌∷◌, ◌++◌, map, Option, Some, None, sym, refl, ap, ◌∙◌, subst, arith}
-use Rattle.std.specs.Prelude.{if◌then◌else◌, filter, find, not, ◌&&◌, ◌||◌, ◌==◌, nat_lt, is_some, is_none, IsTrue, unwrap_or}
-use Rattle.std.specs.List.{list_any, filter_map}
-use Rattle.std.specs.Option.{option_map, option_map_or, option_and_then}
+use Rattle.std.proofs.Common.{◌≡◌, ℕ, Bool, true, false, cond, List, [], ◌∷◌, Some, None, refl, ap, ◌∙◌, subst, arith}
+use Rattle.std.specs.Prelude.{if◌then◌else◌, filter, find, not, ◌&&◌, ◌||◌, ◌==◌}
+use Rattle.std.specs.List.{list_any}
+use Rattle.std.specs.Option.{option_map}
 use Rattle.std.specs.Str.{bytes_eq}
 use Rattle.std.proofs.lemmas.Bool.Decides.{nat_tests}
 use Rattle.std.proofs.lemmas.Cmp.{on_total, then_total, nat_list_cmp_total, nat_cmp_total}
 use Rattle.desk_rows.specs.Lists.{latest, or_else, put, replaced}
 use Rattle.desk_rows.specs.Readings.{Readings}
-use Rattle.desk_rows.specs.Keys.{below_by, conclusion_order, adoption_order, is_conclusion, is_adoption, is_choice_of}
-use Rattle.desk_rows.specs.Conclusions.{conclusions, conclusion_row, office_text, text_given, adoptions, adoption_row, licence_for, licence_given, holds, sooner, first_opened, holder}
+use Rattle.desk_rows.specs.Keys.{below_by, conclusion_order, adoption_order, is_conclusion, is_adoption}
+use Rattle.desk_rows.specs.Conclusions.{conclusions, conclusion_row, office_text, text_given, adoptions, adoption_row, licence_for, licence_given}
 use Rattle.desk_rows.specs.declared.row.AdoptionRow.{AdoptionRow}
-use Rattle.desk_rows.specs.declared.row.ChoiceRow.{ChoiceRow}
 use Rattle.desk_rows.specs.declared.row.ConclusionRow.{ConclusionRow}
-use Rattle.desk_rows.specs.declared.row.ReleaseRow.{ReleaseRow}
 use Rattle.desk_rows.specs.declared.command.Command.{Command}
 use Rattle.desk_rows.specs.declared.command.Command.TheVariants.{Conclude, Adopt}
 use Rattle.desk_history.proofs.Rows.{texts_equal, same_text}
@@ -32,8 +30,10 @@ found_put below test x (y ∷ ys) e none =
     or_none : (a b : Bool) → (a || b) ≡ false → (a ≡ false) × (b ≡ false)
     or_none true b e = cc
     or_none false b e = (refl, e)
+
     first : (test y || list_any test ys) ≡ false → test y ≡ false
     first n = (or_none (test y) (list_any test ys) n).0
+
     rest : (test y || list_any test ys) ≡ false → list_any test ys ≡ false
     rest n = (or_none (test y) (list_any test ys) n).1
 

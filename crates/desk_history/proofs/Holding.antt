@@ -1,17 +1,16 @@
 -- A conclusion is recorded only for a package that no release holds a choice for.
 use Rattle.std.proofs.Common.{◌≡◌, ℕ, Bool, true, false, cond, List, [], ◌∷◌, map, Option, Some, None, sym, refl, ap, ◌∙◌, subst, inl, inr}
 use Rattle.std.specs.Prelude.{if◌then◌else◌, filter, find, ◌||◌, nat_lt, is_some, IsTrue, unwrap_or}
-use Rattle.std.specs.List.{list_any, filter_map}
+use Rattle.std.specs.List.{list_any}
 use Rattle.std.specs.Option.{option_map, option_map_or}
 use Rattle.std.specs.Str.{bytes_eq}
 use Rattle.desk_rows.specs.Lists.{latest, or_else}
-use Rattle.desk_rows.specs.Texts.{text_below}
 use Rattle.desk_rows.specs.Readings.{Readings}
 use Rattle.desk_rows.specs.Keys.{is_choice_of, is_document, is_package, is_attachment, below_by, choice_order}
 use Rattle.desk_rows.specs.History.{documents, packages, attached, choice, form_of, state_of, names, is_package_of, profile_of, term_set, terms_given}
 use Rattle.desk_rows.specs.Conclusions.{conclusions, office_text, text_given, conclusion_by, holds, sooner, first_opened, holder}
 use Rattle.desk_rows.specs.Tables.{release_row, release_rows, standing, choices, choice_row}
-use Rattle.desk_rows.specs.Answers.{answer, conclusion, conclude_answer, choose_answer, choose_terms, first_bad, is_recorded, IsHistory, release_state, refused_or, unless}
+use Rattle.desk_rows.specs.Answers.{answer, conclusion, conclude_answer, choose_answer, first_bad, is_recorded, IsHistory, release_state, unless}
 use Rattle.desk_base.specs.declared.profile.Profile.TheVariants.{Capitals}
 use Rattle.desk_rows.specs.declared.reading.Conclusion.{Conclusion}
 use Rattle.desk_rows.specs.declared.refusal.ExpressionFault.{ExpressionFault}
@@ -46,6 +45,7 @@ held_row w h r d p t ts e =
   where
     rows : filter (is_choice_of r d p) (standing w h) ≡ map (choice_row r d p) (t ∷ ts)
     rows = standing-choice w h r d p ∙ ap (map (choice_row r d p)) e
+
     step : (b : Bool) → list_any (is_choice_of r d p) (standing w h) ≡ b → b ≡ true
     step true f = refl
     step false f = let none : filter (is_choice_of r d p) (standing w h) ≡ [] = not_any (is_choice_of r d p) (standing w h) f in

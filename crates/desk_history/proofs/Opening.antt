@@ -11,7 +11,7 @@ use Rattle.desk_rows.specs.Readings.{Readings}
 use Rattle.desk_rows.specs.Keys.{release_below}
 use Rattle.desk_rows.specs.Conclusions.{adoptions}
 use Rattle.desk_rows.specs.Raised.{shipped, chosen_in, raised, owed_at}
-use Rattle.desk_rows.specs.History.{in_force, rules_in, documents, attached, attached_to, opened, names, form_of, state_given, state_of, revision_of}
+use Rattle.desk_rows.specs.History.{in_force, rules_in, attached, attached_to, opened, names, form_of, state_given, state_of, revision_of}
 use Rattle.desk_rows.specs.Tables.{release_row}
 use Rattle.desk_rows.specs.Answers.{IsHistory, is_recorded, release_state, open_answer, freeze_answer, walk, conclusion, refused_or, unless, withdraw_answer}
 use Rattle.desk_rows.specs.declared.command.Answer.{Answer}

@@ -1,5 +1,5 @@
 -- What is seen of a store in memory: its rows, always; nothing outlives a stop.
-use Rattle.std.specs.Prelude.{◌≡◌, []}
+use Rattle.std.specs.Prelude.{◌≡◌}
 use Rattle.desk_rows.specs.Tables.{Tables}
 use Rattle.desk_access.specs.Seen.{Seen}
 use Rattle.desk_memory.specs.Ledgers.{all_of}

@@ -145,7 +145,10 @@ pub enum Answer {
     Again(u32),
     Done,
     /// The release was frozen, and its duties, so many, are numbered from the first on.
-    Frozen { first: u32, count: u32 },
+    Frozen {
+        first: u32,
+        count: u32,
+    },
     /// So many waivers ended.
     Closed(u64),
     Duties(Items<DutyLine>),

@@ -12,8 +12,7 @@ pub mod row;
 pub mod state;
 
 pub use command::{
-    Answer, Change, Command, DutyLine, Fault, Outcome, PackageLine, Plan, Query, StoreFault,
-    Totals,
+    Answer, Change, Command, DutyLine, Fault, Outcome, PackageLine, Plan, Query, StoreFault, Totals,
 };
 pub use finding::FindingRow;
 pub use reading::{Catalogue, Conclusion, Document, Package, Profile, Reference, Rule, Verdict};

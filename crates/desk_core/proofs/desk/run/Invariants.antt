@@ -1,4 +1,4 @@
-use Rattle.std.proofs.Common.{◌≡◌, ◌≤◌, List, length, vec_len}
+use Rattle.std.proofs.Common.{◌≡◌, ◌≤◌, length, vec_len}
 use Rattle.std.specs.Vec.{vec_capacity}
 use Rattle.desk_rows.specs.Faults.{MayAllBecome}
 use Rattle.desk_rows.specs.Tables.{tables}

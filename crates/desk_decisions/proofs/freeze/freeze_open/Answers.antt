@@ -1,6 +1,5 @@
 use Rattle.std.proofs.Common.{◌≡◌, ◌∙◌, sym, ap, subst, ℕ, List, length, false}
 use Rattle.std.specs.Prelude.{◌==◌}
-use Rattle.desk_rows.specs.Tables.{Tables}
 use Rattle.desk_rows.specs.History.{attached_to}
 use Rattle.desk_rows.specs.Raised.{shipped_of}
 use Rattle.desk_rows.specs.Answers.{freeze_fits}

@@ -1,4 +1,4 @@
-use Rattle.std.proofs.Common.{◌≡◌, ◌∙◌, ◌++◌, ◌∷◌, [], List, map, sym, ap}
+use Rattle.std.proofs.Common.{◌∙◌, ◌++◌, ◌∷◌, [], List, map, sym, ap}
 use Rattle.std.proofs.lemmas.List.{map-append}
 use Rattle.desk_rows.specs.Queries.{package_line}
 use Rattle.desk_rows.specs.declared.command.PackageLine.{PackageLine}

@@ -1,4 +1,4 @@
-use Rattle.std.proofs.Common.{◌≡◌, ◌∙◌, ℕ, ◌≤◌, ◌<◌, List, Some, None, true, false, length, sym, ap, subst, arith}
+use Rattle.std.proofs.Common.{◌≡◌, ◌∙◌, ℕ, ◌≤◌, ◌<◌, List, true, false, length, sym, ap, subst, arith}
 use Rattle.std.specs.List.{list_any}
 use Rattle.desk_rows.specs.Keys.{is_attachment}
 use Rattle.desk_rows.specs.History.{attached_to}

@@ -1,6 +1,5 @@
-use Rattle.std.proofs.Common.{◌≡◌, ◌∙◌, ◌-◌, ◌+◌, ◌∷◌, suc, ap, sym, List, subst, drop, add-one, ℕ}
+use Rattle.std.proofs.Common.{◌≡◌, ◌∙◌, ◌+◌, ◌∷◌, suc, ap, sym, List, subst, drop, add-one, ℕ}
 use Rattle.std.specs.Prelude.{slice_index_or}
-use Rattle.desk_rows.specs.declared.row.ChangeRow.{ChangeRow}
 use Rattle.desk_rows.specs.declared.state.DutyState.TheVariants.{IsOpen}
 use Rattle.desk_memory.specs.declared.ledger.Place.{Place}
 use Rattle.desk_memory.proofs.Pushing.{Remains, remains_none, remains_less, drop_get, drop_over}

@@ -1,7 +1,7 @@
 use Rattle.std.proofs.Common.{◌≡◌, List, map, drop}
 use Rattle.std.specs.Vec.{vec_len}
 use Rattle.desk_rows.specs.declared.row.ChangeRow.{ChangeRow}
-use Rattle.desk_memory.specs.Ledgers.{place_of, pushed, AreWithin}
+use Rattle.desk_memory.specs.Ledgers.{place_of, pushed}
 use Rattle.desk_memory.proofs.Pushing.{Remains}
 use Rattle.desk_memory.proofs.ledger.pop_all.Given as goal
 

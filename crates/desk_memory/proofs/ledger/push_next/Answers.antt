@@ -1,4 +1,4 @@
-use Rattle.std.proofs.Common.{◌≡◌, ◌∙◌, ◌+◌, ◌-◌, ◌<◌, ap, sym, refl, arith, length, List, ℕ}
+use Rattle.std.proofs.Common.{◌≡◌, ◌∙◌, ◌+◌, ◌-◌, ◌<◌, ap, sym, arith, length, List, ℕ}
 use Rattle.std.specs.Prelude.{filter}
 use Rattle.desk_rows.specs.Keys.{is_change_of}
 use Rattle.desk_rows.specs.declared.row.ChangeRow.{ChangeRow}

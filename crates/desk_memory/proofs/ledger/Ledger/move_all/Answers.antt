@@ -1,4 +1,4 @@
-use Rattle.std.proofs.Common.{◌≡◌, ◌∙◌, ap, sym, List, subst}
+use Rattle.std.proofs.Common.{◌∙◌, ap, sym, List, subst}
 use Rattle.std.specs.Prelude.{IfSome}
 use Rattle.desk_rows.specs.Tables.{moved_by}
 use Rattle.desk_rows.specs.declared.row.DutyRow.{DutyRow}
