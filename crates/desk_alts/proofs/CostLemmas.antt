@@ -100,7 +100,7 @@ least_kept cost sets at first old p is more so_far = (
 -- ---- a subset costs no more, and comes no later
 
 -- a subset lacks the head of the larger set, or has it as its own head
-head_cases : (x y : Term) (xs ys : List Term) → IsTermSet (x ∷ xs) → IsTermSet (y ∷ ys) → IsSubset (x ∷ xs) (y ∷ ys) → ((x ≡ y) × IsSubset xs ys) ⊎ IsSubset (x ∷ xs) ys
+pub head_cases : (x y : Term) (xs ys : List Term) → IsTermSet (x ∷ xs) → IsTermSet (y ∷ ys) → IsSubset (x ∷ xs) (y ∷ ys) → ((x ≡ y) × IsSubset xs ys) ⊎ IsSubset (x ∷ xs) ys
 head_cases x y xs ys up up' sub =
     elim (contains_cases y ys x (sub x (contains_here x xs x refl))) [
       | inl is ↦ inl (
