@@ -130,6 +130,13 @@ Requests, with an example of each and its reply:
     > {\"ask\":\"release\",\"release\":\"r1\"}
     < {\"rows\":[[\"r1\",\"binary\",\"frozen\",1],[1,\"SPDXRef-p\",\"p\",\"MIT\",[\"mit\"]]]}
 
+  list the sets of terms that a package's conclusion is true under, none of them too large
+    > {\"ask\":\"alternatives\",\"document\":1,\"package\":\"SPDXRef-p\"}
+    < {\"rows\":[[\"mit\"],[\"a\",\"b\"]]}
+  tell the set that owes the fewest duties in a form, with their number
+    > {\"ask\":\"cheapest\",\"document\":1,\"form\":\"binary\",\"package\":\"SPDXRef-p\"}
+    < {\"rows\":[[1,[\"a\",\"b\"]]]}
+
 What is refused changes nothing, and is told with its number, its name and where it is:
 
     < {\"at\":[\"mit\"],\"name\":\"NotMinimal\",\"refused\":18}";
