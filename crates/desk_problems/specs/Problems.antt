@@ -1,5 +1,5 @@
 -- The problems of a tree: all that is wrong in it, and what the rest of it lacks.
-use Rattle.std.specs.Prelude.{◌≡◌, ℕ, List, map, length, Err, ◌∷◌}
+use Rattle.std.specs.Prelude.{◌≡◌, ℕ, List, map, length, ◌∷◌}
 use Rattle.desk_gather.specs.declared.fault.GatherFault.{GatherFault}
 use Rattle.desk_gather.specs.declared.files.SourceFile.{SourceFile}
 use Rattle.desk_gather.specs.declared.flaw.Flaw.{Flaw}

@@ -18,13 +18,13 @@ use Rattle.desk_problems.specs.Rows.{kind_name, AreRows}
 abbrev pub shown_byte : ℕ → ℕ
 shown_byte b = if nat_lt b 32 || b == 127 then 63 else b
 
--- the place behind the path
-abbrev pub line_words : Option ℕ → List ℕ
-line_words None = codes ": "
-line_words (Some line) = codes ":" ++ (decimal line ++ codes ": ")
+-- the line and the words behind the path
+abbrev pub behind_path : Option ℕ → List ℕ → List ℕ
+behind_path None words = codes ": " ++ words
+behind_path (Some line) words = codes ":" ++ (decimal line ++ (codes ": " ++ words))
 
 abbrev pub row_line : Row → List ℕ
-row_line row = map shown_byte row.path ++ (line_words row.line ++ (row.message ++ codes "\n"))
+row_line row = map shown_byte row.path ++ behind_path row.line (row.message ++ codes "\n")
 
 abbrev pub summary : ℕ → ℕ → List ℕ
 summary problems covered = codes "problems: " ++ (decimal problems ++ (codes ", covered files: " ++ (decimal covered ++ codes "\n")))

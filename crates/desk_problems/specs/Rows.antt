@@ -28,6 +28,10 @@ kind_name kind.Missing = codes "Missing"
 kind_name kind.Unused = codes "Unused"
 kind_name kind.Bare = codes "Bare"
 
+-- a row of no line
+abbrev pub plain_row : Kind → List ℕ → List ℕ → Row
+plain_row k path message = record { kind = k; path = path; line = None; message = message }
+
 -- ---- flaws
 
 -- what is wrong with an annotation
@@ -51,12 +55,11 @@ expression_words stop = codes "the licence is no expression" ++ (stop_words stop
 
 -- the row of a flaw, where the text of a tag stops so
 abbrev pub flaw_row : Flaw → Option ParseFault → Row
-flaw_row TooManyFiles stop = record { kind = kind.TooManyFiles; path = codes "."; line = None; message = codes "more than 10,000 files: take away what isn't of the source" }
-flaw_row (BadPath path) stop = record { kind = kind.BadPath; path = path; line = None; message = codes "a name with a control byte or a blank at its end: give the file another" }
-flaw_row (TwicePath path) stop = record { kind = kind.TwicePath; path = path; line = None; message = codes "a path that stands twice: keep one of the files" }
-flaw_row (BadToml path) stop = record { kind = kind.BadToml; path = path; line = None; message = codes "no TOML document of version 1: mend it, with version = 1 at its top" }
-flaw_row (BadAnnotation path index fault) stop =
-    record { kind = kind.BadAnnotation; path = path; line = None; message = codes "annotation " ++ (decimal index ++ (codes ", counted from 0, has " ++ annotation_words fault)) }
+flaw_row TooManyFiles stop = plain_row kind.TooManyFiles (codes ".") (codes "more than 10,000 files: take away what isn't of the source")
+flaw_row (BadPath path) stop = plain_row kind.BadPath path (codes "a name with a control byte or a blank at its end: give the file another")
+flaw_row (TwicePath path) stop = plain_row kind.TwicePath path (codes "a path that stands twice: keep one of the files")
+flaw_row (BadToml path) stop = plain_row kind.BadToml path (codes "no TOML document of version 1: mend it, with version = 1 at its top")
+flaw_row (BadAnnotation path index fault) stop = plain_row kind.BadAnnotation path (codes "annotation " ++ (decimal index ++ (codes ", counted from 0, has " ++ annotation_words fault)))
 flaw_row (BadExpression path line text) stop = record { kind = kind.BadExpression; path = path; line = Some line; message = expression_words stop }
 
 -- how the text of a flaw stops, where it has one
@@ -77,15 +80,10 @@ AreFlawRows (flaw ∷ flaws) (row ∷ rows) = IsFlawRow flaw row × AreFlawRows 
 -- ---- lists
 
 abbrev pub missing_row : List ℕ → Row
-missing_row key = record {
-  kind = kind.Missing;
-  path = codes "LICENSES/";
-  line = None;
-  message = codes "no text of " ++ (key ++ (codes ", which is used: add it as LICENSES/" ++ (key ++ codes ".txt")));
-}
+missing_row key = plain_row kind.Missing (codes "LICENSES/") (codes "no text of " ++ (key ++ (codes ", which is used: add it as LICENSES/" ++ (key ++ codes ".txt"))))
 
 abbrev pub unused_row : List ℕ → Row
-unused_row path = record { kind = kind.Unused; path = path; line = None; message = codes "no file uses this text: take it away, or state its licence where it is used" }
+unused_row path = plain_row kind.Unused path (codes "no file uses this text: take it away, or state its licence where it is used")
 
 abbrev pub lacking_words : Lacking → List ℕ
 lacking_words Notice = codes "no copyright notice: state one in the file, beside it in FILE.license, or in REUSE.toml"
@@ -93,7 +91,7 @@ lacking_words Licence = codes "no licence: state one in the file, beside it in F
 lacking_words Both = codes "no copyright notice and no licence: state them in the file, beside it in FILE.license, or in REUSE.toml"
 
 abbrev pub bare_row : Bare → Row
-bare_row bare = record { kind = kind.Bare; path = bare.path; line = None; message = lacking_words bare.lacking }
+bare_row bare = plain_row kind.Bare bare.path (lacking_words bare.lacking)
 
 -- ---- the whole
 

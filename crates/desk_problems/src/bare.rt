@@ -34,13 +34,17 @@ fn is_none(texts: &[Text]) -> bool
     texts.is_empty()
 }
 
-fn lacking(no_notice: bool, no_licence: bool) -> Lacking
+fn what_lacks(no_notice: bool, no_licence: bool) -> Lacking
     ensures { result ≡ lacking no_notice no_licence }
 {
     if !no_notice {
         return Lacking::Licence;
     }
-    if no_licence { Lacking::Both } else { Lacking::Notice }
+    if no_licence {
+        Lacking::Both
+    } else {
+        Lacking::Notice
+    }
 }
 
 // What is told of a file.
@@ -51,7 +55,7 @@ fn bare_file(info: &FileInfo) -> Result<Bare, AllocError>
     let no_licence = is_none(info.licences.as_slice());
     Ok(Bare {
         path: info.path.clone()?,
-        lacking: lacking(no_notice, no_licence),
+        lacking: what_lacks(no_notice, no_licence),
     })
 }
 

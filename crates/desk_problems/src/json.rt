@@ -17,7 +17,8 @@ fn row_value(alloc: Global, row: &Row) -> Result<Value, AllocError>
     let message = row.message.as_str();
     let path = row.path.as_str();
     match row.line {
-        Some(line) => json!(in alloc; {"kind": kind, "line": line, "message": message, "path": path}),
+        Some(line) =>
+            json!(in alloc; {"kind": kind, "line": line, "message": message, "path": path}),
         None => json!(in alloc; {"kind": kind, "line": null, "message": message, "path": path}),
     }
 }

@@ -3,7 +3,7 @@
 ghost use Rattle.std.specs.Prelude.{◌≡◌, ◌++◌, IfOk, OnOk, map, length, codes};
 ghost use Rattle.std.specs.List.{flat_map};
 ghost use Rattle.std.specs.String.{string_bytes};
-ghost use Rattle.desk_problems.specs.Reports.{shown_byte, line_words, row_line, summary, lines_text};
+ghost use Rattle.desk_problems.specs.Reports.{shown_byte, behind_path, row_line, summary, lines_text};
 
 use crate::row::Row;
 use std::alloc::{AllocError, Global};
@@ -26,11 +26,10 @@ fn add_path(text: &mut Vec<u8>, path: &[u8]) -> Result<(), AllocError>
 }
 
 // What stands behind the path.
-fn behind_path(alloc: Global, row: &Row) -> Result<String, AllocError>
-    ensures { IfOk result (λ words. string_bytes words ≡ line_words row.now.line ++ (row.now.message ++ codes "\n")) }
+fn behind_path(alloc: Global, line: Option<u64>, message: &str) -> Result<String, AllocError>
+    ensures { IfOk result (λ words. string_bytes words ≡ behind_path line (message.now ++ codes "\n")) }
 {
-    let message = row.message.as_str();
-    match row.line {
+    match line {
         Some(line) => format!(in alloc; ":{line}: {message}\n"),
         None => format!(in alloc; ": {message}\n"),
     }
@@ -40,7 +39,7 @@ fn behind_path(alloc: Global, row: &Row) -> Result<String, AllocError>
 fn add_line(alloc: Global, text: &mut Vec<u8>, row: &Row) -> Result<(), AllocError>
     ensures { OnOk result (text.new.items ≡ text.old.items ++ row_line row.now) }
 {
-    let words = behind_path(alloc, row)?;
+    let words = behind_path(alloc, row.line, row.message.as_str())?;
     add_path(text, row.path.as_str().as_bytes())?;
     text.extend_from_slice(words.as_bytes())
 }

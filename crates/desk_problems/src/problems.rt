@@ -29,6 +29,25 @@ pub struct Problems {
     pub covered: usize,
 }
 
+// What is wrong in a tree, and the lists of what can be read past that.
+fn surveyed(alloc: Global, files: &[SourceFile]) -> Result<Problems, AllocError>
+    ensures { (r : Reader) → IsRightReader r → IfOk result (AreProblems r files.now) }
+{
+    let Surveyed { tree, flaws, infos } = survey(alloc, files)?;
+    let Lint {
+        missing,
+        unused,
+        ..
+    } = lists_of(alloc, &tree, infos.as_slice())?;
+    Ok(Problems {
+        flaws,
+        missing,
+        unused,
+        bare: bare_files(alloc, infos.as_slice())?,
+        covered: infos.len(),
+    })
+}
+
 /// All problems of a tree (REUSE Specification 3.3). The lists are those of what can be read past the flaws: annotations that can't
 /// be read give nothing, and a tag that is no expression is a licence that uses nothing. The only error is want of memory.
 ///
@@ -39,13 +58,5 @@ pub fn problems_of(alloc: Global, files: &[SourceFile]) -> Result<Problems, Allo
     ensures lint { (r : Reader) → IsRightReader r → IfOk result (λ p. (l : Lint) → IsLint r files.now l → (p.flaws ≡ []) × (lists_in p ≡ l)) }
     ensures first { (r : Reader) → IsRightReader r → IfOk result (λ p. (fault : GatherFault) → gathered r files.now ≡ Err fault → BeginsWith p.flaws fault) }
 {
-    let Surveyed { tree, flaws, infos } = survey(alloc, files)?;
-    let Lint { missing, unused, .. } = lists_of(alloc, &tree, infos.as_slice())?;
-    Ok(Problems {
-        flaws,
-        missing,
-        unused,
-        bare: bare_files(alloc, infos.as_slice())?,
-        covered: infos.len(),
-    })
+    surveyed(alloc, files)
 }

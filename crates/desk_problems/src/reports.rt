@@ -22,12 +22,7 @@ pub struct Report {
 }
 
 // The rows as a text.
-fn text_of(
-    alloc: Global,
-    json: bool,
-    rows: &[Row],
-    covered: usize,
-) -> Result<Vec<u8>, AllocError>
+fn text_of(alloc: Global, json: bool, rows: &[Row], covered: usize) -> Result<Vec<u8>, AllocError>
     ensures { IfOk result (λ text. text.items ≡ text_of json rows.now covered) }
 {
     if json {

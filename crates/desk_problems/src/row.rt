@@ -1,7 +1,7 @@
 //! What is told of a problem.
 
 ghost use Rattle.std.specs.Prelude.{◌≡◌, IfOk};
-ghost use Rattle.desk_problems.specs.Rows.{kind_name};
+ghost use Rattle.desk_problems.specs.Rows.{kind_name, plain_row};
 
 use desk_base::Text;
 use std::alloc::{AllocError, Global};
@@ -62,8 +62,13 @@ pub struct Row {
 }
 
 /// A row of no line.
-pub(crate) fn row(alloc: Global, kind: Kind, path: &str, message: &str) -> Result<Row, AllocError>
-    ensures kind { IfOk result (λ row. row ≡ record { kind = kind; path = path.now; line = Option.None; message = message.now }) }
+pub(crate) fn row_of(
+    alloc: Global,
+    kind: Kind,
+    path: &str,
+    message: &str,
+) -> Result<Row, AllocError>
+    ensures { IfOk result (λ row. row ≡ plain_row kind path.now message.now) }
 {
     Ok(Row {
         kind,

@@ -1,13 +1,14 @@
 //! What is told of each problem.
 
-ghost use Rattle.std.specs.Prelude.{◌≡◌, ◌++◌, ◌<◌, IfOk, OnOk, map, codes};
+ghost use Rattle.std.specs.Prelude.{◌≡◌, ◌++◌, ◌<◌, None, IfOk, OnOk, map, codes};
 ghost use Rattle.std.specs.String.{string_bytes};
 ghost use Rattle.desk_expr.specs.Faults.{fault_number};
-ghost use Rattle.desk_problems.specs.Rows.{annotation_words, StopsAt, expression_words, stop_words, IsFlawRow, AreFlawRows, missing_row, unused_row, lacking_words, bare_row, list_rows, AreRows};
+ghost use Rattle.desk_gather.specs.declared.flaw.Flaw.TheVariants.{BadAnnotation, BadExpression};
+ghost use Rattle.desk_problems.specs.Rows.{flaw_row, annotation_words, StopsAt, expression_words, stop_words, IsFlawRow, AreFlawRows, missing_row, unused_row, lacking_words, bare_row, list_rows, AreRows};
 
 use crate::bare::{Bare, Lacking};
 use crate::problems::Problems;
-use crate::row::{Kind, Row, row};
+use crate::row::{Kind, Row, row_of};
 use desk_annotations::AnnotationFault;
 use desk_base::{Items, Text};
 use desk_expr::{ParseFault, parse};
@@ -21,7 +22,8 @@ fn annotation_words(fault: AnnotationFault) -> &'static str
     match fault {
         AnnotationFault::NoPath => "no path: give it the paths of its files",
         AnnotationFault::BadKind => "a value of another kind: write a text or a list of texts",
-        AnnotationFault::BadPrecedence => "an unknown precedence: write closest, aggregate or override",
+        AnnotationFault::BadPrecedence =>
+            "an unknown precedence: write closest, aggregate or override",
         AnnotationFault::BadExpression => {
             "a licence that is no expression: write one as in SPDX 2.3, Annex D"
         }
@@ -35,11 +37,11 @@ fn annotation_row(
     index: usize,
     fault: AnnotationFault,
 ) -> Result<Row, AllocError>
-    ensures { IfOk result (λ row. row ≡ flaw_row (Flaw.BadAnnotation path.now index fault) Option.None) }
+    ensures { IfOk result (λ row. row ≡ flaw_row (BadAnnotation path.now index fault) None) }
 {
     let words = annotation_words(fault);
     let message = format!(in alloc; "annotation {index}, counted from 0, has {words}")?;
-    row(alloc, Kind::BadAnnotation, path, message.as_str())
+    row_of(alloc, Kind::BadAnnotation, path, message.as_str())
 }
 
 // The fault of a text, unless it is want of memory.
@@ -70,7 +72,9 @@ fn expression_words(alloc: Global, stop: Option<ParseFault>) -> Result<String, A
         Some(fault) => {
             let name = fault.name();
             let place = fault.place();
-            format!(in alloc; "the licence is no expression, {name} at {place}: mend it, or have the line ignored")
+            format!(in alloc;
+                "the licence is no expression, {name} at {place}: mend it, or have the line ignored"
+            )
         }
         None => String::from_str(
             alloc,
@@ -80,13 +84,8 @@ fn expression_words(alloc: Global, stop: Option<ParseFault>) -> Result<String, A
 }
 
 // The row of a tag that is no licence expression.
-fn expression_row(
-    alloc: Global,
-    path: &str,
-    line: u64,
-    text: &str,
-) -> Result<Row, AllocError>
-    ensures { IfOk result (IsFlawRow (Flaw.BadExpression path.now line text.now)) }
+fn expression_row(alloc: Global, path: &str, line: u64, text: &str) -> Result<Row, AllocError>
+    ensures { IfOk result (IsFlawRow (BadExpression path.now line text.now)) }
 {
     let stop = stop_of(alloc, text)?;
     let message = expression_words(alloc, stop)?;
@@ -103,25 +102,25 @@ fn flaw_row(alloc: Global, flaw: &Flaw) -> Result<Row, AllocError>
     ensures { IfOk result (IsFlawRow flaw.now) }
 {
     match flaw {
-        Flaw::TooManyFiles => row(
+        Flaw::TooManyFiles => row_of(
             alloc,
             Kind::TooManyFiles,
             ".",
             "more than 10,000 files: take away what isn't of the source",
         ),
-        Flaw::BadPath(path) => row(
+        Flaw::BadPath(path) => row_of(
             alloc,
             Kind::BadPath,
             path.as_str(),
             "a name with a control byte or a blank at its end: give the file another",
         ),
-        Flaw::TwicePath(path) => row(
+        Flaw::TwicePath(path) => row_of(
             alloc,
             Kind::TwicePath,
             path.as_str(),
             "a path that stands twice: keep one of the files",
         ),
-        Flaw::BadToml(path) => row(
+        Flaw::BadToml(path) => row_of(
             alloc,
             Kind::BadToml,
             path.as_str(),
@@ -151,8 +150,10 @@ fn flaw_rows(alloc: Global, flaws: &[Flaw]) -> Result<Vec<Row>, AllocError>
 fn missing_row(alloc: Global, key: &str) -> Result<Row, AllocError>
     ensures { IfOk result (λ row. row ≡ missing_row key.now) }
 {
-    let message = format!(in alloc; "no text of {key}, which is used: add it as LICENSES/{key}.txt")?;
-    row(alloc, Kind::Missing, "LICENSES/", message.as_str())
+    let message = format!(in alloc;
+        "no text of {key}, which is used: add it as LICENSES/{key}.txt"
+    )?;
+    row_of(alloc, Kind::Missing, "LICENSES/", message.as_str())
 }
 
 fn add_missing(alloc: Global, rows: &mut Vec<Row>, keys: &[Text]) -> Result<(), AllocError>
@@ -168,7 +169,7 @@ fn add_missing(alloc: Global, rows: &mut Vec<Row>, keys: &[Text]) -> Result<(), 
 fn unused_row(alloc: Global, path: &str) -> Result<Row, AllocError>
     ensures { IfOk result (λ row. row ≡ unused_row path.now) }
 {
-    row(
+    row_of(
         alloc,
         Kind::Unused,
         path,
@@ -205,7 +206,7 @@ fn lacking_words(lacking: Lacking) -> &'static str
 fn bare_row(alloc: Global, bare: &Bare) -> Result<Row, AllocError>
     ensures { IfOk result (λ row. row ≡ bare_row bare.now) }
 {
-    row(
+    row_of(
         alloc,
         Kind::Bare,
         bare.path.as_str(),
