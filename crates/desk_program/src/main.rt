@@ -8,6 +8,7 @@
 mod commands;
 mod failure;
 mod gathering;
+mod linting;
 mod listing;
 mod report;
 
@@ -116,6 +117,10 @@ fn answer<R: Files + Print + Input + AllocGlobal + Clone + Drop>(
                 created.as_str(),
                 &mut io::writer(rt),
             )
+        }
+        Call::Lint { folder, json } => {
+            let files = files_of(rt, folder.as_str())?;
+            commands::lint(alloc, files.as_slice(), *json, &mut io::writer(rt))
         }
     }
 }

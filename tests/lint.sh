@@ -1,0 +1,28 @@
+#!/bin/sh
+# Has a built program tell what a checkout of this tree lacks to be REUSE-compliant: nothing is wanted.
+#
+#   tests/lint.sh PROGRAM
+#
+# The files are those that git knows, in a folder of their own, so that what was built or kept doesn't count. Where there is no git,
+# as in an unpacked archive, the tree is taken as it is, without what is built.
+set -eu
+
+here=$(unset CDPATH; cd -- "$(dirname -- "$0")/.." && pwd)
+case ${1:?the program to run} in
+    /*) program=$1 ;;
+    *) program=$(pwd)/$1 ;;
+esac
+
+scratch=$(mktemp -d)
+trap 'rm -rf "$scratch"' EXIT
+trap 'exit 1' HUP INT TERM
+
+cd "$here"
+if git ls-files >"$scratch/list" 2>/dev/null && [ -s "$scratch/list" ]; then
+    git ls-files -z >"$scratch/names"
+else
+    find . -type d \( -name out -o -name build -o -name .git \) -prune -o -type f -print0 >"$scratch/names"
+fi
+mkdir "$scratch/tree"
+tar -c --null -T "$scratch/names" -f - | tar -x -C "$scratch/tree" -f -
+"$program" lint "$scratch/tree"
