@@ -1,5 +1,5 @@
 -- A right reader.
-use Rattle.std.proofs.Common.{◌⊎◌, inl, inr, ℕ, Bool, true, false, List}
+use Rattle.std.proofs.Common.{◌⊎◌, inl, inr, ℕ, Bool, true, false, List, refl}
 use Rattle.std.specs.Bool.{Decides}
 use Rattle.desk_base.specs.declared.profile.Profile.TheVariants.{Capitals}
 use Rattle.desk_expr.specs.Tree.{Tree}
