@@ -30,7 +30,10 @@ pub enum Call {
         created: Text,
     },
     /// The problems of the tree of files in a folder, as one JSON object or as lines.
-    Lint { folder: Text, json: bool },
+    Lint {
+        folder: Text,
+        json: bool,
+    },
 }
 
 /// Why a command line gave no call.

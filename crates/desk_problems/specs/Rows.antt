@@ -56,7 +56,7 @@ expression_words stop = codes "the licence is no expression" ++ (stop_words stop
 -- the row of a flaw, where the text of a tag stops so
 abbrev pub flaw_row : Flaw → Option ParseFault → Row
 flaw_row TooManyFiles stop = plain_row kind.TooManyFiles (codes ".") (codes "more than 10,000 files: take away what isn't of the source")
-flaw_row (BadPath path) stop = plain_row kind.BadPath path (codes "a name with a control byte or a blank at its end: give the file another")
+flaw_row (BadPath path) stop = plain_row kind.BadPath path (codes "a path with a control byte, a blank at its end, or an empty part, . or ..: give the file another")
 flaw_row (TwicePath path) stop = plain_row kind.TwicePath path (codes "a path that stands twice: keep one of the files")
 flaw_row (BadToml path) stop = plain_row kind.BadToml path (codes "no TOML document of version 1: mend it, with version = 1 at its top")
 flaw_row (BadAnnotation path index fault) stop = plain_row kind.BadAnnotation path (codes "annotation " ++ (decimal index ++ (codes ", counted from 0, has " ++ annotation_words fault)))

@@ -112,7 +112,7 @@ fn flaw_row(alloc: Global, flaw: &Flaw) -> Result<Row, AllocError>
             alloc,
             Kind::BadPath,
             path.as_str(),
-            "a name with a control byte or a blank at its end: give the file another",
+            "a path with a control byte, a blank at its end, or an empty part, . or ..: give the file another",
         ),
         Flaw::TwicePath(path) => row_of(
             alloc,
