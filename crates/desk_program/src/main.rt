@@ -18,7 +18,7 @@ use desk_line::{Call, LineFault, line};
 use desk_texts::Standard;
 use desk_trees::files_of;
 use std::alloc::{AllocError, Global};
-use std::io::BufWriter;
+use std::io::{BufWriter, IsTerminal};
 use std::mem::ManuallyDrop;
 use std::process::ExitCode;
 use std::rt::{Env, Files};
@@ -29,9 +29,10 @@ const USAGE: u8 = 2;
 /// The bytes of a block larger than any that one request takes.
 const LARGE_BYTES: usize = 16_777_216;
 
-/// Does what the words ask for, and answers the status.
+/// Does what the words ask for, and answers the status. What takes long is told on standard error where that is watched.
 fn run<R: Env + Files + Print + Input + Eprint + AllocGlobal + Clone + Drop>(
     rt: &R,
+    is_watched: bool,
 ) -> Result<u8, Failure> {
     let alloc = rt.alloc();
     let owned = match env::args(rt) {
@@ -40,7 +41,7 @@ fn run<R: Env + Files + Print + Input + Eprint + AllocGlobal + Clone + Drop>(
     };
     let words: Vec<&str> = owned.iter().map(|word| word.as_str()).collect(alloc)?;
     match line(alloc, words.as_slice()) {
-        Ok(call) => answer(rt, alloc, &call),
+        Ok(call) => answer(rt, alloc, &call, is_watched),
         Err(LineFault::Memory(error)) => Err(Failure::from(error)),
         Err(LineFault::Usage(error)) => {
             error.print(rt)?;
@@ -70,10 +71,11 @@ fn keep_large_blocks(alloc: Global) {
     }
 }
 
-fn answer<R: Files + Print + Input + AllocGlobal + Clone + Drop>(
+fn answer<R: Files + Print + Input + Eprint + AllocGlobal + Clone + Drop>(
     rt: &R,
     alloc: Global,
     call: &Call,
+    is_watched: bool,
 ) -> Result<u8, Failure> {
     match call {
         Call::Check {
@@ -108,7 +110,7 @@ fn answer<R: Files + Print + Input + AllocGlobal + Clone + Drop>(
             namespace,
             created,
         } => {
-            let files = files_of(rt, folder.as_str())?;
+            let files = files_of(rt, folder.as_str(), is_watched)?;
             commands::gather(
                 alloc,
                 files.as_slice(),
@@ -119,14 +121,15 @@ fn answer<R: Files + Print + Input + AllocGlobal + Clone + Drop>(
             )
         }
         Call::Lint { folder, json } => {
-            let files = files_of(rt, folder.as_str())?;
+            let files = files_of(rt, folder.as_str(), is_watched)?;
             commands::lint(alloc, files.as_slice(), *json, &mut io::writer(rt))
         }
     }
 }
 
 fn main(rt: HostRuntime) -> ExitCode {
-    match run(&rt) {
+    let is_watched = rt.stderr().is_terminal();
+    match run(&rt, is_watched) {
         Ok(status) => ExitCode::from(status),
         Err(failure) => {
             // Where standard error fails too, there is nobody left to tell.
