@@ -1,5 +1,6 @@
 #!/bin/sh
-# Has a built program tell what a checkout of this tree lacks to be REUSE-compliant: nothing is wanted.
+# Has a built program tell what a checkout of this tree lacks to be REUSE-compliant: nothing is wanted. Then its document is written and
+# imported, and has no findings.
 #
 #   tests/lint.sh PROGRAM
 #
@@ -26,3 +27,14 @@ fi
 mkdir "$scratch/tree"
 tar -c --null -T "$scratch/names" -f - | tar -x -C "$scratch/tree" -f -
 "$program" lint "$scratch/tree"
+"$program" gather "$scratch/tree" --name desk --namespace https://example.org/desk --created 2026-01-01T00:00:00Z >"$scratch/document"
+python3 - "$scratch/document" <<'END' >"$scratch/requests"
+import json, sys
+
+text = open(sys.argv[1], encoding="utf-8", newline="").read()
+for request in {"do": "import", "text": text}, {"ask": "findings", "document": 1}:
+    print(json.dumps(request))
+END
+"$program" script <"$scratch/requests" >"$scratch/replies"
+printf '{"document":1,"new":true}\n{"rows":[]}\n' | cmp - "$scratch/replies"
+echo 'Its document is imported and has no findings.'
