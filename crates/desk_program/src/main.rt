@@ -13,6 +13,7 @@ mod listing;
 mod report;
 
 use crate::failure::Failure;
+use desk_base::{Profile, Text};
 use desk_core::desk::MemDesk;
 use desk_line::{Call, LineFault, line};
 use desk_texts::Standard;
@@ -71,6 +72,36 @@ fn keep_large_blocks(alloc: Global) {
     }
 }
 
+/// Judges a choice of terms.
+fn check<R: Print>(
+    rt: &R,
+    alloc: Global,
+    expression: &str,
+    profile: Profile,
+    terms: &[Text],
+) -> Result<u8, Failure> {
+    let words: Vec<&str> = terms.iter().map(|term| term.as_str()).collect(alloc)?;
+    commands::check(
+        alloc,
+        expression,
+        profile,
+        words.as_slice(),
+        &mut io::writer(rt),
+    )
+}
+
+/// Replies to the requests of standard input.
+fn script<R: Print + Input + AllocGlobal + Clone + Drop>(
+    rt: &R,
+    alloc: Global,
+) -> Result<u8, Failure> {
+    keep_large_blocks(alloc);
+    // The process ends with the script, so the desk is left to the system and not freed row by row.
+    let mut desk = ManuallyDrop::new(MemDesk::new(alloc, Standard));
+    let mut writer = BufWriter::new(alloc, io::writer(rt))?;
+    commands::script(alloc, &mut *desk, &mut rt.reader(), &mut writer)
+}
+
 fn answer<R: Files + Print + Input + Eprint + AllocGlobal + Clone + Drop>(
     rt: &R,
     alloc: Global,
@@ -82,28 +113,12 @@ fn answer<R: Files + Print + Input + Eprint + AllocGlobal + Clone + Drop>(
             expression,
             profile,
             terms,
-        } => {
-            let terms = terms.as_slice().iter();
-            let words: Vec<&str> = terms.map(|term| term.as_str()).collect(alloc)?;
-            commands::check(
-                alloc,
-                expression.as_str(),
-                *profile,
-                words.as_slice(),
-                &mut io::writer(rt),
-            )
-        }
+        } => check(rt, alloc, expression.as_str(), *profile, terms.as_slice()),
         Call::Alternatives {
             expression,
             profile,
         } => commands::alternatives(alloc, expression.as_str(), *profile, &mut io::writer(rt)),
-        Call::Script => {
-            keep_large_blocks(alloc);
-            // The process ends with the script, so the desk is left to the system and not freed row by row.
-            let mut desk = ManuallyDrop::new(MemDesk::new(alloc, Standard));
-            let mut writer = BufWriter::new(alloc, io::writer(rt))?;
-            commands::script(alloc, &mut *desk, &mut rt.reader(), &mut writer)
-        }
+        Call::Script => script(rt, alloc),
         Call::Gather {
             folder,
             name,
