@@ -1,0 +1,2 @@
+//! The desk's tables in a SQL database: how they are declared, and what it means that a database holds them.
+#![tactic(auto)]
