@@ -1,5 +1,5 @@
 -- When a database holds the desk's tables, and what is seen of a connection to it.
-use Rattle.std.specs.Prelude.{◌≡◌, ◌==◌, ◌+◌, ◌&&◌, ◌||◌, nat_lt, nat_le, ℕ, Bool, true, if◌then◌else◌, List, [], ◌∷◌, ◌++◌, filter, map, length, IsTrue}
+use Rattle.std.specs.Prelude.{◌≡◌, ◌==◌, ◌+◌, ◌&&◌, ◌||◌, nat_lt, nat_le, ℕ, Bool, true, if◌then◌else◌, List, [], ◌∷◌, filter, map, length, IsTrue}
 use Rattle.std.specs.List.{list_all}
 use Rattle.sqlite_value.specs.Order.{Row}
 use Rattle.sqlite_trees.specs.Tree.{Trees}
@@ -12,7 +12,7 @@ use Rattle.desk_rows.specs.declared.command.Change.{Change}
 use Rattle.desk_rows.specs.declared.command.Change.TheVariants as change
 use Rattle.desk_history.specs.Laws.{Ascends, AreSorted}
 use Rattle.desk_access.specs.Seen.{Seen}
-use Rattle.desk_layout.specs.Layout.{desk_schema, meta_table, catalogue_table, rule_table, document_table, package_table, extracted_table, conclusion_table, adoption_table, releases_table, attached_table, choice_table, frozen_table, duty_table, change_table, reading_table, waiver_table}
+use Rattle.desk_layout.specs.Layout.{desk_schema, meta_table, catalogue_table, rule_table, document_table, package_table, extracted_table, conclusion_table, adoption_table, releases_table, attached_table, choice_table, frozen_table, duty_table, change_table, reading_table}
 use Rattle.desk_layout.specs.Stored.{AllStored}
 use Rattle.desk_layout.specs.Cells.{meta_cells, catalogue_cells, rule_cells, document_cells, reading_cells, package_cells, extracted_cells, conclusion_cells, adoption_cells, release_cells, attached_cells, choice_cells, frozen_cells, duty_cells, change_cells, is_waiver, waiver_cells, is_word}
 

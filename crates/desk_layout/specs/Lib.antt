@@ -2,3 +2,4 @@ pub mod Layout
 pub mod Stored
 pub mod Cells
 pub mod Held
+pub mod Faults
