@@ -1,0 +1,40 @@
+-- What a statement does inside a transaction, and one after another.
+use Rattle.std.proofs.Common.{◌⊎◌, inl, inr, List, ℕ, IsTrue, Ok, Err, Result, ◌∙◌, arith}
+use Rattle.sqlite_value.specs.Order.{Row}
+use Rattle.sqlite.specs.declared.error.Error.{Error}
+use Rattle.sqlite.specs.State.{State, HasCleanDisk, Survives, ExecutesInside, Executes, IsUnchanged, IsRolledBack, KeepsCommit}
+use Rattle.sqlite_trees.specs.Tree.{Trees}
+use Rattle.desk_rows.specs.declared.command.Fault.{Fault}
+use Rattle.desk_layout.specs.Held.{HasRows}
+use Rattle.desk_writing.specs.Written.{Wrote, Writes, Ran}
+
+moved : (old new : State) → IsUnchanged old new ⊎ IsRolledBack old new → KeepsCommit old new
+moved old new (inl same) = record { was_open = λ is. same.0.was_open; committed = λ is. same.0.committed_is }
+moved old new (inr back) = record { was_open = back.was_open; committed = λ is. (back.undone is).1 }
+
+pub lost : (sql : List ℕ) (params : Row) (old new : State) (e : Error) → ExecutesInside 0 sql params old new (Err e) → KeepsCommit old new
+lost sql params old new e (inl h) = moved old new h.1
+lost sql params old new e (inr h) = moved old new (inl h.2)
+
+-- what was run has made this
+pub wrote_by : {A : Type 0} (rows : A → ℕ → List Row) (made : A → A) (sql : List ℕ) (params : Row) (old new : State) (r : Result (Unit {0}) Fault) → Ran sql params old new r
+    → ((count : ℕ) (a : A) → Executes sql params old new (Ok count) → HasRows (rows a) old.now → HasRows (rows (made a)) new.now) → Writes rows made old new r
+wrote_by rows made sql params old new (Ok done) ran changed = λ clean inside.
+    let it = ran clean inside in
+    record { inside = it.1.1.mode; was_open = it.1.1.was_open; is_open = it.1.1.is_open; committed = it.1.1.committed_is; change = λ a has. changed it.0 a it.1.0 has }
+wrote_by rows made sql params old new (Err fault) ran changed = ran
+
+pub clean_before : (a b : State) (P : Trees → Type 0) → Survives a b P → HasCleanDisk b → HasCleanDisk a
+clean_before a b P s clean = omega (arith, s.clean)
+
+-- one, and then another
+pub wrote_then : {A : Type 0} (rows : A → ℕ → List Row) (one two : A → A) (a b c : State) (r : Result (Unit {0}) Fault) → (HasCleanDisk b → IsTrue a.in_transaction → Wrote rows one a b) → Survives b c (λ _. ⊥)
+    → Writes rows two b c r → Writes rows (λ x. two (one x)) a c r
+wrote_then rows one two a b c (Ok done) first survives next = λ clean inside.
+    let v = first (clean_before b c _ survives clean) inside in
+    let w = next clean v.inside in
+    record { inside = w.inside; was_open = v.was_open; is_open = w.is_open; committed = w.committed ∙ v.committed; change = λ x has. w.change (one x) (v.change x has) }
+wrote_then rows one two a b c (Err fault) first survives next = λ clean inside.
+    let v = first (clean_before b c _ survives clean) inside in
+    let w = next clean v.inside in
+    record { was_open = λ is. v.was_open; committed = λ is. w.committed is ∙ v.committed }

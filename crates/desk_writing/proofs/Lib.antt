@@ -1,0 +1,4 @@
+mod Inside
+mod Inserts
+mod Deletes
+mod Updates

@@ -1,0 +1,9 @@
+//! What is written to the desk's tables in a SQL database.
+#![tactic(auto)]
+
+mod catalogue;
+mod document;
+mod duty;
+mod office;
+mod release;
+mod statement;
