@@ -2,3 +2,4 @@ mod Inside
 mod Inserts
 mod Deletes
 mod Updates
+mod Lists

@@ -115,3 +115,18 @@ pub(crate) fn set_duty<S: Alter>(
         &[number(duty), duty_state(to)],
     )
 }
+
+/// Adds duties.
+pub(crate) fn add_duties<S: Alter>(
+    tx: &mut Transaction<'_, S>,
+    rows: &[DutyRow],
+) -> Result<(), Fault>
+    ensures same_reference { tx.new.conn.ghost_name ≡ tx.old.conn.ghost_name }
+    ensures wrote { Writes cells_of (with_tables (λ t. record t { duty = t.duty ++ rows.now })) (state S.Store tx.old.conn.now) (state S.Store tx.new.conn.now) result }
+    ensures survives { Survives (state S.Store tx.old.conn.now) (state S.Store tx.new.conn.now) (λ _. ⊥) }
+{
+    for row in rows {
+        add_duty(tx, row)?;
+    }
+    Ok(())
+}

@@ -166,3 +166,33 @@ pub(crate) fn drop_choices_in<S: Alter>(
         &[text(release)],
     )
 }
+
+/// Adds terms that are chosen.
+pub(crate) fn add_choices<S: Alter>(
+    tx: &mut Transaction<'_, S>,
+    rows: &[ChoiceRow],
+) -> Result<(), Fault>
+    ensures same_reference { tx.new.conn.ghost_name ≡ tx.old.conn.ghost_name }
+    ensures wrote { Writes cells_of (with_tables (λ t. record t { choice = t.choice ++ rows.now })) (state S.Store tx.old.conn.now) (state S.Store tx.new.conn.now) result }
+    ensures survives { Survives (state S.Store tx.old.conn.now) (state S.Store tx.new.conn.now) (λ _. ⊥) }
+{
+    for row in rows {
+        add_choice(tx, row)?;
+    }
+    Ok(())
+}
+
+/// Adds terms that a release is frozen with.
+pub(crate) fn add_frozen_terms<S: Alter>(
+    tx: &mut Transaction<'_, S>,
+    rows: &[FrozenRow],
+) -> Result<(), Fault>
+    ensures same_reference { tx.new.conn.ghost_name ≡ tx.old.conn.ghost_name }
+    ensures wrote { Writes cells_of (with_tables (λ t. record t { frozen = t.frozen ++ rows.now })) (state S.Store tx.old.conn.now) (state S.Store tx.new.conn.now) result }
+    ensures survives { Survives (state S.Store tx.old.conn.now) (state S.Store tx.new.conn.now) (λ _. ⊥) }
+{
+    for row in rows {
+        add_frozen(tx, row)?;
+    }
+    Ok(())
+}
