@@ -1,11 +1,12 @@
--- The front of a list grows by one.
-use Rattle.std.proofs.Common.{◌≡◌, ℕ, zero, suc, ◌<◌, ◌≤◌, List, [], ◌∷◌, ◌++◌, take, length, get_or, refl, sym, ap, arith, add-one, ◌∙◌, ◌+◌}
+-- The front of a list grows by one, and what is left of it behind.
+use Rattle.std.specs.List.{join_with_byte}
+use Rattle.std.proofs.Common.{◌≡◌, Bool, true, false, cond, drop, filter, ℕ, zero, suc, ◌<◌, ◌≤◌, List, [], ◌∷◌, ◌++◌, take, length, get_or, refl, sym, ap, arith, add-one, ◌∙◌, ◌+◌}
 
 pub append_nil : {X : Type 0} (xs : List X) → xs ++ [] ≡ xs
 append_nil [] = refl
 append_nil (x ∷ xs) = ap (λ l. x ∷ l) (append_nil xs)
 
-take_more : {X : Type 0} (rows : List X) (i : ℕ) (d : X) → i < length rows → take i rows ++ get_or rows i d ∷ [] ≡ take (suc i) rows
+pub take_more : {X : Type 0} (rows : List X) (i : ℕ) (d : X) → i < length rows → take i rows ++ get_or rows i d ∷ [] ≡ take (suc i) rows
 take_more [] i d low = absurd (omega arith)
 take_more (x ∷ rows) zero d low = refl
 take_more (x ∷ rows) (suc i) d low = ap (λ l. x ∷ l) (take_more rows i d (omega arith))
@@ -16,6 +17,10 @@ take_whole [] (suc i) high = refl
 take_whole (x ∷ rows) zero high = absurd (omega arith)
 take_whole (x ∷ rows) (suc i) high = ap (λ l. x ∷ l) (take_whole rows i (omega arith))
 
+pub append_all : {X : Type 0} (xs ys zs : List X) → (xs ++ ys) ++ zs ≡ xs ++ (ys ++ zs)
+append_all [] ys zs = refl
+append_all (x ∷ xs) ys zs = ap (λ l. x ∷ l) (append_all xs ys zs)
+
 append_more : {X : Type 0} (xs ys : List X) (y : X) → (xs ++ ys) ++ y ∷ [] ≡ xs ++ (ys ++ y ∷ [])
 append_more [] ys y = refl
 append_more (x ∷ xs) ys y = ap (λ l. x ∷ l) (append_more xs ys y)
@@ -23,3 +28,35 @@ append_more (x ∷ xs) ys y = ap (λ l. x ∷ l) (append_more xs ys y)
 -- behind others, the front and the next one are the longer front
 pub front_more : {X : Type 0} (xs rows : List X) (i : ℕ) (d x : X) → x ≡ get_or rows i d → i < length rows → (xs ++ take i rows) ++ x ∷ [] ≡ xs ++ take (i + 1) rows
 front_more xs rows i d x is low = append_more xs (take i rows) x ∙ ap (λ y. xs ++ (take i rows ++ y ∷ [])) is ∙ ap (λ l. xs ++ l) (take_more rows i d low) ∙ ap (λ n. xs ++ take n rows) (sym (add-one i))
+
+pub drop_less : {X : Type 0} (rows : List X) (n : ℕ) (d : X) → n < length rows → drop n rows ≡ get_or rows n d ∷ drop (n + 1) rows
+drop_less [] n d low = absurd (omega arith)
+drop_less (x ∷ rows) zero d low = refl
+drop_less (x ∷ rows) (suc n) d low = drop_less rows n d (omega arith)
+
+pub drop_whole : {X : Type 0} (rows : List X) → drop (length rows) rows ≡ []
+drop_whole [] = refl
+drop_whole (x ∷ rows) = drop_whole rows
+
+-- the rows that pass a test, of two lists
+pub filter_both : {X : Type 0} (p : X → Bool) (xs ys : List X) → filter p (xs ++ ys) ≡ filter p xs ++ filter p ys
+filter_both p [] ys = refl
+filter_both p (x ∷ xs) ys = go (filter_both p xs ys) (p x)
+  where
+    go : filter p (xs ++ ys) ≡ filter p xs ++ filter p ys → (b : Bool) → cond b (x ∷ filter p (xs ++ ys)) (filter p (xs ++ ys)) ≡ cond b (x ∷ filter p xs) (filter p xs) ++ filter p ys
+    go more true = ap (λ l. x ∷ l) more
+    go more false = more
+
+-- one more text behind others that are joined
+pub join_more : (x : List ℕ) (xs : List (List ℕ)) (y : List ℕ) → join_with_byte 32 (x ∷ (xs ++ y ∷ [])) ≡ join_with_byte 32 (x ∷ xs) ++ (32 ∷ y)
+join_more x [] y = refl
+join_more x (z ∷ zs) y = ap (λ l. x ++ 32 ∷ l) (join_more z zs y) ∙ sym (behind x (join_with_byte 32 (z ∷ zs)) y)
+  where
+    behind : (a b y : List ℕ) → (a ++ 32 ∷ b) ++ (32 ∷ y) ≡ a ++ 32 ∷ (b ++ (32 ∷ y))
+    behind [] b y = refl
+    behind (c ∷ a) b y = ap (λ l. c ∷ l) (behind a b y)
+
+-- behind others, those of the front that pass and the next one if it does
+pub filter_more : {X : Type 0} (p : X → Bool) (xs rows : List X) (i : ℕ) (d x : X) → x ≡ get_or rows i d → i < length rows → (xs ++ filter p (take i rows)) ++ filter p (x ∷ []) ≡ xs ++ filter p (take (i + 1) rows)
+filter_more p xs rows i d x is low =
+    append_all xs (filter p (take i rows)) (filter p (x ∷ [])) ∙ ap (λ l. xs ++ l) (sym (filter_both p (take i rows) (x ∷ [])) ∙ ap (filter p) (front_more [] rows i d x is low))

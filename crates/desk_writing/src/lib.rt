@@ -2,6 +2,7 @@
 #![tactic(auto)]
 
 mod catalogue;
+mod change;
 mod document;
 mod duty;
 mod office;
