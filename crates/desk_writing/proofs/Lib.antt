@@ -3,3 +3,4 @@ mod Inserts
 mod Deletes
 mod Updates
 mod Lists
+mod Moves

@@ -1,5 +1,8 @@
 -- The front of a list grows by one, and what is left of it behind.
 use Rattle.std.specs.List.{join_with_byte}
+use Rattle.std.specs.Prelude.{Some}
+use Rattle.desk_rows.specs.declared.row.ChangeRow.{ChangeRow}
+use Rattle.desk_layout.specs.Cells.{is_waiver}
 use Rattle.std.proofs.Common.{◌≡◌, Bool, true, false, cond, drop, filter, ℕ, zero, suc, ◌<◌, ◌≤◌, List, [], ◌∷◌, ◌++◌, take, length, get_or, refl, sym, ap, arith, add-one, ◌∙◌, ◌+◌}
 
 pub append_nil : {X : Type 0} (xs : List X) → xs ++ [] ≡ xs
@@ -29,10 +32,13 @@ append_more (x ∷ xs) ys y = ap (λ l. x ∷ l) (append_more xs ys y)
 pub front_more : {X : Type 0} (xs rows : List X) (i : ℕ) (d x : X) → x ≡ get_or rows i d → i < length rows → (xs ++ take i rows) ++ x ∷ [] ≡ xs ++ take (i + 1) rows
 front_more xs rows i d x is low = append_more xs (take i rows) x ∙ ap (λ y. xs ++ (take i rows ++ y ∷ [])) is ∙ ap (λ l. xs ++ l) (take_more rows i d low) ∙ ap (λ n. xs ++ take n rows) (sym (add-one i))
 
+drop_next : {X : Type 0} (rows : List X) (n : ℕ) (d : X) → n < length rows → drop n rows ≡ get_or rows n d ∷ drop (suc n) rows
+drop_next [] n d low = absurd (omega arith)
+drop_next (x ∷ rows) zero d low = refl
+drop_next (x ∷ rows) (suc n) d low = drop_next rows n d (omega arith)
+
 pub drop_less : {X : Type 0} (rows : List X) (n : ℕ) (d : X) → n < length rows → drop n rows ≡ get_or rows n d ∷ drop (n + 1) rows
-drop_less [] n d low = absurd (omega arith)
-drop_less (x ∷ rows) zero d low = refl
-drop_less (x ∷ rows) (suc n) d low = drop_less rows n d (omega arith)
+drop_less rows n d low = drop_next rows n d low ∙ ap (λ m. get_or rows n d ∷ drop m rows) (sym (add-one n))
 
 pub drop_whole : {X : Type 0} (rows : List X) → drop (length rows) rows ≡ []
 drop_whole [] = refl
@@ -60,3 +66,15 @@ join_more x (z ∷ zs) y = ap (λ l. x ++ 32 ∷ l) (join_more z zs y) ∙ sym (
 pub filter_more : {X : Type 0} (p : X → Bool) (xs rows : List X) (i : ℕ) (d x : X) → x ≡ get_or rows i d → i < length rows → (xs ++ filter p (take i rows)) ++ filter p (x ∷ []) ≡ xs ++ filter p (take (i + 1) rows)
 filter_more p xs rows i d x is low =
     append_all xs (filter p (take i rows)) (filter p (x ∷ [])) ∙ ap (λ l. xs ++ l) (sym (filter_both p (take i rows) (x ∷ [])) ∙ ap (filter p) (front_more [] rows i d x is low))
+
+pub joined_on : (codes rest : List (List ℕ)) (first code : List ℕ) (i : ℕ) (old blank new : List ℕ) → codes ≡ first ∷ rest → i < length rest → code ≡ get_or rest i code
+    → old ≡ join_with_byte 32 (take (i + 1) codes) → blank ≡ old ++ 32 ∷ [] → new ≡ blank ++ code → new ≡ join_with_byte 32 (take (i + 1 + 1) codes)
+joined_on codes rest first code i old blank new whole low is so then last =
+    last ∙ ap (λ l. l ++ code) (then ∙ ap (λ l. l ++ 32 ∷ []) (so ∙ ap (join_with_byte 32) (front i))) ∙ append_all (join_with_byte 32 (first ∷ take i rest)) (32 ∷ []) code
+    ∙ sym (join_more first (take i rest) code) ∙ ap (λ l. join_with_byte 32 (first ∷ l)) (front_more [] rest i code code is low) ∙ ap (join_with_byte 32) (sym (front (i + 1)))
+  where
+    front : (n : ℕ) → take (n + 1) codes ≡ first ∷ take n rest
+    front n = ap (take (n + 1)) whole ∙ ap (λ m. take m (first ∷ rest)) (add-one n)
+
+pub waiver_kept : (row : ChangeRow) (day : List ℕ) → row.last_day ≡ Some day → filter is_waiver (row ∷ []) ≡ row ∷ []
+waiver_kept row day is = rw is refl
