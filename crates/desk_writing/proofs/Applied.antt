@@ -1,6 +1,5 @@
 -- What a change writes is what it makes of the tables, in some order of their rows.
-use Rattle.std.proofs.Common.{◌≡◌, ◌∙◌, ℕ, Bool, true, false, not, cond, List, [], ◌∷◌, ◌++◌, filter, map, Ok, Err, Result, refl, sym, ap, subst}
-use Rattle.std.specs.Prelude.{if◌then◌else◌}
+use Rattle.std.proofs.Common.{ℕ, Bool, true, false, not, cond, List, [], ◌∷◌, ◌++◌, filter, map, Ok, Err, Result, sym, ap, subst}
 use Rattle.std.specs.List.{AllByRecursion}
 use Rattle.std.specs.List.Sorted.{IsPermutation}
 use Rattle.std.proofs.lemmas.List.Sorted.{IsPermutation-refl, IsPermutation-sym, IsPermutation-cons, IsPermutation-middle, IsPermutation-trans, IsPermutation-map}
@@ -34,7 +33,7 @@ use Rattle.desk_layout.specs.Cells.{release_cells, attached_cells, choice_cells,
 use Rattle.desk_layout.specs.Held.{HasRows, rows_of}
 use Rattle.desk_layout.proofs.Writes.{stored_as}
 use Rattle.desk_writing.specs.Contents.{Contents, cells_of, contents_of, with_tables, with_steps, with_document}
-use Rattle.desk_writing.specs.Written.{Wrote, Writes}
+use Rattle.desk_writing.specs.Written.{Writes}
 use Rattle.desk_writing.proofs.Lists.{append_nil, filter_both}
 
 -- each table has the same rows, in some order

@@ -5,3 +5,4 @@ mod Updates
 mod Lists
 mod Moves
 mod Applied
+mod Commits

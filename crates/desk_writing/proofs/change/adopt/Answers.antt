@@ -1,10 +1,7 @@
-use Rattle.std.proofs.Common.{◌≡◌, ◌++◌, ◌∷◌, [], filter, not}
+use Rattle.std.proofs.Common.{◌++◌, ◌∷◌, [], filter, not}
 use Rattle.sqlite.specs.Held.{state}
-use Rattle.desk_rows.specs.Keys.{is_release, is_conclusion, is_adoption}
-use Rattle.desk_rows.specs.Lists.{updated}
-use Rattle.desk_rows.specs.Tables.{is_other_choice, is_choice_elsewhere, with_release_state, withdrawn_release, moved_by}
-use Rattle.desk_rows.specs.declared.state.ReleaseState.TheVariants.{Frozen}
-use Rattle.desk_writing.specs.Contents.{cells_of, with_tables, with_steps, with_document}
+use Rattle.desk_rows.specs.Keys.{is_adoption}
+use Rattle.desk_writing.specs.Contents.{cells_of, with_tables}
 use Rattle.desk_writing.proofs.Inside.{wrote_then}
 use Rattle.desk_writing.proofs.change.adopt.Goals as goal
 

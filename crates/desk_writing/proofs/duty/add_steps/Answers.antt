@@ -1,4 +1,4 @@
-use Rattle.std.proofs.Common.{◌≡◌, ◌∙◌, ◌++◌, ◌∷◌, [], ◌+◌, take, filter, sym, ap}
+use Rattle.std.proofs.Common.{◌∙◌, ◌∷◌, [], ◌+◌, take}
 use Rattle.sqlite.specs.Held.{state}
 use Rattle.desk_layout.specs.Cells.{is_waiver}
 use Rattle.desk_writing.specs.Contents.{Contents, cells_of, with_steps}

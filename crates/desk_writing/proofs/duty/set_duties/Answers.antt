@@ -1,4 +1,4 @@
-use Rattle.std.proofs.Common.{◌≡◌, ◌∙◌, ◌≤◌, ◌+◌, ◌-◌, length, drop, get_or, arith}
+use Rattle.std.proofs.Common.{◌≡◌, ◌∙◌, ◌+◌, ◌-◌, drop, get_or, arith}
 use Rattle.sqlite.specs.Held.{state}
 use Rattle.desk_rows.specs.Keys.{is_duty}
 use Rattle.desk_rows.specs.Lists.{updated}

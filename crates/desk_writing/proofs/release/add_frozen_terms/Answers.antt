@@ -1,4 +1,4 @@
-use Rattle.std.proofs.Common.{◌≡◌, ◌∙◌, ◌++◌, ◌∷◌, [], ◌+◌, take}
+use Rattle.std.proofs.Common.{◌∙◌, ◌++◌, ◌∷◌, [], ◌+◌, take}
 use Rattle.sqlite.specs.Held.{state}
 use Rattle.desk_writing.specs.Contents.{Contents, cells_of, with_tables}
 use Rattle.desk_writing.proofs.Inside.{clean_before, survives_both, wrote_as, wrote_both}

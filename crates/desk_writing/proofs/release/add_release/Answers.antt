@@ -1,4 +1,4 @@
-use Rattle.std.proofs.Common.{◌≡◌, ◌++◌, ◌∷◌, []}
+use Rattle.std.proofs.Common.{◌++◌, ◌∷◌, []}
 use Rattle.sqlite.specs.Held.{state}
 use Rattle.desk_layout.specs.Cells.{release_cells}
 use Rattle.desk_writing.specs.Contents.{cells_of, with_tables}

@@ -1,11 +1,11 @@
-use Rattle.std.proofs.Common.{◌≡◌, subst, rules, IsTrue}
+use Rattle.std.proofs.Common.{◌≡◌, subst, rules}
 use Rattle.sqlite.specs.State.{HasCleanDisk, Survives}
 use Rattle.sqlite.specs.Held.{state}
 use Rattle.sqlite.proofs.StateLemmas.{survives_then}
 use Rattle.sqlite.proofs.Callers.{survives_begin}
 use Rattle.desk_writing.specs.Written.{Leaves}
 use Rattle.desk_writing.proofs.Inside.{clean_before}
-use Rattle.desk_writing.proofs.commit.write.Goals as goal
+use Rattle.desk_writing.proofs.transaction.write.Goals as goal
 
 pub returns-in-Ok-clause-crash : goal.returns-in-Ok-clause-crash
 returns-in-Ok-clause-crash g c =
