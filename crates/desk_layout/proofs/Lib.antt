@@ -8,3 +8,4 @@ pub mod Casts
 pub mod Statements
 pub mod Ascending
 pub mod Orderly
+pub mod Creates
