@@ -1,0 +1,3 @@
+pub mod Ties
+pub mod Selects
+pub mod Calls

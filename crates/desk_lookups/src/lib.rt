@@ -1,0 +1,5 @@
+//! What is looked up in the desk's tables in a SQL database.
+#![tactic(auto)]
+
+mod columns;
+mod query;

@@ -1,0 +1,32 @@
+//! A query of the database.
+
+ghost use Rattle.std.specs.Prelude.{◌≡◌, false, IfOk, OnErr};
+ghost use Rattle.sqlite.specs.Given.{IsPlain};
+ghost use Rattle.sqlite.specs.Held.{state};
+ghost use Rattle.sqlite.specs.Listing.{understood};
+ghost use Rattle.sqlite.specs.State.{HasCleanDisk, Shown};
+ghost use Rattle.sqlite.specs.Values.{bound};
+ghost use Rattle.desk_access.specs.Seen.{Kept, Same};
+ghost use Rattle.desk_layout.specs.Held.{seen_of};
+ghost use Rattle.desk_layout.specs.Layout.{desk_schema};
+
+use desk_layout::fault::fault_of;
+use desk_rows::Fault;
+use sqlite::{Alter, Connection, Row};
+use sqlite_value::value::ValueRef;
+
+/// The rows of a query that changes nothing.
+pub(crate) fn query<S: Alter>(
+    conn: &mut Connection<S>,
+    sql: &str,
+    params: &[ValueRef<'_>],
+) -> Result<Vec<Row>, Fault>
+    ensures ok { IsPlain (understood desk_schema sql.now) → IfOk result (λ rows. Same (seen_of (state S.Store conn.old)) (seen_of (state S.Store conn.new)) × (HasCleanDisk (state S.Store conn.new) → Shown sql.now (bound params.now) (state S.Store conn.old) (state S.Store conn.new) rows.items)) }
+    ensures err { IsPlain (understood desk_schema sql.now) → OnErr result (Kept (seen_of (state S.Store conn.old)) (seen_of (state S.Store conn.new))) }
+    ensures mode { conn.old.in_transaction ≡ false → conn.new.in_transaction ≡ false }
+{
+    match conn.query_all(sql, params) {
+        Ok(rows) => Ok(rows),
+        Err(error) => Err(fault_of(&error)),
+    }
+}
