@@ -1,6 +1,7 @@
 -- What a query on one table shows, in the order of a key.
 use Rattle.std.proofs.Common.{◌≡◌, ℕ, Bool, true, false, List, [], ◌∷◌, map, filter, find, get_or, length, slice_get, Option, Some, refl, sym, ap, ap₂, subst, subst₂, ◌∙◌, IsPermutation, Less, is_lt, is_eq}
 use Rattle.std.specs.List.{AllByRecursion}
+use Rattle.std.proofs.lemmas.Cmp.{tied_itself}
 use Rattle.std.proofs.lemmas.List.{length-map}
 use Rattle.std.proofs.lemmas.List.Sorted.{IsPermutation-map, IsPermutation-trans, IsPermutation-sym, length_permutation}
 use Rattle.sqlite_value.specs.declared.keys.Collation.TheVariants.{Binary}
@@ -14,13 +15,13 @@ use Rattle.sqlite_trees.proofs.ListLemmas.{filter-map, map-map, ascending-filter
 use Rattle.sqlite_keyed.proofs.SortLemmas.{sorted_is-sort_by}
 use Rattle.sqlite_sql.specs.Term.{Term, col, eval_all}
 use Rattle.sqlite_sql.specs.Query.{Query, Output, output, output_cmp, key_cmp}
-use Rattle.sqlite_sql.proofs.QueryLemmas.{output_cmp_total}
+use Rattle.sqlite_sql.proofs.QueryLemmas.{output_cmp_total, key_cmp_total}
 use Rattle.sqlite_schema.specs.declared.schema.Column.{Column}
 use Rattle.sqlite_schema.specs.declared.schema.Table.{Table}
 use Rattle.sqlite_schema.specs.declared.command.Command.TheVariants.{Select}
 use Rattle.sqlite_catalog.proofs.AlterLemmas.{keys_are_unique}
 use Rattle.sqlite_rules.specs.Lists.{Has}
-use Rattle.sqlite_rules.proofs.ListLemmas.{all_from, all_has, has_got}
+use Rattle.sqlite_rules.proofs.ListLemmas.{all_from, all_has, has_got, has_filtered}
 use Rattle.sqlite_rules.proofs.ProbeLemmas.{has_mapped, mapped_has}
 use Rattle.sqlite.specs.Effect.{Database}
 use Rattle.sqlite.specs.Listing.{understood, reads_listing}
@@ -51,6 +52,14 @@ AreApart ps = IsAscending (λ a b. is_eq (key_cmp 0 (keys ps) (picked ps a) (pic
 
 listed_in : (P : Table → Type 0) (tables : List Table) (place : ℕ) (t : Table) → slice_get tables place ≡ Some t → AllByRecursion P tables → P t
 listed_in P tables place t is all = all_has P tables t all (has_got tables place t is)
+
+alike : {X : Type 0} (R : X → X → Type 0) (it : X → Row) (k : Row) (xs : List X) → ((a b : X) → it a ≡ k → it b ≡ k → R a b) → AllByRecursion (λ x. it x ≡ k) xs → IsAscending R xs
+alike R it k [] two are = tt
+alike {X} R it k (x ∷ xs) two are = (all xs are.1, alike R it k xs two are.1)
+  where
+    all : (ys : List X) → AllByRecursion (λ y. it y ≡ k) ys → AllByRecursion (R x) ys
+    all [] h = tt
+    all (y ∷ ys) h = (two x y are.0 h.0, all ys h.1)
 
 module _ (name : List ℕ) (tree : ℕ) (columns : List Column) (key : Option ℕ) (primary : List ℕ) (uniques : List (List ℕ)) (orders : List Order) (place : ℕ)
     (listed : slice_get desk_schema.tables place ≡ Some (table_of name tree columns key primary uniques orders)) {X : Type 0} (f : X → Row) (rows : ℕ → List Row) (xs : List X) (here : rows tree ≡ map f xs) (db : Database) (has : HasRows rows db) where
@@ -103,6 +112,14 @@ module _ (name : List ℕ) (tree : ℕ) (columns : List Column) (key : Option �
         ap (map u) (filter-map q table (db.trees tree)) ∙ map-map u table (filter (λ r. q (table r)) (db.trees tree)) ∙ sym (λ i. map (λ r. acts r i) (filter (λ r. tested r i) (db.trees tree))) in
         subst₂ (λ a b. IsPermutation a b) left right (IsPermutation-map u _ _ (IsPermutation-filter q _ _ mine.same))
 
+    -- those that pass are all at one key
+    pub at_one_key : (k : Row) → ((x : X) → p x ≡ true → (u (f x)).0 ≡ k) → IsAscending (λ a b. is_lt (output_cmp asked (u (f b)) (u (f a))) ≡ false) (filter p xs)
+    at_one_key k same =
+        let all : AllByRecursion (λ x. (u (f x)).0 ≡ k) (filter p xs) = all_from _ (filter p xs) (λ x there. same x (has_filtered p xs x there).1) in
+        let it = λ (x : X). (u (f x)).0 in
+        alike (λ a b. is_lt (key_cmp 0 (map (λ (k : Term × Key). k.1) (order_by ps)) (it b) (it a)) ≡ false) it k (filter p xs)
+        (λ a b ha hb. rw (ha, hb) (ap is_lt (tied_itself (key_cmp_total (map (λ (k : Term × Key). k.1) (order_by ps)) 0) k))) all
+
     -- in any order
     module _ (old new : State) (shown : List Row) (it : Shown sql params old new shown) (same : db ≡ old.now) where
       answer : Rattle.desk_layout.proofs.Queries.Selected asked params (db.trees tree) shown
@@ -120,7 +137,7 @@ module _ (name : List ℕ) (tree : ℕ) (columns : List Column) (key : Option �
       pub counts : length shown ≡ length (filter p xs)
       counts = length_permutation _ _ shows_some ∙ length-map (filter p xs) (λ x. (u (f x)).1)
 
-      module _ (apart : AreApart ps (db.trees tree)) (sorted : IsAscending (λ a b. is_lt (output_cmp asked (u (f b)) (u (f a))) ≡ false) xs) where
+      module _ (apart : AreApart ps (db.trees tree)) (sorted : IsAscending (λ a b. is_lt (output_cmp asked (u (f b)) (u (f a))) ≡ false) (filter p xs)) where
         no_ties : IsAscending (λ a b. is_eq (output_cmp asked a b) ≡ false) outs
         no_ties =
             ascending-map (λ a b. is_eq (output_cmp asked a b) ≡ false) (λ r. output asked (env params r)) (filter (passes tests params) (db.trees tree))
@@ -128,7 +145,7 @@ module _ (name : List ℕ) (tree : ℕ) (columns : List Column) (key : Option �
             (ascending-filter _ (passes tests params) (db.trees tree) apart))
 
         wanted_sorted : IsAscending (λ a b. is_lt (output_cmp asked b a) ≡ false) wanted
-        wanted_sorted = ascending-map (λ a b. is_lt (output_cmp asked b a) ≡ false) (λ x. u (f x)) (filter p xs) (ascending-filter _ p xs sorted)
+        wanted_sorted = ascending-map (λ a b. is_lt (output_cmp asked b a) ≡ false) (λ x. u (f x)) (filter p xs) sorted
 
         as_wanted : wanted ≡ answer.ordered
         as_wanted =

@@ -3,3 +3,5 @@
 
 mod columns;
 mod query;
+mod read;
+mod rows;
