@@ -1,5 +1,5 @@
 -- What a query does to what is seen of a connection.
-use Rattle.std.proofs.Common.{◌≡◌, ◌⊎◌, inl, inr, ℕ, List, IsTrue, Option, Some, None, Ok, Err, Result, IfOk, sym, subst, ◌∙◌, ap, arith}
+use Rattle.std.proofs.Common.{◌≡◌, ◌⊎◌, inl, inr, ℕ, List, IsTrue, Option, Some, None, Ok, Err, Result, IfOk, OnErr, sym, subst, ◌∙◌, ap, arith}
 use Rattle.sqlite_trees.specs.Tree.{Trees}
 use Rattle.sqlite_value.specs.Order.{Row}
 use Rattle.sqlite_schema.specs.declared.command.Returning.{Returning}
@@ -9,8 +9,9 @@ use Rattle.sqlite.specs.Listing.{understood}
 use Rattle.sqlite.specs.Clock.{timed}
 use Rattle.sqlite.specs.State.{State, HasCleanDisk, Survives, IsUnchanged, IsRolledBack, FailsToQuery, FailsToShow, IsNotRun, Shown, ShowsRows, CommitsShowing}
 use Rattle.sqlite.proofs.Callers.{IsPlain, never_commits}
+use Rattle.desk_rows.specs.declared.command.Fault.{Fault}
 use Rattle.desk_rows.specs.Tables.{Tables}
-use Rattle.desk_access.specs.Seen.{Kept, Same, OfRows}
+use Rattle.desk_access.specs.Seen.{Kept, Same, Looked, OfRows}
 use Rattle.desk_layout.specs.Layout.{desk_schema}
 use Rattle.desk_layout.specs.Held.{Holds, Showing, seen_of}
 
@@ -95,3 +96,20 @@ module _ (sql : List ℕ) (params : Row) (old new : State) where
   pub of_shown : (rows : List Row) (Is : Tables → Type 0) → Same (seen_of old) (seen_of new) → (HasCleanDisk new → Shown sql params old new rows) → ((t : Tables) → Shown sql params old new rows → Holds t old.now → Is t)
       → OfRows Is (seen_of old) (seen_of new)
   of_shown rows Is same shown right = λ clean t holds. right t (shown clean) (holds (same.kept.spared.honest clean) (shown_open rows (shown clean)).0).holds
+
+module _ (sql : List ℕ) (params : Row) (old new : State) {V : Type 0} (r : Result V Fault) (items : V → List Row) where
+  -- what the rows of a query are of the tables that were held
+  pub found_by : (Is : Tables → List Row → Type 0) → ((rows : List Row) (t : Tables) → Shown sql params old new rows → Holds t old.now → Is t rows)
+      → IfOk r (λ rows. Same (seen_of old) (seen_of new) × (HasCleanDisk new → Shown sql params old new (items rows))) → IfOk r (λ rows. OfRows (λ t. Is t (items rows)) (seen_of old) (seen_of new))
+  found_by Is right = go r
+    where
+      go : (r : Result V Fault) → IfOk r (λ rows. Same (seen_of old) (seen_of new) × (HasCleanDisk new → Shown sql params old new (items rows))) → IfOk r (λ rows. OfRows (λ t. Is t (items rows)) (seen_of old) (seen_of new))
+      go (Ok rows) it = of_shown sql params old new (items rows) (λ t. Is t (items rows)) it.0 it.1 (right (items rows))
+      go (Err e) it = tt
+
+  pub looked_by : IfOk r (λ rows. Same (seen_of old) (seen_of new) × (HasCleanDisk new → Shown sql params old new (items rows))) → OnErr r (Kept (seen_of old) (seen_of new)) → Looked (seen_of old) (seen_of new) r
+  looked_by = go r
+    where
+      go : (r : Result V Fault) → IfOk r (λ rows. Same (seen_of old) (seen_of new) × (HasCleanDisk new → Shown sql params old new (items rows))) → OnErr r (Kept (seen_of old) (seen_of new)) → Looked (seen_of old) (seen_of new) r
+      go (Ok rows) it kept = it.0
+      go (Err e) it kept = kept

@@ -3,4 +3,7 @@ pub mod Selects
 pub mod Keyed
 pub mod Calls
 pub mod Loops
-pub mod Duties
+pub mod DutyQueries
+pub mod ReleaseQueries
+pub mod DocumentQueries
+pub mod OfficeQueries

@@ -2,6 +2,7 @@
 #![tactic(auto)]
 
 mod columns;
+mod duties;
 mod query;
 mod read;
 mod rows;

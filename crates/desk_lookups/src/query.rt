@@ -5,7 +5,9 @@ ghost use Rattle.sqlite.specs.Given.{IsPlain};
 ghost use Rattle.sqlite.specs.Held.{state};
 ghost use Rattle.sqlite.specs.Listing.{understood};
 ghost use Rattle.sqlite.specs.State.{HasCleanDisk, Shown};
-ghost use Rattle.sqlite.specs.Values.{bound};
+ghost use Rattle.sqlite.specs.Values.{bound, bound_value};
+ghost use Rattle.sqlite_value.specs.Value.{owned};
+ghost use Rattle.sqlite_value.specs.declared.value.Value.TheVariants.{Text as Words};
 ghost use Rattle.desk_access.specs.Seen.{Kept, Same};
 ghost use Rattle.desk_layout.specs.Held.{seen_of};
 ghost use Rattle.desk_layout.specs.Layout.{desk_schema};
@@ -29,4 +31,11 @@ pub(crate) fn query<S: Alter>(
         Ok(rows) => Ok(rows),
         Err(error) => Err(fault_of(&error)),
     }
+}
+
+/// A text as a query takes it.
+pub(crate) fn text<'a>(text: &'a str) -> ValueRef<'a>
+    ensures { bound_value (owned result) ≡ Words text.now }
+{
+    ValueRef::Text(text.as_bytes())
 }
