@@ -16,12 +16,13 @@ use Rattle.sqlite.specs.Listing.{understood, reads_listing}
 use Rattle.sqlite.specs.State.{State, Shown}
 use Rattle.sqlite.proofs.Callers.{IsPlain, command_of}
 use Rattle.desk_layout.specs.Layout as d
-use Rattle.desk_layout.specs.Cells.{number, duty_cells, change_cells, is_waiver, waiver_cells}
+use Rattle.desk_layout.specs.Cells.{number, text_or_null, duty_cells, change_cells, is_waiver, waiver_cells}
 use Rattle.desk_layout.specs.Held.{Holds, rows_of}
 use Rattle.desk_layout.proofs.Casts.{same, int_test, text_test, and_true}
 use Rattle.desk_layout.proofs.Queries.{query_on}
 use Rattle.desk_rows.specs.Tables.{Tables}
 use Rattle.desk_rows.specs.Keys.{is_duty, is_duty_of, is_change_of}
+use Rattle.desk_rows.specs.Names.{duty_state_name}
 use Rattle.desk_rows.specs.declared.row.DutyRow.{DutyRow}
 use Rattle.desk_rows.specs.declared.row.ChangeRow.{ChangeRow}
 use Rattle.desk_lookups.proofs.Ties.{is_key}
@@ -126,3 +127,55 @@ pub changes_of_read : (duty : ℕ) (old new : State) (rows : List Row) (t : Tabl
 changes_of_read duty old new rows t shown holds =
     let this = d.change_table in
     shows this.name 25 this.columns this.key this.primary this.uniques this.orders 13 refl change_cells (rows_of t) t.changes refl old.now holds.rows changes_of_text (codes "duty" ∷ codes "step" ∷ codes "day" ∷ codes "word" ∷ codes "body" ∷ []) (same 1 0 ∷ []) (col 1 1 ∷ col 1 2 ∷ col 1 3 ∷ col 1 4 ∷ col 1 5 ∷ []) (1 ∷ 2 ∷ []) changes_of_is changes_of_plain (number duty ∷ []) (changes_of_test duty) (λ (cs : Row). (column cs 0 ∷ column cs 1 ∷ [], column cs 0 ∷ column cs 1 ∷ column cs 2 ∷ column cs 3 ∷ column cs 4 ∷ [])) (is_change_of duty) (λ r. refl) (λ r. refl) (changes_of_picks duty) old new rows shown refl (by_unique this.name 25 this.columns this.key this.primary this.uniques this.orders 13 refl change_cells (rows_of t) t.changes refl old.now holds.rows 0 (1 ∷ 2 ∷ []) refl refl (λ (cs : Row). is_key (column cs 0) && (is_key (column cs 1) && true)) (λ r. refl) (λ x. refl)) (ascending-filter _ (is_change_of duty) t.changes (changes_sorted t.changes holds.orderly.sorted.changes))
+
+-- ---- the waivers of a duty that end
+
+abbrev pub waivers_of_text : List ℕ
+waivers_of_text = codes "SELECT step, last_day FROM waiver WHERE duty = ?1 ORDER BY duty, step"
+
+waivers_of_is : (command_of (understood d.desk_schema waivers_of_text) ≡ Select (record { lets = []; body = query_on 28 (same 1 0 ∷ []) (col 1 2 ∷ col 1 3 ∷ []) (order_by (1 ∷ 2 ∷ [])) }) (codes "step" ∷ codes "last_day" ∷ [])) × (reads_listing d.desk_schema waivers_of_text ≡ false)
+unfolding understood everything
+waivers_of_is = (refl, refl)
+
+pub waivers_of_plain : IsPlain (understood d.desk_schema waivers_of_text)
+unfolding understood everything
+waivers_of_plain = (refl, refl)
+
+abbrev waivers_of_test : ℕ → Row → Bool
+waivers_of_test duty cs = is_true (binary (Compare Eq Binary) (column cs 0) (number duty)) && true
+
+waivers_of_picks : (duty : ℕ) (x : ChangeRow) → waivers_of_test duty (waiver_cells x) ≡ (is_change_of duty) x
+waivers_of_picks duty x = rw (int_test x.duty duty, and_true (x.duty == duty)) refl
+
+pub waivers_of_read : (duty : ℕ) (old new : State) (rows : List Row) (t : Tables) → Shown waivers_of_text (number duty ∷ []) old new rows → Holds t old.now → rows ≡ map (λ (x : ChangeRow). number x.step ∷ text_or_null x.last_day ∷ []) (filter (is_change_of duty) (filter is_waiver t.changes))
+waivers_of_read duty old new rows t shown holds =
+    let this = d.waiver_table in
+    shows this.name 28 this.columns this.key this.primary this.uniques this.orders 15 refl waiver_cells (rows_of t) (filter is_waiver t.changes) refl old.now holds.rows waivers_of_text (codes "step" ∷ codes "last_day" ∷ []) (same 1 0 ∷ []) (col 1 2 ∷ col 1 3 ∷ []) (1 ∷ 2 ∷ []) waivers_of_is waivers_of_plain (number duty ∷ []) (waivers_of_test duty) (λ (cs : Row). (column cs 0 ∷ column cs 1 ∷ [], column cs 1 ∷ column cs 2 ∷ [])) (is_change_of duty) (λ r. refl) (λ r. refl) (waivers_of_picks duty) old new rows shown refl (by_unique this.name 28 this.columns this.key this.primary this.uniques this.orders 15 refl waiver_cells (rows_of t) (filter is_waiver t.changes) refl old.now holds.rows 0 (1 ∷ 2 ∷ []) refl refl (λ (cs : Row). is_key (column cs 0) && (is_key (column cs 1) && true)) (λ r. refl) (λ x. refl)) (ascending-filter _ (is_change_of duty) (filter is_waiver t.changes) (ascending-filter _ is_waiver t.changes (changes_sorted t.changes holds.orderly.sorted.changes)))
+
+-- a duty stands where the word says
+abbrev pub stands_at : List ℕ → DutyRow → Bool
+stands_at state x = bytes_eq (duty_state_name x.state) state
+
+-- ---- the duties that stand in a state
+
+abbrev pub duties_at_text : List ℕ
+duties_at_text = codes "SELECT number, release, document, package, term, code, rule, state FROM duty WHERE state = ?1 ORDER BY number"
+
+duties_at_is : (command_of (understood d.desk_schema duties_at_text) ≡ Select (record { lets = []; body = query_on 23 (same 8 0 ∷ []) (col 1 0 ∷ col 1 2 ∷ col 1 3 ∷ col 1 4 ∷ col 1 5 ∷ col 1 6 ∷ col 1 7 ∷ col 1 8 ∷ []) (order_by (0 ∷ [])) }) (codes "number" ∷ codes "release" ∷ codes "document" ∷ codes "package" ∷ codes "term" ∷ codes "code" ∷ codes "rule" ∷ codes "state" ∷ [])) × (reads_listing d.desk_schema duties_at_text ≡ false)
+unfolding understood everything
+duties_at_is = (refl, refl)
+
+pub duties_at_plain : IsPlain (understood d.desk_schema duties_at_text)
+unfolding understood everything
+duties_at_plain = (refl, refl)
+
+abbrev duties_at_test : List ℕ → Row → Bool
+duties_at_test state cs = is_true (binary (Compare Eq Binary) (column cs 7) (Text state)) && true
+
+duties_at_picks : (state : List ℕ) (x : DutyRow) → duties_at_test state (duty_cells x) ≡ (stands_at state) x
+duties_at_picks state x = rw (text_test (duty_state_name x.state) state, and_true (bytes_eq (duty_state_name x.state) state)) refl
+
+pub duties_at_read : (state : List ℕ) (old new : State) (rows : List Row) (t : Tables) → Shown duties_at_text (Text state ∷ []) old new rows → Holds t old.now → rows ≡ map duty_cells (filter (stands_at state) t.duty)
+duties_at_read state old new rows t shown holds =
+    let this = d.duty_table in
+    shows this.name 23 this.columns this.key this.primary this.uniques this.orders 12 refl duty_cells (rows_of t) t.duty refl old.now holds.rows duties_at_text (codes "number" ∷ codes "release" ∷ codes "document" ∷ codes "package" ∷ codes "term" ∷ codes "code" ∷ codes "rule" ∷ codes "state" ∷ []) (same 8 0 ∷ []) (col 1 0 ∷ col 1 2 ∷ col 1 3 ∷ col 1 4 ∷ col 1 5 ∷ col 1 6 ∷ col 1 7 ∷ col 1 8 ∷ []) (0 ∷ []) duties_at_is duties_at_plain (Text state ∷ []) (duties_at_test state) (λ (cs : Row). (column cs 0 ∷ [], column cs 0 ∷ column cs 1 ∷ column cs 2 ∷ column cs 3 ∷ column cs 4 ∷ column cs 5 ∷ column cs 6 ∷ column cs 7 ∷ [])) (stands_at state) (λ r. refl) (λ r. refl) (duties_at_picks state) old new rows shown refl (by_rowid this.name 23 this.columns this.key this.primary this.uniques this.orders 12 refl duty_cells (rows_of t) t.duty refl old.now holds.rows) (ascending-filter _ (stands_at state) t.duty (duties_sorted t.duty holds.orderly.sorted.duty))

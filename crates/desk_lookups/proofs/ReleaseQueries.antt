@@ -26,7 +26,7 @@ use Rattle.desk_rows.specs.declared.row.ReleaseRow.{ReleaseRow}
 use Rattle.desk_rows.specs.declared.row.AttachedRow.{AttachedRow}
 use Rattle.desk_rows.specs.declared.row.ChoiceRow.{ChoiceRow}
 use Rattle.desk_lookups.proofs.Ties.{is_key}
-use Rattle.desk_lookups.proofs.Keyed.{same_number, same_text, together, attached_sorted, choices_sorted}
+use Rattle.desk_lookups.proofs.Keyed.{same_number, same_text, together, attached_sorted, choices_sorted, releases_sorted}
 use Rattle.desk_lookups.proofs.Selects.{order_by, by_rowid, by_unique, at_one_key, shows_some, counts, shows}
 
 -- ---- the release with a name
@@ -127,3 +127,24 @@ pub chosen_read : (release : List ℕ) (document : ℕ) (package_id : List ℕ) 
 chosen_read release document package_id old new rows t shown holds =
     let this = d.choice_table in
     shows this.name 19 this.columns this.key this.primary this.uniques this.orders 10 refl choice_cells (rows_of t) t.choice refl old.now holds.rows chosen_text (codes "term" ∷ []) (same 1 0 ∷ same 2 1 ∷ same 3 2 ∷ []) (col 1 4 ∷ []) (1 ∷ 2 ∷ 3 ∷ 4 ∷ []) chosen_is chosen_plain (Text release ∷ number document ∷ Text package_id ∷ []) (chosen_test release document package_id) (λ (cs : Row). (column cs 0 ∷ column cs 1 ∷ column cs 2 ∷ column cs 3 ∷ [], column cs 3 ∷ [])) (is_choice_of release document package_id) (λ r. refl) (λ r. refl) (chosen_picks release document package_id) old new rows shown refl (by_unique this.name 19 this.columns this.key this.primary this.uniques this.orders 10 refl choice_cells (rows_of t) t.choice refl old.now holds.rows 0 (1 ∷ 2 ∷ 3 ∷ 4 ∷ []) refl refl (λ (cs : Row). is_key (column cs 0) && (is_key (column cs 1) && (is_key (column cs 2) && (is_key (column cs 3) && true)))) (λ r. refl) (λ x. refl)) (ascending-filter _ (is_choice_of release document package_id) t.choice (choices_sorted t.choice holds.orderly.sorted.choice))
+
+-- ---- all releases
+
+abbrev every : ReleaseRow → Bool
+every x = true
+
+abbrev pub releases_text : List ℕ
+releases_text = codes "SELECT name, place, form, state, revision FROM releases ORDER BY name"
+
+releases_is : (command_of (understood d.desk_schema releases_text) ≡ Select (record { lets = []; body = query_on 14 ([]) (col 1 1 ∷ col 1 2 ∷ col 1 3 ∷ col 1 4 ∷ col 1 5 ∷ []) (order_by (1 ∷ [])) }) (codes "name" ∷ codes "place" ∷ codes "form" ∷ codes "state" ∷ codes "revision" ∷ [])) × (reads_listing d.desk_schema releases_text ≡ false)
+unfolding understood everything
+releases_is = (refl, refl)
+
+pub releases_plain : IsPlain (understood d.desk_schema releases_text)
+unfolding understood everything
+releases_plain = (refl, refl)
+
+pub releases_read : (old new : State) (rows : List Row) (t : Tables) → Shown releases_text ([]) old new rows → Holds t old.now → rows ≡ map release_cells (filter (every) t.releases)
+releases_read old new rows t shown holds =
+    let this = d.releases_table in
+    shows this.name 14 this.columns this.key this.primary this.uniques this.orders 8 refl release_cells (rows_of t) t.releases refl old.now holds.rows releases_text (codes "name" ∷ codes "place" ∷ codes "form" ∷ codes "state" ∷ codes "revision" ∷ []) ([]) (col 1 1 ∷ col 1 2 ∷ col 1 3 ∷ col 1 4 ∷ col 1 5 ∷ []) (1 ∷ []) releases_is releases_plain ([]) (λ (cs : Row). true) (λ (cs : Row). (column cs 0 ∷ [], column cs 0 ∷ column cs 1 ∷ column cs 2 ∷ column cs 3 ∷ column cs 4 ∷ [])) (every) (λ r. refl) (λ r. refl) (λ x. refl) old new rows shown refl (by_unique this.name 14 this.columns this.key this.primary this.uniques this.orders 8 refl release_cells (rows_of t) t.releases refl old.now holds.rows 1 (1 ∷ []) refl refl (λ (cs : Row). is_key (column cs 0) && true) (λ r. refl) (λ x. refl)) (ascending-filter _ (every) t.releases (releases_sorted t.releases holds.orderly.sorted.releases))

@@ -1,6 +1,8 @@
 -- What a query on one table shows, in the order of a key.
-use Rattle.std.proofs.Common.{◌≡◌, ℕ, Bool, true, false, List, [], ◌∷◌, map, filter, find, get_or, length, slice_get, Option, Some, refl, sym, ap, ap₂, subst, subst₂, ◌∙◌, IsPermutation, Less, is_lt, is_eq}
-use Rattle.std.specs.List.{AllByRecursion}
+use Rattle.std.proofs.Common.{◌≡◌, ℕ, Bool, true, false, List, [], ◌∷◌, map, filter, find, get_or, length, slice_get, Option, Some, refl, sym, ap, ap₂, subst, subst₂, ◌∙◌, IsPermutation, Ordering, Less, Equal, Greater, is_lt, is_eq}
+use Rattle.std.specs.List.{AllByRecursion, IsDistinct}
+use Rattle.std.specs.Ordering.{ordering_reverse}
+use Rattle.std.proofs.lemmas.Map.Keys.{IsDistinct-IsPermutation}
 use Rattle.std.proofs.lemmas.Cmp.{tied_itself}
 use Rattle.std.proofs.lemmas.List.{length-map}
 use Rattle.std.proofs.lemmas.List.Sorted.{IsPermutation-map, IsPermutation-trans, IsPermutation-sym, length_permutation}
@@ -52,6 +54,23 @@ AreApart ps = IsAscending (λ a b. is_eq (key_cmp 0 (keys ps) (picked ps a) (pic
 
 listed_in : (P : Table → Type 0) (tables : List Table) (place : ℕ) (t : Table) → slice_get tables place ≡ Some t → AllByRecursion P tables → P t
 listed_in P tables place t is all = all_has P tables t all (has_got tables place t is)
+
+is_eq-reverse : (o : Ordering) → is_eq (ordering_reverse o) ≡ is_eq o
+is_eq-reverse Less = refl
+is_eq-reverse Equal = refl
+is_eq-reverse Greater = refl
+
+apart_permuted : {X : Type 0} (e : X → X → Bool) → ((x y : X) → e x y ≡ e y x) → (xs ys : List X) → IsPermutation xs ys → IsAscending (λ a b. e a b ≡ false) xs → IsAscending (λ a b. e a b ≡ false) ys
+unfolding IsDistinct
+apart_permuted {X} e flips xs ys same apart = back ys (IsDistinct-IsPermutation e flips xs ys same (there xs apart))
+  where
+    there : (xs : List X) → IsAscending (λ a b. e a b ≡ false) xs → IsDistinct e xs
+    there [] h = tt
+    there (x ∷ xs) h = (h.0, there xs h.1)
+
+    back : (xs : List X) → IsDistinct e xs → IsAscending (λ a b. e a b ≡ false) xs
+    back [] h = tt
+    back (x ∷ xs) h = (h.0, back xs h.1)
 
 alike : {X : Type 0} (R : X → X → Type 0) (it : X → Row) (k : Row) (xs : List X) → ((a b : X) → it a ≡ k → it b ≡ k → R a b) → AllByRecursion (λ x. it x ≡ k) xs → IsAscending R xs
 alike R it k [] two are = tt
@@ -155,3 +174,10 @@ module _ (name : List ℕ) (tree : ℕ) (columns : List Column) (key : Option �
 
         pub shows : shown ≡ map (λ x. (u (f x)).1) (filter p xs)
         shows = let out = λ (o : Output). o.1 in answer.shown ∙ ap (map out) (sym as_wanted) ∙ map-map out (λ x. u (f x)) (filter p xs)
+
+        -- none of them are at one key
+        pub apart_shown : IsAscending (λ a b. is_eq (output_cmp asked (u (f a)) (u (f b))) ≡ false) (filter p xs)
+        apart_shown =
+            let cmp = output_cmp asked in
+            ascending_from_map (λ a b. is_eq (cmp a b) ≡ false) (λ x. u (f x)) (filter p xs)
+            (apart_permuted (λ a b. is_eq (cmp a b)) (λ a b. ap is_eq ((output_cmp_total asked).antisymm a b) ∙ is_eq-reverse (cmp b a)) outs wanted (IsPermutation-sym _ _ outs_are) no_ties)
