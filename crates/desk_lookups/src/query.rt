@@ -1,6 +1,7 @@
 //! A query of the database.
 
-ghost use Rattle.std.specs.Prelude.{◌≡◌, false, IfOk, OnErr};
+ghost use Rattle.std.specs.Prelude.{◌≡◌, ◌+◌, min, false, IfOk, OnErr};
+ghost use Rattle.desk_layout.specs.Cells.{number};
 ghost use Rattle.sqlite.specs.Given.{IsPlain};
 ghost use Rattle.sqlite.specs.Held.{state};
 ghost use Rattle.sqlite.specs.Listing.{understood};
@@ -38,4 +39,12 @@ pub(crate) fn text<'a>(text: &'a str) -> ValueRef<'a>
     ensures { bound_value (owned result) ≡ Words text.now }
 {
     ValueRef::Text(text.as_bytes())
+}
+
+/// A number as a query takes it. Where so many things are numbered from 1, one past the last stands for each that is beyond them.
+pub(crate) fn among(n: u64, count: u32) -> ValueRef<'static>
+    ensures { bound_value (owned result) ≡ number (min n (count + 1)) }
+{
+    let past = u64::from(count) + 1;
+    ValueRef::Int(n.min(past) as i64)
 }

@@ -1,8 +1,8 @@
-use Rattle.std.proofs.Common.{◌≡◌, ◌∷◌, [], map, filter}
+use Rattle.std.proofs.Common.{◌≡◌, ◌∷◌, [], ◌+◌, ◌∙◌, map, filter, length, min, ap, sym}
 use Rattle.sqlite_value.specs.declared.value.Value.TheVariants.{Text}
-use Rattle.sqlite.specs.Held.{state}
-use Rattle.desk_layout.specs.Cells.{duty_cells}
+use Rattle.desk_layout.specs.Cells.{number, duty_cells}
 use Rattle.desk_rows.specs.Keys.{is_duty_of}
+use Rattle.sqlite.specs.Held.{state}
 use Rattle.desk_lookups.proofs.Calls.{found_by, looked_by}
 use Rattle.desk_lookups.proofs.DutyQueries.{duties_of_text, duties_of_plain, duties_of_read}
 use Rattle.desk_lookups.proofs.duties.select_duties_of.Goals as goal
@@ -11,8 +11,7 @@ pub returns-clause-found : goal.returns-clause-found
 returns-clause-found g c =
     let old = state g.S.Store c.args.conn.now in
     let new = state g.S.Store c.query.new.conn in
-    let r = c.args.release.now in
-    found_by duties_of_text (Text r ∷ []) old new c.query.result (λ v. v.items) (λ t rows. rows ≡ map duty_cells (filter (is_duty_of r) t.duty)) (duties_of_read r old new)
+    found_by duties_of_text (Text c.args.release.now ∷ []) old new c.query.result (λ v. v.items) (λ t rows. rows ≡ map duty_cells (filter (is_duty_of c.args.release.now) t.duty)) (λ rows t shown holds. duties_of_read c.args.release.now old new rows t shown holds)
     (rw c.text.ensures at (c.query.ensures.ok duties_of_plain))
 
 pub returns-clause-kept : goal.returns-clause-kept
