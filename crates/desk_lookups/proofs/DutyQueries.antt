@@ -1,5 +1,5 @@
 -- What is shown of duties and their changes.
-use Rattle.std.proofs.Common.{◌≡◌, ℕ, pos, Bool, true, false, List, [], ◌∷◌, map, filter, codes, length, refl, sym, ap, ◌∙◌, IsPermutation}
+use Rattle.std.proofs.Common.{◌≡◌, ℕ, pos, Bool, true, false, List, [], ◌∷◌, map, filter, codes, length, refl, sym, ap, ◌∙◌, IsPermutation, is_eq}
 use Rattle.std.specs.Prelude.{◌&&◌, ◌==◌, bytes_eq}
 use Rattle.std.proofs.lemmas.Bool.{and_parts}
 use Rattle.sqlite_value.specs.declared.keys.Collation.TheVariants.{Binary}
@@ -10,6 +10,8 @@ use Rattle.sqlite_sql.specs.declared.ops.BinaryOp.TheVariants.{Compare}
 use Rattle.sqlite_sql.specs.declared.ops.CompareOp.TheVariants.{Eq}
 use Rattle.sqlite_sql.specs.Ops.{binary, is_true}
 use Rattle.sqlite_sql.specs.Term.{col}
+use Rattle.sqlite_sql.specs.Query.{key_cmp}
+use Rattle.sqlite_trees.specs.Tree.{IsAscending}
 use Rattle.sqlite_schema.specs.declared.command.Command.TheVariants.{Select}
 use Rattle.sqlite_tied.specs.Compute.{everything}
 use Rattle.sqlite.specs.Listing.{understood, reads_listing}
@@ -25,9 +27,9 @@ use Rattle.desk_rows.specs.Keys.{is_duty, is_duty_of, is_change_of}
 use Rattle.desk_rows.specs.Names.{duty_state_name}
 use Rattle.desk_rows.specs.declared.row.DutyRow.{DutyRow}
 use Rattle.desk_rows.specs.declared.row.ChangeRow.{ChangeRow}
-use Rattle.desk_lookups.proofs.Ties.{is_key}
+use Rattle.desk_lookups.proofs.Ties.{is_key, keys}
 use Rattle.desk_lookups.proofs.Keyed.{same_number, same_text, together, duties_sorted, changes_sorted}
-use Rattle.desk_lookups.proofs.Selects.{order_by, by_rowid, by_unique, at_one_key, shows_some, counts, shows}
+use Rattle.desk_lookups.proofs.Selects.{order_by, by_rowid, by_unique, at_one_key, shows_some, counts, shows, apart_shown}
 
 -- ---- the duty with a number
 
@@ -128,6 +130,13 @@ changes_of_read duty old new rows t shown holds =
     let this = d.change_table in
     shows this.name 25 this.columns this.key this.primary this.uniques this.orders 13 refl change_cells (rows_of t) t.changes refl old.now holds.rows changes_of_text (codes "duty" ∷ codes "step" ∷ codes "day" ∷ codes "word" ∷ codes "body" ∷ []) (same 1 0 ∷ []) (col 1 1 ∷ col 1 2 ∷ col 1 3 ∷ col 1 4 ∷ col 1 5 ∷ []) (1 ∷ 2 ∷ []) changes_of_is changes_of_plain (number duty ∷ []) (changes_of_test duty) (λ (cs : Row). (column cs 0 ∷ column cs 1 ∷ [], column cs 0 ∷ column cs 1 ∷ column cs 2 ∷ column cs 3 ∷ column cs 4 ∷ [])) (is_change_of duty) (λ r. refl) (λ r. refl) (changes_of_picks duty) old new rows shown refl (by_unique this.name 25 this.columns this.key this.primary this.uniques this.orders 13 refl change_cells (rows_of t) t.changes refl old.now holds.rows 0 (1 ∷ 2 ∷ []) refl refl (λ (cs : Row). is_key (column cs 0) && (is_key (column cs 1) && true)) (λ r. refl) (λ x. refl)) (ascending-filter _ (is_change_of duty) t.changes (changes_sorted t.changes holds.orderly.sorted.changes))
 
+-- no two of them have one step
+pub changes_of_apart : (duty : ℕ) (old new : State) (rows : List Row) (t : Tables) → Shown changes_of_text (number duty ∷ []) old new rows → Holds t old.now
+    → IsAscending (λ (a : ChangeRow) (b : ChangeRow). is_eq (key_cmp 0 (keys (1 ∷ 2 ∷ [])) (number a.duty ∷ number a.step ∷ []) (number b.duty ∷ number b.step ∷ [])) ≡ false) (filter (is_change_of duty) t.changes)
+changes_of_apart duty old new rows t shown holds =
+    let this = d.change_table in
+    apart_shown this.name 25 this.columns this.key this.primary this.uniques this.orders 13 refl change_cells (rows_of t) t.changes refl old.now holds.rows changes_of_text (codes "duty" ∷ codes "step" ∷ codes "day" ∷ codes "word" ∷ codes "body" ∷ []) (same 1 0 ∷ []) (col 1 1 ∷ col 1 2 ∷ col 1 3 ∷ col 1 4 ∷ col 1 5 ∷ []) (1 ∷ 2 ∷ []) changes_of_is changes_of_plain (number duty ∷ []) (changes_of_test duty) (λ (cs : Row). (column cs 0 ∷ column cs 1 ∷ [], column cs 0 ∷ column cs 1 ∷ column cs 2 ∷ column cs 3 ∷ column cs 4 ∷ [])) (is_change_of duty) (λ r. refl) (λ r. refl) (changes_of_picks duty) old new rows shown refl (by_unique this.name 25 this.columns this.key this.primary this.uniques this.orders 13 refl change_cells (rows_of t) t.changes refl old.now holds.rows 0 (1 ∷ 2 ∷ []) refl refl (λ (cs : Row). is_key (column cs 0) && (is_key (column cs 1) && true)) (λ r. refl) (λ x. refl)) (ascending-filter _ (is_change_of duty) t.changes (changes_sorted t.changes holds.orderly.sorted.changes))
+
 -- ---- the waivers of a duty that end
 
 abbrev pub waivers_of_text : List ℕ
@@ -179,3 +188,27 @@ pub duties_at_read : (state : List ℕ) (old new : State) (rows : List Row) (t :
 duties_at_read state old new rows t shown holds =
     let this = d.duty_table in
     shows this.name 23 this.columns this.key this.primary this.uniques this.orders 12 refl duty_cells (rows_of t) t.duty refl old.now holds.rows duties_at_text (codes "number" ∷ codes "release" ∷ codes "document" ∷ codes "package" ∷ codes "term" ∷ codes "code" ∷ codes "rule" ∷ codes "state" ∷ []) (same 8 0 ∷ []) (col 1 0 ∷ col 1 2 ∷ col 1 3 ∷ col 1 4 ∷ col 1 5 ∷ col 1 6 ∷ col 1 7 ∷ col 1 8 ∷ []) (0 ∷ []) duties_at_is duties_at_plain (Text state ∷ []) (duties_at_test state) (λ (cs : Row). (column cs 0 ∷ [], column cs 0 ∷ column cs 1 ∷ column cs 2 ∷ column cs 3 ∷ column cs 4 ∷ column cs 5 ∷ column cs 6 ∷ column cs 7 ∷ [])) (stands_at state) (λ r. refl) (λ r. refl) (duties_at_picks state) old new rows shown refl (by_rowid this.name 23 this.columns this.key this.primary this.uniques this.orders 12 refl duty_cells (rows_of t) t.duty refl old.now holds.rows) (ascending-filter _ (stands_at state) t.duty (duties_sorted t.duty holds.orderly.sorted.duty))
+
+-- ---- the days of the changes of a duty
+
+abbrev pub days_of_text : List ℕ
+days_of_text = codes "SELECT day FROM change WHERE duty = ?1 ORDER BY duty, step"
+
+days_of_is : (command_of (understood d.desk_schema days_of_text) ≡ Select (record { lets = []; body = query_on 25 (same 1 0 ∷ []) (col 1 3 ∷ []) (order_by (1 ∷ 2 ∷ [])) }) (codes "day" ∷ [])) × (reads_listing d.desk_schema days_of_text ≡ false)
+unfolding understood everything
+days_of_is = (refl, refl)
+
+pub days_of_plain : IsPlain (understood d.desk_schema days_of_text)
+unfolding understood everything
+days_of_plain = (refl, refl)
+
+abbrev days_of_test : ℕ → Row → Bool
+days_of_test duty cs = is_true (binary (Compare Eq Binary) (column cs 0) (number duty)) && true
+
+days_of_picks : (duty : ℕ) (x : ChangeRow) → days_of_test duty (change_cells x) ≡ (is_change_of duty) x
+days_of_picks duty x = rw (int_test x.duty duty, and_true (x.duty == duty)) refl
+
+pub days_of_read : (duty : ℕ) (old new : State) (rows : List Row) (t : Tables) → Shown days_of_text (number duty ∷ []) old new rows → Holds t old.now → rows ≡ map (λ (x : ChangeRow). Text x.day ∷ []) (filter (is_change_of duty) t.changes)
+days_of_read duty old new rows t shown holds =
+    let this = d.change_table in
+    shows this.name 25 this.columns this.key this.primary this.uniques this.orders 13 refl change_cells (rows_of t) t.changes refl old.now holds.rows days_of_text (codes "day" ∷ []) (same 1 0 ∷ []) (col 1 3 ∷ []) (1 ∷ 2 ∷ []) days_of_is days_of_plain (number duty ∷ []) (days_of_test duty) (λ (cs : Row). (column cs 0 ∷ column cs 1 ∷ [], column cs 2 ∷ [])) (is_change_of duty) (λ r. refl) (λ r. refl) (days_of_picks duty) old new rows shown refl (by_unique this.name 25 this.columns this.key this.primary this.uniques this.orders 13 refl change_cells (rows_of t) t.changes refl old.now holds.rows 0 (1 ∷ 2 ∷ []) refl refl (λ (cs : Row). is_key (column cs 0) && (is_key (column cs 1) && true)) (λ r. refl) (λ x. refl)) (ascending-filter _ (is_change_of duty) t.changes (changes_sorted t.changes holds.orderly.sorted.changes))

@@ -2,6 +2,7 @@ pub mod Ties
 pub mod Selects
 pub mod Keyed
 pub mod Calls
+pub mod Ending
 pub mod Among
 pub mod Chains
 pub mod Loops
