@@ -3,10 +3,10 @@
 ghost use Rattle.std.specs.Prelude.{◌≡◌, false, IfOk, IfSome, filter, map, length};
 ghost use Rattle.sqlite.specs.Held.{state};
 ghost use Rattle.desk_access.specs.Seen.{Looked, OfRows};
-ghost use Rattle.desk_history.specs.FromTables.{duty_found, steps_found};
-ghost use Rattle.desk_layout.specs.Cells.{change_cells, duty_cells};
+ghost use Rattle.desk_history.specs.FromTables.{duty_found};
+ghost use Rattle.desk_layout.specs.Cells.{duty_cells};
 ghost use Rattle.desk_layout.specs.Held.{seen_of};
-ghost use Rattle.desk_rows.specs.Keys.{is_change_of, is_duty, is_duty_of};
+ghost use Rattle.desk_rows.specs.Keys.{is_duty, is_duty_of};
 
 use crate::columns::ROWS;
 use crate::query::{among, query, text};
@@ -42,8 +42,8 @@ fn numbered(found: Option<DutyRow>, number: u64) -> Result<Option<DutyRow>, Faul
     }
 }
 
-#[tactic(auto, using(crate::proofs::Loops::first_is))]
 /// The duty with a number, of so many duties.
+#[tactic(auto, using(crate::proofs::Loops::first_is))]
 pub fn duty<S: Alter>(
     alloc: Global,
     conn: &mut Connection<S>,
@@ -89,32 +89,3 @@ pub fn duties_of<S: Alter>(
     read_all(alloc, &rows)
 }
 
-fn select_steps<S: Alter>(
-    conn: &mut Connection<S>,
-    duties: u32,
-    duty: u64,
-) -> Result<Vec<Row>, Fault>
-    ensures found { IfOk result (λ rows. OfRows (λ t. length t.duty ≡ duties → length rows.items ≡ steps_found t duty) (seen_of (state S.Store conn.old)) (seen_of (state S.Store conn.new))) }
-    ensures kept { Looked (seen_of (state S.Store conn.old)) (seen_of (state S.Store conn.new)) result }
-    ensures mode { conn.old.in_transaction ≡ false → conn.new.in_transaction ≡ false }
-{
-    query(
-        conn,
-        "SELECT step FROM change WHERE duty = ?1",
-        &[among(duty, duties)],
-    )
-}
-
-/// How many changes a duty has, of so many duties.
-pub fn steps<S: Alter>(
-    conn: &mut Connection<S>,
-    duties: u32,
-    duty: u64,
-) -> Result<u64, Fault>
-    ensures found { IfOk result (λ found. OfRows (λ t. length t.duty ≡ duties → found ≡ steps_found t duty) (seen_of (state S.Store conn.old)) (seen_of (state S.Store conn.new))) }
-    ensures kept { Looked (seen_of (state S.Store conn.old)) (seen_of (state S.Store conn.new)) result }
-    ensures mode { conn.old.in_transaction ≡ false → conn.new.in_transaction ≡ false }
-{
-    let rows = select_steps(conn, duties, duty)?;
-    Ok(rows.len() as u64)
-}

@@ -1,12 +1,12 @@
 use Rattle.std.proofs.Common.{◌≡◌, ◌∷◌, [], ◌+◌, ◌∙◌, map, filter, length, min, ap, sym}
 use Rattle.sqlite_value.specs.declared.value.Value.TheVariants.{Text}
-use Rattle.desk_layout.specs.Cells.{number, duty_cells}
+use Rattle.desk_layout.specs.Cells.{number, change_cells}
 use Rattle.desk_history.specs.FromTables.{steps_found}
 use Rattle.desk_lookups.proofs.Among.{changes_among}
 use Rattle.sqlite.specs.Held.{state}
 use Rattle.desk_lookups.proofs.Calls.{found_by, looked_by}
 use Rattle.desk_lookups.proofs.DutyQueries.{steps_text, steps_plain, steps_count}
-use Rattle.desk_lookups.proofs.duties.select_steps.Goals as goal
+use Rattle.desk_lookups.proofs.changes.select_steps.Goals as goal
 
 pub returns-clause-found : goal.returns-clause-found
 returns-clause-found g c =
