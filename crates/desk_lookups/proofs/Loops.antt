@@ -1,5 +1,6 @@
 -- A loop over rows, and the first of some.
 use Rattle.std.proofs.Common.{◌≡◌, ℕ, zero, suc, ◌<◌, Bool, true, false, List, [], ◌∷◌, ◌++◌, map, take, length, get_or, filter, find, refl, ap, arith, slice_get}
+use Rattle.std.specs.Option.{option_map}
 
 pub front_more : {X Y : Type 0} (f : X → Y) (xs : List X) (i : ℕ) (d : Y) → i < length (map f xs) → (x : X) × (get_or (map f xs) i d ≡ f x) × (take (suc i) xs ≡ take i xs ++ x ∷ [])
 front_more f [] i d low = absurd (omega arith)
@@ -12,5 +13,13 @@ first_is p [] = refl
 first_is {X} p (x ∷ xs) = go (first_is p xs) (p x) refl
   where
     go : slice_get (filter p xs) 0 ≡ find p xs → (b : Bool) → p x ≡ b → slice_get (filter p (x ∷ xs)) 0 ≡ find p (x ∷ xs)
+    go more true is = rw is refl
+    go more false is = rw is more
+
+pub first_mapped : {X Y : Type 0} (f : X → Y) (p : X → Bool) (xs : List X) → slice_get (map f (filter p xs)) 0 ≡ option_map f (find p xs)
+first_mapped f p [] = refl
+first_mapped {X} f p (x ∷ xs) = go (first_mapped f p xs) (p x) refl
+  where
+    go : slice_get (map f (filter p xs)) 0 ≡ option_map f (find p xs) → (b : Bool) → p x ≡ b → slice_get (map f (filter p (x ∷ xs))) 0 ≡ option_map f (find p (x ∷ xs))
     go more true is = rw is refl
     go more false is = rw is more
