@@ -3,7 +3,10 @@
 
 mod changes;
 mod columns;
+mod documents;
 mod duties;
+mod office;
 mod query;
 mod read;
+mod releases;
 mod rows;
