@@ -6,3 +6,5 @@ pub mod Steps
 pub mod Writes
 pub mod Casts
 pub mod Statements
+pub mod Ascending
+pub mod Orderly

@@ -4,3 +4,4 @@ mod Deletes
 mod Updates
 mod Lists
 mod Moves
+mod Applied

@@ -7,8 +7,7 @@ use Rattle.sqlite.specs.State.{State, HasCleanDisk, KeepsCommit, ExecutesInside}
 use Rattle.desk_rows.specs.Tables.{Tables, applied}
 use Rattle.desk_rows.specs.declared.command.Change.{Change}
 use Rattle.desk_rows.specs.declared.command.Fault.{Fault}
-use Rattle.desk_access.specs.Follows.{Follows}
-use Rattle.desk_layout.specs.Held.{HasRows, Holds}
+use Rattle.desk_layout.specs.Held.{HasRows, rows_of}
 
 -- Inside a transaction, which goes on, this was made of whatever rows the database had, and nothing was committed.
 pub record Wrote {A : Type 0} (rows : A → ℕ → List Row) (made : A → A) (old new : State) : Type 0 where
@@ -26,12 +25,12 @@ abbrev pub Ran : List ℕ → Row → State → State → Result (Unit {0}) Faul
 Ran sql params old new (Ok done) = HasCleanDisk new → IsTrue old.in_transaction → (count : ℕ) × ExecutesInside 0 sql params old new (Ok count)
 Ran sql params old new (Err fault) = HasCleanDisk new → IsTrue old.in_transaction → KeepsCommit old new
 
--- the change was made and committed
+-- the change was made of whatever tables the database had, and committed
 pub record Done (change : Change) (old new : State) : Type 0 where
   pub was_open : IsTrue old.is_open
   pub is_open : IsTrue new.is_open
   pub settled : new.committed ≡ new.now
-  pub made : (t : Tables) → Follows change t → Holds t old.now → Holds (applied change t) new.now
+  pub made : (t : Tables) → HasRows (rows_of t) old.now → HasRows (rows_of (applied change t)) new.now
 
 -- nothing was committed, and what was begun is gone
 pub record Undone (old new : State) : Type 0 where
@@ -41,4 +40,4 @@ pub record Undone (old new : State) : Type 0 where
 
 -- a stop leaves the change
 abbrev pub Leaves : Change → State → Trees → Type 0
-Leaves change old trees = (db : Database) × ((t : Tables) → Follows change t → Holds t old.now → Holds (applied change t) db) × (trees ≡ db.trees)
+Leaves change old trees = (db : Database) × ((t : Tables) → HasRows (rows_of t) old.now → HasRows (rows_of (applied change t)) db) × (trees ≡ db.trees)

@@ -5,8 +5,9 @@ ghost use Rattle.sqlite.specs.Held.{state};
 ghost use Rattle.sqlite.specs.State.{Survives};
 ghost use Rattle.desk_rows.specs.Keys.{is_release, is_conclusion, is_adoption};
 ghost use Rattle.desk_rows.specs.Lists.{updated};
-ghost use Rattle.desk_rows.specs.Tables.{is_other_choice, is_choice_elsewhere, with_release_state, withdrawn_release, moved_by};
+ghost use Rattle.desk_rows.specs.Tables.{applied, is_other_choice, is_choice_elsewhere, with_release_state, withdrawn_release, moved_by};
 ghost use Rattle.desk_rows.specs.declared.state.ReleaseState.TheVariants.{Frozen};
+ghost use Rattle.desk_layout.specs.Held.{rows_of};
 ghost use Rattle.desk_writing.specs.Contents.{cells_of, with_tables, with_steps, with_document};
 ghost use Rattle.desk_writing.specs.Written.{Writes};
 
@@ -15,11 +16,12 @@ use crate::document::{add_document, add_packages, add_reading, add_references};
 use crate::duty::{add_duties, add_steps, set_duties};
 use crate::office::{add_adoption, add_conclusion, drop_adoption, drop_conclusion};
 use crate::release::{
-    add_choices, add_frozen_terms, drop_choices, drop_choices_in, freeze_release, withdraw_release,
+    add_attached, add_choices, add_frozen_terms, add_release, drop_choices, drop_choices_in,
+    freeze_release, withdraw_release,
 };
 use desk_base::Text;
 use desk_rows::{
-    AdoptionRow, CatalogueRow, ChangeRow, ChoiceRow, ConclusionRow, DocumentRow, DutyRow,
+    AdoptionRow, CatalogueRow, Change, ChangeRow, ChoiceRow, ConclusionRow, DocumentRow, DutyRow,
     ExtractedRow, Fault, FrozenRow, PackageRow, RuleRow,
 };
 use sqlite::{Alter, Transaction};
@@ -154,7 +156,7 @@ pub(crate) fn add_terms<S: Alter>(
 pub(crate) fn freeze<S: Alter>(
     tx: &mut Transaction<'_, S>,
     release: &Text,
-    revision: u32,
+    revision: u64,
     frozen: &[FrozenRow],
     duties: &[DutyRow],
     changes: &[ChangeRow],
@@ -206,4 +208,54 @@ pub(crate) fn withdraw<S: Alter>(
 {
     withdraw_release(tx, release)?;
     clear(tx, release, changes)
+}
+
+/// Writes a change.
+pub(crate) fn make<S: Alter>(
+    alloc: Global,
+    tx: &mut Transaction<'_, S>,
+    change: &Change,
+) -> Result<(), Fault>
+    ensures same_reference { tx.new.conn.ghost_name ≡ tx.old.conn.ghost_name }
+    ensures wrote { Writes rows_of (applied change.now) (state S.Store tx.old.conn.now) (state S.Store tx.new.conn.now) result }
+    ensures survives { Survives (state S.Store tx.old.conn.now) (state S.Store tx.new.conn.now) (λ _. ⊥) }
+{
+    match change {
+        Change::Loaded {
+            catalogue,
+            rules,
+            forms: _,
+        } => load(alloc, tx, catalogue, rules.as_slice()),
+        Change::Imported {
+            document,
+            packages,
+            references,
+        } => import(tx, document, packages.as_slice(), references.as_slice()),
+        Change::Opened(row) => add_release(tx, row),
+        Change::Attached(row) => add_attached(tx, row),
+        Change::Chosen {
+            release,
+            document,
+            package_id,
+            rows,
+        } => choose(tx, release, *document, package_id, rows.as_slice()),
+        Change::Froze {
+            release,
+            revision,
+            frozen,
+            duties,
+            changes,
+        } => freeze(
+            tx,
+            release,
+            *revision,
+            frozen.as_slice(),
+            duties.as_slice(),
+            changes.as_slice(),
+        ),
+        Change::Moved { changes } => move_duties(tx, changes.as_slice()),
+        Change::Withdrew { release, changes } => withdraw(tx, release, changes.as_slice()),
+        Change::Concluded(row) => conclude(tx, row),
+        Change::Adopted(row) => adopt(tx, row),
+    }
 }

@@ -3,6 +3,7 @@
 
 mod catalogue;
 mod change;
+mod commit;
 mod document;
 mod duty;
 mod office;

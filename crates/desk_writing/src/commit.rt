@@ -1,0 +1,31 @@
+//! A change is written whole, or not at all.
+
+ghost use Rattle.std.specs.Prelude.{◌≡◌, false, IsTrue, OnOk, OnErr};
+ghost use Rattle.sqlite.specs.Held.{state};
+ghost use Rattle.sqlite.specs.State.{HasCleanDisk, Survives};
+ghost use Rattle.desk_access.specs.Seen.{Wrote};
+ghost use Rattle.desk_layout.specs.Held.{Stands, seen_of};
+ghost use Rattle.desk_writing.specs.Written.{Done, Undone, Leaves};
+
+use crate::change::make;
+use desk_layout::fault::fault_of;
+use desk_rows::{Change, Fault};
+use sqlite::{Alter, Connection};
+use std::alloc::Global;
+
+/// Writes a change in one transaction.
+fn write<S: Alter>(alloc: Global, conn: &mut Connection<S>, change: &Change) -> Result<(), Fault>
+    requires { conn.old.in_transaction ≡ false }
+    ensures ok { HasCleanDisk (state S.Store conn.new) → OnOk result (Done change.now (state S.Store conn.old) (state S.Store conn.new)) }
+    ensures err { HasCleanDisk (state S.Store conn.new) → OnErr result (Undone (state S.Store conn.old) (state S.Store conn.new)) }
+    ensures mode { conn.new.in_transaction ≡ false }
+    ensures crash { Survives (state S.Store conn.old) (state S.Store conn.new) (Leaves change.now (state S.Store conn.old)) }
+    ensures stop { IsTrue (state S.Store conn.new).is_open → (trees : _) → (state S.Store conn.new).may_leave trees → trees ≡ (state S.Store conn.new).committed.trees }
+{
+    let mut tx = conn.transaction();
+    make(alloc, &mut tx, change)?;
+    match tx.commit() {
+        Ok(()) => Ok(()),
+        Err(error) => Err(fault_of(&error)),
+    }
+}
