@@ -1,2 +1,3 @@
 pub mod Made
 mod Texts
+mod Empty

@@ -6,6 +6,7 @@ ghost use Rattle.sqlite_schema.specs.declared.schema.Schema.{Schema as Declared}
 ghost use Rattle.sqlite.specs.Held.{state};
 ghost use Rattle.sqlite.specs.State.{HasCleanDisk, KeepsCommit, Survives};
 ghost use Rattle.desk_layout.specs.Layout.{desk_schema, no_schema};
+ghost use Rattle.desk_tables.specs.Creating.{HasFounded};
 ghost use Rattle.desk_tables.specs.Declaring.{IsBare, HasDeclared, Left, Ran};
 
 use desk_layout::fault::fault_of;
@@ -72,4 +73,14 @@ fn declare<S: Alter>(tx: &mut Transaction<'_, S>, texts: &[&str]) -> Result<(), 
         execute(tx, text_at(texts, place))?;
     }
     Ok(())
+}
+
+/// Declares all tables, and notes their version.
+fn found<S: Alter>(tx: &mut Transaction<'_, S>) -> Result<(), Fault>
+    ensures same_reference { tx.new.conn.ghost_name ≡ tx.old.conn.ghost_name }
+    ensures founded { HasFounded (state S.Store tx.old.conn.now) (state S.Store tx.new.conn.now) result }
+    ensures survives { Survives (state S.Store tx.old.conn.now) (state S.Store tx.new.conn.now) (λ _. ⊥) }
+{
+    declare(tx, &TABLES)?;
+    execute(tx, "INSERT INTO meta VALUES (3)")
 }
