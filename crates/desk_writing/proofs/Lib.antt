@@ -5,3 +5,6 @@ mod Updates
 mod Lists
 mod Moves
 mod Applied
+mod Declared
+mod Declarations
+mod Empty

@@ -3,9 +3,12 @@
 
 mod catalogue;
 mod change;
+mod create;
 mod commit;
 mod document;
 mod duty;
 mod office;
 mod release;
 mod statement;
+
+pub use create::{Refused, create_tables};

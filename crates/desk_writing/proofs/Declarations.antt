@@ -6,7 +6,7 @@ use Rattle.sqlite_schema.specs.declared.schema.Schema.{Schema}
 use Rattle.sqlite_catalog.specs.Change.{created}
 use Rattle.sqlite.specs.Listing.{understood}
 use Rattle.desk_layout.specs.Layout as d
-use Rattle.desk_tables.specs.Declaring.{Declares, AreDeclared, schema_after}
+use Rattle.desk_writing.specs.Declaring.{Declares, AreDeclared, schema_after}
 
 -- a table as its text declares it, before it has a tree
 abbrev bare : Table → Table

@@ -1,8 +1,8 @@
 use Rattle.std.proofs.Common.{◌≡◌, drop, map, IsTrue}
 use Rattle.sqlite.specs.Held.{state}
 use Rattle.sqlite.specs.State.{HasCleanDisk, Survives}
-use Rattle.desk_tables.specs.Declaring.{Went}
-use Rattle.desk_tables.proofs.create.declare.Given as goal
+use Rattle.desk_writing.specs.Declaring.{Went}
+use Rattle.desk_writing.proofs.create.declare.Given as goal
 
 abbrev pub invariant-loop-place : goal.invariant-loop-place
 invariant-loop-place g l = record {

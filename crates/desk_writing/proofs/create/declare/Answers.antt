@@ -1,8 +1,9 @@
 use Rattle.std.proofs.Common.{◌∙◌, map}
 use Rattle.sqlite.specs.Held.{state}
 use Rattle.sqlite.proofs.StateLemmas.{survives_then}
-use Rattle.desk_tables.proofs.Made.{clean_before, went_on}
-use Rattle.desk_tables.proofs.create.declare.Goals as goal
+use Rattle.desk_writing.proofs.Declared.{went_on}
+use Rattle.desk_writing.proofs.Inside.{clean_before}
+use Rattle.desk_writing.proofs.create.declare.Goals as goal
 
 pub loop-place-preserved : goal.loop-place-preserved
 loop-place-preserved g c = record {

@@ -10,7 +10,7 @@ use Rattle.sqlite.specs.Listing.{understood}
 use Rattle.sqlite.specs.Effect.{Database, IsDatabase}
 use Rattle.sqlite.specs.Does.{lacks_sequence}
 use Rattle.sqlite.specs.Given.{IsPlain}
-use Rattle.sqlite.specs.State.{State, ExecutesInside, HasCleanDisk, KeepsCommit}
+use Rattle.sqlite.specs.State.{State, HasCleanDisk, KeepsCommit}
 use Rattle.sqlite.proofs.Callers.{command_of, statement_of}
 use Rattle.desk_rows.specs.declared.command.Fault.{Fault}
 
@@ -44,11 +44,6 @@ pub record Left (texts : List (List ℕ)) (final : Schema) (db : Database) : Typ
   pub declared : AreDeclared tables schema
   pub bare : IsBare schema db
   pub final_is : schema_after schema tables ≡ final
-
--- a text that was run inside a transaction
-abbrev pub Ran : List ℕ → State → State → Result (Unit {0}) Fault → Type 0
-Ran sql old new (Ok done) = HasCleanDisk new → IsTrue old.in_transaction → (count : ℕ) × ExecutesInside 0 sql [] old new (Ok count)
-Ran sql old new (Err fault) = HasCleanDisk new → IsTrue old.in_transaction → KeepsCommit old new
 
 pub record Went (texts rest : List (List ℕ)) (old new : State) : Type 0 where
   pub inside : IsTrue new.in_transaction

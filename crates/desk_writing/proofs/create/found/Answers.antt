@@ -1,8 +1,8 @@
 use Rattle.std.proofs.Common.{map, refl}
 use Rattle.sqlite.specs.Held.{state}
-use Rattle.desk_tables.proofs.Made.{clean_before}
-use Rattle.desk_tables.proofs.Empty.{all_texts, founded}
-use Rattle.desk_tables.proofs.create.found.Goals as goal
+use Rattle.desk_writing.proofs.Inside.{clean_before}
+use Rattle.desk_writing.proofs.Empty.{all_texts, founded}
+use Rattle.desk_writing.proofs.create.found.Goals as goal
 
 pub returns-clause-founded : goal.returns-clause-founded
 returns-clause-founded g c =

@@ -1,14 +1,15 @@
 //! The desk's tables are created in a database that has none.
 
-ghost use Rattle.std.specs.Prelude.{◌≡◌, ◌<◌, ℕ, List, length, map, slice_get, Some, false, true, IsTrue, OnOk, OnErr, Err};
-ghost use Rattle.std.specs.Result.{IsErr};
-ghost use Rattle.sqlite_schema.specs.declared.schema.Schema.{Schema as Declared};
+ghost use Rattle.std.specs.Prelude.{◌≡◌, ◌<◌, ℕ, List, length, map, slice_get, Some, false, true, IsTrue, IfErr, OnOk, OnErr, Err};
 ghost use Rattle.sqlite.specs.Held.{state};
-ghost use Rattle.sqlite.specs.State.{HasCleanDisk, KeepsCommit, Survives};
-ghost use Rattle.desk_layout.specs.Layout.{desk_schema, no_schema};
-ghost use Rattle.desk_tables.specs.Creating.{HasFounded};
-ghost use Rattle.desk_tables.specs.Declaring.{IsBare, HasDeclared, Left, Ran};
+ghost use Rattle.sqlite.specs.State.{HasCleanDisk, Survives};
+ghost use Rattle.desk_layout.specs.Layout.{no_schema};
+ghost use Rattle.desk_layout.specs.Held.{Stands};
+ghost use Rattle.desk_writing.specs.Creating.{Created, Founded, HasFounded, LeavesTables, has_meta, no_tables};
+ghost use Rattle.desk_writing.specs.Written.{Undone};
+ghost use Rattle.desk_writing.specs.Declaring.{HasDeclared};
 
+use crate::statement::execute;
 use desk_layout::fault::fault_of;
 use desk_rows::{Fault, StoreFault};
 use sqlite::{Alter, Connection, Transaction};
@@ -44,18 +45,6 @@ pub enum Refused {
     Fault(Fault),
 }
 
-/// Runs a statement that takes no values.
-fn execute<S: Alter>(tx: &mut Transaction<'_, S>, sql: &str) -> Result<(), Fault>
-    ensures same_reference { tx.new.conn.ghost_name ≡ tx.old.conn.ghost_name }
-    ensures ran { Ran sql.now (state S.Store tx.old.conn.now) (state S.Store tx.new.conn.now) result }
-    ensures survives { Survives (state S.Store tx.old.conn.now) (state S.Store tx.new.conn.now) (λ _. ⊥) }
-{
-    match tx.execute(sql, &[]) {
-        Ok(_count) => Ok(()),
-        Err(error) => Err(fault_of(&error)),
-    }
-}
-
 fn text_at<'t>(texts: &[&'t str], place: usize) -> &'t str
     requires { place < length texts.now }
     ensures { slice_get (map (λ text. text.now) texts.now) place ≡ Some result.now }
@@ -70,7 +59,7 @@ fn declare<S: Alter>(tx: &mut Transaction<'_, S>, texts: &[&str]) -> Result<(), 
     ensures survives { Survives (state S.Store tx.old.conn.now) (state S.Store tx.new.conn.now) (λ _. ⊥) }
 {
     for place in 0..texts.len() {
-        execute(tx, text_at(texts, place))?;
+        execute(tx, text_at(texts, place), &[])?;
     }
     Ok(())
 }
@@ -82,5 +71,69 @@ fn found<S: Alter>(tx: &mut Transaction<'_, S>) -> Result<(), Fault>
     ensures survives { Survives (state S.Store tx.old.conn.now) (state S.Store tx.new.conn.now) (λ _. ⊥) }
 {
     declare(tx, &TABLES)?;
-    execute(tx, "INSERT INTO meta VALUES (3)")
+    execute(tx, "INSERT INTO meta VALUES (3)", &[])
+}
+
+/// Creates the tables in one transaction.
+fn write<S: Alter>(conn: &mut Connection<S>) -> Result<(), Fault>
+    requires { conn.old.in_transaction ≡ false }
+    ensures ok { HasCleanDisk (state S.Store conn.new) → OnOk result (Created (state S.Store conn.old) (state S.Store conn.new)) }
+    ensures err { HasCleanDisk (state S.Store conn.new) → OnErr result (Undone (state S.Store conn.old) (state S.Store conn.new)) }
+    ensures mode { conn.new.in_transaction ≡ false }
+    ensures crash { Survives (state S.Store conn.old) (state S.Store conn.new) (LeavesTables (state S.Store conn.old)) }
+    ensures stop { IsTrue (state S.Store conn.new).is_open → (trees : _) → (state S.Store conn.new).may_leave trees → trees ≡ (state S.Store conn.new).committed.trees }
+{
+    let mut tx = conn.transaction();
+    found(&mut tx)?;
+    match tx.commit() {
+        Ok(()) => Ok(()),
+        Err(error) => Err(fault_of(&error)),
+    }
+}
+
+/// Whether a table has the name `meta`.
+fn has_meta(schema: &Schema) -> bool
+    ensures { result ≡ has_meta schema.now }
+{
+    let tables = schema.tables.as_slice();
+    tables
+        .iter()
+        .any(|table| same_name(table.name.as_slice(), "meta".as_bytes()))
+}
+
+/// Whether nothing stands in a database.
+fn is_blank(schema: &Schema) -> bool
+    ensures { result ≡ true → schema.now ≡ no_schema }
+{
+    schema.tables.as_slice().is_empty()
+        && schema.indexes.as_slice().is_empty()
+        && schema.views.as_slice().is_empty()
+}
+
+/// Creates the tables of an empty desk in a database where nothing stands, in one transaction.
+///
+/// A database with a table `meta` is refused as NotEmpty, and one with other tables by a fault of the store. After a refusal or a
+/// fault the tables are as they were.
+pub fn create_tables<S: Alter>(conn: &mut Connection<S>) -> Result<(), Refused>
+    requires { conn.old.in_transaction ≡ false }
+    ensures ok { HasCleanDisk (state S.Store conn.new) → OnOk result (Founded (state S.Store conn.old) (state S.Store conn.new)) }
+    ensures not_empty { IfErr result (λ refused. refused ≡ Refused.NotEmpty → has_meta (state S.Store conn.old).now.schema ≡ true) }
+    ensures meta { has_meta (state S.Store conn.old).now.schema ≡ true → (result ≡ Err Refused.NotEmpty) × (conn.new ≡ conn.old) }
+    ensures err { HasCleanDisk (state S.Store conn.new) → OnErr result (Undone (state S.Store conn.old) (state S.Store conn.new)) }
+    ensures mode { conn.new.in_transaction ≡ false }
+    ensures crash { Survives (state S.Store conn.old) (state S.Store conn.new) (λ trees. Stands trees no_tables) }
+    ensures stop { OnOk result (IsTrue (state S.Store conn.new).is_open → (trees : _) → (state S.Store conn.new).may_leave trees → trees ≡ (state S.Store conn.new).committed.trees) }
+{
+    let _settled = conn.is_autocommit();
+    let schema = conn.schema();
+    if has_meta(schema) {
+        return Err(Refused::NotEmpty);
+    }
+    if !is_blank(schema) {
+        return Err(Refused::Fault(Fault::Store(StoreFault::Database)));
+    }
+    match write(conn) {
+        Ok(()) => Ok(()),
+        Err(fault) => Err(Refused::Fault(fault)),
+    }
 }

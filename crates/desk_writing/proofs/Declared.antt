@@ -10,12 +10,13 @@ use Rattle.sqlite_trees.specs.Tree.{Trees}
 use Rattle.sqlite.specs.Listing.{understood}
 use Rattle.sqlite.specs.Effect.{Database, IsDatabase}
 use Rattle.sqlite.specs.Does.{Tally, Does, lacks_sequence}
-use Rattle.sqlite.specs.State.{State, Writes, Executes, ExecutesInside, HasCleanDisk, Survives}
+use Rattle.sqlite.specs.State.{State, Writes, Executes, ExecutesInside, HasCleanDisk}
 use Rattle.sqlite.proofs.Callers.{IsPlain, command_of, statement_of, runs_as}
 use Rattle.sqlite.proofs.InsideLemmas.{keeps_then}
 use Rattle.desk_rows.specs.declared.command.Fault.{Fault}
 use Rattle.std.proofs.lemmas.Option.{slice_get_within, get_or_from_slice_get}
-use Rattle.desk_tables.specs.Declaring.{Declares, AreDeclared, schema_after, IsBare, Left, Ran, Went}
+use Rattle.desk_writing.specs.Declaring.{Declares, AreDeclared, schema_after, IsBare, Left, Went}
+use Rattle.desk_writing.specs.Written.{Ran}
 
 went : {B E R : Type 0} {b : B} {Stops : E → Type 0} → ((stop : E) × Stops stop × (Ok b ≡ Err stop)) ⊎ R → R
 went (inl stopped) = absurd (let e = stopped.2 in cc)
@@ -83,16 +84,13 @@ all_declared final db l = go l.tables l.are_texts l.final_is
     go [] are is = subst (λ s. IsBare s db) is l.bare
     go (d ∷ ds) are is = absurd (cc)
 
-pub clean_before : (a b : State) (P : Trees → Type 0) → Survives a b P → HasCleanDisk b → HasCleanDisk a
-clean_before a b P s clean = omega (arith, s.clean)
-
 drop_at : (xs : List (List ℕ)) (k : ℕ) (x : List ℕ) → slice_get xs k ≡ Some x → drop k xs ≡ x ∷ drop (k + 1) xs
 drop_at xs k x is =
     rw (add-one k) (drop-cons xs k x (slice_get_within xs k x is) ∙ ap (λ (y : List ℕ). y ∷ drop (suc k) xs) (get_or_from_slice_get xs k x x is))
 
 -- one more of the texts was run
 pub went_on : (texts : List (List ℕ)) (k : ℕ) (text : List ℕ) (a b c : State) (fault : Result (Unit {0}) Fault) → slice_get texts k ≡ Some text → (done : Unit {0}) → fault ≡ Ok done
-    → Went texts (drop k texts) a b → Ran text b c fault → HasCleanDisk c → Went texts (drop (k + 1) texts) a c
+    → Went texts (drop k texts) a b → Ran text [] b c fault → HasCleanDisk c → Went texts (drop (k + 1) texts) a c
 went_on texts k text a b c (Ok d) at done is before ran clean =
     let it = ran clean before.inside in
     record {

@@ -3,12 +3,14 @@ use Rattle.std.specs.Prelude.{◌≡◌, ℕ, Bool, List, [], codes, IsTrue, Res
 use Rattle.std.specs.List.{list_any}
 use Rattle.sqlite_schema.specs.declared.schema.Schema.{Schema}
 use Rattle.sqlite_schema.specs.Names.{same_name}
+use Rattle.sqlite_trees.specs.Tree.{Trees}
+use Rattle.sqlite.specs.Effect.{Database}
 use Rattle.sqlite.specs.State.{State, HasCleanDisk, KeepsCommit}
 use Rattle.desk_rows.specs.Tables.{Tables}
 use Rattle.desk_rows.specs.declared.command.Fault.{Fault}
 use Rattle.desk_layout.specs.Layout.{no_schema}
 use Rattle.desk_layout.specs.Held.{Holds}
-use Rattle.desk_tables.specs.Declaring.{IsBare}
+use Rattle.desk_writing.specs.Declaring.{IsBare}
 
 -- a table `meta` stands in the database
 abbrev pub has_meta : Schema → Bool
@@ -36,6 +38,7 @@ no_tables = record {
 -- inside a transaction that goes on, a database without tables has become an empty desk's
 pub record Founds (old new : State) : Type 0 where
   pub inside : IsTrue new.in_transaction
+  pub was_open : IsTrue old.is_open
   pub kept : KeepsCommit old new
   pub holds : IsBare no_schema old.now → Holds no_tables new.now
 
@@ -49,3 +52,14 @@ pub record Created (old new : State) : Type 0 where
   pub is_open : IsTrue new.is_open
   pub settled : new.committed ≡ new.now
   pub holds : IsBare no_schema old.now → Holds no_tables new.now
+
+-- the same of a database in which nothing stood
+pub record Founded (old new : State) : Type 0 where
+  pub was_open : IsTrue old.is_open
+  pub is_open : IsTrue new.is_open
+  pub settled : new.committed ≡ new.now
+  pub holds : Holds no_tables new.now
+
+-- a stop leaves the tables of an empty desk
+abbrev pub LeavesTables : State → Trees → Type 0
+LeavesTables old trees = IsTrue old.is_open × (db : Database) × (IsBare no_schema old.now → Holds no_tables db) × (trees ≡ db.trees)

@@ -1,5 +1,5 @@
 -- An empty desk's tables.
-use Rattle.std.proofs.Common.{◌≡◌, ℕ, pos, List, [], ◌∷◌, codes, IsTrue, Ok, Err, Result, refl, sym, subst}
+use Rattle.std.proofs.Common.{◌≡◌, ◌⊎◌, inl, inr, ℕ, pos, List, [], ◌∷◌, codes, IsTrue, Ok, Err, Result, refl, sym, subst}
 use Rattle.std.specs.List.Sorted.{IsPermutation}
 use Rattle.std.proofs.lemmas.List.Sorted.{IsPermutation-refl}
 use Rattle.sqlite_value.specs.declared.value.Value.TheVariants.{Null, Int}
@@ -11,21 +11,22 @@ use Rattle.sqlite_tied.specs.Compute.{everything}
 use Rattle.sqlite_trees.specs.Tree.{Trees}
 use Rattle.sqlite.specs.Listing.{understood}
 use Rattle.sqlite.specs.Effect.{Database}
-use Rattle.sqlite.specs.State.{State, Executes, HasCleanDisk}
+use Rattle.sqlite.specs.State.{State, Executes, HasCleanDisk, Survives}
 use Rattle.sqlite.proofs.Callers.{IsPlain, command_of}
 use Rattle.sqlite.proofs.InsideLemmas.{keeps_then}
 use Rattle.desk_rows.specs.declared.command.Fault.{Fault}
 use Rattle.desk_layout.specs.Layout as d
 use Rattle.desk_layout.specs.Cells.{number, meta_cells}
-use Rattle.desk_layout.specs.Held.{HasRows, Holds, AreOrderly, rows_of}
+use Rattle.desk_layout.specs.Held.{HasRows, Holds, AreOrderly, Stands, rows_of}
 use Rattle.desk_layout.specs.Stored.{AreStored}
 use Rattle.desk_layout.proofs.Casts.{cast_null, cast_int}
 use Rattle.desk_layout.proofs.Statements.{inserted}
 use Rattle.sqlite_schema.specs.declared.schema.Table.{Table}
-use Rattle.desk_tables.specs.Declaring.{IsBare, Left, Ran, Went}
-use Rattle.desk_tables.specs.Creating.{no_tables, Founds, HasFounded}
-use Rattle.desk_tables.proofs.Made.{all_declared, clean_before}
-use Rattle.desk_tables.proofs.Texts.{declarations, all_are_declared, desk_schema_is}
+use Rattle.desk_writing.specs.Declaring.{IsBare, Left, Went}
+use Rattle.desk_writing.specs.Written.{Ran}
+use Rattle.desk_writing.specs.Creating.{no_tables, Founds, HasFounded, LeavesTables}
+use Rattle.desk_writing.proofs.Declared.{all_declared}
+use Rattle.desk_writing.proofs.Declarations.{declarations, all_are_declared, desk_schema_is}
 
 -- ---- the version
 
@@ -97,15 +98,31 @@ all_left db bare = record {
 
 -- the tables were declared, and the version noted
 pub founded : (a b c : State) (texts : List (List ℕ)) (r : Result (Unit {0}) Fault) → texts ≡ all_texts → (HasCleanDisk b → IsTrue a.in_transaction → Went texts [] a b) → (HasCleanDisk c → HasCleanDisk b)
-    → Ran version_text b c r → HasFounded a c r
+    → Ran version_text [] b c r → HasFounded a c r
 founded a b c texts (Ok done) are went before ran = λ clean inside.
     let first = went (before clean) inside in
     let it = ran clean first.inside in
     record {
       inside = it.1.1.mode;
+      was_open = first.kept.was_open it.1.1.was_open;
       kept = keeps_then a b c first.kept (record { was_open = λ is. it.1.1.was_open; committed = λ is. it.1.1.committed_is });
       holds = λ bare. empty_desk b c it.0 it.1.0 (all_declared d.desk_schema b.now (first.left d.desk_schema (subst (λ (ts : List (List ℕ)). Left ts d.desk_schema a.now) (sym are) (all_left a.now bare))));
     }
 founded a b c texts (Err fault) are went before ran = λ clean inside.
     let first = went (before clean) inside in
     keeps_then a b c first.kept (ran clean first.inside)
+
+-- what a stop leaves, in words of the tables alone
+pub leaves_tables : (old new : State) → (IsTrue old.is_open → IsBare d.no_schema old.now) → Survives old new (LeavesTables old) → Survives old new (λ trees. Stands trees no_tables)
+leaves_tables old new bare survives = record {
+  clean = survives.clean;
+  shield = survives.shield;
+  counts = survives.counts;
+  limit = survives.limit;
+  closes = survives.closes;
+  crash = λ clean x left. told x (survives.crash clean x left);
+}
+  where
+    told : (x : Trees) → old.may_leave x ⊎ LeavesTables old x → old.may_leave x ⊎ Stands x no_tables
+    told x (inl was) = inl was
+    told x (inr (open_then, db, holds, same)) = inr (db, holds (bare open_then), same)

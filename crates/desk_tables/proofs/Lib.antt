@@ -1,3 +1,0 @@
-pub mod Made
-mod Texts
-mod Empty
