@@ -6,3 +6,6 @@ mod Lists
 mod Moves
 mod Applied
 mod Commits
+mod Declared
+mod Declarations
+mod Empty
