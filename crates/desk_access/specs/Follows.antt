@@ -1,12 +1,12 @@
 -- Which changes go on from the rows of some tables. A store owes nothing to any other change.
-use Rattle.std.specs.Prelude.{◌≡◌, ℕ, ◌+◌, Bool, true, ◌==◌, ◌&&◌, nat_lt, List, [], ◌∷◌, length, map}
+use Rattle.std.specs.Prelude.{◌≡◌, ℕ, ◌+◌, Bool, true, ◌==◌, ◌&&◌, nat_lt, List, [], ◌∷◌, length, map, is_some}
 use Rattle.std.specs.List.{list_all}
 use Rattle.desk_rows.specs.Tables.{Tables}
 use Rattle.desk_rows.specs.declared.row.DutyRow.{DutyRow}
 use Rattle.desk_rows.specs.declared.row.ChangeRow.{ChangeRow}
 use Rattle.desk_rows.specs.declared.command.Change.{Change}
 use Rattle.desk_rows.specs.declared.command.Change.TheVariants as change
-use Rattle.desk_history.specs.FromTables.{steps_found}
+use Rattle.desk_history.specs.FromTables.{steps_found, duty_found}
 
 -- the duties are numbered on from n
 abbrev pub are_numbered : ℕ → List DutyRow → Bool
@@ -27,11 +27,18 @@ rise (n ∷ ns) = list_all (nat_lt n) ns && rise ns
 abbrev pub are_next : Tables → List ChangeRow → Bool
 are_next t rows = list_all (λ row. row.step == steps_found t row.duty + 1) rows
 
--- Changes of duties, each with the next step of its own; where the duties of the tables stand by rising numbers, so do the changes.
-abbrev pub AreNext : Tables → List ChangeRow → Type 0
-AreNext t rows = (are_next t rows ≡ true) × (rise (map (λ row. row.number) t.duty) ≡ true → rise (map (λ row. row.duty) rows) ≡ true)
+-- each change is one of a duty that stands
+abbrev pub are_of_duties : Tables → List ChangeRow → Bool
+are_of_duties t rows = list_all (λ row. is_some (duty_found t row.duty)) rows
 
--- a new revision, document or release has the next number, new duties the next ones, a change of a duty its next step
+-- Changes of duties that stand, each with the next step of its own; where the duties of the tables stand by rising numbers, so do the
+-- changes.
+abbrev pub AreNext : Tables → List ChangeRow → Type 0
+AreNext t rows =
+    (are_next t rows ≡ true) × (rise (map (λ row. row.number) t.duty) ≡ true → rise (map (λ row. row.duty) rows) ≡ true)
+    × (are_of_duties t rows ≡ true)
+
+-- a new revision, document or release has the next number, new duties the next ones, a change of a duty that stands its next step
 abbrev pub Follows : Change → Tables → Type 0
 Follows (change.Loaded row rules forms) t = row.revision ≡ length t.catalogue + 1
 Follows (change.Imported row packages references) t = row.number ≡ length t.document + 1

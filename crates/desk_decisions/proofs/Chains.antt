@@ -108,7 +108,7 @@ module _ {Left : Type 0} where
     decides_carried old mid new (Make x change) (Ok y) s sound is did =
         let made = did.1 in
         let follows : new.is_honest → (t : Tables) → old.holds t → Follows change t =
-        λ h t held. subst (λ (d : Change). Follows d t) (sym ((is (made.honest h) t held).1)) (change_follows w t c) in
+        λ h t held. let plan = is (made.honest h) t held in subst (λ (d : Change). Follows d t) (sym plan.1) (change_follows w t c (ap is_recorded (sym plan.0) ∙ sound)) in
         record {
           right = λ h t u held. did.0 ∙ (is (made.honest h) t held).0;
           stays = λ h o. made.stays h;
@@ -120,7 +120,7 @@ module _ {Left : Type 0} where
     decides_carried old mid new (Make x change) (Err f) s sound is did = λ h o t u held y left.
         let h1 = did.spared.honest h in
         let plan = is h1 t held in
-        let follows : Follows change t = subst (λ (d : Change). Follows d t) (sym plan.1) (change_follows w t c) in
+        let follows : Follows change t = subst (λ (d : Change). Follows d t) (sym plan.1) (change_follows w t c (ap is_recorded (sym plan.0) ∙ sound)) in
         elim (did.leaves h (s.stays h1 o) t (s.kept.spared.holds t held) follows y left) [
           | inl was ↦ inl (s.kept.leaves h1 o t held y was)
           | inr made ↦ inr (ap is_recorded (sym plan.0) ∙ sound, subst (λ (d : Change). stands y (applied d t)) plan.1 made)

@@ -1,6 +1,9 @@
 -- The change of each command goes on from the rows that it was made for.
 use Rattle.std.proofs.Common.{◌≡◌, ℕ, ◌+◌, Bool, true, false, cond, List, [], ◌∷◌, length, map, refl, ap, subst, arith}
-use Rattle.std.specs.Prelude.{◌==◌, ◌&&◌, nat_lt, filter, None}
+use Rattle.std.specs.Prelude.{◌==◌, ◌&&◌, nat_lt, not, filter, find, Option, Some, None, is_some}
+use Rattle.std.specs.Option.{option_map, option_map_or, option_and_then}
+use Rattle.desk_base.specs.Day.{is_day}
+use Rattle.desk_rows.specs.Texts.{is_note}
 use Rattle.std.specs.List.{enumerate_from, list_all}
 use Rattle.std.proofs.lemmas.Bool.Decides.{nat_tests}
 use Rattle.desk_rows.specs.Readings.{Readings}
@@ -9,14 +12,21 @@ use Rattle.desk_rows.specs.declared.row.Owed.{Owed}
 use Rattle.desk_rows.specs.declared.row.DutyRow.{DutyRow}
 use Rattle.desk_rows.specs.declared.command.Command.{Command}
 use Rattle.desk_rows.specs.declared.command.Command.TheVariants.{LoadCatalogue, Import, OpenRelease, Attach, Choose, Unchoose, Freeze, Meet, Waive, Reopen, Withdraw, CloseDay, Conclude, Adopt}
-use Rattle.desk_rows.specs.Keys.{is_duty_of}
+use Rattle.desk_rows.specs.Keys.{is_duty, is_duty_of}
+use Rattle.desk_rows.specs.Answers.{is_recorded, refused_first, unless, is_over, gone, settled}
+use Rattle.desk_rows.specs.declared.command.Answer.{Answer}
+use Rattle.desk_rows.specs.declared.refusal.Refusal.{Refusal}
+use Rattle.desk_rows.specs.declared.refusal.Refusal.TheVariants as why
+use Rattle.desk_rows.specs.declared.refusal.Limit.TheVariants as limit
+use Rattle.desk_rows.specs.declared.command.Answer.TheVariants as answered
+use Rattle.desk_rows.specs.declared.state.Word.{Word}
 use Rattle.desk_rows.specs.Moves.{change_row}
 use Rattle.desk_rows.specs.declared.row.Move.{Move}
 use Rattle.desk_rows.specs.declared.row.ChangeRow.{ChangeRow}
 use Rattle.desk_rows.specs.declared.row.Standing.{Standing}
 use Rattle.desk_rows.specs.declared.state.Word.TheVariants as word
-use Rattle.desk_history.specs.FromTables.{change_for, new_duty, raised_row, owed_found, steps_found, standing_found, is_unmet, ends, next_row}
-use Rattle.desk_access.specs.Follows.{Follows, AreNext, are_numbered, are_first, are_next, rise}
+use Rattle.desk_history.specs.FromTables.{answer_from, change_for, moved_found, duty_found, new_duty, raised_row, owed_found, steps_found, release_state_found, standing_found, is_unmet, ends, next_row}
+use Rattle.desk_access.specs.Follows.{Follows, AreNext, are_numbered, are_first, are_next, are_of_duties, rise}
 
 same_number : (n : ℕ) → (n == n) ≡ true
 same_number n = grind (arith, nat_tests)
@@ -45,9 +55,29 @@ both : (a b : Bool) → a ≡ true → b ≡ true → (a && b) ≡ true
 both true b e f = f
 both false b e f = e
 
+-- a recorded answer is behind no refusal: of those of a move, the fourth is that its duty doesn't stand
+fourth : (a b c : Option Refusal) (so : Bool) (refusal : Refusal) (rest : List (Option Refusal)) (answer : Answer) → is_recorded (refused_first (a ∷ b ∷ c ∷ unless so refusal ∷ rest) answer) ≡ true → so ≡ true
+fourth None None None true refusal rest answer recorded = refl
+fourth None None None false refusal rest answer recorded = absurd (cc)
+fourth None None (Some other) so refusal rest answer recorded = absurd (cc)
+fourth None (Some other) c so refusal rest answer recorded = absurd (cc)
+fourth (Some other) b c so refusal rest answer recorded = absurd (cc)
+
+some_row : (duty : Option DutyRow) → is_some (option_map (λ row. row.state) duty) ≡ true → is_some duty ≡ true
+some_row None some = some
+some_row (Some row) some = refl
+
+-- a duty that is moved stands
+stands : (t : Tables) (word : Word) (q : ℕ) (day text : List ℕ) (until : Option (List ℕ)) → is_recorded (moved_found t word q day text until) ≡ true → is_some (duty_found t q) ≡ true
+stands t word q day text until recorded =
+    let place = option_map (λ row. row.state) (duty_found t q) in
+    some_row (duty_found t q)
+    (fourth (unless (is_day day && option_map_or is_day until true) why.BadDay) (unless (is_note text) why.BadText) (unless (not (is_over day until)) why.BadEnd) (is_some place) why.UnknownDuty
+    (gone (release_state_found t (duty_found t q)) ∷ option_and_then (settled word) place ∷ unless (nat_lt (steps_found t q) 999) (why.Full limit.Changes) ∷ []) answered.Done recorded)
+
 -- one change
-next_one : (t : Tables) (q : ℕ) (m : Move) → AreNext t (change_row q (steps_found t q + 1) m ∷ [])
-next_one t q m = (both (steps_found t q + 1 == steps_found t q + 1) true (same_number (steps_found t q + 1)) refl, λ e. refl)
+next_one : (t : Tables) (q : ℕ) (m : Move) → is_some (duty_found t q) ≡ true → AreNext t (change_row q (steps_found t q + 1) m ∷ [])
+next_one t q m some = (both (steps_found t q + 1 == steps_found t q + 1) true (same_number (steps_found t q + 1)) refl, λ e. refl, both (is_some (duty_found t q)) true some refl)
 
 -- the changes of the duties that pass two tests
 abbrev those : Tables → Move → (Standing → Bool) → (DutyRow → Bool) → List DutyRow → List ChangeRow
@@ -97,8 +127,37 @@ rise_kept t m is test (row ∷ rows) e =
       ]
     ]
 
+weaker : {A : Type 0} (p q : A → Bool) → ((x : A) → p x ≡ true → q x ≡ true) → (xs : List A) → list_all p xs ≡ true → list_all q xs ≡ true
+weaker p q h [] e = refl
+weaker p q h (x ∷ xs) e = both (q x) (list_all q xs) (h x (and_left (p x) (list_all p xs) e)) (weaker p q h xs (and_right (p x) (list_all p xs) e))
+
+found_behind : (x : DutyRow) (rows : List DutyRow) (n : ℕ) → is_some (find (is_duty n) rows) ≡ true → is_some (find (is_duty n) (x ∷ rows)) ≡ true
+found_behind x rows n e = elim (x.number == n) as (λ b. is_some (cond b (Some x) (find (is_duty n) rows)) ≡ true) [ false ↦ e | true ↦ refl ]
+
+-- a duty of a list is found there by its number
+each_found : (rows : List DutyRow) → list_all (λ row. is_some (find (is_duty row.number) rows)) rows ≡ true
+each_found [] = refl
+each_found (x ∷ rows) =
+    both (is_some (find (is_duty x.number) (x ∷ rows))) (list_all (λ (row : DutyRow). is_some (find (is_duty row.number) (x ∷ rows))) rows)
+    (rw (same_number x.number) refl)
+    (weaker (λ (row : DutyRow). is_some (find (is_duty row.number) rows)) (λ (row : DutyRow). is_some (find (is_duty row.number) (x ∷ rows))) (λ row e. found_behind x rows row.number e) rows (each_found rows))
+
+stand_kept : (t : Tables) (m : Move) (is : Standing → Bool) (test : DutyRow → Bool) (rows : List DutyRow) → list_all (λ (row : DutyRow). is_some (duty_found t row.number)) rows ≡ true → are_of_duties t (those t m is test rows) ≡ true
+stand_kept t m is test [] e = refl
+stand_kept t m is test (row ∷ rows) e =
+    let some = λ (row : DutyRow). is_some (duty_found t row.number) in
+    let here = and_left (some row) (list_all some rows) e in
+    let rest = stand_kept t m is test rows (and_right (some row) (list_all some rows) e) in
+    elim (test row) as (λ b. are_of_duties t (map (next_row m) (filter is (map (standing_found t) (cond b (row ∷ filter test rows) (filter test rows))))) ≡ true) [
+      | false ↦ rest
+      | true ↦ elim (is (standing_found t row)) as (λ b. are_of_duties t (map (next_row m) (cond b (standing_found t row ∷ filter is (map (standing_found t) (filter test rows))) (filter is (map (standing_found t) (filter test rows))))) ≡ true) [
+        | false ↦ rest
+        | true ↦ both (some row) (are_of_duties t (those t m is test rows)) here rest
+      ]
+    ]
+
 next_many : (t : Tables) (m : Move) (is : Standing → Bool) (test : DutyRow → Bool) → AreNext t (those t m is test t.duty)
-next_many t m is test = (next_all t m is test t.duty, rise_kept t m is test t.duty)
+next_many t m is test = (next_all t m is test t.duty, rise_kept t m is test t.duty, stand_kept t m is test t.duty (each_found t.duty))
 
 filter_true : {A : Type 0} (xs : List A) → filter (λ x. true) xs ≡ xs
 filter_true [] = refl
@@ -107,22 +166,22 @@ filter_true (x ∷ xs) = ap (λ ys. x ∷ ys) (filter_true xs)
 next_ended : (t : Tables) (m : Move) (test : DutyRow → Bool) → AreNext t (map (next_row m) (map (standing_found t) (filter test t.duty)))
 next_ended t m test = subst (AreNext t) (ap (map (next_row m)) (filter_true (map (standing_found t) (filter test t.duty)))) (next_many t m (λ s. true) test)
 
-pub change_follows : (w : Readings) (t : Tables) (c : Command) → Follows (change_for w t c) t
-change_follows w t (LoadCatalogue text) = refl
-change_follows w t (Import bytes profile) = refl
-change_follows w t (OpenRelease r form) = refl
-change_follows w t (Attach r d) = tt
-change_follows w t (Choose r d p texts) = tt
-change_follows w t (Freeze r day) = (
+pub change_follows : (w : Readings) (t : Tables) (c : Command) → is_recorded (answer_from w t c) ≡ true → Follows (change_for w t c) t
+change_follows w t (LoadCatalogue text) recorded = refl
+change_follows w t (Import bytes profile) recorded = refl
+change_follows w t (OpenRelease r form) recorded = refl
+change_follows w t (Attach r d) recorded = tt
+change_follows w t (Choose r d p texts) recorded = tt
+change_follows w t (Freeze r day) recorded = (
   numbered_on (length t.duty + 1) (owed_found w t r),
   first_on day (length t.duty + 1) (owed_found w t r),
   length-map (raised_row day) (map new_duty (enumerate_from (length t.duty + 1) (owed_found w t r))),
 )
-change_follows w t (Unchoose r d p) = tt
-change_follows w t (Meet q day text) = next_one t q (record { day = day; word = word.Met; body = text; last_day = None })
-change_follows w t (Waive q day text until) = next_one t q (record { day = day; word = word.Waived; body = text; last_day = until })
-change_follows w t (Reopen q day text) = next_one t q (record { day = day; word = word.Reopened; body = text; last_day = None })
-change_follows w t (Withdraw r day text) = next_many t (record { day = day; word = word.Withdrawn; body = text; last_day = None }) is_unmet (is_duty_of r)
-change_follows w t (CloseDay day) = next_ended t (record { day = day; word = word.Ended; body = []; last_day = None }) (ends t day)
-change_follows w t (Conclude d p text) = tt
-change_follows w t (Adopt d reference licence) = tt
+change_follows w t (Unchoose r d p) recorded = tt
+change_follows w t (Meet q day text) recorded = next_one t q (record { day = day; word = word.Met; body = text; last_day = None }) (stands t word.Met q day text None recorded)
+change_follows w t (Waive q day text until) recorded = next_one t q (record { day = day; word = word.Waived; body = text; last_day = until }) (stands t word.Waived q day text until recorded)
+change_follows w t (Reopen q day text) recorded = next_one t q (record { day = day; word = word.Reopened; body = text; last_day = None }) (stands t word.Reopened q day text None recorded)
+change_follows w t (Withdraw r day text) recorded = next_many t (record { day = day; word = word.Withdrawn; body = text; last_day = None }) is_unmet (is_duty_of r)
+change_follows w t (CloseDay day) recorded = next_ended t (record { day = day; word = word.Ended; body = []; last_day = None }) (ends t day)
+change_follows w t (Conclude d p text) recorded = tt
+change_follows w t (Adopt d reference licence) recorded = tt

@@ -6,3 +6,6 @@ pub mod Steps
 pub mod Writes
 pub mod Casts
 pub mod Statements
+pub mod Ascending
+pub mod Orderly
+pub mod Creates

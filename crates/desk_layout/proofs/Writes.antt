@@ -37,7 +37,7 @@ use Rattle.desk_layout.proofs.Steps.{Stepped, at}
 abbrev pub AreApart : Schema → Type 0
 AreApart schema = IsAscending (λ a b. a.tree ≡ b.tree → ⊥) schema.tables
 
-stored_as : (t : Table) (rows other stored : List Row) → IsPermutation other rows → AreStored t rows stored → AreStored t other stored
+pub stored_as : (t : Table) (rows other stored : List Row) → IsPermutation other rows → AreStored t rows stored → AreStored t other stored
 stored_as t rows other stored same are = record { rising = are.rising; keyed = are.keyed; same = IsPermutation-trans _ _ _ same are.same }
 
 -- the rowids that a query showed first

@@ -23,7 +23,8 @@ pub fn number(n: u32) -> ValueRef<'static>
 pub fn text<'a>(text: &'a Text) -> ValueRef<'a>
     ensures { bound_value (owned result) ≡ Words text.now }
 {
-    ValueRef::Text(text.as_str().as_bytes())
+    let bytes = text.as_str().as_bytes();
+    ValueRef::Text(bytes)
 }
 
 /// A text that may be absent, which is NULL then.
@@ -57,7 +58,8 @@ pub fn profile(profile: Profile) -> ValueRef<'static>
 pub fn day<'a>(day: &'a Day) -> ValueRef<'a>
     ensures { bound_value (owned result) ≡ Words day.now }
 {
-    ValueRef::Text(day.as_bytes())
+    let written = day.as_bytes();
+    ValueRef::Text(written)
 }
 
 /// A day that may be absent, which is NULL then.
@@ -81,7 +83,8 @@ pub fn release_state(state: ReleaseState) -> ValueRef<'static>
 pub fn duty_state(state: DutyState) -> ValueRef<'static>
     ensures { bound_value (owned result) ≡ Words (duty_state_name state) }
 {
-    ValueRef::Text(state.name().as_bytes())
+    let name = state.name();
+    ValueRef::Text(name.as_bytes())
 }
 
 /// The word for a change.

@@ -1,5 +1,5 @@
 -- What stands in the tables between two statements: a document may stand there without its profile yet, and a waiver without its last day.
-use Rattle.std.specs.Prelude.{ℕ, ◌==◌, if◌then◌else◌, List, map, filter}
+use Rattle.std.specs.Prelude.{ℕ, ◌==◌, if◌then◌else◌, List, [], ◌∷◌, ◌++◌, map, filter}
 use Rattle.sqlite_value.specs.Order.{Row}
 use Rattle.desk_rows.specs.Tables.{Tables}
 use Rattle.desk_rows.specs.declared.row.DocumentRow.{DocumentRow}
@@ -28,3 +28,11 @@ contents_of t = record { tables = t; reading = t.document; waiver = filter is_wa
 -- the contents with other tables
 abbrev pub with_tables : (Tables → Tables) → Contents → Contents
 with_tables made c = record c { tables = made c.tables }
+
+-- and changes of duties, with the last days of the waivers that end
+abbrev pub with_steps : List ChangeRow → Contents → Contents
+with_steps rows c = record c { tables = record c.tables { changes = c.tables.changes ++ rows }; waiver = c.waiver ++ filter is_waiver rows }
+
+-- and a document with its profile
+abbrev pub with_document : DocumentRow → Contents → Contents
+with_document row c = record c { tables = record c.tables { document = c.tables.document ++ row ∷ [] }; reading = c.reading ++ row ∷ [] }

@@ -117,3 +117,33 @@ pub(crate) fn add_reference<S: Alter>(
         &reference_values(row),
     )
 }
+
+/// Adds the packages of a document.
+pub(crate) fn add_packages<S: Alter>(
+    tx: &mut Transaction<'_, S>,
+    rows: &[PackageRow],
+) -> Result<(), Fault>
+    ensures same_reference { tx.new.conn.ghost_name ≡ tx.old.conn.ghost_name }
+    ensures wrote { Writes cells_of (with_tables (λ t. record t { packages = t.packages ++ rows.now })) (state S.Store tx.old.conn.now) (state S.Store tx.new.conn.now) result }
+    ensures survives { Survives (state S.Store tx.old.conn.now) (state S.Store tx.new.conn.now) (λ _. ⊥) }
+{
+    for row in rows {
+        add_package(tx, row)?;
+    }
+    Ok(())
+}
+
+/// Adds the references that a document defines.
+pub(crate) fn add_references<S: Alter>(
+    tx: &mut Transaction<'_, S>,
+    rows: &[ExtractedRow],
+) -> Result<(), Fault>
+    ensures same_reference { tx.new.conn.ghost_name ≡ tx.old.conn.ghost_name }
+    ensures wrote { Writes cells_of (with_tables (λ t. record t { extracted = t.extracted ++ rows.now })) (state S.Store tx.old.conn.now) (state S.Store tx.new.conn.now) result }
+    ensures survives { Survives (state S.Store tx.old.conn.now) (state S.Store tx.new.conn.now) (λ _. ⊥) }
+{
+    for row in rows {
+        add_reference(tx, row)?;
+    }
+    Ok(())
+}

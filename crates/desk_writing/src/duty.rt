@@ -6,14 +6,15 @@ ghost use Rattle.sqlite.specs.State.{Survives};
 ghost use Rattle.sqlite.specs.Values.{bound};
 ghost use Rattle.desk_rows.specs.Keys.{is_duty};
 ghost use Rattle.desk_rows.specs.Lists.{updated};
-ghost use Rattle.desk_rows.specs.Tables.{with_duty_state};
+ghost use Rattle.desk_rows.specs.Tables.{with_duty_state, moved_by};
+ghost use Rattle.desk_rows.specs.States.{state_after};
 ghost use Rattle.desk_layout.specs.Cells.{duty_cells, change_cells, waiver_cells};
-ghost use Rattle.desk_writing.specs.Contents.{cells_of, with_tables};
+ghost use Rattle.desk_writing.specs.Contents.{cells_of, with_tables, with_steps};
 ghost use Rattle.desk_writing.specs.Written.{Writes};
 
 use crate::statement::execute;
 use desk_layout::values::{day, day_or_null, duty_state, number, text, word};
-use desk_rows::{ChangeRow, DutyRow, DutyState, Fault};
+use desk_rows::{ChangeRow, DutyRow, DutyState, Fault, Word};
 use sqlite::{Alter, Transaction};
 use sqlite_value::value::ValueRef;
 
@@ -114,4 +115,76 @@ pub(crate) fn set_duty<S: Alter>(
         "UPDATE duty SET state = ?2 WHERE number = ?1",
         &[number(duty), duty_state(to)],
     )
+}
+
+/// Adds duties.
+pub(crate) fn add_duties<S: Alter>(
+    tx: &mut Transaction<'_, S>,
+    rows: &[DutyRow],
+) -> Result<(), Fault>
+    ensures same_reference { tx.new.conn.ghost_name ≡ tx.old.conn.ghost_name }
+    ensures wrote { Writes cells_of (with_tables (λ t. record t { duty = t.duty ++ rows.now })) (state S.Store tx.old.conn.now) (state S.Store tx.new.conn.now) result }
+    ensures survives { Survives (state S.Store tx.old.conn.now) (state S.Store tx.new.conn.now) (λ _. ⊥) }
+{
+    for row in rows {
+        add_duty(tx, row)?;
+    }
+    Ok(())
+}
+
+/// Where a change with this word leaves a duty.
+fn state_after(word: Word) -> DutyState
+    ensures { result ≡ state_after word }
+{
+    match word {
+        Word::Raised | Word::Reopened | Word::Ended => DutyState::IsOpen,
+        Word::Met => DutyState::Met,
+        Word::Waived => DutyState::Waived,
+        Word::Withdrawn => DutyState::Withdrawn,
+    }
+}
+
+/// Sets the state of each duty, the last one first.
+pub(crate) fn set_duties<S: Alter>(
+    tx: &mut Transaction<'_, S>,
+    rows: &[ChangeRow],
+) -> Result<(), Fault>
+    ensures same_reference { tx.new.conn.ghost_name ≡ tx.old.conn.ghost_name }
+    ensures wrote { Writes cells_of (with_tables (λ t. record t { duty = moved_by rows.now t.duty })) (state S.Store tx.old.conn.now) (state S.Store tx.new.conn.now) result }
+    ensures survives { Survives (state S.Store tx.old.conn.now) (state S.Store tx.new.conn.now) (λ _. ⊥) }
+{
+    let mut left = rows.len();
+    while left > 0 {
+        left -= 1;
+        set_duty(tx, rows[left].duty, state_after(rows[left].word))?;
+    }
+    Ok(())
+}
+
+/// Adds a change, and the last day of a waiver that ends.
+pub(crate) fn add_step<S: Alter>(tx: &mut Transaction<'_, S>, row: &ChangeRow) -> Result<(), Fault>
+    ensures same_reference { tx.new.conn.ghost_name ≡ tx.old.conn.ghost_name }
+    ensures wrote { Writes cells_of (with_steps (row.now ∷ [])) (state S.Store tx.old.conn.now) (state S.Store tx.new.conn.now) result }
+    ensures survives { Survives (state S.Store tx.old.conn.now) (state S.Store tx.new.conn.now) (λ _. ⊥) }
+{
+    add_change(tx, row)?;
+    match row.last_day {
+        Some(_) => add_waiver(tx, row),
+        None => Ok(()),
+    }
+}
+
+/// Adds changes, and the last days of waivers that end.
+pub(crate) fn add_steps<S: Alter>(
+    tx: &mut Transaction<'_, S>,
+    rows: &[ChangeRow],
+) -> Result<(), Fault>
+    ensures same_reference { tx.new.conn.ghost_name ≡ tx.old.conn.ghost_name }
+    ensures wrote { Writes cells_of (with_steps rows.now) (state S.Store tx.old.conn.now) (state S.Store tx.new.conn.now) result }
+    ensures survives { Survives (state S.Store tx.old.conn.now) (state S.Store tx.new.conn.now) (λ _. ⊥) }
+{
+    for row in rows {
+        add_step(tx, row)?;
+    }
+    Ok(())
 }

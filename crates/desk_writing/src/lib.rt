@@ -1,9 +1,18 @@
 //! What is written to the desk's tables in a SQL database.
+//!
+//! `commit` writes a change of rows in one transaction, the only one of the desk: all of it, or nothing. Its contract is the one that
+//! a store owes its decisions (`Wrote` of `desk_access`), over the tables that a database holds (`Holds` of `desk_layout`). Below it
+//! stand a function for each change, and one for each statement, whose clause says what it makes of the rows of each table.
 #![tactic(auto)]
 
 mod catalogue;
+mod change;
 mod document;
 mod duty;
 mod office;
 mod release;
 mod statement;
+mod transaction;
+mod writable;
+
+pub use transaction::commit;

@@ -8,14 +8,14 @@ ghost use Rattle.desk_rows.specs.Keys.{is_release};
 ghost use Rattle.desk_rows.specs.Lists.{updated};
 ghost use Rattle.desk_rows.specs.Tables.{is_other_choice, is_choice_elsewhere, with_release_state, withdrawn_release};
 ghost use Rattle.desk_rows.specs.declared.state.ReleaseState.TheVariants.{Frozen};
-ghost use Rattle.desk_layout.specs.Cells.{attached_cells, choice_cells, frozen_cells};
+ghost use Rattle.desk_layout.specs.Cells.{release_cells, attached_cells, choice_cells, frozen_cells};
 ghost use Rattle.desk_writing.specs.Contents.{cells_of, with_tables};
 ghost use Rattle.desk_writing.specs.Written.{Writes};
 
 use crate::statement::execute;
 use desk_base::Text;
 use desk_layout::values::{number, release_state, text};
-use desk_rows::{AttachedRow, ChoiceRow, Fault, FrozenRow, ReleaseState};
+use desk_rows::{AttachedRow, ChoiceRow, Fault, FrozenRow, ReleaseRow, ReleaseState, StoreFault};
 use sqlite::{Alter, Transaction};
 use sqlite_value::value::ValueRef;
 
@@ -96,23 +96,58 @@ pub(crate) fn add_frozen<S: Alter>(
     )
 }
 
+fn release_values<'a>(row: &'a ReleaseRow, revision: u32) -> [ValueRef<'a>; 5]
+    requires { revision ≡ row.now.revision }
+    ensures { bound result ≡ release_cells row.now }
+{
+    [
+        text(&row.name),
+        number(row.place),
+        text(&row.form),
+        release_state(row.state),
+        number(revision),
+    ]
+}
+
+/// Adds a release.
+pub(crate) fn add_release<S: Alter>(
+    tx: &mut Transaction<'_, S>,
+    row: &ReleaseRow,
+) -> Result<(), Fault>
+    ensures same_reference { tx.new.conn.ghost_name ≡ tx.old.conn.ghost_name }
+    ensures wrote { Writes cells_of (with_tables (λ t. record t { releases = t.releases ++ row.now ∷ [] })) (state S.Store tx.old.conn.now) (state S.Store tx.new.conn.now) result }
+    ensures survives { Survives (state S.Store tx.old.conn.now) (state S.Store tx.new.conn.now) (λ _. ⊥) }
+{
+    let Ok(revision) = u32::try_from(row.revision) else {
+        return Err(Fault::Store(StoreFault::Rows));
+    };
+    execute(
+        tx,
+        "INSERT INTO releases VALUES (?1, ?2, ?3, ?4, ?5)",
+        &release_values(row, revision),
+    )
+}
+
 /// A release is frozen with a revision of the catalogue.
 pub(crate) fn freeze_release<S: Alter>(
     tx: &mut Transaction<'_, S>,
     name: &Text,
-    revision: u32,
+    revision: u64,
 ) -> Result<(), Fault>
     ensures same_reference { tx.new.conn.ghost_name ≡ tx.old.conn.ghost_name }
     ensures wrote { Writes cells_of (with_tables (λ t. record t { releases = updated (is_release name.now) (with_release_state Frozen revision) t.releases })) (state S.Store tx.old.conn.now) (state S.Store tx.new.conn.now) result }
     ensures survives { Survives (state S.Store tx.old.conn.now) (state S.Store tx.new.conn.now) (λ _. ⊥) }
 {
+    let Ok(told) = u32::try_from(revision) else {
+        return Err(Fault::Store(StoreFault::Rows));
+    };
     execute(
         tx,
         "UPDATE releases SET state = ?2, revision = ?3 WHERE name = ?1",
         &[
             text(name),
             release_state(ReleaseState::Frozen),
-            number(revision),
+            number(told),
         ],
     )
 }
@@ -165,4 +200,34 @@ pub(crate) fn drop_choices_in<S: Alter>(
         "DELETE FROM choice WHERE release = ?1",
         &[text(release)],
     )
+}
+
+/// Adds terms that are chosen.
+pub(crate) fn add_choices<S: Alter>(
+    tx: &mut Transaction<'_, S>,
+    rows: &[ChoiceRow],
+) -> Result<(), Fault>
+    ensures same_reference { tx.new.conn.ghost_name ≡ tx.old.conn.ghost_name }
+    ensures wrote { Writes cells_of (with_tables (λ t. record t { choice = t.choice ++ rows.now })) (state S.Store tx.old.conn.now) (state S.Store tx.new.conn.now) result }
+    ensures survives { Survives (state S.Store tx.old.conn.now) (state S.Store tx.new.conn.now) (λ _. ⊥) }
+{
+    for row in rows {
+        add_choice(tx, row)?;
+    }
+    Ok(())
+}
+
+/// Adds terms that a release is frozen with.
+pub(crate) fn add_frozen_terms<S: Alter>(
+    tx: &mut Transaction<'_, S>,
+    rows: &[FrozenRow],
+) -> Result<(), Fault>
+    ensures same_reference { tx.new.conn.ghost_name ≡ tx.old.conn.ghost_name }
+    ensures wrote { Writes cells_of (with_tables (λ t. record t { frozen = t.frozen ++ rows.now })) (state S.Store tx.old.conn.now) (state S.Store tx.new.conn.now) result }
+    ensures survives { Survives (state S.Store tx.old.conn.now) (state S.Store tx.new.conn.now) (λ _. ⊥) }
+{
+    for row in rows {
+        add_frozen(tx, row)?;
+    }
+    Ok(())
 }

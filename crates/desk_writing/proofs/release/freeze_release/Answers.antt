@@ -1,4 +1,4 @@
-use Rattle.std.proofs.Common.{◌∷◌, []}
+use Rattle.std.proofs.Common.{rules, ◌≡◌, ◌∷◌, []}
 use Rattle.sqlite_value.specs.declared.value.Value.TheVariants.{Text}
 use Rattle.sqlite.specs.Held.{state}
 use Rattle.desk_rows.specs.Keys.{is_release}
@@ -16,5 +16,6 @@ pub returns-clause-wrote : goal.returns-clause-wrote
 returns-clause-wrote g c =
     let old = state g.S.Store c.args.tx.now.conn.now in
     let new = state g.S.Store c.execute.new.tx.conn.now in
+    let told : c.in-Ok.told ≡ c.args.revision = search rules in
     wrote_by cells_of (with_tables (λ t. record t { releases = updated (is_release c.args.name.now) (with_release_state Frozen c.args.revision) t.releases })) freeze_release_text (Text c.args.name.now ∷ Text (release_state_name Frozen) ∷ number c.args.revision ∷ []) old new c.execute.result
-    (rw (c.text.ensures, c.release_state.ensures, c.number.ensures) at c.execute.ensures.ran) (freeze_release_done c.args.name.now c.args.revision old new)
+    (rw (c.text.ensures, c.release_state.ensures, c.number.ensures, told) at c.execute.ensures.ran) (freeze_release_done c.args.name.now c.args.revision old new)
