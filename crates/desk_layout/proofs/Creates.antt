@@ -1,5 +1,7 @@
 -- What CREATE TABLE does, one table after another.
-use Rattle.std.proofs.Common.{◌≡◌, ◌∙◌, ◌⊎◌, inl, inr, ℕ, List, [], ◌∷◌, false, None, Ok, Err, Result, refl, sym, ap, subst}
+use Rattle.std.proofs.lemmas.List.Sorted.{IsPermutation-refl}
+use Rattle.std.proofs.Common.{◌≡◌, ◌∙◌, ◌⊎◌, inl, inr, ℕ, zero, suc, List, [], ◌∷◌, ◌++◌, take, slice_get, Some, false, None, Ok, Err, Result, refl, sym, ap, subst}
+use Rattle.std.specs.List.{AllByRecursion}
 use Rattle.sqlite_schema.specs.declared.schema.Table.{Table}
 use Rattle.sqlite_schema.specs.declared.schema.Schema.{Schema}
 use Rattle.sqlite_schema.specs.declared.command.Command.TheVariants.{CreateTable}
@@ -12,6 +14,9 @@ use Rattle.sqlite.specs.Does.{Tally, lacks_sequence}
 use Rattle.sqlite.specs.State.{State, Writes, Executes}
 use Rattle.sqlite.proofs.Callers.{IsPlain, command_of, statement_of, runs_as}
 use Rattle.desk_layout.specs.Layout as d
+use Rattle.desk_layout.specs.Stored.{AreStored}
+use Rattle.desk_layout.specs.Held.{HasRows}
+use Rattle.desk_layout.specs.Creating.{desk_tables, declared, schema_of, HasEmpty}
 
 went : {B E R : Type 0} {b : B} {Stops : E → Type 0} → ((stop : E) × Stops stop × (Ok b ≡ Err stop)) ⊎ R → R
 went (inl stopped) = absurd (let e = stopped.2 in cc)
@@ -57,10 +62,6 @@ creates schema text table old new count is has ran =
 abbrev pub AreDeclared : Schema → List (List ℕ × Table) → Type 0
 AreDeclared schema [] = Unit {0}
 AreDeclared schema (t ∷ ts) = Declares schema t.0 t.1 × AreDeclared (created schema t.1) ts
-
-abbrev pub declared : Schema → List (List ℕ × Table) → Schema
-declared schema [] = schema
-declared schema (t ∷ ts) = declared (created schema t.1) ts
 
 meta_is : Declares d.no_schema d.meta_text (record d.meta_table { tree = 0 })
 unfolding understood everything
@@ -126,11 +127,50 @@ waiver_is : Declares (created (created (created (created (created (created (crea
 unfolding understood everything
 waiver_is = record { command = refl; plain = (refl, refl); whole = refl; defined = refl; uncounted = refl }
 
-abbrev pub desk_tables : List (List ℕ × Table)
-desk_tables = (d.meta_text, record d.meta_table { tree = 0 }) ∷ (d.catalogue_text, record d.catalogue_table { tree = 0 }) ∷ (d.rule_text, record d.rule_table { tree = 0 }) ∷ (d.document_text, record d.document_table { tree = 0 }) ∷ (d.package_text, record d.package_table { tree = 0 }) ∷ (d.extracted_text, record d.extracted_table { tree = 0 }) ∷ (d.conclusion_text, record d.conclusion_table { tree = 0 }) ∷ (d.adoption_text, record d.adoption_table { tree = 0 }) ∷ (d.releases_text, record d.releases_table { tree = 0 }) ∷ (d.attached_text, record d.attached_table { tree = 0 }) ∷ (d.choice_text, record d.choice_table { tree = 0 }) ∷ (d.frozen_text, record d.frozen_table { tree = 0 }) ∷ (d.duty_text, record d.duty_table { tree = 0 }) ∷ (d.change_text, record d.change_table { tree = 0 }) ∷ (d.reading_text, record d.reading_table { tree = 0 }) ∷ (d.waiver_text, record d.waiver_table { tree = 0 }) ∷ []
-
 pub are_declared : AreDeclared d.no_schema desk_tables
 are_declared = (meta_is, (catalogue_is, (rule_is, (document_is, (package_is, (extracted_is, (conclusion_is, (adoption_is, (releases_is, (attached_is, (choice_is, (frozen_is, (duty_is, (change_is, (reading_is, (waiver_is, tt))))))))))))))))
 
 pub desk_declared : declared d.no_schema desk_tables ≡ d.desk_schema
 desk_declared = refl
+
+-- ---- one after another
+
+declared_next : (schema : Schema) (ts : List (List ℕ × Table)) (n : ℕ) (t : List ℕ × Table) → slice_get ts n ≡ Some t → declared schema (take (suc n) ts) ≡ created (declared schema (take n ts)) t.1
+declared_next schema [] n t got = absurd (cc)
+declared_next schema (u ∷ ts) zero t got = let same : u ≡ t = cc in ap (λ (x : List ℕ × Table). created schema x.1) same
+declared_next schema (u ∷ ts) (suc n) t got = declared_next (created schema u.1) ts n t got
+
+declares_at : (schema : Schema) (ts : List (List ℕ × Table)) (n : ℕ) (t : List ℕ × Table) → AreDeclared schema ts → slice_get ts n ≡ Some t → Declares (declared schema (take n ts)) t.0 t.1
+declares_at schema [] n t are got = absurd (cc)
+declares_at schema (u ∷ ts) zero t are got = let same : u ≡ t = cc in subst (λ (x : List ℕ × Table). Declares schema x.0 x.1) same are.0
+declares_at schema (u ∷ ts) (suc n) t are got = declares_at (created schema u.1) ts n t are.1 got
+
+all_both : {A : Type 0} (P : A → Type 0) (xs : List A) (y : A) → AllByRecursion P xs → P y → AllByRecursion P (xs ++ y ∷ [])
+all_both P [] y all one = (one, tt)
+all_both P (x ∷ xs) y all one = (all.0, all_both P xs y all.1 one)
+
+all_kept : (old new : Database) (tables : List Table) → AllByRecursion (λ t. old.trees t.tree ≡ []) tables → KeepsRows tables old.trees new.trees → AllByRecursion (λ t. new.trees t.tree ≡ []) tables
+all_kept old new [] empty kept = tt
+all_kept old new (t ∷ tables) empty kept = (kept.0 ∙ empty.0, all_kept old new tables empty.1 kept.1)
+
+pub created_next : (n : ℕ) (t : List ℕ × Table) (old new : State) (count : ℕ) → slice_get desk_tables n ≡ Some t → HasEmpty n old.now → Executes t.0 [] old new (Ok count) → HasEmpty (suc n) new.now × IsDatabase new.now
+created_next n t old new count got has ran =
+    let schema = schema_of n in
+    let made = creates schema t.0 t.1 old new count (declares_at d.no_schema desk_tables n t are_declared got) has.schema_is ran in
+    let next = sym (declared_next d.no_schema desk_tables n t got) in
+    let new_table : Table = record t.1 { tree = next_tree schema } in
+    let all : AllByRecursion (λ u. new.now.trees u.tree ≡ []) (created schema t.1).tables =
+    all_both (λ (u : Table). new.now.trees u.tree ≡ []) schema.tables new_table (all_kept old.now new.now schema.tables has.empty made.others) made.empty in
+    (record { schema_is = made.schema_is ∙ next; empty = subst (λ (s : Schema). AllByRecursion (λ u. new.now.trees u.tree ≡ []) s.tables) next all }, made.sound)
+
+-- all of them
+pub all_created : (db : Database) → IsDatabase db → HasEmpty 16 db → HasRows (λ tree. []) db
+all_created db sound has = record {
+  declared = has.schema_is ∙ desk_declared;
+  stored = each d.desk_schema.tables (subst (λ (s : Schema). AllByRecursion (λ t. db.trees t.tree ≡ []) s.tables) desk_declared has.empty);
+  sound = sound;
+}
+  where
+    each : (tables : List Table) → AllByRecursion (λ t. db.trees t.tree ≡ []) tables → AllByRecursion (λ t. AreStored t [] (db.trees t.tree)) tables
+    each [] all = tt
+    each (t ∷ tables) all = (subst (AreStored t []) (sym all.0) (record { rising = tt; keyed = tt; same = IsPermutation-refl [] }), each tables all.1)

@@ -166,7 +166,6 @@ fn first_import(rows: &[Row], bytes: &[u8]) -> Result<Option<(u32, bool)>, Fault
 }
 
 /// The document with a namespace: its number, and whether its bytes are these.
-#[tactic(auto, using(crate::proofs::Loops::first_is))]
 pub fn import_of<S: Alter>(
     conn: &mut Connection<S>,
     namespace: &str,

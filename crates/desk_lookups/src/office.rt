@@ -34,7 +34,6 @@ fn select_conclusion<S: Alter>(
 }
 
 /// What the office concluded for a package of a document.
-#[tactic(auto, using(crate::proofs::Loops::first_mapped))]
 pub fn conclusion<S: Alter>(
     alloc: Global,
     conn: &mut Connection<S>,
@@ -66,7 +65,6 @@ fn select_adoption<S: Alter>(
 }
 
 /// The licence that a reference of a document is adopted as.
-#[tactic(auto, using(crate::proofs::Loops::first_mapped))]
 pub fn adoption<S: Alter>(
     alloc: Global,
     conn: &mut Connection<S>,

@@ -35,7 +35,6 @@ fn select_release<S: Alter>(
 }
 
 /// The release with a name.
-#[tactic(auto, using(crate::proofs::Loops::first_is))]
 pub fn release<S: Alter>(
     alloc: Global,
     conn: &mut Connection<S>,
@@ -86,7 +85,6 @@ fn is_among(rows: &[AttachedRow], document: u64) -> bool
 }
 
 /// Whether a document is attached to a release.
-#[tactic(auto, using(crate::proofs::Loops::any_attached))]
 pub fn is_attached<S: Alter>(
     alloc: Global,
     conn: &mut Connection<S>,
