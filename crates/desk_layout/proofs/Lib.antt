@@ -9,3 +9,4 @@ pub mod Statements
 pub mod Ascending
 pub mod Orderly
 pub mod Creates
+pub mod Counting
