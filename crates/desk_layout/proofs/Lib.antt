@@ -10,3 +10,4 @@ pub mod Ascending
 pub mod Orderly
 pub mod Creates
 pub mod Counting
+pub mod Apart
