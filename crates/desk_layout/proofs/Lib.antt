@@ -8,4 +8,5 @@ pub mod Casts
 pub mod Statements
 pub mod Ascending
 pub mod Orderly
-pub mod Creates
+pub mod Counting
+pub mod Apart

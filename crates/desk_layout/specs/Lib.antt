@@ -4,4 +4,3 @@ pub mod Cells
 pub mod Held
 pub mod Writable
 pub mod Faults
-pub mod Creating
