@@ -10,3 +10,4 @@ mod query;
 mod read;
 mod releases;
 mod rows;
+mod rules;
