@@ -169,7 +169,7 @@ fn select_days_of<S: Alter>(
 }
 
 /// The day of the last of some changes.
-#[tactic(auto, using(crate::proofs::LastDay::last_some, crate::proofs::LastDay::last_none))]
+#[tactic(auto, using(crate::proofs::LastDay::last_none))]
 fn last_of(rows: &[Row]) -> Result<Option<Day>, Fault>
     ensures { IfOk result (λ day. (xs : List Change) → rows.now ≡ map day_cells xs → day ≡ last_day xs) }
 {
