@@ -1,3 +1,4 @@
 pub mod Rules
 pub mod Shown
+pub mod Standings
 pub mod Waivers

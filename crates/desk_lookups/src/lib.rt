@@ -11,3 +11,4 @@ mod read;
 mod releases;
 mod rows;
 mod rules;
+mod standings;
