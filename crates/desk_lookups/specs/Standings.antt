@@ -1,5 +1,5 @@
 -- Where duties stand, from their rows and changes.
-use Rattle.std.specs.Prelude.{ℕ, Bool, false, bytes_eq, if◌then◌else◌, List, filter, Option, Some, None}
+use Rattle.std.specs.Prelude.{ℕ, Bool, false, bytes_eq, if◌then◌else◌, List, [], ◌∷◌, ◌++◌, filter, Option, Some, None}
 use Rattle.std.specs.List.{last_or}
 use Rattle.std.specs.Option.{option_and_then, option_map_or}
 use Rattle.desk_history.specs.FromTables.{standing_found}
@@ -22,3 +22,8 @@ has_end_before day changes = option_map_or (λ last. is_before last day) (option
 -- where a duty stands, if it is so of its changes
 abbrev pub ended_standing : Tables → List ℕ → DutyRow → Option Standing
 ended_standing t day row = if has_end_before day (filter (is_change_of row.number) t.changes) then Some (standing_found t row) else None
+
+-- a list, and behind it an item that there may be
+abbrev pub and_some : List Standing → Option Standing → List Standing
+and_some found None = found
+and_some found (Some standing) = found ++ standing ∷ []

@@ -1,6 +1,6 @@
 //! Where duties stand.
 
-ghost use Rattle.std.specs.Prelude.{◌≡◌, false, IfOk, filter, map, length};
+ghost use Rattle.std.specs.Prelude.{◌≡◌, false, IfOk, OnOk, filter, map, length};
 ghost use Rattle.std.specs.List.{filter_map, last_or};
 ghost use Rattle.std.specs.Option.{option_and_then, option_copied};
 ghost use Rattle.sqlite.specs.Held.{state};
@@ -11,7 +11,7 @@ ghost use Rattle.desk_layout.specs.Cells.{duty_cells};
 ghost use Rattle.desk_rows.specs.Names.{duty_state_name};
 ghost use Rattle.desk_rows.specs.States.{is_waived};
 ghost use Rattle.desk_rows.specs.Texts.{is_before};
-ghost use Rattle.desk_lookups.specs.Standings.{ended_standing, has_end_before, stands_at};
+ghost use Rattle.desk_lookups.specs.Standings.{and_some, ended_standing, has_end_before, stands_at};
 
 use crate::changes::{changes_of, steps};
 use crate::duties::duties_of;
@@ -21,7 +21,7 @@ use desk_base::Day;
 use desk_layout::values::duty_state;
 use desk_rows::{ChangeRow, DutyRow, DutyState, Fault, Standing};
 use sqlite::{Alter, Connection, Row};
-use std::alloc::Global;
+use std::alloc::{AllocError, Global};
 
 /// Where a duty stands.
 fn standing<S: Alter>(
@@ -76,16 +76,16 @@ pub fn standings_of<S: Alter>(
 
 fn select_duties_at<S: Alter>(
     conn: &mut Connection<S>,
-    state: DutyState,
+    place: DutyState,
 ) -> Result<Vec<Row>, Fault>
-    ensures found { IfOk result (λ rows. OfRows (λ t. rows.items ≡ map duty_cells (filter (stands_at (duty_state_name state)) t.duty)) (seen_of (state S.Store conn.old)) (seen_of (state S.Store conn.new))) }
+    ensures found { IfOk result (λ rows. OfRows (λ t. rows.items ≡ map duty_cells (filter (stands_at (duty_state_name place)) t.duty)) (seen_of (state S.Store conn.old)) (seen_of (state S.Store conn.new))) }
     ensures kept { Looked (seen_of (state S.Store conn.old)) (seen_of (state S.Store conn.new)) result }
     ensures mode { conn.old.in_transaction ≡ false → conn.new.in_transaction ≡ false }
 {
     query(
         conn,
         "SELECT number, release, document, package, term, code, rule, state FROM duty WHERE state = ?1 ORDER BY number",
-        &[duty_state(state)],
+        &[duty_state(place)],
     )
 }
 
@@ -143,6 +143,15 @@ fn standing_if_ended<S: Alter>(
     }
 }
 
+fn push_some(found: &mut Vec<Standing>, standing: Option<Standing>) -> Result<(), AllocError>
+    ensures { OnOk result (found.new.items ≡ and_some found.old.items standing) }
+{
+    if let Some(standing) = standing {
+        found.push(standing)?;
+    }
+    Ok(())
+}
+
 #[tactic(auto, using(crate::proofs::Chains::same_then_kept))]
 fn ended_among<S: Alter>(
     alloc: Global,
@@ -157,9 +166,8 @@ fn ended_among<S: Alter>(
 {
     let mut found = Vec::new(alloc);
     for row in rows {
-        if let Some(standing) = standing_if_ended(alloc, conn, duties, row, day)? {
-            found.push(standing)?;
-        }
+        let standing = standing_if_ended(alloc, conn, duties, row, day)?;
+        push_some(&mut found, standing)?;
     }
     Ok(found)
 }
