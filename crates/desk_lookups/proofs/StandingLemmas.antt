@@ -14,7 +14,7 @@ use Rattle.desk_rows.specs.declared.state.DutyState.{DutyState}
 use Rattle.desk_rows.specs.declared.state.DutyState.TheVariants as duty
 use Rattle.desk_lookups.specs.Standings.{and_some, stands_at, has_end_before, ended_standing}
 
-take_suc : {X : Type 0} (xs : List X) (i : ℕ) (x : X) → i < length xs → x ≡ get_or xs i x → take (suc i) xs ≡ take i xs ++ x ∷ []
+pub take_suc : {X : Type 0} (xs : List X) (i : ℕ) (x : X) → i < length xs → x ≡ get_or xs i x → take (suc i) xs ≡ take i xs ++ x ∷ []
 take_suc [] i x low is = absurd (omega arith)
 take_suc (y ∷ xs) zero x low is = ap (λ z. z ∷ []) (sym is)
 take_suc (y ∷ xs) (suc i) x low is = ap (λ l. y ∷ l) (take_suc xs i x (omega arith) is)

@@ -1,3 +1,4 @@
+pub mod Holders
 pub mod Rules
 pub mod Shown
 pub mod Standings

@@ -5,6 +5,7 @@ mod changes;
 mod columns;
 mod documents;
 mod duties;
+mod holders;
 mod office;
 mod query;
 mod read;
