@@ -1,8 +1,9 @@
 -- One call after another.
-use Rattle.std.proofs.Common.{◌≡◌}
+use Rattle.std.proofs.Common.{◌≡◌, Result, Ok, Err}
 use Rattle.sqlite_trees.specs.Tree.{Trees}
 use Rattle.desk_rows.specs.Tables.{Tables}
-use Rattle.desk_access.specs.Seen.{Seen, Spared, Kept, Same, OfRows}
+use Rattle.desk_access.specs.Seen.{Seen, Spared, Kept, Same, Looked, OfRows}
+use Rattle.desk_rows.specs.declared.command.Fault.{Fault}
 
 module _ (a b c : Seen Trees) (first : Same a b) where
   pub same_then_kept : Kept b c → Kept a c
@@ -21,3 +22,11 @@ module _ (a b c : Seen Trees) (first : Same a b) where
   -- what a first call told stays so
   pub of_rows_still : (Is : Tables → Type 0) → OfRows Is a b → Kept b c → OfRows Is a c
   of_rows_still Is right k = λ clean t h. right (k.spared.honest clean) t h
+
+  pub then_looked : {A : Type 0} (r : Result A Fault) → Looked b c r → Looked a c r
+  then_looked (Ok x) looked = same_then_same looked
+  then_looked (Err e) looked = same_then_kept looked
+
+pub looked_honest : (b c : Seen Trees) {A : Type 0} (r : Result A Fault) → Looked b c r → c.is_honest → b.is_honest
+looked_honest b c (Ok x) looked clean = looked.kept.spared.honest clean
+looked_honest b c (Err e) looked clean = looked.spared.honest clean

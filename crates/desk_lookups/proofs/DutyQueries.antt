@@ -25,8 +25,10 @@ use Rattle.desk_layout.proofs.Queries.{query_on}
 use Rattle.desk_rows.specs.Tables.{Tables}
 use Rattle.desk_rows.specs.Keys.{is_duty, is_duty_of, is_change_of}
 use Rattle.desk_rows.specs.Names.{duty_state_name}
+use Rattle.desk_lookups.specs.Standings.{stands_at}
 use Rattle.desk_rows.specs.declared.row.DutyRow.{DutyRow}
 use Rattle.desk_rows.specs.declared.row.ChangeRow.{ChangeRow}
+use Rattle.desk_lookups.specs.Waivers.{day_cells}
 use Rattle.desk_lookups.proofs.Ties.{is_key, keys}
 use Rattle.desk_lookups.proofs.Keyed.{same_number, same_text, together, duties_sorted, changes_sorted}
 use Rattle.desk_lookups.proofs.Selects.{order_by, by_rowid, by_unique, at_one_key, shows_some, counts, shows, apart_shown}
@@ -161,10 +163,6 @@ waivers_of_read duty old new rows t shown holds =
     let this = d.waiver_table in
     shows this.name 28 this.columns this.key this.primary this.uniques this.orders 15 refl waiver_cells (rows_of t) (filter is_waiver t.changes) refl old.now holds.rows waivers_of_text (codes "step" ∷ codes "last_day" ∷ []) (same 1 0 ∷ []) (col 1 2 ∷ col 1 3 ∷ []) (1 ∷ 2 ∷ []) waivers_of_is waivers_of_plain (number duty ∷ []) (waivers_of_test duty) (λ (cs : Row). (column cs 0 ∷ column cs 1 ∷ [], column cs 1 ∷ column cs 2 ∷ [])) (is_change_of duty) (λ r. refl) (λ r. refl) (waivers_of_picks duty) old new rows shown refl (by_unique this.name 28 this.columns this.key this.primary this.uniques this.orders 15 refl waiver_cells (rows_of t) (filter is_waiver t.changes) refl old.now holds.rows 0 (1 ∷ 2 ∷ []) refl refl (λ (cs : Row). is_key (column cs 0) && (is_key (column cs 1) && true)) (λ r. refl) (λ x. refl)) (ascending-filter _ (is_change_of duty) (filter is_waiver t.changes) (ascending-filter _ is_waiver t.changes (changes_sorted t.changes holds.orderly.sorted.changes)))
 
--- a duty stands where the word says
-abbrev pub stands_at : List ℕ → DutyRow → Bool
-stands_at state x = bytes_eq (duty_state_name x.state) state
-
 -- ---- the duties that stand in a state
 
 abbrev pub duties_at_text : List ℕ
@@ -208,7 +206,7 @@ days_of_test duty cs = is_true (binary (Compare Eq Binary) (column cs 0) (number
 days_of_picks : (duty : ℕ) (x : ChangeRow) → days_of_test duty (change_cells x) ≡ (is_change_of duty) x
 days_of_picks duty x = rw (int_test x.duty duty, and_true (x.duty == duty)) refl
 
-pub days_of_read : (duty : ℕ) (old new : State) (rows : List Row) (t : Tables) → Shown days_of_text (number duty ∷ []) old new rows → Holds t old.now → rows ≡ map (λ (x : ChangeRow). Text x.day ∷ []) (filter (is_change_of duty) t.changes)
+pub days_of_read : (duty : ℕ) (old new : State) (rows : List Row) (t : Tables) → Shown days_of_text (number duty ∷ []) old new rows → Holds t old.now → rows ≡ map day_cells (filter (is_change_of duty) t.changes)
 days_of_read duty old new rows t shown holds =
     let this = d.change_table in
     shows this.name 25 this.columns this.key this.primary this.uniques this.orders 13 refl change_cells (rows_of t) t.changes refl old.now holds.rows days_of_text (codes "day" ∷ []) (same 1 0 ∷ []) (col 1 3 ∷ []) (1 ∷ 2 ∷ []) days_of_is days_of_plain (number duty ∷ []) (days_of_test duty) (λ (cs : Row). (column cs 0 ∷ column cs 1 ∷ [], column cs 2 ∷ [])) (is_change_of duty) (λ r. refl) (λ r. refl) (days_of_picks duty) old new rows shown refl (by_unique this.name 25 this.columns this.key this.primary this.uniques this.orders 13 refl change_cells (rows_of t) t.changes refl old.now holds.rows 0 (1 ∷ 2 ∷ []) refl refl (λ (cs : Row). is_key (column cs 0) && (is_key (column cs 1) && true)) (λ r. refl) (λ x. refl)) (ascending-filter _ (is_change_of duty) t.changes (changes_sorted t.changes holds.orderly.sorted.changes))

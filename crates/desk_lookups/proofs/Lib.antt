@@ -2,6 +2,10 @@ pub mod Ties
 pub mod Selects
 pub mod Keyed
 pub mod Calls
+pub mod HolderLemmas
+pub mod StandingLemmas
+pub mod LastDay
+pub mod Ruling
 pub mod Ending
 pub mod Among
 pub mod Chains

@@ -25,6 +25,7 @@ use Rattle.desk_rows.specs.Keys.{is_conclusion, is_adoption, is_adoption_in}
 use Rattle.desk_rows.specs.declared.row.ConclusionRow.{ConclusionRow}
 use Rattle.desk_rows.specs.declared.row.AdoptionRow.{AdoptionRow}
 use Rattle.desk_rows.specs.declared.row.RuleRow.{RuleRow}
+use Rattle.desk_lookups.specs.Rules.{is_rule_at}
 use Rattle.desk_lookups.proofs.Ties.{is_key}
 use Rattle.desk_lookups.proofs.Keyed.{same_number, same_text, together}
 use Rattle.desk_lookups.proofs.Selects.{order_by, by_rowid, by_unique, at_one_key, shows_some, counts, shows}
@@ -106,10 +107,6 @@ pub adoption_count_count : (document : ℕ) (old new : State) (rows : List Row) 
 adoption_count_count document old new rows t shown holds =
     let this = d.adoption_table in
     counts this.name 12 this.columns this.key this.primary this.uniques this.orders 7 refl adoption_cells (rows_of t) t.adoption refl old.now holds.rows adoption_count_text (codes "reference" ∷ []) (same 1 0 ∷ []) (col 1 2 ∷ []) ([]) adoption_count_is adoption_count_plain (number document ∷ []) (adoption_count_test document) (λ (cs : Row). ([], column cs 1 ∷ [])) (is_adoption_in document) (λ r. refl) (λ r. refl) (adoption_count_picks document) old new rows shown refl
-
--- the rule of a revision for a term and a form
-abbrev pub is_rule_at : ℕ → List ℕ → List ℕ → RuleRow → Bool
-is_rule_at revision term form x = (x.revision == revision) && (bytes_eq x.term term && bytes_eq x.form form)
 
 -- ---- the rule for a term and a form
 

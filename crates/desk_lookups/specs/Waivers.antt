@@ -21,6 +21,10 @@ waivers_in rows = map waiver_of (filter is_waiver rows)
 abbrev pub ending_cells : Waiver → Row
 ending_cells waiver = number waiver.step ∷ Text waiver.last_day ∷ []
 
+-- the day of a change
+abbrev pub day_cells : ChangeRow → Row
+day_cells row = Text row.day ∷ []
+
 -- the last day of a step's waiver, where that is the first of some, and the waivers behind it
 abbrev pub taken : ℕ → List Waiver → Option (List ℕ) × List Waiver
 taken step [] = (None, [])

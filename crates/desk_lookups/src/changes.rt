@@ -9,7 +9,7 @@ ghost use Rattle.desk_layout.specs.Held.{seen_of};
 ghost use Rattle.desk_rows.specs.Keys.{is_change_of};
 ghost use Rattle.desk_rows.specs.Queries.{last_day};
 ghost use Rattle.desk_rows.specs.declared.row.ChangeRow.{ChangeRow as Change};
-ghost use Rattle.desk_lookups.specs.Waivers.{AreSteps, ending_cells, taken, waivers_in};
+ghost use Rattle.desk_lookups.specs.Waivers.{AreSteps, day_cells, ending_cells, taken, waivers_in};
 
 use crate::columns::{day_at, number_at};
 use crate::query::{among, query};
@@ -151,4 +151,40 @@ pub fn changes_of<S: Alter>(
 {
     let (changes, ends) = select_both(conn, duties, duty)?;
     read_changes(alloc, &changes, &ends)
+}
+
+fn select_days_of<S: Alter>(
+    conn: &mut Connection<S>,
+    duty: u32,
+) -> Result<Vec<Row>, Fault>
+    ensures found { IfOk result (λ rows. OfRows (λ t. rows.items ≡ map day_cells (filter (is_change_of duty) t.changes)) (seen_of (state S.Store conn.old)) (seen_of (state S.Store conn.new))) }
+    ensures kept { Looked (seen_of (state S.Store conn.old)) (seen_of (state S.Store conn.new)) result }
+    ensures mode { conn.old.in_transaction ≡ false → conn.new.in_transaction ≡ false }
+{
+    query(
+        conn,
+        "SELECT day FROM change WHERE duty = ?1 ORDER BY duty, step",
+        &[number(duty)],
+    )
+}
+
+/// The day of the last of some changes.
+#[tactic(auto, using(crate::proofs::LastDay::last_none))]
+fn last_of(rows: &[Row]) -> Result<Option<Day>, Fault>
+    ensures { IfOk result (λ day. (xs : List Change) → rows.now ≡ map day_cells xs → day ≡ last_day xs) }
+{
+    match rows.last() {
+        Some(row) => Ok(Some(day_at(row, 0)?)),
+        None => Ok(None),
+    }
+}
+
+/// The day of a duty's last change, if it has one.
+pub fn last_day<S: Alter>(conn: &mut Connection<S>, duty: u32) -> Result<Option<Day>, Fault>
+    ensures found { IfOk result (λ found. OfRows (λ t. found ≡ last_day (filter (is_change_of duty) t.changes)) (seen_of (state S.Store conn.old)) (seen_of (state S.Store conn.new))) }
+    ensures kept { Looked (seen_of (state S.Store conn.old)) (seen_of (state S.Store conn.new)) result }
+    ensures mode { conn.old.in_transaction ≡ false → conn.new.in_transaction ≡ false }
+{
+    let rows = select_days_of(conn, duty)?;
+    last_of(&rows)
 }

@@ -36,7 +36,7 @@ pub(crate) fn long_at(row: &Row, at: usize) -> Result<u64, Fault>
     }
 }
 
-fn str_at(row: &Row, at: usize) -> Result<&str, Fault>
+pub(crate) fn str_at(row: &Row, at: usize) -> Result<&str, Fault>
     ensures { IfOk result (λ text. column row.now at ≡ Words text.now) }
 {
     match row.get_ref(at) {
