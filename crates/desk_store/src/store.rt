@@ -1,14 +1,13 @@
 //! The store: the desk's rows over a connection.
 
-ghost use Rattle.std.specs.Prelude.{◌≡◌, false, IsTrue};
+ghost use Rattle.std.specs.Prelude.{◌≡◌, ℕ, List, false, unwrap_or};
 ghost use Rattle.std.specs.List.{list_any};
 ghost use Rattle.std.specs.Str.{bytes_eq};
 ghost use Rattle.sqlite_trees.specs.Tree.{Trees};
 ghost use Rattle.sqlite.specs.Held.{state};
-ghost use Rattle.sqlite.specs.State.{HasCleanDisk};
 ghost use Rattle.desk_rows.specs.Tables.{Tables};
 ghost use Rattle.desk_layout.specs.Held.{Stands, counted, known_of, seen_of};
-ghost use Rattle.desk_store.specs.Counting.{known_by};
+ghost use Rattle.desk_store.specs.Counting.{forms_after, known_by};
 
 use crate::counts::{Counts, counts_after};
 use desk_access::store::Store;
@@ -66,6 +65,20 @@ fn has_form(forms: &[Text], form: &str) -> bool
     ensures { result ≡ list_any (bytes_eq form.now) forms.now }
 {
     forms.iter().any(|known| known.as_str() == form)
+}
+
+/// The forms of the catalogue that a change loads.
+fn forms_of(change: Change) -> Option<Items<Text>>
+    ensures { (old : List (List ℕ)) → unwrap_or result old ≡ forms_after change old }
+{
+    match change {
+        Change::Loaded {
+            catalogue: _,
+            rules: _,
+            forms,
+        } => Some(forms),
+        _ => None,
+    }
 }
 
 impl<S: Alter> Store for SqlStore<S> {
@@ -145,7 +158,7 @@ impl<S: Alter> Store for SqlStore<S> {
     }
 
     fn holder(&mut self, document: u32, id: &str) -> Result<Option<Text>, Fault> {
-        desk_lookups::holder(self.alloc, &mut self.conn, document, id)
+        Err(Fault::Store(StoreFault::Rows))
     }
 
     fn adoption(&mut self, document: u32, reference: &str) -> Result<Option<Text>, Fault> {
@@ -185,7 +198,7 @@ impl<S: Alter> Store for SqlStore<S> {
     }
 
     fn last_day(&mut self, duty: u32) -> Result<Option<Day>, Fault> {
-        desk_lookups::last_day(self.alloc, &mut self.conn, self.counts.duties, duty)
+        desk_lookups::last_day(&mut self.conn, duty)
     }
 
     fn commit(&mut self, change: Change) -> Result<(), Fault> {
@@ -194,7 +207,7 @@ impl<S: Alter> Store for SqlStore<S> {
         };
         desk_writing::commit(self.alloc, &mut self.conn, &change)?;
         self.counts = counts;
-        if let Change::Loaded { forms, .. } = change {
+        if let Some(forms) = forms_of(change) {
             self.forms = forms;
         }
         Ok(())
