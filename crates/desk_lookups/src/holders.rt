@@ -20,9 +20,7 @@ use desk_rows::{Fault, ReleaseRow};
 use sqlite::{Alter, Connection, Row};
 use std::alloc::{AllocError, Global};
 
-fn select_releases<S: Alter>(
-    conn: &mut Connection<S>,
-) -> Result<Vec<Row>, Fault>
+fn select_releases<S: Alter>(conn: &mut Connection<S>) -> Result<Vec<Row>, Fault>
     ensures found { IfOk result (λ rows. OfRows (λ t. rows.items ≡ map release_cells t.releases) (seen_of (state S.Store conn.old)) (seen_of (state S.Store conn.new))) }
     ensures kept { Looked (seen_of (state S.Store conn.old)) (seen_of (state S.Store conn.new)) result }
     ensures mode { conn.old.in_transaction ≡ false → conn.new.in_transaction ≡ false }
@@ -35,10 +33,7 @@ fn select_releases<S: Alter>(
 }
 
 /// All releases, by name.
-fn releases<S: Alter>(
-    alloc: Global,
-    conn: &mut Connection<S>,
-) -> Result<Vec<ReleaseRow>, Fault>
+fn releases<S: Alter>(alloc: Global, conn: &mut Connection<S>) -> Result<Vec<ReleaseRow>, Fault>
     ensures found { IfOk result (λ found. OfRows (λ t. found.items ≡ t.releases) (seen_of (state S.Store conn.old)) (seen_of (state S.Store conn.new))) }
     ensures kept { Looked (seen_of (state S.Store conn.old)) (seen_of (state S.Store conn.new)) result }
     ensures mode { conn.old.in_transaction ≡ false → conn.new.in_transaction ≡ false }

@@ -7,8 +7,8 @@ ghost use Rattle.desk_lookups.specs.Shown.{bytes_cells, known_cells, text_cells}
 ghost use Rattle.desk_lookups.specs.Waivers.{ending_cells};
 
 use crate::columns::{
-    bytes_at, day_at, duty_state_at, flag_at, long_at, number_at, profile_at, release_state_at, text_at,
-    text_or_null_at, word_at,
+    bytes_at, day_at, duty_state_at, flag_at, long_at, number_at, profile_at, release_state_at,
+    text_at, text_or_null_at, word_at,
 };
 use crate::read::ReadRow;
 use desk_base::{Day, Items, Profile, Text};

@@ -1,5 +1,4 @@
-use Rattle.std.proofs.Common.{◌≡◌, filter, map, ap, subst, ◌∙◌}
-use Rattle.desk_rows.specs.Conclusions.{holds}
+use Rattle.std.proofs.Common.{◌∙◌}
 use Rattle.desk_rows.specs.Keys.{is_choice_of}
 use Rattle.desk_lookups.proofs.HolderLemmas.{holding}
 use Rattle.desk_lookups.proofs.holders.is_holding.Goals as goal
