@@ -42,12 +42,6 @@ fn releases<S: Alter>(alloc: Global, conn: &mut Connection<S>) -> Result<Vec<Rel
     read_all(alloc, &rows)
 }
 
-fn is_some_row(rows: &[Row]) -> bool
-    ensures { result ≡ not (length rows.now == 0) }
-{
-    !rows.is_empty()
-}
-
 /// Whether a release holds a choice for a package of a document.
 fn is_holding<S: Alter>(
     conn: &mut Connection<S>,
@@ -60,34 +54,23 @@ fn is_holding<S: Alter>(
     ensures mode { conn.old.in_transaction ≡ false → conn.new.in_transaction ≡ false }
 {
     let rows = select_chosen(conn, release.name.as_str(), document, id)?;
-    Ok(is_some_row(&rows))
+    Ok(!rows.as_slice().is_empty())
 }
 
-/// Of a release, if there is one, and one behind it, the one that was opened first.
+/// Of a release, if there is one, and one behind it that may hold the choice, the one that was opened first.
 fn opened_first<'a>(
-    first: Option<&'a ReleaseRow>,
-    release: &'a ReleaseRow,
-) -> Option<&'a ReleaseRow>
-    ensures { option_copied result ≡ and_then_opened (option_copied first.entry) release.now }
-{
-    match first {
-        Some(first) if first.place <= release.place => Some(first),
-        _ => Some(release),
-    }
-}
-
-/// The same, where the one behind it holds the choice.
-fn opened_first_if<'a>(
     first: Option<&'a ReleaseRow>,
     release: &'a ReleaseRow,
     is_holding: bool,
 ) -> Option<&'a ReleaseRow>
     ensures { option_copied result ≡ (if is_holding then and_then_opened (option_copied first.entry) release.now else option_copied first.entry) }
 {
-    if is_holding {
-        opened_first(first, release)
-    } else {
-        first
+    if !is_holding {
+        return first;
+    }
+    match first {
+        Some(first) if first.place <= release.place => Some(first),
+        _ => Some(release),
     }
 }
 
@@ -105,7 +88,7 @@ fn first_holding<'a, S: Alter>(
     let mut first = None;
     for row in rows {
         let is_holding = is_holding(conn, row, document, id)?;
-        first = opened_first_if(first, row, is_holding);
+        first = opened_first(first, row, is_holding);
     }
     Ok(first)
 }
