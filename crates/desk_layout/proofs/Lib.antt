@@ -9,3 +9,5 @@ pub mod Statements
 pub mod Ascending
 pub mod Orderly
 pub mod Creates
+pub mod Counting
+pub mod Apart

@@ -81,7 +81,7 @@ moved_numbers : (changes : List ChangeRow) (rows : List DutyRow) → map (λ (ro
 moved_numbers [] rows = refl
 moved_numbers (c ∷ changes) rows = same_keys (λ (row : DutyRow). row.number) (is_duty c.duty) (with_duty_state (state_after c.word)) (λ x. refl) (moved_by changes rows) ∙ moved_numbers changes rows
 
-moved_length : (changes : List ChangeRow) (rows : List DutyRow) → length (moved_by changes rows) ≡ length rows
+pub moved_length : (changes : List ChangeRow) (rows : List DutyRow) → length (moved_by changes rows) ≡ length rows
 moved_length changes rows =
     sym (length-map (moved_by changes rows) (λ (row : DutyRow). row.number)) ∙ ap length (moved_numbers changes rows) ∙ length-map rows (λ (row : DutyRow). row.number)
 

@@ -5,7 +5,8 @@
 //! `specs/Writable.antt` says which changes can be written so that they can be read again.
 //!
 //! `proofs/` is open to the crates above: what a statement makes of the rows of a table (`Statements`), what a query shows of them
-//! (`Queries`, `Orders`), what CREATE TABLE declares (`Creates`), and that a change keeps rows orderly (`Orderly`).
+//! (`Queries`, `Orders`), that a unique key stands once (`Apart`), what CREATE TABLE declares (`Creates`), and that a change keeps rows
+//! orderly (`Orderly`) and counted (`Counting`).
 #![tactic(auto)]
 
 pub mod fault;

@@ -33,10 +33,7 @@ use Rattle.desk_layout.specs.Held.{HasRows}
 use Rattle.desk_layout.proofs.Casts.{cast_null, cast_int, cast_text}
 use Rattle.desk_layout.proofs.Statements.{inserted}
 use Rattle.desk_writing.specs.Contents.{Contents, cells_of, with_tables}
-
-append_nil : {X : Type 0} (xs : List X) → xs ++ [] ≡ xs
-append_nil [] = refl
-append_nil (x ∷ xs) = ap (λ l. x ∷ l) (append_nil xs)
+use Rattle.desk_writing.proofs.Lists.{append_nil}
 
 last_first : {X : Type 0} (x : X) (xs : List X) → IsPermutation (xs ++ x ∷ []) (x ∷ xs)
 last_first x xs = subst (λ l. IsPermutation (xs ++ x ∷ []) (x ∷ l)) (append_nil xs) (IsPermutation-middle xs x [])

@@ -6,3 +6,4 @@ mod Lists
 mod Moves
 mod Applied
 mod Commits
+mod Creating

@@ -7,6 +7,7 @@ use Rattle.sqlite.specs.State.{State, HasCleanDisk, KeepsCommit, ExecutesInside}
 use Rattle.desk_rows.specs.Tables.{Tables, applied}
 use Rattle.desk_rows.specs.declared.command.Change.{Change}
 use Rattle.desk_rows.specs.declared.command.Fault.{Fault}
+use Rattle.desk_layout.specs.Layout.{no_schema}
 use Rattle.desk_layout.specs.Held.{HasRows, rows_of}
 
 -- Inside a transaction, which goes on, this was made of whatever rows the database had, and nothing was committed.
@@ -41,3 +42,13 @@ pub record Undone (old new : State) : Type 0 where
 -- a stop leaves the change
 abbrev pub Leaves : Change → State → Trees → Type 0
 Leaves change old trees = (db : Database) × ((t : Tables) → HasRows (rows_of t) old.now → HasRows (rows_of (applied change t)) db) × (trees ≡ db.trees)
+
+-- inside a transaction, on a database without tables, the desk's tables were created with these rows, and nothing was committed
+pub record HasCreated (content : ℕ → List Row) (old new : State) : Type 0 where
+  pub inside : IsTrue new.in_transaction
+  pub kept : KeepsCommit old new
+  pub rows : old.now.schema ≡ no_schema → HasRows content new.now
+
+abbrev pub Creates : (ℕ → List Row) → State → State → Result (Unit {0}) Fault → Type 0
+Creates rows old new (Ok done) = HasCleanDisk new → IsTrue old.in_transaction → HasCreated rows old new
+Creates rows old new (Err fault) = HasCleanDisk new → IsTrue old.in_transaction → KeepsCommit old new

@@ -7,6 +7,7 @@
 
 mod catalogue;
 mod change;
+mod create;
 mod document;
 mod duty;
 mod office;
@@ -15,4 +16,5 @@ mod statement;
 mod transaction;
 mod writable;
 
+pub use create::create_tables;
 pub use transaction::commit;
