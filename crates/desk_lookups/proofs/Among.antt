@@ -1,11 +1,10 @@
 -- Numbers past the last one.
-use Rattle.std.proofs.Common.{◌≡◌, ℕ, ◌+◌, ◌≤◌, Bool, true, false, List, [], ◌∷◌, map, filter, length, refl, sym, ap, ◌∙◌, arith, min}
+use Rattle.std.proofs.Common.{◌≡◌, ℕ, ◌+◌, ◌≤◌, Bool, true, List, [], ◌∷◌, map, filter, length, refl, ap, arith, min}
 use Rattle.std.specs.Prelude.{◌&&◌, ◌==◌, nat_le, bytes_eq}
 use Rattle.std.specs.List.{list_all}
 use Rattle.std.proofs.lemmas.Bool.{and_parts}
 use Rattle.std.proofs.lemmas.Bool.Decides.{nat_tests}
-use Rattle.std.proofs.lemmas.List.{length-map}
-use Rattle.desk_layout.specs.Held.{Holds, AreOrderly, AreNumbered}
+use Rattle.desk_layout.specs.Held.{AreOrderly, AreNumbered}
 use Rattle.desk_rows.specs.Keys.{is_document, is_duty, is_change_of, is_package}
 use Rattle.desk_rows.specs.Tables.{Tables}
 

@@ -73,7 +73,7 @@ module _ (sql : List ℕ) (params : Row) (old new : State) where
       leaves = λ clean is t holds x left.
           let shows = holds (clean_before clean) is in
           let none : CommitsShowing sql params old x → old.may_leave x = λ commits.
-              absurd (never_commits sql params old x (subst (λ s. IsPlain (understood s sql)) (sym shows.holds.rows.declared) plain) commits) in
+          absurd (never_commits sql params old x (subst (λ s. IsPlain (understood s sql)) (sym shows.holds.rows.declared) plain) commits) in
           one x none (survives.crash clean x left);
     }
       where

@@ -1,8 +1,8 @@
 -- One call after another.
-use Rattle.std.proofs.Common.{◌≡◌, Result, Ok, Err}
+use Rattle.std.proofs.Common.{Result, Ok, Err}
 use Rattle.sqlite_trees.specs.Tree.{Trees}
 use Rattle.desk_rows.specs.Tables.{Tables}
-use Rattle.desk_access.specs.Seen.{Seen, Spared, Kept, Same, Looked, OfRows}
+use Rattle.desk_access.specs.Seen.{Seen, Kept, Same, Looked, OfRows}
 use Rattle.desk_rows.specs.declared.command.Fault.{Fault}
 
 module _ (a b c : Seen Trees) (first : Same a b) where

@@ -1,5 +1,5 @@
 -- What is shown of documents and their packages.
-use Rattle.std.proofs.Common.{◌≡◌, ℕ, pos, Bool, true, false, List, [], ◌∷◌, map, filter, codes, length, refl, sym, ap, ◌∙◌, IsPermutation}
+use Rattle.std.proofs.Common.{◌≡◌, ℕ, Bool, true, false, List, [], ◌∷◌, map, filter, codes, refl, ap}
 use Rattle.std.specs.Prelude.{◌&&◌, ◌==◌, bytes_eq, if◌then◌else◌}
 use Rattle.std.proofs.lemmas.Bool.{and_parts}
 use Rattle.sqlite_value.specs.declared.keys.Collation.TheVariants.{Binary}
@@ -25,8 +25,8 @@ use Rattle.desk_rows.specs.Keys.{is_document, has_namespace, is_package, is_ship
 use Rattle.desk_rows.specs.declared.row.DocumentRow.{DocumentRow}
 use Rattle.desk_rows.specs.declared.row.PackageRow.{PackageRow}
 use Rattle.desk_lookups.proofs.Ties.{is_key}
-use Rattle.desk_lookups.proofs.Keyed.{same_number, same_text, together, packages_sorted}
-use Rattle.desk_lookups.proofs.Selects.{order_by, by_rowid, by_unique, at_one_key, shows_some, counts, shows}
+use Rattle.desk_lookups.proofs.Keyed.{same_number, same_text, packages_sorted}
+use Rattle.desk_lookups.proofs.Selects.{order_by, by_rowid, by_unique, at_one_key, shows}
 
 -- ---- the profile of a document
 

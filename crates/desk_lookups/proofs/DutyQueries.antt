@@ -1,7 +1,6 @@
 -- What is shown of duties and their changes.
-use Rattle.std.proofs.Common.{◌≡◌, ℕ, pos, Bool, true, false, List, [], ◌∷◌, map, filter, codes, length, refl, sym, ap, ◌∙◌, IsPermutation, is_eq}
+use Rattle.std.proofs.Common.{◌≡◌, ℕ, Bool, true, false, List, [], ◌∷◌, map, filter, codes, length, refl, is_eq}
 use Rattle.std.specs.Prelude.{◌&&◌, ◌==◌, bytes_eq}
-use Rattle.std.proofs.lemmas.Bool.{and_parts}
 use Rattle.sqlite_value.specs.declared.keys.Collation.TheVariants.{Binary}
 use Rattle.sqlite_value.specs.declared.value.Value.TheVariants.{Text}
 use Rattle.sqlite_value.specs.Order.{Row, column}
@@ -30,8 +29,8 @@ use Rattle.desk_rows.specs.declared.row.DutyRow.{DutyRow}
 use Rattle.desk_rows.specs.declared.row.ChangeRow.{ChangeRow}
 use Rattle.desk_lookups.specs.Waivers.{day_cells}
 use Rattle.desk_lookups.proofs.Ties.{is_key, keys}
-use Rattle.desk_lookups.proofs.Keyed.{same_number, same_text, together, duties_sorted, changes_sorted}
-use Rattle.desk_lookups.proofs.Selects.{order_by, by_rowid, by_unique, at_one_key, shows_some, counts, shows, apart_shown}
+use Rattle.desk_lookups.proofs.Keyed.{same_number, duties_sorted, changes_sorted}
+use Rattle.desk_lookups.proofs.Selects.{order_by, by_rowid, by_unique, at_one_key, counts, shows, apart_shown}
 
 -- ---- the duty with a number
 

@@ -1,10 +1,8 @@
 -- Changes and the waivers among them that end, read from two tables.
-use Rattle.std.proofs.Common.{◌≡◌, ◌<◌, ◌+◌, inl, inr, ℕ, zero, suc, Bool, true, false, List, [], ◌∷◌, ◌++◌, map, filter, take, drop, get_or, length, Option, Some, None, refl, sym, ap, ap₂, subst, ◌∙◌, arith, is_eq, true≢false, cond}
-use Rattle.std.specs.Prelude.{◌==◌, if◌then◌else◌, unwrap_or, is_some}
+use Rattle.std.proofs.Common.{◌≡◌, ◌<◌, ℕ, zero, suc, Bool, true, false, List, [], ◌∷◌, ◌++◌, map, filter, take, drop, get_or, length, Option, Some, None, refl, sym, ap, subst, ◌∙◌, arith, is_eq, true≢false}
+use Rattle.std.specs.Prelude.{◌==◌}
 use Rattle.std.specs.List.{AllByRecursion}
-use Rattle.std.specs.Ordering.{ordering_then}
 use Rattle.std.proofs.lemmas.Bool.Decides.{nat_tests}
-use Rattle.std.proofs.lemmas.Bool.{cases_Bool}
 use Rattle.std.proofs.lemmas.Cmp.{tied_itself}
 use Rattle.sqlite_value.specs.Order.{Row}
 use Rattle.sqlite_value.specs.declared.value.Value.TheVariants.{Text}
@@ -16,8 +14,7 @@ use Rattle.sqlite_rules.proofs.ListLemmas.{has_filtered}
 use Rattle.desk_layout.specs.Cells.{number, text_or_null, is_waiver}
 use Rattle.desk_rows.specs.Keys.{is_change_of}
 use Rattle.desk_rows.specs.declared.row.ChangeRow.{ChangeRow}
-use Rattle.desk_lookups.specs.declared.rows.Waiver.{Waiver}
-use Rattle.desk_lookups.specs.Waivers.{AreSteps, waiver_of, waivers_in, ending_cells, taken}
+use Rattle.desk_lookups.specs.Waivers.{AreSteps, waivers_in, ending_cells, taken}
 use Rattle.desk_lookups.proofs.Keyed.{same_number}
 use Rattle.desk_lookups.proofs.Ties.{keys, ascending_among}
 

@@ -1,11 +1,10 @@
 -- What is shown of conclusions, adoptions and rules.
-use Rattle.std.proofs.Common.{◌≡◌, ℕ, pos, Bool, true, false, List, [], ◌∷◌, map, filter, codes, length, refl, sym, ap, ◌∙◌, IsPermutation}
+use Rattle.std.proofs.Common.{◌≡◌, ℕ, Bool, true, false, List, [], ◌∷◌, map, filter, codes, length, refl}
 use Rattle.std.specs.Prelude.{◌&&◌, ◌==◌, bytes_eq}
 use Rattle.std.proofs.lemmas.Bool.{and_parts}
 use Rattle.sqlite_value.specs.declared.keys.Collation.TheVariants.{Binary}
 use Rattle.sqlite_value.specs.declared.value.Value.TheVariants.{Text}
 use Rattle.sqlite_value.specs.Order.{Row, column}
-use Rattle.sqlite_trees.proofs.ListLemmas.{ascending-filter}
 use Rattle.sqlite_sql.specs.declared.ops.BinaryOp.TheVariants.{Compare}
 use Rattle.sqlite_sql.specs.declared.ops.CompareOp.TheVariants.{Eq}
 use Rattle.sqlite_sql.specs.Ops.{binary, is_true}
@@ -27,8 +26,8 @@ use Rattle.desk_rows.specs.declared.row.AdoptionRow.{AdoptionRow}
 use Rattle.desk_rows.specs.declared.row.RuleRow.{RuleRow}
 use Rattle.desk_lookups.specs.Rules.{is_rule_at}
 use Rattle.desk_lookups.proofs.Ties.{is_key}
-use Rattle.desk_lookups.proofs.Keyed.{same_number, same_text, together}
-use Rattle.desk_lookups.proofs.Selects.{order_by, by_rowid, by_unique, at_one_key, shows_some, counts, shows}
+use Rattle.desk_lookups.proofs.Keyed.{same_number, same_text}
+use Rattle.desk_lookups.proofs.Selects.{order_by, by_unique, at_one_key, counts, shows}
 
 -- ---- what the office concluded for a package
 

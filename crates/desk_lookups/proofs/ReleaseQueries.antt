@@ -1,7 +1,6 @@
 -- What is shown of releases and what is attached and chosen for them.
-use Rattle.std.proofs.Common.{◌≡◌, ℕ, pos, Bool, true, false, List, [], ◌∷◌, map, filter, codes, length, refl, sym, ap, ◌∙◌, IsPermutation}
+use Rattle.std.proofs.Common.{◌≡◌, ℕ, Bool, true, false, List, [], ◌∷◌, map, filter, codes, length, refl}
 use Rattle.std.specs.Prelude.{◌&&◌, ◌==◌, bytes_eq}
-use Rattle.std.proofs.lemmas.Bool.{and_parts}
 use Rattle.sqlite_value.specs.declared.keys.Collation.TheVariants.{Binary}
 use Rattle.sqlite_value.specs.declared.value.Value.TheVariants.{Text}
 use Rattle.sqlite_value.specs.Order.{Row, column}
@@ -26,8 +25,8 @@ use Rattle.desk_rows.specs.declared.row.ReleaseRow.{ReleaseRow}
 use Rattle.desk_rows.specs.declared.row.AttachedRow.{AttachedRow}
 use Rattle.desk_rows.specs.declared.row.ChoiceRow.{ChoiceRow}
 use Rattle.desk_lookups.proofs.Ties.{is_key}
-use Rattle.desk_lookups.proofs.Keyed.{same_number, same_text, together, attached_sorted, choices_sorted, releases_sorted}
-use Rattle.desk_lookups.proofs.Selects.{order_by, by_rowid, by_unique, at_one_key, shows_some, counts, shows}
+use Rattle.desk_lookups.proofs.Keyed.{same_text, together, attached_sorted, choices_sorted, releases_sorted}
+use Rattle.desk_lookups.proofs.Selects.{order_by, by_unique, at_one_key, counts, shows}
 
 -- ---- the release with a name
 

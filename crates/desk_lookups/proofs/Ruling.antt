@@ -1,6 +1,6 @@
 -- The rule in force, and the codes that a text joins.
 use Rattle.sqlite_value.specs.Order.{Row}
-use Rattle.std.proofs.Common.{◌≡◌, ℕ, Bool, true, false, not, Some, List, [], ◌∷◌, ◌++◌, map, filter, find, slice_get, length, refl, sym, ap, ◌∙◌, ◌<◌, All, arith}
+use Rattle.std.proofs.Common.{◌≡◌, ℕ, Bool, true, false, not, Some, List, [], ◌∷◌, map, filter, find, slice_get, length, refl, sym, ap, ◌∙◌, All, arith}
 use Rattle.std.specs.Prelude.{◌==◌, ◌&&◌, bytes_eq, nat_lt}
 use Rattle.std.specs.List.{list_all, slice_split, AllByRecursion}
 use Rattle.std.specs.Option.{option_map}

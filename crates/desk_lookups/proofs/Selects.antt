@@ -1,5 +1,5 @@
 -- What a query on one table shows, in the order of a key.
-use Rattle.std.proofs.Common.{◌≡◌, ℕ, Bool, true, false, List, [], ◌∷◌, map, filter, find, get_or, length, slice_get, Option, Some, refl, sym, ap, ap₂, subst, subst₂, ◌∙◌, IsPermutation, Ordering, Less, Equal, Greater, is_lt, is_eq}
+use Rattle.std.proofs.Common.{◌≡◌, ℕ, Bool, true, false, List, [], ◌∷◌, map, filter, get_or, length, slice_get, Option, Some, refl, sym, ap, subst, subst₂, ◌∙◌, IsPermutation, Ordering, Less, Equal, Greater, is_lt, is_eq}
 use Rattle.std.specs.List.{AllByRecursion, IsDistinct}
 use Rattle.std.specs.Ordering.{ordering_reverse}
 use Rattle.std.proofs.lemmas.Map.Keys.{IsDistinct-IsPermutation}

@@ -1,8 +1,8 @@
 -- Where duties stand, one after the other.
 use Rattle.std.proofs.Common.{◌≡◌, ◌<◌, ◌≤◌, ◌+◌, ◌-◌, slice_get, ℕ, zero, suc, Bool, true, false, List, [], ◌∷◌, ◌++◌, map, filter, take, length, get_or, Option, Some, None, refl, sym, ap, ◌∙◌, arith, add-one}
-use Rattle.std.specs.Prelude.{◌&&◌, if◌then◌else◌, bytes_eq}
+use Rattle.std.specs.Prelude.{bytes_eq}
 use Rattle.std.specs.List.{filter_map, last_or}
-use Rattle.desk_history.specs.FromTables.{standing_found, ends, ended_found}
+use Rattle.desk_history.specs.FromTables.{standing_found, ends}
 use Rattle.desk_rows.specs.Keys.{is_change_of}
 use Rattle.desk_rows.specs.Names.{duty_state_name}
 use Rattle.desk_rows.specs.States.{is_waived}

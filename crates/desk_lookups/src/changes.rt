@@ -38,11 +38,7 @@ fn select_steps<S: Alter>(
 }
 
 /// How many changes a duty has, of so many duties.
-pub fn steps<S: Alter>(
-    conn: &mut Connection<S>,
-    duties: u32,
-    duty: u64,
-) -> Result<u64, Fault>
+pub fn steps<S: Alter>(conn: &mut Connection<S>, duties: u32, duty: u64) -> Result<u64, Fault>
     ensures found { IfOk result (λ found. OfRows (λ t. length t.duty ≡ duties → found ≡ steps_found t duty) (seen_of (state S.Store conn.old)) (seen_of (state S.Store conn.new))) }
     ensures kept { Looked (seen_of (state S.Store conn.old)) (seen_of (state S.Store conn.new)) result }
     ensures mode { conn.old.in_transaction ≡ false → conn.new.in_transaction ≡ false }
@@ -113,11 +109,7 @@ fn take_waiver(waivers: &[Waiver], step: u32) -> (Option<Day>, &[Waiver])
 }
 
 /// Changes, whose last days stand in waivers in the order of their steps.
-fn with_waivers(
-    alloc: Global,
-    rows: &[Row],
-    waivers: &[Waiver],
-) -> Result<Vec<ChangeRow>, Fault>
+fn with_waivers(alloc: Global, rows: &[Row], waivers: &[Waiver]) -> Result<Vec<ChangeRow>, Fault>
     ensures { IfOk result (λ found. (xs : List Change) → AreSteps xs → rows.now ≡ map change_cells xs → waivers.now ≡ waivers_in xs → found.items ≡ xs) }
 {
     let mut found = Vec::new(alloc);
@@ -153,10 +145,7 @@ pub fn changes_of<S: Alter>(
     read_changes(alloc, &changes, &ends)
 }
 
-fn select_days_of<S: Alter>(
-    conn: &mut Connection<S>,
-    duty: u32,
-) -> Result<Vec<Row>, Fault>
+fn select_days_of<S: Alter>(conn: &mut Connection<S>, duty: u32) -> Result<Vec<Row>, Fault>
     ensures found { IfOk result (λ rows. OfRows (λ t. rows.items ≡ map day_cells (filter (is_change_of duty) t.changes)) (seen_of (state S.Store conn.old)) (seen_of (state S.Store conn.new))) }
     ensures kept { Looked (seen_of (state S.Store conn.old)) (seen_of (state S.Store conn.new)) result }
     ensures mode { conn.old.in_transaction ≡ false → conn.new.in_transaction ≡ false }

@@ -9,7 +9,7 @@ ghost use Rattle.desk_rows.specs.Names.{release_state_name, duty_state_name, wor
 
 use desk_base::{Day, Items, Profile, Text};
 use desk_rows::{DutyState, Fault, ReleaseState, StoreFault, Word};
-use sqlite::{Error, ErrorCode, Row};
+use sqlite::Row;
 use sqlite_value::value::ValueRef;
 use std::alloc::Global;
 
@@ -18,16 +18,6 @@ pub(crate) const ROWS: Fault = Fault::Store(StoreFault::Rows);
 
 /// A number.
 pub(crate) fn number_at(row: &Row, at: usize) -> Result<u32, Fault>
-    ensures { IfOk result (λ n. column row.now at ≡ number n) }
-{
-    match row.get(at) {
-        Ok(number) => Ok(number),
-        Err(_) => Err(ROWS),
-    }
-}
-
-/// A number of 64 bits.
-pub(crate) fn long_at(row: &Row, at: usize) -> Result<u64, Fault>
     ensures { IfOk result (λ n. column row.now at ≡ number n) }
 {
     match row.get(at) {
@@ -139,19 +129,11 @@ pub(crate) fn word_at(row: &Row, at: usize) -> Result<Word, Fault>
 }
 
 /// Bytes.
-pub(crate) fn bytes_at(row: &Row, at: usize) -> Result<Items<u8>, Fault>
+pub(crate) fn bytes_at(alloc: Global, row: &Row, at: usize) -> Result<Items<u8>, Fault>
     ensures { IfOk result (λ bytes. column row.now at ≡ Blob bytes) }
 {
-    match row.get::<Vec<u8>>(at) {
-        Ok(bytes) => Ok(Items::from_vec(bytes)),
-        Err(error) => Err(read_fault(&error)),
-    }
-}
-
-/// Want of memory, or a row that no desk's table has.
-fn read_fault(error: &Error) -> Fault {
-    match error {
-        Error::SqliteFailure(ErrorCode::OutOfMemory) => Fault::Memory,
-        _ => ROWS,
+    match row.get_ref(at) {
+        Ok(ValueRef::Blob(bytes)) => Ok(Items::from_vec(Vec::from_slice(alloc, bytes)?)),
+        _ => Err(ROWS),
     }
 }

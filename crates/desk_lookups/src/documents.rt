@@ -39,10 +39,7 @@ fn select_document<S: Alter>(
 }
 
 /// What is known of a document, if it has this number.
-fn numbered(
-    found: Option<(u32, Profile)>,
-    number: u64,
-) -> Result<Option<(u32, Profile)>, Fault>
+fn numbered(found: Option<(u32, Profile)>, number: u64) -> Result<Option<(u32, Profile)>, Fault>
     ensures kept { IfOk result (λ kept. kept ≡ found) }
     ensures same { IfOk result (λ kept. IfSome kept (λ known. known.0 ≡ number)) }
 {
@@ -131,10 +128,7 @@ pub fn document_source<S: Alter>(
     Ok(source_from(bytes, known))
 }
 
-fn select_import<S: Alter>(
-    conn: &mut Connection<S>,
-    namespace: &str,
-) -> Result<Vec<Row>, Fault>
+fn select_import<S: Alter>(conn: &mut Connection<S>, namespace: &str) -> Result<Vec<Row>, Fault>
     ensures found { IfOk result (λ rows. OfRows (λ t. rows.items ≡ map import_cells (filter (has_namespace namespace.now) t.document)) (seen_of (state S.Store conn.old)) (seen_of (state S.Store conn.new))) }
     ensures kept { Looked (seen_of (state S.Store conn.old)) (seen_of (state S.Store conn.new)) result }
     ensures mode { conn.old.in_transaction ≡ false → conn.new.in_transaction ≡ false }
@@ -213,10 +207,7 @@ pub fn package_row<S: Alter>(
     read_first(alloc, &rows)
 }
 
-fn select_shipped<S: Alter>(
-    conn: &mut Connection<S>,
-    document: u32,
-) -> Result<Vec<Row>, Fault>
+fn select_shipped<S: Alter>(conn: &mut Connection<S>, document: u32) -> Result<Vec<Row>, Fault>
     ensures found { IfOk result (λ rows. OfRows (λ t. rows.items ≡ map package_cells (filter (is_shipped_by document) t.packages)) (seen_of (state S.Store conn.old)) (seen_of (state S.Store conn.new))) }
     ensures kept { Looked (seen_of (state S.Store conn.old)) (seen_of (state S.Store conn.new)) result }
     ensures mode { conn.old.in_transaction ≡ false → conn.new.in_transaction ≡ false }

@@ -60,10 +60,7 @@ pub fn duty<S: Alter>(
     numbered(found, number)
 }
 
-fn select_duties_of<S: Alter>(
-    conn: &mut Connection<S>,
-    release: &str,
-) -> Result<Vec<Row>, Fault>
+fn select_duties_of<S: Alter>(conn: &mut Connection<S>, release: &str) -> Result<Vec<Row>, Fault>
     ensures found { IfOk result (λ rows. OfRows (λ t. rows.items ≡ map duty_cells (filter (is_duty_of release.now) t.duty)) (seen_of (state S.Store conn.old)) (seen_of (state S.Store conn.new))) }
     ensures kept { Looked (seen_of (state S.Store conn.old)) (seen_of (state S.Store conn.new)) result }
     ensures mode { conn.old.in_transaction ≡ false → conn.new.in_transaction ≡ false }
@@ -88,4 +85,3 @@ pub fn duties_of<S: Alter>(
     let rows = select_duties_of(conn, release)?;
     read_all(alloc, &rows)
 }
-

@@ -20,9 +20,7 @@ use desk_rows::{Fault, ReleaseRow};
 use sqlite::{Alter, Connection, Row};
 use std::alloc::{AllocError, Global};
 
-fn select_releases<S: Alter>(
-    conn: &mut Connection<S>,
-) -> Result<Vec<Row>, Fault>
+fn select_releases<S: Alter>(conn: &mut Connection<S>) -> Result<Vec<Row>, Fault>
     ensures found { IfOk result (λ rows. OfRows (λ t. rows.items ≡ map release_cells t.releases) (seen_of (state S.Store conn.old)) (seen_of (state S.Store conn.new))) }
     ensures kept { Looked (seen_of (state S.Store conn.old)) (seen_of (state S.Store conn.new)) result }
     ensures mode { conn.old.in_transaction ≡ false → conn.new.in_transaction ≡ false }
@@ -35,22 +33,13 @@ fn select_releases<S: Alter>(
 }
 
 /// All releases, by name.
-fn releases<S: Alter>(
-    alloc: Global,
-    conn: &mut Connection<S>,
-) -> Result<Vec<ReleaseRow>, Fault>
+fn releases<S: Alter>(alloc: Global, conn: &mut Connection<S>) -> Result<Vec<ReleaseRow>, Fault>
     ensures found { IfOk result (λ found. OfRows (λ t. found.items ≡ t.releases) (seen_of (state S.Store conn.old)) (seen_of (state S.Store conn.new))) }
     ensures kept { Looked (seen_of (state S.Store conn.old)) (seen_of (state S.Store conn.new)) result }
     ensures mode { conn.old.in_transaction ≡ false → conn.new.in_transaction ≡ false }
 {
     let rows = select_releases(conn)?;
     read_all(alloc, &rows)
-}
-
-fn is_some_row(rows: &[Row]) -> bool
-    ensures { result ≡ not (length rows.now == 0) }
-{
-    !rows.is_empty()
 }
 
 /// Whether a release holds a choice for a package of a document.
@@ -65,34 +54,23 @@ fn is_holding<S: Alter>(
     ensures mode { conn.old.in_transaction ≡ false → conn.new.in_transaction ≡ false }
 {
     let rows = select_chosen(conn, release.name.as_str(), document, id)?;
-    Ok(is_some_row(&rows))
+    Ok(!rows.as_slice().is_empty())
 }
 
-/// Of a release, if there is one, and one behind it, the one that was opened first.
+/// Of a release, if there is one, and one behind it that may hold the choice, the one that was opened first.
 fn opened_first<'a>(
-    first: Option<&'a ReleaseRow>,
-    release: &'a ReleaseRow,
-) -> Option<&'a ReleaseRow>
-    ensures { option_copied result ≡ and_then_opened (option_copied first.entry) release.now }
-{
-    match first {
-        Some(first) if first.place <= release.place => Some(first),
-        _ => Some(release),
-    }
-}
-
-/// The same, where the one behind it holds the choice.
-fn opened_first_if<'a>(
     first: Option<&'a ReleaseRow>,
     release: &'a ReleaseRow,
     is_holding: bool,
 ) -> Option<&'a ReleaseRow>
     ensures { option_copied result ≡ (if is_holding then and_then_opened (option_copied first.entry) release.now else option_copied first.entry) }
 {
-    if is_holding {
-        opened_first(first, release)
-    } else {
-        first
+    if !is_holding {
+        return first;
+    }
+    match first {
+        Some(first) if first.place <= release.place => Some(first),
+        _ => Some(release),
     }
 }
 
@@ -110,7 +88,7 @@ fn first_holding<'a, S: Alter>(
     let mut first = None;
     for row in rows {
         let is_holding = is_holding(conn, row, document, id)?;
-        first = opened_first_if(first, row, is_holding);
+        first = opened_first(first, row, is_holding);
     }
     Ok(first)
 }

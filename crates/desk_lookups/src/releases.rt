@@ -19,10 +19,7 @@ use desk_rows::{AttachedRow, Fault, ReleaseRow};
 use sqlite::{Alter, Connection, Row};
 use std::alloc::Global;
 
-fn select_release<S: Alter>(
-    conn: &mut Connection<S>,
-    name: &str,
-) -> Result<Vec<Row>, Fault>
+fn select_release<S: Alter>(conn: &mut Connection<S>, name: &str) -> Result<Vec<Row>, Fault>
     ensures found { IfOk result (λ rows. OfRows (λ t. rows.items ≡ map release_cells (filter (is_release name.now) t.releases)) (seen_of (state S.Store conn.old)) (seen_of (state S.Store conn.new))) }
     ensures kept { Looked (seen_of (state S.Store conn.old)) (seen_of (state S.Store conn.new)) result }
     ensures mode { conn.old.in_transaction ≡ false → conn.new.in_transaction ≡ false }
@@ -48,10 +45,7 @@ pub fn release<S: Alter>(
     read_first(alloc, &rows)
 }
 
-fn select_attached<S: Alter>(
-    conn: &mut Connection<S>,
-    release: &str,
-) -> Result<Vec<Row>, Fault>
+fn select_attached<S: Alter>(conn: &mut Connection<S>, release: &str) -> Result<Vec<Row>, Fault>
     ensures found { IfOk result (λ rows. OfRows (λ t. rows.items ≡ map attached_cells (attached_to t.attached release.now)) (seen_of (state S.Store conn.old)) (seen_of (state S.Store conn.new))) }
     ensures kept { Looked (seen_of (state S.Store conn.old)) (seen_of (state S.Store conn.new)) result }
     ensures mode { conn.old.in_transaction ≡ false → conn.new.in_transaction ≡ false }

@@ -7,7 +7,7 @@ ghost use Rattle.desk_lookups.specs.Shown.{bytes_cells, known_cells, text_cells}
 ghost use Rattle.desk_lookups.specs.Waivers.{ending_cells};
 
 use crate::columns::{
-    bytes_at, day_at, duty_state_at, flag_at, long_at, number_at, profile_at, release_state_at, text_at,
+    bytes_at, day_at, duty_state_at, flag_at, number_at, profile_at, release_state_at, text_at,
     text_or_null_at, word_at,
 };
 use crate::read::ReadRow;
@@ -27,8 +27,8 @@ impl ReadRow for Text {
 impl ReadRow for Items<u8> {
     ghost cells = { bytes_cells };
 
-    fn read(_alloc: Global, row: &Row) -> Result<Items<u8>, Fault> {
-        bytes_at(row, 0)
+    fn read(alloc: Global, row: &Row) -> Result<Items<u8>, Fault> {
+        bytes_at(alloc, row, 0)
     }
 }
 
@@ -65,7 +65,7 @@ impl ReadRow for ReleaseRow {
             place: number_at(row, 1)?,
             form: text_at(alloc, row, 2)?,
             state: release_state_at(row, 3)?,
-            revision: long_at(row, 4)?,
+            revision: u64::from(number_at(row, 4)?),
         })
     }
 }

@@ -74,10 +74,7 @@ pub fn standings_of<S: Alter>(
     standings(alloc, conn, duties, &rows)
 }
 
-fn select_duties_at<S: Alter>(
-    conn: &mut Connection<S>,
-    place: DutyState,
-) -> Result<Vec<Row>, Fault>
+fn select_duties_at<S: Alter>(conn: &mut Connection<S>, place: DutyState) -> Result<Vec<Row>, Fault>
     ensures found { IfOk result (λ rows. OfRows (λ t. rows.items ≡ map duty_cells (filter (stands_at (duty_state_name place)) t.duty)) (seen_of (state S.Store conn.old)) (seen_of (state S.Store conn.new))) }
     ensures kept { Looked (seen_of (state S.Store conn.old)) (seen_of (state S.Store conn.new)) result }
     ensures mode { conn.old.in_transaction ≡ false → conn.new.in_transaction ≡ false }

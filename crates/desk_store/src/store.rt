@@ -61,6 +61,18 @@ impl<S: Alter> SqlStore<S> {
     }
 }
 
+impl<S: Alter> SqlStore<S> {
+    /// Keeps the forms of a catalogue that was loaded.
+    fn take_forms(&mut self, change: Change)
+        ensures { self.new ≡ record self.old { forms = forms_after change self.old.forms } }
+    {
+        match forms_of(change) {
+            Some(forms) => self.forms = forms,
+            None => {}
+        }
+    }
+}
+
 fn has_form(forms: &[Text], form: &str) -> bool
     ensures { result ≡ list_any (bytes_eq form.now) forms.now }
 {
@@ -158,7 +170,7 @@ impl<S: Alter> Store for SqlStore<S> {
     }
 
     fn holder(&mut self, document: u32, id: &str) -> Result<Option<Text>, Fault> {
-        Err(Fault::Store(StoreFault::Rows))
+        desk_lookups::holder(self.alloc, &mut self.conn, document, id)
     }
 
     fn adoption(&mut self, document: u32, reference: &str) -> Result<Option<Text>, Fault> {
@@ -205,11 +217,13 @@ impl<S: Alter> Store for SqlStore<S> {
         let Some(counts) = counts_after(&change, self.counts) else {
             return Err(Fault::Store(StoreFault::Rows));
         };
-        desk_writing::commit(self.alloc, &mut self.conn, &change)?;
-        self.counts = counts;
-        if let Some(forms) = forms_of(change) {
-            self.forms = forms;
+        match desk_writing::commit(self.alloc, &mut self.conn, &change) {
+            Ok(()) => {
+                self.counts = counts;
+                self.take_forms(change);
+                Ok(())
+            }
+            Err(fault) => Err(fault),
         }
-        Ok(())
     }
 }

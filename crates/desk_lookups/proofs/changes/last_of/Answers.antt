@@ -1,4 +1,4 @@
-use Rattle.std.proofs.Common.{◌≡◌, ◌-◌, length, slice_get, ap, ◌∙◌}
+use Rattle.std.proofs.Common.{◌-◌, length, slice_get, ap, ◌∙◌}
 use Rattle.desk_lookups.proofs.LastDay.{last_some}
 use Rattle.desk_lookups.proofs.changes.last_of.Goals as goal
 

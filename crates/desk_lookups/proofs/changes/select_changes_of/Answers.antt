@@ -1,5 +1,4 @@
-use Rattle.std.proofs.Common.{◌≡◌, ◌∷◌, [], ◌+◌, ◌∙◌, map, filter, length, min, ap, sym}
-use Rattle.sqlite_value.specs.declared.value.Value.TheVariants.{Text}
+use Rattle.std.proofs.Common.{◌≡◌, ◌∷◌, [], ◌+◌, ◌∙◌, map, filter, length, min, ap}
 use Rattle.desk_layout.specs.Cells.{number, change_cells}
 use Rattle.std.proofs.Common.{subst}
 use Rattle.desk_rows.specs.Keys.{is_change_of}

@@ -1,5 +1,4 @@
-use Rattle.std.proofs.Common.{◌≡◌, ◌∷◌, [], ◌+◌, ◌∙◌, map, filter, length, min, ap, sym}
-use Rattle.sqlite_value.specs.declared.value.Value.TheVariants.{Text}
+use Rattle.std.proofs.Common.{◌≡◌, ◌∷◌, [], map, filter}
 use Rattle.desk_layout.specs.Cells.{number}
 use Rattle.desk_rows.specs.Keys.{is_change_of}
 use Rattle.desk_lookups.specs.Waivers.{day_cells}

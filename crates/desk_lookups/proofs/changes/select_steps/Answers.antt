@@ -1,6 +1,5 @@
-use Rattle.std.proofs.Common.{◌≡◌, ◌∷◌, [], ◌+◌, ◌∙◌, map, filter, length, min, ap, sym}
-use Rattle.sqlite_value.specs.declared.value.Value.TheVariants.{Text}
-use Rattle.desk_layout.specs.Cells.{number, change_cells}
+use Rattle.std.proofs.Common.{◌≡◌, ◌∷◌, [], ◌+◌, ◌∙◌, length, min, ap}
+use Rattle.desk_layout.specs.Cells.{number}
 use Rattle.desk_history.specs.FromTables.{steps_found}
 use Rattle.desk_lookups.proofs.Among.{changes_among}
 use Rattle.sqlite.specs.Held.{state}

@@ -1,6 +1,5 @@
-use Rattle.std.proofs.Common.{◌≡◌, ◌∷◌, [], ◌+◌, ◌∙◌, map, filter, length, min, ap, sym}
-use Rattle.sqlite_value.specs.declared.value.Value.TheVariants.{Text}
-use Rattle.desk_layout.specs.Cells.{number, change_cells}
+use Rattle.std.proofs.Common.{◌≡◌, ◌∷◌, [], ◌+◌, map, filter, length, min}
+use Rattle.desk_layout.specs.Cells.{number}
 use Rattle.desk_rows.specs.Keys.{is_change_of}
 use Rattle.desk_lookups.specs.Waivers.{ending_cells, waivers_in}
 use Rattle.desk_lookups.proofs.Among.{changes_among}

@@ -1,4 +1,4 @@
-use Rattle.std.proofs.Common.{◌≡◌, find, rules}
+use Rattle.std.proofs.Common.{find, rules}
 use Rattle.sqlite.specs.Held.{state}
 use Rattle.desk_layout.specs.Held.{seen_of}
 use Rattle.desk_rows.specs.Keys.{is_document}

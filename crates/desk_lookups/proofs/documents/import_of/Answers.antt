@@ -1,4 +1,4 @@
-use Rattle.std.proofs.Common.{◌≡◌, filter, ap, ◌∙◌}
+use Rattle.std.proofs.Common.{filter, ap, ◌∙◌}
 use Rattle.std.specs.Option.{option_map}
 use Rattle.std.proofs.lemmas.Result.{IfOk-weaker}
 use Rattle.desk_history.specs.FromTables.{known_import}

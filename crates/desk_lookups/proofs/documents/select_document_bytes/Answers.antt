@@ -1,11 +1,9 @@
 use Rattle.std.proofs.Common.{◌≡◌, ◌∷◌, [], ◌+◌, ◌∙◌, map, filter, length, min, ap, sym}
-use Rattle.sqlite_value.specs.declared.value.Value.TheVariants.{Text}
 use Rattle.desk_layout.specs.Cells.{number}
 use Rattle.sqlite_trees.proofs.ListLemmas.{map-map}
 use Rattle.desk_rows.specs.Keys.{is_document}
 use Rattle.desk_rows.specs.declared.row.DocumentRow.{DocumentRow}
-use Rattle.desk_history.specs.FromTables.{known_document}
-use Rattle.desk_lookups.specs.Shown.{known_cells, bytes_cells}
+use Rattle.desk_lookups.specs.Shown.{bytes_cells}
 use Rattle.desk_lookups.proofs.Among.{document_among}
 use Rattle.sqlite.specs.Held.{state}
 use Rattle.desk_lookups.proofs.Calls.{found_by, looked_by}

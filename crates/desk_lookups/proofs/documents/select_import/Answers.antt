@@ -1,6 +1,5 @@
-use Rattle.std.proofs.Common.{◌≡◌, ◌∷◌, [], ◌+◌, ◌∙◌, map, filter, length, min, ap, sym}
+use Rattle.std.proofs.Common.{◌≡◌, ◌∷◌, [], map, filter}
 use Rattle.sqlite_value.specs.declared.value.Value.TheVariants.{Text}
-use Rattle.desk_layout.specs.Cells.{number}
 use Rattle.desk_rows.specs.Keys.{has_namespace}
 use Rattle.desk_lookups.specs.Shown.{import_cells}
 use Rattle.sqlite.specs.Held.{state}

@@ -1,4 +1,4 @@
-use Rattle.std.proofs.Common.{◌≡◌, ap, ap₂, filter, sym, ◌∙◌}
+use Rattle.std.proofs.Common.{ap, filter, ◌∙◌}
 use Rattle.std.specs.Prelude.{if◌then◌else◌}
 use Rattle.std.specs.Option.{option_copied}
 use Rattle.sqlite.specs.Held.{state}
@@ -19,7 +19,7 @@ loop-row-preserved g c =
       first = λ clean t held.
           let first = option_copied c.loop-row.first in
           let x = c.row-item.result in
-          c.opened_first_if-first.ensures ∙ ap (λ b. if b then and_then_opened first x else first) (one.found clean t (was.same.kept.spared.holds t held))
+          c.opened_first-first.ensures ∙ ap (λ b. if b then and_then_opened first x else first) (one.found clean t (was.same.kept.spared.holds t held))
           ∙ holder_more (holds t.choice c.args.document c.args.id.now) c.args.rows.now c.loop-row.row-index x first c.loop-row-test.true c.row-item.is (was.first (one.kept.kept.spared.honest clean) t held);
       mode = λ idle. one.mode (was.mode idle);
     }

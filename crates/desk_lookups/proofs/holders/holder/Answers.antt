@@ -1,4 +1,4 @@
-use Rattle.std.proofs.Common.{◌≡◌, ap, filter, rules, ◌∙◌}
+use Rattle.std.proofs.Common.{ap, filter, rules, ◌∙◌}
 use Rattle.std.specs.Option.{option_map}
 use Rattle.sqlite.specs.Held.{state}
 use Rattle.desk_layout.specs.Held.{seen_of}

@@ -1,5 +1,4 @@
-use Rattle.std.proofs.Common.{◌≡◌, ◌∷◌, [], ◌+◌, ◌∙◌, map, filter, length, min, ap, sym}
-use Rattle.sqlite_value.specs.declared.value.Value.TheVariants.{Text}
+use Rattle.std.proofs.Common.{◌≡◌, [], ◌∙◌, map, ap}
 use Rattle.desk_layout.specs.Cells.{release_cells}
 use Rattle.desk_lookups.proofs.HolderLemmas.{all_pass}
 use Rattle.sqlite.specs.Held.{state}

@@ -1,4 +1,4 @@
-use Rattle.std.proofs.Common.{◌≡◌, filter, map, ◌∙◌}
+use Rattle.std.proofs.Common.{filter, map, ◌∙◌}
 use Rattle.std.proofs.lemmas.Result.{IfOk-weaker}
 use Rattle.desk_rows.specs.Keys.{is_conclusion}
 use Rattle.desk_rows.specs.declared.row.ConclusionRow.{ConclusionRow}

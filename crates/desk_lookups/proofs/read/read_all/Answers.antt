@@ -1,4 +1,4 @@
-use Rattle.std.proofs.Common.{◌≡◌, ◌<◌, map, ap, ap₂, sym, ◌∙◌, ◌++◌, ◌∷◌, [], add-one, length, get_or}
+use Rattle.std.proofs.Common.{◌<◌, map, ap, ap₂, sym, ◌∙◌, ◌++◌, ◌∷◌, [], add-one, length, get_or}
 use Rattle.desk_lookups.proofs.Loops.{front_more}
 use Rattle.desk_lookups.proofs.read.read_all.Goals as goal
 

@@ -1,4 +1,4 @@
-use Rattle.std.proofs.Common.{◌≡◌, filter, ◌∙◌}
+use Rattle.std.proofs.Common.{filter, ◌∙◌}
 use Rattle.std.proofs.lemmas.Result.{IfOk-weaker}
 use Rattle.desk_rows.specs.Keys.{is_release}
 use Rattle.desk_lookups.proofs.Loops.{first_is}

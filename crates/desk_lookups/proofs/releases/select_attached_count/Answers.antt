@@ -1,6 +1,5 @@
-use Rattle.std.proofs.Common.{◌≡◌, ◌∷◌, [], ◌+◌, ◌∙◌, map, filter, length, min, ap, sym}
+use Rattle.std.proofs.Common.{◌≡◌, ◌∷◌, [], length}
 use Rattle.sqlite_value.specs.declared.value.Value.TheVariants.{Text}
-use Rattle.desk_layout.specs.Cells.{number}
 use Rattle.desk_rows.specs.History.{attached_to}
 use Rattle.sqlite.specs.Held.{state}
 use Rattle.desk_lookups.proofs.Calls.{found_by, looked_by}

@@ -1,4 +1,4 @@
-use Rattle.std.proofs.Common.{◌≡◌, ◌∷◌, [], ◌+◌, ◌∙◌, map, filter, length, min, ap, sym}
+use Rattle.std.proofs.Common.{◌≡◌, ◌∷◌, [], ◌∙◌, map, filter, sym}
 use Rattle.sqlite_value.specs.declared.value.Value.TheVariants.{Text}
 use Rattle.desk_layout.specs.Cells.{number}
 use Rattle.sqlite_trees.proofs.ListLemmas.{map-map}

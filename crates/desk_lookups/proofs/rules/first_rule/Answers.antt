@@ -1,6 +1,4 @@
-use Rattle.std.proofs.Common.{◌≡◌, map, slice_get, ap, ◌∙◌}
-use Rattle.std.specs.Option.{option_copied}
-use Rattle.desk_layout.specs.Cells.{rule_cells}
+use Rattle.std.proofs.Common.{slice_get, ap, ◌∙◌}
 use Rattle.desk_lookups.proofs.Ruling.{first_rule_is}
 use Rattle.desk_lookups.proofs.rules.first_rule.Goals as goal
 

@@ -1,4 +1,4 @@
-use Rattle.std.proofs.Common.{◌≡◌, filter, ap, subst, sym, ◌∙◌}
+use Rattle.std.proofs.Common.{filter, ap, sym, ◌∙◌}
 use Rattle.std.specs.Prelude.{find, map}
 use Rattle.std.proofs.lemmas.Result.{IfOk-weaker}
 use Rattle.desk_history.specs.FromTables.{rule_of}

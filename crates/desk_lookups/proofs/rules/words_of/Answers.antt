@@ -1,4 +1,4 @@
-use Rattle.std.proofs.Common.{◌≡◌, ap, sym, ◌∙◌}
+use Rattle.std.proofs.Common.{ap, sym, ◌∙◌}
 use Rattle.desk_lookups.specs.Rules.{texts}
 use Rattle.desk_lookups.proofs.Ruling.{empty_is, none_joined, split_some}
 use Rattle.desk_lookups.proofs.rules.words_of.Goals as goal

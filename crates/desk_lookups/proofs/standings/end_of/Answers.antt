@@ -1,4 +1,4 @@
-use Rattle.std.proofs.Common.{◌≡◌, ap, ◌∙◌}
+use Rattle.std.proofs.Common.{ap, ◌∙◌}
 use Rattle.std.specs.Option.{option_and_then}
 use Rattle.desk_rows.specs.declared.row.ChangeRow.{ChangeRow}
 use Rattle.desk_lookups.proofs.StandingLemmas.{last_is}

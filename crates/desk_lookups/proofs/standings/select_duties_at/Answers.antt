@@ -1,6 +1,6 @@
-use Rattle.std.proofs.Common.{◌≡◌, ◌∷◌, [], ◌+◌, ◌∙◌, map, filter, length, min, ap, sym}
+use Rattle.std.proofs.Common.{◌≡◌, ◌∷◌, [], map, filter}
 use Rattle.sqlite_value.specs.declared.value.Value.TheVariants.{Text}
-use Rattle.desk_layout.specs.Cells.{number, duty_cells}
+use Rattle.desk_layout.specs.Cells.{duty_cells}
 use Rattle.desk_rows.specs.Names.{duty_state_name}
 use Rattle.desk_lookups.specs.Standings.{stands_at}
 use Rattle.sqlite.specs.Held.{state}

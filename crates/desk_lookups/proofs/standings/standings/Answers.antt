@@ -1,4 +1,4 @@
-use Rattle.std.proofs.Common.{◌≡◌, ◌++◌, ◌∷◌, [], ap₂, sym, ◌∙◌}
+use Rattle.std.proofs.Common.{◌++◌, ◌∷◌, [], ap₂, sym, ◌∙◌}
 use Rattle.sqlite.specs.Held.{state}
 use Rattle.desk_history.specs.FromTables.{standing_found}
 use Rattle.desk_layout.specs.Held.{seen_of}
