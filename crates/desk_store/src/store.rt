@@ -64,7 +64,9 @@ impl<S: Alter> SqlStore<S> {
 impl<S: Alter> SqlStore<S> {
     /// Keeps the forms of a catalogue that was loaded.
     fn take_forms(&mut self, change: Change)
-        ensures { self.new ≡ record self.old { forms = forms_after change self.old.forms } }
+        ensures forms { self.new.forms ≡ forms_after change self.old.forms }
+        ensures conn { self.new.conn ≡ self.old.conn }
+        ensures counts { self.new.counts ≡ self.old.counts }
     {
         match forms_of(change) {
             Some(forms) => self.forms = forms,

@@ -9,4 +9,4 @@ returns-in-Err-clause-wrote g c = failed c.args.change _ _ _ c.in-Err.ensures.wr
 
 pub returns-in-Ok-clause-wrote : goal.returns-in-Ok-clause-wrote
 returns-in-Ok-clause-wrote g c =
-    rw c.take_forms.ensures (wrote c.args.change c.args.self.now.counts c.in-Some.counts c.args.self.now.forms _ _ c.in-Some.ensures c.in-Ok.ensures.wrote)
+    rw (c.take_forms.ensures.forms, c.take_forms.ensures.conn, c.take_forms.ensures.counts) (wrote c.args.change c.args.self.now.counts c.in-Some.counts c.args.self.now.forms _ _ c.in-Some.ensures c.in-Ok.ensures.wrote)
