@@ -9,6 +9,7 @@ ghost use Rattle.clap.specs.Words.{rule_of};
 use crate::alternatives::alternatives_command;
 use crate::arguments::{option_arg, word_arg, words_arg};
 use crate::gather::gather_command;
+use crate::lint::lint_command;
 use clap::{Arg, Command};
 use std::alloc::{AllocError, Global};
 
@@ -203,5 +204,6 @@ pub fn desk_command<'a>(alloc: Global) -> Result<Command<'a>, AllocError>
 {
     judging_command(alloc)?
         .subcommand(script_command(alloc)?)?
-        .subcommand(gather_command(alloc)?)
+        .subcommand(gather_command(alloc)?)?
+        .subcommand(lint_command(alloc)?)
 }
