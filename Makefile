@@ -55,10 +55,16 @@ test: needs
 	@python3 tests/ample/ample.py build/desk
 	@echo 'Refusing each allocation of build/desk in turn.'
 	@python3 tests/allocations/sweep.py build/desk
+	@echo 'Looking for what this tree lacks to be REUSE-compliant.'
+	@sh tests/lint.sh build/desk
 
 # The acceptance cases alone.
 acceptance: needs build
 	@sh tests/acceptance/run.sh build/desk
+
+# What a checkout of this tree lacks to be REUSE-compliant, which is nothing.
+lint: needs build
+	@sh tests/lint.sh build/desk
 
 # Large inputs and each fault of each reader, where there is enough memory.
 ample: needs build
@@ -101,4 +107,4 @@ install: build
 clean:
 	rm -rf build
 
-.PHONY: all build demo needs test acceptance ample allocations edits try bench install clean
+.PHONY: all build demo needs test acceptance lint ample allocations edits try bench install clean

@@ -1,12 +1,13 @@
 //! What reads the texts that a desk is given.
 
-ghost use Rattle.std.specs.Prelude.{◌≡◌, IfOk};
+ghost use Rattle.std.specs.Prelude.{◌≡◌, ℕ, List, Option, IfOk, map};
+ghost use Rattle.desk_rows.specs.Listings.{IsCost};
 ghost use Rattle.desk_rows.specs.Readings.{Readings};
 
 use desk_base::{Items, Text};
 use desk_rows::{
-    Catalogue, CatalogueFault, Document, DocumentFault, ExpressionFault, FindingRow, Profile,
-    Verdict,
+    Catalogue, CatalogueFault, Cheapest, Document, DocumentFault, ExpressionFault, FindingRow,
+    ListFault, Profile, Verdict,
 };
 use std::alloc::{AllocError, Global};
 
@@ -69,6 +70,30 @@ pub trait Texts {
         terms: &[Text],
     ) -> Result<Verdict, AllocError>
         ensures { (w : Readings) → are_right w → IfOk result (λ verdict. verdict ≡ w.verdict profile text.now terms.now) };
+
+    /// The minimal sets of terms that the expression of a text is true under, printed, or why they aren't listed.
+    fn alternatives(
+        &self,
+        alloc: Global,
+        profile: Profile,
+        text: &str,
+    ) -> Result<Result<Items<Items<Text>>, ListFault>, AllocError>
+        ensures { (w : Readings) → are_right w → IfOk result (λ sets. sets ≡ w.alternatives profile text.now) };
+
+    /// The distinct terms of the expression of a text, printed, in order.
+    fn terms(&self, alloc: Global, profile: Profile, text: &str) -> Result<Items<Text>, AllocError>
+        ensures { (w : Readings) → are_right w → IfOk result (λ terms. terms ≡ w.terms profile text.now) };
+
+    /// The cheapest set of terms that the expression of a text is true under, printed, where each of its distinct terms in order
+    /// costs what stands at its place, at most 1,000,000.
+    fn cheapest(
+        &self,
+        alloc: Global,
+        profile: Profile,
+        text: &str,
+        costs: &[Option<u64>],
+    ) -> Result<Result<Option<Cheapest>, ListFault>, AllocError>
+        ensures { (w : Readings) → are_right w → (cost : List ℕ → Option ℕ) → IsCost cost → costs.now ≡ map cost (w.terms profile text.now) → IfOk result (λ found. found ≡ w.cheapest profile text.now cost) };
 
     /// The findings of the document that bytes spell.
     fn findings(

@@ -100,7 +100,7 @@ least_kept cost sets at first old p is more so_far = (
 -- ---- a subset costs no more, and comes no later
 
 -- a subset lacks the head of the larger set, or has it as its own head
-head_cases : (x y : Term) (xs ys : List Term) → IsTermSet (x ∷ xs) → IsTermSet (y ∷ ys) → IsSubset (x ∷ xs) (y ∷ ys) → ((x ≡ y) × IsSubset xs ys) ⊎ IsSubset (x ∷ xs) ys
+pub head_cases : (x y : Term) (xs ys : List Term) → IsTermSet (x ∷ xs) → IsTermSet (y ∷ ys) → IsSubset (x ∷ xs) (y ∷ ys) → ((x ≡ y) × IsSubset xs ys) ⊎ IsSubset (x ∷ xs) ys
 head_cases x y xs ys up up' sub =
     elim (contains_cases y ys x (sub x (contains_here x xs x refl))) [
       | inl is ↦ inl (
@@ -159,10 +159,10 @@ smaller_first few many less =
     let smaller : nat_cmp (length few) (length many) ≡ Less = grind (arith, nat_tests) in
     ap (λ (o : Ordering). ordering_then o (slice_cmp term_order few many)) smaller
 
-subset_first : (few many : List Term) → IsTermSet few → IsTermSet many → IsSubset few many → IsUpTo few many
+pub subset_first : (few many : List Term) → IsTermSet few → IsTermSet many → IsSubset few many → IsUpTo few many
 subset_first few many up up' sub = elim (subset_size few many up up' sub) [ inl is ↦ inl is | inr less ↦ inr (smaller_first few many less) ]
 
-up_to : (a b c : List Term) → IsUpTo a b → IsUpTo b c → IsUpTo a c
+pub up_to : (a b c : List Term) → IsUpTo a b → IsUpTo b c → IsUpTo a c
 up_to a b c p q =
     elim p [
       | inl is ↦ subst (λ (l : List Term). IsUpTo l c) (sym is) q
@@ -178,7 +178,7 @@ earlier sets i j up le within =
 
 -- ---- the cheapest set is a listed one
 
-subset_has_costs : (cost : Term → Option ℕ) (few many : List Term) → IsSubset few many → HasCosts cost many → HasCosts cost few
+pub subset_has_costs : (cost : Term → Option ℕ) (few many : List Term) → IsSubset few many → HasCosts cost many → HasCosts cost few
 subset_has_costs cost few many sub costs i d within = All-contains (λ t. IsSome (cost t)) many (get_or few i d) costs (sub (get_or few i d) (Contains-get_or few i d within))
 
 module _ (cost : Term → Option ℕ) (e : Tree) (sets : List (List Term)) (minimal : All (λ s. IsTermSet s × IsMinimal s e) sets) (contained : (s : List Term) → Holds (Contains s) e → Any (λ m. IsSubset m s) sets) where

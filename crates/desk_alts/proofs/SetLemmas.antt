@@ -19,27 +19,34 @@ use Rattle.desk_alts.specs.Sets.{IsTermSet}
 
 -- ---- strictly sorted lists
 
-head_or_later : {K : Type 0} (x : K) (xs : List K) (q : K) → Contains (x ∷ xs) q → (x ≡ q) ⊎ Contains xs q
+pub head_or_later : {K : Type 0} (x : K) (xs : List K) (q : K) → Contains (x ∷ xs) q → (x ≡ q) ⊎ Contains xs q
 head_or_later x xs q (zero, within, is) = inl is
 head_or_later x xs q (suc k, within, is) = inr (k, omega arith, is)
 
-is_head : {K : Type 0} (x : K) (xs : List K) → Contains (x ∷ xs) x
+pub is_head : {K : Type 0} (x : K) (xs : List K) → Contains (x ∷ xs) x
 is_head x xs = (zero, omega arith, refl)
 
-is_later : {K : Type 0} (x : K) (xs : List K) (q : K) → Contains xs q → Contains (x ∷ xs) q
+pub is_later : {K : Type 0} (x : K) (xs : List K) (q : K) → Contains xs q → Contains (x ∷ xs) q
 is_later x xs q at = (suc at.0, omega (arith, at.1), at.2)
+
+pub sorted_onto : {K : Type 0} (R : K → K → Ordering) (x : K) (xs : List K) → IsStrictlySortedBy R xs → ((y : K) → Contains xs y → R x y ≡ Less) → IsStrictlySortedBy R (x ∷ xs)
+unfolding IsStrictlySortedBy
+sorted_onto R x xs up below = (
+  recursion_from_All (λ y. R x y ≡ Less) xs (All-from_get_or (λ y. R x y ≡ Less) xs x (λ i within. below (get_or xs i x) (Contains-get_or xs i x within))),
+  up,
+)
 
 own_rank : (r : Ordering) → r ≡ ordering_reverse r → r ≡ Less → ⊥
 own_rank r turned less = let e : Less ≡ ordering_reverse Less = sym less ∙ (turned ∙ ap ordering_reverse less) in cc
 
 module _ {K : Type 0} (R : K → K → Ordering) (o : IsTotalOrder R) where
-  not_below_own : (x : K) → R x x ≡ Less → ⊥
+  pub not_below_own : (x : K) → R x x ≡ Less → ⊥
   not_below_own x less = own_rank (R x x) (o.antisymm x x) less
 
-  not_both : (x y : K) → R x y ≡ Less → R y x ≡ Less → ⊥
+  pub not_both : (x y : K) → R x y ≡ Less → R y x ≡ Less → ⊥
   not_both x y a b = let turned : Less ≡ ordering_reverse Less = sym a ∙ (o.antisymm x y ∙ ap ordering_reverse b) in cc
 
-  head_first : (x y : K) (xs : List K) → IsStrictlySortedBy R (x ∷ xs) → Contains xs y → R x y ≡ Less
+  pub head_first : (x y : K) (xs : List K) → IsStrictlySortedBy R (x ∷ xs) → Contains xs y → R x y ≡ Less
   head_first x y xs up at =
       let less : R x (get_or xs at.0 y) ≡ Less = Less-from_sorted R (x ∷ xs) zero (suc at.0) y up (omega arith) (omega (arith, at.1)) in
       ap (R x) (sym at.2) ∙ less
@@ -91,11 +98,7 @@ unfolding IsStrictlySortedBy
 sorted_none = tt
 
 pub sorted_consed : (x : Term) (xs : List Term) → IsTermSet xs → ((y : Term) → Contains xs y → term_order x y ≡ Less) → IsTermSet (x ∷ xs)
-unfolding IsStrictlySortedBy
-sorted_consed x xs up below = (
-  recursion_from_All (λ y. term_order x y ≡ Less) xs (All-from_get_or (λ y. term_order x y ≡ Less) xs x (λ i within. below (get_or xs i x) (Contains-get_or xs i x within))),
-  up,
-)
+sorted_consed = sorted_onto term_order
 
 pub sorted_pushed : (xs : List Term) (y : Term) → IsTermSet xs → ((x : Term) → Contains xs x → term_order x y ≡ Less) → IsTermSet (xs ++ y ∷ [])
 unfolding IsStrictlySortedBy

@@ -58,6 +58,14 @@ more_sets table e xs n fit minimal many =
 abbrev AreOne : List Term → List (List Term) → List Mask → ℕ → ℕ → Type 0
 AreOne table sets xs j i = (i < length xs) × ((t : Term) → Contains (get_or sets j []) t ↔ Chosen table (get_or xs i nothing) t)
 
+-- sets that differ stand at one place each
+pub one_place : (sets : List (List Term)) → AllPairs (λ s r. s ≡ r → ⊥) sets → (j k : ℕ) → j < length sets → k < length sets → get_or sets j [] ≡ get_or sets k [] → j ≡ k
+one_place sets apart j k in_j in_k same =
+    ⊎_elim
+    (λ below. absurd (apart j k [] below in_k same))
+    (λ above. ⊎_elim (λ under. absurd (apart k j [] under in_j (sym same))) (λ over. omega arith) (order k j))
+    (order j k)
+
 pub no_more_sets : (table : List Term) (e : Tree) (xs : List Mask) (n : ℕ) → IsTableFor table e → AreMinimal table e xs → length xs ≤ n → HasMoreSets n e → ⊥
 no_more_sets table e xs n fit minimal few wide =
     let sets = wide.0 in
@@ -71,19 +79,9 @@ no_more_sets table e xs n fit minimal few wide =
     let one : (j k i : ℕ) → j < length sets → k < length sets → AreOne table sets xs j i → AreOne table sets xs k i → j ≡ k =
     λ j k i in_j in_k a b.
     let same : get_or sets j [] ≡ get_or sets k [] = same_sets _ _ (fact j in_j).0 (fact k in_k).0 (λ t. ((λ c. (b.1 t).1 ((a.1 t).0 c)), (λ c. (a.1 t).1 ((b.1 t).0 c)))) in
-    one_place (get_or sets j []) (get_or sets k []) sets wide.2 j k in_j in_k refl refl same in
+    one_place sets wide.2 j k in_j in_k same in
     let le = at_most (length sets) (length xs) (AreOne table sets xs) has (λ j i a. a.0) one in
     omega (arith, le, few, wide.3)
-  where
-    one_place : (s r : List Term) (sets : List (List Term)) → AllPairs (λ s r. s ≡ r → ⊥) sets → (j k : ℕ) → j < length sets → k < length sets → get_or sets j [] ≡ s → get_or sets k [] ≡ r → s ≡ r → j ≡ k
-    one_place s r sets apart j k in_j in_k a b same =
-        ⊎_elim
-        (λ below. absurd (apart j k [] below in_k (a ∙ (same ∙ sym b))))
-        (λ above. ⊎_elim
-        (λ under. absurd (apart k j [] under in_j (b ∙ (sym same ∙ sym a))))
-        (λ over. omega arith)
-        (order k j))
-        (order j k)
 
 -- ---- fronts
 

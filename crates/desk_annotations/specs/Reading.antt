@@ -68,15 +68,18 @@ annotation_of r index w =
 abbrev pub annotation_at : Reading → ℕ → Data → Read Annotation
 annotation_at r index d = then_read (written_at index d) (annotation_of r index)
 
--- `annotations` may be absent, and is a list
-abbrev pub listed : Reading → Option Data → Read (List Annotation)
-listed r None = Ok []
-listed r (Some d) = then_read (ok_or (as_array d) (BadAnnotation 0 BadKind)) (each (annotation_at r) 0)
+-- the entries that are listed: `annotations` may be absent, and is a list
+abbrev pub listed : Option Data → Read Items
+listed None = Ok no_items
+listed (Some d) = ok_or (as_array d) (BadAnnotation 0 BadKind)
 
-abbrev pub annotations_of_table : Reading → Members → Read (List Annotation)
-annotations_of_table r ms =
-    if is_version (get_member (codes "version") ms) then listed r (get_member (codes "annotations") ms) else Err BadToml
+-- those of a table of version 1
+abbrev pub entries_in : Members → Read Items
+entries_in ms = if is_version (get_member (codes "version") ms) then listed (get_member (codes "annotations") ms) else Err BadToml
+
+abbrev pub entries : List ℕ → Read Items
+entries text = then_read (ok_or (parse_document text) BadToml) entries_in
 
 -- the whole
 abbrev pub annotations_of : Reading → List ℕ → Read (List Annotation)
-annotations_of r text = then_read (ok_or (parse_document text) BadToml) (annotations_of_table r)
+annotations_of r text = then_read (entries text) (each (annotation_at r) 0)

@@ -96,8 +96,8 @@ fn annotation_of(
     }))
 }
 
-// The annotation of an entry.
-fn annotation_at(
+/// The annotation of an entry.
+pub(crate) fn annotation_at(
     alloc: Global,
     value: &Value,
     index: usize,

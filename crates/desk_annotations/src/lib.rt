@@ -14,6 +14,9 @@
 //! table that `toml` reads in the text and, by a `Reading` that it is given, of the pieces of patterns and of which texts are licence
 //! expressions. `Annotations::read` answers as it says for each reading that is right by the definitions of `desk_reuse` and
 //! `desk_expr` (`IsRight`); they all give one answer (`one_reading`).
+//!
+//! `Annotations::sift` goes on past faults: it gives all annotations that can be read, and the fault of each other one
+//! (`specs/Sifting.antt`). Where `read` gives annotations, they are those, and else its fault is the first (`reading_is_sifting`).
 #![tactic(auto)]
 
 mod annotation;
@@ -22,9 +25,11 @@ mod expressions;
 mod fault;
 mod laws;
 mod reading;
+mod sifting;
 mod values;
 
 pub use annotation::{Annotation, Annotations, Precedence};
 pub use expressions::is_expression;
 pub use fault::{AnnotationFault, AnnotationsFault};
-pub use laws::one_reading;
+pub use laws::{one_reading, reading_is_sifting};
+pub use sifting::Sifted;

@@ -1,10 +1,12 @@
 //! Reads a text as a REUSE.toml.
 
 ghost use Rattle.std.specs.Prelude.{◌≡◌, ◌⊎◌, IfOk, IfErr, Ok, Err, alloc_error, codes};
+ghost use Rattle.std.specs.Option.{ok_or};
 ghost use Rattle.toml.specs.Data.{get_member};
-ghost use Rattle.toml.specs.View.{table_view};
+ghost use Rattle.toml.specs.Parse.{parse_document};
+ghost use Rattle.toml.specs.View.{table_view, items_view};
 ghost use Rattle.desk_annotations.specs.Right.{Reading, IsRight};
-ghost use Rattle.desk_annotations.specs.Reading.{listed, annotations_of_table, annotations_of};
+ghost use Rattle.desk_annotations.specs.Reading.{listed, entries_in, annotations_of};
 ghost use Rattle.desk_annotations.specs.Shown.{Gives};
 
 use crate::annotation::{Annotation, Annotations};
@@ -13,35 +15,48 @@ use crate::fault::{AnnotationFault, AnnotationsFault};
 use crate::values::{is_version, member};
 use desk_base::Items;
 use std::alloc::{AllocError, Global};
-use toml::Table;
+use toml::{Table, Value};
 
-// The annotations that are listed in a table.
-fn listed(
-    alloc: Global,
-    table: &Table,
-) -> Result<Result<Vec<Annotation>, AnnotationsFault>, AllocError>
-    ensures { (r : Reading) → IsRight r → IfOk result (Gives (listed r (get_member (codes "annotations") (table_view table.now))) (λ list. list.items)) }
+// The entries that are listed in a table.
+fn listed(table: &Table) -> Result<&[Value], AnnotationsFault>
+    ensures { Gives (listed (get_member (codes "annotations") (table_view table.now))) (λ values. items_view values.now) result }
 {
     let Some(value) = member(table, "annotations") else {
-        return Ok(Ok(Vec::new(alloc)));
+        return Ok(&[]);
     };
     match value.as_array() {
-        Some(values) => each_annotation(alloc, values.as_slice()),
-        None => Ok(Err(AnnotationsFault::BadAnnotation(0, AnnotationFault::BadKind))),
+        Some(values) => Ok(values.as_slice()),
+        None => Err(AnnotationsFault::BadAnnotation(0, AnnotationFault::BadKind)),
     }
 }
 
-// The annotations of a table.
-fn of_table(
-    alloc: Global,
-    table: &Table,
-) -> Result<Result<Vec<Annotation>, AnnotationsFault>, AllocError>
-    ensures { (r : Reading) → IsRight r → IfOk result (Gives (annotations_of_table r (table_view table.now)) (λ list. list.items)) }
+/// The entries of a table of version 1.
+pub(crate) fn entries_in(table: &Table) -> Result<&[Value], AnnotationsFault>
+    ensures { Gives (entries_in (table_view table.now)) (λ values. items_view values.now) result }
 {
     if is_version(member(table, "version")) {
-        listed(alloc, table)
+        listed(table)
     } else {
-        Ok(Err(AnnotationsFault::BadToml))
+        Err(AnnotationsFault::BadToml)
+    }
+}
+
+/// The table of a text.
+pub(crate) fn table_of(
+    alloc: Global,
+    text: &str,
+) -> Result<Result<Table, AnnotationsFault>, AllocError>
+    ensures { IfOk result (Gives (ok_or (parse_document text.now) AnnotationsFault.BadToml) table_view) }
+{
+    match toml::table_from_str(alloc, text) {
+        Ok(table) => Ok(Ok(table)),
+        Err(error) => {
+            if error.is_memory() {
+                Err(AllocError)
+            } else {
+                Ok(Err(AnnotationsFault::BadToml))
+            }
+        }
     }
 }
 
@@ -52,15 +67,13 @@ fn of_text(
 ) -> Result<Result<Vec<Annotation>, AnnotationsFault>, AllocError>
     ensures { (r : Reading) → IsRight r → IfOk result (Gives (annotations_of r text.now) (λ list. list.items)) }
 {
-    match toml::table_from_str(alloc, text) {
-        Ok(table) => of_table(alloc, &table),
-        Err(error) => {
-            if error.is_memory() {
-                Err(AllocError)
-            } else {
-                Ok(Err(AnnotationsFault::BadToml))
-            }
-        }
+    let table = match table_of(alloc, text)? {
+        Ok(table) => table,
+        Err(fault) => return Ok(Err(fault)),
+    };
+    match entries_in(&table) {
+        Ok(values) => each_annotation(alloc, values),
+        Err(fault) => Ok(Err(fault)),
     }
 }
 

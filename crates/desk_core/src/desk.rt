@@ -16,9 +16,9 @@ ghost use Rattle.desk_rows.specs.declared.command.StoreFault.{StoreFault};
 use desk_access::store::Store;
 use desk_access::texts::Texts;
 use desk_base::Items;
-use desk_decisions::ask::answer_to;
 use desk_decisions::carry::{carry_import, carry_out};
 use desk_memory::MemStore;
+use desk_questions::ask::answer_to;
 use desk_rows::{Answer, Command, Fault, Outcome, Profile, Query};
 use std::alloc::{AllocError, Global};
 

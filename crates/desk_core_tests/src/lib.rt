@@ -13,6 +13,8 @@ mod findings;
 #[cfg(test)]
 mod limits;
 #[cfg(test)]
+mod listing;
+#[cfg(test)]
 mod memory;
 #[cfg(test)]
 mod moves;

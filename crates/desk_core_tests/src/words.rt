@@ -137,6 +137,22 @@ pub fn in_words(alloc: Global, bytes: &[u8]) -> Result<String, AllocError> {
         Request::Ask(Query::Release { release }) => {
             format!(in alloc; "release <{}>", release.as_str())
         }
+        Request::Ask(
+            Query::Alternatives {
+                document,
+                package_id,
+            },
+        ) => format!(in alloc; "alternatives of <{}> in {document}", package_id.as_str()),
+        Request::Ask(
+            Query::Cheapest {
+                document,
+                package_id,
+                form,
+            },
+        ) => {
+            let (package_id, form) = (package_id.as_str(), form.as_str());
+            format!(in alloc; "cheapest of <{package_id}> in {document} for <{form}>")
+        }
         Request::BadCommand => String::from_str(alloc, "no request"),
     }
 }

@@ -16,12 +16,12 @@ ghost use Rattle.desk_rows.specs.Answers.{judged, refused_alone};
 ghost use Rattle.desk_rows.specs.declared.command.Answer.TheVariants.{Done};
 ghost use Rattle.desk_rows.specs.declared.command.Command.TheVariants.{Choose, Unchoose};
 
-use crate::conclusion::conclusion_of;
 use crate::plan::{done, refused};
 use crate::release::unready;
 use desk_access::store::Store;
 use desk_access::texts::Texts;
 use desk_base::{Items, Text};
+use desk_packages::conclusion_of;
 use desk_rows::{
     Change, ChoiceRow, Conclusion, Fault, PackageRow, Plan, Refusal, ReleaseState, Verdict,
 };

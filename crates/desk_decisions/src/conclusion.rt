@@ -1,13 +1,10 @@
 //! Packages are concluded for, and references adopted as licences.
 
 ghost use Rattle.std.specs.Prelude.{◌≡◌, ◌&&◌, IfOk, IfErr, is_some};
-ghost use Rattle.std.specs.Option.{option_map};
 ghost use Rattle.desk_rows.specs.Readings.{Readings};
 ghost use Rattle.desk_rows.specs.Faults.{MayFail};
-ghost use Rattle.desk_rows.specs.History.{expression_in};
-ghost use Rattle.desk_rows.specs.Conclusions.{concluded_as, conclusion_row, profile_in};
+ghost use Rattle.desk_rows.specs.Conclusions.{conclusion_row};
 ghost use Rattle.desk_rows.specs.Answers.{refused_alone};
-ghost use Rattle.desk_history.specs.FromTables.{conclusion_found};
 ghost use Rattle.desk_access.specs.Seen.{Looked, OfRows};
 ghost use Rattle.desk_access.specs.Plans.{IsPlan, IsPlanOf, IsSound, Plans, SparesStore};
 ghost use Rattle.desk_decisions.specs.Concluding.{AreAdopted, adopt_known, adopted_row, conclude_known, licence_alone, reference_alone};
@@ -18,67 +15,11 @@ use crate::plan::{done, refused};
 use desk_access::store::Store;
 use desk_access::texts::Texts;
 use desk_base::Text;
-use desk_rows::{
-    AdoptionRow, Change, Conclusion, ConclusionRow, Fault, Limit, PackageRow, Plan, Profile,
-    Refusal,
-};
+use desk_rows::{AdoptionRow, Change, ConclusionRow, Fault, Limit, Plan, Profile, Refusal};
 use std::alloc::{AllocError, Global};
 
 /// How many references of a document may be adopted.
 const MAX_ADOPTIONS: u64 = 10_000;
-
-/// The profile of a package's document.
-fn profile_of<S: Store>(store: &mut S, row: &PackageRow) -> Result<Profile, Fault>
-    ensures found { IfOk result (λ profile. OfRows (λ t. profile ≡ profile_in t.document row.now) (S.seen store.old) (S.seen store.new)) }
-    ensures kept { Looked (S.seen store.old) (S.seen store.new) result }
-    ensures fault { IfErr result (MayFail S.tells) }
-{
-    match store.document(u64::from(row.document))? {
-        Some((_, profile)) => Ok(profile),
-        None => Ok(Profile::Capitals),
-    }
-}
-
-/// A package's own field, where it is an expression by this profile.
-fn own_conclusion<T: Texts>(
-    alloc: Global,
-    texts: &T,
-    profile: Profile,
-    row: &PackageRow,
-) -> Result<Option<Conclusion>, AllocError>
-    ensures { (w : Readings) → T.are_right w → IfOk result (λ found. found ≡ option_map (concluded_as profile) (expression_in w profile row.now.concluded)) }
-{
-    if let Some(text) = &row.concluded {
-        if texts.is_expression(alloc, profile, text.as_str())? {
-            return Ok(Some(Conclusion {
-                profile,
-                text: text.clone()?,
-            }));
-        }
-    }
-    Ok(None)
-}
-
-/// The conclusion in force for a package: the office's, else its own field, where that is an expression.
-pub(crate) fn conclusion_of<T: Texts, S: Store>(
-    alloc: Global,
-    texts: &T,
-    store: &mut S,
-    row: &PackageRow,
-) -> Result<Option<Conclusion>, Fault>
-    ensures found { (w : Readings) → T.are_right w → IfOk result (λ found. OfRows (λ t. found ≡ conclusion_found w t row.now) (S.seen store.old) (S.seen store.new)) }
-    ensures kept { Looked (S.seen store.old) (S.seen store.new) result }
-    ensures fault { IfErr result (MayFail S.tells) }
-{
-    if let Some(text) = store.conclusion(row.document, row.id.as_str())? {
-        return Ok(Some(Conclusion {
-            profile: Profile::Capitals,
-            text,
-        }));
-    }
-    let profile = profile_of(store, row)?;
-    Ok(own_conclusion(alloc, texts, profile, row)?)
-}
 
 fn concluded(document: u32, package_id: &Text, expression: &Text) -> Result<Plan, AllocError>
     ensures { IfOk result (λ plan. plan ≡ Plan.Make Done (Change.Concluded (conclusion_row document package_id.now expression.now))) }

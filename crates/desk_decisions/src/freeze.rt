@@ -5,8 +5,7 @@ ghost use Rattle.std.specs.List.{enumerate_from};
 ghost use Rattle.desk_rows.specs.Readings.{Readings};
 ghost use Rattle.desk_rows.specs.Faults.{MayFail};
 ghost use Rattle.desk_rows.specs.History.{attached_to};
-ghost use Rattle.desk_rows.specs.Conclusions.{adopted};
-ghost use Rattle.desk_rows.specs.Raised.{owed_under, owed_code, frozen_term, rule_adopted, shipped_of};
+ghost use Rattle.desk_rows.specs.Raised.{owed_under, owed_code, frozen_term, rule_adopted};
 ghost use Rattle.desk_rows.specs.Answers.{first_unadopted, unadopted, unready_package, freeze_fits, refused_alone};
 ghost use Rattle.desk_history.specs.FromTables.{rules_found, new_duty, raised_row, froze_rows, froze_as, freeze_open_found, freeze_change_found};
 ghost use Rattle.desk_access.specs.Seen.{Looked, OfRows};
@@ -14,16 +13,16 @@ ghost use Rattle.desk_access.specs.Plans.{IsPlan, IsPlanOf, Plans, SparesStore};
 ghost use Rattle.desk_decisions.specs.Walks.{GathersTerms, GathersPackage, GathersAll};
 ghost use Rattle.desk_rows.specs.declared.command.Command.TheVariants.{Freeze};
 
-use crate::conclusion::conclusion_of;
 use crate::duty::read_day;
 use crate::plan::refused;
 use crate::release::unready;
 use desk_access::store::Store;
 use desk_access::texts::Texts;
 use desk_base::{Day, Items, Text};
+use desk_packages::{conclusion_of, rule_adopted, shipped_packages};
 use desk_rows::{
-    Answer, AttachedRow, Change, ChangeRow, Conclusion, DutyRow, DutyState, Fault, FrozenRow,
-    Limit, Owed, PackageRow, Plan, Refusal, Rule, Word,
+    Answer, Change, ChangeRow, Conclusion, DutyRow, DutyState, Fault, FrozenRow, Limit, Owed,
+    PackageRow, Plan, Refusal, Rule, Word,
 };
 use std::alloc::{AllocError, Global};
 
@@ -103,49 +102,6 @@ fn add_term(
     gathered.frozen.push(frozen_row(release, row, term, rule)?)?;
     add_codes(&mut gathered.owed, release, row, term, rule)?;
     Ok(())
-}
-
-/// The form in which a term of a document is looked up: a reference as the licence that it is adopted as, if it is.
-fn adopted<T: Texts, S: Store>(
-    alloc: Global,
-    texts: &T,
-    store: &mut S,
-    document: u32,
-    term: &Text,
-) -> Result<Option<Text>, Fault>
-    ensures found { (w : Readings) → T.are_right w → IfOk result (λ found. OfRows (λ t. found ≡ adopted w t.adoption document term.now) (S.seen store.old) (S.seen store.new)) }
-    ensures kept { Looked (S.seen store.old) (S.seen store.new) result }
-    ensures fault { IfErr result (MayFail S.tells) }
-{
-    let Ok(reference) = texts.reference(alloc, term.as_str()) else {
-        return Err(Fault::Memory);
-    };
-    let Some(reference) = reference else {
-        return Ok(Some(term.clone()?));
-    };
-    let Some(licence) = store.adoption(document, reference.as_str())? else {
-        return Ok(None);
-    };
-    Ok(Some(texts.adopted_as(alloc, licence.as_str(), term.as_str())?))
-}
-
-/// The rule for the adopted form of a term of a document.
-fn rule_adopted<T: Texts, S: Store>(
-    alloc: Global,
-    texts: &T,
-    store: &mut S,
-    form: &Text,
-    document: u32,
-    term: &Text,
-) -> Result<Option<Rule>, Fault>
-    ensures found { (w : Readings) → T.are_right w → IfOk result (λ found. OfRows (λ t. found ≡ rule_adopted w t.adoption (rules_found t) form.now document term.now) (S.seen store.old) (S.seen store.new)) }
-    ensures kept { Looked (S.seen store.old) (S.seen store.new) result }
-    ensures fault { IfErr result (MayFail S.tells) }
-{
-    match adopted(alloc, texts, store, document, term)? {
-        Some(licence) => store.rule(licence.as_str(), form.as_str()),
-        None => Ok(None),
-    }
 }
 
 /// What stands against a term of a document: it is a reference without adoption.
@@ -324,27 +280,6 @@ fn freeze_packages<T: Texts, S: Store>(
         }
     }
     Ok(None)
-}
-
-#[tactic(auto, using(crate::proofs::Chains::same_then_kept, crate::proofs::Chains::same_then_same))]
-/// The shipped packages of documents that are attached.
-pub(crate) fn shipped_packages<S: Store>(
-    alloc: Global,
-    store: &mut S,
-    attached: &[AttachedRow],
-) -> Result<Vec<PackageRow>, Fault>
-    ensures found { IfOk result (λ rows. OfRows (λ t. rows.items ≡ shipped_of attached.now t.packages) (S.seen store.old) (S.seen store.new)) }
-    ensures kept { Looked (S.seen store.old) (S.seen store.new) result }
-    ensures fault { IfErr result (MayFail S.tells) }
-{
-    let mut all = Vec::new(alloc);
-    for row in attached {
-        let mut more = store.shipped(row.document)?;
-        let Ok(()) = all.append(&mut more) else {
-            return Err(Fault::Memory);
-        };
-    }
-    Ok(all)
 }
 
 /// The rows of new duties.

@@ -5,20 +5,17 @@
 //! (`desk_access::Texts`). It answers as the definitions of the recorded history do over the tables that the store holds, and
 //! commits the rows of that answer, all or none: after a refusal, Again or a fault the rows are as they were.
 //!
-//! - `carry_out` is all commands; `answer_to` all questions, of which `findings` reads a document and `packages` tells a release.
+//! - `carry_out` is all commands. Questions are answered by `desk_questions`.
 //! - `catalogue`, `document`, `release`, `conclusion`, `choice`, `freeze`, `duty` and `withdraw` have one command to three each.
 #![tactic(auto)]
 
-pub mod ask;
 pub mod carry;
 pub mod catalogue;
 pub mod choice;
 pub mod conclusion;
 pub mod document;
 pub mod duty;
-pub mod findings;
 pub mod freeze;
-pub mod packages;
 mod plan;
 pub mod release;
 pub mod withdraw;

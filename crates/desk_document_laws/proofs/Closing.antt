@@ -1,8 +1,6 @@
--- A text has a first </text>, or none.
-use Rattle.std.proofs.Common.{◌≡◌, ◌≢◌, ◌∙◌, ℕ, List, [], ◌∷◌, ◌++◌, length, sym, ap, refl, arith, append_assoc, length-append, inl, inr}
-use Rattle.std.specs.Prelude.{codes}
+-- A text has a first place of some bytes, or none.
+use Rattle.std.proofs.Common.{◌≡◌, ◌≢◌, ◌∙◌, ℕ, ◌<◌, List, [], ◌∷◌, ◌++◌, length, sym, ap, refl, arith, append_assoc, length-append, inl, inr}
 use Rattle.std.proofs.lemmas.Bool.{cases_eq}
-use Rattle.desk_fields.specs.Pieces.{IsFirstEnd}
 
 -- a text begins with some bytes or not
 pub data Front (p t : List ℕ) : Type 0 where
@@ -22,33 +20,38 @@ front (b ∷ p) (c ∷ t) =
       | inr other ↦ apart (λ ys e. other cc)
     ]
 
-pub data Closing (t : List ℕ) : Type 0 where
-  open_text : ((xs ys : List ℕ) → t ≢ xs ++ (codes "</text>" ++ ys)) → Closing t
-  closed : (value more : List ℕ) → t ≡ value ++ (codes "</text>" ++ more) → IsFirstEnd value → Closing t
+-- the bytes stand nowhere in a text, or behind what they stand nowhere else in
+pub data Closing (p t : List ℕ) : Type 0 where
+  open_text : ((xs ys : List ℕ) → t ≢ xs ++ (p ++ ys)) → Closing p t
+  closed : (value more : List ℕ) → t ≡ value ++ (p ++ more) → ((xs ys : List ℕ) → value ++ p ≡ xs ++ (p ++ ys) → length ys ≡ 0) → Closing p t
 
-first_here : IsFirstEnd []
-first_here xs ys e = let len = ap length e ∙ length-append xs (codes "</text>" ++ ys) in omega arith
+module _ (p : List ℕ) (some : 0 < length p) where
+  abbrev IsFirst : List ℕ → Type 0
+  IsFirst value = (xs ys : List ℕ) → value ++ p ≡ xs ++ (p ++ ys) → length ys ≡ 0
 
--- where no </text> begins at the first byte, the first one of the rest is the first of the whole
-first_behind : (c : ℕ) (t v m : List ℕ) → t ≡ v ++ (codes "</text>" ++ m) → ((ys : List ℕ) → c ∷ t ≢ codes "</text>" ++ ys) → IsFirstEnd v → IsFirstEnd (c ∷ v)
-first_behind c t v m e none first [] ys is =
-    absurd (none (ys ++ m) (ap (λ l. c ∷ l) (e ∙ sym (append_assoc v (codes "</text>") m)) ∙ ap (λ l. l ++ m) is))
-first_behind c t v m e none first (x ∷ xs) ys is =
-    let tail : v ++ codes "</text>" ≡ xs ++ (codes "</text>" ++ ys) = cc in
-    first xs ys tail
+  first_here : IsFirst []
+  first_here xs ys e = let len = ap length e ∙ length-append xs (p ++ ys) in let more = length-append p ys in omega arith
 
-none_behind : (c : ℕ) (t : List ℕ) → ((ys : List ℕ) → c ∷ t ≢ codes "</text>" ++ ys) → ((xs ys : List ℕ) → t ≢ xs ++ (codes "</text>" ++ ys)) → (xs ys : List ℕ) → c ∷ t ≢ xs ++ (codes "</text>" ++ ys)
-none_behind c t here later [] ys e = here ys e
-none_behind c t here later (x ∷ xs) ys e = let tail : t ≡ xs ++ (codes "</text>" ++ ys) = cc in later xs ys tail
+  -- where they don't begin at the first byte, the first place in the rest is the first in the whole
+  first_behind : (c : ℕ) (t v m : List ℕ) → t ≡ v ++ (p ++ m) → ((ys : List ℕ) → c ∷ t ≢ p ++ ys) → IsFirst v → IsFirst (c ∷ v)
+  first_behind c t v m e none first [] ys is =
+      absurd (none (ys ++ m) (ap (λ l. c ∷ l) (e ∙ sym (append_assoc v p m)) ∙ ap (λ l. l ++ m) is ∙ append_assoc p ys m))
+  first_behind c t v m e none first (x ∷ xs) ys is =
+      let tail : v ++ p ≡ xs ++ (p ++ ys) = cc in
+      first xs ys tail
 
-none_empty : (xs ys : List ℕ) → [] ≢ xs ++ (codes "</text>" ++ ys)
-none_empty xs ys e = let len = ap length e ∙ length-append xs (codes "</text>" ++ ys) in omega arith
+  none_behind : (c : ℕ) (t : List ℕ) → ((ys : List ℕ) → c ∷ t ≢ p ++ ys) → ((xs ys : List ℕ) → t ≢ xs ++ (p ++ ys)) → (xs ys : List ℕ) → c ∷ t ≢ xs ++ (p ++ ys)
+  none_behind c t here later [] ys e = here ys e
+  none_behind c t here later (x ∷ xs) ys e = let tail : t ≡ xs ++ (p ++ ys) = cc in later xs ys tail
 
-closing_behind : (c : ℕ) (t : List ℕ) → Front (codes "</text>") (c ∷ t) → Closing t → Closing (c ∷ t)
-closing_behind c t (begins ys e) later = closed [] ys e first_here
-closing_behind c t (apart here) (open_text none) = open_text (none_behind c t here none)
-closing_behind c t (apart here) (closed v m e first) = closed (c ∷ v) m (ap (λ l. c ∷ l) e) (first_behind c t v m e here first)
+  none_empty : (xs ys : List ℕ) → [] ≢ xs ++ (p ++ ys)
+  none_empty xs ys e = let len = ap length e ∙ length-append xs (p ++ ys) in let more = length-append p ys in omega arith
 
-pub closing : (t : List ℕ) → Closing t
-closing [] = open_text none_empty
-closing (c ∷ t) = closing_behind c t (front (codes "</text>") (c ∷ t)) (closing t)
+  closing_behind : (c : ℕ) (t : List ℕ) → Front p (c ∷ t) → Closing p t → Closing p (c ∷ t)
+  closing_behind c t (begins ys e) later = closed [] ys e first_here
+  closing_behind c t (apart here) (open_text none) = open_text (none_behind c t here none)
+  closing_behind c t (apart here) (closed v m e first) = closed (c ∷ v) m (ap (λ l. c ∷ l) e) (first_behind c t v m e here first)
+
+  pub closing : (t : List ℕ) → Closing p t
+  closing [] = open_text none_empty
+  closing (c ∷ t) = closing_behind c t (front p (c ∷ t)) (closing t)

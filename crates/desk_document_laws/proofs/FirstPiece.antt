@@ -50,7 +50,7 @@ closed_step : (line : ℕ) (t before gap inner value more : List ℕ) → IsOpen
 closed_step line t before gap inner value [] o cut last = last_step line t before gap inner value o cut last
 closed_step line t before gap inner value (b ∷ more) o cut last = tail_step line t before gap inner value (b ∷ more) o cut last (has_line (b ∷ more) (omega arith))
 
-opened_step : (line : ℕ) (t before gap inner : List ℕ) → IsOpened t before gap inner → Closing inner → Step line t
+opened_step : (line : ℕ) (t before gap inner : List ℕ) → IsOpened t before gap inner → Closing (codes "</text>") inner → Step line t
 opened_step line t before gap inner o (open_text none) = fault (OpenText line) (before, gap, inner, refl, o.cut, o.tagged, o.blank, none)
 opened_step line t before gap inner o (closed value more cut last) = closed_step line t before gap inner value more o cut last
 
@@ -61,7 +61,7 @@ value_step line t body end rest before after l cut tagged (begins inner is) =
     let whole : t ≡ opened before (gap_of after) all =
     l.cut ∙ ap (λ x. x ++ (end_bytes end ++ rest)) (opening_cut body before after inner cut is ∙ opening_whole before after inner)
     ∙ append_assoc (opened before (gap_of after) []) inner (end_bytes end ++ rest) ∙ sym (opening_whole before after all) in
-    opened_step line t before (gap_of after) all (record { cut = whole; tagged = tagged; blank = gap_blank after }) (closing all)
+    opened_step line t before (gap_of after) all (record { cut = whole; tagged = tagged; blank = gap_blank after }) (closing (codes "</text>") (omega arith) all)
 value_step line t body end rest before after l cut tagged (apart none) =
     stepped line t (one_line before after) end rest (record {
       cut = l.cut ∙ ap (λ x. x ++ (end_bytes end ++ rest)) cut;

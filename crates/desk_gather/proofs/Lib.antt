@@ -8,3 +8,5 @@ pub mod TomlLemmas
 pub mod StatedLemmas
 pub mod RestLemmas
 pub mod GatheredLemmas
+pub mod SurveyLaws
+pub mod SurveyLemmas

@@ -5,4 +5,5 @@ pub mod Tomls
 pub mod Folders
 pub mod Information
 pub mod Gathering
+pub mod Survey
 pub mod Shown

@@ -1,6 +1,7 @@
 -- What the code's values show of the definitions'.
 use Rattle.std.specs.Prelude.{◌≡◌, ℕ, List, map, Vec, Result, Ok, Err}
 use Rattle.std.specs.BTreeMap.{BTreeMap}
+use Rattle.std.specs.String.{string_bytes}
 use Rattle.std.specs.declared.alloc.Global.{Global}
 use denote.Ref.{Bor}
 use Rattle.desk_annotations.specs.declared.annotation.Annotation.{Annotation}
@@ -10,6 +11,7 @@ use Rattle.desk_gather.specs.Readers.{Stated}
 use Rattle.desk_gather.specs.declared.fault.GatherFault.{GatherFault}
 use Rattle.desk_gather.specs.declared.files.File.{File}
 use Rattle.desk_gather.specs.declared.files.SourceFile.{SourceFile}
+use Rattle.desk_gather.specs.declared.gathering.Held.{Held}
 use Rattle.desk_gather.specs.declared.tomls.Toml.{Toml}
 use Rattle.desk_gather.specs.Trees.{Read}
 use Rattle.desk_gather.specs.Tomls.{TomlText}
@@ -41,6 +43,10 @@ file_at e = record { path = e.0.now; bytes = e.1.now }
 
 abbrev pub entries_of : List (Bor (List ℕ) × Bor (List ℕ)) → List SourceFile
 entries_of es = map file_at es
+
+-- the file that holds what is stated of another
+abbrev pub held_in : Held → SourceFile
+held_in h = record { path = string_bytes h.path; bytes = h.bytes.now }
 
 -- the files of a map by path
 abbrev pub tree_in : Tree → List SourceFile

@@ -8,7 +8,7 @@ ghost use Rattle.desk_gather.specs.Folders.{Holds};
 ghost use Rattle.desk_gather.specs.Gathering.{holder, bad_line, stated_in, values, info_with, info_of, infos_of, gathered};
 ghost use Rattle.desk_gather.specs.Trees.{each};
 ghost use Rattle.desk_gather.specs.Paths.{is_covered};
-ghost use Rattle.desk_gather.specs.Shown.{Gives, texts_in, file_of, files_of, tree_in, annotations_of, stated_of};
+ghost use Rattle.desk_gather.specs.Shown.{Gives, texts_in, file_of, files_of, held_in, tree_in, annotations_of, stated_of};
 
 use crate::counting::counting;
 use crate::fault::GatherFault;
@@ -33,11 +33,18 @@ pub struct FileInfo {
     pub licences: Items<Text>,
 }
 
-// The files that are known by path, and the annotations by folder.
+/// The files that are known by path, and the annotations by folder.
 #[derive(Drop)]
-struct Known<'a> {
-    tree: BTreeMap<&'a str, &'a [u8]>,
-    folders: BTreeMap<&'a [u8], Annotations>,
+pub(crate) struct Known<'a> {
+    pub(crate) tree: BTreeMap<&'a str, &'a [u8]>,
+    pub(crate) folders: BTreeMap<&'a [u8], Annotations>,
+}
+
+/// The file that holds what is stated of another, or of itself.
+#[derive(Drop)]
+pub(crate) struct Held<'a> {
+    pub(crate) path: String,
+    pub(crate) bytes: &'a [u8],
 }
 
 // The line of the first licence that is no expression.
@@ -68,6 +75,28 @@ fn stated_in<'a>(
     }
 }
 
+/// The file whose tags are a file's own information: the one beside it, or itself.
+pub(crate) fn holder<'a>(
+    alloc: Global,
+    tree: &BTreeMap<&'a str, &'a [u8]>,
+    file: File<'a>,
+) -> Result<Held<'a>, AllocError>
+    ensures { IfOk result (λ h. held_in h ≡ holder (tree_in tree.now) (file_of file.entry)) }
+{
+    let mut beside = String::from_str(alloc, file.path)?;
+    beside.push_str(".license")?;
+    match bytes_at(tree, beside.as_str()) {
+        Some(bytes) => Ok(Held {
+            path: beside,
+            bytes,
+        }),
+        None => Ok(Held {
+            path: String::from_str(alloc, file.path)?,
+            bytes: file.bytes,
+        }),
+    }
+}
+
 // A file's own information: what is stated beside it, or by itself.
 fn own_of<'a>(
     alloc: Global,
@@ -76,12 +105,8 @@ fn own_of<'a>(
 ) -> Result<Result<Info<'a>, GatherFault>, AllocError>
     ensures { (r : Reader) → IsRightReader r → IfOk result (Gives (stated_in r (holder (tree_in tree.now) (file_of file.entry))) stated_of) }
 {
-    let mut beside = String::from_str(alloc, file.path)?;
-    beside.push_str(".license")?;
-    match bytes_at(tree, beside.as_str()) {
-        Some(bytes) => stated_in(alloc, beside.as_str(), bytes),
-        None => stated_in(alloc, file.path, file.bytes),
-    }
+    let held = holder(alloc, tree, file)?;
+    stated_in(alloc, held.path.as_str(), held.bytes)
 }
 
 fn values<'a>(alloc: Global, tags: &[Tagged<'a>]) -> Result<Vec<&'a str>, AllocError>
@@ -94,8 +119,8 @@ fn values<'a>(alloc: Global, tags: &[Tagged<'a>]) -> Result<Vec<&'a str>, AllocE
     Ok(values)
 }
 
-// The information of a file, from its own and the annotations that count.
-fn info_with(
+/// The information of a file, from its own and the annotations that count.
+pub(crate) fn info_with(
     alloc: Global,
     path: &str,
     counting: &[&Annotation],

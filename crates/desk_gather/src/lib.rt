@@ -6,6 +6,8 @@
 //!   file the annotations that count, one a folder at most (`specs/Information.antt`).
 //! - A file's information is given by cases: an override, or what the file states itself with the aggregates and the nearest
 //!   `closest` annotation. The code goes down the folders once.
+//! - `survey` goes on past faults: it gives all that is wrong in a tree, and the information of the files by what can be read
+//!   (`specs/Survey.antt`). `gathered` stops at the first of these flaws (`gathered_is_surveyed`).
 //! - The definitions are over a `Reader`: the pieces of patterns, the licence expressions, the matches of paths and what files
 //!   state themselves. `gather` answers as they say for each reader that is right by the definitions of `desk_reuse` and
 //!   `desk_expr` (`IsRightReader`), and all right readers are one (`one_reader`).
@@ -14,13 +16,17 @@
 mod counting;
 mod fault;
 mod files;
+mod flaw;
 mod gathering;
 mod information;
 mod laws;
 mod paths;
+mod surveying;
 mod tomls;
 
 pub use fault::GatherFault;
 pub use files::{SourceFile, bytes_at, tree_of};
+pub use flaw::Flaw;
 pub use gathering::{FileInfo, gather, gathered};
-pub use laws::one_reader;
+pub use laws::{gathered_is_surveyed, one_reader};
+pub use surveying::{Surveyed, survey};

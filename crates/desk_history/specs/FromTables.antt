@@ -18,6 +18,7 @@ use Rattle.desk_rows.specs.Tables.{Tables, applied, choice_row}
 use Rattle.desk_rows.specs.Answers.{load_answer, import_answer, open_answer, attach_answer, choose_answer, freeze_answer, freeze_open, unchoose_answer, move_answer, withdraw_answer, close_answer, conclude_answer, adopt_answer, walk, is_recorded}
 use Rattle.desk_rows.specs.Queries.{duty_line, package_line, totals_of}
 use Rattle.desk_rows.specs.Findings.{findings_answer}
+use Rattle.desk_rows.specs.Listings.{alternatives_answer, cheapest_answer, term_cost}
 use Rattle.desk_rows.specs.declared.reading.Catalogue.{Catalogue}
 use Rattle.desk_rows.specs.declared.reading.Document.{Document}
 use Rattle.desk_base.specs.declared.profile.Profile.{Profile}
@@ -266,3 +267,8 @@ queried_from w t (query.Findings d) = findings_answer w (find (is_document d) t.
 queried_from w t (query.Release r) =
     option_map_or (λ row. answered.Release row (map (package_line (conclusion_found w t) (choice_found t r)) (shipped_found t r))) (release_found t r)
     (answered.Refused why.UnknownRelease)
+queried_from w t (query.Alternatives d p) =
+    alternatives_answer w (is_some (find (is_document d) t.document)) (conclusion_found w t) (find (is_package d p) t.packages)
+queried_from w t (query.Cheapest d p form) =
+    cheapest_answer w (is_some (find (is_document d) t.document)) (list_any (bytes_eq form) t.forms)
+    (term_cost w t.adoption (rules_found t) form) (conclusion_found w t) (find (is_package d p) t.packages)

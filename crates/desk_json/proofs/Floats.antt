@@ -4,7 +4,7 @@ use Rattle.std.specs.Prelude.{map}
 use Rattle.serde_json.specs.Data.{string}
 use Rattle.serde_json.specs.View.{items_of}
 use Rattle.serde_json.specs.Written.{has_float, items_have_float}
-use Rattle.desk_json.specs.Parts.{duty_row, change_values, ending, change_line, finding_line, package_values}
+use Rattle.desk_json.specs.Parts.{duty_row, change_values, ending, change_line, finding_line, package_values, term_list}
 use Rattle.desk_json.specs.Refusals.{document_fault_values, catalogue_fault_values, refusal_values}
 use Rattle.desk_json.specs.Replies.{answer_reply, reply_of}
 use Rattle.desk_rows.specs.declared.command.Answer.{Answer}
@@ -41,6 +41,10 @@ findings_have_no_float (row ∷ rows) = findings_have_no_float rows
 terms_have_no_float : (terms : List (List ℕ)) → items_have_float (items_of (map string terms)) ≡ false
 terms_have_no_float [] = refl
 terms_have_no_float (term ∷ terms) = terms_have_no_float terms
+
+sets_have_no_float : (sets : List (List (List ℕ))) → items_have_float (items_of (map term_list sets)) ≡ false
+sets_have_no_float [] = refl
+sets_have_no_float (set ∷ sets) = rw (terms_have_no_float set) (sets_have_no_float sets)
 
 packages_have_no_float : (lines : List PackageLine) → items_have_float (items_of (map package_values lines)) ≡ false
 packages_have_no_float [] = refl
@@ -114,6 +118,9 @@ answer_has_no_float (answer.Totals totals) = refl
 answer_has_no_float (answer.Changes rows) = rw (changes_have_no_float rows) refl
 answer_has_no_float (answer.Findings rows) = rw (findings_have_no_float rows) refl
 answer_has_no_float (answer.Release row lines) = rw (packages_have_no_float lines) refl
+answer_has_no_float (answer.Alternatives sets) = rw (sets_have_no_float sets) refl
+answer_has_no_float (answer.Cheapest None) = refl
+answer_has_no_float (answer.Cheapest (Some c)) = rw (terms_have_no_float c.terms) refl
 answer_has_no_float (answer.Refused refusal) = rw (refusal_has_no_float refusal) refl
 
 pub reply_has_no_float : (o : Outcome) → has_float (reply_of o) ≡ false

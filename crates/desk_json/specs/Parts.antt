@@ -10,6 +10,7 @@ use Rattle.desk_rows.specs.declared.command.DutyLine.{DutyLine}
 use Rattle.desk_rows.specs.declared.command.PackageLine.{PackageLine}
 use Rattle.desk_rows.specs.declared.command.Totals.{Totals}
 use Rattle.desk_rows.specs.declared.finding.FindingRow.{FindingRow}
+use Rattle.desk_rows.specs.declared.reading.Cheapest.{Cheapest}
 
 abbrev pub whole : ℕ → Data
 whole n = number (unsigned n)
@@ -54,3 +55,11 @@ package_values line = list (whole line.document ∷ string line.package_id ∷ s
 
 abbrev pub finding_line : FindingRow → Data
 finding_line row = list (whole row.line ∷ whole row.kind ∷ string row.name ∷ [])
+
+-- the cheapest set: its cost, and its terms
+abbrev pub cheapest_row : Cheapest → Data
+cheapest_row c = list (whole c.cost ∷ term_list c.terms ∷ [])
+
+abbrev pub cheapest_rows : Option Cheapest → List Data
+cheapest_rows None = []
+cheapest_rows (Some c) = cheapest_row c ∷ []

@@ -2,7 +2,7 @@
 use Rattle.std.specs.Prelude.{ℕ, Bool, true, false, List, [], ◌∷◌, codes, map}
 use Rattle.serde_json.specs.Data.{Data, boolean, string, object, no_members, member}
 use Rattle.serde_json.specs.Written.{compact_text}
-use Rattle.desk_json.specs.Parts.{whole, list, duty_row, totals_row, change_line, finding_line, release_line, package_values}
+use Rattle.desk_json.specs.Parts.{whole, list, duty_row, totals_row, change_line, finding_line, release_line, package_values, term_list, cheapest_rows}
 use Rattle.desk_json.specs.Refusals.{refusal_values}
 use Rattle.desk_rows.specs.Names.{refusal_name}
 use Rattle.desk_rows.specs.Numbers.{refusal_number}
@@ -52,6 +52,8 @@ answer_reply (answer.Totals totals) = rows_reply (totals_row totals ∷ [])
 answer_reply (answer.Changes rows) = rows_reply (map change_line rows)
 answer_reply (answer.Findings rows) = rows_reply (map finding_line rows)
 answer_reply (answer.Release row lines) = rows_reply (release_line row ∷ map package_values lines)
+answer_reply (answer.Alternatives sets) = rows_reply (map term_list sets)
+answer_reply (answer.Cheapest found) = rows_reply (cheapest_rows found)
 answer_reply (answer.Refused refusal) = refusal_reply refusal
 
 abbrev pub fault_reply : List ℕ → Data

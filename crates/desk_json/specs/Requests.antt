@@ -166,6 +166,19 @@ abbrev pub release_request : Data → Request
 release_request d = with_members 2 d
     (with_text (codes "release") d (λ release. Ask (query.Release release)))
 
+abbrev pub alternatives_request : Data → Request
+alternatives_request d = with_members 3 d
+    (with_number (codes "document") d (λ document.
+    with_text (codes "package") d (λ package_id.
+    Ask (query.Alternatives document package_id))))
+
+abbrev pub cheapest_request : Data → Request
+cheapest_request d = with_members 4 d
+    (with_number (codes "document") d (λ document.
+    with_text (codes "package") d (λ package_id.
+    with_text (codes "form") d (λ form.
+    Ask (query.Cheapest document package_id form)))))
+
 -- the form that the word behind `ask` names
 abbrev pub query_request : List ℕ → Data → Request
 query_request word d =
@@ -174,6 +187,8 @@ query_request word d =
     else if bytes_eq word (codes "changes") then changes_request d
     else if bytes_eq word (codes "findings") then findings_request d
     else if bytes_eq word (codes "release") then release_request d
+    else if bytes_eq word (codes "alternatives") then alternatives_request d
+    else if bytes_eq word (codes "cheapest") then cheapest_request d
     else BadCommand
 
 -- the request that a value is; one with both `do` and `ask` has a member too many

@@ -2,7 +2,7 @@
 
 ghost use Rattle.std.specs.Prelude.{◌≡◌, IfOk, codes};
 ghost use Rattle.serde_json.specs.View.{view};
-ghost use Rattle.desk_json.specs.Requests.{catalogue_request, import_profile, import_request, open_request, attach_request, choose_request, freeze_request, meet_request, unchoose_request, waive_until, waive_request, reopen_request, withdraw_request, close_request, conclude_request, adopt_request, ledger_request, duties_request, totals_request, changes_request, findings_request, release_request, query_request, request_of, request_in, with_text};
+ghost use Rattle.desk_json.specs.Requests.{catalogue_request, import_profile, import_request, open_request, attach_request, choose_request, freeze_request, meet_request, unchoose_request, waive_until, waive_request, reopen_request, withdraw_request, close_request, conclude_request, adopt_request, ledger_request, duties_request, totals_request, changes_request, findings_request, release_request, alternatives_request, cheapest_request, query_request, request_of, request_in, with_text};
 
 use crate::fields::{number_at, profile_at, size_of, take_text, text_at, texts_at};
 use crate::request::Request;
@@ -376,6 +376,49 @@ fn read_release(alloc: Global, value: &Value) -> Result<Request, AllocError>
     Ok(Request::Ask(Query::Release { release }))
 }
 
+fn read_alternatives(alloc: Global, value: &Value) -> Result<Request, AllocError>
+    ensures { IfOk result (λ r. r ≡ alternatives_request (view value.now)) }
+{
+    if size_of(value) != 3 {
+        return Ok(Request::BadCommand);
+    }
+    let Some(document) = number_at(value, "document") else {
+        return Ok(Request::BadCommand);
+    };
+    let Some(package_id) = text_at(value, "package") else {
+        return Ok(Request::BadCommand);
+    };
+    let package_id = Text::of(alloc, package_id)?;
+    Ok(Request::Ask(Query::Alternatives {
+        document,
+        package_id,
+    }))
+}
+
+fn read_cheapest(alloc: Global, value: &Value) -> Result<Request, AllocError>
+    ensures { IfOk result (λ r. r ≡ cheapest_request (view value.now)) }
+{
+    if size_of(value) != 4 {
+        return Ok(Request::BadCommand);
+    }
+    let Some(document) = number_at(value, "document") else {
+        return Ok(Request::BadCommand);
+    };
+    let Some(package_id) = text_at(value, "package") else {
+        return Ok(Request::BadCommand);
+    };
+    let Some(form) = text_at(value, "form") else {
+        return Ok(Request::BadCommand);
+    };
+    let package_id = Text::of(alloc, package_id)?;
+    let form = Text::of(alloc, form)?;
+    Ok(Request::Ask(Query::Cheapest {
+        document,
+        package_id,
+        form,
+    }))
+}
+
 fn read_ask(alloc: Global, value: &Value) -> Result<Request, AllocError>
     ensures { IfOk result (λ r. r ≡ with_text (codes "ask") (view value.now) (λ word. query_request word (view value.now))) }
 {
@@ -385,6 +428,8 @@ fn read_ask(alloc: Global, value: &Value) -> Result<Request, AllocError>
         Some("changes") => Ok(read_changes(value)),
         Some("findings") => Ok(read_findings(value)),
         Some("release") => read_release(alloc, value),
+        Some("alternatives") => read_alternatives(alloc, value),
+        Some("cheapest") => read_cheapest(alloc, value),
         _ => Ok(Request::BadCommand),
     }
 }

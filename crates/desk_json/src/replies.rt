@@ -9,7 +9,9 @@ ghost use Rattle.desk_rows.specs.declared.command.Outcome.TheVariants.{Failed};
 ghost use Rattle.desk_json.specs.Parts.{list};
 
 use crate::refusals::refusal_values;
-use crate::rows::{change_rows, duty_rows, finding_rows, release_rows, totals_row};
+use crate::rows::{
+    change_rows, cheapest_rows, duty_rows, finding_rows, release_rows, set_rows, totals_row,
+};
 use desk_rows::{Answer, Fault, Outcome, Refusal};
 use serde_json::{Value, json};
 use std::alloc::{AllocError, Global};
@@ -83,6 +85,8 @@ fn answer(alloc: Global, answer: &Answer) -> Result<Value, AllocError>
         Answer::Release { release, packages } => {
             rows(alloc, release_rows(alloc, release, packages.as_slice())?)
         }
+        Answer::Alternatives(sets) => rows(alloc, set_rows(alloc, sets.as_slice())?),
+        Answer::Cheapest(found) => rows(alloc, cheapest_rows(alloc, found)?),
         Answer::Refused(reason) => refusal(alloc, reason),
     }
 }

@@ -4,10 +4,10 @@ ghost use Rattle.std.specs.Prelude.{◌≡◌, ◌∷◌, [], ℕ, List, IfOk, I
 ghost use Rattle.serde_json.specs.Data.{string};
 ghost use Rattle.serde_json.specs.View.{view, items_view, items_of};
 ghost use Rattle.desk_base.specs.Day.{is_day};
-ghost use Rattle.desk_json.specs.Parts.{day_text, duty_row, change_line, totals_row, finding_line, release_line, term_list, package_values};
+ghost use Rattle.desk_json.specs.Parts.{day_text, duty_row, change_line, totals_row, finding_line, release_line, term_list, package_values, cheapest_row, cheapest_rows};
 
-use desk_base::{Day, Text};
-use desk_rows::{ChangeRow, DutyLine, FindingRow, PackageLine, ReleaseRow, Totals};
+use desk_base::{Day, Items, Text};
+use desk_rows::{ChangeRow, Cheapest, DutyLine, FindingRow, PackageLine, ReleaseRow, Totals};
 use serde_json::{Value, json};
 use std::alloc::{AllocError, Global};
 
@@ -178,6 +178,39 @@ pub(crate) fn finding_rows(alloc: Global, findings: &[FindingRow]) -> Result<Vec
     let mut rows = Vec::new(alloc);
     for finding in findings {
         rows.push(finding_row(alloc, finding)?)?;
+    }
+    Ok(rows)
+}
+
+/// A row for each set of terms.
+pub(crate) fn set_rows(alloc: Global, sets: &[Items<Text>]) -> Result<Vec<Value>, AllocError>
+    ensures { IfOk result (λ rows. items_view rows.items ≡ items_of (map term_list sets.now)) }
+{
+    let mut rows = Vec::new(alloc);
+    for set in sets {
+        rows.push(term_values(alloc, set.as_slice())?)?;
+    }
+    Ok(rows)
+}
+
+fn cheapest_row(alloc: Global, found: &Cheapest) -> Result<Value, AllocError>
+    ensures { IfOk result (λ v. view v ≡ cheapest_row found.now) }
+{
+    let cost = found.cost;
+    let terms = term_values(alloc, found.terms.as_slice())?;
+    json!(in alloc; [cost, terms])
+}
+
+/// A row for the cheapest set, if there is one.
+pub(crate) fn cheapest_rows(
+    alloc: Global,
+    found: &Option<Cheapest>,
+) -> Result<Vec<Value>, AllocError>
+    ensures { IfOk result (λ rows. items_view rows.items ≡ items_of (cheapest_rows found.now)) }
+{
+    let mut rows = Vec::new(alloc);
+    if let Some(found) = found {
+        rows.push(cheapest_row(alloc, found)?)?;
     }
     Ok(rows)
 }

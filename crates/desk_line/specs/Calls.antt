@@ -1,5 +1,5 @@
 -- The call that the words of a command line hold.
-use Rattle.std.specs.Prelude.{◌≡◌, ◌≢◌, ◌-◌, [], ◌∷◌, List, codes, if◌then◌else◌, Option, None, Some, option_map, option_and_then}
+use Rattle.std.specs.Prelude.{◌≡◌, ◌≢◌, ◌-◌, Bool, false, [], ◌∷◌, List, codes, if◌then◌else◌, Option, None, Some, option_map, option_and_then}
 use Rattle.std.specs.Str.{bytes_eq}
 use Rattle.clap.specs.Words.{IsAmong, Kinds, Row, Text, all_of, fault_of, first_of, kind_of, subcommand_of}
 use Rattle.clap.specs.Kinds.{or_else}
@@ -10,7 +10,7 @@ use Rattle.clap.specs.declared.error.Error.{Error}
 use Rattle.desk_line.specs.Fields.{if_stands}
 use Rattle.desk_line.specs.Words.{desk_app}
 use Rattle.desk_line.specs.declared.call.Call.{Call}
-use Rattle.desk_line.specs.declared.call.Call.TheVariants.{Check, Alternatives, Script, Gather}
+use Rattle.desk_line.specs.declared.call.Call.TheVariants.{Check, Alternatives, Script, Gather, Lint}
 use Rattle.desk_line.specs.declared.call.LineFault.{LineFault}
 use Rattle.desk_line.specs.declared.call.LineFault.TheVariants.{Memory, Usage}
 
@@ -40,6 +40,15 @@ abbrev pub gather_in : List Row → Option Call
 gather_in rows = option_and_then (λ folder. option_and_then (λ name. option_and_then (λ namespace. option_map (λ created. Gather folder name namespace created)
     (field_in (codes "CREATED") rows)) (field_in (codes "NAMESPACE") rows)) (field_in (codes "NAME") rows)) (first_of (codes "DIR") rows)
 
+-- whether a flag is used, which `clap` writes as a value
+abbrev pub is_true : Option Text → Bool
+is_true None = false
+is_true (Some value) = bytes_eq value (codes "true")
+
+-- the call of `lint` with these values
+abbrev pub lint_in : List Row → Option Call
+lint_in rows = option_map (λ folder. Lint folder (is_true (first_of (codes "JSON") rows))) (first_of (codes "DIR") rows)
+
 -- the call of a subcommand with these values
 abbrev pub call_in : Text → List Row → Option Call
 call_in name rows =
@@ -47,6 +56,7 @@ call_in name rows =
     else if bytes_eq name (codes "alternatives") then alternatives_in rows
     else if bytes_eq name (codes "script") then Some Script
     else if bytes_eq name (codes "gather") then gather_in rows
+    else if bytes_eq name (codes "lint") then lint_in rows
     else None
 
 -- the call of the subcommand that was met, if any

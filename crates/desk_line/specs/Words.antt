@@ -3,6 +3,7 @@ use Rattle.std.specs.Prelude.{codes, [], ◌∷◌, Some, true}
 use Rattle.clap.specs.Lexer.{usize_max}
 use Rattle.clap.specs.Words.{App, Rule, Text, new_app, new_rule, with_rule, with_subcommand}
 use Rattle.clap.specs.Simple.{on_top}
+use Rattle.clap.specs.declared.builder.action.ArgAction.TheVariants.{SetTrue}
 
 -- a word that must stand in its place
 abbrev pub word : Text → Rule
@@ -43,6 +44,14 @@ named_tree_app = with_rule (with_rule (new_app (codes "gather")) (word (codes "D
 abbrev pub gather_app : App
 gather_app = with_rule (with_rule named_tree_app (wanted (codes "NAMESPACE") (codes "namespace"))) (wanted (codes "CREATED") (codes "created"))
 
+-- `--LONG`, which has no value
+abbrev pub flag : Text → Text → Rule
+flag name long = record (new_rule name) { long = Some long; action = Some SetTrue }
+
+-- `lint DIR [--json]`
+abbrev pub lint_app : App
+lint_app = with_rule (with_rule (new_app (codes "lint")) (word (codes "DIR"))) (flag (codes "JSON") (codes "json"))
+
 -- `desk`, which has a version, asks for a subcommand, and shows its help where there are no words
 abbrev pub desk_alone : App
 desk_alone = on_top (λ s. record s { has_version = true; subcommand_required = true; arg_required_else_help = true })
@@ -53,4 +62,4 @@ abbrev pub judging_app : App
 judging_app = with_subcommand (with_subcommand desk_alone check_app.top) alternatives_app.top
 
 abbrev pub desk_app : App
-desk_app = with_subcommand (with_subcommand judging_app script_app.top) gather_app.top
+desk_app = with_subcommand (with_subcommand (with_subcommand judging_app script_app.top) gather_app.top) lint_app.top

@@ -2,9 +2,9 @@
 
 ghost use Rattle.std.specs.Prelude.{◌≡◌, false};
 ghost use Rattle.clap.specs.Words.{rule_of};
-ghost use Rattle.desk_line.specs.Words.{option, wanted, word, words};
+ghost use Rattle.desk_line.specs.Words.{flag, option, wanted, word, words};
 
-use clap::Arg;
+use clap::{Arg, ArgAction};
 use std::alloc::Global;
 
 /// A named value, which has another one where it isn't used.
@@ -30,6 +30,17 @@ pub fn wanted_arg<'a>(alloc: Global, name: &'a str, long: &'a str, help: &'a str
     ensures local { result.global ≡ false }
 {
     Arg::new(alloc, name).long(long).required(true).help(help)
+}
+
+/// A named flag without a value.
+pub fn flag_arg<'a>(alloc: Global, name: &'a str, long: &'a str, help: &'a str) -> Arg<'a>
+    ensures rule { rule_of result ≡ flag name.entry.now long.entry.now }
+    ensures local { result.global ≡ false }
+{
+    Arg::new(alloc, name)
+        .long(long)
+        .action(ArgAction::SetTrue)
+        .help(help)
 }
 
 /// A word that must stand in its place.

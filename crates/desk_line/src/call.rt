@@ -29,6 +29,11 @@ pub enum Call {
         namespace: Text,
         created: Text,
     },
+    /// The problems of the tree of files in a folder, as one JSON object or as lines.
+    Lint {
+        folder: Text,
+        json: bool,
+    },
 }
 
 /// Why a command line gave no call.

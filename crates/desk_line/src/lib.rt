@@ -13,6 +13,7 @@ mod arguments;
 mod call;
 mod fields;
 mod gather;
+mod lint;
 mod reading;
 mod subcommands;
 mod values;

@@ -9,6 +9,7 @@ ghost use Rattle.clap.specs.Words.{rule_of};
 use crate::alternatives::alternatives_command;
 use crate::arguments::{option_arg, word_arg, words_arg};
 use crate::gather::gather_command;
+use crate::lint::lint_command;
 use clap::{Arg, Command};
 use std::alloc::{AllocError, Global};
 
@@ -130,6 +131,13 @@ Requests, with an example of each and its reply:
     > {\"ask\":\"release\",\"release\":\"r1\"}
     < {\"rows\":[[\"r1\",\"binary\",\"frozen\",1],[1,\"SPDXRef-p\",\"p\",\"MIT\",[\"mit\"]]]}
 
+  list the sets of terms that a package's conclusion is true under, none of them too large
+    > {\"ask\":\"alternatives\",\"document\":1,\"package\":\"SPDXRef-p\"}
+    < {\"rows\":[[\"mit\"],[\"a\",\"b\"]]}
+  tell the set that owes the fewest duties in a form, with their number
+    > {\"ask\":\"cheapest\",\"document\":1,\"form\":\"binary\",\"package\":\"SPDXRef-p\"}
+    < {\"rows\":[[1,[\"a\",\"b\"]]]}
+
 What is refused changes nothing, and is told with its number, its name and where it is:
 
     < {\"at\":[\"mit\"],\"name\":\"NotMinimal\",\"refused\":18}";
@@ -196,5 +204,6 @@ pub fn desk_command<'a>(alloc: Global) -> Result<Command<'a>, AllocError>
 {
     judging_command(alloc)?
         .subcommand(script_command(alloc)?)?
-        .subcommand(gather_command(alloc)?)
+        .subcommand(gather_command(alloc)?)?
+        .subcommand(lint_command(alloc)?)
 }

@@ -7,6 +7,7 @@ ghost use Rattle.desk_line.specs.Calls.{call_in, check_in, profile_in, profile_w
 use crate::alternatives::alternatives_from;
 use crate::call::Call;
 use crate::gather::gather_from;
+use crate::lint::lint_from;
 use clap::ArgMatches;
 use desk_base::{Items, Profile, Text};
 use std::alloc::{AllocError, Global};
@@ -93,6 +94,8 @@ pub fn call_from(
         Ok(Some(Call::Script))
     } else if name == "gather" {
         gather_from(alloc, matches)
+    } else if name == "lint" {
+        lint_from(alloc, matches)
     } else {
         Ok(None)
     }

@@ -14,5 +14,5 @@ mod texts;
 mod used;
 
 pub use laws::one_lint;
-pub use linting::lint;
+pub use linting::{lint, lists_of};
 pub use lists::Lint;

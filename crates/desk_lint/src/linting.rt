@@ -16,8 +16,9 @@ use desk_gather::{FileInfo, GatherFault, SourceFile, gathered, tree_of};
 use std::alloc::{AllocError, Global};
 use std::collections::BTreeMap;
 
-// The lists of a tree, from the information of its covered files.
-fn lists_of<'a>(
+/// The lists of a tree, from the information of its covered files. A licence that is no expression uses nothing. The only error is want
+/// of memory.
+pub fn lists_of<'a>(
     alloc: Global,
     tree: &BTreeMap<&'a str, &'a [u8]>,
     infos: &[FileInfo],

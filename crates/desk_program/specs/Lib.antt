@@ -2,3 +2,4 @@ pub mod Report
 pub mod Failures
 pub mod Listing
 pub mod Gathering
+pub mod Linting

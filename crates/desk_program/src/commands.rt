@@ -11,6 +11,7 @@ ghost use Rattle.desk_program.specs.Report.{IsReadTo, IsReport, IsVerdict, Spell
 
 use crate::failure::Failure;
 pub use crate::gathering::gather;
+pub use crate::linting::lint;
 pub use crate::listing::alternatives;
 use crate::report::Report;
 use desk_core::desk::Desk;

@@ -8,16 +8,18 @@
 mod commands;
 mod failure;
 mod gathering;
+mod linting;
 mod listing;
 mod report;
 
 use crate::failure::Failure;
+use desk_base::{Profile, Text};
 use desk_core::desk::MemDesk;
 use desk_line::{Call, LineFault, line};
 use desk_texts::Standard;
 use desk_trees::files_of;
 use std::alloc::{AllocError, Global};
-use std::io::BufWriter;
+use std::io::{BufWriter, IsTerminal};
 use std::mem::ManuallyDrop;
 use std::process::ExitCode;
 use std::rt::{Env, Files};
@@ -28,9 +30,10 @@ const USAGE: u8 = 2;
 /// The bytes of a block larger than any that one request takes.
 const LARGE_BYTES: usize = 16_777_216;
 
-/// Does what the words ask for, and answers the status.
+/// Does what the words ask for, and answers the status. What takes long is told on standard error where that is watched.
 fn run<R: Env + Files + Print + Input + Eprint + AllocGlobal + Clone + Drop>(
     rt: &R,
+    is_watched: bool,
 ) -> Result<u8, Failure> {
     let alloc = rt.alloc();
     let owned = match env::args(rt) {
@@ -39,7 +42,7 @@ fn run<R: Env + Files + Print + Input + Eprint + AllocGlobal + Clone + Drop>(
     };
     let words: Vec<&str> = owned.iter().map(|word| word.as_str()).collect(alloc)?;
     match line(alloc, words.as_slice()) {
-        Ok(call) => answer(rt, alloc, &call),
+        Ok(call) => answer(rt, alloc, &call, is_watched),
         Err(LineFault::Memory(error)) => Err(Failure::from(error)),
         Err(LineFault::Usage(error)) => {
             error.print(rt)?;
@@ -69,45 +72,60 @@ fn keep_large_blocks(alloc: Global) {
     }
 }
 
-fn answer<R: Files + Print + Input + AllocGlobal + Clone + Drop>(
+/// Judges a choice of terms.
+fn check<R: Print>(
+    rt: &R,
+    alloc: Global,
+    expression: &str,
+    profile: Profile,
+    terms: &[Text],
+) -> Result<u8, Failure> {
+    let words: Vec<&str> = terms.iter().map(|term| term.as_str()).collect(alloc)?;
+    commands::check(
+        alloc,
+        expression,
+        profile,
+        words.as_slice(),
+        &mut io::writer(rt),
+    )
+}
+
+/// Replies to the requests of standard input.
+fn script<R: Print + Input + AllocGlobal + Clone + Drop>(
+    rt: &R,
+    alloc: Global,
+) -> Result<u8, Failure> {
+    keep_large_blocks(alloc);
+    // The process ends with the script, so the desk is left to the system and not freed row by row.
+    let mut desk = ManuallyDrop::new(MemDesk::new(alloc, Standard));
+    let mut writer = BufWriter::new(alloc, io::writer(rt))?;
+    commands::script(alloc, &mut *desk, &mut rt.reader(), &mut writer)
+}
+
+fn answer<R: Files + Print + Input + Eprint + AllocGlobal + Clone + Drop>(
     rt: &R,
     alloc: Global,
     call: &Call,
+    is_watched: bool,
 ) -> Result<u8, Failure> {
     match call {
         Call::Check {
             expression,
             profile,
             terms,
-        } => {
-            let terms = terms.as_slice().iter();
-            let words: Vec<&str> = terms.map(|term| term.as_str()).collect(alloc)?;
-            commands::check(
-                alloc,
-                expression.as_str(),
-                *profile,
-                words.as_slice(),
-                &mut io::writer(rt),
-            )
-        }
+        } => check(rt, alloc, expression.as_str(), *profile, terms.as_slice()),
         Call::Alternatives {
             expression,
             profile,
         } => commands::alternatives(alloc, expression.as_str(), *profile, &mut io::writer(rt)),
-        Call::Script => {
-            keep_large_blocks(alloc);
-            // The process ends with the script, so the desk is left to the system and not freed row by row.
-            let mut desk = ManuallyDrop::new(MemDesk::new(alloc, Standard));
-            let mut writer = BufWriter::new(alloc, io::writer(rt))?;
-            commands::script(alloc, &mut *desk, &mut rt.reader(), &mut writer)
-        }
+        Call::Script => script(rt, alloc),
         Call::Gather {
             folder,
             name,
             namespace,
             created,
         } => {
-            let files = files_of(rt, folder.as_str())?;
+            let files = files_of(rt, folder.as_str(), is_watched)?;
             commands::gather(
                 alloc,
                 files.as_slice(),
@@ -117,11 +135,16 @@ fn answer<R: Files + Print + Input + AllocGlobal + Clone + Drop>(
                 &mut io::writer(rt),
             )
         }
+        Call::Lint { folder, json } => {
+            let files = files_of(rt, folder.as_str(), is_watched)?;
+            commands::lint(alloc, files.as_slice(), *json, &mut io::writer(rt))
+        }
     }
 }
 
 fn main(rt: HostRuntime) -> ExitCode {
-    match run(&rt) {
+    let is_watched = rt.stderr().is_terminal();
+    match run(&rt, is_watched) {
         Ok(status) => ExitCode::from(status),
         Err(failure) => {
             // Where standard error fails too, there is nobody left to tell.

@@ -6,8 +6,8 @@ use desk_gather::{GatherFault, SourceFile};
 use desk_tagvalue::{WriteFault, write};
 use std::alloc::{AllocError, Global};
 
-// The text of a draft, or its fault.
-fn told(alloc: Global, files: &[SourceFile]) -> Result<String, AllocError> {
+/// The text of a draft, or its fault.
+pub fn told(alloc: Global, files: &[SourceFile]) -> Result<String, AllocError> {
     let made = draft(
         alloc,
         files,
@@ -75,7 +75,7 @@ LicenseConcluded: CC0-1.0
 FileCopyrightText: <text>2025 Firm</text>
 ";
 
-const BARE: &str = "@a
+pub const BARE: &str = "@a
 SPDX-FileCopyrightText: 2024 A
 SPDX-FileCopyrightText: 2025 B
 @b
@@ -114,7 +114,7 @@ LicenseConcluded: MIT OR Zlib
 FileCopyrightText: NOASSERTION
 ";
 
-const MIXED: &str = "@d
+pub const MIXED: &str = "@d
 SPDX-License-Identifier: Zlib
 @c
 SPDX-License-Identifier: MIT OR Zlib

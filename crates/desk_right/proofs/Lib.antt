@@ -1,5 +1,6 @@
 mod Ships
 mod Findings
+mod Listings
 mod Verdicts
 mod Reading
 mod Rights

@@ -26,6 +26,10 @@ use Rattle.desk_texts.specs.Expressions.{is_no_licence, word_place, IsExpression
 use Rattle.desk_texts.specs.Terms.{IsTerm, AreTerms, AreAllTerms, reference_in, is_licence, adopted_as}
 use Rattle.desk_texts.specs.Right.{AreRight}
 use Rattle.desk_right.proofs.Findings.{rows_exist, rows_once}
+use Rattle.desk_right.proofs.Listings.{listing_of, listing_once, terms_of as all_terms, terms_once, price_of, price_once}
+use Rattle.desk_texts.specs.Listings.{Lists, HasTerms, Prices}
+use Rattle.desk_rows.specs.declared.reading.Cheapest.{Cheapest}
+use Rattle.desk_rows.specs.declared.reading.ListFault.{ListFault}
 use Rattle.desk_texts.specs.Findings.{Finds}
 use Rattle.desk_right.proofs.Ships.{something_kept, kept_once}
 use Rattle.desk_right.proofs.Verdicts.{judged_once}
@@ -126,6 +130,16 @@ module _
     pub judged : (profile : Profile) (text : List ℕ) (words : List (List ℕ)) → (v : Verdict) × Judges profile text words v
     judged profile text words = let e = expression_read profile text in let ts = terms_of words in judge profile text words e.0 ts.0 e.1 ts.1
 
+    -- the sets of terms that the expression of a text is true under, its terms, and the cheapest set
+    pub sets : (profile : Profile) (text : List ℕ) → (r : Result (List (List (List ℕ))) ListFault) × Lists profile text r
+    sets profile text = let e = expression_read profile text in listing_of profile text e.0 e.1
+
+    pub own_terms : (profile : Profile) (text : List ℕ) → (terms : List (List ℕ)) × HasTerms profile text terms
+    own_terms profile text = let e = expression_read profile text in all_terms profile text e.0 e.1
+
+    pub price : (profile : Profile) (text : List ℕ) (cost : List ℕ → Option ℕ) → (r : Result (Option Cheapest) ListFault) × Prices profile text cost r
+    price profile text cost = let e = expression_read profile text in price_of profile text cost e.0 e.1
+
     pub standard : Readings
     standard = record {
       catalogue = λ text. kept_catalogue (catalogue_of terms_read.0 text);
@@ -138,10 +152,13 @@ module _
       expression_fault = λ profile text. (faulted profile text).0;
       verdict = λ profile text words. (judged profile text words).0;
       findings = λ profile bytes. (rows_exist profile (document bytes).0).0;
+      alternatives = λ profile text. (sets profile text).0;
+      terms = λ profile text. (own_terms profile text).0;
+      cheapest = λ profile text cost. (price profile text cost).0;
     }
 
     pub standard_is_right : AreRight standard
-    unfolding standard expression_read judged
+    unfolding standard expression_read judged sets own_terms price
     standard_is_right = record {
       term = terms_read.1;
       catalogue = λ text. refl;
@@ -154,6 +171,9 @@ module _
       expression = λ profile text tells says. tells_once profile text (expression_read profile text).0 tells (expression_read profile text).1 says;
       fault = λ profile text f is. faulted_once profile text (faulted profile text).0 f (faulted profile text).1 is;
       verdict = λ profile text words v judges. judged_once profile text words (judged profile text words).0 v (judged profile text words).1 judges;
+      alternatives = λ profile text listing lists. listing_once profile text (sets profile text).0 listing (sets profile text).1 lists;
+      terms = λ profile text terms has. terms_once profile text (own_terms profile text).0 terms (own_terms profile text).1 has;
+      cheapest = λ profile text cost priced prices. price_once profile text cost (price profile text cost).0 priced (price profile text cost).1 prices;
       findings = λ profile bytes read rows spells finds.
           rows_once profile read (rows_exist profile (document bytes).0).0 rows
           (subst (λ r. Finds profile r (rows_exist profile (document bytes).0).0) (spells_once bytes (document bytes).0 read (document bytes).1 spells) (rows_exist profile (document bytes).0).1) finds;

@@ -1,6 +1,6 @@
 -- Right readings: there is one, and all tell the same.
 use Rattle.std.proofs.Common.{◌≡◌, ◌∙◌, ◌⊎◌, inl, inr, ℕ, List, [], ◌∷◌, Option, Some, None, sym, subst, ap, arith}
-use Rattle.std.specs.Prelude.{Contains, is_none}
+use Rattle.std.specs.Prelude.{Contains, Result, is_none}
 use Rattle.desk_expr.specs.declared.term.Term.{Term}
 use Rattle.desk_expr.specs.Tree.{Tree}
 use Rattle.desk_expr.specs.Meaning.{Holds, CanGo, IsFirst, IsMinimal}
@@ -22,7 +22,10 @@ use Rattle.desk_texts.specs.Terms.{AreTerms}
 use Rattle.desk_texts.specs.Right.{AreRight}
 use Rattle.desk_right.proofs.Findings.{rows_exist}
 use Rattle.desk_right.proofs.Ships.{something_kept}
-use Rattle.desk_right.proofs.Reading.{standard, standard_is_right, judged, told, faulted, faulted_once}
+use Rattle.desk_texts.specs.Listings.{Lists, HasTerms, Prices}
+use Rattle.desk_rows.specs.declared.reading.Cheapest.{Cheapest}
+use Rattle.desk_rows.specs.declared.reading.ListFault.{ListFault}
+use Rattle.desk_right.proofs.Reading.{standard, standard_is_right, judged, told, faulted, faulted_once, sets, own_terms, price}
 
 verdict_by : (e : Tree) (ts : List Term) → (Holds (Contains ts) e → ⊥) ⊎ ((Holds (Contains ts) e × (i : ℕ) × IsFirst (CanGo ts e) i) ⊎ IsMinimal ts e) → (v : Verdict) × IsVerdict e ts v
 verdict_by e ts (inl none) = (NotEnough, none)
@@ -113,3 +116,39 @@ pub expression_or_fault : (w : Readings) → AreRight w → (profile : Profile) 
 expression_or_fault w right profile text =
     let found = faulted profile text in
     right.expression profile text (is_none found.0) (told_by_fault profile text found.0 found.1) ∙ ap is_none (sym (right.fault profile text found.0 found.1))
+
+-- what a right reading lists, and its cheapest sets
+
+found_sets : (profile : Profile) (text : List ℕ) → (r : Result (List (List (List ℕ))) ListFault) × Lists profile text r
+found_sets profile text = sets tree_of_text verdict_of each_document profile text
+
+found_terms : (profile : Profile) (text : List ℕ) → (terms : List (List ℕ)) × HasTerms profile text terms
+found_terms profile text = own_terms tree_of_text verdict_of each_document profile text
+
+found_price : (profile : Profile) (text : List ℕ) (cost : List ℕ → Option ℕ) → (r : Result (Option Cheapest) ListFault) × Prices profile text cost r
+found_price profile text cost = price tree_of_text verdict_of each_document profile text cost
+
+pub same_alternatives : (v w : Readings) → AreRight v → AreRight w → (profile : Profile) (text : List ℕ) → v.alternatives profile text ≡ w.alternatives profile text
+same_alternatives v w a b profile text =
+    let found = found_sets profile text in
+    a.alternatives profile text found.0 found.1 ∙ sym (b.alternatives profile text found.0 found.1)
+
+pub same_listed_terms : (v w : Readings) → AreRight v → AreRight w → (profile : Profile) (text : List ℕ) → v.terms profile text ≡ w.terms profile text
+same_listed_terms v w a b profile text =
+    let found = found_terms profile text in
+    a.terms profile text found.0 found.1 ∙ sym (b.terms profile text found.0 found.1)
+
+pub same_cheapest : (v w : Readings) → AreRight v → AreRight w → (profile : Profile) (text : List ℕ) (cost : List ℕ → Option ℕ) → v.cheapest profile text cost ≡ w.cheapest profile text cost
+same_cheapest v w a b profile text cost =
+    let found = found_price profile text cost in
+    a.cheapest profile text cost found.0 found.1 ∙ sym (b.cheapest profile text cost found.0 found.1)
+
+pub lists_all : (w : Readings) → AreRight w → (profile : Profile) (text : List ℕ) → Lists profile text (w.alternatives profile text)
+lists_all w right profile text =
+    let found = found_sets profile text in
+    subst (Lists profile text) (sym (right.alternatives profile text found.0 found.1)) found.1
+
+pub is_least : (w : Readings) → AreRight w → (profile : Profile) (text : List ℕ) (cost : List ℕ → Option ℕ) → Prices profile text cost (w.cheapest profile text cost)
+is_least w right profile text cost =
+    let found = found_price profile text cost in
+    subst (Prices profile text cost) (sym (right.cheapest profile text cost found.0 found.1)) found.1

@@ -1,6 +1,6 @@
 //! Laws of right readings, each the contract of a function with an empty body.
 
-ghost use Rattle.std.specs.Prelude.{◌≡◌, ℕ, List, [], is_none};
+ghost use Rattle.std.specs.Prelude.{◌≡◌, ℕ, List, [], Option, is_none};
 ghost use Rattle.desk_expr.specs.declared.term.Term.{Term};
 ghost use Rattle.desk_expr.specs.Tree.{Tree};
 ghost use Rattle.desk_expr.specs.Meaning.{IsMinimal};
@@ -9,6 +9,7 @@ ghost use Rattle.desk_base.specs.declared.profile.Profile.{Profile};
 ghost use Rattle.desk_rows.specs.declared.reading.Verdict.TheVariants.{Minimal};
 ghost use Rattle.desk_history.specs.Laws.{ListsOnce};
 ghost use Rattle.desk_texts.specs.Expressions.{IsExpression};
+ghost use Rattle.desk_texts.specs.Listings.{Lists, Prices};
 ghost use Rattle.desk_texts.specs.Terms.{AreTerms};
 ghost use Rattle.desk_texts.specs.Right.{AreRight};
 
@@ -28,6 +29,9 @@ pub fn one_right_reading()
     ensures faults { (v w : Readings) → AreRight v → AreRight w → (profile : Profile) (text : List ℕ) → v.expression_fault profile text ≡ w.expression_fault profile text }
     ensures expressions { (v w : Readings) → AreRight v → AreRight w → (profile : Profile) (text : List ℕ) → v.is_expression profile text ≡ w.is_expression profile text }
     ensures verdicts { (v w : Readings) → AreRight v → AreRight w → (profile : Profile) (text : List ℕ) (words : List (List ℕ)) → v.verdict profile text words ≡ w.verdict profile text words }
+    ensures alternatives { (v w : Readings) → AreRight v → AreRight w → (profile : Profile) (text : List ℕ) → v.alternatives profile text ≡ w.alternatives profile text }
+    ensures listed_terms { (v w : Readings) → AreRight v → AreRight w → (profile : Profile) (text : List ℕ) → v.terms profile text ≡ w.terms profile text }
+    ensures cheapest { (v w : Readings) → AreRight v → AreRight w → (profile : Profile) (text : List ℕ) (cost : List ℕ → Option ℕ) → v.cheapest profile text cost ≡ w.cheapest profile text cost }
     ensures findings { (v w : Readings) → AreRight v → AreRight w → (profile : Profile) (bytes : List ℕ) → v.findings profile bytes ≡ w.findings profile bytes }
 {}
 
@@ -51,4 +55,16 @@ pub fn right_readings_list_once()
 /// By a right reading a text is an expression exactly where it has no fault.
 pub fn expressions_have_no_fault()
     ensures { (w : Readings) → AreRight w → (profile : Profile) (text : List ℕ) → w.is_expression profile text ≡ is_none (w.expression_fault profile text) }
+{}
+
+/// What a right reading lists of an expression are all its minimal sets, each once and in the order of sets, and nothing else; or it
+/// tells that the expression has more than 128 terms, or else a front with more than 64 minimal sets.
+pub fn listings_are_all_minimal_sets()
+    ensures { (w : Readings) → AreRight w → (profile : Profile) (text : List ℕ) → Lists profile text (w.alternatives profile text) }
+{}
+
+/// The cheapest set of a right reading is the least of all sets that the expression is true under and whose terms have costs, minimal
+/// or not; it tells none where there is no such set.
+pub fn cheapest_sets_are_least()
+    ensures { (w : Readings) → AreRight w → (profile : Profile) (text : List ℕ) (cost : List ℕ → Option ℕ) → Prices profile text cost (w.cheapest profile text cost) }
 {}

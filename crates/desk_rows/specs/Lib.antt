@@ -9,6 +9,7 @@ pub mod Moves
 pub mod Tables
 pub mod Answers
 pub mod Findings
+pub mod Listings
 pub mod Queries
 pub mod Runs
 pub mod Numbers

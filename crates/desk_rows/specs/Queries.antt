@@ -1,9 +1,13 @@
 -- The answer to each query.
 use Rattle.std.specs.Prelude.{ℕ, List, [], ◌∷◌, length, filter, map, find, count_by, Option, Some, None, is_some, if◌then◌else◌}
 use Rattle.desk_rows.specs.Readings.{Readings}
-use Rattle.desk_rows.specs.Keys.{is_document, is_duty_of}
-use Rattle.desk_rows.specs.History.{documents, form_of}
+use Rattle.std.specs.List.{list_any}
+use Rattle.std.specs.Str.{bytes_eq}
+use Rattle.desk_rows.specs.Keys.{is_document, is_duty_of, is_package}
+use Rattle.desk_rows.specs.History.{documents, form_of, forms_in, in_force, packages, rules_in}
+use Rattle.desk_rows.specs.Conclusions.{adoptions}
 use Rattle.desk_rows.specs.Findings.{findings_answer}
+use Rattle.desk_rows.specs.Listings.{alternatives_answer, cheapest_answer, term_cost}
 use Rattle.desk_rows.specs.Moves.{changes, duties}
 use Rattle.desk_rows.specs.States.{is_open, is_met, is_waived, is_withdrawn}
 use Rattle.desk_rows.specs.Moves.{duty_at}
@@ -78,3 +82,8 @@ queried w h (query.Findings d) = findings_answer w (find (is_document d) (docume
 queried w h (query.Release r) =
     if is_some (form_of h r) then answered.Release (release_row h r) (map (package_line (conclusion w h) (chosen_in w h r)) (shipped w h r))
     else answered.Refused why.UnknownRelease
+queried w h (query.Alternatives d p) =
+    alternatives_answer w (is_some (find (is_document d) (documents w h))) (conclusion w h) (find (is_package d p) (packages w h))
+queried w h (query.Cheapest d p form) =
+    cheapest_answer w (is_some (find (is_document d) (documents w h))) (list_any (bytes_eq form) (forms_in (in_force w h)))
+    (term_cost w (adoptions w h) (rules_in (in_force w h)) form) (conclusion w h) (find (is_package d p) (packages w h))

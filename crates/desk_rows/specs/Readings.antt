@@ -5,6 +5,8 @@ use Rattle.desk_rows.specs.declared.reading.Catalogue.{Catalogue}
 use Rattle.desk_rows.specs.declared.reading.Document.{Document}
 use Rattle.desk_base.specs.declared.profile.Profile.{Profile}
 use Rattle.desk_rows.specs.declared.reading.Verdict.{Verdict}
+use Rattle.desk_rows.specs.declared.reading.ListFault.{ListFault}
+use Rattle.desk_rows.specs.declared.reading.Cheapest.{Cheapest}
 use Rattle.desk_rows.specs.declared.finding.FindingRow.{FindingRow}
 use Rattle.desk_rows.specs.declared.refusal.CatalogueFault.{CatalogueFault}
 use Rattle.desk_rows.specs.declared.refusal.DocumentFault.{DocumentFault}
@@ -29,5 +31,11 @@ pub record Readings : Type 0 where
   pub expression_fault : Profile → List ℕ → Option ExpressionFault
   -- what a list of printed terms is to the expression that a text spells
   pub verdict : Profile → List ℕ → List (List ℕ) → Verdict
+  -- the minimal sets of terms that the expression of a text is true under, printed, or why they aren't listed
+  pub alternatives : Profile → List ℕ → Result (List (List (List ℕ))) ListFault
+  -- the distinct terms of the expression of a text, printed, in order
+  pub terms : Profile → List ℕ → List (List ℕ)
+  -- the cheapest set of terms that the expression of a text is true under, by what printed terms cost, if it has one
+  pub cheapest : Profile → List ℕ → (List ℕ → Option ℕ) → Result (Option Cheapest) ListFault
   -- the findings of the document that bytes spell
   pub findings : Profile → List ℕ → List FindingRow

@@ -1,7 +1,7 @@
 //! Commands, queries and what they are answered.
 
 use crate::finding::FindingRow;
-use crate::reading::Profile;
+use crate::reading::{Cheapest, Profile};
 use crate::refusal::Refusal;
 use crate::row::{
     AdoptionRow, AttachedRow, CatalogueRow, ChangeRow, ChoiceRow, ConclusionRow, DocumentRow,
@@ -89,15 +89,36 @@ pub enum Command {
 #[derive(Debug, Drop)]
 pub enum Query {
     /// The duties of a release, by number.
-    Duties { release: Text },
+    Duties {
+        release: Text,
+    },
     /// How many duties of a release stand where.
-    Totals { release: Text },
+    Totals {
+        release: Text,
+    },
     /// The changes of a duty, by step.
-    Changes { duty: u64 },
+    Changes {
+        duty: u64,
+    },
     /// What in a document isn't as its standard has it.
-    Findings { document: u64 },
+    Findings {
+        document: u64,
+    },
     /// A release, and the packages that it ships with what is concluded and chosen for each.
-    Release { release: Text },
+    Release {
+        release: Text,
+    },
+    /// The minimal sets of terms that a package's conclusion in force is true under.
+    Alternatives {
+        document: u64,
+        package_id: Text,
+    },
+    /// The set of terms that owes the fewest duties in a form, of those that a package's conclusion in force is true under.
+    Cheapest {
+        document: u64,
+        package_id: Text,
+        form: Text,
+    },
 }
 
 /// A duty of a release, and the day of its last change.
@@ -159,6 +180,10 @@ pub enum Answer {
         release: ReleaseRow,
         packages: Items<PackageLine>,
     },
+    /// The sets of printed terms.
+    Alternatives(Items<Items<Text>>),
+    /// The cheapest set, where there is one.
+    Cheapest(Option<Cheapest>),
     Refused(Refusal),
 }
 

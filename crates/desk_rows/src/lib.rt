@@ -15,7 +15,10 @@ pub use command::{
     Answer, Change, Command, DutyLine, Fault, Outcome, PackageLine, Plan, Query, StoreFault, Totals,
 };
 pub use finding::FindingRow;
-pub use reading::{Catalogue, Conclusion, Document, Package, Profile, Reference, Rule, Verdict};
+pub use reading::{
+    Catalogue, Cheapest, Conclusion, Document, ListFault, MAX_COST, Package, Profile, Reference,
+    Rule, Verdict,
+};
 pub use refusal::{CatalogueFault, CataloguePart, DocumentFault, ExpressionFault, Limit, Refusal};
 pub use row::{
     AdoptionRow, AttachedRow, CatalogueRow, ChangeRow, ChoiceRow, ConclusionRow, DocumentRow,

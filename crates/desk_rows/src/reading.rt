@@ -62,6 +62,25 @@ pub struct Conclusion {
     pub text: Text,
 }
 
+/// The most that a term costs.
+pub const MAX_COST: u64 = 1_000_000;
+
+/// Why the minimal sets of terms of a licence expression aren't listed.
+#[derive(Clone, Copy, Debug, PartialEq, Eq)]
+pub enum ListFault {
+    /// It has more than 128 distinct terms.
+    TooManyTerms,
+    /// Some part of it, or the first few of the parts that an operator joins, has more than 64 minimal sets.
+    TooMany,
+}
+
+/// The cheapest set of terms that a licence expression is true under, printed, and what it costs.
+#[derive(Debug, Drop)]
+pub struct Cheapest {
+    pub cost: u64,
+    pub terms: Items<Text>,
+}
+
 /// What a list of terms is to a licence expression.
 #[derive(Clone, Copy, Debug, PartialEq, Eq)]
 pub enum Verdict {

@@ -1,4 +1,5 @@
 mod Faults
 mod Terms
+mod Costs
 pub mod Orders
 pub mod Halving

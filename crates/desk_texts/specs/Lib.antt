@@ -5,4 +5,5 @@ pub mod Catalogues
 pub mod Documents
 pub mod Shipments
 pub mod Findings
+pub mod Listings
 pub mod Right

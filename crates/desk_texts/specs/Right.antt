@@ -5,6 +5,8 @@ use Rattle.desk_rows.specs.Readings.{Readings}
 use Rattle.desk_base.specs.declared.profile.Profile.{Profile}
 use Rattle.desk_rows.specs.declared.reading.Verdict.{Verdict}
 use Rattle.desk_rows.specs.declared.reading.Document.{Document}
+use Rattle.desk_rows.specs.declared.reading.Cheapest.{Cheapest}
+use Rattle.desk_rows.specs.declared.reading.ListFault.{ListFault}
 use Rattle.desk_rows.specs.declared.refusal.DocumentFault.{DocumentFault}
 use Rattle.desk_rows.specs.declared.refusal.ExpressionFault.{ExpressionFault}
 use Rattle.desk_rows.specs.declared.finding.FindingRow.{FindingRow}
@@ -16,6 +18,7 @@ use Rattle.desk_texts.specs.Catalogues.{kept_catalogue}
 use Rattle.desk_texts.specs.Documents.{Keeps}
 use Rattle.desk_texts.specs.Expressions.{Tells, IsFault, Judges}
 use Rattle.desk_texts.specs.Findings.{Finds}
+use Rattle.desk_texts.specs.Listings.{Lists, HasTerms, Prices}
 use Rattle.desk_texts.specs.Terms.{reference_in, is_licence, adopted_as}
 
 pub record AreRight (w : Readings) : Type 0 where
@@ -37,5 +40,11 @@ pub record AreRight (w : Readings) : Type 0 where
   pub fault : (profile : Profile) (text : List ℕ) (f : Option ExpressionFault) → IsFault profile text f → w.expression_fault profile text ≡ f
   -- what terms are to the expression of a value
   pub verdict : (profile : Profile) (text : List ℕ) (words : List (List ℕ)) (verdict : Verdict) → Judges profile text words verdict → w.verdict profile text words ≡ verdict
+  -- the minimal sets of the expression of a value, printed
+  pub alternatives : (profile : Profile) (text : List ℕ) (listing : Result (List (List (List ℕ))) ListFault) → Lists profile text listing → w.alternatives profile text ≡ listing
+  -- the distinct terms of the expression of a value, printed
+  pub terms : (profile : Profile) (text : List ℕ) (terms : List (List ℕ)) → HasTerms profile text terms → w.terms profile text ≡ terms
+  -- the cheapest set of the expression of a value, by what printed terms cost
+  pub cheapest : (profile : Profile) (text : List ℕ) (cost : List ℕ → Option ℕ) (priced : Result (Option Cheapest) ListFault) → Prices profile text cost priced → w.cheapest profile text cost ≡ priced
   -- the findings of the document that bytes spell, by a profile of operators
   pub findings : (profile : Profile) (bytes : List ℕ) (read : Result DocumentText DocFault) (rows : List FindingRow) → Spells bytes read → Finds profile read rows → w.findings profile bytes ≡ rows

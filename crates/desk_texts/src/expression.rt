@@ -27,7 +27,11 @@ fn is_no_licence(text: &str) -> bool
 }
 
 /// The expression that a value is by a profile of operators.
-fn read_expression(alloc: Global, text: &str, profile: Profile) -> Result<Option<Expr>, AllocError>
+pub(crate) fn read_expression(
+    alloc: Global,
+    text: &str,
+    profile: Profile,
+) -> Result<Option<Expr>, AllocError>
     ensures { IfOk result (IsRead profile text.now) }
 {
     if is_no_licence(text) {

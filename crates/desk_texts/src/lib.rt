@@ -9,6 +9,7 @@ mod catalogue;
 mod document;
 mod expression;
 mod findings;
+mod listing;
 mod sorting;
 mod standard;
 mod term;

@@ -6,12 +6,13 @@ use crate::catalogue::read_catalogue;
 use crate::document::read_document;
 use crate::expression::{expression_fault, is_expression, verdict};
 use crate::findings::read_findings;
+use crate::listing::{alternatives, cheapest, terms};
 use crate::term::{adopted_as, is_licence, printed_term, reference_of};
 use desk_access::texts::Texts;
 use desk_base::{Items, Text};
 use desk_rows::{
-    Catalogue, CatalogueFault, Document, DocumentFault, ExpressionFault, FindingRow, Profile,
-    Verdict,
+    Catalogue, CatalogueFault, Cheapest, Document, DocumentFault, ExpressionFault, FindingRow,
+    ListFault, Profile, Verdict,
 };
 use std::alloc::{AllocError, Global};
 
@@ -80,6 +81,34 @@ impl Texts for Standard {
         terms: &[Text],
     ) -> Result<Verdict, AllocError> {
         verdict(alloc, text, profile, terms)
+    }
+
+    fn alternatives(
+        &self,
+        alloc: Global,
+        profile: Profile,
+        text: &str,
+    ) -> Result<Result<Items<Items<Text>>, ListFault>, AllocError> {
+        alternatives(alloc, text, profile)
+    }
+
+    fn terms(
+        &self,
+        alloc: Global,
+        profile: Profile,
+        text: &str,
+    ) -> Result<Items<Text>, AllocError> {
+        terms(alloc, text, profile)
+    }
+
+    fn cheapest(
+        &self,
+        alloc: Global,
+        profile: Profile,
+        text: &str,
+        costs: &[Option<u64>],
+    ) -> Result<Result<Option<Cheapest>, ListFault>, AllocError> {
+        cheapest(alloc, text, profile, costs)
     }
 
     fn findings(

@@ -14,6 +14,9 @@ use std::rt::Files;
 /// How many files a tree may have of which something is gathered.
 const MOST_READ: usize = 10_000;
 
+/// After how many files the count of those that are read is told.
+const FILES_A_LINE: usize = 1_000;
+
 // The file at a path.
 fn file_at<R: Files + AllocGlobal + Clone + Drop>(
     rt: &R,
@@ -33,17 +36,29 @@ fn file_at<R: Files + AllocGlobal + Clone + Drop>(
     }
 }
 
+// Tells on standard error how many files are read.
+fn tell<R: Eprint>(rt: &R, count: usize) {
+    if count % FILES_A_LINE == 0 {
+        // Where it can't be told, the files are read all the same.
+        let _told = eprintln!(rt; "{count} files read");
+    }
+}
+
 // The files at some paths.
-fn read<R: Files + AllocGlobal + Clone + Drop>(
+fn read<R: Files + Eprint + AllocGlobal + Clone + Drop>(
     rt: &R,
     root: &str,
     paths: &[String],
+    is_told: bool,
 ) -> Result<Vec<SourceFile>, TreeFault>
     ensures { IfOk result (λ files. map (λ f. f.path) files.items ≡ map string_bytes paths.now) }
 {
     let mut files = Vec::new(rt.alloc());
     for path in paths {
         files.push(file_at(rt, root, path.as_str())?)?;
+        if is_told {
+            tell(rt, files.len());
+        }
     }
     Ok(files)
 }
@@ -67,10 +82,12 @@ fn named<R: Files + AllocGlobal + Clone + Drop>(
 }
 
 /// The files below a folder by path: all but links, what else is neither a file nor a folder, and `.git` at the root. Of a folder
-/// with more than 10,000 files, of which nothing is gathered, 10,001 or more are given, and no bytes.
-pub fn files_of<R: Files + AllocGlobal + Clone + Drop>(
+/// with more than 10,000 files, of which nothing is gathered, 10,001 or more are given, and no bytes. After each 1,000 files the count of
+/// those that are read is told on standard error, if it is to be.
+pub fn files_of<R: Files + Eprint + AllocGlobal + Clone + Drop>(
     rt: &R,
     root: &str,
+    is_told: bool,
 ) -> Result<Vec<SourceFile>, TreeFault>
     ensures { IfOk result (λ files. AreByPath files.items) }
 {
@@ -78,5 +95,5 @@ pub fn files_of<R: Files + AllocGlobal + Clone + Drop>(
     if paths.len() > MOST_READ {
         return named(rt, paths.as_slice());
     }
-    read(rt, root, paths.as_slice())
+    read(rt, root, paths.as_slice(), is_told)
 }

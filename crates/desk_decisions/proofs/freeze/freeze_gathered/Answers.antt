@@ -1,5 +1,5 @@
 use Rattle.std.proofs.Common.{rules, refl}
-use Rattle.desk_decisions.proofs.Chains.{same_then_same}
+use Rattle.desk_access.proofs.Chains.{same_then_same}
 use Rattle.desk_decisions.proofs.freeze.freeze_gathered.Goals as goal
 
 pub returns-clause-kept : goal.returns-clause-kept

@@ -7,7 +7,8 @@ use Rattle.desk_rows.specs.declared.row.AttachedRow.{AttachedRow}
 use Rattle.desk_rows.specs.declared.row.PackageRow.{PackageRow}
 use Rattle.desk_history.specs.FromTables.{shipped_found, froze_as, freeze_open_found, freeze_change_found}
 use Rattle.desk_access.specs.Plans.{IsPlan}
-use Rattle.desk_decisions.proofs.Chains.{same_then_same, plans_after, plan_after}
+use Rattle.desk_access.proofs.Chains.{same_then_same}
+use Rattle.desk_decisions.proofs.Chains.{plans_after, plan_after}
 use Rattle.desk_decisions.proofs.Freezes.{freeze_refused, freeze_fitting, Fits}
 use Rattle.desk_decisions.proofs.freeze.freeze_open.Goals as goal
 

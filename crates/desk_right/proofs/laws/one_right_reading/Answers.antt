@@ -1,4 +1,4 @@
-use Rattle.desk_right.proofs.Rights.{same_terms_told, same_reference, same_catalogue, same_document, same_licence, same_adopted, same_fault, same_expression, same_verdict, same_findings}
+use Rattle.desk_right.proofs.Rights.{same_terms_told, same_reference, same_catalogue, same_document, same_licence, same_adopted, same_fault, same_expression, same_verdict, same_alternatives, same_listed_terms, same_cheapest, same_findings}
 use Rattle.desk_right.proofs.laws.one_right_reading.Goals as goal
 
 pub returns-clause-terms : goal.returns-clause-terms
@@ -30,3 +30,12 @@ returns-clause-faults c = same_fault
 
 pub returns-clause-findings : goal.returns-clause-findings
 returns-clause-findings c = same_findings
+
+pub returns-clause-alternatives : goal.returns-clause-alternatives
+returns-clause-alternatives c = same_alternatives
+
+pub returns-clause-listed_terms : goal.returns-clause-listed_terms
+returns-clause-listed_terms c = same_listed_terms
+
+pub returns-clause-cheapest : goal.returns-clause-cheapest
+returns-clause-cheapest c = same_cheapest

@@ -1,1 +1,1 @@
-// SPDX-License-Identifier: MIT AND
+// SPDX-License-Identifier: MIT

@@ -1,0 +1,83 @@
+//! The subcommand that tells the problems of a tree of files.
+
+ghost use Rattle.std.specs.Prelude.{◌≡◌, IfOk, option_map, false};
+ghost use Rattle.clap.specs.Words.{app_of, found_of, rows_of};
+ghost use Rattle.clap.specs.declared.builder.command.Command.TheViews.{out-Command};
+ghost use Rattle.desk_line.specs.Words.{lint_app};
+ghost use Rattle.desk_line.specs.Calls.{is_true, lint_in};
+
+use crate::arguments::{flag_arg, word_arg};
+use crate::call::Call;
+use crate::values::text_in;
+use clap::{ArgMatches, Command};
+use desk_base::Text;
+use std::alloc::{AllocError, Global};
+
+const ABOUT: &str = "Tells all that keeps a source tree from being REUSE-compliant";
+
+const LONG_ABOUT: &str = "\
+Tells all that keeps a source tree from being REUSE-compliant
+
+Reads the files of a folder as gather does (REUSE Specification 3.3), goes on past what is wrong, and
+prints a line for each problem:
+
+  PATH:LINE: what is wrong and what to do
+  PATH: the same, where it is on no line
+
+First what is wrong: names of files, each REUSE.toml and each of its annotations, and each licence in a
+file that is no expression. Then what the rest lacks: texts of licences in LICENSES/ that are missing or
+that no file uses, and files without a copyright notice or without a licence. The last line counts the
+problems and the files that were looked at. In a path, ? stands for a control byte.";
+
+const AFTER_HELP: &str = "\
+With --json the same is one object: \"covered\" is the number of files, and \"problems\" a list of
+objects, each with \"kind\", \"line\" (or null), \"message\" and \"path\". The kinds are TooManyFiles, BadPath,
+TwicePath, BadToml, BadAnnotation, BadExpression, Missing, Unused and Bare.
+
+Links are not followed, and the folder .git at the root is not entered. Whatever else version control
+ignores has to be taken away before.
+
+Examples:
+  desk lint .
+  desk lint --json src
+
+Statuses:
+  0  no problem
+  1  some problem
+  2  the command line is wrong
+  3  no memory, or a file or folder could not be read, or the lines could not be written";
+
+/// The subcommand as `clap` reads it.
+pub(crate) fn lint_command<'a>(alloc: Global) -> Result<Command<'a>, AllocError>
+    ensures shape { IfOk result (λ c. app_of c ≡ lint_app) }
+    ensures local { IfOk result (λ c. (out-Command c).has_globals ≡ false) }
+{
+    Command::new(alloc, "lint")
+        .about(ABOUT)
+        .long_about(LONG_ABOUT)
+        .after_help(AFTER_HELP)
+        .arg(word_arg(alloc, "DIR", "The folder of the tree"))?
+        .arg(flag_arg(alloc, "JSON", "json", "Prints one JSON object"))
+}
+
+// Whether a flag is used.
+fn is_true(value: Option<&str>) -> bool
+    ensures { result ≡ is_true (option_map (λ s. s.now) value.entry) }
+{
+    match value {
+        Some(value) => value == "true",
+        None => false,
+    }
+}
+
+/// The call with the values of these matches, or `None` where they lack one.
+pub(crate) fn lint_from(alloc: Global, matches: &ArgMatches<'_>) -> Result<Option<Call>, AllocError>
+    ensures { IfOk result (λ r. r ≡ lint_in (rows_of (found_of matches.now))) }
+{
+    let json = is_true(text_in(matches, "JSON"));
+    let Some(folder) = text_in(matches, "DIR") else {
+        return Ok(None);
+    };
+    let folder = Text::of(alloc, folder)?;
+    Ok(Some(Call::Lint { folder, json }))
+}

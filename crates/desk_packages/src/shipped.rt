@@ -1,0 +1,31 @@
+//! The packages that a release ships.
+
+ghost use Rattle.std.specs.Prelude.{◌≡◌, IfOk, IfErr};
+ghost use Rattle.desk_rows.specs.Faults.{MayFail};
+ghost use Rattle.desk_rows.specs.Raised.{shipped_of};
+ghost use Rattle.desk_access.specs.Seen.{Looked, OfRows};
+
+use desk_access::store::Store;
+use desk_rows::{AttachedRow, Fault, PackageRow};
+use std::alloc::Global;
+
+#[tactic(auto, using(desk_access::proofs::Chains::same_then_kept, desk_access::proofs::Chains::same_then_same))]
+/// The shipped packages of documents that are attached.
+pub fn shipped_packages<S: Store>(
+    alloc: Global,
+    store: &mut S,
+    attached: &[AttachedRow],
+) -> Result<Vec<PackageRow>, Fault>
+    ensures found { IfOk result (λ rows. OfRows (λ t. rows.items ≡ shipped_of attached.now t.packages) (S.seen store.old) (S.seen store.new)) }
+    ensures kept { Looked (S.seen store.old) (S.seen store.new) result }
+    ensures fault { IfErr result (MayFail S.tells) }
+{
+    let mut all = Vec::new(alloc);
+    for row in attached {
+        let mut more = store.shipped(row.document)?;
+        let Ok(()) = all.append(&mut more) else {
+            return Err(Fault::Memory);
+        };
+    }
+    Ok(all)
+}

@@ -1,0 +1,4 @@
+pub mod Bare
+pub mod Problems
+pub mod Rows
+pub mod Reports

@@ -1,0 +1,103 @@
+-- What is told of each problem: where it is, what is wrong, and what to do.
+use Rattle.std.specs.Prelude.{◌≡◌, ◌<◌, ℕ, List, [], ◌∷◌, ◌++◌, map, codes, decimal, Option, Some, None}
+use Rattle.desk_expr.specs.Faults.{fault_number, fault_name, fault_place}
+use Rattle.desk_expr.specs.Grammar.{SpellsTree}
+use Rattle.desk_expr.specs.Spelling.{SpellsWithin, IsStop}
+use Rattle.desk_expr.specs.Tree.{Tree}
+use Rattle.desk_expr.specs.declared.fault.ParseFault.{ParseFault}
+use Rattle.desk_annotations.specs.declared.fault.AnnotationFault.{AnnotationFault}
+use Rattle.desk_annotations.specs.declared.fault.AnnotationFault.TheVariants.{NoPath, BadKind, BadPrecedence, BadExpression as BadLicence}
+use Rattle.desk_gather.specs.declared.flaw.Flaw.{Flaw}
+use Rattle.desk_gather.specs.declared.flaw.Flaw.TheVariants.{TooManyFiles, BadPath, TwicePath, BadToml, BadAnnotation, BadExpression}
+use Rattle.desk_problems.specs.declared.bare.Bare.{Bare}
+use Rattle.desk_problems.specs.declared.bare.Lacking.{Lacking}
+use Rattle.desk_problems.specs.declared.bare.Lacking.TheVariants.{Notice, Licence, Both}
+use Rattle.desk_problems.specs.declared.problems.Problems.{Problems}
+use Rattle.desk_problems.specs.declared.row.Kind.{Kind}
+use Rattle.desk_problems.specs.declared.row.Kind.TheVariants as kind
+use Rattle.desk_problems.specs.declared.row.Row.{Row}
+
+abbrev pub kind_name : Kind → List ℕ
+kind_name kind.TooManyFiles = codes "TooManyFiles"
+kind_name kind.BadPath = codes "BadPath"
+kind_name kind.TwicePath = codes "TwicePath"
+kind_name kind.BadToml = codes "BadToml"
+kind_name kind.BadAnnotation = codes "BadAnnotation"
+kind_name kind.BadExpression = codes "BadExpression"
+kind_name kind.Missing = codes "Missing"
+kind_name kind.Unused = codes "Unused"
+kind_name kind.Bare = codes "Bare"
+
+-- a row of no line
+abbrev pub plain_row : Kind → List ℕ → List ℕ → Row
+plain_row k path message = record { kind = k; path = path; line = None; message = message }
+
+-- ---- flaws
+
+-- what is wrong with an annotation
+abbrev pub annotation_words : AnnotationFault → List ℕ
+annotation_words NoPath = codes "no path: give it the paths of its files"
+annotation_words BadKind = codes "a value of another kind: write a text or a list of texts"
+annotation_words BadPrecedence = codes "an unknown precedence: write closest, aggregate or override"
+annotation_words BadLicence = codes "a licence that is no expression: write one as in SPDX 2.3, Annex D"
+
+-- where a text stops that is no licence expression; or it is one
+abbrev pub StopsAt : List ℕ → Option ParseFault → Type 0
+StopsAt text None = (e : Tree) × SpellsWithin text e
+StopsAt text (Some fault) = ((e : Tree) → SpellsWithin text e → ⊥) × (0 < fault_number fault) × IsStop SpellsTree text fault
+
+abbrev pub stop_words : Option ParseFault → List ℕ
+stop_words None = []
+stop_words (Some fault) = codes ", " ++ (fault_name fault ++ (codes " at " ++ decimal (fault_place fault)))
+
+abbrev pub expression_words : Option ParseFault → List ℕ
+expression_words stop = codes "the licence is no expression" ++ (stop_words stop ++ codes ": mend it, or have the line ignored")
+
+-- the row of a flaw, where the text of a tag stops so
+abbrev pub flaw_row : Flaw → Option ParseFault → Row
+flaw_row TooManyFiles stop = plain_row kind.TooManyFiles (codes ".") (codes "more than 10,000 files: take away what isn't of the source")
+flaw_row (BadPath path) stop = plain_row kind.BadPath path (codes "a path with a control byte, a blank at its end, or an empty part, . or ..: give the file another")
+flaw_row (TwicePath path) stop = plain_row kind.TwicePath path (codes "a path that stands twice: keep one of the files")
+flaw_row (BadToml path) stop = plain_row kind.BadToml path (codes "no TOML document of version 1: mend it, with version = 1 at its top")
+flaw_row (BadAnnotation path index fault) stop = plain_row kind.BadAnnotation path (codes "annotation " ++ (decimal index ++ (codes ", counted from 0, has " ++ annotation_words fault)))
+flaw_row (BadExpression path line text) stop = record { kind = kind.BadExpression; path = path; line = Some line; message = expression_words stop }
+
+-- how the text of a flaw stops, where it has one
+abbrev pub StopsSo : Flaw → Option ParseFault → Type 0
+StopsSo (BadExpression path line text) stop = StopsAt text stop
+StopsSo _ stop = stop ≡ None
+
+abbrev pub IsFlawRow : Flaw → Row → Type 0
+IsFlawRow flaw row = (stop : Option ParseFault) × StopsSo flaw stop × (row ≡ flaw_row flaw stop)
+
+-- a row for each flaw
+abbrev pub AreFlawRows : List Flaw → List Row → Type 0
+AreFlawRows [] [] = Unit {0}
+AreFlawRows [] (row ∷ rows) = ⊥
+AreFlawRows (flaw ∷ flaws) [] = ⊥
+AreFlawRows (flaw ∷ flaws) (row ∷ rows) = IsFlawRow flaw row × AreFlawRows flaws rows
+
+-- ---- lists
+
+abbrev pub missing_row : List ℕ → Row
+missing_row key = plain_row kind.Missing (codes "LICENSES/") (codes "no text of " ++ (key ++ (codes ", which is used: add it as LICENSES/" ++ (key ++ codes ".txt"))))
+
+abbrev pub unused_row : List ℕ → Row
+unused_row path = plain_row kind.Unused path (codes "no file uses this text: take it away, or state its licence where it is used")
+
+abbrev pub lacking_words : Lacking → List ℕ
+lacking_words Notice = codes "no copyright notice: state one in the file, beside it in FILE.license, or in REUSE.toml"
+lacking_words Licence = codes "no licence: state one in the file, beside it in FILE.license, or in REUSE.toml"
+lacking_words Both = codes "no copyright notice and no licence: state them in the file, beside it in FILE.license, or in REUSE.toml"
+
+abbrev pub bare_row : Bare → Row
+bare_row bare = plain_row kind.Bare bare.path (lacking_words bare.lacking)
+
+-- ---- the whole
+
+abbrev pub list_rows : Problems → List Row
+list_rows p = map missing_row p.missing ++ (map unused_row p.unused ++ map bare_row p.bare)
+
+-- a row for each problem: the flaws, then the three lists
+abbrev pub AreRows : Problems → List Row → Type 0
+AreRows p rows = (told : List Row) × AreFlawRows p.flaws told × (rows ≡ told ++ list_rows p)

@@ -1,0 +1,236 @@
+//! What is told of each problem.
+
+ghost use Rattle.std.specs.Prelude.{◌≡◌, ◌++◌, ◌<◌, None, IfOk, OnOk, map, codes};
+ghost use Rattle.std.specs.String.{string_bytes};
+ghost use Rattle.desk_expr.specs.Faults.{fault_number};
+ghost use Rattle.desk_gather.specs.declared.flaw.Flaw.TheVariants.{BadAnnotation, BadExpression};
+ghost use Rattle.desk_problems.specs.Rows.{flaw_row, annotation_words, StopsAt, expression_words, stop_words, IsFlawRow, AreFlawRows, missing_row, unused_row, lacking_words, bare_row, list_rows, AreRows};
+
+use crate::bare::{Bare, Lacking};
+use crate::problems::Problems;
+use crate::row::{Kind, Row, row_of};
+use desk_annotations::AnnotationFault;
+use desk_base::{Items, Text};
+use desk_expr::{ParseFault, parse};
+use desk_gather::Flaw;
+use std::alloc::{AllocError, Global};
+
+// What is wrong with an annotation.
+fn annotation_words(fault: AnnotationFault) -> &'static str
+    ensures { result.now ≡ annotation_words fault }
+{
+    match fault {
+        AnnotationFault::NoPath => "no path: give it the paths of its files",
+        AnnotationFault::BadKind => "a value of another kind: write a text or a list of texts",
+        AnnotationFault::BadPrecedence =>
+            "an unknown precedence: write closest, aggregate or override",
+        AnnotationFault::BadExpression => {
+            "a licence that is no expression: write one as in SPDX 2.3, Annex D"
+        }
+    }
+}
+
+// The row of an annotation.
+fn annotation_row(
+    alloc: Global,
+    path: &str,
+    index: usize,
+    fault: AnnotationFault,
+) -> Result<Row, AllocError>
+    ensures { IfOk result (λ row. row ≡ flaw_row (BadAnnotation path.now index fault) None) }
+{
+    let words = annotation_words(fault);
+    let message = format!(in alloc; "annotation {index}, counted from 0, has {words}")?;
+    row_of(alloc, Kind::BadAnnotation, path, message.as_str())
+}
+
+// The fault of a text, unless it is want of memory.
+fn told(fault: ParseFault) -> Result<ParseFault, AllocError>
+    ensures { IfOk result (λ told. (told ≡ fault) × (0 < fault_number fault)) }
+{
+    match fault {
+        ParseFault::Memory(error) => Err(error),
+        _ => Ok(fault),
+    }
+}
+
+// Where a text stops that is no licence expression.
+fn stop_of(alloc: Global, text: &str) -> Result<Option<ParseFault>, AllocError>
+    ensures { IfOk result (StopsAt text.now) }
+{
+    match parse(alloc, text) {
+        Ok(_) => Ok(None),
+        Err(fault) => Ok(Some(told(fault)?)),
+    }
+}
+
+// That, in words.
+fn expression_words(alloc: Global, stop: Option<ParseFault>) -> Result<String, AllocError>
+    ensures { IfOk result (λ words. string_bytes words ≡ expression_words stop) }
+{
+    match stop {
+        Some(fault) => {
+            let name = fault.name();
+            let place = fault.place();
+            format!(in alloc;
+                "the licence is no expression, {name} at {place}: mend it, or have the line ignored"
+            )
+        }
+        None => String::from_str(
+            alloc,
+            "the licence is no expression: mend it, or have the line ignored",
+        ),
+    }
+}
+
+// The row of a tag that is no licence expression.
+fn expression_row(alloc: Global, path: &str, line: u64, text: &str) -> Result<Row, AllocError>
+    ensures { IfOk result (IsFlawRow (BadExpression path.now line text.now)) }
+{
+    let stop = stop_of(alloc, text)?;
+    let message = expression_words(alloc, stop)?;
+    Ok(Row {
+        kind: Kind::BadExpression,
+        path: Text::of(alloc, path)?,
+        line: Some(line),
+        message: Text::of(alloc, message.as_str())?,
+    })
+}
+
+// The row of a flaw.
+fn flaw_row(alloc: Global, flaw: &Flaw) -> Result<Row, AllocError>
+    ensures { IfOk result (IsFlawRow flaw.now) }
+{
+    match flaw {
+        Flaw::TooManyFiles => row_of(
+            alloc,
+            Kind::TooManyFiles,
+            ".",
+            "more than 10,000 files: take away what isn't of the source",
+        ),
+        Flaw::BadPath(path) => row_of(
+            alloc,
+            Kind::BadPath,
+            path.as_str(),
+            "a path with a control byte, a blank at its end, or an empty part, . or ..: give the file another",
+        ),
+        Flaw::TwicePath(path) => row_of(
+            alloc,
+            Kind::TwicePath,
+            path.as_str(),
+            "a path that stands twice: keep one of the files",
+        ),
+        Flaw::BadToml(path) => row_of(
+            alloc,
+            Kind::BadToml,
+            path.as_str(),
+            "no TOML document of version 1: mend it, with version = 1 at its top",
+        ),
+        Flaw::BadAnnotation(path, index, fault) => {
+            annotation_row(alloc, path.as_str(), *index, *fault)
+        }
+        Flaw::BadExpression(path, line, text) => {
+            expression_row(alloc, path.as_str(), *line, text.as_str())
+        }
+    }
+}
+
+// The rows of the flaws.
+fn flaw_rows(alloc: Global, flaws: &[Flaw]) -> Result<Vec<Row>, AllocError>
+    ensures { IfOk result (λ rows. AreFlawRows flaws.now rows.items) }
+{
+    let mut rows = Vec::new(alloc);
+    for flaw in flaws {
+        rows.push(flaw_row(alloc, flaw)?)?;
+    }
+    Ok(rows)
+}
+
+// The row of a text that is missing.
+fn missing_row(alloc: Global, key: &str) -> Result<Row, AllocError>
+    ensures { IfOk result (λ row. row ≡ missing_row key.now) }
+{
+    let message = format!(in alloc;
+        "no text of {key}, which is used: add it as LICENSES/{key}.txt"
+    )?;
+    row_of(alloc, Kind::Missing, "LICENSES/", message.as_str())
+}
+
+fn add_missing(alloc: Global, rows: &mut Vec<Row>, keys: &[Text]) -> Result<(), AllocError>
+    ensures { OnOk result (rows.new.items ≡ rows.old.items ++ map missing_row keys.now) }
+{
+    for key in keys {
+        rows.push(missing_row(alloc, key.as_str())?)?;
+    }
+    Ok(())
+}
+
+// The row of a text that nothing uses.
+fn unused_row(alloc: Global, path: &str) -> Result<Row, AllocError>
+    ensures { IfOk result (λ row. row ≡ unused_row path.now) }
+{
+    row_of(
+        alloc,
+        Kind::Unused,
+        path,
+        "no file uses this text: take it away, or state its licence where it is used",
+    )
+}
+
+fn add_unused(alloc: Global, rows: &mut Vec<Row>, paths: &[Text]) -> Result<(), AllocError>
+    ensures { OnOk result (rows.new.items ≡ rows.old.items ++ map unused_row paths.now) }
+{
+    for path in paths {
+        rows.push(unused_row(alloc, path.as_str())?)?;
+    }
+    Ok(())
+}
+
+fn lacking_words(lacking: Lacking) -> &'static str
+    ensures { result.now ≡ lacking_words lacking }
+{
+    match lacking {
+        Lacking::Notice => {
+            "no copyright notice: state one in the file, beside it in FILE.license, or in REUSE.toml"
+        }
+        Lacking::Licence => {
+            "no licence: state one in the file, beside it in FILE.license, or in REUSE.toml"
+        }
+        Lacking::Both => {
+            "no copyright notice and no licence: state them in the file, beside it in FILE.license, or in REUSE.toml"
+        }
+    }
+}
+
+// The row of a file that lacks something.
+fn bare_row(alloc: Global, bare: &Bare) -> Result<Row, AllocError>
+    ensures { IfOk result (λ row. row ≡ bare_row bare.now) }
+{
+    row_of(
+        alloc,
+        Kind::Bare,
+        bare.path.as_str(),
+        lacking_words(bare.lacking),
+    )
+}
+
+fn add_bare(alloc: Global, rows: &mut Vec<Row>, files: &[Bare]) -> Result<(), AllocError>
+    ensures { OnOk result (rows.new.items ≡ rows.old.items ++ map bare_row files.now) }
+{
+    for bare in files {
+        rows.push(bare_row(alloc, bare)?)?;
+    }
+    Ok(())
+}
+
+/// What is told of each problem: the flaws first, then the texts that are missing, those that nothing uses, and the files that lack
+/// something. The only error is want of memory.
+pub fn rows_of(alloc: Global, problems: &Problems) -> Result<Vec<Row>, AllocError>
+    ensures { IfOk result (λ rows. AreRows problems.now rows.items) }
+{
+    let mut rows = flaw_rows(alloc, problems.flaws.as_slice())?;
+    add_missing(alloc, &mut rows, problems.missing.as_slice())?;
+    add_unused(alloc, &mut rows, problems.unused.as_slice())?;
+    add_bare(alloc, &mut rows, problems.bare.as_slice())?;
+    Ok(rows)
+}

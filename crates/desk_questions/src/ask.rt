@@ -1,0 +1,179 @@
+//! Questions are answered.
+
+ghost use Rattle.std.specs.Prelude.{◌≡◌, ℕ, IfOk, IfErr, map, filter, length, count_by};
+ghost use Rattle.desk_rows.specs.Readings.{Readings};
+ghost use Rattle.desk_rows.specs.Faults.{MayFail};
+ghost use Rattle.desk_rows.specs.Keys.{is_change_of};
+ghost use Rattle.desk_rows.specs.Queries.{duty_line, totals_of};
+ghost use Rattle.desk_rows.specs.States.{is_open, is_met, is_waived, is_withdrawn};
+ghost use Rattle.desk_access.specs.Seen.{Looked, OfRows};
+ghost use Rattle.desk_history.specs.FromTables.{queried_from, line_found};
+
+use crate::findings::findings;
+use crate::listing::{alternatives, cheapest};
+use crate::packages::release;
+use desk_access::store::Store;
+use desk_access::texts::Texts;
+use desk_base::{Items, Text};
+use desk_rows::{Answer, DutyLine, DutyRow, DutyState, Fault, Query, Refusal, Totals};
+use std::alloc::Global;
+
+#[tactic(auto, using(desk_access::proofs::Chains::same_then_kept, desk_access::proofs::Chains::same_then_same))]
+/// The lines of duties, each with the day of its last change.
+fn duty_lines<S: Store>(
+    alloc: Global,
+    store: &mut S,
+    rows: Vec<DutyRow>,
+) -> Result<Items<DutyLine>, Fault>
+    ensures lines { IfOk result (λ lines. OfRows (λ t. lines ≡ map (line_found t) rows.items) (S.seen store.old) (S.seen store.new)) }
+    ensures kept { Looked (S.seen store.old) (S.seen store.new) result }
+    ensures fault { IfErr result (MayFail S.tells) }
+{
+    let mut lines = Items::new(alloc);
+    for row in rows {
+        let day = store.last_day(row.number)?;
+        let line = DutyLine {
+            number: row.number,
+            document: row.document,
+            package_id: row.package_id,
+            term: row.term,
+            rule: row.rule,
+            code: row.code,
+            state: row.state,
+            day,
+        };
+        let Ok(()) = lines.push(line) else {
+            return Err(Fault::Memory);
+        };
+    }
+    Ok(lines)
+}
+
+fn is_open(state: DutyState) -> bool
+    ensures { result ≡ is_open state }
+{
+    matches!(state, DutyState::IsOpen)
+}
+
+fn count_open(rows: &[DutyRow]) -> u64
+    ensures { result ≡ count_by (λ row. is_open row.state) rows.now }
+{
+    rows.iter().filter(|row| is_open(row.state)).count() as u64
+}
+
+fn is_met(state: DutyState) -> bool
+    ensures { result ≡ is_met state }
+{
+    matches!(state, DutyState::Met)
+}
+
+fn count_met(rows: &[DutyRow]) -> u64
+    ensures { result ≡ count_by (λ row. is_met row.state) rows.now }
+{
+    rows.iter().filter(|row| is_met(row.state)).count() as u64
+}
+
+fn is_waived(state: DutyState) -> bool
+    ensures { result ≡ is_waived state }
+{
+    matches!(state, DutyState::Waived)
+}
+
+fn count_waived(rows: &[DutyRow]) -> u64
+    ensures { result ≡ count_by (λ row. is_waived row.state) rows.now }
+{
+    rows.iter().filter(|row| is_waived(row.state)).count() as u64
+}
+
+fn is_withdrawn(state: DutyState) -> bool
+    ensures { result ≡ is_withdrawn state }
+{
+    matches!(state, DutyState::Withdrawn)
+}
+
+fn count_withdrawn(rows: &[DutyRow]) -> u64
+    ensures { result ≡ count_by (λ row. is_withdrawn row.state) rows.now }
+{
+    rows.iter().filter(|row| is_withdrawn(row.state)).count() as u64
+}
+
+/// How many of some duties stand where.
+fn totals_of(rows: &[DutyRow]) -> Totals
+    ensures { result ≡ totals_of rows.now }
+{
+    Totals {
+        raised: rows.len() as u64,
+        still_open: count_open(rows),
+        met: count_met(rows),
+        waived: count_waived(rows),
+        withdrawn: count_withdrawn(rows),
+    }
+}
+
+/// The duties of a release, by number.
+pub fn duties<S: Store>(alloc: Global, store: &mut S, release: &Text) -> Result<Answer, Fault>
+    ensures answer { (w : Readings) → IfOk result (λ answer. OfRows (λ t. answer ≡ queried_from w t (Query.Duties release.now)) (S.seen store.old) (S.seen store.new)) }
+    ensures kept { Looked (S.seen store.old) (S.seen store.new) result }
+    ensures fault { IfErr result (MayFail S.tells) }
+{
+    if store.release(release.as_str())?.is_none() {
+        return Ok(Answer::Refused(Refusal::UnknownRelease));
+    }
+    let rows = store.duties_of(release.as_str())?;
+    Ok(Answer::Duties(duty_lines(alloc, store, rows)?))
+}
+
+/// How many duties of a release stand where.
+pub fn totals<S: Store>(store: &mut S, release: &Text) -> Result<Answer, Fault>
+    ensures answer { (w : Readings) → IfOk result (λ answer. OfRows (λ t. answer ≡ queried_from w t (Query.Totals release.now)) (S.seen store.old) (S.seen store.new)) }
+    ensures kept { Looked (S.seen store.old) (S.seen store.new) result }
+    ensures fault { IfErr result (MayFail S.tells) }
+{
+    if store.release(release.as_str())?.is_none() {
+        return Ok(Answer::Refused(Refusal::UnknownRelease));
+    }
+    let rows = store.duties_of(release.as_str())?;
+    Ok(Answer::Totals(totals_of(rows.as_slice())))
+}
+
+/// The changes of a duty, by step.
+pub fn changes<S: Store>(store: &mut S, duty: u64) -> Result<Answer, Fault>
+    ensures answer { (w : Readings) → IfOk result (λ answer. OfRows (λ t. answer ≡ queried_from w t (Query.Changes duty)) (S.seen store.old) (S.seen store.new)) }
+    ensures kept { Looked (S.seen store.old) (S.seen store.new) result }
+    ensures fault { IfErr result (MayFail S.tells) }
+{
+    if store.duty(duty)?.is_none() {
+        return Ok(Answer::Refused(Refusal::UnknownDuty));
+    }
+    let rows = store.changes_of(duty)?;
+    Ok(Answer::Changes(Items::from_vec(rows)))
+}
+
+/// Answers a question.
+pub fn answer_to<T: Texts, S: Store>(
+    alloc: Global,
+    texts: &T,
+    store: &mut S,
+    query: &Query,
+) -> Result<Answer, Fault>
+    ensures answer { (w : Readings) → T.are_right w → IfOk result (λ answer. OfRows (λ t. answer ≡ queried_from w t query.now) (S.seen store.old) (S.seen store.new)) }
+    ensures kept { Looked (S.seen store.old) (S.seen store.new) result }
+    ensures fault { IfErr result (MayFail S.tells) }
+{
+    match query {
+        Query::Duties { release } => duties(alloc, store, release),
+        Query::Totals { release } => totals(store, release),
+        Query::Changes { duty } => changes(store, *duty),
+        Query::Findings { document } => findings(alloc, texts, store, *document),
+        Query::Release { release: name } => release(alloc, texts, store, name),
+        Query::Alternatives {
+            document,
+            package_id,
+        } => alternatives(alloc, texts, store, *document, package_id),
+        Query::Cheapest {
+            document,
+            package_id,
+            form,
+        } => cheapest(alloc, texts, store, *document, package_id, form),
+    }
+}

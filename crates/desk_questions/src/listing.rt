@@ -1,0 +1,214 @@
+//! The sets of terms that a package's conclusion in force is true under.
+
+ghost use Rattle.std.specs.Prelude.{◌≡◌, IfOk, IfErr, find, is_some, map};
+ghost use Rattle.desk_rows.specs.Readings.{Readings};
+ghost use Rattle.desk_rows.specs.Faults.{MayFail};
+ghost use Rattle.desk_rows.specs.Keys.{is_document, is_package};
+ghost use Rattle.desk_rows.specs.Listings.{list_refusal, listed, priced, rule_cost, term_cost, of_package, told_of};
+ghost use Rattle.desk_access.specs.Seen.{Looked, OfRows};
+ghost use Rattle.desk_history.specs.FromTables.{conclusion_found, queried_from, rules_found};
+ghost use Rattle.desk_questions.specs.Found.{priced_found, told_found};
+ghost use Rattle.desk_rows.specs.declared.row.PackageRow.{PackageRow};
+ghost use Rattle.desk_rows.specs.declared.command.Answer.{Answer};
+
+use desk_access::store::Store;
+use desk_access::texts::Texts;
+use desk_base::Text;
+use desk_packages::{conclusion_of, rule_adopted};
+use desk_rows::{Answer, Conclusion, Fault, ListFault, MAX_COST, PackageRow, Query, Refusal, Rule};
+use std::alloc::Global;
+
+fn list_refusal(fault: ListFault) -> Refusal
+    ensures { result ≡ list_refusal fault }
+{
+    match fault {
+        ListFault::TooManyTerms => Refusal::TooManyTerms,
+        ListFault::TooMany => Refusal::TooMany,
+    }
+}
+
+fn unconcluded(row: PackageRow) -> Answer
+    ensures { result ≡ Answer.Refused (Refusal.NoConclusion row.document row.id) }
+{
+    Answer::Refused(Refusal::NoConclusion {
+        document: row.document,
+        package_id: row.id,
+    })
+}
+
+fn listed<T: Texts>(alloc: Global, texts: &T, conclusion: &Conclusion) -> Result<Answer, Fault>
+    ensures answer { (w : Readings) → T.are_right w → IfOk result (λ answer. answer ≡ listed (w.alternatives conclusion.now.profile conclusion.now.text)) }
+    ensures fault { IfErr result (λ fault. fault ≡ Fault.Memory) }
+{
+    match texts.alternatives(alloc, conclusion.profile, conclusion.text.as_str())? {
+        Ok(sets) => Ok(Answer::Alternatives(sets)),
+        Err(fault) => Ok(Answer::Refused(list_refusal(fault))),
+    }
+}
+
+/// A package of a document, or why there is none.
+fn package_of<S: Store>(
+    store: &mut S,
+    document: u64,
+    package_id: &Text,
+) -> Result<Result<PackageRow, Refusal>, Fault>
+    ensures found { IfOk result (λ found. OfRows (λ t. (tell : PackageRow → Answer) → told_found tell found ≡ of_package tell (is_some (find (is_document document) t.document)) (find (is_package document package_id.now) t.packages)) (S.seen store.old) (S.seen store.new)) }
+    ensures kept { Looked (S.seen store.old) (S.seen store.new) result }
+    ensures fault { IfErr result (MayFail S.tells) }
+{
+    if store.document(document)?.is_none() {
+        return Ok(Err(Refusal::UnknownDocument));
+    }
+    match store.package_row(document, package_id.as_str())? {
+        Some(row) => Ok(Ok(row)),
+        None => Ok(Err(Refusal::UnknownPackage)),
+    }
+}
+
+/// The minimal sets of terms that the conclusion in force for a package is true under, if it has one.
+fn listed_for<T: Texts, S: Store>(
+    alloc: Global,
+    texts: &T,
+    store: &mut S,
+    row: PackageRow,
+) -> Result<Answer, Fault>
+    ensures answer { (w : Readings) → T.are_right w → IfOk result (λ answer. OfRows (λ t. answer ≡ told_of (λ c. listed (w.alternatives c.profile c.text)) (conclusion_found w t row) row) (S.seen store.old) (S.seen store.new)) }
+    ensures kept { Looked (S.seen store.old) (S.seen store.new) result }
+    ensures fault { IfErr result (MayFail S.tells) }
+{
+    match conclusion_of(alloc, texts, store, &row)? {
+        Some(conclusion) => listed(alloc, texts, &conclusion),
+        None => Ok(unconcluded(row)),
+    }
+}
+
+/// The minimal sets of terms that the conclusion in force for a package is true under, in the order of sets.
+pub fn alternatives<T: Texts, S: Store>(
+    alloc: Global,
+    texts: &T,
+    store: &mut S,
+    document: u64,
+    package_id: &Text,
+) -> Result<Answer, Fault>
+    ensures answer { (w : Readings) → T.are_right w → IfOk result (λ answer. OfRows (λ t. answer ≡ queried_from w t (Query.Alternatives document package_id.now)) (S.seen store.old) (S.seen store.new)) }
+    ensures kept { Looked (S.seen store.old) (S.seen store.new) result }
+    ensures fault { IfErr result (MayFail S.tells) }
+{
+    match package_of(store, document, package_id)? {
+        Ok(row) => listed_for(alloc, texts, store, row),
+        Err(refusal) => Ok(Answer::Refused(refusal)),
+    }
+}
+
+fn rule_cost(rule: &Rule) -> u64
+    ensures { result ≡ rule_cost rule.now }
+{
+    (rule.codes.as_slice().len() as u64).min(MAX_COST)
+}
+
+/// How many duties the adopted form of a term of a document owes in a form, where it has a rule.
+fn term_cost<T: Texts, S: Store>(
+    alloc: Global,
+    texts: &T,
+    store: &mut S,
+    form: &Text,
+    document: u32,
+    term: &Text,
+) -> Result<Option<u64>, Fault>
+    ensures found { (w : Readings) → T.are_right w → IfOk result (λ cost. OfRows (λ t. cost ≡ term_cost w t.adoption (rules_found t) form.now document term.now) (S.seen store.old) (S.seen store.new)) }
+    ensures kept { Looked (S.seen store.old) (S.seen store.new) result }
+    ensures fault { IfErr result (MayFail S.tells) }
+{
+    match rule_adopted(alloc, texts, store, form, document, term)? {
+        Some(rule) => Ok(Some(rule_cost(&rule))),
+        None => Ok(None),
+    }
+}
+
+#[tactic(auto, using(desk_access::proofs::Chains::same_then_kept, desk_access::proofs::Chains::same_then_same))]
+/// What each of some terms of a document costs in a form.
+fn term_costs<T: Texts, S: Store>(
+    alloc: Global,
+    texts: &T,
+    store: &mut S,
+    form: &Text,
+    document: u32,
+    terms: &[Text],
+) -> Result<Vec<Option<u64>>, Fault>
+    ensures found { (w : Readings) → T.are_right w → IfOk result (λ costs. OfRows (λ t. costs.items ≡ map (term_cost w t.adoption (rules_found t) form.now document) terms.now) (S.seen store.old) (S.seen store.new)) }
+    ensures kept { Looked (S.seen store.old) (S.seen store.new) result }
+    ensures fault { IfErr result (MayFail S.tells) }
+{
+    let mut costs = Vec::new(alloc);
+    for term in terms {
+        let cost = term_cost(alloc, texts, store, form, document, term)?;
+        let Ok(()) = costs.push(cost) else {
+            return Err(Fault::Memory);
+        };
+    }
+    Ok(costs)
+}
+
+/// The cheapest set of terms that a conclusion is true under, by what its terms of a document cost in a form.
+fn priced<T: Texts, S: Store>(
+    alloc: Global,
+    texts: &T,
+    store: &mut S,
+    form: &Text,
+    document: u32,
+    conclusion: &Conclusion,
+) -> Result<Answer, Fault>
+    ensures answer { (w : Readings) → T.are_right w → IfOk result (λ answer. OfRows (λ t. answer ≡ priced (w.cheapest conclusion.now.profile conclusion.now.text (term_cost w t.adoption (rules_found t) form.now document))) (S.seen store.old) (S.seen store.new)) }
+    ensures kept { Looked (S.seen store.old) (S.seen store.new) result }
+    ensures fault { IfErr result (MayFail S.tells) }
+{
+    let profile = conclusion.profile;
+    let text = conclusion.text.as_str();
+    let terms = texts.terms(alloc, profile, text)?;
+    let costs = term_costs(alloc, texts, store, form, document, terms.as_slice())?;
+    match texts.cheapest(alloc, profile, text, costs.as_slice())? {
+        Ok(found) => Ok(Answer::Cheapest(found)),
+        Err(fault) => Ok(Answer::Refused(list_refusal(fault))),
+    }
+}
+
+/// The cheapest set of terms that the conclusion in force for a package is true under, if the catalogue in force has the form and the
+/// package a conclusion.
+fn priced_for<T: Texts, S: Store>(
+    alloc: Global,
+    texts: &T,
+    store: &mut S,
+    form: &Text,
+    row: PackageRow,
+) -> Result<Answer, Fault>
+    ensures answer { (w : Readings) → T.are_right w → IfOk result (λ answer. OfRows (λ t. answer ≡ priced_found w t form.now row) (S.seen store.old) (S.seen store.new)) }
+    ensures kept { Looked (S.seen store.old) (S.seen store.new) result }
+    ensures fault { IfErr result (MayFail S.tells) }
+{
+    if !store.has_form(form.as_str())? {
+        return Ok(Answer::Refused(Refusal::UnknownForm));
+    }
+    match conclusion_of(alloc, texts, store, &row)? {
+        Some(conclusion) => priced(alloc, texts, store, form, row.document, &conclusion),
+        None => Ok(unconcluded(row)),
+    }
+}
+
+/// The set of terms that owes the fewest duties in a form, of those that the conclusion in force for a package is true under.
+pub fn cheapest<T: Texts, S: Store>(
+    alloc: Global,
+    texts: &T,
+    store: &mut S,
+    document: u64,
+    package_id: &Text,
+    form: &Text,
+) -> Result<Answer, Fault>
+    ensures answer { (w : Readings) → T.are_right w → IfOk result (λ answer. OfRows (λ t. answer ≡ queried_from w t (Query.Cheapest document package_id.now form.now)) (S.seen store.old) (S.seen store.new)) }
+    ensures kept { Looked (S.seen store.old) (S.seen store.new) result }
+    ensures fault { IfErr result (MayFail S.tells) }
+{
+    match package_of(store, document, package_id)? {
+        Ok(row) => priced_for(alloc, texts, store, form, row),
+        Err(refusal) => Ok(Answer::Refused(refusal)),
+    }
+}

@@ -1,0 +1,61 @@
+-- The sets of terms that the expression of a text is true under (SPDX 2.3, Annex D.4), printed.
+use Rattle.std.specs.Prelude.{◌≡◌, ◌⊎◌, ℕ, List, [], ◌∷◌, map, Option, Some, None, Result, Ok, Err, if◌then◌else◌}
+use Rattle.std.specs.Option.{option_map}
+use Rattle.std.specs.Ordering.{is_eq}
+use Rattle.desk_base.specs.declared.profile.Profile.{Profile}
+use Rattle.desk_expr.specs.declared.term.Term.{Term}
+use Rattle.desk_expr.specs.Tree.{Tree}
+use Rattle.desk_expr.specs.Occurring.{term_order, AreTermsOf}
+use Rattle.desk_expr.specs.Printing.{printed_term}
+use Rattle.desk_alts.specs.Sets.{AreAlternatives, HasMoreTerms, HasWideFront}
+use Rattle.desk_alts.specs.Faults.{IsListable}
+use Rattle.desk_alts.specs.Costs.{IsCheapest, HasNoCosts}
+use Rattle.desk_rows.specs.Listings.{at_most}
+use Rattle.desk_rows.specs.declared.reading.Cheapest.{Cheapest}
+use Rattle.desk_rows.specs.declared.reading.ListFault.{ListFault}
+use Rattle.desk_rows.specs.declared.reading.ListFault.TheVariants.{TooManyTerms, TooMany}
+use Rattle.desk_texts.specs.Expressions.{IsExpression, IsNoExpression}
+
+-- why an expression isn't listed
+abbrev pub IsListFault : Tree → ListFault → Type 0
+IsListFault e TooManyTerms = HasMoreTerms 128 e
+IsListFault e TooMany = (HasMoreTerms 128 e → ⊥) × HasWideFront e
+
+-- the minimal sets of an expression, printed, or why they aren't listed
+abbrev pub IsListing : Tree → Result (List (List (List ℕ))) ListFault → Type 0
+IsListing e (Ok sets) = IsListable e × (found : List (List Term)) × AreAlternatives e found × (sets ≡ map (map printed_term) found)
+IsListing e (Err fault) = IsListFault e fault
+
+-- those of the expression of a value; a value that is none has none
+abbrev pub Lists : Profile → List ℕ → Result (List (List (List ℕ))) ListFault → Type 0
+Lists profile text listing = ((e : Tree) × IsExpression profile text e × IsListing e listing) ⊎ (IsNoExpression profile text × (listing ≡ Ok []))
+
+-- the distinct terms of the expression of a value, printed, in order
+abbrev pub HasTerms : Profile → List ℕ → List (List ℕ) → Type 0
+HasTerms profile text terms =
+    ((e : Tree) × (ts : List Term) × IsExpression profile text e × AreTermsOf e ts × (terms ≡ map printed_term ts))
+    ⊎ (IsNoExpression profile text × (terms ≡ []))
+
+-- what a term costs, by what its printed text does
+abbrev pub cost_of : (List ℕ → Option ℕ) → Term → Option ℕ
+cost_of cost t = cost (printed_term t)
+
+-- the cheapest set of all that an expression is true under, printed, if there is one, or why its sets aren't listed
+abbrev pub IsPriced : (List ℕ → Option ℕ) → Tree → Result (Option Cheapest) ListFault → Type 0
+IsPriced cost e (Ok (Some c)) = IsListable e × (set : List Term) × IsCheapest (cost_of cost) e c.cost set × (c.terms ≡ map printed_term set)
+IsPriced cost e (Ok None) = IsListable e × HasNoCosts (cost_of cost) e
+IsPriced cost e (Err fault) = IsListFault e fault
+
+-- that of the expression of a value; a value that is none has none
+abbrev pub Prices : Profile → List ℕ → (List ℕ → Option ℕ) → Result (Option Cheapest) ListFault → Type 0
+Prices profile text cost priced = ((e : Tree) × IsExpression profile text e × IsPriced cost e priced) ⊎ (IsNoExpression profile text × (priced ≡ Ok None))
+
+-- the cost that stands at a term's place, none past the costs
+abbrev pub cost_at : List Term → List (Option ℕ) → Term → Option ℕ
+cost_at [] costs t = None
+cost_at (x ∷ xs) [] t = None
+cost_at (x ∷ xs) (cost ∷ costs) t = if is_eq (term_order x t) then cost else cost_at xs costs t
+
+-- at most 1,000,000
+abbrev pub cost_within : List Term → List (Option ℕ) → Term → Option ℕ
+cost_within ts costs t = option_map (at_most 1000000) (cost_at ts costs t)

@@ -1,0 +1,40 @@
+#!/bin/sh
+# Has a built program tell what a checkout of this tree lacks to be REUSE-compliant: nothing is wanted. Then its document is written and
+# imported, and has no findings.
+#
+#   tests/lint.sh PROGRAM
+#
+# The files are those that git knows, in a folder of their own, so that what was built or kept doesn't count. Where there is no git,
+# as in an unpacked archive, the tree is taken as it is, without what is built.
+set -eu
+
+here=$(unset CDPATH; cd -- "$(dirname -- "$0")/.." && pwd)
+case ${1:?the program to run} in
+    /*) program=$1 ;;
+    *) program=$(pwd)/$1 ;;
+esac
+
+scratch=$(mktemp -d)
+trap 'rm -rf "$scratch"' EXIT
+trap 'exit 1' HUP INT TERM
+
+cd "$here"
+if git ls-files >"$scratch/list" 2>/dev/null && [ -s "$scratch/list" ]; then
+    git ls-files -z >"$scratch/names"
+else
+    find . -type d \( -name out -o -name build -o -name .git \) -prune -o -type f -print0 >"$scratch/names"
+fi
+mkdir "$scratch/tree"
+tar -c --null -T "$scratch/names" -f - | tar -x -C "$scratch/tree" -f -
+"$program" lint "$scratch/tree"
+"$program" gather "$scratch/tree" --name desk --namespace https://example.org/desk --created 2026-01-01T00:00:00Z >"$scratch/document"
+python3 - "$scratch/document" <<'END' >"$scratch/requests"
+import json, sys
+
+text = open(sys.argv[1], encoding="utf-8", newline="").read()
+for request in {"do": "import", "text": text}, {"ask": "findings", "document": 1}:
+    print(json.dumps(request))
+END
+"$program" script <"$scratch/requests" >"$scratch/replies"
+printf '{"document":1,"new":true}\n{"rows":[]}\n' | cmp - "$scratch/replies"
+echo 'Its document is imported and has no findings.'
