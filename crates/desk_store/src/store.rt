@@ -32,7 +32,12 @@ pub struct SqlStore<S: Alter> {
 impl<S: Alter> SqlStore<S> {
     /// The store over a connection that is in no transaction. Where the connection shows tables that have so many rows, and these are
     /// the forms of the catalogue in force, they are the store's rows.
-    pub fn over(alloc: Global, conn: Connection<S>, counts: Counts, forms: Items<Text>) -> SqlStore<S>
+    pub fn over(
+        alloc: Global,
+        conn: Connection<S>,
+        counts: Counts,
+        forms: Items<Text>,
+    ) -> SqlStore<S>
         requires { conn.in_transaction ≡ false }
         ensures holds { (t : Tables) → known_of t ≡ known_by counts forms → (seen_of (state S.Store conn)).holds t → (⟦<SqlStore<S> as Store>⟧.seen result).holds t }
         ensures same { result.conn ≡ conn }
@@ -115,7 +120,13 @@ impl<S: Alter> Store for SqlStore<S> {
     }
 
     fn rule(&mut self, term: &str, form: &str) -> Result<Option<Rule>, Fault> {
-        desk_lookups::rule(self.alloc, &mut self.conn, self.counts.revisions, term, form)
+        desk_lookups::rule(
+            self.alloc,
+            &mut self.conn,
+            self.counts.revisions,
+            term,
+            form,
+        )
     }
 
     fn document_count(&mut self) -> Result<u64, Fault> {

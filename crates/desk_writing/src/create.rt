@@ -96,9 +96,7 @@ fn has_meta(schema: &Schema) -> bool
     ensures { result ≡ has_meta schema.now }
 {
     let tables = schema.tables.as_slice();
-    tables
-        .iter()
-        .any(|table| same_name(table.name.as_slice(), "meta".as_bytes()))
+    tables.iter().any(|table| same_name(table.name.as_slice(), "meta".as_bytes()))
 }
 
 /// Whether nothing stands in a database.
