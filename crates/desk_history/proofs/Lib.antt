@@ -1,5 +1,5 @@
 mod Rows
-mod Orders
+pub mod Orders
 mod Same
 pub mod Lookups
 mod Chosen
@@ -12,7 +12,7 @@ mod Freezing
 pub mod Steps
 pub mod Queries
 pub mod Running
-mod Members
+pub mod Members
 mod RaisedLaw
 mod Counting
 mod Minimal

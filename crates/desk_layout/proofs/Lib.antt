@@ -1,0 +1,12 @@
+pub mod Edits
+pub mod Keeps
+pub mod Orders
+pub mod Queries
+pub mod Steps
+pub mod Writes
+pub mod Casts
+pub mod Statements
+pub mod Ascending
+pub mod Orderly
+pub mod Counting
+pub mod Apart

@@ -1,0 +1,16 @@
+pub mod Ties
+pub mod Selects
+pub mod Keyed
+pub mod Calls
+pub mod HolderLemmas
+pub mod StandingLemmas
+pub mod LastDay
+pub mod Ruling
+pub mod Ending
+pub mod Among
+pub mod Chains
+pub mod Loops
+pub mod DutyQueries
+pub mod ReleaseQueries
+pub mod DocumentQueries
+pub mod OfficeQueries

@@ -1,0 +1,16 @@
+use Rattle.std.proofs.Common.{◌≡◌, filter, map, length}
+use Rattle.sqlite.specs.Held.{state}
+use Rattle.desk_layout.specs.Held.{seen_of}
+use Rattle.desk_rows.specs.Keys.{is_change_of}
+use Rattle.desk_lookups.specs.Waivers.{ending_cells, waivers_in}
+use Rattle.desk_lookups.proofs.Chains.{same_then_same, of_rows_after}
+use Rattle.desk_lookups.proofs.changes.select_both.Goals as goal
+
+pub returns-clause-waivers : goal.returns-clause-waivers
+returns-clause-waivers g c =
+    of_rows_after (seen_of (state g.S.Store c.args.conn.now)) (seen_of (state g.S.Store c.select_changes_of.new.conn)) (seen_of (state g.S.Store c.select_waivers_of.new.conn)) c.in_ok-changes.ensures.kept
+    (λ t. length t.duty ≡ c.args.duties → c.in_ok-waivers.waivers.items ≡ map ending_cells (waivers_in (filter (is_change_of c.args.duty) t.changes))) c.in_ok-waivers.ensures.found
+
+pub returns-clause-kept : goal.returns-clause-kept
+returns-clause-kept g c =
+    same_then_same (seen_of (state g.S.Store c.args.conn.now)) (seen_of (state g.S.Store c.select_changes_of.new.conn)) (seen_of (state g.S.Store c.select_waivers_of.new.conn)) c.in_ok-changes.ensures.kept c.in_ok-waivers.ensures.kept

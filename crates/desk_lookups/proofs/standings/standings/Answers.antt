@@ -1,0 +1,19 @@
+use Rattle.std.proofs.Common.{◌++◌, ◌∷◌, [], ap₂, sym, ◌∙◌}
+use Rattle.sqlite.specs.Held.{state}
+use Rattle.desk_history.specs.FromTables.{standing_found}
+use Rattle.desk_layout.specs.Held.{seen_of}
+use Rattle.desk_lookups.proofs.Chains.{same_then_same}
+use Rattle.desk_lookups.proofs.StandingLemmas.{map_more}
+use Rattle.desk_lookups.proofs.standings.standings.Goals as goal
+
+pub loop-row-preserved : goal.loop-row-preserved
+loop-row-preserved g c =
+    let was = c.loop-row.invariant in
+    let one = c.in_ok-standing.ensures in
+    record {
+      same = same_then_same (seen_of (state g.S.Store c.args.conn.now)) (seen_of (state g.S.Store c.loop-row.conn)) (seen_of (state g.S.Store c.standing.new.conn)) was.same one.kept;
+      standings = λ clean t held count.
+          c.in_ok-push.ensures.items ∙ ap₂ (λ a b. a ++ b ∷ []) (was.standings (one.kept.kept.spared.honest clean) t held count) (one.found clean t (was.same.kept.spared.holds t held) count)
+          ∙ sym (map_more (standing_found t) c.args.rows.now c.loop-row.row-index c.row-item.result c.loop-row-test.true c.row-item.is);
+      mode = λ idle. one.mode (was.mode idle);
+    }

@@ -1,0 +1,5 @@
+pub mod Holders
+pub mod Rules
+pub mod Shown
+pub mod Standings
+pub mod Waivers

@@ -1,0 +1,33 @@
+//! How many rows some of the tables have.
+
+ghost use Rattle.std.specs.Prelude.{◌≡◌, IfSome};
+ghost use Rattle.desk_store.specs.Counting.{counts_after};
+
+use desk_rows::Change;
+
+/// How many revisions, documents, releases and duties there are.
+#[derive(Clone, Copy, Debug, PartialEq, Eq)]
+pub struct Counts {
+    pub revisions: u32,
+    pub documents: u32,
+    pub releases: u32,
+    pub duties: u32,
+}
+
+/// The counts after a change, where they have room.
+pub(crate) fn counts_after(change: &Change, counts: Counts) -> Option<Counts>
+    ensures { IfSome result (λ after. after ≡ counts_after change.now counts) }
+{
+    let mut after = counts;
+    match change {
+        Change::Loaded { .. } => after.revisions = counts.revisions.checked_add(1)?,
+        Change::Imported { .. } => after.documents = counts.documents.checked_add(1)?,
+        Change::Opened(_) => after.releases = counts.releases.checked_add(1)?,
+        Change::Froze { duties, .. } => {
+            let more = u32::try_from(duties.as_slice().len()).ok()?;
+            after.duties = counts.duties.checked_add(more)?;
+        }
+        _ => {}
+    }
+    Some(after)
+}

@@ -1,0 +1,242 @@
+//! The store: the desk's rows over a connection.
+
+ghost use Rattle.std.specs.Prelude.{◌≡◌, ℕ, List, false, unwrap_or};
+ghost use Rattle.std.specs.List.{list_any};
+ghost use Rattle.std.specs.Str.{bytes_eq};
+ghost use Rattle.sqlite_trees.specs.Tree.{Trees};
+ghost use Rattle.sqlite.specs.Held.{state};
+ghost use Rattle.desk_rows.specs.Tables.{Tables};
+ghost use Rattle.desk_layout.specs.Held.{Stands, counted, known_of, seen_of};
+ghost use Rattle.desk_store.specs.Counting.{forms_after, known_by};
+
+use crate::counts::{Counts, counts_after};
+use desk_access::store::Store;
+use desk_base::{Day, Items, Text};
+use desk_rows::{
+    AttachedRow, Change, ChangeRow, DutyRow, Fault, PackageRow, Profile, ReleaseRow, Rule,
+    Standing, StoreFault,
+};
+use sqlite::{Alter, Connection};
+use std::alloc::Global;
+
+/// Rows in a database, with how many there are of some and the forms of the catalogue in force.
+#[derive(Drop)]
+pub struct SqlStore<S: Alter> {
+    alloc: Global,
+    conn: Connection<S>,
+    counts: Counts,
+    forms: Items<Text>,
+    ghost idle: { conn.in_transaction ≡ false },
+}
+
+impl<S: Alter> SqlStore<S> {
+    /// The store over a connection that is in no transaction. Where the connection shows tables that have so many rows, and these are
+    /// the forms of the catalogue in force, they are the store's rows.
+    pub fn over(
+        alloc: Global,
+        conn: Connection<S>,
+        counts: Counts,
+        forms: Items<Text>,
+    ) -> SqlStore<S>
+        requires { conn.in_transaction ≡ false }
+        ensures holds { (t : Tables) → known_of t ≡ known_by counts forms → (seen_of (state S.Store conn)).holds t → (⟦<SqlStore<S> as Store>⟧.seen result).holds t }
+        ensures same { result.conn ≡ conn }
+    {
+        SqlStore {
+            alloc,
+            conn,
+            counts,
+            forms,
+        }
+    }
+
+    /// Hands the connection back, which shows the store's rows and is in no transaction.
+    pub fn into_connection(self) -> Connection<S>
+        ensures same { result ≡ self.conn }
+        ensures idle { result.in_transaction ≡ false }
+        ensures holds { (t : Tables) → (⟦<SqlStore<S> as Store>⟧.seen self).holds t → (seen_of (state S.Store result)).holds t }
+    {
+        let SqlStore {
+            alloc: _,
+            conn,
+            counts: _,
+            forms: _,
+        } = self;
+        conn
+    }
+}
+
+impl<S: Alter> SqlStore<S> {
+    /// Keeps the forms of a catalogue that was loaded.
+    fn take_forms(&mut self, change: Change)
+        ensures forms { self.new.forms ≡ forms_after change self.old.forms }
+        ensures conn { self.new.conn ≡ self.old.conn }
+        ensures counts { self.new.counts ≡ self.old.counts }
+    {
+        match forms_of(change) {
+            Some(forms) => self.forms = forms,
+            None => {}
+        }
+    }
+}
+
+fn has_form(forms: &[Text], form: &str) -> bool
+    ensures { result ≡ list_any (bytes_eq form.now) forms.now }
+{
+    forms.iter().any(|known| known.as_str() == form)
+}
+
+/// The forms of the catalogue that a change loads.
+fn forms_of(change: Change) -> Option<Items<Text>>
+    ensures { (old : List (List ℕ)) → unwrap_or result old ≡ forms_after change old }
+{
+    match change {
+        Change::Loaded {
+            catalogue: _,
+            rules: _,
+            forms,
+        } => Some(forms),
+        _ => None,
+    }
+}
+
+impl<S: Alter> Store for SqlStore<S> {
+    ghost Left = { Trees };
+
+    ghost stands = { Stands };
+
+    ghost seen = { λ s. counted (known_by s.counts s.forms) (seen_of (state S.Store s.conn)) };
+
+    ghost tells = { λ fault. Unit {0} };
+
+    ghost may_miss = { Unit {0} };
+
+    fn revision_count(&mut self) -> Result<u64, Fault> {
+        Ok(u64::from(self.counts.revisions))
+    }
+
+    fn has_form(&mut self, form: &str) -> Result<bool, Fault> {
+        Ok(has_form(self.forms.as_slice(), form))
+    }
+
+    fn rule(&mut self, term: &str, form: &str) -> Result<Option<Rule>, Fault> {
+        desk_lookups::rule(
+            self.alloc,
+            &mut self.conn,
+            self.counts.revisions,
+            term,
+            form,
+        )
+    }
+
+    fn document_count(&mut self) -> Result<u64, Fault> {
+        Ok(u64::from(self.counts.documents))
+    }
+
+    fn import_of(&mut self, namespace: &str, bytes: &[u8]) -> Result<Option<(u32, bool)>, Fault> {
+        desk_lookups::import_of(&mut self.conn, namespace, bytes)
+    }
+
+    fn document(&mut self, number: u64) -> Result<Option<(u32, Profile)>, Fault> {
+        desk_lookups::document(self.alloc, &mut self.conn, self.counts.documents, number)
+    }
+
+    fn document_source(&mut self, number: u64) -> Result<Option<(Items<u8>, Profile)>, Fault> {
+        desk_lookups::document_source(self.alloc, &mut self.conn, self.counts.documents, number)
+    }
+
+    fn package_row(&mut self, document: u64, id: &str) -> Result<Option<PackageRow>, Fault> {
+        let documents = self.counts.documents;
+        desk_lookups::package_row(self.alloc, &mut self.conn, documents, document, id)
+    }
+
+    fn shipped(&mut self, document: u32) -> Result<Vec<PackageRow>, Fault> {
+        desk_lookups::shipped(self.alloc, &mut self.conn, document)
+    }
+
+    fn release(&mut self, name: &str) -> Result<Option<ReleaseRow>, Fault> {
+        desk_lookups::release(self.alloc, &mut self.conn, name)
+    }
+
+    fn release_count(&mut self) -> Result<u64, Fault> {
+        Ok(u64::from(self.counts.releases))
+    }
+
+    fn attached(&mut self, release: &str) -> Result<Vec<AttachedRow>, Fault> {
+        desk_lookups::attached(self.alloc, &mut self.conn, release)
+    }
+
+    fn is_attached(&mut self, release: &str, document: u64) -> Result<bool, Fault> {
+        desk_lookups::is_attached(self.alloc, &mut self.conn, release, document)
+    }
+
+    fn attached_count(&mut self, release: &str) -> Result<u64, Fault> {
+        desk_lookups::attached_count(&mut self.conn, release)
+    }
+
+    fn chosen(&mut self, release: &str, document: u32, id: &str) -> Result<Vec<Text>, Fault> {
+        desk_lookups::chosen(self.alloc, &mut self.conn, release, document, id)
+    }
+
+    fn conclusion(&mut self, document: u32, id: &str) -> Result<Option<Text>, Fault> {
+        desk_lookups::conclusion(self.alloc, &mut self.conn, document, id)
+    }
+
+    fn holder(&mut self, document: u32, id: &str) -> Result<Option<Text>, Fault> {
+        desk_lookups::holder(self.alloc, &mut self.conn, document, id)
+    }
+
+    fn adoption(&mut self, document: u32, reference: &str) -> Result<Option<Text>, Fault> {
+        desk_lookups::adoption(self.alloc, &mut self.conn, document, reference)
+    }
+
+    fn adoption_count(&mut self, document: u32) -> Result<u64, Fault> {
+        desk_lookups::adoption_count(&mut self.conn, document)
+    }
+
+    fn duty(&mut self, number: u64) -> Result<Option<DutyRow>, Fault> {
+        desk_lookups::duty(self.alloc, &mut self.conn, self.counts.duties, number)
+    }
+
+    fn duty_count(&mut self) -> Result<u64, Fault> {
+        Ok(u64::from(self.counts.duties))
+    }
+
+    fn duties_of(&mut self, release: &str) -> Result<Vec<DutyRow>, Fault> {
+        desk_lookups::duties_of(self.alloc, &mut self.conn, release)
+    }
+
+    fn standings_of(&mut self, release: &str) -> Result<Vec<Standing>, Fault> {
+        desk_lookups::standings_of(self.alloc, &mut self.conn, self.counts.duties, release)
+    }
+
+    fn ended(&mut self, day: Day) -> Result<Vec<Standing>, Fault> {
+        desk_lookups::ended(self.alloc, &mut self.conn, self.counts.duties, day)
+    }
+
+    fn steps(&mut self, duty: u64) -> Result<u64, Fault> {
+        desk_lookups::steps(&mut self.conn, self.counts.duties, duty)
+    }
+
+    fn changes_of(&mut self, duty: u64) -> Result<Vec<ChangeRow>, Fault> {
+        desk_lookups::changes_of(self.alloc, &mut self.conn, self.counts.duties, duty)
+    }
+
+    fn last_day(&mut self, duty: u32) -> Result<Option<Day>, Fault> {
+        desk_lookups::last_day(&mut self.conn, duty)
+    }
+
+    fn commit(&mut self, change: Change) -> Result<(), Fault> {
+        let Some(counts) = counts_after(&change, self.counts) else {
+            return Err(Fault::Store(StoreFault::Rows));
+        };
+        match desk_writing::commit(self.alloc, &mut self.conn, &change) {
+            Ok(()) => {
+                self.counts = counts;
+                self.take_forms(change);
+                Ok(())
+            }
+            Err(fault) => Err(fault),
+        }
+    }
+}

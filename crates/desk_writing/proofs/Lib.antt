@@ -1,0 +1,11 @@
+mod Inside
+mod Inserts
+mod Deletes
+mod Updates
+mod Lists
+mod Moves
+mod Applied
+mod Commits
+mod Declared
+mod Declarations
+mod Empty

@@ -1,0 +1,4 @@
+pub mod Contents
+pub mod Written
+pub mod Declaring
+pub mod Creating

@@ -1,0 +1,190 @@
+//! Duties and their changes.
+
+ghost use Rattle.std.specs.Prelude.{◌≡◌, ◌++◌, ◌∷◌, [], filter, not};
+ghost use Rattle.sqlite.specs.Held.{state};
+ghost use Rattle.sqlite.specs.State.{Survives};
+ghost use Rattle.sqlite.specs.Values.{bound};
+ghost use Rattle.desk_rows.specs.Keys.{is_duty};
+ghost use Rattle.desk_rows.specs.Lists.{updated};
+ghost use Rattle.desk_rows.specs.Tables.{with_duty_state, moved_by};
+ghost use Rattle.desk_rows.specs.States.{state_after};
+ghost use Rattle.desk_layout.specs.Cells.{duty_cells, change_cells, waiver_cells};
+ghost use Rattle.desk_writing.specs.Contents.{cells_of, with_tables, with_steps};
+ghost use Rattle.desk_writing.specs.Written.{Writes};
+
+use crate::statement::execute;
+use desk_layout::values::{day, day_or_null, duty_state, number, text, word};
+use desk_rows::{ChangeRow, DutyRow, DutyState, Fault, Word};
+use sqlite::{Alter, Transaction};
+use sqlite_value::value::ValueRef;
+
+fn duty_values<'a>(row: &'a DutyRow) -> [ValueRef<'a>; 8]
+    ensures { bound result ≡ duty_cells row.now }
+{
+    [
+        number(row.number),
+        text(&row.release),
+        number(row.document),
+        text(&row.package_id),
+        text(&row.term),
+        text(&row.code),
+        text(&row.rule),
+        duty_state(row.state),
+    ]
+}
+
+/// Adds a duty.
+pub(crate) fn add_duty<S: Alter>(tx: &mut Transaction<'_, S>, row: &DutyRow) -> Result<(), Fault>
+    ensures same_reference { tx.new.conn.ghost_name ≡ tx.old.conn.ghost_name }
+    ensures wrote { Writes cells_of (with_tables (λ t. record t { duty = t.duty ++ row.now ∷ [] })) (state S.Store tx.old.conn.now) (state S.Store tx.new.conn.now) result }
+    ensures survives { Survives (state S.Store tx.old.conn.now) (state S.Store tx.new.conn.now) (λ _. ⊥) }
+{
+    execute(
+        tx,
+        "INSERT INTO duty VALUES (?1, ?2, ?3, ?4, ?5, ?6, ?7, ?8)",
+        &duty_values(row),
+    )
+}
+
+fn change_values<'a>(row: &'a ChangeRow) -> [ValueRef<'a>; 5]
+    ensures { bound result ≡ change_cells row.now }
+{
+    [
+        number(row.duty),
+        number(row.step),
+        day(&row.day),
+        word(row.word),
+        text(&row.body),
+    ]
+}
+
+/// Adds a change of a duty.
+pub(crate) fn add_change<S: Alter>(
+    tx: &mut Transaction<'_, S>,
+    row: &ChangeRow,
+) -> Result<(), Fault>
+    ensures same_reference { tx.new.conn.ghost_name ≡ tx.old.conn.ghost_name }
+    ensures wrote { Writes cells_of (with_tables (λ t. record t { changes = t.changes ++ row.now ∷ [] })) (state S.Store tx.old.conn.now) (state S.Store tx.new.conn.now) result }
+    ensures survives { Survives (state S.Store tx.old.conn.now) (state S.Store tx.new.conn.now) (λ _. ⊥) }
+{
+    execute(
+        tx,
+        "INSERT INTO change VALUES (?1, ?2, ?3, ?4, ?5)",
+        &change_values(row),
+    )
+}
+
+fn waiver_values<'a>(row: &'a ChangeRow) -> [ValueRef<'a>; 3]
+    ensures { bound result ≡ waiver_cells row.now }
+{
+    [
+        number(row.duty),
+        number(row.step),
+        day_or_null(&row.last_day),
+    ]
+}
+
+/// Adds the last day of a waiver that ends.
+pub(crate) fn add_waiver<S: Alter>(
+    tx: &mut Transaction<'_, S>,
+    row: &ChangeRow,
+) -> Result<(), Fault>
+    ensures same_reference { tx.new.conn.ghost_name ≡ tx.old.conn.ghost_name }
+    ensures wrote { Writes cells_of (λ it. record it { waiver = it.waiver ++ row.now ∷ [] }) (state S.Store tx.old.conn.now) (state S.Store tx.new.conn.now) result }
+    ensures survives { Survives (state S.Store tx.old.conn.now) (state S.Store tx.new.conn.now) (λ _. ⊥) }
+{
+    execute(
+        tx,
+        "INSERT INTO waiver VALUES (?1, ?2, ?3)",
+        &waiver_values(row),
+    )
+}
+
+/// Sets the state of a duty.
+pub(crate) fn set_duty<S: Alter>(
+    tx: &mut Transaction<'_, S>,
+    duty: u32,
+    to: DutyState,
+) -> Result<(), Fault>
+    ensures same_reference { tx.new.conn.ghost_name ≡ tx.old.conn.ghost_name }
+    ensures wrote { Writes cells_of (with_tables (λ t. record t { duty = updated (is_duty duty) (with_duty_state to) t.duty })) (state S.Store tx.old.conn.now) (state S.Store tx.new.conn.now) result }
+    ensures survives { Survives (state S.Store tx.old.conn.now) (state S.Store tx.new.conn.now) (λ _. ⊥) }
+{
+    execute(
+        tx,
+        "UPDATE duty SET state = ?2 WHERE number = ?1",
+        &[number(duty), duty_state(to)],
+    )
+}
+
+/// Adds duties.
+pub(crate) fn add_duties<S: Alter>(
+    tx: &mut Transaction<'_, S>,
+    rows: &[DutyRow],
+) -> Result<(), Fault>
+    ensures same_reference { tx.new.conn.ghost_name ≡ tx.old.conn.ghost_name }
+    ensures wrote { Writes cells_of (with_tables (λ t. record t { duty = t.duty ++ rows.now })) (state S.Store tx.old.conn.now) (state S.Store tx.new.conn.now) result }
+    ensures survives { Survives (state S.Store tx.old.conn.now) (state S.Store tx.new.conn.now) (λ _. ⊥) }
+{
+    for row in rows {
+        add_duty(tx, row)?;
+    }
+    Ok(())
+}
+
+/// Where a change with this word leaves a duty.
+fn state_after(word: Word) -> DutyState
+    ensures { result ≡ state_after word }
+{
+    match word {
+        Word::Raised | Word::Reopened | Word::Ended => DutyState::IsOpen,
+        Word::Met => DutyState::Met,
+        Word::Waived => DutyState::Waived,
+        Word::Withdrawn => DutyState::Withdrawn,
+    }
+}
+
+/// Sets the state of each duty, the last one first.
+pub(crate) fn set_duties<S: Alter>(
+    tx: &mut Transaction<'_, S>,
+    rows: &[ChangeRow],
+) -> Result<(), Fault>
+    ensures same_reference { tx.new.conn.ghost_name ≡ tx.old.conn.ghost_name }
+    ensures wrote { Writes cells_of (with_tables (λ t. record t { duty = moved_by rows.now t.duty })) (state S.Store tx.old.conn.now) (state S.Store tx.new.conn.now) result }
+    ensures survives { Survives (state S.Store tx.old.conn.now) (state S.Store tx.new.conn.now) (λ _. ⊥) }
+{
+    let mut left = rows.len();
+    while left > 0 {
+        left -= 1;
+        set_duty(tx, rows[left].duty, state_after(rows[left].word))?;
+    }
+    Ok(())
+}
+
+/// Adds a change, and the last day of a waiver that ends.
+pub(crate) fn add_step<S: Alter>(tx: &mut Transaction<'_, S>, row: &ChangeRow) -> Result<(), Fault>
+    ensures same_reference { tx.new.conn.ghost_name ≡ tx.old.conn.ghost_name }
+    ensures wrote { Writes cells_of (with_steps (row.now ∷ [])) (state S.Store tx.old.conn.now) (state S.Store tx.new.conn.now) result }
+    ensures survives { Survives (state S.Store tx.old.conn.now) (state S.Store tx.new.conn.now) (λ _. ⊥) }
+{
+    add_change(tx, row)?;
+    match row.last_day {
+        Some(_) => add_waiver(tx, row),
+        None => Ok(()),
+    }
+}
+
+/// Adds changes, and the last days of waivers that end.
+pub(crate) fn add_steps<S: Alter>(
+    tx: &mut Transaction<'_, S>,
+    rows: &[ChangeRow],
+) -> Result<(), Fault>
+    ensures same_reference { tx.new.conn.ghost_name ≡ tx.old.conn.ghost_name }
+    ensures wrote { Writes cells_of (with_steps rows.now) (state S.Store tx.old.conn.now) (state S.Store tx.new.conn.now) result }
+    ensures survives { Survives (state S.Store tx.old.conn.now) (state S.Store tx.new.conn.now) (λ _. ⊥) }
+{
+    for row in rows {
+        add_step(tx, row)?;
+    }
+    Ok(())
+}

@@ -1,0 +1,28 @@
+//! A statement inside a transaction.
+
+ghost use Rattle.std.specs.Prelude.{◌≡◌};
+ghost use Rattle.sqlite.specs.Held.{state};
+ghost use Rattle.sqlite.specs.State.{Survives};
+ghost use Rattle.sqlite.specs.Values.{bound};
+ghost use Rattle.desk_writing.specs.Written.{Ran};
+
+use desk_layout::fault::fault_of;
+use desk_rows::Fault;
+use sqlite::{Alter, Transaction};
+use sqlite_value::value::ValueRef;
+
+/// Runs a statement.
+pub(crate) fn execute<S: Alter>(
+    tx: &mut Transaction<'_, S>,
+    sql: &str,
+    params: &[ValueRef<'_>],
+) -> Result<(), Fault>
+    ensures same_reference { tx.new.conn.ghost_name ≡ tx.old.conn.ghost_name }
+    ensures ran { Ran sql.now (bound params.now) (state S.Store tx.old.conn.now) (state S.Store tx.new.conn.now) result }
+    ensures survives { Survives (state S.Store tx.old.conn.now) (state S.Store tx.new.conn.now) (λ _. ⊥) }
+{
+    match tx.execute(sql, params) {
+        Ok(_count) => Ok(()),
+        Err(error) => Err(fault_of(&error)),
+    }
+}
