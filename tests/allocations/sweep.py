@@ -1,6 +1,6 @@
 """Refuses each allocation of the program in turn: python3 tests/allocations/sweep.py PROGRAM
 
-The scripts, the checks, the listings and the trees are those of the acceptance cases of at most 16 KiB. For each N the program runs once
+The scripts, the checks, the listings and the trees are those of the acceptance cases of at most 16 KiB or 100 files. For each N the program runs once
 with its Nth allocation refused, until a run makes fewer. Then
 
 - a check or a listing tells its answer with its status, or nothing with status 3 and its words;
@@ -27,6 +27,7 @@ sys.dont_write_bytecode = True
 import dialogue
 
 BYTES = 16_384
+FILES = 100
 MEMORY = b'{"fault":"memory"}\n'
 
 WANTING = b"error: no memory is left\n"
@@ -42,13 +43,21 @@ class Program:
         self.folder = os.path.join(room, "folder")
         os.mkdir(self.folder)
 
-    def stand_in(self, data):
-        """Has the program run in a folder that holds these files, if any."""
+    def stand_in(self, data, script):
+        """Has the program run in a folder that holds these files, if any, and those that a script makes: the words that it ends with."""
         shutil.rmtree(self.folder)
         if data:
             shutil.copytree(data, self.folder)
         else:
             os.mkdir(self.folder)
+        if script:
+            done = subprocess.run(["sh", script, "echo"], cwd=self.folder, stdout=subprocess.PIPE, check=True)
+            return done.stdout.decode().split()
+        return []
+
+    def files(self):
+        """How many files there are in that folder."""
+        return sum(len(names) for _, _, names in os.walk(self.folder))
 
     def run(self, words, text, refused=0):
         """Standard output, the status, standard error, and whether an allocation was refused."""
@@ -159,21 +168,31 @@ def words_of(path):
     return words[:-1] if words[-1] == "" else words
 
 
+def is_of_tree(path):
+    """Whether a script ends with one run of `gather` or `lint`, and runs the program nowhere else."""
+    with open(path, encoding="utf-8") as file:
+        text = file.read()
+    return text.count("$1") == 1 and re.search(r'^exec "\$1" (gather|lint) [^|<>;&]*\n\Z', text, re.M) is not None
+
+
 def cases():
-    """The name, the words, the standard input and the files, if any, of each case that is swept."""
+    """The name, the words, the standard input, the files and the script that makes some, if any, of each case that is swept."""
     for name in sorted(os.listdir(CASES)):
         path = os.path.join(CASES, name)
         if name.endswith(".dialogue"):
             requests = dialogue.read(path)[0]
             if len(requests) <= BYTES:
-                yield name, ["script"], requests, None
+                yield name, ["script"], requests, None, None
             continue
-        listed, data = os.path.join(path, "args"), os.path.join(path, "data")
+        listed, script = os.path.join(path, "args"), os.path.join(path, "run")
+        data = os.path.join(path, "data") if os.path.isdir(os.path.join(path, "data")) else None
         words = words_of(listed) if os.path.isfile(listed) and os.path.getsize(listed) <= BYTES else []
         if words[:1] in (["check"], ["alternatives"]):
-            yield name, words, b"", None
-        elif words[:1] in (["gather"], ["lint"]) and os.path.isdir(data):
-            yield name, words, b"", data
+            yield name, words, b"", None, None
+        elif words[:1] in (["gather"], ["lint"]):
+            yield name, words, b"", data, None
+        elif os.path.isfile(script) and is_of_tree(script):
+            yield name, [], b"", data, script
 
 
 def main():
@@ -182,8 +201,10 @@ def main():
         subprocess.run(["cc", "-O2", "-shared", "-fPIC", "-o", library, os.path.join(HERE, "refuse.c"), "-ldl"], check=True)
         program = Program(os.path.abspath(sys.argv[1]), library, room)
         swept, runs = 0, 0
-        for name, words, text, data in cases():
-            program.stand_in(data)
+        for name, words, text, data, script in cases():
+            words = program.stand_in(data, script) or words
+            if program.files() > FILES:
+                continue
             swept, runs = swept + 1, runs + sweep(program, name, words, text)
         if swept == 0 or runs == 0:
             sys.exit("nothing was swept")
