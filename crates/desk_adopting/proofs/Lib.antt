@@ -1,2 +1,4 @@
 pub mod Turns
 pub mod Asking
+pub mod Spared
+pub mod Texts
