@@ -16,7 +16,7 @@ use Rattle.sqlite.specs.declared.error.Error.{Error}
 use Rattle.sqlite.specs.Clock.{timed}
 use Rattle.sqlite.specs.Listing.{understood, reads_listing, if_select, is_select, listing_schema}
 use Rattle.sqlite.specs.State.{State, HasCleanDisk, Survives, IsUnchanged, IsRolledBack, FailsToQuery, FailsToShow, IsNotRun, Shown, ShowsRows, CommitsShowing}
-use Rattle.desk_adopting.specs.Reading.{Asks, IsSpared}
+use Rattle.desk_adopting.specs.Reading.{Asks, Answers, IsSpared}
 
 -- ---- what a text is, whatever the schema
 
@@ -80,6 +80,13 @@ module _ (sql : List ℕ) (params : Row) (old new : State) (bare : Asks sql) whe
   unfolding Shown
   shown_unchanged rows h =
       let it = subst (ShowsRows old new sql h.0 (timed params h.0.formats h.1.now) rows) (bare old.now.schema h.0 h.1.is) h.2 in it.3
+
+  pub answers : (rows : List Row) → Shown sql params old new rows → Answers sql params old rows
+  unfolding Shown
+  answers rows h =
+      let none = bare old.now.schema h.0 h.1.is in
+      let it = subst (ShowsRows old new sql h.0 (timed params h.0.formats h.1.now) rows) none h.2 in
+      (h.0, h.1, none, it.0, it.1, it.2)
 
   not_run : (e : Error) → IsNotRun old new sql params e → Moves
   unfolding IsNotRun

@@ -2,3 +2,4 @@ pub mod Turns
 pub mod Asking
 pub mod Spared
 pub mod Texts
+pub mod Contents

@@ -7,8 +7,9 @@ use Rattle.sqlite_value.specs.Order.{Row, column}
 use Rattle.sqlite_schema.specs.declared.schema.Table.{Table}
 use Rattle.sqlite_schema.specs.declared.schema.Schema.{Schema}
 use Rattle.sqlite_schema.specs.Names.{same_name}
-use Rattle.sqlite.specs.State.{State, Shown}
+use Rattle.sqlite.specs.State.{State}
 use Rattle.desk_layout.specs.Layout.{desk_schema}
+use Rattle.desk_adopting.specs.Reading.{Answers}
 use Rattle.desk_adopting.specs.declared.version.Content.{Content}
 use Rattle.desk_adopting.specs.declared.version.Content.TheVariants.{Desk, OtherVersion, Other}
 
@@ -32,11 +33,11 @@ version_in (row ∷ []) = whole_number (column row 0)
 version_in _ = None
 
 -- the version, if there is just one and it is a whole number, is what the database answers when it is asked
-abbrev pub TellsVersion : Option ℤ → State → State → Type 0
-TellsVersion version old new = (rows : List Row) × Shown version_text [] old new rows × (version_in rows ≡ version)
+abbrev pub TellsVersion : Option ℤ → State → Type 0
+TellsVersion version s = (rows : List Row) × Answers version_text [] s rows × (version_in rows ≡ version)
 
 -- What a database is taken for: a desk by its version and by its schema; a file of another version by that alone; else something other.
-abbrev pub IsContent : State → State → Content → Type 0
-IsContent old new Desk = TellsVersion (Some (pos 3)) old new × (old.now.schema ≡ desk_schema)
-IsContent old new (OtherVersion n) = TellsVersion (Some n) old new × (n ≢ pos 3) × (has_version old.now.schema ≡ true)
-IsContent old new Other = (has_version old.now.schema ≡ false) ⊎ (TellsVersion None old new ⊎ (TellsVersion (Some (pos 3)) old new × (old.now.schema ≢ desk_schema)))
+abbrev pub IsContent : State → Content → Type 0
+IsContent s Desk = TellsVersion (Some (pos 3)) s × (s.now.schema ≡ desk_schema)
+IsContent s (OtherVersion n) = TellsVersion (Some n) s × (n ≢ pos 3) × (has_version s.now.schema ≡ true)
+IsContent s Other = (has_version s.now.schema ≡ false) ⊎ (TellsVersion None s ⊎ (TellsVersion (Some (pos 3)) s × (s.now.schema ≢ desk_schema)))

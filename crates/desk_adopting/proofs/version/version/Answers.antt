@@ -1,6 +1,7 @@
 use Rattle.std.proofs.Common.{[], ap, sym, ◌∙◌}
 use Rattle.sqlite.specs.Held.{state}
 use Rattle.desk_adopting.specs.Version.{version_text, version_in}
+use Rattle.desk_adopting.proofs.Asking.{answers}
 use Rattle.desk_adopting.proofs.Spared.{err_read, of_shown}
 use Rattle.desk_adopting.proofs.Texts.{version_asks, version_read}
 use Rattle.desk_adopting.proofs.version.version.Goals as goal
@@ -10,7 +11,11 @@ returns-in_err-rows-clause-read g c =
     err_read (state g.S.Store c.args.conn.now) (state g.S.Store c.query.new.conn) c.from_residual.result c.from_residual.ensures.0 (c.in_err-rows.ensures.read version_asks)
 
 pub returns-clause-told : goal.returns-clause-told
-returns-clause-told g c = λ clean. (c.in_ok-rows.rows.items, c.in_ok-rows.ensures.shown clean, sym (c.version_in.ensures ∙ ap version_in c.deref.ensures.value))
+returns-clause-told g c = λ clean.
+    let old = state g.S.Store c.args.conn.now in
+    let new = state g.S.Store c.query.new.conn in
+    let rows = c.in_ok-rows.rows.items in
+    (rows, answers version_text [] old new version_asks rows (c.in_ok-rows.ensures.shown clean), sym (c.version_in.ensures ∙ ap version_in c.deref.ensures.value))
 
 pub returns-clause-held : goal.returns-clause-held
 returns-clause-held g c =
