@@ -1,12 +1,12 @@
 -- What creating a desk in a database, and adopting one, tell and leave.
 use Rattle.std.specs.Prelude.{◌≡◌, List, [], length}
 use Rattle.sqlite_trees.specs.Tree.{Trees}
-use Rattle.sqlite.specs.Held.{Held}
 use Rattle.sqlite.specs.State.{State}
 use Rattle.desk_rows.specs.Readings.{Readings}
 use Rattle.desk_rows.specs.Tables.{Tables, tables}
 use Rattle.desk_access.specs.Seen.{Seen}
 use Rattle.desk_layout.specs.Held.{Stands}
+use Rattle.desk_adopting.specs.Reading.{IsSpared, HasStayed}
 use Rattle.desk_adopting.specs.declared.version.Content.TheVariants as content
 use Rattle.desk_adopting.specs.Version.{IsContent}
 use Rattle.desk_store.specs.declared.counts.Counts.{Counts}
@@ -35,8 +35,13 @@ abbrev pub IsFault : AdoptFault → Type 0
 IsFault (Fault fault) = Unit {0}
 IsFault _ = ⊥
 
--- what the database was found to hold where it isn't adopted
-abbrev pub IsReason : State → State → AdoptFault → Type 0
-IsReason old new NotADesk = IsContent old new content.Other
-IsReason old new (BadVersion version) = IsContent old new (content.OtherVersion version)
-IsReason old new (Fault fault) = Unit {0}
+-- what the database was found to hold, where it isn't adopted
+abbrev pub IsReason : State → AdoptFault → Type 0
+IsReason s NotADesk = IsContent s content.Other
+IsReason s (BadVersion version) = IsContent s (content.OtherVersion version)
+IsReason s (Fault fault) = Unit {0}
+
+-- the connection shows what it showed; only a fault may have ended that
+abbrev pub IsLeft : State → State → AdoptFault → Type 0
+IsLeft old new (Fault fault) = IsSpared old new
+IsLeft old new _ = HasStayed old new
