@@ -13,10 +13,6 @@ use Rattle.desk_adopting.specs.declared.forms.TableForm.{TableForm}
 use Rattle.desk_adopting.specs.declared.forms.IndexForm.{IndexForm}
 use Rattle.desk_layout.specs.Layout.{column_of, table_of}
 
--- a test tells whether they are the same
-abbrev pub Decides : {A : Type 0} → Bool → A → A → Type 0
-Decides told a b = (told ≡ true → a ≡ b) × (a ≡ b → told ≡ true)
-
 abbrev pub column_by : ColumnForm → Column
 column_by (NotNull name kind) = column_of name.now kind true
 column_by (Nullable name kind) = column_of name.now kind false

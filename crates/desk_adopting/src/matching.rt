@@ -1,9 +1,10 @@
 //! Whether what a schema has is as a form says.
 
 ghost use Rattle.std.specs.Prelude.{◌≡◌, ◌==◌, true, List, map};
+ghost use Rattle.std.specs.Bool.{Decides};
 ghost use Rattle.std.specs.List.{list_all};
 ghost use Rattle.desk_layout.specs.Layout.{column_of};
-ghost use Rattle.desk_adopting.specs.Forms.{Decides, HasNoMore, column_by, index_by, no_stamps, plain_orders, table_by};
+ghost use Rattle.desk_adopting.specs.Forms.{HasNoMore, column_by, index_by, no_stamps, plain_orders, table_by};
 
 use crate::forms::{ColumnForm, IndexForm, TableForm};
 use sqlite_items::Items;
@@ -18,12 +19,12 @@ pub(crate) trait Form {
     ghost declared: { Self → Self.Item };
 
     fn is(&self, item: &Self::Item) -> bool
-        ensures { Decides result item.now (declared self.now) };
+        ensures { Decides result (item.now ≡ declared self.now) };
 }
 
 /// Whether the items are those that the forms declare.
 pub(crate) fn are<F: Form>(items: &[F::Item], forms: &[F]) -> bool
-    ensures { Decides result items.now (map F.declared forms.now) }
+    ensures { Decides result (items.now ≡ map F.declared forms.now) }
 {
     if items.len() != forms.len() {
         return false;
@@ -50,7 +51,7 @@ impl Form for ColumnForm {
 }
 
 fn is_column(column: &Column, name: &str, kind: Kind, not_null: bool) -> bool
-    ensures { Decides result column.now (column_of name.now kind not_null) }
+    ensures { Decides result (column.now ≡ column_of name.now kind not_null) }
 {
     column.name.as_slice() == name.as_bytes()
         && column.kind == kind
@@ -61,7 +62,7 @@ fn is_column(column: &Column, name: &str, kind: Kind, not_null: bool) -> bool
 }
 
 fn is_null(value: &Value) -> bool
-    ensures { Decides result value.now Value.Null }
+    ensures { Decides result (value.now ≡ Value.Null) }
 {
     matches!(value, Value::Null)
 }
@@ -96,7 +97,7 @@ impl Form for &'static [usize] {
 #[tactic(auto, using(crate::proofs::Turns::plain_alike))]
 /// Whether each key is of so many, in the order of its columns.
 fn are_plain(orders: &[Order], keys: &[&'static [usize]]) -> bool
-    ensures { Decides result orders.now (plain_orders keys.now) }
+    ensures { Decides result (orders.now ≡ plain_orders keys.now) }
 {
     orders.len() == keys.len() && have_no_digits(orders)
 }
@@ -110,15 +111,14 @@ fn have_no_digits(orders: &[Order]) -> bool
 
 /// Whether no default reads the time.
 fn is_timeless(stamps: &Stamps) -> bool
-    ensures { Decides result stamps.now no_stamps }
+    ensures { Decides result (stamps.now ≡ no_stamps) }
 {
     stamps.places.is_empty() && stamps.terms.roots.is_empty() && stamps.formats.is_empty()
 }
 
 /// Whether a table has nothing but columns and keys.
 fn is_plain(table: &Table) -> bool
-    ensures all { result ≡ true → HasNoMore table.now }
-    ensures told { HasNoMore table.now → result ≡ true }
+    ensures { Decides result (HasNoMore table.now) }
 {
     table.checks.roots.is_empty()
         && table.references.is_empty()

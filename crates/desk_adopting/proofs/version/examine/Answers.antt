@@ -19,6 +19,6 @@ pub returns-clause-found : goal.returns-clause-found
 returns-clause-found g c = λ clean.
     let s = state g.S.Store c.args.conn.now in
     let schema = c.schema-schema.ensures.value in
-    content_is s (sym (ap has_version schema) ∙ sym c.has_version.ensures ∙ c.if-not-has_version.false) c.is_declared-is_declared.result (λ is. sym schema ∙ c.is_declared-is_declared.ensures.all is)
-    (λ same. c.is_declared-is_declared.ensures.told (schema ∙ same)) c.content_by.result c.in_ok-version.field-0 c.content_by.ensures.desk c.content_by.ensures.undeclared c.content_by.ensures.none c.content_by.ensures.other
+    content_is s (sym (ap has_version schema) ∙ sym c.has_version.ensures ∙ c.if-not-has_version.false) c.is_declared-is_declared.result (λ is. sym schema ∙ c.is_declared-is_declared.ensures.0 is)
+    (λ same. c.is_declared-is_declared.ensures.1 (schema ∙ same)) c.content_by.result c.in_ok-version.field-0 c.content_by.ensures.desk c.content_by.ensures.undeclared c.content_by.ensures.none c.content_by.ensures.other
     (c.in_ok-version.ensures.told clean)
