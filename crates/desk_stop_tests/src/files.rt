@@ -1,6 +1,6 @@
 //! Desks over files in memory that refuse calls and crash.
 
-ghost use Rattle.std.specs.Prelude.{IfOk, IsTrue, ◌×◌};
+ghost use Rattle.std.specs.Prelude.{IsTrue, ◌≡◌, false};
 
 use desk_rows::Outcome;
 use desk_script::{Reply, answer_line};
@@ -70,7 +70,7 @@ fn answered(
 
 /// What became of a run: how many requests were answered, and the files.
 #[derive(Drop)]
-pub struct Run {
+pub struct Served {
     pub answered: usize,
     pub files: Files<Failing>,
 }
@@ -80,16 +80,16 @@ fn on_new_desk(
     alloc: Global,
     conn: Connection<FileStore<Failing>>,
     requests: &[&str],
-) -> Result<Run, AllocError>
+) -> Result<Served, AllocError>
     requires { conn.in_transaction ≡ false }
 {
     match SqlDesk::create(alloc, conn) {
         Ok(mut desk) => {
             let answered = answered(alloc, &mut desk, requests)?;
             let files = closed(desk.into_connection());
-            Ok(Run { answered, files })
+            Ok(Served { answered, files })
         }
-        Err((_, conn)) => Ok(Run {
+        Err((_, conn)) => Ok(Served {
             answered: 0,
             files: conn.into_store().close(),
         }),
@@ -105,13 +105,13 @@ fn closed(conn: Connection<FileStore<Failing>>) -> Files<Failing> {
 }
 
 /// Runs requests on a desk in new files.
-pub fn run(alloc: Global, files: Files<Failing>, requests: &[&str]) -> Result<Run, AllocError>
+pub fn run(alloc: Global, files: Files<Failing>, requests: &[&str]) -> Result<Served, AllocError>
     requires log { IsTrue (⟦<Fuse<Memory> as Disk>⟧.is_usable files.log) }
     requires db { IsTrue (⟦<Fuse<Memory> as Disk>⟧.is_usable files.db) }
 {
     match Connection::open_files(alloc, files, Options::new(7)) {
         Ok(conn) => on_new_desk(alloc, conn, requests),
-        Err((_, left)) => Ok(Run {
+        Err((_, left)) => Ok(Served {
             answered: 0,
             files: left.into_files(),
         }),
