@@ -7,10 +7,13 @@
 
 mod commands;
 mod failure;
+mod filing;
 mod gathering;
+mod input;
 mod linting;
 mod listing;
 mod report;
+mod trouble;
 
 use crate::failure::Failure;
 use desk_base::{Profile, Text};
@@ -118,7 +121,9 @@ fn answer<R: Files + Print + Input + Eprint + AllocGlobal + Clone + Drop>(
             expression,
             profile,
         } => commands::alternatives(alloc, expression.as_str(), *profile, &mut io::writer(rt)),
-        Call::Script => script(rt, alloc),
+        Call::Script { .. } => script(rt, alloc),
+        Call::Import { .. } => Ok(3),
+        Call::Catalogue { .. } => Ok(3),
         Call::Gather {
             folder,
             name,
