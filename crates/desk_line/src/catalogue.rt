@@ -21,12 +21,12 @@ Loads a catalogue of duties into the desk that a file keeps
 Reads a catalogue from TOML, loads it as the request catalogue of script does, and prints the reply,
 one line of JSON:
 
-  {\"revision\":N}                            it is revision N, and in force
+  {\"revision\":N}                         it is revision N, and in force
   {\"at\":[..],\"name\":\"..\",\"refused\":..}   it was refused, and nothing was changed";
 
 const AFTER_HELP: &str = "\
-A FILE that is not there, or is empty, becomes an empty desk first. One that keeps no desk, or one of
-another version, is left as it is, and one line says so:
+A FILE that is not there, is empty, or is a database without a table meta becomes an empty desk first.
+Any other that keeps no desk of this version is left as it is, and one line says so:
 
   fault: NotADesk    it is a database of something else
   fault: BadVersion  it keeps a desk of another version

@@ -22,13 +22,13 @@ Imports an SPDX document into the desk that a file keeps
 Reads a tag-value document (SPDX 2.1, 2.2 or 2.3) from DOC, imports it as the request import of script
 does, and prints the reply, one line of JSON:
 
-  {\"document\":N,\"new\":true}                it was taken in as document N
-  {\"document\":N,\"new\":false}               the same bytes stand already as document N
+  {\"document\":N,\"new\":true}              it was taken in as document N
+  {\"document\":N,\"new\":false}             the same bytes stand already as document N
   {\"at\":[..],\"name\":\"..\",\"refused\":..}   it was refused, and nothing was changed";
 
 const AFTER_HELP: &str = "\
-A FILE that is not there, or is empty, becomes an empty desk first. One that keeps no desk, or one of
-another version, is left as it is, and one line says so:
+A FILE that is not there, is empty, or is a database without a table meta becomes an empty desk first.
+Any other that keeps no desk of this version is left as it is, and one line says so:
 
   fault: NotADesk    it is a database of something else
   fault: BadVersion  it keeps a desk of another version

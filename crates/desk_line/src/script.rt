@@ -23,8 +23,8 @@ each line that is not blank, before it reads on. It goes on past what is refused
 than 8 MiB is no request. It stops after 1,048,576 reads.
 
 With --db FILE the desk is kept in the file, and the next script goes on with it. A file that is
-not there, or is empty, becomes an empty desk. Without --db the desk is in memory, empty at first
-and gone at the end.
+not there, is empty, or is a database without a table meta becomes an empty desk first. Without
+--db the desk is in memory, empty at first and gone at the end.
 
 Requests, with an example of each and its reply:
 
@@ -100,7 +100,7 @@ What is refused changes nothing, and is told with its number, its name and where
     < {\"at\":[\"mit\"],\"name\":\"NotMinimal\",\"refused\":18}";
 
 const AFTER_HELP: &str = "\
-A file that keeps no desk, or one of another version, is left as it is, and one line says so:
+Any other file that keeps no desk of this version is left as it is, and one line says so:
 
   fault: NotADesk    it is a database of something else
   fault: BadVersion  it keeps a desk of another version
