@@ -1,4 +1,4 @@
--- What `import` and `catalogue` write, and the status that they answer.
+-- What `import` and `catalogue` write, and the status that they answer; and what is told of a file that keeps no desk.
 use Rattle.std.specs.Prelude.{◌≡◌, ◌++◌, ℕ, List, Option, codes}
 use Rattle.std.specs.Io.KnownBytes.{Appends}
 use Rattle.desk_rows.specs.Readings.{Readings}
@@ -16,6 +16,8 @@ use Rattle.desk_json.specs.declared.request.Request.TheVariants.{Act}
 use Rattle.desk_script.specs.Replies.{Replies}
 use Rattle.desk_script.specs.Texts.{line_of}
 use Rattle.desk_script.specs.declared.answer.Reply.TheVariants.{Became}
+use Rattle.desk_program.specs.declared.filing.NoDesk.{NoDesk}
+use Rattle.desk_program.specs.declared.filing.NoDesk.TheVariants.{NotADesk, BadVersion}
 
 -- the program's status for the answer to a command: refused, or done
 abbrev pub answer_status : Answer → ℕ
@@ -29,6 +31,11 @@ outcome_line outcome = line_of (Became outcome)
 -- what a catalogue that is no text comes to: it is no TOML document
 abbrev pub no_text : Outcome
 no_text = Answered (Refused (BadCatalogue NotToml))
+
+-- the line that tells why a file keeps no desk, without its end
+abbrev pub no_desk_line : NoDesk → List ℕ
+no_desk_line NotADesk = codes "fault: NotADesk"
+no_desk_line BadVersion = codes "fault: BadVersion"
 
 module _ (is_right : Readings → Type 0) (tells : StoreFault → Type 0) {Left : Type 0} (command : Command) (before after : Seen Left) where
   -- the command comes to this on a desk, and the rows become what they become for a script's request

@@ -7,7 +7,7 @@ ghost use Rattle.desk_rows.specs.declared.command.Answer.{Answer};
 ghost use Rattle.desk_rows.specs.declared.command.Command.TheVariants.{Import, LoadCatalogue};
 ghost use Rattle.desk_rows.specs.declared.command.Outcome.TheVariants.{Answered, Failed};
 ghost use Rattle.desk_program.specs.Failures.{IfMemory, IsOfOutput, OfRequest};
-ghost use Rattle.desk_program.specs.Filing.{answer_status, Comes, HasFailed, IsAnswered, IsUntold, no_text, outcome_line};
+ghost use Rattle.desk_program.specs.Filing.{answer_status, Comes, HasFailed, IsAnswered, IsUntold, no_desk_line, no_text, outcome_line};
 
 use crate::failure::Failure;
 use desk_base::{Items, Text};
@@ -16,6 +16,25 @@ use desk_json::{memory_line, reply_line};
 use desk_rows::{Answer, CatalogueFault, Command, Fault, Outcome, Profile, Refusal};
 use std::alloc::{AllocError, Global};
 use std::io::Write;
+
+/// Why a file keeps no desk that this program goes on with.
+#[derive(Clone, Copy, Debug, Drop, PartialEq, Eq)]
+pub enum NoDesk {
+    /// It has a table `meta`, and not all tables of a desk and no others.
+    NotADesk,
+    /// Its tables are of another version.
+    BadVersion,
+}
+
+// The line that tells why a file keeps no desk, without its end.
+fn no_desk_line(reason: NoDesk) -> &'static str
+    ensures { result.now ≡ no_desk_line reason }
+{
+    match reason {
+        NoDesk::NotADesk => "fault: NotADesk",
+        NoDesk::BadVersion => "fault: BadVersion",
+    }
+}
 
 fn status_of(answer: &Answer) -> u8
     ensures { result ≡ answer_status answer.now }
@@ -138,4 +157,13 @@ pub fn refuse_catalogue<W: Write>(alloc: Global, writer: &mut W) -> Result<u8, F
 {
     let refusal = Refusal::BadCatalogue(CatalogueFault::NotToml);
     tell(alloc, &Outcome::Answered(Answer::Refused(refusal)), writer)
+}
+
+/// Writes why a file keeps no desk, as a line, and answers the program's status.
+pub fn refuse_database<W: Write>(reason: NoDesk, writer: &mut W) -> Result<u8, Failure>
+    ensures told { IfOk result (λ status. (status ≡ 1) × Appends (W.contents writer.old) (W.contents writer.new) (no_desk_line reason ++ 10 ∷ [])) }
+    ensures memory { IfErr result (IfMemory (Keeps (W.contents writer.old) (W.contents writer.new))) }
+{
+    write_line(writer, no_desk_line(reason))?;
+    Ok(1)
 }

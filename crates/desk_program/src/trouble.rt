@@ -19,7 +19,7 @@ pub enum Trouble {
     Full,
     #[error("its disk failed to read or write; look after the disk, then try again")]
     Disk,
-    #[error("it cannot be read or written; see that its disk has room and works, then try again")]
+    #[error("it has tables of something else, or cannot be read or written; see that its disk has room, then try again")]
     Refused,
     #[error("it has rows that no desk writes; put back a copy of it")]
     Rows,
