@@ -51,6 +51,8 @@ test: needs
 	@touch -r build/is-begun build/desk
 	@echo 'Running the acceptance cases on the program that the gate proved and built.'
 	@sh tests/acceptance/run.sh build/desk
+	@echo 'Running the scripts among them over files.'
+	@python3 tests/database.py build/desk
 	@echo 'Feeding it large inputs and each fault of each reader.'
 	@python3 tests/ample/ample.py build/desk
 	@echo 'Refusing each allocation of build/desk in turn.'
@@ -61,6 +63,10 @@ test: needs
 # The acceptance cases alone.
 acceptance: needs build
 	@sh tests/acceptance/run.sh build/desk
+
+# The scripts among them over files, in one run each and in three.
+database: needs build
+	@python3 tests/database.py build/desk
 
 # What a checkout of this tree lacks to be REUSE-compliant, which is nothing.
 lint: needs build
@@ -107,4 +113,4 @@ install: build
 clean:
 	rm -rf build
 
-.PHONY: all build demo needs test acceptance lint ample allocations edits try bench install clean
+.PHONY: all build demo needs test acceptance database lint ample allocations edits try bench install clean

@@ -33,6 +33,11 @@ taken app words met same none found =
           ∙ sym (subst (λ m. call_at met ≡ call_at m) found_whole refl),
     )
 
+-- what `clap` met is the subcommand of the words
+pub found_of_app : (app : App) (words : List Text) (met : Option (Text × List Row)) → app ≡ desk_app
+    → (is_simple app ≡ true → met ≡ subcommand_of app words) → met ≡ subcommand_of desk_app words
+found_of_app app words met same found = subst (λ (a : App). is_simple a ≡ true → met ≡ subcommand_of a words) same found refl
+
 -- words that `clap` refuses hold no call
 pub refused : (app : App) (words : List Text) (error : Error) (fault : LineFault) → app ≡ desk_app
     → (is_simple_and_free app ≡ true → HasKind (fault_of app words) error) → IsFaultOf error fault → IsFault words fault
@@ -44,3 +49,15 @@ refused app words error fault same kinds of =
     go (Usage told) (inr among) of = subst (λ e. (call_of words ≡ None) × IsAmong (kind_of e) (usage_of words)) (sym of.0)
         (none_where_refused (fault_of desk_app words) (lacking (subcommand_of desk_app words)) (call_at (subcommand_of desk_app words)) (kind_of error) among)
     go (Memory refused) kinds of = tt
+
+-- words that `clap` takes, and of which the subcommand that was met is no call, hold none
+pub lacked : (words : List Text) (met : Option (Text × List Row)) (kind : ErrorKind) (error : Error) (fault : LineFault)
+    → (fault_of desk_app words ≡ []) × (call_of words ≡ call_at met) → met ≡ subcommand_of desk_app words → call_at met ≡ None
+    → IsAmong kind (lacking met) → kind_of error ≡ kind → IsFaultOf error fault → IsFault words fault
+lacked words met kind error (Memory refused) whole found none among is of = tt
+lacked words met kind error (Usage told) whole found none among is of =
+    let kinds : usage_of words ≡ lacking met =
+    subst (λ (ks : Kinds). or_else ks (lacking (subcommand_of desk_app words)) ≡ lacking met) (sym whole.0)
+    (subst (λ m. lacking m ≡ lacking met) found refl) in
+    let told_kind : kind_of told ≡ kind = subst (λ e. kind_of e ≡ kind) (sym of.0) is in
+    (whole.1 ∙ none, subst (λ k. IsAmong k (usage_of words)) (sym told_kind) (subst (λ (ks : Kinds). IsAmong kind ks) (sym kinds) among))

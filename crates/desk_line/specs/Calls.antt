@@ -10,7 +10,7 @@ use Rattle.clap.specs.declared.error.Error.{Error}
 use Rattle.desk_line.specs.Fields.{if_stands}
 use Rattle.desk_line.specs.Words.{desk_app}
 use Rattle.desk_line.specs.declared.call.Call.{Call}
-use Rattle.desk_line.specs.declared.call.Call.TheVariants.{Check, Alternatives, Script, Gather, Lint}
+use Rattle.desk_line.specs.declared.call.Call.TheVariants.{Check, Alternatives, Script, Import, Catalogue, Gather, Lint}
 use Rattle.desk_line.specs.declared.call.LineFault.{LineFault}
 use Rattle.desk_line.specs.declared.call.LineFault.TheVariants.{Memory, Usage}
 
@@ -30,6 +30,19 @@ check_in rows = option_and_then (λ expression. option_and_then (λ terms. optio
 -- the call of `alternatives` with these values
 abbrev pub alternatives_in : List Row → Option Call
 alternatives_in rows = option_and_then (λ expression. option_map (λ profile. Alternatives expression profile) (profile_in rows)) (first_of (codes "EXPR") rows)
+
+-- the call of `script` with these values
+abbrev pub script_in : List Row → Call
+script_in rows = Script (first_of (codes "FILE") rows)
+
+-- the call of `import` with these values
+abbrev pub import_in : List Row → Option Call
+import_in rows = option_and_then (λ database. option_and_then (λ document. option_map (λ profile. Import database document profile)
+    (profile_in rows)) (first_of (codes "DOC") rows)) (first_of (codes "FILE") rows)
+
+-- the call of `catalogue` with these values
+abbrev pub catalogue_in : List Row → Option Call
+catalogue_in rows = option_and_then (λ database. option_map (λ catalogue. Catalogue database catalogue) (first_of (codes "TOML") rows)) (first_of (codes "FILE") rows)
 
 -- a value that can stand in a field
 abbrev pub field_in : Text → List Row → Option Text
@@ -54,7 +67,9 @@ abbrev pub call_in : Text → List Row → Option Call
 call_in name rows =
     if bytes_eq name (codes "check") then check_in rows
     else if bytes_eq name (codes "alternatives") then alternatives_in rows
-    else if bytes_eq name (codes "script") then Some Script
+    else if bytes_eq name (codes "script") then Some (script_in rows)
+    else if bytes_eq name (codes "import") then import_in rows
+    else if bytes_eq name (codes "catalogue") then catalogue_in rows
     else if bytes_eq name (codes "gather") then gather_in rows
     else if bytes_eq name (codes "lint") then lint_in rows
     else None

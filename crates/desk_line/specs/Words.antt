@@ -29,13 +29,29 @@ check_app = with_rule (with_rule (with_rule (new_app (codes "check")) profile_op
 abbrev pub alternatives_app : App
 alternatives_app = with_rule (with_rule (new_app (codes "alternatives")) profile_option) (word (codes "EXPR"))
 
--- `script`, which has no values
+-- `--LONG NAME`, which may be left out
+abbrev pub optional : Text → Text → Rule
+optional name long = record (new_rule name) { long = Some long }
+
+-- `script [--db FILE]`
 abbrev pub script_app : App
-script_app = new_app (codes "script")
+script_app = with_rule (new_app (codes "script")) (optional (codes "FILE") (codes "db"))
 
 -- `--LONG NAME`, which must be used
 abbrev pub wanted : Text → Text → Rule
 wanted name long = record (new_rule name) { long = Some long; required = true }
+
+-- `--db FILE`, the file that keeps a desk
+abbrev pub database_option : Rule
+database_option = wanted (codes "FILE") (codes "db")
+
+-- `import --db FILE [--profile PROFILE] DOC`
+abbrev pub import_app : App
+import_app = with_rule (with_rule (with_rule (new_app (codes "import")) database_option) profile_option) (word (codes "DOC"))
+
+-- `catalogue --db FILE TOML`
+abbrev pub catalogue_app : App
+catalogue_app = with_rule (with_rule (new_app (codes "catalogue")) database_option) (word (codes "TOML"))
 
 -- `gather DIR --name NAME --namespace NAMESPACE --created CREATED`
 abbrev pub named_tree_app : App
@@ -61,5 +77,10 @@ desk_alone = on_top (λ s. record s { has_version = true; subcommand_required = 
 abbrev pub judging_app : App
 judging_app = with_subcommand (with_subcommand desk_alone check_app.top) alternatives_app.top
 
+-- and with those that hand a desk its requests
+abbrev pub requesting_app : App
+requesting_app = with_subcommand (with_subcommand (with_subcommand judging_app script_app.top) import_app.top) catalogue_app.top
+
+-- and with those that read a source tree
 abbrev pub desk_app : App
-desk_app = with_subcommand (with_subcommand (with_subcommand judging_app script_app.top) gather_app.top) lint_app.top
+desk_app = with_subcommand (with_subcommand requesting_app gather_app.top) lint_app.top

@@ -2,7 +2,7 @@
 
 ghost use Rattle.std.specs.Prelude.{◌≡◌, false};
 ghost use Rattle.clap.specs.Words.{rule_of};
-ghost use Rattle.desk_line.specs.Words.{flag, option, wanted, word, words};
+ghost use Rattle.desk_line.specs.Words.{database_option, flag, option, optional, wanted, word, words};
 
 use clap::{Arg, ArgAction};
 use std::alloc::Global;
@@ -30,6 +30,22 @@ pub fn wanted_arg<'a>(alloc: Global, name: &'a str, long: &'a str, help: &'a str
     ensures local { result.global ≡ false }
 {
     Arg::new(alloc, name).long(long).required(true).help(help)
+}
+
+/// A named value that may be left out.
+pub fn optional_arg<'a>(alloc: Global, name: &'a str, long: &'a str, help: &'a str) -> Arg<'a>
+    ensures rule { rule_of result ≡ optional name.entry.now long.entry.now }
+    ensures local { result.global ≡ false }
+{
+    Arg::new(alloc, name).long(long).help(help)
+}
+
+/// The file that keeps a desk, which must be named.
+pub fn database_arg<'a>(alloc: Global) -> Arg<'a>
+    ensures rule { rule_of result ≡ database_option }
+    ensures local { result.global ≡ false }
+{
+    wanted_arg(alloc, "FILE", "db", "The file that keeps the desk")
 }
 
 /// A named flag without a value.

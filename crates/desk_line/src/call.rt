@@ -20,8 +20,22 @@ pub enum Call {
         expression: Text,
         profile: Profile,
     },
-    /// Replies to the requests of standard input, a line each.
-    Script,
+    /// Replies to the requests of standard input, a line each, over the desk that is kept in a file, or over one in memory.
+    Script {
+        database: Option<Text>,
+    },
+    /// The import of a document, the file of which has this path, by the desk that is kept in a file. Operators of its licence
+    /// expressions are written by the profile.
+    Import {
+        database: Text,
+        document: Text,
+        profile: Profile,
+    },
+    /// The loading of a catalogue, the file of which has this path, by the desk that is kept in a file.
+    Catalogue {
+        database: Text,
+        catalogue: Text,
+    },
     /// The document of the tree of files in a folder, with its name, its namespace and when it was made.
     Gather {
         folder: Text,

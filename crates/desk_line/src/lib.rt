@@ -11,10 +11,13 @@
 mod alternatives;
 mod arguments;
 mod call;
+mod catalogue;
 mod fields;
 mod gather;
+mod import;
 mod lint;
 mod reading;
+mod script;
 mod subcommands;
 mod values;
 

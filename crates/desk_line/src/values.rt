@@ -6,8 +6,11 @@ ghost use Rattle.desk_line.specs.Calls.{call_in, check_in, profile_in, profile_w
 
 use crate::alternatives::alternatives_from;
 use crate::call::Call;
+use crate::catalogue::catalogue_from;
 use crate::gather::gather_from;
+use crate::import::import_from;
 use crate::lint::lint_from;
+use crate::script::script_from;
 use clap::ArgMatches;
 use desk_base::{Items, Profile, Text};
 use std::alloc::{AllocError, Global};
@@ -91,7 +94,11 @@ pub fn call_from(
     } else if name == "alternatives" {
         alternatives_from(alloc, matches)
     } else if name == "script" {
-        Ok(Some(Call::Script))
+        Ok(Some(script_from(alloc, matches)?))
+    } else if name == "import" {
+        import_from(alloc, matches)
+    } else if name == "catalogue" {
+        catalogue_from(alloc, matches)
     } else if name == "gather" {
         gather_from(alloc, matches)
     } else if name == "lint" {

@@ -2,3 +2,4 @@ pub mod ReportLemmas
 pub mod WriterLemmas
 pub mod OneAnswer
 pub mod ListingLemmas
+pub mod FilingLemmas

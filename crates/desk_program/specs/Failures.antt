@@ -1,8 +1,9 @@
 -- What holds after a failure.
 use Rattle.std.specs.Prelude.{ℕ}
+use Rattle.desk_rows.specs.declared.command.Fault.{Fault}
 use Rattle.desk_script.specs.declared.serving.ScriptFault.{ScriptFault}
 use Rattle.desk_program.specs.declared.failure.Failure.{Failure}
-use Rattle.desk_program.specs.declared.failure.Failure.TheVariants.{Memory, Script, Failed, BadValue}
+use Rattle.desk_program.specs.declared.failure.Failure.TheVariants.{Memory, Write, Script, Failed, Request, BadValue}
 
 -- the fact holds where memory was wanting
 abbrev pub IfMemory : Type 0 → Failure → Type 0
@@ -31,3 +32,16 @@ abbrev pub OfScript : (ScriptFault → Type 0) → (ℕ → Type 0) → Failure 
 OfScript stopped failed (Script fault) = stopped fault
 OfScript stopped failed (Failed count) = failed count
 OfScript stopped failed _ = ⊥
+
+-- what holds where the desk failed at a command by a fault, and where no reply to it could be written; it has no other failure
+abbrev pub OfRequest : (Fault → Type 0) → Type 0 → Failure → Type 0
+OfRequest failed untold (Request fault) = failed fault
+OfRequest failed untold (Memory error) = untold
+OfRequest failed untold (Write error) = untold
+OfRequest failed untold _ = ⊥
+
+-- a text couldn't be written, or there was no memory for it
+abbrev pub IsOfOutput : Failure → Type 0
+IsOfOutput (Memory error) = Unit {0}
+IsOfOutput (Write error) = Unit {0}
+IsOfOutput _ = ⊥

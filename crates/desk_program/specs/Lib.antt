@@ -3,3 +3,5 @@ pub mod Failures
 pub mod Listing
 pub mod Gathering
 pub mod Linting
+pub mod Filing
+pub mod Troubles

@@ -10,6 +10,7 @@ ghost use Rattle.desk_program.specs.Failures.{IfMemory, OfScript};
 ghost use Rattle.desk_program.specs.Report.{IsReadTo, IsReport, IsVerdict, SpellTerms, Tells, TellsOnce};
 
 use crate::failure::Failure;
+pub use crate::filing::{catalogue, import, refuse_catalogue, refuse_database, text_of};
 pub use crate::gathering::gather;
 pub use crate::linting::lint;
 pub use crate::listing::alternatives;

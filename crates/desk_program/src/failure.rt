@@ -1,5 +1,7 @@
 //! Why a subcommand could not do its work.
 
+use crate::trouble::Trouble;
+use desk_rows::Fault;
 use desk_script::ScriptFault;
 use desk_trees::TreeFault;
 use std::alloc::AllocError;
@@ -19,6 +21,18 @@ pub enum Failure {
     /// So many requests of a script failed.
     #[error("requests that failed: {0}")]
     Failed(u64),
+    /// A desk failed at a command.
+    #[error("the request failed, and nothing was changed: {0}")]
+    Request(Fault),
+    /// A file that is to be read can't be: its path, and why.
+    #[error("cannot read {0:?}: {1}")]
+    Read(String, io::Error),
+    /// A file can't keep a desk: its path, and why.
+    #[error("cannot use {0:?}: {1}")]
+    Database(String, Trouble),
+    /// What was done couldn't be moved into the file that keeps the desk: its path, and why.
+    #[error("cannot close {0:?}: {1}; what was done stands in the file beside it whose name ends in -wal: keep both together")]
+    Close(String, Trouble),
     /// The files of a tree can't be had.
     #[error("{0}")]
     Tree(TreeFault),

@@ -6,11 +6,15 @@
 #![tactic(auto)]
 
 mod commands;
+mod database;
 mod failure;
+mod filing;
 mod gathering;
+mod input;
 mod linting;
 mod listing;
 mod report;
+mod trouble;
 
 use crate::failure::Failure;
 use desk_base::{Profile, Text};
@@ -22,7 +26,6 @@ use std::alloc::{AllocError, Global};
 use std::io::{BufWriter, IsTerminal};
 use std::mem::ManuallyDrop;
 use std::process::ExitCode;
-use std::rt::{Env, Files};
 use std::{env, io};
 
 const USAGE: u8 = 2;
@@ -31,10 +34,7 @@ const USAGE: u8 = 2;
 const LARGE_BYTES: usize = 16_777_216;
 
 /// Does what the words ask for, and answers the status. What takes long is told on standard error where that is watched.
-fn run<R: Env + Files + Print + Input + Eprint + AllocGlobal + Clone + Drop>(
-    rt: &R,
-    is_watched: bool,
-) -> Result<u8, Failure> {
+fn run(rt: &HostRuntime, is_watched: bool) -> Result<u8, Failure> {
     let alloc = rt.alloc();
     let owned = match env::args(rt) {
         Ok(owned) => owned.collect::<Vec<String>>(alloc)?,
@@ -90,7 +90,7 @@ fn check<R: Print>(
     )
 }
 
-/// Replies to the requests of standard input.
+/// Replies to the requests of standard input on a desk in memory.
 fn script<R: Print + Input + AllocGlobal + Clone + Drop>(
     rt: &R,
     alloc: Global,
@@ -102,12 +102,27 @@ fn script<R: Print + Input + AllocGlobal + Clone + Drop>(
     commands::script(alloc, &mut *desk, &mut rt.reader(), &mut writer)
 }
 
-fn answer<R: Files + Print + Input + Eprint + AllocGlobal + Clone + Drop>(
-    rt: &R,
-    alloc: Global,
-    call: &Call,
+/// Writes the document of a source tree.
+fn gather(
+    rt: &HostRuntime,
+    folder: &str,
+    name: &str,
+    namespace: &str,
+    created: &str,
     is_watched: bool,
 ) -> Result<u8, Failure> {
+    let files = files_of(rt, folder, is_watched)?;
+    commands::gather(
+        rt.alloc(),
+        files.as_slice(),
+        name,
+        namespace,
+        created,
+        &mut io::writer(rt),
+    )
+}
+
+fn answer(rt: &HostRuntime, alloc: Global, call: &Call, is_watched: bool) -> Result<u8, Failure> {
     match call {
         Call::Check {
             expression,
@@ -118,22 +133,27 @@ fn answer<R: Files + Print + Input + Eprint + AllocGlobal + Clone + Drop>(
             expression,
             profile,
         } => commands::alternatives(alloc, expression.as_str(), *profile, &mut io::writer(rt)),
-        Call::Script => script(rt, alloc),
+        Call::Script { database: None } => script(rt, alloc),
+        Call::Script {
+            database: Some(path),
+        } => database::script(rt, path.as_str()),
+        Call::Import {
+            database,
+            document,
+            profile,
+        } => database::import(rt, database.as_str(), document.as_str(), *profile),
+        Call::Catalogue {
+            database,
+            catalogue,
+        } => { database::load(rt, database.as_str(), catalogue.as_str()) }
         Call::Gather {
             folder,
             name,
             namespace,
             created,
         } => {
-            let files = files_of(rt, folder.as_str(), is_watched)?;
-            commands::gather(
-                alloc,
-                files.as_slice(),
-                name.as_str(),
-                namespace.as_str(),
-                created.as_str(),
-                &mut io::writer(rt),
-            )
+            let (name, namespace, created) = (name.as_str(), namespace.as_str(), created.as_str());
+            gather(rt, folder.as_str(), name, namespace, created, is_watched)
         }
         Call::Lint { folder, json } => {
             let files = files_of(rt, folder.as_str(), is_watched)?;

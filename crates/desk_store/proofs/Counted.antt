@@ -7,7 +7,6 @@ use Rattle.desk_rows.specs.declared.command.Change.TheVariants as change
 use Rattle.desk_store.specs.Counting.{known_by, counts_after, forms_after}
 use Rattle.desk_store.specs.declared.counts.Counts.{Counts}
 use Rattle.desk_rows.specs.declared.command.Fault.{Fault}
-use Rattle.desk_access.specs.Follows.{Follows}
 use Rattle.desk_access.specs.Seen.{Seen, Kept, Same, Looked, OfRows, Made, Failed}
 use Rattle.desk_layout.specs.Held.{Known, Stands, known_of, known_after, counted}
 use Rattle.desk_layout.proofs.Counting.{known_kept}

@@ -1,5 +1,5 @@
 -- What creating a desk in a database, and adopting one, tell and leave.
-use Rattle.std.specs.Prelude.{◌≡◌, List, [], length}
+use Rattle.std.specs.Prelude.{◌≡◌, [], length}
 use Rattle.sqlite_trees.specs.Tree.{Trees}
 use Rattle.sqlite.specs.State.{State}
 use Rattle.desk_rows.specs.Readings.{Readings}

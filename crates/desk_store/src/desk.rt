@@ -44,12 +44,7 @@ pub struct SqlDesk<S: Alter> {
 }
 
 impl<S: Alter> SqlDesk<S> {
-    fn over(
-        alloc: Global,
-        conn: Connection<S>,
-        counts: Counts,
-        forms: Items<Text>,
-    ) -> SqlDesk<S>
+    fn over(alloc: Global, conn: Connection<S>, counts: Counts, forms: Items<Text>) -> SqlDesk<S>
         requires { conn.in_transaction ≡ false }
         ensures same { result.desk.store.conn ≡ conn }
         ensures holds { (t : Tables) → known_of t ≡ known_by counts forms → (seen_of (state S.Store conn)).holds t → (⟦<SqlDesk<S> as Desk>⟧.seen result).holds t }

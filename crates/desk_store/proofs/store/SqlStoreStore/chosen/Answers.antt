@@ -1,6 +1,3 @@
-use Rattle.sqlite.specs.Held.{state}
-use Rattle.desk_layout.specs.Held.{seen_of}
-use Rattle.desk_store.specs.Counting.{known_by}
 use Rattle.desk_store.proofs.Counted.{looked}
 use Rattle.desk_store.proofs.store.SqlStoreStore.chosen.Goals as goal
 

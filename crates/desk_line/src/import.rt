@@ -1,0 +1,87 @@
+//! The subcommand that imports a document.
+
+ghost use Rattle.std.specs.Prelude.{◌≡◌, IfOk, false};
+ghost use Rattle.clap.specs.Words.{app_of, found_of, rows_of};
+ghost use Rattle.clap.specs.declared.builder.command.Command.TheViews.{out-Command};
+ghost use Rattle.desk_line.specs.Words.{import_app};
+ghost use Rattle.desk_line.specs.Calls.{import_in};
+
+use crate::arguments::{database_arg, word_arg};
+use crate::call::Call;
+use crate::subcommands::profile_arg;
+use crate::values::{profile_in, text_in};
+use clap::{ArgMatches, Command};
+use desk_base::Text;
+use std::alloc::{AllocError, Global};
+
+const ABOUT: &str = "Imports an SPDX document into the desk that a file keeps";
+
+const LONG_ABOUT: &str = "\
+Imports an SPDX document into the desk that a file keeps
+
+Reads a tag-value document (SPDX 2.1, 2.2 or 2.3) from DOC, imports it as the request import of script
+does, and prints the reply, one line of JSON:
+
+  {\"document\":N,\"new\":true}              it was taken in as document N
+  {\"document\":N,\"new\":false}             the same bytes stand already as document N
+  {\"at\":[..],\"name\":\"..\",\"refused\":..}   it was refused, and nothing was changed";
+
+const AFTER_HELP: &str = "\
+A FILE that is not there, is empty, or is a database without a table meta becomes an empty desk first.
+Any other that keeps no desk of this version is left as it is, and one line says so:
+
+  fault: NotADesk    it is a database of something else
+  fault: BadVersion  it keeps a desk of another version
+
+One program at a time has FILE open. While one does, and after it was stopped, the last changes stand in
+FILE-wal beside it: keep and copy both files together. DOC may be /dev/stdin. It is read before FILE is
+opened.
+
+Examples:
+  desk import --db desk.db kettle.spdx
+  desk import --db desk.db --profile 2 jug.spdx
+  desk gather src --name src --namespace https://example.org/src --created 2025-01-01T00:00:00Z |
+    desk import --db desk.db /dev/stdin
+
+Statuses:
+  0  it was taken in, or stands already
+  1  it was refused, or FILE keeps no such desk
+  2  the command line is wrong
+  3  no memory, or a file or stream failed";
+
+/// The subcommand as `clap` reads it.
+pub(crate) fn import_command<'a>(alloc: Global) -> Result<Command<'a>, AllocError>
+    ensures shape { IfOk result (λ c. app_of c ≡ import_app) }
+    ensures local { IfOk result (λ c. (out-Command c).has_globals ≡ false) }
+{
+    Command::new(alloc, "import")
+        .about(ABOUT)
+        .long_about(LONG_ABOUT)
+        .after_help(AFTER_HELP)
+        .arg(database_arg(alloc))?
+        .arg(profile_arg(alloc))?
+        .arg(word_arg(alloc, "DOC", "The file of the document"))
+}
+
+/// The call with the values of these matches, or `None` where they lack one, or the profile is none.
+pub(crate) fn import_from(
+    alloc: Global,
+    matches: &ArgMatches<'_>,
+) -> Result<Option<Call>, AllocError>
+    ensures { IfOk result (λ r. r ≡ import_in (rows_of (found_of matches.now))) }
+{
+    let Some(database) = text_in(matches, "FILE") else {
+        return Ok(None);
+    };
+    let Some(document) = text_in(matches, "DOC") else {
+        return Ok(None);
+    };
+    let Some(profile) = profile_in(matches) else {
+        return Ok(None);
+    };
+    Ok(Some(Call::Import {
+        database: Text::of(alloc, database)?,
+        document: Text::of(alloc, document)?,
+        profile,
+    }))
+}

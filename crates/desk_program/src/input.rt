@@ -1,0 +1,44 @@
+//! The files of documents and catalogues.
+
+use crate::failure::Failure;
+use std::alloc::AllocError;
+use std::fs::File;
+use std::io::{self, Read};
+use std::rt::Files;
+
+/// How many bytes of a file are read. A document and a catalogue have at most 4 MiB, so what is longer than this is refused for its
+/// size by what was read of it.
+const MOST_BYTES: usize = 67_108_864;
+
+// Takes the last character of some bytes away, which may have been cut.
+fn drop_last_character(bytes: &mut Vec<u8>) {
+    for _ in 0..4 {
+        match bytes.pop() {
+            Some(byte) if byte & 0xC0 == 0x80 => {}
+            _ => break,
+        }
+    }
+}
+
+fn read_at<R: Files + AllocGlobal + Clone + Drop>(rt: &R, path: &str) -> io::Result<Vec<u8>> {
+    let mut bytes = Vec::new(rt.alloc());
+    File::open(rt, path)?
+        .take(MOST_BYTES as u64)
+        .read_to_end(&mut bytes)?;
+    if bytes.len() >= MOST_BYTES {
+        drop_last_character(&mut bytes);
+    }
+    Ok(bytes)
+}
+
+/// The bytes of the file at a path; of one that is longer than 64 MiB, so many of them.
+pub fn bytes_at<R: Files + AllocGlobal + Clone + Drop>(
+    rt: &R,
+    path: &str,
+) -> Result<Vec<u8>, Failure> {
+    match read_at(rt, path) {
+        Ok(bytes) => Ok(bytes),
+        Err(error) if error.kind() == io::ErrorKind::OutOfMemory => Err(Failure::from(AllocError)),
+        Err(error) => Err(Failure::Read(String::from_str(rt.alloc(), path)?, error)),
+    }
+}
