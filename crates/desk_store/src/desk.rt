@@ -84,8 +84,9 @@ impl<S: Alter> SqlDesk<S> {
     ///
     /// It isn't adopted as `BadVersion` where its table `meta` tells another version than 3, whatever else stands in it; as
     /// `NotADesk` where no table `meta` tells one version, or where not all tables of a desk are declared as `create` declares them,
-    /// or a table, an index or a view stands beside them. After these the connection is as it was. A fault tells that memory was
-    /// wanting, that the database failed, or that it gave rows that no desk has, such as a catalogue in force that can't be read.
+    /// in its order, or where a table, an index or a view stands beside them. After these the connection is as it was. A fault tells
+    /// that memory was wanting, that the database failed, or that it gave rows that no desk has, such as a catalogue in force that
+    /// can't be read.
     pub fn adopt_connection(
         alloc: Global,
         conn: Connection<S>,

@@ -1,4 +1,12 @@
-//! The desk's rows in a SQL database.
+//! The desk in a SQL database.
+//!
+//! `SqlStore` is a store of rows over a connection: it looks them up by `desk_lookups`, writes a change by `desk_writing`, and keeps in
+//! its own value how many rows some tables have and the forms of the catalogue in force (`specs/Counting.antt`).
+//!
+//! `SqlDesk` is the desk over such a store, with the reader of texts by their standards. `create` makes the tables of an empty desk in
+//! a database where nothing stands; `adopt_connection` takes a database that holds a desk's tables as the desk with those rows; both
+//! hand the connection back where they don't. `into_connection` gives back a desk's connection. What each tells and leaves, also for a
+//! stop of the program, is said in `specs/Adopting.antt`.
 #![tactic(auto)]
 
 mod adopt;

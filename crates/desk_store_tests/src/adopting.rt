@@ -100,9 +100,15 @@ fn creation(alloc: Global, statements: &str) -> Result<String, Fail> {
 fn creates_where_nothing_stands(rt: HostRuntime) -> Result<(), Fail> {
     for (statements, fault) in [
         ("", "None"),
-        ("CREATE TABLE meta (version INTEGER PRIMARY KEY) STRICT", "Some(NotEmpty)"),
+        (
+            "CREATE TABLE meta (version INTEGER PRIMARY KEY) STRICT",
+            "Some(NotEmpty)",
+        ),
         ("CREATE TABLE Meta (a TEXT)", "Some(NotEmpty)"),
-        ("CREATE TABLE other (a TEXT)", "Some(Fault(Store(Database)))"),
+        (
+            "CREATE TABLE other (a TEXT)",
+            "Some(Fault(Store(Database)))",
+        ),
     ] {
         let told = creation(rt.alloc(), statements)?;
         assert!(rt; told.as_str() == fault, "{statements}: {told}");
@@ -131,16 +137,31 @@ fn adopts_no_other_database(rt: HostRuntime) -> Result<(), Fail> {
     for (statements, fault) in [
         ("", "NotADesk"),
         ("CREATE TABLE other (version INTEGER)", "NotADesk"),
-        ("CREATE TABLE meta (a INTEGER); INSERT INTO meta VALUES (3)", "NotADesk"),
+        (
+            "CREATE TABLE meta (a INTEGER); INSERT INTO meta VALUES (3)",
+            "NotADesk",
+        ),
         ("CREATE TABLE meta (version INTEGER)", "NotADesk"),
-        ("CREATE TABLE meta (version INTEGER); INSERT INTO meta VALUES (9), (9)", "NotADesk"),
-        ("CREATE TABLE meta (version TEXT); INSERT INTO meta VALUES ('9')", "NotADesk"),
-        ("CREATE TABLE meta (version INTEGER); INSERT INTO meta VALUES (3)", "NotADesk"),
+        (
+            "CREATE TABLE meta (version INTEGER); INSERT INTO meta VALUES (9), (9)",
+            "NotADesk",
+        ),
+        (
+            "CREATE TABLE meta (version TEXT); INSERT INTO meta VALUES ('9')",
+            "NotADesk",
+        ),
+        (
+            "CREATE TABLE meta (version INTEGER); INSERT INTO meta VALUES (3)",
+            "NotADesk",
+        ),
         (
             "CREATE TABLE meta (version INTEGER PRIMARY KEY) STRICT; INSERT INTO meta VALUES (9)",
             "BadVersion(9)",
         ),
-        ("CREATE TABLE META (a TEXT, Version INTEGER); INSERT INTO meta VALUES ('', -1)", "BadVersion(-1)"),
+        (
+            "CREATE TABLE META (a TEXT, Version INTEGER); INSERT INTO meta VALUES ('', -1)",
+            "BadVersion(-1)",
+        ),
     ] {
         let conn = database(rt.alloc(), statements)?;
         let told = adoption(rt.alloc(), Some(conn))?;
@@ -157,12 +178,24 @@ fn adopts_no_changed_desk(rt: HostRuntime) -> Result<(), Fail> {
         ("CREATE TABLE other (a TEXT)", "NotADesk"),
         ("CREATE VIEW other AS SELECT number FROM duty", "NotADesk"),
         ("CREATE INDEX other ON duty (state)", "NotADesk"),
-        ("DROP TABLE reading; CREATE TABLE reading (document INTEGER PRIMARY KEY, profile INTEGER) STRICT", "NotADesk"),
-        ("DROP TABLE reading; CREATE TABLE reading (document INTEGER PRIMARY KEY, profile INTEGER NOT NULL) STRICT", "adopted"),
+        (
+            "DROP TABLE reading; CREATE TABLE reading (document INTEGER PRIMARY KEY, profile INTEGER) STRICT",
+            "NotADesk",
+        ),
+        (
+            "DROP TABLE reading; CREATE TABLE reading (document INTEGER PRIMARY KEY, profile INTEGER NOT NULL) STRICT",
+            "NotADesk",
+        ),
         ("DELETE FROM meta", "NotADesk"),
         ("UPDATE meta SET version = 2", "BadVersion(2)"),
-        ("DROP TABLE waiver; UPDATE meta SET version = 1", "BadVersion(1)"),
-        ("INSERT INTO catalogue VALUES (1, 'no catalogue')", "the store failed"),
+        (
+            "DROP TABLE waiver; UPDATE meta SET version = 1",
+            "BadVersion(1)",
+        ),
+        (
+            "INSERT INTO catalogue VALUES (1, 'no catalogue')",
+            "the store failed",
+        ),
     ] {
         let conn = changed_desk(rt.alloc(), statements)?;
         let told = adoption(rt.alloc(), conn)?;

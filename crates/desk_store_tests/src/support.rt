@@ -8,6 +8,7 @@ use sqlite::{Connection, Error, MemStore};
 use std::alloc::{AllocError, Global};
 
 pub type Database = Connection<MemStore>;
+
 pub type Tested = SqlDesk<MemStore>;
 
 /// The reply to a request.
