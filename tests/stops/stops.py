@@ -55,11 +55,11 @@ class Desk:
         return done.stdout.splitlines(keepends=True), done.returncode, done.stderr, os.path.exists(self.told)
 
     def tables(self):
-        """The rows of each table, as SQLite reads a copy of the files."""
+        """The rows of each table, as SQLite reads a copy of the files; none of files that are no database yet."""
         with tempfile.TemporaryDirectory(dir=self.room) as room:
             copy = os.path.join(room, "copy.db")
             if not os.path.exists(self.file):
-                return {}
+                return None
             for end in ("", "-wal"):
                 if os.path.exists(self.file + end):
                     shutil.copy(self.file + end, copy + end)
@@ -70,6 +70,8 @@ class Desk:
                     sys.exit(f"the file isn't sound: {found}")
                 names = [name for (name,) in connection.execute("SELECT name FROM sqlite_schema WHERE type = 'table' ORDER BY name")]
                 return {name: sorted(connection.execute(f"SELECT * FROM {name}"), key=repr) for name in names}
+            except sqlite3.DatabaseError:
+                return None
             finally:
                 connection.close()
 
@@ -100,21 +102,21 @@ class Script:
             return False
         if status != STOPPED or told != self.replies[: len(told)]:
             self.fail(disk, f"status {status}, {told}")
-        right = [{}] if not told else []
-        right += self.after[len(told) : len(told) + 2]
+        right = self.after[len(told) : len(told) + 2]
         by_sqlite = self.desk.tables()
         again, status, words, _ = self.desk.run([])
         by_desk = self.desk.tables()
         if (again, status, words) != ([], 0, b""):
             self.fail(disk, f"opened again: status {status}, {again}, {words}")
-        if by_sqlite not in right or by_desk not in right or (by_sqlite and by_sqlite != by_desk):
+        is_begun = by_sqlite or told
+        if by_desk not in right or is_begun and by_sqlite != by_desk:
             self.fail(disk, f"the tables after {len(told)} replies are other ones")
         return True
 
-    def told_without(self, failed):
-        """The replies and the tables of a run without some requests."""
+    def served(self, places):
+        """The replies and the tables of a run of the requests at these places alone."""
         self.desk.clear()
-        told = self.desk.run([request for place, request in enumerate(self.requests) if place not in failed])[0]
+        told = self.desk.run([self.requests[place] for place in places])[0]
         return told, self.desk.tables()
 
     def refuse(self, **disk):
@@ -130,15 +132,14 @@ class Script:
         failed = [place for place, reply in enumerate(told) if reply == STORE]
         if status == 3 and not words or status != 3 and (failed or len(told) < len(self.requests)):
             self.fail(disk, f"status {status}, {told}, {words}")
-        failed += range(len(told), len(self.requests))
-        replies, recorded = self.told_without(failed)
-        right = [recorded, {}] if len(failed) == len(self.requests) else [recorded]
-        kept = [reply for place, reply in enumerate(told) if place not in failed]
-        changed = [place for place, request in enumerate(self.requests) if not is_question(request)]
-        if failed and failed[0] in changed and all(place in failed for place in changed if place > failed[0]):
-            right.append(self.told_without(failed[1:])[1])
-        if kept != replies or tables not in right:
-            self.fail(disk, f"status {status}, {told}, {words}")
+        answered = [place for place in range(len(told)) if place not in failed]
+        recorded = [place for place in answered if b'"refused"' not in told[place] and not is_question(self.requests[place])]
+        right = [self.served(recorded)[1]] if recorded else [self.after[0], {}, None]
+        begun = [place for place in failed if not is_question(self.requests[place]) and place > max(recorded, default=-1)]
+        if begun:
+            right.append(self.served([*recorded, begun[0]])[1])
+        if [told[place] for place in answered] != self.served(answered)[0] or tables not in right:
+            self.fail(disk, f"status {status}, {told}, {words}, {tables}")
         return True
 
     def each(self, run, **disk):

@@ -1,6 +1,6 @@
 //! Desks over files in memory that refuse calls and crash.
 
-ghost use Rattle.std.specs.Prelude.{IsTrue, ◌≡◌, false};
+ghost use Rattle.std.specs.Prelude.{IsTrue};
 
 use desk_rows::Outcome;
 use desk_script::{Reply, answer_line};
@@ -53,80 +53,125 @@ pub fn crashed(files: Files<Failing>) -> Files<Failing>
     Files { log, db }
 }
 
-/// How many requests are answered, one after the other, until one fails.
-fn answered(
-    alloc: Global,
-    desk: &mut SqlDesk<FileStore<Failing>>,
-    requests: &[&str],
-) -> Result<usize, AllocError> {
-    for place in 0..requests.len() {
-        let text = Vec::from_slice(alloc, requests[place].as_bytes())?;
-        if let Reply::Became(Outcome::Failed(_)) = answer_line(alloc, desk, text) {
-            return Ok(place);
-        }
+type Database = Connection<FileStore<Failing>>;
+
+type FileDesk = SqlDesk<FileStore<Failing>>;
+
+/// Whether a request is answered.
+fn is_answered(alloc: Global, desk: &mut FileDesk, request: &str) -> Result<bool, AllocError> {
+    let text = Vec::from_slice(alloc, request.as_bytes())?;
+    match answer_line(alloc, desk, text) {
+        Reply::Became(Outcome::Failed(_)) => Ok(false),
+        _ => Ok(true),
     }
-    Ok(requests.len())
 }
 
-/// What became of a run: how many requests were answered, and the files.
+/// How many requests are answered, one after the other, until one fails.
+fn answered(alloc: Global, desk: &mut FileDesk, requests: &[&str]) -> Result<usize, AllocError> {
+    let mut count = 0;
+    for request in requests {
+        if !is_answered(alloc, desk, request)? {
+            return Ok(count);
+        }
+        count += 1;
+    }
+    Ok(count)
+}
+
+/// What became of requests: how many were answered, and the files.
 #[derive(Drop)]
 pub struct Served {
     pub answered: usize,
     pub files: Files<Failing>,
 }
 
-/// Creates a desk, hands requests to it until one fails, and closes the files.
-fn on_new_desk(
-    alloc: Global,
-    conn: Connection<FileStore<Failing>>,
-    requests: &[&str],
-) -> Result<Served, AllocError>
-    requires { conn.in_transaction ≡ false }
-{
-    match SqlDesk::create(alloc, conn) {
-        Ok(mut desk) => {
-            let answered = answered(alloc, &mut desk, requests)?;
-            let files = closed(desk.into_connection());
-            Ok(Served { answered, files })
-        }
-        Err((_, conn)) => Ok(Served {
-            answered: 0,
-            files: conn.into_store().close(),
-        }),
-    }
-}
-
-/// The files of a connection, closed or not.
-fn closed(conn: Connection<FileStore<Failing>>) -> Files<Failing> {
+/// The files of a connection, whose log is copied into the file if that can be done.
+fn closed(conn: Database) -> Files<Failing> {
     match conn.close_files() {
         Ok(files) => files,
         Err((_, store)) => store.close(),
     }
 }
 
-/// Runs requests on a desk in new files.
-pub fn run(alloc: Global, files: Files<Failing>, requests: &[&str]) -> Result<Served, AllocError>
+/// The files of a desk.
+fn files_of(desk: FileDesk) -> Files<Failing> {
+    closed(desk.into_connection())
+}
+
+/// The database of files.
+fn opened(alloc: Global, files: Files<Failing>) -> Result<Database, Files<Failing>>
     requires log { IsTrue (⟦<Fuse<Memory> as Disk>⟧.is_usable files.log) }
     requires db { IsTrue (⟦<Fuse<Memory> as Disk>⟧.is_usable files.db) }
 {
     match Connection::open_files(alloc, files, Options::new(7)) {
-        Ok(conn) => on_new_desk(alloc, conn, requests),
-        Err((_, left)) => Ok(Served {
-            answered: 0,
-            files: left.into_files(),
-        }),
+        Ok(conn) => Ok(conn),
+        Err((_, left)) => Err(left.into_files()),
     }
 }
 
-/// All rows of a desk, as a text; nothing where no desk was created.
-fn rows(alloc: Global, mut conn: Connection<FileStore<Failing>>) -> Result<String, Fail> {
-    let mut text = String::new(alloc);
-    for query in ROWS {
-        for row in conn.query_all(query, &[])?.as_slice() {
-            writeln!(text, "{row:?}")?;
+/// A desk in a database where nothing stands.
+fn created(alloc: Global, conn: Database) -> Result<FileDesk, Files<Failing>> {
+    if !conn.is_autocommit() {
+        return Err(closed(conn));
+    }
+    match SqlDesk::create(alloc, conn) {
+        Ok(desk) => Ok(desk),
+        Err((_, conn)) => Err(closed(conn)),
+    }
+}
+
+fn new_desk(alloc: Global, files: Files<Failing>) -> Result<FileDesk, Files<Failing>>
+    requires log { IsTrue (⟦<Fuse<Memory> as Disk>⟧.is_usable files.log) }
+    requires db { IsTrue (⟦<Fuse<Memory> as Disk>⟧.is_usable files.db) }
+{
+    created(alloc, opened(alloc, files)?)
+}
+
+/// Serves requests by a desk in new files.
+pub fn serve(alloc: Global, files: Files<Failing>, requests: &[&str]) -> Result<Served, AllocError>
+    requires log { IsTrue (⟦<Fuse<Memory> as Disk>⟧.is_usable files.log) }
+    requires db { IsTrue (⟦<Fuse<Memory> as Disk>⟧.is_usable files.db) }
+{
+    match new_desk(alloc, files) {
+        Ok(mut desk) => {
+            let answered = answered(alloc, &mut desk, requests)?;
+            Ok(Served {
+                answered,
+                files: files_of(desk),
+            })
         }
+        Err(files) => Ok(Served { answered: 0, files }),
+    }
+}
+
+/// The rows that a query shows, a line each.
+fn rows_of(alloc: Global, conn: &mut Database, query: &str) -> Result<String, Fail> {
+    let mut text = String::new(alloc);
+    for row in conn.query_all(query, &[])?.as_slice() {
+        writeln!(text, "{row:?}")?;
     }
     Ok(text)
+}
+
+/// All rows of a desk, as a text.
+fn all_rows(alloc: Global, conn: Database) -> Result<String, Fail> {
+    let mut conn = conn;
+    let mut text = String::new(alloc);
+    for query in ROWS {
+        text.push_str(rows_of(alloc, &mut conn, query)?.as_str())?;
+    }
+    Ok(text)
+}
+
+/// The connection of the desk that the database is adopted as, or why it isn't; none of a database where nothing stands.
+fn adopted(alloc: Global, conn: Database) -> Result<Option<Database>, Fail> {
+    if conn.schema().tables.as_slice().is_empty() || !conn.is_autocommit() {
+        return Ok(None);
+    }
+    match SqlDesk::adopt_connection(alloc, conn) {
+        Ok(desk) => Ok(Some(desk.into_connection())),
+        Err((fault, _)) => Err(Fail::from(fault)),
+    }
 }
 
 /// All rows of the desk that the files hold, which is adopted first; nothing where they hold none.
@@ -134,15 +179,11 @@ pub fn found(alloc: Global, files: Files<Failing>) -> Result<String, Fail>
     requires log { IsTrue (⟦<Fuse<Memory> as Disk>⟧.is_usable files.log) }
     requires db { IsTrue (⟦<Fuse<Memory> as Disk>⟧.is_usable files.db) }
 {
-    let conn = match Connection::open_files(alloc, files, Options::new(7)) {
-        Ok(conn) => conn,
-        Err((error, _)) => return Err(Fail::from(error)),
+    let Ok(conn) = opened(alloc, files) else {
+        return Err(Fail::from("the files are no database"));
     };
-    if conn.schema().tables.as_slice().is_empty() {
-        return Ok(String::new(alloc));
-    }
-    match SqlDesk::adopt_connection(alloc, conn) {
-        Ok(desk) => rows(alloc, desk.into_connection()),
-        Err((fault, _)) => Err(Fail::from(fault)),
+    match adopted(alloc, conn)? {
+        Some(conn) => all_rows(alloc, conn),
+        None => Ok(String::new(alloc)),
     }
 }

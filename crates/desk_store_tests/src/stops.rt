@@ -1,6 +1,6 @@
 //! A release that is frozen and what comes after it, stopped at each call.
 
-use crate::files::{crashed, found, new_files, run};
+use crate::files::{crashed, found, new_files, serve};
 use crate::scripts::{MET, UP_TO_THE_FREEZE, WITHDRAWN};
 use std::alloc::{AllocError, Global};
 use std::process::Abort;
@@ -25,8 +25,8 @@ fn requests(alloc: Global, later: &[&'static str]) -> Result<Vec<&'static str>, 
 fn rows_after(alloc: Global, requests: &[&str]) -> Result<Vec<String>, Fail> {
     let mut rows = Vec::new(alloc);
     for count in 0..=requests.len() {
-        let ran = run(alloc, new_files(alloc, ALL, ALL), &requests[..count])?;
-        rows.push(found(alloc, crashed(ran.files))?)?;
+        let served = serve(alloc, new_files(alloc, ALL, ALL), &requests[..count])?;
+        rows.push(found(alloc, crashed(served.files))?)?;
     }
     Ok(rows)
 }
@@ -40,12 +40,19 @@ fn stop(
     right: &[String],
     calls: (u64, u64),
 ) -> Result<usize, Fail> {
-    let ran = run(alloc, new_files(alloc, calls.0, calls.1), requests)?;
-    let answered = ran.answered;
-    let left = found(alloc, crashed(ran.files))?;
+    let served = serve(alloc, new_files(alloc, calls.0, calls.1), requests)?;
+    let answered = served.answered;
+    let left = found(alloc, crashed(served.files))?;
     let is_none = answered == 0 && left.is_empty();
-    let is_right = right.iter().skip(answered).take(2).any(|rows| *rows == left);
-    assert!(rt; is_none || is_right, "{answered} requests were answered, and then: {left}");
+    let is_right = right
+        .iter()
+        .skip(answered)
+        .take(2)
+        .any(|rows| *rows == left);
+    assert!(rt;
+        is_none || is_right,
+        "{answered} requests were answered, and then: {left}"
+    );
     Ok(answered)
 }
 
