@@ -23,3 +23,5 @@ mod Held
 mod Numbers
 mod Sorting
 mod Ends
+mod Rising
+mod Listed

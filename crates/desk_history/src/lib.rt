@@ -20,7 +20,7 @@ ghost use Rattle.desk_rows.specs.declared.row.FrozenRow.{FrozenRow};
 ghost use Rattle.desk_rows.specs.declared.command.Command.{Command};
 ghost use Rattle.desk_rows.specs.Moves.{moves, place, is_raised_for};
 ghost use Rattle.desk_rows.specs.States.{is_met};
-ghost use Rattle.desk_history.specs.Laws.{IsOver};
+ghost use Rattle.desk_history.specs.Laws.{IsOver, ListsInOrder, AreSortedAsListed};
 ghost use Rattle.desk_rows.specs.declared.state.DutyState.TheVariants.{IsOpen, Met, Withdrawn};
 ghost use Rattle.desk_rows.specs.declared.command.Command.TheVariants.{Choose, CloseDay, Withdraw};
 
@@ -99,9 +99,17 @@ pub fn waivers_end_after_their_last_day()
 {}
 
 /// The tables of each list of commands, for each reading of texts, stand in the order of their keys: no row stands behind one that it
-/// goes before. The rules of a revision, and a document's packages and references, stand in the order in which texts list them.
+/// goes before. The rules of a revision, and a document's packages and references, stand in the order in which texts list them
+/// (`listed_tables_are_sorted`).
 pub fn tables_are_sorted()
     ensures { (w : Readings) (h : List Command) → AreSorted (tables w h) }
+{}
+
+/// The rules of all revisions stand by revision, term and form, the packages of all documents by document and id, and the extracted
+/// licences by document and reference, no two at one key, where the reading of texts lists each catalogue's rules and each document's
+/// packages and references so.
+pub fn listed_tables_are_sorted()
+    ensures { (w : Readings) (h : List Command) → ListsInOrder w → AreSortedAsListed (tables w h) }
 {}
 
 /// A recorded history with a recorded command is a recorded history.
