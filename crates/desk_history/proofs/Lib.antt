@@ -25,3 +25,4 @@ mod Sorting
 mod Ends
 mod Rising
 mod Listed
+mod Raising
