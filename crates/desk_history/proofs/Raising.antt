@@ -1,18 +1,18 @@
 -- What a freeze raises rises by document, package, term and code.
-use Rattle.std.proofs.Common.{◌≡◌, ◌≢◌, ℕ, ◌+◌, ◌<◌, Bool, true, false, cond, List, [], ◌∷◌, ◌++◌, length, map, Option, Some, None, sym, refl, ap, ◌∙◌, subst, arith, inl, inr}
+use Rattle.std.proofs.Common.{◌≡◌, ◌≢◌, ℕ, ◌+◌, ◌<◌, Bool, true, false, cond, List, [], ◌∷◌, ◌++◌, length, Option, Some, None, sym, refl, ap, ◌∙◌, subst, arith}
 use Rattle.std.specs.Prelude.{filter, nat_lt, not, ◌||◌, ◌==◌, unwrap_or, Result, Ok, Err}
-use Rattle.std.specs.List.{enumerate_from, filter_map, flat_map}
+use Rattle.std.specs.List.{enumerate_from, filter_map}
 use Rattle.std.specs.Option.{option_and_then}
 use Rattle.std.specs.Result.{result_ok}
 use Rattle.std.specs.Str.{bytes_eq}
-use Rattle.std.specs.Ordering.{is_lt, nat_cmp, on, then_cmp, ordering_then}
+use Rattle.std.specs.Ordering.{is_lt, nat_cmp, ordering_then}
 use Rattle.std.specs.Cmp.Lexicographic.{slice_cmp}
 use Rattle.std.specs.declared.cmp.Ordering.{Ordering}
 use Rattle.std.specs.declared.cmp.Ordering.TheVariants.{Less, Equal, Greater}
 use Rattle.std.proofs.lemmas.Cmp.{nat_cmp_total, nat_list_cmp_total, on_total, then_total, tied_itself}
 use Rattle.std.proofs.lemmas.Bool.Decides.{nat_tests}
 use Rattle.desk_base.specs.Day.{is_day}
-use Rattle.desk_rows.specs.Lists.{IsIn, in_order, latest}
+use Rattle.desk_rows.specs.Lists.{IsIn, latest}
 use Rattle.desk_rows.specs.Texts.{text_below}
 use Rattle.desk_rows.specs.Readings.{Readings}
 use Rattle.desk_rows.specs.Keys.{below_by, attached_order, is_attached_to, is_shipped_by}
@@ -30,7 +30,7 @@ use Rattle.desk_history.proofs.Listed.{rising_packages}
 use Rattle.desk_history.proofs.Members.{from_map}
 use Rattle.desk_history.proofs.Minimal.{history_before}
 use Rattle.desk_history.proofs.Numbers.{numbered_in}
-use Rattle.desk_history.proofs.OwnKeys.{Key, under_all, rule_in, owed_key, key_under, place_of, package_of, key_for_terms, distinct-documents, shipped_document, owed_release, raised_closed, open_on}
+use Rattle.desk_history.proofs.OwnKeys.{under_all, rule_in, owed_key, key_under, place_of, package_of, key_for_terms, distinct-documents, shipped_document, owed_release, raised_closed, open_on}
 use Rattle.desk_history.proofs.Rising.{less_by, first_less, rest_less, rises-append, rises-apart, rises-by, rises-filter, rises-flat_map, rises-map, in_numbered, smaller_first, counted}
 use Rattle.desk_history.proofs.Sorting.{ordered}
 use Rattle.desk_rows.specs.declared.reading.Catalogue.{Catalogue}
