@@ -1,5 +1,5 @@
 -- What a freeze raises rises by document, package, term and code.
-use Rattle.std.proofs.Common.{◌≡◌, ◌≢◌, ℕ, ◌+◌, ◌<◌, Bool, true, false, cond, List, [], ◌∷◌, ◌++◌, length, Option, Some, None, sym, refl, ap, ◌∙◌, subst, arith}
+use Rattle.std.proofs.Common.{◌≡◌, ◌≢◌, ℕ, ◌+◌, Bool, true, false, cond, List, [], ◌∷◌, ◌++◌, length, Option, Some, None, sym, refl, ap, ◌∙◌, subst, arith}
 use Rattle.std.specs.Prelude.{filter, nat_lt, not, ◌||◌, ◌==◌, unwrap_or, Result, Ok, Err}
 use Rattle.std.specs.List.{enumerate_from, filter_map}
 use Rattle.std.specs.Option.{option_and_then}
@@ -21,7 +21,7 @@ use Rattle.desk_rows.specs.Conclusions.{adopted, adoptions}
 use Rattle.desk_rows.specs.Raised.{raised, owed_at, owed_for_terms, owed_under, owed_code, rule_adopted, shipped, chosen_in, numbered}
 use Rattle.desk_rows.specs.Moves.{duties, duty_row, place}
 use Rattle.desk_rows.specs.Answers.{IsHistory, walk, conclusion}
-use Rattle.desk_history.specs.Laws.{Ascends, IsCounted, IsNumbered, ListsInOrder, Rises, duty_order, owed_order, package_order}
+use Rattle.desk_history.specs.Laws.{AreNumberedInOrder, Ascends, IsCounted, IsNumbered, ListsInOrder, Rises, duty_order, owed_order, package_order}
 use Rattle.desk_history.proofs.Rows.{same_text, texts_equal}
 use Rattle.desk_history.proofs.Orders.{IsOrder, order_of, under, and_left, and_right, attached_is_order, filter-in_order}
 use Rattle.desk_history.proofs.Chosen.{rises, rises-choice}
@@ -175,8 +175,8 @@ rising_raised w lists (c ∷ h) ok = rising_raised w lists h ok.1
 same_release : (a b : Owed) → a.release ≡ b.release → apart_or_before a b ≡ true → below_by owed_order a b ≡ true
 same_release a b e f = let same : bytes_eq a.release b.release ≡ true = ap (λ r. bytes_eq r b.release) e ∙ same_text b.release in sym (rw same refl) ∙ f
 
-pub numbers_rise : (w : Readings) (h : List Command) (a b : DutyRow) → ListsInOrder w → IsHistory w h → IsIn a (duties w h) → IsIn b (duties w h) → a.release ≡ b.release → a.number < b.number → below_by duty_order a b ≡ true
-numbers_rise w h a b lists ok m n same less =
+pub numbers_rise : (w : Readings) (h : List Command) → ListsInOrder w → IsHistory w h → AreNumberedInOrder (duties w h)
+numbers_rise w h lists ok a b m n same less =
     let row : ℕ × Owed → DutyRow = λ d. duty_row (place w h d.0) d in
     let at = from_map row a (numbered w h) m in
     let to = from_map row b (numbered w h) n in

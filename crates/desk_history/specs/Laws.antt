@@ -1,5 +1,5 @@
 -- Laws of the recorded history, in the subject's own words.
-use Rattle.std.specs.Prelude.{◌≡◌, ℕ, ◌+◌, nat_lt, Bool, true, false, List, [], ◌∷◌, ◌++◌, length, map, filter, find, Some, None, Ok, unwrap_or}
+use Rattle.std.specs.Prelude.{◌≡◌, ℕ, ◌+◌, ◌<◌, nat_lt, Bool, true, false, List, [], ◌∷◌, ◌++◌, length, map, filter, find, Some, None, Ok, unwrap_or}
 use Rattle.std.specs.List.{filter_map, last_or, enumerate_from}
 use Rattle.std.specs.Option.{option_map}
 use Rattle.std.specs.Ordering.{nat_cmp, on, then_cmp}
@@ -191,6 +191,10 @@ abbrev pub duty_order : DutyRow → DutyRow → Ordering
 duty_order =
     then_cmp (on (λ duty. duty.document) nat_cmp) (then_cmp (on (λ duty. duty.package_id) (slice_cmp nat_cmp))
     (then_cmp (on (λ duty. duty.term) (slice_cmp nat_cmp)) (on (λ duty. duty.code) (slice_cmp nat_cmp))))
+
+-- of two duties of one release the one with the smaller number is before the other
+abbrev pub AreNumberedInOrder : List DutyRow → Type 0
+AreNumberedInOrder duties = (a b : DutyRow) → IsIn a duties → IsIn b duties → a.release ≡ b.release → a.number < b.number → below_by duty_order a b ≡ true
 
 -- A duty with its number: a freeze of its release stands in the history and raises it, and its number is one more than the duties of the
 -- freezes before it and those of its own freeze that go before it.

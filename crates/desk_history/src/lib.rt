@@ -3,7 +3,7 @@
 //! the tables of a history.
 #![tactic(auto)]
 
-ghost use Rattle.std.specs.Prelude.{◌≡◌, ◌<◌, ◌⊎◌, true, false, ℕ, ◌+◌, ◌++◌, [], ◌∷◌, List, map, filter};
+ghost use Rattle.std.specs.Prelude.{◌≡◌, ◌⊎◌, true, false, ℕ, ◌+◌, ◌++◌, [], ◌∷◌, List, map, filter};
 ghost use Rattle.desk_rows.specs.Conclusions.{adoptions, conclusions, licence_for, licence_given, office_text, text_given};
 ghost use Rattle.desk_rows.specs.Lists.{IsIn, latest};
 ghost use Rattle.desk_rows.specs.Readings.{Readings};
@@ -20,7 +20,7 @@ ghost use Rattle.desk_rows.specs.declared.row.FrozenRow.{FrozenRow};
 ghost use Rattle.desk_rows.specs.declared.command.Command.{Command};
 ghost use Rattle.desk_rows.specs.Moves.{moves, place, is_raised_for};
 ghost use Rattle.desk_rows.specs.States.{is_met};
-ghost use Rattle.desk_history.specs.Laws.{IsOver, AreSortedAsListed, IsCounted, ListsInOrder, Rises, duty_order, owed_order};
+ghost use Rattle.desk_history.specs.Laws.{IsOver, AreNumberedInOrder, AreSortedAsListed, IsCounted, ListsInOrder, Rises, duty_order, owed_order};
 ghost use Rattle.desk_rows.specs.declared.state.DutyState.TheVariants.{IsOpen, Met, Withdrawn};
 ghost use Rattle.desk_rows.specs.declared.command.Command.TheVariants.{Choose, CloseDay, Withdraw};
 
@@ -44,7 +44,7 @@ pub fn duties_are_numbered_on()
 /// duty's number is one more than the duties of earlier freezes and those of its own freeze that come before it (`counts`).
 pub fn freezes_raise_in_order()
     ensures order { (w : Readings) (h : List Command) (r : List ℕ) → ListsInOrder w → IsHistory w h → Rises (below_by owed_order) (owed_at w h r) }
-    ensures numbers { (w : Readings) (h : List Command) (a b : DutyRow) → ListsInOrder w → IsHistory w h → let t = tables w h in IsIn a t.duty → IsIn b t.duty → a.release ≡ b.release → a.number < b.number → below_by duty_order a b ≡ true }
+    ensures numbers { (w : Readings) (h : List Command) → ListsInOrder w → IsHistory w h → let t = tables w h in AreNumberedInOrder t.duty }
     ensures counts { (w : Readings) (h : List Command) (d : ℕ × Owed) → ListsInOrder w → IsHistory w h → IsIn d (numbered w h) → IsCounted w h d }
 {}
 
