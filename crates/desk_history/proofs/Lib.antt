@@ -23,3 +23,6 @@ mod Held
 mod Numbers
 mod Sorting
 mod Ends
+mod Rising
+mod Listed
+mod Raising

@@ -69,7 +69,7 @@ terms_by w before texts r d p None e = release_by w before texts d p (list_any (
 pub recorded_is_minimal : (w : Readings) (before : List Command) (r : List ℕ) (d : ℕ) (p : List ℕ) (texts : List (List ℕ)) → IsTrue (is_recorded (answer w before (Choose r d p texts))) → IsMinimalChoice w before d p texts
 recorded_is_minimal w before r d p texts e = terms_by w before texts r d p (first_bad w 0 texts) e
 
-history_before : (w : Readings) (later before : List Command) → IsHistory w (later ++ before) → IsHistory w before
+pub history_before : (w : Readings) (later before : List Command) → IsHistory w (later ++ before) → IsHistory w before
 history_before w [] before ok = ok
 history_before w (c ∷ later) before ok = history_before w later before ok.1
 

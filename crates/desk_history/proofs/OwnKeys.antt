@@ -42,10 +42,10 @@ use Rattle.desk_rows.specs.declared.command.Answer.TheVariants as answered
 use Rattle.desk_rows.specs.declared.command.Command.{Command}
 use Rattle.desk_rows.specs.declared.command.Command.TheVariants.{Import, Attach, Freeze, Withdraw}
 
-abbrev Key : Type 0
+abbrev pub Key : Type 0
 Key = List ℕ × ℕ × List ℕ × List ℕ × List ℕ
 
-abbrev owed_key : Owed → Key
+abbrev pub owed_key : Owed → Key
 owed_key d = (d.release, d.document, d.package_id, d.term, d.code)
 
 -- Terms: those of a choice rise
@@ -53,7 +53,7 @@ owed_key d = (d.release, d.document, d.package_id, d.term, d.code)
 not_below_itself : (x : List ℕ) → text_below x x ≡ false
 not_below_itself x = ap is_lt (tied_itself nat_list_cmp_total x)
 
-under_all : (x y : List ℕ) (ys : List (List ℕ)) → under text_below x ys ≡ true → IsIn y ys → text_below x y ≡ true
+pub under_all : (x y : List ℕ) (ys : List (List ℕ)) → under text_below x ys ≡ true → IsIn y ys → text_below x y ≡ true
 under_all x y [] all m = absurd m
 under_all x y (z ∷ zs) all m =
     elim m [
@@ -78,7 +78,7 @@ found_in test x (y ∷ ys) e =
       | false ↦ λ f. inr (found_in test x ys f)
     ]) e
 
-rule_in : (rules : List Rule) (form : List ℕ) (rule : Rule) (o : Option (List ℕ)) → option_and_then (λ t. rule_for rules t form) o ≡ Some rule → IsIn rule rules
+pub rule_in : (rules : List Rule) (form : List ℕ) (rule : Rule) (o : Option (List ℕ)) → option_and_then (λ t. rule_for rules t form) o ≡ Some rule → IsIn rule rules
 rule_in rules form rule None e = cc
 rule_in rules form rule (Some t) e = found_in (is_rule t form) rule rules e
 
@@ -102,16 +102,16 @@ distinct-under w once h r p term form (Some rule) e =
 
 -- Packages: their documents and ids are different
 
-key_under : (r : List ℕ) (p : PackageRow) (term : List ℕ) (o : Option Rule) (d : Owed) → IsIn d (owed_under r p term o) → (d.release ≡ r) × (d.document ≡ p.document) × (d.package_id ≡ p.id) × (d.term ≡ term)
+pub key_under : (r : List ℕ) (p : PackageRow) (term : List ℕ) (o : Option Rule) (d : Owed) → IsIn d (owed_under r p term o) → (d.release ≡ r) × (d.document ≡ p.document) × (d.package_id ≡ p.id) × (d.term ≡ term)
 key_under r p term None d m = absurd m
 key_under r p term (Some rule) d m =
     let found = from_map (owed_code r p term rule) d rule.codes m in
     (ap (λ (o : Owed). o.release) (sym found.2), ap (λ (o : Owed). o.document) (sym found.2), ap (λ (o : Owed). o.package_id) (sym found.2), ap (λ (o : Owed). o.term) (sym found.2))
 
-abbrev place_of : PackageRow → ℕ × List ℕ
+abbrev pub place_of : PackageRow → ℕ × List ℕ
 place_of p = (p.document, p.id)
 
-abbrev package_of : Key → ℕ × List ℕ
+abbrev pub package_of : Key → ℕ × List ℕ
 package_of k = (k.1, k.2)
 
 same_place : (d : Owed) (p : PackageRow) → d.document ≡ p.document → d.package_id ≡ p.id → package_of (owed_key d) ≡ place_of p
@@ -119,7 +119,7 @@ same_place d p e f =
     let pair : ℕ → List ℕ → ℕ × List ℕ = λ n id. (n, id) in
     ap (λ n. pair n d.package_id) e ∙ ap (λ id. pair p.document id) f
 
-key_for_terms : (w : Readings) (h : List Command) (r form : List ℕ) (p : PackageRow) (d : Owed) → IsIn d (owed_for_terms w (adoptions w h) (rules_in (in_force w h)) form r p (chosen_in w h r p)) → (d.release ≡ r) × (package_of (owed_key d) ≡ place_of p)
+pub key_for_terms : (w : Readings) (h : List Command) (r form : List ℕ) (p : PackageRow) (d : Owed) → IsIn d (owed_for_terms w (adoptions w h) (rules_in (in_force w h)) form r p (chosen_in w h r p)) → (d.release ≡ r) × (package_of (owed_key d) ≡ place_of p)
 key_for_terms w h r form p d m =
     let rules = rules_in (in_force w h) in
     let t = from_flat_map (λ (term : List ℕ). owed_under r p term (rule_adopted w (adoptions w h) rules form p.document term)) d (chosen_in w h r p) m in
@@ -212,7 +212,7 @@ same_row x y e f =
     let row : List ℕ → ℕ → AttachedRow = λ r d. record { release = r; document = d } in
     ap (λ (r : List ℕ). row r x.document) e ∙ ap (λ (d : ℕ). row y.release d) f
 
-distinct-documents : (w : Readings) (h : List Command) (r : List ℕ) → IsHistory w h → AreDistinct (map (λ (row : AttachedRow). row.document) (attached_to (attached h) r))
+pub distinct-documents : (w : Readings) (h : List Command) (r : List ℕ) → IsHistory w h → AreDistinct (map (λ (row : AttachedRow). row.document) (attached_to (attached h) r))
 distinct-documents w h r ok =
     let rows = attached_to (attached h) r in
     let release : (x : AttachedRow) → IsIn x rows → x.release ≡ r = λ x m. texts_equal x.release r (from_filter (is_attached_to r) x (attached h) m).1 in
@@ -220,7 +220,7 @@ distinct-documents w h r ok =
     (λ x y m n e. same_row x y (release x m ∙ sym (release y n)) e)
     (distinct-from_map (λ (row : AttachedRow). row) rows (distinct-filter (λ (row : AttachedRow). row) (is_attached_to r) (attached h) (distinct-map (λ (row : AttachedRow). row) (attached h) (λ x y m n e. e) (distinct-attached w h ok))))
 
-shipped_document : (d : ℕ) (p : PackageRow) → is_shipped_by d p ≡ true → p.document ≡ d
+pub shipped_document : (d : ℕ) (p : PackageRow) → is_shipped_by d p ≡ true → p.document ≡ d
 shipped_document d p e = let same : (p.document == d) ≡ true = and_left (p.document == d) p.shipped e in grind (arith, nat_tests)
 
 distinct-shipped : (w : Readings) → ListsOnce w → (h : List Command) (r : List ℕ) → IsHistory w h → AreDistinct (map place_of (shipped w h r))
@@ -241,7 +241,7 @@ distinct-owed w once h r ok =
     (distinct-shipped w once h r ok)
     (λ p m. distinct-terms w once h r form p)
 
-owed_release : (w : Readings) (h : List Command) (r : List ℕ) (d : Owed) → IsIn d (owed_at w h r) → d.release ≡ r
+pub owed_release : (w : Readings) (h : List Command) (r : List ℕ) (d : Owed) → IsIn d (owed_at w h r) → d.release ≡ r
 owed_release w h r d m =
     let rules = rules_in (in_force w h) in
     let form = unwrap_or (form_of h r) [] in
@@ -256,7 +256,7 @@ closed_still true s o f e = f
 closed_still false s o f e = e
 
 -- the release of a duty that was raised is not open
-raised_closed : (w : Readings) (h : List Command) (d : Owed) → IsIn d (raised w h) → state_of h d.release ≢ IsOpen
+pub raised_closed : (w : Readings) (h : List Command) (d : Owed) → IsIn d (raised w h) → state_of h d.release ≢ IsOpen
 raised_closed w [] d m = absurd m
 raised_closed w (Freeze r day ∷ h) d m =
     elim (in_cases d (raised w h) (owed_at w h r) m) [
@@ -272,7 +272,7 @@ open_by IsOpen count fault old new e = refl
 open_by Frozen count fault old new e = cc
 open_by Withdrawn count fault old new e = cc
 
-open_on : (b : Bool) (s : ReleaseState) (form : Option (List ℕ)) (count : ℕ) (fault : Option Refusal) (old new : ℕ) → IsTrue (is_recorded (if not b then answered.Refused why.BadDay else option_map_or (λ s. refused_or (unready s) (freeze_open count fault old new)) (option_map (λ (form : List ℕ). s) form) (answered.Refused why.UnknownRelease))) → s ≡ IsOpen
+pub open_on : (b : Bool) (s : ReleaseState) (form : Option (List ℕ)) (count : ℕ) (fault : Option Refusal) (old new : ℕ) → IsTrue (is_recorded (if not b then answered.Refused why.BadDay else option_map_or (λ s. refused_or (unready s) (freeze_open count fault old new)) (option_map (λ (form : List ℕ). s) form) (answered.Refused why.UnknownRelease))) → s ≡ IsOpen
 open_on false s form count fault old new e = cc
 open_on true s None count fault old new e = cc
 open_on true s (Some form) count fault old new e = open_by s count fault old new e

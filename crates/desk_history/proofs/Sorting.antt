@@ -44,7 +44,7 @@ each_ascends below (y ∷ ys) up = (
   each_ascends below ys (and_right (over below y ys) (ascends below ys) up),
 )
 
-ordered : {A : Type 0} (below : A → A → Bool) → IsOrder below → (xs : List A) → Ascends below (in_order below xs)
+pub ordered : {A : Type 0} (below : A → A → Bool) → IsOrder below → (xs : List A) → Ascends below (in_order below xs)
 ordered below o xs = each_ascends below (in_order below xs) (ascends-in_order below o xs)
 
 frozen_is_order : IsOrder (below_by frozen_order)

@@ -1,11 +1,14 @@
 -- Laws of the recorded history, in the subject's own words.
-use Rattle.std.specs.Prelude.{◌≡◌, ℕ, ◌+◌, nat_lt, Bool, true, false, List, [], ◌∷◌, ◌++◌, length, map, filter, find, Some, None, Ok, unwrap_or}
+use Rattle.std.specs.Prelude.{◌≡◌, ℕ, ◌+◌, ◌<◌, nat_lt, Bool, true, false, List, [], ◌∷◌, ◌++◌, length, map, filter, find, Some, None, Ok, unwrap_or}
 use Rattle.std.specs.List.{filter_map, last_or, enumerate_from}
 use Rattle.std.specs.Option.{option_map}
+use Rattle.std.specs.Ordering.{nat_cmp, on, then_cmp}
+use Rattle.std.specs.Cmp.Lexicographic.{slice_cmp}
+use Rattle.std.specs.declared.cmp.Ordering.{Ordering}
 use Rattle.desk_rows.specs.Lists.{IsIn}
 use Rattle.desk_rows.specs.Readings.{Readings}
 use Rattle.desk_rows.specs.Keys.{below_by, release_below, attached_order, choice_order, frozen_order, conclusion_order, adoption_order, change_below, is_package, is_document, is_change_of}
-use Rattle.desk_rows.specs.Texts.{sorted_set}
+use Rattle.desk_rows.specs.Texts.{is_before, sorted_set, text_below}
 use Rattle.desk_rows.specs.History.{documents, packages, choice, form_of, in_force, rules_in}
 use Rattle.desk_rows.specs.Conclusions.{adoptions}
 use Rattle.desk_rows.specs.Answers.{conclusion}
@@ -14,17 +17,20 @@ use Rattle.desk_rows.specs.Tables.{Tables}
 use Rattle.desk_rows.specs.declared.reading.Catalogue.{Catalogue}
 use Rattle.desk_rows.specs.declared.reading.Conclusion.{Conclusion}
 use Rattle.desk_rows.specs.declared.reading.Document.{Document}
+use Rattle.desk_rows.specs.declared.reading.Package.{Package}
+use Rattle.desk_rows.specs.declared.reading.Reference.{Reference}
 use Rattle.desk_rows.specs.declared.reading.Rule.{Rule}
 use Rattle.desk_rows.specs.declared.reading.Verdict.TheVariants.{Minimal}
 use Rattle.desk_rows.specs.declared.row.CatalogueRow.{CatalogueRow}
 use Rattle.desk_rows.specs.declared.row.DocumentRow.{DocumentRow}
+use Rattle.desk_rows.specs.declared.row.ExtractedRow.{ExtractedRow}
 use Rattle.desk_rows.specs.declared.row.PackageRow.{PackageRow}
+use Rattle.desk_rows.specs.declared.row.RuleRow.{RuleRow}
 use Rattle.desk_rows.specs.declared.row.Owed.{Owed}
 use Rattle.desk_rows.specs.declared.row.DutyRow.{DutyRow}
 use Rattle.desk_rows.specs.declared.row.FrozenRow.{FrozenRow}
 use Rattle.desk_rows.specs.declared.row.ChangeRow.{ChangeRow}
 use Rattle.desk_rows.specs.States.{state_after}
-use Rattle.desk_rows.specs.Texts.{is_before}
 use Rattle.desk_rows.specs.Moves.{moves}
 use Rattle.desk_rows.specs.declared.row.Move.{Move}
 use Rattle.desk_rows.specs.declared.state.Word.TheVariants as word
@@ -134,3 +140,68 @@ pub record IsOver (w : Readings) (h : List Command) (day : List ℕ) (q : ℕ) :
   pub waives : last.word ≡ word.Waived
   pub until : last.last_day ≡ Some end
   pub over : is_before end day ≡ true
+
+-- each row goes before all that stand behind it: some rows in order, of which no two share a place
+abbrev pub Rises : {A : Type 0} → (A → A → Bool) → List A → Type 0
+Rises below [] = Unit {0}
+Rises below (x ∷ xs) = ((y : _) → IsIn y xs → below x y ≡ true) × Rises below xs
+
+-- rules by term and form; packages and references by id
+abbrev pub rule_order : Rule → Rule → Ordering
+rule_order = then_cmp (on (λ rule. rule.term) (slice_cmp nat_cmp)) (on (λ rule. rule.form) (slice_cmp nat_cmp))
+
+abbrev pub package_below : Package → Package → Bool
+package_below a b = text_below a.id b.id
+
+abbrev pub reference_below : Reference → Reference → Bool
+reference_below a b = text_below a.id b.id
+
+-- a reading that lists in order, nothing twice: the rules of a catalogue, the codes of a rule, the packages and the references of a document
+pub record ListsInOrder (w : Readings) : Type 0 where
+  pub rules : (text : List ℕ) (catalogue : Catalogue) → w.catalogue text ≡ Ok catalogue → Rises (below_by rule_order) catalogue.rules
+  pub codes : (text : List ℕ) (catalogue : Catalogue) (rule : Rule) → w.catalogue text ≡ Ok catalogue → IsIn rule catalogue.rules → Rises text_below rule.codes
+  pub packages : (bytes : List ℕ) (document : Document) → w.document bytes ≡ Ok document → Rises package_below document.packages
+  pub references : (bytes : List ℕ) (document : Document) → w.document bytes ≡ Ok document → Rises reference_below document.references
+
+abbrev pub rule_row_order : RuleRow → RuleRow → Ordering
+rule_row_order =
+    then_cmp (on (λ row. row.revision) nat_cmp)
+    (then_cmp (on (λ row. row.term) (slice_cmp nat_cmp)) (on (λ row. row.form) (slice_cmp nat_cmp)))
+
+abbrev pub package_order : PackageRow → PackageRow → Ordering
+package_order = then_cmp (on (λ row. row.document) nat_cmp) (on (λ row. row.id) (slice_cmp nat_cmp))
+
+abbrev pub extracted_order : ExtractedRow → ExtractedRow → Ordering
+extracted_order = then_cmp (on (λ row. row.document) nat_cmp) (on (λ row. row.reference) (slice_cmp nat_cmp))
+
+-- rules by revision, term and form, packages by document and id, extracted licences by document and reference, no two at one key
+pub record AreSortedAsListed (t : Tables) : Type 0 where
+  pub rule : Rises (below_by rule_row_order) t.rule
+  pub packages : Rises (below_by package_order) t.packages
+  pub extracted : Rises (below_by extracted_order) t.extracted
+
+-- what one release owes, by document, package, term and code
+abbrev pub owed_order : Owed → Owed → Ordering
+owed_order =
+    then_cmp (on (λ owed. owed.document) nat_cmp) (then_cmp (on (λ owed. owed.package_id) (slice_cmp nat_cmp))
+    (then_cmp (on (λ owed. owed.term) (slice_cmp nat_cmp)) (on (λ owed. owed.code) (slice_cmp nat_cmp))))
+
+-- the duties of one release, by document, package, term and code
+abbrev pub duty_order : DutyRow → DutyRow → Ordering
+duty_order =
+    then_cmp (on (λ duty. duty.document) nat_cmp) (then_cmp (on (λ duty. duty.package_id) (slice_cmp nat_cmp))
+    (then_cmp (on (λ duty. duty.term) (slice_cmp nat_cmp)) (on (λ duty. duty.code) (slice_cmp nat_cmp))))
+
+-- of two duties of one release the one with the smaller number is before the other
+abbrev pub AreNumberedInOrder : List DutyRow → Type 0
+AreNumberedInOrder duties = (a b : DutyRow) → IsIn a duties → IsIn b duties → a.release ≡ b.release → a.number < b.number → below_by duty_order a b ≡ true
+
+-- A duty with its number: a freeze of its release stands in the history and raises it, and its number is one more than the duties of the
+-- freezes before it and those of its own freeze that go before it.
+pub record IsCounted (w : Readings) (h : List Command) (d : ℕ × Owed) : Type 0 where
+  pub later : List Command
+  pub before : List Command
+  pub day : List ℕ
+  pub split : h ≡ later ++ Freeze d.1.release day ∷ before
+  pub raises : IsIn d.1 (owed_at w before d.1.release)
+  pub number : d.0 ≡ length (raised w before) + length (filter (λ owed. below_by owed_order owed d.1) (owed_at w before d.1.release)) + 1

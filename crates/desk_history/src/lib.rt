@@ -7,9 +7,9 @@ ghost use Rattle.std.specs.Prelude.{◌≡◌, ◌⊎◌, true, false, ℕ, ◌+
 ghost use Rattle.desk_rows.specs.Conclusions.{adoptions, conclusions, licence_for, licence_given, office_text, text_given};
 ghost use Rattle.desk_rows.specs.Lists.{IsIn, latest};
 ghost use Rattle.desk_rows.specs.Readings.{Readings};
-ghost use Rattle.desk_rows.specs.Keys.{is_choice_of};
+ghost use Rattle.desk_rows.specs.Keys.{below_by, is_choice_of};
 ghost use Rattle.desk_rows.specs.History.{choice};
-ghost use Rattle.desk_rows.specs.Raised.{frozen, numbered, raised, IsRaised};
+ghost use Rattle.desk_rows.specs.Raised.{frozen, numbered, owed_at, raised, IsRaised};
 ghost use Rattle.desk_rows.specs.Tables.{tables, standing, choice_row};
 ghost use Rattle.desk_rows.specs.Answers.{answer, noted, IsHistory};
 ghost use Rattle.desk_rows.specs.Queries.{duties_of, totals_of};
@@ -20,7 +20,7 @@ ghost use Rattle.desk_rows.specs.declared.row.FrozenRow.{FrozenRow};
 ghost use Rattle.desk_rows.specs.declared.command.Command.{Command};
 ghost use Rattle.desk_rows.specs.Moves.{moves, place, is_raised_for};
 ghost use Rattle.desk_rows.specs.States.{is_met};
-ghost use Rattle.desk_history.specs.Laws.{IsOver};
+ghost use Rattle.desk_history.specs.Laws.{IsOver, AreNumberedInOrder, AreSortedAsListed, IsCounted, ListsInOrder, Rises, duty_order, owed_order};
 ghost use Rattle.desk_rows.specs.declared.state.DutyState.TheVariants.{IsOpen, Met, Withdrawn};
 ghost use Rattle.desk_rows.specs.declared.command.Command.TheVariants.{Choose, CloseDay, Withdraw};
 
@@ -37,6 +37,15 @@ pub fn duties_are_numbered_on()
     ensures held { (w : Readings) (h : List Command) (d : ℕ × Owed) → IsNumbered w h d → IsIn d (numbered w h) }
     ensures only { (w : Readings) (h : List Command) (d : ℕ × Owed) → IsIn d (numbered w h) → IsNumbered w h d }
     ensures stays { (w : Readings) (later before : List Command) (d : ℕ × Owed) → IsIn d (numbered w before) → IsIn d (numbered w (later ++ before)) }
+{}
+
+/// What a freeze raises rises by document, package, term and code, no two at one key, where the reading of texts lists packages and
+/// codes in order (`order`). So of two duties of one release the one with the smaller number is before the other (`numbers`), and a
+/// duty's number is one more than the duties of earlier freezes and those of its own freeze that come before it (`counts`).
+pub fn freezes_raise_in_order()
+    ensures order { (w : Readings) (h : List Command) (r : List ℕ) → ListsInOrder w → IsHistory w h → Rises (below_by owed_order) (owed_at w h r) }
+    ensures numbers { (w : Readings) (h : List Command) → ListsInOrder w → IsHistory w h → let t = tables w h in AreNumberedInOrder t.duty }
+    ensures counts { (w : Readings) (h : List Command) (d : ℕ × Owed) → ListsInOrder w → IsHistory w h → IsIn d (numbered w h) → IsCounted w h d }
 {}
 
 /// Each choice that was recorded is a minimal set of its package's concluded expression.
@@ -99,9 +108,17 @@ pub fn waivers_end_after_their_last_day()
 {}
 
 /// The tables of each list of commands, for each reading of texts, stand in the order of their keys: no row stands behind one that it
-/// goes before. The rules of a revision, and a document's packages and references, stand in the order in which texts list them.
+/// goes before. The rules of a revision, and a document's packages and references, stand in the order in which texts list them
+/// (`listed_tables_are_sorted`).
 pub fn tables_are_sorted()
     ensures { (w : Readings) (h : List Command) → AreSorted (tables w h) }
+{}
+
+/// The rules of all revisions stand by revision, term and form, the packages of all documents by document and id, and the extracted
+/// licences by document and reference, no two at one key, where the reading of texts lists each catalogue's rules and each document's
+/// packages and references so.
+pub fn listed_tables_are_sorted()
+    ensures { (w : Readings) (h : List Command) → ListsInOrder w → AreSortedAsListed (tables w h) }
 {}
 
 /// A recorded history with a recorded command is a recorded history.
