@@ -5,3 +5,4 @@ mod Verdicts
 mod Reading
 mod Rights
 mod Once
+mod Ordered

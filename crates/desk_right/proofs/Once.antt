@@ -1,5 +1,5 @@
 -- A right reading lists no package of a document and no code of a rule twice.
-use Rattle.std.proofs.Common.{◌≡◌, ◌∙◌, inl, inr, ℕ, ◌+◌, Bool, true, false, List, [], ◌∷◌, map, sym, subst, ap, refl}
+use Rattle.std.proofs.Common.{◌≡◌, ◌∙◌, inl, inr, ℕ, Bool, true, false, List, [], ◌∷◌, map, sym, subst, ap, refl}
 use Rattle.std.specs.Prelude.{Result, Ok, Err, Option, codes, if◌then◌else◌, not}
 use Rattle.std.specs.List.{list_all}
 use Rattle.std.specs.Option.{ok_or}
@@ -37,7 +37,7 @@ use Rattle.desk_texts.proofs.Halving.{rises_put}
 
 -- ---- texts that rise are different
 
-each_in : {A : Type 0} (P : A → Type 0) (x : A) (xs : List A) → IsIn x xs → Each P xs → P x
+pub each_in : {A : Type 0} (P : A → Type 0) (x : A) (xs : List A) → IsIn x xs → Each P xs → P x
 each_in P x [] m each = absurd m
 each_in P x (y ∷ ys) m each = elim m [ inl same ↦ subst P same each.0 | inr n ↦ each_in P x ys n each.1 ]
 
@@ -49,7 +49,7 @@ rises_distinct [] up = tt
 rises_distinct (x ∷ xs) up =
     (λ m. not_true (below_self x true (each_in (λ y. text_below x y ≡ true) x xs m up.0)), rises_distinct xs up.1)
 
-rises_sorted : {A : Type 0} (id : A → List ℕ) (xs : List A) → Rises (map id (sorted_by id xs))
+pub rises_sorted : {A : Type 0} (id : A → List ℕ) (xs : List A) → Rises (map id (sorted_by id xs))
 rises_sorted id [] = tt
 rises_sorted id (x ∷ xs) = rises_put id x (sorted_by id xs) (rises_sorted id xs)
 
@@ -66,7 +66,7 @@ put-same x (y ∷ ys) =
       ]
     ]
 
-sorted-same : (xs : List (List ℕ)) → map (λ y. y) (sorted_by (λ y. y) xs) ≡ sorted_set xs
+pub sorted-same : (xs : List (List ℕ)) → map (λ y. y) (sorted_by (λ y. y) xs) ≡ sorted_set xs
 sorted-same [] = refl
 sorted-same (x ∷ xs) = put-same x (sorted_by (λ y. y) xs) ∙ ap (put_new x) (sorted-same xs)
 
@@ -75,14 +75,14 @@ set_distinct xs = subst AreDistinct (sorted-same xs) (rises_distinct (map (λ y.
 
 -- ---- packages
 
-map_map : {A B C : Type 0} (f : B → C) (g : A → B) (xs : List A) → map f (map g xs) ≡ map (λ x. f (g x)) xs
+pub map_map : {A B C : Type 0} (f : B → C) (g : A → B) (xs : List A) → map f (map g xs) ≡ map (λ x. f (g x)) xs
 map_map f g [] = refl
 map_map f g (x ∷ xs) = ap (λ l. f (g x) ∷ l) (map_map f g xs)
 
-abbrev id_in : PackageText × Bool → List ℕ
+abbrev pub id_in : PackageText × Bool → List ℕ
 id_in m = m.0.id
 
-abbrev id_of : Package → List ℕ
+abbrev pub id_of : Package → List ℕ
 id_of p = p.id
 
 ids_distinct : (ps : List (PackageText × Bool)) → AreDistinct (map id_of (map package_of (sorted_by id_in ps)))
@@ -103,7 +103,7 @@ packages_once w right bytes document e =
 -- ---- codes
 
 -- the codes of a rule are a set
-abbrev HasSet : Rule → Type 0
+abbrev pub HasSet : Rule → Type 0
 HasSet rule = (texts : List (List ℕ)) × (rule.codes ≡ sorted_set texts)
 
 chosen : (a b c : Bool) (f g h : CatalogueFault) (x rule : Rule) → (if a then Err f else (if b then Err g else (if c then Err h else Ok x))) ≡ Ok rule → x ≡ rule
@@ -133,14 +133,14 @@ put_keeps P x (r ∷ rs) p all =
       | Greater ↦ (all.0, put_keeps P x rs p all.1)
     ]
 
-catalogue_has : (terms : List ℕ → Option (List ℕ)) (text : List ℕ) (catalogue : WholeCatalogue) → catalogue_of terms text ≡ Ok catalogue → Each HasSet catalogue.rules
+pub catalogue_has : (terms : List ℕ → Option (List ℕ)) (text : List ℕ) (catalogue : WholeCatalogue) → catalogue_of terms text ≡ Ok catalogue → Each HasSet catalogue.rules
 catalogue_has terms text catalogue e =
     let read = rules_read terms text catalogue e in
     rules_hold (Each HasSet) terms read.1 read.2 (get_member (codes "rule") read.0) catalogue.rules tt
     (λ index d rule rs is all. put_keeps HasSet rule rs (entry_has terms read.1 read.2 index d rule is) all) read.3
 
 -- what the desk keeps of a catalogue has its rules
-of_whole : (read : Read WholeCatalogue) (catalogue : Catalogue) → kept_catalogue read ≡ Ok catalogue → (whole : WholeCatalogue) × (read ≡ Ok whole) × (catalogue.rules ≡ whole.rules)
+pub of_whole : (read : Read WholeCatalogue) (catalogue : Catalogue) → kept_catalogue read ≡ Ok catalogue → (whole : WholeCatalogue) × (read ≡ Ok whole) × (catalogue.rules ≡ whole.rules)
 of_whole (Ok whole) catalogue e = (whole, refl, ap (λ c. c.rules) (sym (same_read (record { forms = whole.forms; rules = whole.rules }) catalogue e)))
 of_whole (Err fault) catalogue e = cc
 

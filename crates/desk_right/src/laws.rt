@@ -7,7 +7,7 @@ ghost use Rattle.desk_expr.specs.Meaning.{IsMinimal};
 ghost use Rattle.desk_rows.specs.Readings.{Readings};
 ghost use Rattle.desk_base.specs.declared.profile.Profile.{Profile};
 ghost use Rattle.desk_rows.specs.declared.reading.Verdict.TheVariants.{Minimal};
-ghost use Rattle.desk_history.specs.Laws.{ListsOnce};
+ghost use Rattle.desk_history.specs.Laws.{ListsInOrder, ListsOnce};
 ghost use Rattle.desk_texts.specs.Expressions.{IsExpression};
 ghost use Rattle.desk_texts.specs.Listings.{Lists, Prices};
 ghost use Rattle.desk_texts.specs.Terms.{AreTerms};
@@ -50,6 +50,13 @@ pub fn choices_have_terms()
 /// (`keys_are_distinct` of `desk_history`).
 pub fn right_readings_list_once()
     ensures { (w : Readings) → AreRight w → ListsOnce w }
+{}
+
+/// A right reading lists a catalogue's rules by term and form, a rule's codes, and a document's packages and references by id, so the
+/// duties of a freeze are numbered in their order (`freezes_raise_in_order` of `desk_history`), and the tables that stand as the reading
+/// lists them are sorted (`listed_tables_are_sorted`).
+pub fn right_readings_list_in_order()
+    ensures { (w : Readings) → AreRight w → ListsInOrder w }
 {}
 
 /// By a right reading a text is an expression exactly where it has no fault.
