@@ -141,5 +141,5 @@ int main(int count, char **words)
     }
     clock_gettime(CLOCK_MONOTONIC, &ended);
     printf("%.6f\n", (double)(ended.tv_sec - begun.tv_sec) + (double)(ended.tv_nsec - begun.tv_nsec) / 1e9);
-    return sqlite3_close(desk) == SQLITE_OK ? 0 : 1;
+    return sqlite3_close_v2(desk) == SQLITE_OK ? 0 : 1;
 }

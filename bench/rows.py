@@ -85,26 +85,30 @@ def duties(count):
     ]
 
 
+def sent(process, name, requests):
+    """The seconds until the last reply to requests that are sent together, none of which may be refused."""
+    text = "".join(requests).encode()
+
+    def send():
+        process.stdin.write(text)
+        process.stdin.flush()
+
+    start = time.perf_counter()
+    sender = threading.Thread(target=send)
+    sender.start()
+    for _ in requests:
+        reply = process.stdout.readline()
+        if b'"refused"' in reply or b'"fault"' in reply or not reply:
+            sys.exit(f"{name}: {reply!r}")
+    spent = time.perf_counter() - start
+    sender.join()
+    return spent
+
+
 def times(desk, steps):
-    """The seconds of each step, its last reply, and that no request was refused."""
+    """The seconds of each step."""
     process = subprocess.Popen([desk, "script"], stdin=subprocess.PIPE, stdout=subprocess.PIPE)
-    spent = []
-    for name, requests in steps:
-        text = "".join(requests).encode()
-
-        def send():
-            process.stdin.write(text)
-            process.stdin.flush()
-
-        start = time.perf_counter()
-        sender = threading.Thread(target=send)
-        sender.start()
-        for _ in requests:
-            reply = process.stdout.readline()
-            if not reply.startswith(b'{"ok"') and b"refused" in reply or not reply:
-                sys.exit(f"{name}: {reply!r}")
-        spent.append(time.perf_counter() - start)
-        sender.join()
+    spent = [sent(process, name, requests) for name, requests in steps]
     process.stdin.close()
     process.wait()
     return spent

@@ -23,18 +23,13 @@ QUESTIONS = 10_000
 
 
 class Desk:
-    """The program over a file, sent requests in turn; a step's time ends with its last reply."""
+    """The program over a file, sent requests in turn."""
 
     def __init__(self, program, path):
-        begun = time.perf_counter()
         self.process = subprocess.Popen([program, "script", "--db", path], stdin=subprocess.PIPE, stdout=subprocess.PIPE)
-        self.step([rows.line(ask="totals", release="none")])
-        self.opened = time.perf_counter() - begun
 
-    def step(self, lines):
-        begun = time.perf_counter()
-        replies = rows.sent(self.process, lines)
-        return time.perf_counter() - begun, replies
+    def step(self, name, requests):
+        return rows.sent(self.process, name, requests)
 
     def end(self):
         begun = time.perf_counter()
@@ -45,12 +40,11 @@ class Desk:
 
 def prepared(program, path, duties):
     """A file whose desk has a release that is ready to be frozen with so many duties."""
-    steps = rows.duties(duties)
     desk = Desk(program, path)
-    for name, lines in steps:
+    for name, requests in rows.duties(duties):
         if name == "freeze":
             break
-        desk.step(lines)
+        desk.step(name, requests)
     desk.end()
 
 
@@ -80,17 +74,20 @@ def timed(program, beside, room, duties):
     for _ in range(RUNS):
         copied(kept, path)
         desk = Desk(program, path)
-        note("commands", "desk", desk.step(opens)[0])
+        desk.step("totals", totals[:1])
+        note("commands", "desk", desk.step("open", opens))
         desk.end()
         copied(kept, path)
         note("commands", "library", library(beside, "commands", path, COMMANDS))
         copied(kept, path)
         desk = Desk(program, path)
-        note("freeze", "desk", desk.step(freeze)[0])
-        note("totals", "desk", desk.step(totals)[0])
+        note("freeze", "desk", desk.step("freeze", freeze))
+        note("totals", "desk", desk.step("totals", totals))
         note("close", "desk", desk.end())
+        begun = time.perf_counter()
         desk = Desk(program, path)
-        note("open", "desk", desk.opened)
+        desk.step("totals", totals[:1])
+        note("open", "desk", time.perf_counter() - begun)
         desk.end()
         note("open", "library", library(beside, "open", path, 1))
         note("totals", "library", library(beside, "totals", path, 10))

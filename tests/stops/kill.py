@@ -25,6 +25,7 @@ import dialogue
 DONE = b'{"done":true}\n'
 AT_ONCE = 8
 LONGEST = 0.05
+MOST = 2_000
 
 
 def line(request):
@@ -79,17 +80,20 @@ def main():
     program, times = os.path.abspath(sys.argv[1]), int(sys.argv[2]) if len(sys.argv) > 2 else 1000
     catalogue = dialogue.fixture("small catalogue")
     with tempfile.TemporaryDirectory() as room:
-        path = os.path.join(room, "desk.db")
-        subprocess.run([program, "script", "--db", path], input=line({"do": "catalogue", "text": catalogue}), stdout=subprocess.DEVNULL, check=True)
-        names, cut = [], 0
+        names, served_in_all, cut, path = [], 0, 0, None
         for time in range(times):
+            if path is None or len(names) > MOST:
+                path, names = os.path.join(room, f"desk{time}.db"), []
+                begun = line({"do": "catalogue", "text": catalogue})
+                subprocess.run([program, "script", "--db", path], input=begun, stdout=subprocess.DEVNULL, check=True)
             told = served(program, path, len(names))
             found = names_in(path, room)
             if found != [f"r{place}" for place in range(len(found))] or len(found) - len(names) not in range(told, told + AT_ONCE + 1):
                 sys.exit(f"kill {time}: {told} releases were told after {len(names)}, and {len(found)} stand")
             cut += len(found) - len(names) != told
+            served_in_all += len(found) - len(names)
             names = found
-        print(f"killed {times} times, {len(names)} requests served, {cut} times more was recorded than told: nothing that was told is lost")
+        print(f"killed {times} times, {served_in_all} requests served, {cut} times more was recorded than told: nothing that was told is lost")
 
 
 if __name__ == "__main__":

@@ -97,10 +97,10 @@ def folder(program, room):
 
 
 def no_room(program, room, requests):
-    """A disk of 64 KiB: what was replied to stands once there is room."""
+    """A disk of 1 MiB: what was replied to stands once there is room."""
     place = os.path.join(room, "small")
     os.mkdir(place)
-    subprocess.run(["mount", "-t", "tmpfs", "-o", "size=65536", "tmpfs", place], check=True)
+    subprocess.run(["mount", "-t", "tmpfs", "-o", "size=1048576", "tmpfs", place], check=True)
     try:
         path = os.path.join(place, "desk.db")
         stdout, status, words = run(program, path, requests)
@@ -120,7 +120,8 @@ def no_room(program, room, requests):
 def cut_short(program, path):
     before = contents(path)
     told = set()
-    for size in sorted({1, 2, 99, 100, 511, 512, 1024, 4095, *range(4096, len(before[""]), 4096), len(before[""]) - 1}):
+    # a file of one byte is what a stop leaves of a file that was being made, and is made anew
+    for size in sorted({2, 99, 100, 511, 512, 1024, 4095, *range(4096, len(before[""]), 4096), len(before[""]) - 1}):
         found = {"": before[""][:size]}
         put(path, found)
         told.add(refused(f"a file cut to {size} bytes", run(program, path), path, found))
@@ -130,7 +131,7 @@ def cut_short(program, path):
 
 def of_random_bytes(program, path, turn):
     before, told = contents(path), set()
-    for size in (1, 15, 16, 100, 512, 4096, 70_000):
+    for size in (2, 15, 16, 100, 512, 4096, 70_000):
         found = {"": turn.randbytes(size)}
         put(path, found)
         told.add(refused(f"{size} random bytes", run(program, path), path, found))
@@ -169,7 +170,7 @@ def main():
         with_a_byte_changed(program, path, turn)
         if os.geteuid() == 0:
             print(read_only(program, path, room))
-            many = requests + b"".join(b'{"do":"open","release":"s%d","form":"binary"}\n' % n for n in range(2000))
+            many = requests + b"".join(b'{"do":"open","release":"s%d","form":"binary"}\n' % n for n in range(20_000))
             print(*no_room(program, room, many))
         else:
             print("left out, since this isn't root: a file that may only be read, a disk with no room")

@@ -24,6 +24,7 @@ import dialogue
 
 SCRIPTS = ("script-first-release", "script-withdrawn-release")
 STOPPED = -9
+MEMORY = "/dev/shm"
 STORE = b'{"fault":"store"}\n'
 
 
@@ -151,7 +152,7 @@ class Script:
 
 
 def main():
-    with tempfile.TemporaryDirectory() as room:
+    with tempfile.TemporaryDirectory(dir=MEMORY if os.path.isdir(MEMORY) else None) as room:
         library = os.path.join(room, "disk.so")
         subprocess.run(["cc", "-O2", "-shared", "-fPIC", "-o", library, os.path.join(HERE, "disk.c"), "-ldl"], check=True)
         desk = Desk(os.path.abspath(sys.argv[1]), library, room)
