@@ -1,5 +1,5 @@
 -- Numbers of duties, after a step.
-use Rattle.std.proofs.Common.{◌≡◌, ◌≢◌, ℕ, zero, suc, ◌+◌, ◌-◌, ◌*◌, ◌<◌, ◌≤◌, Bool, true, false, cond, List, [], ◌∷◌, ◌++◌, length, map, Some, None, refl, sym, ap, ◌∙◌, arith, inl, inr, subst, length-append, replicate}
+use Rattle.std.proofs.Common.{◌≡◌, ◌≢◌, ℕ, zero, suc, ◌+◌, ◌-◌, ◌*◌, ◌<◌, ◌≤◌, Bool, true, false, cond, List, [], ◌∷◌, ◌++◌, length, get_or, map, Some, None, refl, sym, ap, ◌∙◌, arith, inl, inr, subst, replicate, drop, drop-cons}
 use Rattle.std.specs.Prelude.{count_by, ◌&&◌, ◌==◌, ◌⊎◌, slice_get, slice_set}
 use Rattle.std.specs.List.{list_all}
 use Rattle.std.proofs.lemmas.List.Sums.{sum_by-cons, sum_by-append, count_by-le-length}
@@ -11,7 +11,8 @@ use Rattle.desk_rows.specs.declared.state.DutyState.TheVariants.{IsOpen, Met, Wa
 use Rattle.desk_rows.specs.declared.command.Totals.{Totals}
 use Rattle.desk_tally.specs.Numbers.{number_of, one_if}
 use Rattle.desk_tally.specs.Totals.{totals_in}
-use Rattle.desk_tally.specs.Stands.{is_of, is_in, totals_at, AreTallied, is_within, are_placed, open_at, at_state}
+use Rattle.desk_tally.specs.Stands.{is_of, is_in, totals_at, AreTallied, is_within, are_placed, are_duties, open_at, at_state, shifted}
+use Rattle.desk_tally.specs.declared.stand.Shift.{Shift}
 use Rattle.desk_tally.specs.declared.stand.Stand.{Stand}
 use Rattle.desk_tally.specs.declared.tally.Tally.{Tally}
 use Rattle.desk_tally.proofs.Bools.{and_left, and_right, both, within_low, within_high, within_from}
@@ -272,3 +273,38 @@ stands_some all tallies i k stand tally tallied at of had = some stand.state ref
     some Met e = let c = one is_met (ap is_met e) in let n = ap (λ (t : Totals). t.met) numbers in omega (arith, c, n)
     some Waived e = let c = one is_waived (ap is_waived e) in let n = ap (λ (t : Totals). t.waived) numbers in omega (arith, c, n)
     some Withdrawn e = let c = one is_withdrawn (ap is_withdrawn e) in let n = ap (λ (t : Totals). t.withdrawn) numbers in omega (arith, c, n)
+
+-- the item at an index, as it was read
+pub get_some : {A : Type 0} (xs : List A) (i : ℕ) (x : A) → i < length xs → x ≡ get_or xs i x → slice_get xs i ≡ Some x
+get_some [] i x lt e = absurd (omega (arith, lt))
+get_some (y ∷ ys) zero x lt e = ap Some (sym e)
+get_some (y ∷ ys) (suc i) x lt e = get_some ys i x (omega (arith, lt)) e
+
+-- the state at an index, as it is written
+pub state_set : (i : ℕ) (state : DutyState) (all : List Stand) (stand : Stand) → slice_get all i ≡ Some stand → slice_set all i (record { place = stand.place; state = state }) ≡ at_state i state all
+state_set i state [] stand at = cc
+state_set zero state (x ∷ xs) stand at =
+    let is : stand ≡ x = cc in
+    ap (λ (s : Stand). (let after : Stand = record { place = s.place; state = state } in after) ∷ xs) is
+state_set (suc i) state (x ∷ xs) stand at = ap (λ (ss : List Stand). x ∷ ss) (state_set i state xs stand at)
+
+pub placed_low : (n i : ℕ) (all : List Stand) (stand : Stand) → are_placed n all ≡ true → slice_get all i ≡ Some stand → 1 ≤ stand.place
+placed_low n i [] stand placed at = cc
+placed_low n zero (x ∷ xs) stand placed at =
+    let is : x ≡ stand = cc in
+    subst (λ (s : Stand). 1 ≤ s.place) is (within_low n x.place (and_left (is_within n x.place) (are_placed n xs) placed))
+placed_low n (suc i) (x ∷ xs) stand placed at = placed_low n i xs stand (and_right (is_within n x.place) (are_placed n xs) placed) at
+
+-- the duty of one of some shifts
+pub duty_at : (count : ℕ) (shifts : List Shift) (k : ℕ) (d : Shift) → are_duties count shifts ≡ true → k < length shifts → is_within count (get_or shifts k d).duty ≡ true
+duty_at count [] k d within lt = absurd (omega (arith, lt))
+duty_at count (shift ∷ shifts) zero d within lt = and_left (is_within count shift.duty) (are_duties count shifts) within
+duty_at count (shift ∷ shifts) (suc k) d within lt = duty_at count shifts k d (and_right (is_within count shift.duty) (are_duties count shifts) within) (omega (arith, lt))
+
+-- one shift more, before those that were made
+pub shifted_next : (shifts : List Shift) (k left : ℕ) (d : Shift) (old before after : List Stand) → k < length shifts → left ≡ suc k → before ≡ shifted (drop left shifts) old
+    → after ≡ at_state ((get_or shifts k d).duty - 1) (get_or shifts k d).state before → after ≡ shifted (drop k shifts) old
+shifted_next shifts k left d old before after lt next was is =
+    is
+    ∙ (ap (at_state ((get_or shifts k d).duty - 1) (get_or shifts k d).state) (was ∙ ap (λ (n : ℕ). shifted (drop n shifts) old) next)
+    ∙ ap (λ (xs : List Shift). shifted xs old) (sym (drop-cons shifts k d lt)))

@@ -5,10 +5,13 @@
 //!   the rows comes to and makes room for it, before anything is written; `Tallies::take` does that and can't fail.
 #![tactic(auto)]
 
+mod changes;
+mod lists;
 mod stand;
 mod tallies;
 mod tally;
 
-pub use stand::{Shift, Stand, Step, state_after};
+pub use changes::state_after;
+pub use stand::{Shift, Stand, Step};
 pub use tallies::Tallies;
 pub use tally::Tally;

@@ -1,10 +1,7 @@
 //! Where duties stand, and where they go.
 
-ghost use Rattle.std.specs.Prelude.{◌≡◌};
-ghost use Rattle.desk_rows.specs.States.{state_after};
-
 use desk_base::Items;
-use desk_rows::{DutyState, Word};
+use desk_rows::DutyState;
 
 /// Where a duty stands: the place of its release, from 1, and its state.
 #[derive(Clone, Copy, Debug, PartialEq, Eq)]
@@ -31,16 +28,4 @@ pub enum Step {
     Raise { place: u32, count: usize },
     /// Each of these duties goes to a state, the last one first.
     Move(Items<Shift>),
-}
-
-/// Where a change with this word leaves a duty.
-pub fn state_after(word: Word) -> DutyState
-    ensures { result ≡ state_after word }
-{
-    match word {
-        Word::Raised | Word::Reopened | Word::Ended => DutyState::IsOpen,
-        Word::Met => DutyState::Met,
-        Word::Waived => DutyState::Waived,
-        Word::Withdrawn => DutyState::Withdrawn,
-    }
 }
