@@ -308,3 +308,12 @@ shifted_next shifts k left d old before after lt next was is =
     is
     ∙ (ap (at_state ((get_or shifts k d).duty - 1) (get_or shifts k d).state) (was ∙ ap (λ (n : ℕ). shifted (drop n shifts) old) next)
     ∙ ap (λ (xs : List Shift). shifted xs old) (sym (drop-cons shifts k d lt)))
+
+pub get_none : {A : Type 0} (xs : List A) (i : ℕ) → slice_get xs i ≡ None → length xs ≤ i
+get_none [] i e = omega arith
+get_none (x ∷ xs) zero e = cc
+get_none (x ∷ xs) (suc i) e = omega (arith, get_none xs i e)
+
+pub placed-shifted : (n : ℕ) (shifts : List Shift) (all : List Stand) → are_placed n (shifted shifts all) ≡ are_placed n all
+placed-shifted n [] all = refl
+placed-shifted n (shift ∷ shifts) all = placed-state n (shift.duty - 1) shift.state (shifted shifts all) ∙ placed-shifted n shifts all

@@ -4,3 +4,4 @@ pub mod Names
 pub mod Moves
 pub mod Leads
 pub mod Found
+pub mod Plans

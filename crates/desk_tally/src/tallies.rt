@@ -26,14 +26,11 @@ pub struct Tallies {
 }
 
 impl Tallies {
-    ghost use Rattle.std.specs.Prelude.{◌<◌, ◌++◌, List, [], filter, vec_len, IfOk, IfSome, IsSome, Option, Some, replicate};
-    ghost use Rattle.std.specs.Vec.{vec_capacity};
-    ghost use Rattle.desk_rows.specs.Keys.{is_duty_of, release_below};
+    ghost use Rattle.std.specs.Prelude.{List, [], filter};
+    ghost use Rattle.desk_rows.specs.Keys.{is_duty_of};
     ghost use Rattle.desk_rows.specs.Queries.{totals_of};
-    ghost use Rattle.desk_rows.specs.Tables.{Tables, applied};
-    ghost use Rattle.desk_history.specs.Laws.{Ascends};
-    ghost use Rattle.desk_tally.specs.Stands.{are_duties, count_after, open_at, shifted, stands_after, totals_at};
-    ghost use Rattle.desk_tally.specs.Kept.{place_found, AreKept, Fits, IsPlaceFor, IsStep, IsRaise, IsMove, LeadsTo};
+    ghost use Rattle.desk_rows.specs.Tables.{Tables};
+    ghost use Rattle.desk_tally.specs.Kept.{place_found, AreKept};
 
     /// Those of no releases.
     pub fn new(alloc: Global) -> Tallies
@@ -56,6 +53,149 @@ impl Tallies {
         match tally_at(self.tallies.as_slice(), (place - 1) as usize) {
             Some(tally) => Some(tally.totals()),
             None => None,
+        }
+    }
+}
+
+impl Tallies {
+    ghost use Rattle.std.specs.Prelude.{◌<◌, ◌++◌, vec_len, List, IfOk, IfSome, Option, replicate};
+    ghost use Rattle.std.specs.Vec.{vec_capacity};
+    ghost use Rattle.desk_rows.specs.Keys.{release_below};
+    ghost use Rattle.desk_rows.specs.Tables.{Tables, applied};
+    ghost use Rattle.desk_history.specs.Laws.{Ascends};
+    ghost use Rattle.desk_tally.specs.Stands.{are_duties, count_after, open_at, shifted, stands_after};
+    ghost use Rattle.desk_tally.specs.Kept.{AreKept, Fits, IsPlaceFor, IsStep, IsRaise, IsMove, LeadsTo};
+
+    /// The step of a release that is opened next.
+    fn plan_open(&mut self, row: &ReleaseRow) -> Result<Option<Step>, AllocError>
+        ensures stands { self.new.stands.items ≡ self.old.stands.items }
+        ensures tallies { self.new.tallies.items ≡ self.old.tallies.items }
+        ensures fits { IfOk result (λ found. IfSome found (λ step. Fits step self.new)) }
+        ensures step { IfOk result (λ found. IfSome found (λ step. IsStep (Change.Opened row.now) None (length self.old.tallies.items) self.old.stands.items step)) }
+    {
+        if row.place as usize != self.tallies.len() + 1 {
+            return Ok(None);
+        }
+        self.tallies.reserve(1)?;
+        Ok(Some(Step::Open))
+    }
+
+    /// The step of new duties of the release at a place.
+    fn plan_raise(
+        &mut self,
+        release: &str,
+        duties: &[DutyRow],
+        place: Option<u32>,
+    ) -> Result<Option<Step>, AllocError>
+        ensures stands { self.new.stands.items ≡ self.old.stands.items }
+        ensures tallies { self.new.tallies.items ≡ self.old.tallies.items }
+        ensures fits { IfOk result (λ found. IfSome found (λ step. Fits step self.new)) }
+        ensures step { IfOk result (λ found. IfSome found (λ step. IsRaise release.now duties.now place self.old.stands.items step)) }
+    {
+        let Some(place) = place else {
+            return Ok(None);
+        };
+        if place == 0 || place as usize > self.tallies.len() {
+            return Ok(None);
+        }
+        let count = self.stands.len();
+        if duties.len() > MAX_DUTIES - count || !are_raised(count as u64 + 1, release, duties) {
+            return Ok(None);
+        }
+        self.stands.reserve(duties.len())?;
+        Ok(Some(Step::Raise {
+            place,
+            count: duties.len(),
+        }))
+    }
+
+    /// The step of duties that move.
+    fn plan_move(&self, changes: &[ChangeRow]) -> Result<Option<Step>, AllocError>
+        ensures fits { IfOk result (λ found. IfSome found (λ step. Fits step self.now)) }
+        ensures step { IfOk result (λ found. IfSome found (λ step. IsMove changes.now self.now.stands.items step)) }
+    {
+        match shifts_of(self.alloc, self.stands.len(), changes)? {
+            Some(shifts) => Ok(Some(Step::Move(shifts))),
+            None => Ok(None),
+        }
+    }
+
+    /// The step of a change, if it has one.
+    fn step_of(
+        &mut self,
+        change: &Change,
+        place: Option<u32>,
+    ) -> Result<Option<Step>, AllocError>
+        ensures stands { self.new.stands.items ≡ self.old.stands.items }
+        ensures tallies { self.new.tallies.items ≡ self.old.tallies.items }
+        ensures fits { IfOk result (λ found. IfSome found (λ step. Fits step self.new)) }
+        ensures step { IfOk result (λ found. IfSome found (λ step. IsStep change.now place (length self.old.tallies.items) self.old.stands.items step)) }
+    {
+        match change {
+            Change::Opened(row) => self.plan_open(row),
+            Change::Froze {
+                release, duties, ..
+            } => self.plan_raise(release.as_str(), duties.as_slice(), place),
+            Change::Moved { changes } => self.plan_move(changes.as_slice()),
+            Change::Withdrew { changes, .. } => self.plan_move(changes.as_slice()),
+            _ => Ok(Some(Step::Stay)),
+        }
+    }
+
+    /// What a change of the rows comes to. Room is made for it, and nothing is done yet. Of a freeze, `place` is that of its release.
+    ///
+    /// There is no step for what no command does: releases that aren't opened one after the other, duties that aren't numbered on or
+    /// are more than 100,000, and changes of duties that don't stand.
+    pub fn plan(
+        &mut self,
+        change: &Change,
+        place: Option<u32>,
+    ) -> Result<Option<Step>, AllocError>
+        ensures kept { (t : Tables) → AreKept self.old t → AreKept self.new t }
+        ensures fits { IfOk result (λ found. IfSome found (λ step. Fits step self.new)) }
+        ensures leads { IfOk result (λ found. IfSome found (λ step. (t : Tables) → Ascends release_below t.releases → IsPlaceFor change.now place t → AreKept self.old t → LeadsTo step self.new (applied change.now t))) }
+    {
+        self.step_of(change, place)
+    }
+
+    /// A release is opened.
+    fn open(&mut self)
+        requires { Fits Step.Open self.old }
+        ensures stands { self.new.stands.items ≡ self.old.stands.items }
+        ensures count { length self.new.tallies.items ≡ length self.old.tallies.items + 1 }
+    {
+        self.tallies.push_reserved(Tally::new());
+    }
+
+    /// Duties of the release at a place are raised.
+    fn raise(&mut self, place: u32, count: usize)
+        requires { Fits (Step.Raise place count) self.old }
+        ensures stands { self.new.stands.items ≡ self.old.stands.items ++ replicate count (open_at place) }
+        ensures count { length self.new.tallies.items ≡ length self.old.tallies.items }
+    {
+        raise_at(&mut self.tallies, (place - 1) as usize, count);
+        push_open(&mut self.stands, place, count);
+    }
+
+    /// Duties move.
+    fn move_all(&mut self, shifts: &[Shift])
+        requires { Fits (Step.Move shifts.now) self.old }
+        ensures stands { self.new.stands.items ≡ shifted shifts.now self.old.stands.items }
+        ensures count { length self.new.tallies.items ≡ length self.old.tallies.items }
+    {
+        shift_all(&mut self.stands, &mut self.tallies, shifts);
+    }
+
+    /// Takes a step that was planned.
+    pub fn take(&mut self, step: Step)
+        requires { Fits step self.old }
+        ensures { (t : Tables) → LeadsTo step self.old t → AreKept self.new t }
+    {
+        match step {
+            Step::Stay => {}
+            Step::Open => self.open(),
+            Step::Raise { place, count } => self.raise(place, count),
+            Step::Move(shifts) => self.move_all(shifts.as_slice()),
         }
     }
 }
