@@ -317,3 +317,18 @@ get_none (x ∷ xs) (suc i) e = omega (arith, get_none xs i e)
 pub placed-shifted : (n : ℕ) (shifts : List Shift) (all : List Stand) → are_placed n (shifted shifts all) ≡ are_placed n all
 placed-shifted n [] all = refl
 placed-shifted n (shift ∷ shifts) all = placed-state n (shift.duty - 1) shift.state (shifted shifts all) ∙ placed-shifted n shifts all
+
+-- one duty more, which stands in any state
+pub at_last : (all : List Stand) (stand : Stand) → at_state (length all) stand.state (all ++ replicate 1 (open_at stand.place)) ≡ all ++ stand ∷ []
+at_last [] stand = refl
+at_last (x ∷ xs) stand = ap (λ (ss : List Stand). x ∷ ss) (at_last xs stand)
+
+pub get_last : (all : List Stand) (stand : Stand) → slice_get (all ++ replicate 1 stand) (length all) ≡ Some stand
+get_last [] stand = refl
+get_last (x ∷ xs) stand = get_last xs stand
+
+-- an item that is there is read alike, whatever stands for one that isn't
+pub read : {A : Type 0} (xs : List A) (i : ℕ) (d : A) → i < length xs → get_or xs i d ≡ get_or xs i (get_or xs i d)
+read [] i d lt = absurd (omega (arith, lt))
+read (x ∷ xs) zero d lt = refl
+read (x ∷ xs) (suc i) d lt = read xs i d (omega (arith, lt))

@@ -5,3 +5,4 @@ pub mod Moves
 pub mod Leads
 pub mod Found
 pub mod Plans
+pub mod Placing

@@ -1,5 +1,5 @@
 -- What tallies are to the rows of tables.
-use Rattle.std.specs.Prelude.{◌≡◌, ◌<◌, ◌≤◌, ℕ, ◌+◌, ◌==◌, ◌&&◌, Bool, true, List, [], ◌∷◌, length, find, map, Option, Some, unwrap_or, vec_len}
+use Rattle.std.specs.Prelude.{◌≡◌, ◌<◌, ◌≤◌, ℕ, ◌+◌, ◌==◌, ◌&&◌, nat_le, Bool, true, false, List, [], ◌∷◌, length, find, map, Option, Some, unwrap_or, vec_len}
 use Rattle.std.specs.Vec.{vec_capacity}
 use Rattle.std.specs.Option.{option_map}
 use Rattle.std.specs.Str.{bytes_eq}
@@ -12,7 +12,7 @@ use Rattle.desk_rows.specs.declared.row.ReleaseRow.{ReleaseRow}
 use Rattle.desk_rows.specs.declared.command.Change.{Change}
 use Rattle.desk_rows.specs.declared.command.Change.TheVariants as change
 use Rattle.desk_access.specs.Follows.{are_numbered}
-use Rattle.desk_tally.specs.Stands.{are_duties, stands_after, count_after, shift_of, is_within}
+use Rattle.desk_tally.specs.Stands.{are_duties, are_placed, are_places, stands_after, count_after, shift_of, is_within}
 use Rattle.desk_tally.specs.declared.stand.Stand.{Stand}
 use Rattle.desk_tally.specs.declared.stand.Shift.{Shift}
 use Rattle.desk_tally.specs.declared.stand.Step.{Step}
@@ -84,3 +84,12 @@ IsStep (change.Froze release revision rows duties changes) place count all s = I
 IsStep (change.Moved changes) place count all s = IsMove changes all s
 IsStep (change.Withdrew release changes) place count all s = IsMove changes all s
 IsStep _ place count all s = s ≡ step.Stay
+
+-- what tallies are counted from: the places of the tables' releases, and where each duty stands by its number
+pub record AreCounted (places : List ℕ) (all : List Stand) (t : Tables) : Type 0 where
+  pub releases : places ≡ map (λ row. row.place) t.releases
+  pub stands : all ≡ map (stand_of t.releases) t.duty
+  pub numbered : are_numbered 1 t.duty ≡ true
+
+abbrev pub can_count : List ℕ → List Stand → Bool
+can_count places all = nat_le (length all) 100000 && (are_placed (length places) all && are_places (length places) (λ place. false) places)

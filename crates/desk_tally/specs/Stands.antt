@@ -1,5 +1,5 @@
 -- Where duties stand, by number: what is counted of them, and what each step does to them.
-use Rattle.std.specs.Prelude.{◌≡◌, ◌≤◌, ℕ, zero, suc, ◌+◌, ◌-◌, ◌==◌, ◌&&◌, nat_le, Bool, true, List, [], ◌∷◌, ◌++◌, length, replicate, count_by, map, Some, slice_get}
+use Rattle.std.specs.Prelude.{◌≡◌, ◌≤◌, ℕ, zero, suc, ◌+◌, ◌-◌, ◌==◌, ◌&&◌, ◌||◌, not, nat_le, Bool, true, List, [], ◌∷◌, ◌++◌, length, replicate, count_by, map, Some, slice_get}
 use Rattle.std.specs.List.{list_all}
 use Rattle.desk_rows.specs.States.{is_open, is_met, is_waived, is_withdrawn, state_after}
 use Rattle.desk_rows.specs.declared.state.DutyState.{DutyState}
@@ -41,6 +41,11 @@ is_within count n = nat_le 1 n && nat_le n count
 -- each duty is of a release at one of so many places
 abbrev pub are_placed : ℕ → List Stand → Bool
 are_placed count all = list_all (λ stand. is_within count stand.place) all
+
+-- places from 1 to a count, none of which was taken before
+abbrev pub are_places : ℕ → (ℕ → Bool) → List ℕ → Bool
+are_places count taken [] = true
+are_places count taken (place ∷ places) = is_within count place && (not (taken place) && are_places count (λ other. (other == place) || taken other) places)
 
 abbrev pub open_at : ℕ → Stand
 open_at place = record { place = place; state = IsOpen }

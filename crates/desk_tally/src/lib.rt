@@ -6,6 +6,7 @@
 #![tactic(auto)]
 
 mod changes;
+mod counting;
 mod lists;
 mod stand;
 mod tallies;

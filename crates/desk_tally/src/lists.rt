@@ -29,7 +29,7 @@ pub(crate) fn raise_at(tallies: &mut Vec<Tally>, index: usize, count: usize)
 }
 
 /// A duty of the release at an index goes from one state to another.
-fn move_at(tallies: &mut Vec<Tally>, index: usize, from: DutyState, to: DutyState)
+pub(crate) fn move_at(tallies: &mut Vec<Tally>, index: usize, from: DutyState, to: DutyState)
     requires within { index < vec_len tallies.old }
     requires some { (tally : Tally) → slice_get tallies.old.items index ≡ Some tally → 1 ≤ number_of from (totals_in tally) }
     ensures len { vec_len tallies.new ≡ vec_len tallies.old }

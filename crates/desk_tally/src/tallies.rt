@@ -4,6 +4,7 @@ ghost use Rattle.std.specs.Prelude.{◌≡◌, ℕ, true, ◌+◌, ◌≤◌, le
 ghost use Rattle.desk_tally.specs.Stands.{AreTallied, are_placed};
 
 use crate::changes::{are_raised, shifts_of};
+use crate::counting::{are_placed, are_places, tallies_of};
 use crate::lists::{push_open, raise_at, shift_all, tally_at};
 use crate::stand::{Shift, Stand, Step};
 use crate::tally::Tally;
@@ -26,11 +27,11 @@ pub struct Tallies {
 }
 
 impl Tallies {
-    ghost use Rattle.std.specs.Prelude.{List, [], filter};
+    ghost use Rattle.std.specs.Prelude.{List, [], filter, false, IfOk, IfSome, IfNone};
     ghost use Rattle.desk_rows.specs.Keys.{is_duty_of};
     ghost use Rattle.desk_rows.specs.Queries.{totals_of};
     ghost use Rattle.desk_rows.specs.Tables.{Tables};
-    ghost use Rattle.desk_tally.specs.Kept.{place_found, AreKept};
+    ghost use Rattle.desk_tally.specs.Kept.{place_found, AreKept, AreCounted, can_count};
 
     /// Those of no releases.
     pub fn new(alloc: Global) -> Tallies
@@ -41,6 +42,31 @@ impl Tallies {
             stands: Vec::new(alloc),
             tallies: Vec::new(alloc),
         }
+    }
+
+    /// Those of releases at these places, and of duties that stand there. There are none where the places aren't those from 1 to
+    /// their number, a duty is of another release, or there are over 100,000 duties.
+    pub fn counted(
+        alloc: Global,
+        places: &[u32],
+        stands: Vec<Stand>,
+    ) -> Result<Option<Tallies>, AllocError>
+        ensures kept { IfOk result (λ found. IfSome found (λ tallies. (t : Tables) → AreCounted places.now stands.items t → AreKept tallies t)) }
+        ensures none { IfOk result (λ found. IfNone found (can_count places.now stands.items ≡ false)) }
+    {
+        let releases = places.len();
+        if stands.len() > MAX_DUTIES || !are_placed(releases, stands.as_slice()) {
+            return Ok(None);
+        }
+        if !are_places(alloc, places)? {
+            return Ok(None);
+        }
+        let tallies = tallies_of(alloc, releases, stands.as_slice())?;
+        Ok(Some(Tallies {
+            alloc,
+            stands,
+            tallies,
+        }))
     }
 
     /// How many duties of the release at a place stand where, if there is one.
