@@ -3,6 +3,7 @@
 
 mod counts;
 mod store;
+mod totals;
 
 pub use counts::Counts;
 pub use store::SqlStore;

@@ -10,16 +10,18 @@ ghost use Rattle.desk_layout.specs.Held.{Stands, counted, known_of, seen_of};
 ghost use Rattle.desk_store.specs.Counting.{forms_after, known_by};
 
 use crate::counts::{Counts, counts_after};
+use crate::totals;
 use desk_access::store::Store;
 use desk_base::{Day, Items, Text};
 use desk_rows::{
     AttachedRow, Change, ChangeRow, DutyRow, Fault, PackageRow, Profile, ReleaseRow, Rule,
-    Standing, StoreFault,
+    Standing, StoreFault, Totals,
 };
 use sqlite::{Alter, Connection};
 use std::alloc::Global;
 
-/// Rows in a database, with how many there are of some and the forms of the catalogue in force.
+/// Rows in a database, with how many there are of some and the forms of the catalogue in force. The totals of a release are counted
+/// each time that they are asked for.
 #[derive(Drop)]
 pub struct SqlStore<S: Alter> {
     alloc: Global,
@@ -204,6 +206,10 @@ impl<S: Alter> Store for SqlStore<S> {
 
     fn duties_of(&mut self, release: &str) -> Result<Vec<DutyRow>, Fault> {
         desk_lookups::duties_of(self.alloc, &mut self.conn, release)
+    }
+
+    fn tally(&mut self, release: &str) -> Result<Option<Totals>, Fault> {
+        totals::tally(self.alloc, &mut self.conn, release)
     }
 
     fn standings_of(&mut self, release: &str) -> Result<Vec<Standing>, Fault> {

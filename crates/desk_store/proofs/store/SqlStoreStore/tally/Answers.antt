@@ -1,0 +1,8 @@
+use Rattle.sqlite.specs.Held.{state}
+use Rattle.desk_layout.specs.Held.{seen_of}
+use Rattle.desk_store.specs.Counting.{known_by}
+use Rattle.desk_store.proofs.Counted.{looked}
+use Rattle.desk_store.proofs.store.SqlStoreStore.tally.Goals as goal
+
+pub returns-clause-kept : goal.returns-clause-kept
+returns-clause-kept g c = looked _ _ _ _ c.tally.ensures.kept
