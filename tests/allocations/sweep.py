@@ -1,9 +1,10 @@
 """Refuses each allocation of the program in turn: python3 tests/allocations/sweep.py PROGRAM
 
-The scripts, the checks and the listings are those of the acceptance cases of at most 16 KiB. For each N the program runs once with its Nth
-allocation refused, until a run makes fewer. Then
+The scripts, the checks, the listings and the trees are those of the acceptance cases of at most 16 KiB or 100 files. For each N the program runs once
+with its Nth allocation refused, until a run makes fewer. Then
 
 - a check or a listing tells its answer with its status, or nothing with status 3 and its words;
+- so do the document and the problems of a tree; the words may also be those of a folder or a file that found no memory;
 - a script tells its replies with its status; or one reply is {"fault":"memory"}, the status is 3 with its words, and the other replies
   are those of the script without that request, so what was accepted stands and the script went on; or it stopped with status 3 and its
   words, and what is there are whole replies, those of the script. Before the first reply it may also say that it could not begin.
@@ -12,6 +13,8 @@ Each request of a script is told want of memory so at least once, but a line tha
 """
 
 import os
+import re
+import shutil
 import subprocess
 import sys
 import tempfile
@@ -24,24 +27,44 @@ sys.dont_write_bytecode = True
 import dialogue
 
 BYTES = 16_384
+FILES = 100
 MEMORY = b'{"fault":"memory"}\n'
 
 WANTING = b"error: no memory is left\n"
 NOT_BEGUN = (WANTING, b"error: cannot write: out of memory\n")
 STOPPED = b"error: the script stopped: no memory is left for a line or a reply\n"
 ONE_FAILED = b"error: requests that failed: 1\n"
+UNREAD = re.compile(rb'error: cannot read ".*": (out of memory|Cannot allocate memory.*)\n')
 
 
 class Program:
     def __init__(self, path, library, room):
         self.path, self.library, self.told = path, library, os.path.join(room, "refused")
+        self.folder = os.path.join(room, "folder")
+        os.mkdir(self.folder)
+
+    def stand_in(self, data, script):
+        """Has the program run in a folder that holds these files, if any, and those that a script makes: the words that it ends with."""
+        shutil.rmtree(self.folder)
+        if data:
+            shutil.copytree(data, self.folder)
+        else:
+            os.mkdir(self.folder)
+        if script:
+            done = subprocess.run(["sh", script, "echo"], cwd=self.folder, stdout=subprocess.PIPE, check=True)
+            return done.stdout.decode().split()
+        return []
+
+    def files(self):
+        """How many files there are in that folder."""
+        return sum(len(names) for _, _, names in os.walk(self.folder))
 
     def run(self, words, text, refused=0):
         """Standard output, the status, standard error, and whether an allocation was refused."""
         if os.path.exists(self.told):
             os.remove(self.told)
         env = {"LD_PRELOAD": self.library, "REFUSE": str(refused), "REFUSED": self.told} if refused else {}
-        done = subprocess.run([self.path, *words], input=text, capture_output=True, env=env, check=False)
+        done = subprocess.run([self.path, *words], input=text, capture_output=True, env=env, cwd=self.folder, check=False)
         return done.stdout, done.returncode, done.stderr, os.path.exists(self.told)
 
 
@@ -74,6 +97,13 @@ class Check:
 
     def untold(self):
         return []
+
+
+class Tree(Check):
+    """A run of `gather` or `lint`, and what may be told where memory is wanting."""
+
+    def is_right(self, stdout, status, stderr):
+        return super().is_right(stdout, status, stderr) or (stdout, status) == (b"", 3) and UNREAD.fullmatch(stderr)
 
 
 class Script:
@@ -112,9 +142,12 @@ class Script:
         return [n for n, line in enumerate(self.replied) if n not in self.told and is_text(self.requests[line])]
 
 
+KINDS = {"script": Script, "check": Check, "alternatives": Check, "gather": Tree, "lint": Tree}
+
+
 def sweep(program, name, words, text):
     """How many allocations were refused."""
-    run = (Script if words[0] == "script" else Check)(program, words, text)
+    run = KINDS[words[0]](program, words, text)
     refused = 1
     while True:
         stdout, status, stderr, was_refused = program.run(words, text, refused)
@@ -135,18 +168,31 @@ def words_of(path):
     return words[:-1] if words[-1] == "" else words
 
 
+def is_of_tree(path):
+    """Whether a script ends with one run of `gather` or `lint`, and runs the program nowhere else."""
+    with open(path, encoding="utf-8") as file:
+        text = file.read()
+    return text.count("$1") == 1 and re.search(r'^exec "\$1" (gather|lint) [^|<>;&]*\n\Z', text, re.M) is not None
+
+
 def cases():
-    """The name, the words and the standard input of each case that is swept."""
+    """The name, the words, the standard input, the files and the script that makes some, if any, of each case that is swept."""
     for name in sorted(os.listdir(CASES)):
         path = os.path.join(CASES, name)
         if name.endswith(".dialogue"):
             requests = dialogue.read(path)[0]
             if len(requests) <= BYTES:
-                yield name, ["script"], requests
+                yield name, ["script"], requests, None, None
             continue
-        words = os.path.join(path, "args")
-        if os.path.isfile(words) and os.path.getsize(words) <= BYTES and words_of(words)[:1] in (["check"], ["alternatives"]):
-            yield name, words_of(words), b""
+        listed, script = os.path.join(path, "args"), os.path.join(path, "run")
+        data = os.path.join(path, "data") if os.path.isdir(os.path.join(path, "data")) else None
+        words = words_of(listed) if os.path.isfile(listed) and os.path.getsize(listed) <= BYTES else []
+        if words[:1] in (["check"], ["alternatives"]):
+            yield name, words, b"", None, None
+        elif words[:1] in (["gather"], ["lint"]):
+            yield name, words, b"", data, None
+        elif os.path.isfile(script) and is_of_tree(script):
+            yield name, [], b"", data, script
 
 
 def main():
@@ -155,7 +201,10 @@ def main():
         subprocess.run(["cc", "-O2", "-shared", "-fPIC", "-o", library, os.path.join(HERE, "refuse.c"), "-ldl"], check=True)
         program = Program(os.path.abspath(sys.argv[1]), library, room)
         swept, runs = 0, 0
-        for name, words, text in cases():
+        for name, words, text, data, script in cases():
+            words = program.stand_in(data, script) or words
+            if program.files() > FILES:
+                continue
             swept, runs = swept + 1, runs + sweep(program, name, words, text)
         if swept == 0 or runs == 0:
             sys.exit("nothing was swept")

@@ -5,3 +5,4 @@ pub mod SetLemmas
 pub mod ReadingLemmas
 pub mod PrintedLemmas
 pub mod OrderLaws
+mod StandOnce

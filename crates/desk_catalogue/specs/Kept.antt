@@ -31,3 +31,7 @@ has_rule rules rule = list_any (is_rule rule.term rule.form) rules
 -- the text is that of a licence or an exception, whose ids compare without regard to case (SPDX 2.3, Annex D.2)
 abbrev pub is_text_of : List ℕ → LicenceText → Bool
 is_text_of id text = bytes_eq (folded text.licence) (folded id)
+
+-- two texts are of one licence or exception
+abbrev pub same_licence : LicenceText → LicenceText → Bool
+same_licence a b = is_text_of b.licence a

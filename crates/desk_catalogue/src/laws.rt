@@ -1,10 +1,12 @@
 //! Laws of the definitions.
 
 ghost use Rattle.std.specs.Prelude.{◌≡◌, ℕ, List, Option, Ok};
+ghost use Rattle.std.specs.List.{IsDistinct};
 ghost use Rattle.std.specs.List.Sorted.{IsStrictlySortedBy};
+ghost use Rattle.std.specs.Str.{bytes_eq};
 ghost use Rattle.desk_catalogue.specs.declared.catalogue.Catalogue.{Catalogue};
 ghost use Rattle.desk_catalogue.specs.Terms.{ReadsTerms};
-ghost use Rattle.desk_catalogue.specs.Kept.{rule_order};
+ghost use Rattle.desk_catalogue.specs.Kept.{rule_order, same_licence};
 ghost use Rattle.desk_catalogue.specs.Reading.{catalogue_of};
 
 /// Some function gives the printed term of each text that spells one, and none of any other text.
@@ -21,4 +23,9 @@ pub fn one_catalogue()
 /// by its term and form.
 pub fn rules_stand_once()
     ensures { (terms : List ℕ → Option (List ℕ)) (text : List ℕ) (catalogue : Catalogue) → catalogue_of terms text ≡ Ok catalogue → IsStrictlySortedBy rule_order catalogue.rules }
+{}
+
+/// No form of a catalogue stands twice, and no licence or exception has two texts.
+pub fn forms_and_texts_stand_once()
+    ensures { (terms : List ℕ → Option (List ℕ)) (text : List ℕ) (catalogue : Catalogue) → catalogue_of terms text ≡ Ok catalogue → IsDistinct bytes_eq catalogue.forms × IsDistinct same_licence catalogue.texts }
 {}

@@ -3,8 +3,8 @@ use Rattle.std.proofs.Common.{◌≡◌, ◌∙◌, ◌↔◌, ℕ, List, [], �
 use Rattle.std.specs.Prelude.{Option, Some, None, Result, Ok, Err}
 use Rattle.desk_base.proofs.LinesOnce.{line_some}
 use Rattle.desk_fields.specs.declared.fault.DocFault.{DocFault}
-use Rattle.desk_fields.specs.Pieces.{bytes_of, given}
-use Rattle.desk_fields.specs.Cutting.{Begins, Fails, Reads, done, more, fails, FieldText, onto, with_piece, line_after, Cut, AreCuts, IsCutting, line_behind, said_by}
+use Rattle.desk_fields.specs.Pieces.{bytes_of}
+use Rattle.desk_fields.specs.Cutting.{Begins, Fails, Reads, done, more, fails, FieldText, with_piece, line_after, Cut, IsCutting, said_by}
 use Rattle.desk_fields.proofs.OnePiece.{begins_once}
 use Rattle.desk_fields.proofs.OneReading.{begins_fails, fails_once, fails_some, not_nothing}
 use Rattle.desk_document_laws.proofs.EachText.{each_text}

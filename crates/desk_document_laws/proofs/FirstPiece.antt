@@ -14,8 +14,8 @@ use Rattle.desk_fields.specs.Cutting.{Begins, Fails}
 use Rattle.desk_fields.proofs.Founds.{front_no_lf, behind_no_lf, gap_of, gap_blank, opening_cut, opening_whole, text_cut, ends_closed, last_closed}
 use Rattle.desk_fields.proofs.Scans.{no_tag, empty_tag, tag_facts}
 use Rattle.desk_fields.proofs.Once.{IsOpened}
-use Rattle.desk_document_laws.proofs.FirstLine.{Cut, never, first, cut_at, HasLine, has_line, line_shorter}
-use Rattle.desk_document_laws.proofs.Closing.{Front, begins, apart, front, Closing, open_text, closed, closing}
+use Rattle.desk_fields.proofs.FirstLine.{Cut, never, first, cut_at, HasLine, has_line, line_shorter}
+use Rattle.desk_fields.proofs.Closing.{Front, begins, apart, front, Closing, open_text, closed, closing}
 
 -- a text's first piece with what follows it, or how the text fails
 pub data Step (line : ℕ) (t : List ℕ) : Type 0 where

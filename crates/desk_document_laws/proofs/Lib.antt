@@ -1,5 +1,3 @@
-pub mod FirstLine
-pub mod Closing
 pub mod FirstPiece
 pub mod EachText
 pub mod EachDocument

@@ -6,3 +6,4 @@ pub mod RunLemmas
 pub mod TagLemmas
 pub mod RunOnce
 pub mod TagOnce
+pub mod EachRun

@@ -1,15 +1,19 @@
 //! The notices and licences that a file states itself (REUSE Specification 3.3, comment headers).
 
-ghost use Rattle.std.specs.Prelude.{◌≡◌, List, ℕ, map, IfOk};
+ghost use Rattle.std.specs.Prelude.{◌≡◌, ◌<◌, true, false, codes, length, List, ℕ, map, IfOk};
+ghost use Rattle.desk_reuse.specs.Runs.{Lacks};
 ghost use Rattle.desk_reuse.specs.Tags.{IsInfo, TagText, tag_text};
 
-use crate::runs::{Run, first_run};
+use crate::runs::{Run, around, first_run};
 use crate::tags::{Tagged, add};
 use std::alloc::{AllocError, Global};
 
 const NOTICE: &[u8] = b"SPDX-FileCopyrightText:";
 
 const LICENCE: &[u8] = b"SPDX-License-Identifier:";
+
+/// What both tags begin with.
+const MARK: &[u8] = b"SPDX-";
 
 /// What a file states itself. Its texts are parts of the file.
 #[derive(Debug, Drop)]
@@ -18,6 +22,22 @@ pub struct Info<'a> {
     pub notices: Vec<Tagged<'a>>,
     /// The values of `SPDX-License-Identifier:`, by line.
     pub licences: Vec<Tagged<'a>>,
+}
+
+// Whether no tag begins in what is left of a file. `marked` is how many bytes were left where one may begin, as last looked for: it is
+// looked for anew only behind that place, so all look-ups together read the file once.
+fn has_no_mark(rest: &[u8], marked: &mut usize) -> bool
+    ensures none { result ≡ true → Lacks (codes "SPDX-") rest.now }
+    ensures some { result ≡ false → 0 < length rest.now }
+{
+    if !rest.is_empty() && rest.len() >= *marked {
+        return false;
+    }
+    let Some((_, after)) = around(rest, MARK) else {
+        return true;
+    };
+    *marked = MARK.len() + after.len();
+    false
 }
 
 /// The notices and licences of a file, each with its line. The only error is want of memory.
@@ -35,7 +55,8 @@ pub fn header<'a>(alloc: Global, file: &'a [u8]) -> Result<Info<'a>, AllocError>
     let mut licensed = 0u64;
     let mut rest = file;
     let mut line = 1u64;
-    while !rest.is_empty() {
+    let mut marked = usize::MAX;
+    while !has_no_mark(rest, &mut marked) {
         let found = first_run(rest, line);
         let run = Run {
             line,

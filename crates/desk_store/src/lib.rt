@@ -1,9 +1,14 @@
 //! The desk's rows in a SQL database.
 #![tactic(auto)]
 
+mod adopt;
 mod counts;
+mod desk;
+mod fault;
 mod store;
 mod totals;
 
 pub use counts::Counts;
+pub use desk::SqlDesk;
+pub use fault::{AdoptFault, CreateFault};
 pub use store::SqlStore;

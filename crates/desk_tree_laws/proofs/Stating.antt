@@ -1,73 +1,15 @@
 -- Each file states some notices and licences itself, or none.
-use Rattle.std.proofs.Common.{◌≡◌, ◌≢◌, ◌∙◌, ◌⊎◌, inl, inr, ℕ, zero, suc, ◌+◌, ◌<◌, ◌≤◌, List, [], ◌∷◌, ◌++◌, length, drop, ap, refl, arith, length-append, length-drop}
-use Rattle.std.specs.Prelude.{codes, count_by, ◌==◌, Option, Some, None}
+use Rattle.std.proofs.Common.{◌≡◌, ◌≢◌, ◌∙◌, ◌⊎◌, inl, inr, ℕ, ◌<◌, List, [], ◌∷◌, ◌++◌, length, ap, refl, arith}
+use Rattle.std.specs.Prelude.{codes, Option, Some, None}
 use Rattle.std.specs.Str.{is_utf8}
 use Rattle.std.proofs.lemmas.Bool.{cases_eq, cases_Bool}
 use Rattle.std.proofs.lemmas.Str.{IsUtf8-from_is_utf8, is_utf8-from_IsUtf8}
 use Rattle.desk_fields.specs.Text.{trim_end, trimmed}
-use Rattle.desk_document_laws.proofs.Closing.{Closing, open_text, closed, closing}
-use Rattle.desk_document_laws.proofs.FirstLine.{HasLine, has_line, line_shorter}
-use Rattle.desk_reuse.specs.Runs.{IsRun, RunText, Shows, start, stop}
+use Rattle.desk_fields.proofs.Closing.{Closing, open_text, closed, closing}
+use Rattle.desk_reuse.specs.Runs.{RunText}
 use Rattle.desk_reuse.specs.Tags.{IsClose, IsBare, Tells, Counts, seen_after, TagText, onto, Gives, IsInfo, notice_tag, licence_tag}
-use Rattle.desk_reuse.proofs.RunLemmas.{run_line, run_rest, run_ignored}
+use Rattle.desk_reuse.proofs.EachRun.{shown_within}
 use Rattle.desk_gather.specs.Readers.{Stated}
-
--- ---- runs
-
--- the first run of some bytes, and fewer bytes behind it
-record Step (line : ℕ) (t : List ℕ) : Type 0 where
-  text : List ℕ
-  after : ℕ
-  rest : List ℕ
-  run : IsRun line t text after rest
-  shorter : length rest < length t
-
--- a start stands on the line
-hidden_step : (line : ℕ) (t : List ℕ) (l : HasLine t) (before behind : List ℕ) → 0 < length t → l.line ≡ before ++ (start ++ behind) → ((xs ys : List ℕ) → before ++ start ≡ xs ++ (start ++ ys) → length ys ≡ 0)
-    → Closing stop (drop (length before + 17) t) → Step line t
-hidden_step line t l before behind some cut first (open_text none) = record {
-  text = before;
-  after = line;
-  rest = [];
-  run = run_rest line t l.line l.end l.rest before behind (drop (length before + 17) t) [] l.is cut first refl none refl;
-  shorter = some;
-}
-hidden_step line t l before behind some cut first (closed hidden more split last) = record {
-  text = before;
-  after = line + count_by (λ b. b == 10) hidden;
-  rest = more;
-  run = run_ignored line t l.line l.end l.rest before behind (drop (length before + 17) t) hidden more (count_by (λ b. b == 10) hidden) l.is cut first refl split last refl;
-  shorter =
-      let a = length-drop (length before + 17) t in
-      let b = ap length split ∙ length-append hidden (stop ++ more) in
-      let c = length-append stop more in
-      omega arith;
-}
-
-line_step : (line : ℕ) (t : List ℕ) (l : HasLine t) → 0 < length t → Closing start l.line → Step line t
-line_step line t l some (open_text none) = record {
-  text = l.line;
-  after = line + 1;
-  rest = l.rest;
-  run = run_line line t l.line l.end l.rest l.is none;
-  shorter = line_shorter t l.line l.end l.rest l.is.cut l.is.ends;
-}
-line_step line t l some (closed before behind cut first) = hidden_step line t l before behind some cut first (closing stop (omega arith) (drop (length before + 17) t))
-
-step : (line : ℕ) (t : List ℕ) → 0 < length t → Step line t
-step line t some = let l = has_line t some in line_step line t l some (closing start (omega arith) l.line)
-
-abbrev Shown : ℕ → List ℕ → Type 0
-Shown line t = (rs : List RunText) × Shows line t rs
-
-shown_within : (bound line : ℕ) (t : List ℕ) → length t ≤ bound → Shown line t
-shown_within bound line [] within = ([], refl)
-shown_within zero line (b ∷ t) within = absurd (omega arith)
-shown_within (suc bound) line (b ∷ t) within =
-    let s = step line (b ∷ t) (omega arith) in
-    let shorter = s.shorter in
-    let later : Shown s.after s.rest = shown_within bound s.after s.rest (omega arith) in
-    (record { line = line; text = s.text } ∷ later.0, (s.after, s.rest, omega arith, refl, s.run, later.1))
 
 -- ---- values
 

@@ -8,7 +8,8 @@ use crate::fault::TreeFault;
 use crate::walking::{paths_of, place};
 use desk_base::{Items, Text};
 use desk_gather::SourceFile;
-use std::fs;
+use std::fs::{self, OpenFile};
+use std::io::{self, Read};
 use std::rt::Files;
 
 /// How many files a tree may have of which something is gathered.
@@ -16,6 +17,16 @@ const MOST_READ: usize = 10_000;
 
 /// After how many files the count of those that are read is told.
 const FILES_A_LINE: usize = 1_000;
+
+// What a file holds. Its room is taken by what the file's size is said to be, so that no more of it is taken than the file needs.
+fn bytes_at<R: Files + AllocGlobal + Clone + Drop>(rt: &R, place: &str) -> io::Result<Vec<u8>> {
+    let mut file = fs::open(rt, place)?;
+    let size = file.metadata()?.len();
+    let room = usize::try_from(size).unwrap_or(usize::MAX);
+    let mut bytes = Vec::with_capacity(rt.alloc(), room.saturating_add(1))?;
+    file.read_to_end(&mut bytes)?;
+    Ok(bytes)
+}
 
 // The file at a path.
 fn file_at<R: Files + AllocGlobal + Clone + Drop>(
@@ -27,7 +38,7 @@ fn file_at<R: Files + AllocGlobal + Clone + Drop>(
 {
     let alloc = rt.alloc();
     let place = place(alloc, root, path)?;
-    match fs::read(rt, place.as_str()) {
+    match bytes_at(rt, place.as_str()) {
         Ok(bytes) => Ok(SourceFile {
             path: Text::of(alloc, path)?,
             bytes: Items::from_vec(bytes),

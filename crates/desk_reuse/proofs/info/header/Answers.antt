@@ -1,14 +1,15 @@
 use Rattle.std.proofs.Common.{◌<◌, length, rules, arith}
 use Rattle.std.specs.Prelude.{map}
 use Rattle.desk_reuse.specs.Tags.{tag_text}
-use Rattle.desk_reuse.proofs.TagLemmas.{completes_step, completes_end}
+use Rattle.desk_reuse.proofs.TagLemmas.{completes_step}
+use Rattle.desk_reuse.proofs.EachRun.{completes_bare}
 use Rattle.desk_reuse.proofs.info.header.Goals as goal
 
 pub loop-rest-preserved : goal.loop-rest-preserved
 loop-rest-preserved c =
     let l = c.loop-rest in
     let f = c.first_run-found in
-    let some : 0 < length l.rest.now = search rules in
+    let some : 0 < length l.rest.now = c.has_no_mark.ensures.some c.loop-rest-test.true in
     let room = f.ensures.room in
     let old = l.invariant.room in
     record {
@@ -23,4 +24,4 @@ loop-rest-preserved c =
 pub returns : goal.returns
 returns c =
     let l = c.loop-rest in
-    completes_end c.args.file.now l.line l.rest.now l.noticed (map tag_text l.notices.items) l.licensed (map tag_text l.licences.items) (search rules) l.invariant.completes
+    completes_bare c.args.file.now l.line l.rest.now l.noticed (map tag_text l.notices.items) l.licensed (map tag_text l.licences.items) (search rules) l.invariant.completes

@@ -1,0 +1,5 @@
+pub mod Turns
+pub mod Asking
+pub mod Spared
+pub mod Texts
+pub mod Contents

@@ -1,0 +1,4 @@
+pub mod Forms
+pub mod Reading
+pub mod Version
+pub mod Revisions

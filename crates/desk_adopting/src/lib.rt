@@ -1,0 +1,27 @@
+//! A database that is adopted as a desk: whether it holds a desk's tables, and what a store keeps beside them.
+//!
+//! `examine` tells what a database holds: the tables of a desk, those of another version, or something other. It asks the table `meta`
+//! for its version, and compares the schema that the connection shows with the desk's, field by field (`is_declared`): each table with
+//! its columns and keys, the indexes of the keys, and nothing beside them. The database may have any schema, and its clause tells the
+//! version as what it answers when it is asked (`specs/Version.antt`).
+//!
+//! The rest is asked of a desk's tables: how many revisions, documents, releases and duties there are, and the body of a revision. What
+//! is told is so of each tables that the database holds (`found`).
+//!
+//! Each statement only asks, whatever the schema of the database is (`Asks`): the connection shows what it showed as far as it still
+//! shows anything, a stop leaves nothing that it couldn't leave before, and only after a fault may the connection be shut (`read`,
+//! `specs/Reading.antt`).
+#![tactic(auto)]
+
+mod catalogue;
+mod counts;
+mod declared;
+mod forms;
+mod matching;
+mod query;
+mod version;
+
+pub use catalogue::body_of;
+pub use counts::{document_count, duty_count, release_count, revision_count};
+pub use declared::is_declared;
+pub use version::{Content, examine};

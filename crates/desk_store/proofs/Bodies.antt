@@ -1,0 +1,59 @@
+-- The catalogue in force is that of the last revision's body.
+use Rattle.std.proofs.Common.{◌≡◌, ◌<◌, ℕ, ◌+◌, Bool, true, false, List, [], ◌∷◌, ◌++◌, length, Option, Some, None, refl, sym, ap, ◌∙◌, arith, find}
+use Rattle.std.specs.Prelude.{◌==◌}
+use Rattle.std.specs.Option.{option_map, option_and_then}
+use Rattle.std.specs.Result.{result_ok}
+use Rattle.std.proofs.lemmas.Bool.Decides.{nat_tests}
+use Rattle.desk_rows.specs.History.{revisions, loaded, forms_in}
+use Rattle.desk_rows.specs.Lists.{latest}
+use Rattle.desk_rows.specs.Readings.{Readings}
+use Rattle.desk_rows.specs.Tables.{tables}
+use Rattle.desk_rows.specs.declared.row.CatalogueRow.{CatalogueRow}
+use Rattle.desk_rows.specs.declared.command.Command.{Command}
+use Rattle.desk_rows.specs.declared.command.Command.TheVariants.{LoadCatalogue}
+use Rattle.desk_history.proofs.Lookups.{length-push}
+use Rattle.desk_layout.specs.Held.{known_of}
+use Rattle.desk_adopting.specs.Revisions.{is_revision, body_of}
+use Rattle.desk_store.specs.Adopting.{HasCounts}
+use Rattle.desk_store.specs.Counting.{known_by}
+use Rattle.desk_store.specs.declared.counts.Counts.{Counts}
+
+abbrev row_of : ℕ → List ℕ → CatalogueRow
+row_of n text = record { revision = n; body = text }
+
+found_behind : (p : CatalogueRow → Bool) (xs : List CatalogueRow) (x : CatalogueRow) → find p xs ≡ None → find p (xs ++ x ∷ []) ≡ find p (x ∷ [])
+found_behind p [] x none = refl
+found_behind p (y ∷ ys) x none = go (found_behind p ys x) (p y) refl
+  where
+    go : (find p ys ≡ None → find p (ys ++ x ∷ []) ≡ find p (x ∷ [])) → (b : Bool) → p y ≡ b → find p (y ∷ ys ++ x ∷ []) ≡ find p (x ∷ [])
+    go more true is = absurd (let e = rw is at none in cc)
+    go more false is = rw is (more (rw is at none))
+
+-- no revision has a higher number than there are revisions
+none_higher : (h : List Command) (n : ℕ) → length (revisions h) < n → find (is_revision n) (revisions h) ≡ None
+none_higher [] n more = refl
+none_higher (LoadCatalogue text ∷ h) n more =
+    let last = row_of (length (revisions h) + 1) text in
+    let long : length (revisions h ++ last ∷ []) ≡ length (revisions h) + 1 = length-push (revisions h) last in
+    let before : length (revisions h) < n = omega (arith, long) in
+    let other : (length (revisions h) + 1 == n) ≡ false = grind (arith, nat_tests, long) in
+    found_behind (is_revision n) (revisions h) last (none_higher h n before) ∙ rw other refl
+none_higher (_ ∷ h) n more = none_higher h n more
+
+-- the revision with the number of all has the text that was loaded last
+last_body : (h : List Command) (n : ℕ) → length (revisions h) ≡ n → option_map (λ row. row.body) (find (is_revision n) (revisions h)) ≡ latest loaded h
+last_body [] n is = refl
+last_body (LoadCatalogue text ∷ h) n is =
+    let last = row_of (length (revisions h) + 1) text in
+    let long : length (revisions h ++ last ∷ []) ≡ length (revisions h) + 1 = length-push (revisions h) last in
+    let before : length (revisions h) < n = omega (arith, long) in
+    let same : (length (revisions h) + 1 == n) ≡ true = grind (arith, nat_tests, long) in
+    ap (option_map (λ row. row.body)) (found_behind (is_revision n) (revisions h) last (none_higher h n before)) ∙ rw same refl
+last_body (_ ∷ h) n is = last_body h n is
+
+-- what is read of the tables of a history is what a store knows of them
+pub known : (w : Readings) (h : List Command) (counts : Counts) (forms : List (List ℕ)) (body : Option (List ℕ)) → HasCounts counts (tables w h) → body ≡ body_of (tables w h) counts.revisions
+    → forms ≡ forms_in (option_and_then (λ text. result_ok (w.catalogue text)) body) → known_of (tables w h) ≡ known_by counts forms
+known w h counts forms body has read are =
+    let in_force : (tables w h).forms ≡ forms = sym (are ∙ ap (λ b. forms_in (option_and_then (λ text. result_ok (w.catalogue text)) b)) (read ∙ last_body h counts.revisions has.revisions)) in
+    rw (has.revisions, has.documents, has.releases, has.duties, in_force) refl

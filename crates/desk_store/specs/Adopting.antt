@@ -1,0 +1,47 @@
+-- What creating a desk in a database, and adopting one, tell and leave.
+use Rattle.std.specs.Prelude.{◌≡◌, List, [], length}
+use Rattle.sqlite_trees.specs.Tree.{Trees}
+use Rattle.sqlite.specs.State.{State}
+use Rattle.desk_rows.specs.Readings.{Readings}
+use Rattle.desk_rows.specs.Tables.{Tables, tables}
+use Rattle.desk_access.specs.Seen.{Seen}
+use Rattle.desk_layout.specs.Held.{Stands}
+use Rattle.desk_adopting.specs.Reading.{IsSpared, HasStayed}
+use Rattle.desk_adopting.specs.declared.version.Content.TheVariants as content
+use Rattle.desk_adopting.specs.Version.{IsContent}
+use Rattle.desk_store.specs.declared.counts.Counts.{Counts}
+use Rattle.desk_store.specs.declared.fault.AdoptFault.{AdoptFault}
+use Rattle.desk_store.specs.declared.fault.AdoptFault.TheVariants.{NotADesk, BadVersion, Fault}
+
+-- what is left holds the tables of no command
+abbrev pub StandsEmpty : Trees → Type 0
+StandsEmpty trees = (w : Readings) → Stands trees (tables w [])
+
+-- the desk of no command: it is open, its rows are those tables, and a stop leaves them alone
+pub record IsEmpty (s : Seen Trees) : Type 0 where
+  pub is_open : s.is_honest → s.is_open
+  pub holds : s.is_honest → (w : Readings) → s.holds (tables w [])
+  pub leaves : s.is_honest → (x : Trees) → s.leaves x → StandsEmpty x
+
+-- there are so many rows of these tables
+pub record HasCounts (counts : Counts) (t : Tables) : Type 0 where
+  pub revisions : length t.catalogue ≡ counts.revisions
+  pub documents : length t.document ≡ counts.documents
+  pub releases : length t.releases ≡ counts.releases
+  pub duties : length t.duty ≡ counts.duties
+
+-- memory was wanting, or the store failed
+abbrev pub IsFault : AdoptFault → Type 0
+IsFault (Fault fault) = Unit {0}
+IsFault _ = ⊥
+
+-- what the database was found to hold, where it isn't adopted
+abbrev pub IsReason : State → AdoptFault → Type 0
+IsReason s NotADesk = IsContent s content.Other
+IsReason s (BadVersion version) = IsContent s (content.OtherVersion version)
+IsReason s (Fault fault) = Unit {0}
+
+-- the connection shows what it showed; only a fault may have ended that
+abbrev pub IsLeft : State → State → AdoptFault → Type 0
+IsLeft old new (Fault fault) = IsSpared old new
+IsLeft old new _ = HasStayed old new

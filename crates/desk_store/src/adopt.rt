@@ -1,0 +1,100 @@
+//! What a store knows of the rows of a desk that is adopted.
+
+ghost use Rattle.std.specs.Prelude.{◌≡◌, false, IfOk, IfErr, OnOk, IsTrue};
+ghost use Rattle.std.specs.Option.{option_and_then};
+ghost use Rattle.std.specs.Result.{result_ok};
+ghost use Rattle.sqlite.specs.Held.{state};
+ghost use Rattle.sqlite.specs.State.{HasCleanDisk};
+ghost use Rattle.desk_rows.specs.History.{forms_in};
+ghost use Rattle.desk_rows.specs.Readings.{Readings};
+ghost use Rattle.desk_rows.specs.Tables.{tables};
+ghost use Rattle.desk_access.specs.Seen.{OfRows};
+ghost use Rattle.desk_core.specs.Desks.{InHistory};
+ghost use Rattle.desk_layout.specs.Held.{known_of, seen_of};
+ghost use Rattle.desk_texts.specs.Right.{AreRight};
+ghost use Rattle.desk_adopting.specs.Reading.{HasRead, HasStayed};
+ghost use Rattle.desk_adopting.specs.Version.{IsContent};
+ghost use Rattle.desk_store.specs.Adopting.{HasCounts, IsFault, IsLeft, IsReason};
+ghost use Rattle.desk_store.specs.Counting.{known_by};
+
+use crate::counts::Counts;
+use crate::fault::AdoptFault;
+use desk_access::texts::Texts;
+use desk_adopting::{
+    Content, body_of, document_count, duty_count, examine, release_count, revision_count,
+};
+use desk_base::{Items, Text};
+use desk_rows::{Fault, StoreFault};
+use desk_texts::Standard;
+use sqlite::{Alter, Connection};
+use std::alloc::Global;
+
+/// How many revisions, documents, releases and duties a database has.
+fn read_counts<S: Alter>(conn: &mut Connection<S>) -> Result<Counts, Fault>
+    requires { conn.old.in_transaction ≡ false }
+    ensures found { IfOk result (λ counts. OfRows (HasCounts counts) (seen_of (state S.Store conn.old)) (seen_of (state S.Store conn.new))) }
+    ensures read { HasRead (state S.Store conn.old) (state S.Store conn.new) result }
+    ensures mode { conn.new.in_transaction ≡ false }
+{
+    Ok(Counts {
+        revisions: revision_count(conn)?,
+        documents: document_count(conn)?,
+        releases: release_count(conn)?,
+        duties: duty_count(conn)?,
+    })
+}
+
+/// The forms of the catalogue that a body is; none where there is no body.
+fn forms_of_body(alloc: Global, body: Option<Text>) -> Result<Items<Text>, Fault>
+    ensures { (w : Readings) → AreRight w → IfOk result (λ forms. forms ≡ forms_in (option_and_then (λ text. result_ok (w.catalogue text)) body)) }
+{
+    let Some(body) = body else {
+        return Ok(Items::new(alloc));
+    };
+    match Standard.catalogue(alloc, body.as_str())? {
+        Ok(catalogue) => Ok(catalogue.forms),
+        Err(_) => Err(Fault::Store(StoreFault::Rows)),
+    }
+}
+
+/// What a store keeps beside its tables, read from a database: how many rows some have, and the forms of the catalogue in force.
+pub(crate) fn read_known<S: Alter>(
+    alloc: Global,
+    conn: &mut Connection<S>,
+) -> Result<(Counts, Items<Text>), Fault>
+    requires { conn.old.in_transaction ≡ false }
+    ensures known { IfOk result (λ known. InHistory AreRight (λ w h. known_of (tables w h) ≡ known_by known.0 known.1) (seen_of (state S.Store conn.old)) (seen_of (state S.Store conn.new))) }
+    ensures read { HasRead (state S.Store conn.old) (state S.Store conn.new) result }
+    ensures mode { conn.new.in_transaction ≡ false }
+{
+    let counts = read_counts(conn)?;
+    let body = body_of(alloc, conn, counts.revisions)?;
+    let forms = forms_of_body(alloc, body)?;
+    Ok((counts, forms))
+}
+
+/// Examines a database, and reads of a desk what a store keeps beside its tables.
+pub(crate) fn examine_desk<S: Alter>(
+    alloc: Global,
+    conn: &mut Connection<S>,
+) -> Result<(Counts, Items<Text>), AdoptFault>
+    requires { conn.old.in_transaction ≡ false }
+    ensures known { IfOk result (λ known. InHistory AreRight (λ w h. known_of (tables w h) ≡ known_by known.0 known.1) (seen_of (state S.Store conn.old)) (seen_of (state S.Store conn.new))) }
+    ensures adopts { IfErr result (λ fault. IsTrue (state S.Store conn.old).is_open → OfRows (λ t. IsFault fault) (seen_of (state S.Store conn.old)) (seen_of (state S.Store conn.new))) }
+    ensures desk { HasCleanDisk (state S.Store conn.new) → OnOk result (IsContent (state S.Store conn.old) Content.Desk) }
+    ensures reason { HasCleanDisk (state S.Store conn.new) → IfErr result (IsReason (state S.Store conn.old)) }
+    ensures stayed { OnOk result (HasStayed (state S.Store conn.old) (state S.Store conn.new)) }
+    ensures left { IfErr result (IsLeft (state S.Store conn.old) (state S.Store conn.new)) }
+    ensures mode { conn.new.in_transaction ≡ false }
+{
+    match examine(conn) {
+        Ok(Content::Desk) => {}
+        Ok(Content::OtherVersion(version)) => return Err(AdoptFault::BadVersion(version)),
+        Ok(Content::Other) => return Err(AdoptFault::NotADesk),
+        Err(fault) => return Err(AdoptFault::Fault(fault)),
+    }
+    match read_known(alloc, conn) {
+        Ok(known) => Ok(known),
+        Err(fault) => Err(AdoptFault::Fault(fault)),
+    }
+}

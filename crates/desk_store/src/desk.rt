@@ -1,0 +1,146 @@
+//! The desk in a database.
+
+ghost use Rattle.std.specs.Prelude.{◌≡◌, true, false, IfOk, IfErr, IsTrue, Err};
+ghost use Rattle.sqlite_trees.specs.Tree.{Trees};
+ghost use Rattle.sqlite.specs.Held.{state};
+ghost use Rattle.sqlite.specs.State.{HasCleanDisk, Survives};
+ghost use Rattle.desk_rows.specs.Tables.{Tables, tables};
+ghost use Rattle.desk_access.specs.Seen.{OfRows, Same};
+ghost use Rattle.desk_core.specs.Desks.{InHistory};
+ghost use Rattle.desk_layout.specs.Held.{Stands, known_of, seen_of};
+ghost use Rattle.desk_texts.specs.Right.{AreRight};
+ghost use Rattle.desk_writing.specs.Creating.{has_meta};
+ghost use Rattle.desk_writing.specs.Written.{Undone};
+ghost use Rattle.desk_adopting.specs.Reading.{HasStayed};
+ghost use Rattle.desk_adopting.specs.Version.{IsContent};
+ghost use Rattle.desk_store.specs.Adopting.{IsEmpty, IsFault, IsLeft, IsReason, StandsEmpty};
+ghost use Rattle.desk_store.specs.Counting.{known_by};
+
+use crate::adopt::examine_desk;
+use crate::counts::Counts;
+use crate::fault::{AdoptFault, CreateFault};
+use crate::store::SqlStore;
+use desk_adopting::Content;
+use desk_base::{Items, Text};
+use desk_core::{Answer, Command, Desk, Fault, Query, TableDesk};
+use desk_rows::Profile;
+use desk_texts::Standard;
+use desk_writing::{Refused, create_tables};
+use sqlite::{Alter, Connection};
+use std::alloc::Global;
+
+/// The rows of a new desk.
+const NO_ROWS: Counts = Counts {
+    revisions: 0,
+    documents: 0,
+    releases: 0,
+    duties: 0,
+};
+
+/// A desk whose rows stand in a database, and that reads texts by their standards.
+#[derive(Drop)]
+pub struct SqlDesk<S: Alter> {
+    desk: TableDesk<Standard, SqlStore<S>>,
+}
+
+impl<S: Alter> SqlDesk<S> {
+    fn over(
+        alloc: Global,
+        conn: Connection<S>,
+        counts: Counts,
+        forms: Items<Text>,
+    ) -> SqlDesk<S>
+        requires { conn.in_transaction ≡ false }
+        ensures same { result.desk.store.conn ≡ conn }
+        ensures holds { (t : Tables) → known_of t ≡ known_by counts forms → (seen_of (state S.Store conn)).holds t → (⟦<SqlDesk<S> as Desk>⟧.seen result).holds t }
+    {
+        let store = SqlStore::over(alloc, conn, counts, forms);
+        SqlDesk {
+            desk: TableDesk::over(alloc, Standard, store),
+        }
+    }
+
+    /// Creates the tables of an empty desk in a database where nothing stands, in one transaction.
+    ///
+    /// A database with a table `meta` is refused as `NotEmpty`, and one with other tables by a fault of the store; the connection is
+    /// handed back. After `NotEmpty` it is as it was. After a fault its tables are as they were, and a stop may leave the empty desk.
+    pub fn create(
+        alloc: Global,
+        conn: Connection<S>,
+    ) -> Result<SqlDesk<S>, (CreateFault, Connection<S>)>
+        requires { conn.in_transaction ≡ false }
+        ensures empty { IfOk result (λ desk. IsEmpty (⟦<SqlDesk<S> as Desk>⟧.seen desk)) }
+        ensures honest { IfOk result (λ desk. (⟦<SqlDesk<S> as Desk>⟧.seen desk).is_honest → HasCleanDisk (state S.Store conn)) }
+        ensures meta { has_meta (state S.Store conn).now.schema ≡ true → result ≡ Err (CreateFault.NotEmpty, conn) }
+        ensures not_empty { IfErr result (λ e. e.0 ≡ CreateFault.NotEmpty → has_meta (state S.Store conn).now.schema ≡ true) }
+        ensures undone { IfErr result (λ e. HasCleanDisk (state S.Store e.1) → Undone (state S.Store conn) (state S.Store e.1)) }
+        ensures survives { IfErr result (λ e. Survives (state S.Store conn) (state S.Store e.1) StandsEmpty) }
+        ensures idle { IfErr result (λ e. e.1.in_transaction ≡ false) }
+    {
+        let mut conn = conn;
+        match create_tables(&mut conn) {
+            Ok(()) => Ok(SqlDesk::over(alloc, conn, NO_ROWS, Items::new(alloc))),
+            Err(Refused::NotEmpty) => Err((CreateFault::NotEmpty, conn)),
+            Err(Refused::Fault(fault)) => Err((CreateFault::Fault(fault), conn)),
+        }
+    }
+
+    /// Adopts a database that holds a desk's tables, as the desk with those rows. The database is only read.
+    ///
+    /// It isn't adopted as `BadVersion` where its table `meta` tells another version than 3, whatever else stands in it; as
+    /// `NotADesk` where no table `meta` tells one version, or where not all tables of a desk are declared as `create` declares them,
+    /// or a table, an index or a view stands beside them. After these the connection is as it was. A fault tells that memory was
+    /// wanting, that the database failed, or that it gave rows that no desk has, such as a catalogue in force that can't be read.
+    pub fn adopt_connection(
+        alloc: Global,
+        conn: Connection<S>,
+    ) -> Result<SqlDesk<S>, (AdoptFault, Connection<S>)>
+        requires { conn.in_transaction ≡ false }
+        ensures holds { IfOk result (λ desk. InHistory AreRight (λ w h. (⟦<SqlDesk<S> as Desk>⟧.seen desk).holds (tables w h)) (seen_of (state S.Store conn)) (⟦<SqlDesk<S> as Desk>⟧.seen desk)) }
+        ensures adopts { IfErr result (λ e. IsTrue (state S.Store conn).is_open → OfRows (λ t. IsFault e.0) (seen_of (state S.Store conn)) (seen_of (state S.Store e.1))) }
+        ensures desk { IfOk result (λ desk. HasCleanDisk (state S.Store desk.desk.store.conn) → IsContent (state S.Store conn) Content.Desk) }
+        ensures reason { IfErr result (λ e. HasCleanDisk (state S.Store e.1) → IsReason (state S.Store conn) e.0) }
+        ensures stayed { IfOk result (λ desk. HasStayed (state S.Store conn) (state S.Store desk.desk.store.conn)) }
+        ensures left { IfErr result (λ e. IsLeft (state S.Store conn) (state S.Store e.1) e.0) }
+        ensures idle { IfErr result (λ e. e.1.in_transaction ≡ false) }
+    {
+        let mut conn = conn;
+        match examine_desk(alloc, &mut conn) {
+            Ok((counts, forms)) => Ok(SqlDesk::over(alloc, conn, counts, forms)),
+            Err(fault) => Err((fault, conn)),
+        }
+    }
+
+    /// Hands the connection back, which shows the desk's rows and is in no transaction.
+    pub fn into_connection(self) -> Connection<S>
+        ensures shows { Same (⟦<SqlDesk<S> as Desk>⟧.seen self) (seen_of (state S.Store result)) }
+        ensures idle { result.in_transaction ≡ false }
+    {
+        let SqlDesk { desk } = self;
+        desk.into_store().into_connection()
+    }
+}
+
+impl<S: Alter> Desk for SqlDesk<S> {
+    ghost Left = { Trees };
+
+    ghost stands = { Stands };
+
+    ghost seen = { λ d. ⟦<TableDesk<Standard, SqlStore<S>> as Desk>⟧.seen d.desk };
+
+    ghost are_right = { AreRight };
+
+    ghost tells = { λ fault. Unit {0} };
+
+    fn apply(&mut self, command: &Command) -> Result<Answer, Fault> {
+        self.desk.apply(command)
+    }
+
+    fn import(&mut self, bytes: Items<u8>, profile: Profile) -> Result<Answer, Fault> {
+        self.desk.import(bytes, profile)
+    }
+
+    fn ask(&mut self, query: &Query) -> Result<Answer, Fault> {
+        self.desk.ask(query)
+    }
+}
