@@ -93,3 +93,7 @@ pub record AreCounted (places : List ℕ) (all : List Stand) (t : Tables) : Type
 
 abbrev pub can_count : List ℕ → List Stand → Bool
 can_count places all = nat_le (length all) 100000 && (are_placed (length places) all && are_places (length places) (λ place. false) places)
+
+-- duties that are numbered from 1 on, each of a release that stands, at most 100,000; and releases at the places from 1 to their number
+abbrev pub are_countable : List ReleaseRow → List DutyRow → Bool
+are_countable releases duties = are_numbered 1 duties && can_count (map (λ row. row.place) releases) (map (stand_of releases) duties)

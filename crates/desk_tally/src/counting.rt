@@ -1,12 +1,15 @@
 //! Tallies of duties that stand already.
 
 ghost use Rattle.std.specs.Prelude.{◌≡◌, ℕ, true, false, ◌≤◌, [], length, vec_len, IfOk};
+ghost use Rattle.std.specs.Prelude.{map, unwrap_or};
+ghost use Rattle.desk_access.specs.Follows.{are_numbered};
 ghost use Rattle.desk_tally.specs.Stands.{AreTallied, are_placed, are_places};
+ghost use Rattle.desk_tally.specs.Kept.{place_found, stand_of};
 
 use crate::lists::{move_at, raise_at};
 use crate::stand::Stand;
 use crate::tally::Tally;
-use desk_rows::DutyState;
+use desk_rows::{DutyRow, DutyState, ReleaseRow};
 use std::alloc::{AllocError, Global};
 
 /// Whether these are the places from 1 to their number, in any order.
@@ -67,4 +70,59 @@ pub(crate) fn tallies_of(
         move_at(&mut tallies, index, DutyState::IsOpen, stand.state);
     }
     Ok(tallies)
+}
+
+/// Whether duties are numbered from 1 on.
+pub(crate) fn are_numbered(duties: &[DutyRow]) -> bool
+    ensures { result ≡ are_numbered 1 duties.now }
+{
+    let mut number = 1;
+    for duty in duties {
+        if u64::from(duty.number) != number {
+            return false;
+        }
+        number += 1;
+    }
+    true
+}
+
+/// The places of releases.
+pub(crate) fn places_of(alloc: Global, releases: &[ReleaseRow]) -> Result<Vec<u32>, AllocError>
+    ensures { IfOk result (λ places. places.items ≡ map (λ row. row.place) releases.now) }
+{
+    let mut places = Vec::with_capacity(alloc, releases.len())?;
+    for release in releases {
+        places.push(release.place)?;
+    }
+    Ok(places)
+}
+
+/// The place of the release with a name, 0 where there is none.
+fn place_of(releases: &[ReleaseRow], name: &str) -> u32
+    ensures { result ≡ unwrap_or (place_found releases.now name.now) 0 }
+{
+    for release in releases {
+        if release.name.as_str() == name {
+            return release.place;
+        }
+    }
+    0
+}
+
+/// Where duties stand.
+pub(crate) fn stands_of(
+    alloc: Global,
+    releases: &[ReleaseRow],
+    duties: &[DutyRow],
+) -> Result<Vec<Stand>, AllocError>
+    ensures { IfOk result (λ stands. stands.items ≡ map (stand_of releases.now) duties.now) }
+{
+    let mut stands = Vec::with_capacity(alloc, duties.len())?;
+    for duty in duties {
+        stands.push(Stand {
+            place: place_of(releases, duty.release.as_str()),
+            state: duty.state,
+        })?;
+    }
+    Ok(stands)
 }

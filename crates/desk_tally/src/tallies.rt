@@ -4,7 +4,9 @@ ghost use Rattle.std.specs.Prelude.{◌≡◌, ℕ, true, ◌+◌, ◌≤◌, le
 ghost use Rattle.desk_tally.specs.Stands.{AreTallied, are_placed};
 
 use crate::changes::{are_raised, shifts_of};
-use crate::counting::{are_placed, are_places, tallies_of};
+use crate::counting::{
+    are_numbered, are_placed, are_places, places_of, stands_of, tallies_of,
+};
 use crate::lists::{push_open, raise_at, shift_all, tally_at};
 use crate::stand::{Shift, Stand, Step};
 use crate::tally::Tally;
@@ -31,7 +33,7 @@ impl Tallies {
     ghost use Rattle.desk_rows.specs.Keys.{is_duty_of};
     ghost use Rattle.desk_rows.specs.Queries.{totals_of};
     ghost use Rattle.desk_rows.specs.Tables.{Tables};
-    ghost use Rattle.desk_tally.specs.Kept.{place_found, AreKept, AreCounted, can_count};
+    ghost use Rattle.desk_tally.specs.Kept.{place_found, AreKept, AreCounted, are_countable, can_count};
 
     /// Those of no releases.
     pub fn new(alloc: Global) -> Tallies
@@ -44,9 +46,8 @@ impl Tallies {
         }
     }
 
-    /// Those of releases at these places, and of duties that stand there. There are none where the places aren't those from 1 to
-    /// their number, a duty is of another release, or there are over 100,000 duties.
-    pub fn counted(
+    /// Those of releases at these places, and of duties that stand there, if they can be counted.
+    fn standing(
         alloc: Global,
         places: &[u32],
         stands: Vec<Stand>,
@@ -67,6 +68,24 @@ impl Tallies {
             stands,
             tallies,
         }))
+    }
+
+    /// Those of the rows of releases and duties, counted once. There are none where the releases' places aren't those from 1 to their
+    /// number, the duties aren't numbered from 1 on, one is of no such release, or they are more than 100,000.
+    pub fn counted(
+        alloc: Global,
+        releases: &[ReleaseRow],
+        duties: &[DutyRow],
+    ) -> Result<Option<Tallies>, AllocError>
+        ensures kept { IfOk result (λ found. IfSome found (λ tallies. (t : Tables) → releases.now ≡ t.releases → duties.now ≡ t.duty → AreKept tallies t)) }
+        ensures none { IfOk result (λ found. IfNone found (are_countable releases.now duties.now ≡ false)) }
+    {
+        if !are_numbered(duties) {
+            return Ok(None);
+        }
+        let places = places_of(alloc, releases)?;
+        let stands = stands_of(alloc, releases, duties)?;
+        Tallies::standing(alloc, places.as_slice(), stands)
     }
 
     /// How many duties of the release at a place stand where, if there is one.

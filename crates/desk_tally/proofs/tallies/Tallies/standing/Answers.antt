@@ -2,7 +2,7 @@ use Rattle.std.proofs.Common.{◌≡◌, ◌∙◌, ℕ, true, false, subst, sym
 use Rattle.desk_tally.specs.Stands.{are_places}
 use Rattle.desk_tally.specs.Kept.{IsKept}
 use Rattle.desk_tally.proofs.Placing.{counted_are_kept}
-use Rattle.desk_tally.proofs.tallies.Tallies.counted.Goals as goal
+use Rattle.desk_tally.proofs.tallies.Tallies.standing.Goals as goal
 
 pub returns-clause-kept : goal.returns-clause-kept
 returns-clause-kept c = λ t from.
