@@ -6,7 +6,6 @@ mod counts;
 mod desk;
 mod fault;
 mod store;
-mod totals;
 
 pub use counts::Counts;
 pub use desk::SqlDesk;

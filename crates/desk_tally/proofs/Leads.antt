@@ -17,7 +17,7 @@ use Rattle.desk_tally.specs.Kept.{IsKept, IsPlaceFor, IsStep, IsRaise, IsMove, A
 use Rattle.desk_tally.specs.declared.stand.Stand.{Stand}
 use Rattle.desk_tally.specs.declared.stand.Step.{Step}
 use Rattle.desk_tally.specs.declared.stand.Step.TheVariants as step
-use Rattle.desk_tally.proofs.Names.{found-updated, length-updated, places-updated, length-put, places-put, kept-put, stands-kept}
+use Rattle.desk_tally.proofs.Names.{found-updated, length-updated, places-updated, length-put, ascends_before, places-put, kept-put, stands-kept}
 use Rattle.desk_tally.proofs.Moves.{numbered-moved, stands-moved, numbered-append, raised_numbered, stands-raised}
 
 -- another release, which has no duties
@@ -81,9 +81,9 @@ stayed count all t later same number kept = record {
 at_step : (count : ℕ) (all : List Stand) (s given : Step) (t : Tables) → s ≡ given → IsKept (count_after given count) (stands_after given all) t → IsKept (count_after s count) (stands_after s all) t
 at_step count all s given t e kept = subst (λ (x : Step). IsKept (count_after x count) (stands_after x all) t) (sym e) kept
 
-pub leads : (c : Change) (place : Option ℕ) (count : ℕ) (all : List Stand) (s : Step) (t : Tables) → are_placed count all ≡ true → Ascends release_below t.releases → IsPlaceFor c place t → IsStep c place count all s → IsKept count all t
+pub leads : (c : Change) (place : Option ℕ) (count : ℕ) (all : List Stand) (s : Step) (t : Tables) → are_placed count all ≡ true → Ascends release_below (applied c t).releases → IsPlaceFor c place t → IsStep c place count all s → IsKept count all t
     → IsKept (count_after s count) (stands_after s all) (applied c t)
-leads (change.Opened row) place count all s t placed up at is kept = at_step count all s step.Open _ is.0 (opened row count all t placed up is.1 kept)
+leads (change.Opened row) place count all s t placed up at is kept = at_step count all s step.Open _ is.0 (opened row count all t placed (ascends_before row t.releases up) is.1 kept)
 leads (change.Froze release revision rows duties changes) place count all s t placed up at is kept =
     at_step count all s (step.Raise is.at (length duties)) _ is.is
     (froze release revision duties is.at count all t (applied (change.Froze release revision rows duties changes) t) refl refl placed (sym at ∙ is.found) (length all + 1) refl

@@ -58,6 +58,24 @@ length-put x (y ∷ ys) = either (length-put x ys) (release_below x y)
     either more true = omega arith
     either more false = omega (arith, more)
 
+-- rows ascend among which one more does
+in_put : (x z : ReleaseRow) (rows : List ReleaseRow) → IsIn z rows → IsIn z (put release_below x rows)
+in_put x z [] is = absurd is
+in_put x z (y ∷ ys) is = either (λ later. in_put x z ys later) is (release_below x y)
+  where
+    either : (IsIn z ys → IsIn z (put release_below x ys)) → IsIn z (y ∷ ys) → (b : Bool) → IsIn z (if b then x ∷ y ∷ ys else y ∷ put release_below x ys)
+    either more there true = inr there
+    either more (inl same) false = inl same
+    either more (inr later) false = inr (more later)
+
+pub ascends_before : (x : ReleaseRow) (rows : List ReleaseRow) → Ascends release_below (put release_below x rows) → Ascends release_below rows
+ascends_before x [] up = tt
+ascends_before x (y ∷ ys) up = either (ascends_before x ys) (release_below x y) up
+  where
+    either : (Ascends release_below (put release_below x ys) → Ascends release_below ys) → (b : Bool) → Ascends release_below (if b then x ∷ y ∷ ys else y ∷ put release_below x ys) → Ascends release_below (y ∷ ys)
+    either before true above = above.1
+    either before false above = (λ z is. above.0 z (in_put x z ys is), before above.1)
+
 -- the row that is put, where no other has its name
 abbrev own_place : ReleaseRow → List ℕ → Option ℕ
 own_place x name = if bytes_eq x.name name then Some x.place else None

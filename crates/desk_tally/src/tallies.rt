@@ -198,7 +198,7 @@ impl Tallies {
     ) -> Result<Option<Step>, AllocError>
         ensures kept { (t : Tables) → AreKept self.old t → AreKept self.new t }
         ensures fits { IfOk result (λ found. IfSome found (λ step. Fits step self.new)) }
-        ensures leads { IfOk result (λ found. IfSome found (λ step. (t : Tables) → Ascends release_below t.releases → IsPlaceFor change.now place t → AreKept self.old t → LeadsTo step self.new (applied change.now t))) }
+        ensures leads { IfOk result (λ found. IfSome found (λ step. (t : Tables) → Ascends release_below (applied change.now t).releases → IsPlaceFor change.now place t → AreKept self.old t → LeadsTo step self.new (applied change.now t))) }
     {
         self.step_of(change, place)
     }

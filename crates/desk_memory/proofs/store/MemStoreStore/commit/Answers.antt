@@ -9,7 +9,7 @@ use Rattle.desk_memory.proofs.store.MemStoreStore.commit.Goals as goal
 
 pub returns-clause-wrote : goal.returns-clause-wrote
 returns-clause-wrote c =
-    let self = c.args.self.now in
+    let written = c.write.new.self in
     let leads = rw c.in-Some.is at c.in_ok-step.ensures.leads in
     record {
       honest = λ h. tt;
@@ -19,7 +19,7 @@ returns-clause-wrote c =
         c.take.ensures (applied c.args.change t)
         (subst (λ (k : Tallies). LeadsTo c.in-Some.step k (applied c.args.change t)) (sym c.write.ensures.tallies)
         (leads t
-        (subst (λ (u : Tables). Ascends release_below u.releases) held.0 (ascends_from self.releases.rows.items self.releases.ascending))
+        (subst (λ (u : Tables). Ascends release_below u.releases) (c.in_ok-write.ensures.ok ∙ ap (applied c.args.change) held.0) (ascends_from written.releases.rows.items written.releases.ascending))
         (subst (λ (u : Tables). IsPlaceFor c.args.change c.place_for-place.result u) held.0 c.place_for-place.ensures)
         held.1)),
       );
