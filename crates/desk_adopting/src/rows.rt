@@ -13,10 +13,7 @@ use sqlite::{Alter, Connection};
 use std::alloc::Global;
 
 /// All releases, by name.
-pub fn releases<S: Alter>(
-    alloc: Global,
-    conn: &mut Connection<S>,
-) -> Result<Vec<ReleaseRow>, Fault>
+pub fn releases<S: Alter>(alloc: Global, conn: &mut Connection<S>) -> Result<Vec<ReleaseRow>, Fault>
     requires { conn.old.in_transaction ≡ false }
     ensures found { IfOk result (λ found. OfRows (λ t. found.items ≡ t.releases) (seen_of (state S.Store conn.old)) (seen_of (state S.Store conn.new))) }
     ensures read { HasRead (state S.Store conn.old) (state S.Store conn.new) result }

@@ -36,9 +36,7 @@ pub enum Content {
 fn has_version_column(columns: &[Column]) -> bool
     ensures { result ≡ list_any (λ column. same_name column.name (codes "version")) columns.now }
 {
-    columns
-        .iter()
-        .any(|column| same_name(column.name.as_slice(), "version".as_bytes()))
+    columns.iter().any(|column| same_name(column.name.as_slice(), "version".as_bytes()))
 }
 
 /// Whether a table is `meta`, with the column `version`.

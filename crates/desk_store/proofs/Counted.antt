@@ -68,8 +68,7 @@ wrote c counts after forms n m a b d are still it leads = record {
   honest = λ clean. still.kept.spared.honest (it.honest clean);
   stays = it.stays;
   holds = λ clean t holds follows.
-      let shown = it.holds clean t (still.kept.spared.holds t holds.2) follows in
-      (
+      let shown = it.holds clean t (still.kept.spared.holds t holds.2) follows in (
         known_kept c t ∙ (ap (known_after c) holds.0 ∙ (known_is c counts forms ∙ ap (λ (n : Counts). known_by n (forms_after c forms)) (sym are))),
         leads clean t holds.2 (ascend d (applied c t) clean (it.stays clean) shown) holds.1,
         shown,

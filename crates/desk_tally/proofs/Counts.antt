@@ -107,7 +107,7 @@ tallied-open all tallies tally placed old fresh i x at =
     elim (push_cases tallies i tally x at) [
       | inl before ↦ old i x before
       | inr last ↦
-        ap totals_in (sym last.1) ∙ (fresh ∙ sym (totals-beyond (length tallies) (i + 1) all placed (omega (arith, last.0))))
+          ap totals_in (sym last.1) ∙ (fresh ∙ sym (totals-beyond (length tallies) (i + 1) all placed (omega (arith, last.0))))
     ]
 
 pub placed-open : (n : ℕ) (all : List Stand) → are_placed n all ≡ true → are_placed (n + 1) all ≡ true
@@ -169,8 +169,8 @@ pub tallied-raised : (all : List Stand) (tallies new : List Tally) (i n : ℕ) (
 tallied-raised all tallies new i n old tally before at is has j x found =
     elim (set_cases tallies i j tally x (ap (λ xs. slice_get xs j) (sym is) ∙ found)) [
       | inl same ↦
-        ap totals_in (sym same.1)
-        ∙ (totals-raised all (i + 1) n old tally (before i old at) has ∙ ap (λ k. totals_at (k + 1) (all ++ replicate n (open_at (i + 1)))) same.0)
+          ap totals_in (sym same.1)
+          ∙ (totals-raised all (i + 1) n old tally (before i old at) has ∙ ap (λ k. totals_at (k + 1) (all ++ replicate n (open_at (i + 1)))) same.0)
       | inr other ↦ before j x other.1 ∙ totals-elsewhere all (j + 1) (i + 1) n (λ e. other.0 (let g : i ≡ j = omega (arith, e) in g))
     ]
 
@@ -235,9 +235,9 @@ pub tallied-moved : (all : List Stand) (tallies new : List Tally) (i k : ℕ) (s
 tallied-moved all tallies new i k stand to old tally before at of had is has j x found =
     elim (set_cases tallies k j tally x (ap (λ xs. slice_get xs j) (sym is) ∙ found)) [
       | inl same ↦
-        ap totals_in (sym same.1)
-        ∙ (totals-moved all i (k + 1) stand to old tally at (let yes : (stand.place == k + 1) ≡ true = grind (arith, nat_tests) in yes) (before k old had) has
-        ∙ ap (λ n. totals_at (n + 1) (at_state i to all)) same.0)
+          ap totals_in (sym same.1)
+          ∙ (totals-moved all i (k + 1) stand to old tally at (let yes : (stand.place == k + 1) ≡ true = grind (arith, nat_tests) in yes) (before k old had) has
+          ∙ ap (λ n. totals_at (n + 1) (at_state i to all)) same.0)
       | inr other ↦ before j x other.1 ∙ totals-unmoved all i (j + 1) stand to at (elsewhere stand.place j of other.0)
     ]
   where

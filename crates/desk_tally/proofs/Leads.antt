@@ -38,9 +38,9 @@ froze : (release : List ℕ) (revision : ℕ) (duties : List DutyRow) (place : �
 froze release revision duties place count all t later is more placed found n first numbered raised kept = record {
   opened = kept.opened ∙ (sym (length-updated (is_release release) (with_release_state Frozen revision) t.releases) ∙ ap length (sym is));
   stands =
-    ap (λ (ss : List Stand). ss ++ replicate (length duties) (open_at place)) (kept.stands ∙ sym before)
-    ∙ (ap (λ (ss : List Stand). map (stand_of later.releases) t.duty ++ ss) (sym (raised later.releases (same release ∙ found)))
-    ∙ (sym (map-append (stand_of later.releases) t.duty duties) ∙ ap (map (stand_of later.releases)) (sym more)));
+      ap (λ (ss : List Stand). ss ++ replicate (length duties) (open_at place)) (kept.stands ∙ sym before)
+      ∙ (ap (λ (ss : List Stand). map (stand_of later.releases) t.duty ++ ss) (sym (raised later.releases (same release ∙ found)))
+      ∙ (sym (map-append (stand_of later.releases) t.duty duties) ∙ ap (map (stand_of later.releases)) (sym more)));
   places = places-updated t.releases later.releases same (ap length is ∙ length-updated (is_release release) (with_release_state Frozen revision) t.releases) kept.places;
   numbered = ap (are_numbered 1) more ∙ numbered-append 1 t.duty duties kept.numbered (ap (λ k. are_numbered k duties) (sym next) ∙ numbered);
 }
@@ -60,8 +60,8 @@ moved : (changes : List ChangeRow) (count : ℕ) (all : List Stand) (t later : T
 moved changes count all t later same number more placed within kept = record {
   opened = kept.opened ∙ sym number;
   stands =
-    ap (shifted (map shift_of changes)) (kept.stands ∙ sym before)
-    ∙ (sym (stands-moved later.releases (length all) changes t.duty kept.numbered within) ∙ ap (map (stand_of later.releases)) (sym more));
+      ap (shifted (map shift_of changes)) (kept.stands ∙ sym before)
+      ∙ (sym (stands-moved later.releases (length all) changes t.duty kept.numbered within) ∙ ap (map (stand_of later.releases)) (sym more));
   places = places-updated t.releases later.releases same number kept.places;
   numbered = ap (are_numbered 1) more ∙ numbered-moved changes 1 t.duty kept.numbered;
 }

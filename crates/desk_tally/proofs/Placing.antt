@@ -108,7 +108,7 @@ counted_are_kept places all t free from = record {
   stands = from.stands;
   places = record {
     within = λ name place found. (let f = is_free (length places) (λ other. false) t.releases name place here found in
-      (within_low (length places) place f.within, (let high : place ≤ length t.releases = omega (arith, within_high (length places) place f.within, count) in high)));
+        (within_low (length places) place f.within, (let high : place ≤ length t.releases = omega (arith, within_high (length places) place f.within, count) in high)));
     apart = λ name other place found too. apart_in (length places) (λ place. false) t.releases name other place here found too;
   };
   numbered = from.numbered;

@@ -4,9 +4,7 @@ ghost use Rattle.std.specs.Prelude.{◌≡◌, ℕ, true, ◌+◌, ◌≤◌, le
 ghost use Rattle.desk_tally.specs.Stands.{AreTallied, are_placed};
 
 use crate::changes::{are_raised, shifts_of};
-use crate::counting::{
-    are_numbered, are_placed, are_places, places_of, stands_of, tallies_of,
-};
+use crate::counting::{are_numbered, are_placed, are_places, places_of, stands_of, tallies_of};
 use crate::lists::{push_open, raise_at, shift_all, tally_at};
 use crate::stand::{Shift, Stand, Step};
 use crate::tally::Tally;
@@ -166,11 +164,7 @@ impl Tallies {
     }
 
     /// The step of a change, if it has one.
-    fn step_of(
-        &mut self,
-        change: &Change,
-        place: Option<u32>,
-    ) -> Result<Option<Step>, AllocError>
+    fn step_of(&mut self, change: &Change, place: Option<u32>) -> Result<Option<Step>, AllocError>
         ensures stands { self.new.stands.items ≡ self.old.stands.items }
         ensures tallies { self.new.tallies.items ≡ self.old.tallies.items }
         ensures fits { IfOk result (λ found. IfSome found (λ step. Fits step self.new)) }
@@ -179,7 +173,9 @@ impl Tallies {
         match change {
             Change::Opened(row) => self.plan_open(row),
             Change::Froze {
-                release, duties, ..
+                release,
+                duties,
+                ..
             } => self.plan_raise(release.as_str(), duties.as_slice(), place),
             Change::Moved { changes } => self.plan_move(changes.as_slice()),
             Change::Withdrew { changes, .. } => self.plan_move(changes.as_slice()),
@@ -191,11 +187,7 @@ impl Tallies {
     ///
     /// There is no step for what no command does: releases that aren't opened one after the other, duties that aren't numbered on or
     /// are more than 100,000, and changes of duties that don't stand.
-    pub fn plan(
-        &mut self,
-        change: &Change,
-        place: Option<u32>,
-    ) -> Result<Option<Step>, AllocError>
+    pub fn plan(&mut self, change: &Change, place: Option<u32>) -> Result<Option<Step>, AllocError>
         ensures kept { (t : Tables) → AreKept self.old t → AreKept self.new t }
         ensures fits { IfOk result (λ found. IfSome found (λ step. Fits step self.new)) }
         ensures leads { IfOk result (λ found. IfSome found (λ step. (t : Tables) → Ascends release_below (applied change.now t).releases → IsPlaceFor change.now place t → AreKept self.old t → LeadsTo step self.new (applied change.now t))) }

@@ -23,8 +23,8 @@ returns-clause-found g c =
     let body = λ (row : CatalogueRow). row.body in
     let rows = c.in_ok-rows.rows.items in
     IfOk-weaker c.first_text.result _ _ (λ found is.
-        of_shown body_text (number c.args.revision ∷ []) old new body_asks rows _ (c.in_ok-rows.ensures.read body_asks).0 (rw c.number.ensures at c.in_ok-rows.ensures.shown)
-        (λ t shown holds. is (map body (filter p t.catalogue)) (c.deref.ensures.value ∙ body_read c.args.revision old new rows t shown holds ∙ sym (map-map text_cells body (filter p t.catalogue))) ∙ first_mapped body p t.catalogue))
+    of_shown body_text (number c.args.revision ∷ []) old new body_asks rows _ (c.in_ok-rows.ensures.read body_asks).0 (rw c.number.ensures at c.in_ok-rows.ensures.shown)
+    (λ t shown holds. is (map body (filter p t.catalogue)) (c.deref.ensures.value ∙ body_read c.args.revision old new rows t shown holds ∙ sym (map-map text_cells body (filter p t.catalogue))) ∙ first_mapped body p t.catalogue))
     c.first_text.ensures
 
 pub returns-clause-read : goal.returns-clause-read

@@ -15,8 +15,8 @@ returns-clause-found g c =
     let new = state g.S.Store c.query.new.conn in
     let rows = c.in_ok-rows.rows.items in
     IfOk-weaker c.read_duties.result _ _ (λ found is.
-        of_shown duties_text [] old new duties_ask rows _ (c.in_ok-rows.ensures.read duties_ask).0 c.in_ok-rows.ensures.shown
-        (λ t shown holds. is _ (c.deref.ensures.value ∙ all_duties old new rows t shown holds)))
+    of_shown duties_text [] old new duties_ask rows _ (c.in_ok-rows.ensures.read duties_ask).0 c.in_ok-rows.ensures.shown
+    (λ t shown holds. is _ (c.deref.ensures.value ∙ all_duties old new rows t shown holds)))
     c.read_duties.ensures
 
 pub returns-clause-read : goal.returns-clause-read

@@ -16,8 +16,8 @@ returns-clause-found g c =
     let new = state g.S.Store c.query.new.conn in
     let rows = c.in_ok-rows.rows.items in
     IfOk-weaker c.read_releases.result _ _ (λ found is.
-        of_shown releases_text [] old new releases_ask rows _ (c.in_ok-rows.ensures.read releases_ask).0 c.in_ok-rows.ensures.shown
-        (λ t shown holds. is _ (c.deref.ensures.value ∙ all_releases old new rows t shown holds)))
+    of_shown releases_text [] old new releases_ask rows _ (c.in_ok-rows.ensures.read releases_ask).0 c.in_ok-rows.ensures.shown
+    (λ t shown holds. is _ (c.deref.ensures.value ∙ all_releases old new rows t shown holds)))
     c.read_releases.ensures
 
 pub returns-clause-read : goal.returns-clause-read

@@ -32,8 +32,8 @@ loop-left-preserved c =
       len = c.shift_one.ensures.len ∙ c.loop-left.invariant.len;
       stands = shifted_next shifts k c.loop-left.left none c.args.stands.now.items c.loop-left.stands.items c.shift_one.new.stands.items lt next c.loop-left.invariant.stands c.shift_one.ensures.stands;
       placed =
-        ap (λ (all : List Stand). are_placed (vec_len c.shift_one.new.tallies) all) c.shift_one.ensures.stands
-        ∙ (placed-state (vec_len c.shift_one.new.tallies) (shift.duty - 1) shift.state c.loop-left.stands.items
-        ∙ (ap (λ (n : ℕ). are_placed n c.loop-left.stands.items) c.shift_one.ensures.len ∙ c.loop-left.invariant.placed));
+          ap (λ (all : List Stand). are_placed (vec_len c.shift_one.new.tallies) all) c.shift_one.ensures.stands
+          ∙ (placed-state (vec_len c.shift_one.new.tallies) (shift.duty - 1) shift.state c.loop-left.stands.items
+          ∙ (ap (λ (n : ℕ). are_placed n c.loop-left.stands.items) c.shift_one.ensures.len ∙ c.loop-left.invariant.placed));
       tallied = c.shift_one.ensures.tallied;
     }

@@ -17,11 +17,11 @@ returns-clause-wrote c =
       holds = λ h t held follows. (
         c.in_ok-write.ensures.ok ∙ ap (applied c.args.change) held.0,
         c.take.ensures (applied c.args.change t)
-        (subst (λ (k : Tallies). LeadsTo c.in-Some.step k (applied c.args.change t)) (sym c.write.ensures.tallies)
-        (leads t
-        (subst (λ (u : Tables). Ascends release_below u.releases) (c.in_ok-write.ensures.ok ∙ ap (applied c.args.change) held.0) (ascends_from written.releases.rows.items written.releases.ascending))
-        (subst (λ (u : Tables). IsPlaceFor c.args.change c.place_for-place.result u) held.0 c.place_for-place.ensures)
-        held.1)),
+            (subst (λ (k : Tallies). LeadsTo c.in-Some.step k (applied c.args.change t)) (sym c.write.ensures.tallies)
+            (leads t
+            (subst (λ (u : Tables). Ascends release_below u.releases) (c.in_ok-write.ensures.ok ∙ ap (applied c.args.change) held.0) (ascends_from written.releases.rows.items written.releases.ascending))
+            (subst (λ (u : Tables). IsPlaceFor c.args.change c.place_for-place.result u) held.0 c.place_for-place.ensures)
+            held.1)),
       );
       leaves = λ h t held follows x left. absurd left;
     }

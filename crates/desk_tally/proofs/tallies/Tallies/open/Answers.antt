@@ -12,6 +12,6 @@ invariant_of-self c =
     record {
       placed = ap (λ (n : ℕ). are_placed n self.stands.items) more ∙ placed-open (length self.tallies.items) self.stands.items self.placed;
       tallied = subst (λ (xs : List Tally). AreTallied self.stands.items xs) (sym c.push_reserved.ensures.items)
-        (tallied-open self.stands.items self.tallies.items c.new.result self.placed self.tallied c.new.ensures);
+          (tallied-open self.stands.items self.tallies.items c.new.result self.placed self.tallied c.new.ensures);
       limited = self.limited;
     }

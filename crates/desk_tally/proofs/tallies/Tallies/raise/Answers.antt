@@ -18,10 +18,10 @@ invariant_of-self c =
     let within : is_within (length self.tallies.items) place ≡ true = within_from (length self.tallies.items) place c.requires.0 c.requires.1 in
     record {
       placed =
-        ap (λ (n : ℕ). are_placed n stands.items) same
-        ∙ (ap (are_placed (length self.tallies.items)) c.push_open.ensures
-        ∙ placed-raised (length self.tallies.items) count place self.stands.items within self.placed);
+          ap (λ (n : ℕ). are_placed n stands.items) same
+          ∙ (ap (are_placed (length self.tallies.items)) c.push_open.ensures
+          ∙ placed-raised (length self.tallies.items) count place self.stands.items within self.placed);
       tallied = subst (λ (all : List Stand). AreTallied all tallies.items) (ap (λ (n : ℕ). self.stands.items ++ replicate count (open_at n)) at ∙ sym c.push_open.ensures)
-        (c.raise_at.ensures.tallied self.stands.items self.tallied);
+          (c.raise_at.ensures.tallied self.stands.items self.tallied);
       limited = omega (arith, c.requires.2, ap length c.push_open.ensures, length-append self.stands.items (replicate count (open_at place)), length-replicate count (open_at place));
     }
