@@ -1,5 +1,5 @@
 -- The step of a change leads to the tables after it.
-use Rattle.std.proofs.Common.{◌≡◌, ℕ, ◌+◌, ◌-◌, ◌<◌, ◌≤◌, Bool, true, false, List, [], ◌∷◌, ◌++◌, length, map, replicate, Option, Some, None, refl, sym, ap, ◌∙◌, arith, subst}
+use Rattle.std.proofs.Common.{◌≡◌, ℕ, ◌+◌, true, List, ◌++◌, length, map, replicate, Option, Some, refl, sym, ap, ◌∙◌, arith, subst}
 use Rattle.std.proofs.lemmas.List.{map-append, length-map}
 use Rattle.desk_rows.specs.Lists.{put, updated}
 use Rattle.desk_rows.specs.Keys.{is_release, release_below}
@@ -13,7 +13,7 @@ use Rattle.desk_rows.specs.declared.command.Change.TheVariants as change
 use Rattle.desk_history.specs.Laws.{Ascends}
 use Rattle.desk_access.specs.Follows.{are_numbered}
 use Rattle.desk_tally.specs.Stands.{are_placed, stands_after, count_after, shift_of, are_duties, shifted, open_at}
-use Rattle.desk_tally.specs.Kept.{IsKept, IsPlaceFor, IsStep, IsRaise, IsMove, ArePlaces, place_found, stand_of}
+use Rattle.desk_tally.specs.Kept.{IsKept, IsPlaceFor, IsStep, ArePlaces, place_found, stand_of}
 use Rattle.desk_tally.specs.declared.stand.Stand.{Stand}
 use Rattle.desk_tally.specs.declared.stand.Step.{Step}
 use Rattle.desk_tally.specs.declared.stand.Step.TheVariants as step

@@ -12,9 +12,8 @@ use Rattle.desk_rows.specs.declared.row.ReleaseRow.{ReleaseRow}
 use Rattle.desk_rows.specs.declared.command.Change.{Change}
 use Rattle.desk_rows.specs.declared.command.Change.TheVariants as change
 use Rattle.desk_access.specs.Follows.{are_numbered}
-use Rattle.desk_tally.specs.Stands.{are_duties, are_placed, are_places, stands_after, count_after, shift_of, is_within}
+use Rattle.desk_tally.specs.Stands.{are_duties, are_placed, are_places, stands_after, count_after, shift_of}
 use Rattle.desk_tally.specs.declared.stand.Stand.{Stand}
-use Rattle.desk_tally.specs.declared.stand.Shift.{Shift}
 use Rattle.desk_tally.specs.declared.stand.Step.{Step}
 use Rattle.desk_tally.specs.declared.stand.Step.TheVariants as step
 use Rattle.desk_tally.specs.declared.tallies.Tallies.{Tallies}

@@ -1,5 +1,5 @@
 -- Where duties stand, by number: what is counted of them, and what each step does to them.
-use Rattle.std.specs.Prelude.{◌≡◌, ◌≤◌, ℕ, zero, suc, ◌+◌, ◌-◌, ◌==◌, ◌&&◌, ◌||◌, not, nat_le, Bool, true, List, [], ◌∷◌, ◌++◌, length, replicate, count_by, map, Some, slice_get}
+use Rattle.std.specs.Prelude.{◌≡◌, ℕ, zero, suc, ◌+◌, ◌-◌, ◌==◌, ◌&&◌, ◌||◌, not, nat_le, Bool, true, List, [], ◌∷◌, ◌++◌, replicate, count_by, Some, slice_get}
 use Rattle.std.specs.List.{list_all}
 use Rattle.desk_rows.specs.States.{is_open, is_met, is_waived, is_withdrawn, state_after}
 use Rattle.desk_rows.specs.declared.state.DutyState.{DutyState}

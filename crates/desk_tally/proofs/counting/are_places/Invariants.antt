@@ -1,4 +1,4 @@
-use Rattle.std.proofs.Common.{◌≡◌, ◌+◌, false, get_or, length, drop, vec_len}
+use Rattle.std.proofs.Common.{◌≡◌, ◌+◌, false, get_or, drop, vec_len}
 use Rattle.desk_tally.specs.Stands.{are_places}
 use Rattle.desk_tally.proofs.counting.are_places.Given as goal
 

@@ -1,5 +1,4 @@
-use Rattle.std.proofs.Common.{◌≡◌, ◌∙◌, ◌+◌, ◌-◌, ◌<◌, ◌≤◌, ◌++◌, ◌∷◌, [], ℕ, List, Some, ap, refl, sym, subst, arith, get_or, length, replicate, take}
-use Rattle.std.specs.Prelude.{slice_get, vec_len}
+use Rattle.std.proofs.Common.{◌≡◌, ◌∙◌, ◌+◌, ◌-◌, ◌≤◌, ◌++◌, ℕ, List, ap, refl, sym, subst, arith, get_or, length, replicate, take}
 use Rattle.std.proofs.lemmas.List.{take_more, length-take-le}
 use Rattle.desk_rows.specs.declared.state.DutyState.TheVariants.{IsOpen}
 use Rattle.desk_tally.specs.Stands.{AreTallied, at_state, open_at}

@@ -1,4 +1,4 @@
-use Rattle.std.proofs.Common.{◌≡◌, ◌+◌, ◌≤◌, ◌++◌, replicate, vec_len}
+use Rattle.std.proofs.Common.{◌≡◌, ◌+◌, ◌++◌, replicate, vec_len}
 use Rattle.std.specs.Vec.{vec_capacity}
 use Rattle.desk_tally.specs.Stands.{open_at}
 use Rattle.desk_tally.proofs.lists.push_open.Given as goal

@@ -1,4 +1,4 @@
-use Rattle.std.proofs.Common.{◌≡◌, ◌∙◌, ◌-◌, ◌<◌, ◌≤◌, ℕ, suc, ap, refl, sym, arith, get_or, length, true, List}
+use Rattle.std.proofs.Common.{◌≡◌, ◌∙◌, ◌-◌, ◌<◌, ℕ, suc, ap, arith, get_or, length, true, List}
 use Rattle.std.specs.Prelude.{vec_len}
 use Rattle.desk_rows.specs.declared.state.DutyState.TheVariants.{IsOpen}
 use Rattle.desk_tally.specs.Stands.{are_placed, is_within}

@@ -1,4 +1,4 @@
-use Rattle.std.proofs.Common.{◌≡◌, ◌+◌, ◌-◌, ◌<◌, ◌≤◌, ◌∙◌, refl, sym, subst, arith, length, Some, List}
+use Rattle.std.proofs.Common.{◌≡◌, ◌+◌, ◌-◌, ◌<◌, ◌≤◌, refl, sym, subst, arith, length, Some, List}
 use Rattle.std.specs.Prelude.{slice_get, vec_len}
 use Rattle.desk_tally.specs.Stands.{AreTallied}
 use Rattle.desk_tally.specs.declared.stand.Stand.{Stand}

@@ -1,6 +1,5 @@
-use Rattle.std.proofs.Common.{◌≡◌, ◌∙◌, ap, arith, length, List, ℕ}
+use Rattle.std.proofs.Common.{◌≡◌, ◌∙◌, ap, arith, length, ℕ}
 use Rattle.desk_tally.specs.Stands.{are_placed}
-use Rattle.desk_tally.specs.declared.stand.Stand.{Stand}
 use Rattle.desk_tally.proofs.Counts.{placed-shifted}
 use Rattle.desk_tally.proofs.tallies.Tallies.move_all.Goals as goal
 

@@ -1,4 +1,4 @@
-use Rattle.std.proofs.Common.{◌≡◌, ◌∙◌, ℕ, true, false, subst, sym, arith, length}
+use Rattle.std.proofs.Common.{◌≡◌, ℕ, true, false, subst, sym, arith, length}
 use Rattle.desk_tally.specs.Stands.{are_places}
 use Rattle.desk_tally.specs.Kept.{IsKept}
 use Rattle.desk_tally.proofs.Placing.{counted_are_kept}

@@ -1,7 +1,6 @@
-use Rattle.std.proofs.Common.{◌≡◌, ◌∙◌, ◌+◌, ◌-◌, ◌≤◌, ap, sym, refl, arith, length, Some}
+use Rattle.std.proofs.Common.{◌≡◌, ◌∙◌, ◌+◌, ◌-◌, ◌≤◌, ap, sym, arith, length, Some}
 use Rattle.std.specs.Prelude.{slice_get}
 use Rattle.desk_tally.specs.Stands.{totals_at}
-use Rattle.desk_tally.specs.declared.tally.Tally.{Tally}
 use Rattle.desk_tally.proofs.Counts.{get_none}
 use Rattle.desk_tally.proofs.Found.{totals-found}
 use Rattle.desk_tally.proofs.tallies.Tallies.totals.Goals as goal
