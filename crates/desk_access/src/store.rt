@@ -9,7 +9,7 @@ ghost use Rattle.desk_rows.specs.Tables.{Tables};
 ghost use Rattle.desk_access.specs.Seen.{Seen, Looked, OfRows, Wrote};
 ghost use Rattle.desk_rows.specs.Faults.{MayFail};
 ghost use Rattle.desk_rows.specs.History.{attached_to, rule_for};
-ghost use Rattle.desk_rows.specs.Queries.{last_day};
+ghost use Rattle.desk_rows.specs.Queries.{last_day, totals_of};
 ghost use Rattle.desk_rows.specs.Conclusions.{licence_for, office_text};
 ghost use Rattle.desk_rows.specs.Findings.{source_of};
 ghost use Rattle.desk_history.specs.FromTables.{adoption_count, holder_found, release_found, rules_found, duty_found, steps_found, standings_found, ended_found, known_import, known_document};
@@ -17,7 +17,8 @@ ghost use Rattle.desk_rows.specs.declared.command.StoreFault.{StoreFault};
 
 use desk_base::{Day, Items, Text};
 use desk_rows::{
-    AttachedRow, Change, ChangeRow, DutyRow, Fault, PackageRow, Profile, ReleaseRow, Rule, Standing,
+    AttachedRow, Change, ChangeRow, DutyRow, Fault, PackageRow, Profile, ReleaseRow, Rule,
+    Standing, Totals,
 };
 
 /// Tables of rows, in memory or in a database. Look-ups leave the rows; `commit` alone writes, all of a change or nothing.
@@ -173,6 +174,12 @@ pub trait Store {
     /// The duties of a release, by number.
     fn duties_of(&mut self, release: &str) -> Result<Vec<DutyRow>, Fault>
         ensures found { IfOk result (λ found. OfRows (λ t. found.items ≡ filter (is_duty_of release.now) t.duty) (seen self.old) (seen self.new)) }
+        ensures kept { Looked (seen self.old) (seen self.new) result }
+        ensures fault { IfErr result (MayFail tells) };
+
+    /// How many duties of a release were raised and stand where, if there is such a release.
+    fn tally(&mut self, release: &str) -> Result<Option<Totals>, Fault>
+        ensures found { IfOk result (λ found. OfRows (λ t. found ≡ option_map (λ row. totals_of (filter (is_duty_of release.now) t.duty)) (release_found t release.now)) (seen self.old) (seen self.new)) }
         ensures kept { Looked (seen self.old) (seen self.new) result }
         ensures fault { IfErr result (MayFail tells) };
 

@@ -3,3 +3,4 @@ pub mod Asking
 pub mod Spared
 pub mod Texts
 pub mod Contents
+mod Listing

@@ -5,7 +5,8 @@
 //! its columns and keys, the indexes of the keys, and nothing beside them. The database may have any schema, and its clause tells the
 //! version as what it answers when it is asked (`specs/Version.antt`).
 //!
-//! The rest is asked of a desk's tables: how many revisions, documents, releases and duties there are, and the body of a revision. What
+//! The rest is asked of a desk's tables: how many revisions, documents, releases and duties there are, the body of a revision, and the releases and
+//! duties themselves. What
 //! is told is so of each tables that the database holds (`found`).
 //!
 //! Each statement only asks, whatever the schema of the database is (`Asks`): the connection shows what it showed as far as it still
@@ -19,9 +20,11 @@ mod declared;
 mod forms;
 mod matching;
 mod query;
+mod rows;
 mod version;
 
 pub use catalogue::body_of;
 pub use counts::{document_count, duty_count, release_count, revision_count};
 pub use declared::is_declared;
+pub use rows::{duties, releases};
 pub use version::{Content, examine};

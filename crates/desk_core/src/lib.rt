@@ -8,9 +8,11 @@
 //!
 //! - `TableDesk` is the desk over a store and a reader of texts (`desk_access`), which decides as `desk_decisions` says.
 //! - `MemDesk` is the one over rows in memory (`desk_memory`), which answers no fault but want of memory.
+//! - `Tally` is what a store keeps of each release's duties, so that they aren't counted (`desk_tally`).
 #![tactic(auto)]
 
 pub mod desk;
 
 pub use desk::{Desk, MemDesk, TableDesk, run, run_in_memory};
 pub use desk_rows::{Answer, Command, Fault, Outcome, Query};
+pub use desk_tally::Tally;

@@ -7,7 +7,8 @@
 //! transaction is open after it where none was before.
 //!
 //! Documents, duties and revisions are numbered from 1, and the caller says how many there are. What stands in a column is read as
-//! the desk knows it: a value of another kind, which no desk's table has, is told as a fault of the store's rows.
+//! the desk knows it: a value of another kind, which no desk's table has, is told as a fault of the store's rows. `read_releases` and
+//! `read_duties` read rows that another statement showed.
 #![tactic(auto)]
 
 mod changes;
@@ -29,5 +30,6 @@ pub use duties::{duties_of, duty};
 pub use holders::holder;
 pub use office::{adoption, adoption_count, conclusion};
 pub use releases::{attached, attached_count, chosen, is_attached, release};
+pub use rows::{read_duties, read_releases};
 pub use rules::rule;
 pub use standings::{ended, standings_of};

@@ -1,8 +1,10 @@
 //! The cells of each row.
 
-ghost use Rattle.std.specs.Prelude.{◌≡◌, IfOk};
+ghost use Rattle.std.specs.Prelude.{◌≡◌, IfOk, List, map};
 ghost use Rattle.desk_layout.specs.Cells.{attached_cells, change_cells, duty_cells, package_cells, release_cells};
 ghost use Rattle.desk_rows.specs.declared.row.ChangeRow.{ChangeRow as Change};
+ghost use Rattle.desk_rows.specs.declared.row.DutyRow.{DutyRow as Duty};
+ghost use Rattle.desk_rows.specs.declared.row.ReleaseRow.{ReleaseRow as Release};
 ghost use Rattle.desk_lookups.specs.Shown.{bytes_cells, known_cells, text_cells};
 ghost use Rattle.desk_lookups.specs.Waivers.{ending_cells};
 
@@ -10,7 +12,7 @@ use crate::columns::{
     bytes_at, day_at, duty_state_at, flag_at, number_at, profile_at, release_state_at, text_at,
     text_or_null_at, word_at,
 };
-use crate::read::ReadRow;
+use crate::read::{ReadRow, read_all};
 use desk_base::{Day, Items, Profile, Text};
 use desk_rows::{AttachedRow, ChangeRow, DutyRow, Fault, PackageRow, ReleaseRow};
 use sqlite::Row;
@@ -96,6 +98,20 @@ impl ReadRow for DutyRow {
             state: duty_state_at(row, 7)?,
         })
     }
+}
+
+/// The releases whose cells these rows are, in the order of the columns of their table.
+pub fn read_releases(alloc: Global, rows: &[Row]) -> Result<Vec<ReleaseRow>, Fault>
+    ensures { IfOk result (λ found. (releases : List Release) → rows.now ≡ map release_cells releases → found.items ≡ releases) }
+{
+    read_all(alloc, rows)
+}
+
+/// The duties whose cells these rows are, in the order of the columns of their table.
+pub fn read_duties(alloc: Global, rows: &[Row]) -> Result<Vec<DutyRow>, Fault>
+    ensures { IfOk result (λ found. (duties : List Duty) → rows.now ≡ map duty_cells duties → found.items ≡ duties) }
+{
+    read_all(alloc, rows)
 }
 
 /// The last day of the waiver at a step.

@@ -6,3 +6,4 @@ mod Ending
 mod Naming
 mod Ruling
 mod Holding
+mod Committing

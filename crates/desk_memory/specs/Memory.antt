@@ -1,7 +1,8 @@
--- What is seen of a store in memory: its rows, always; nothing outlives a stop.
+-- What is seen of a store in memory: its rows, always, and tallies that are theirs; nothing outlives a stop.
 use Rattle.std.specs.Prelude.{◌≡◌}
 use Rattle.desk_rows.specs.Tables.{Tables}
 use Rattle.desk_access.specs.Seen.{Seen}
+use Rattle.desk_tally.specs.Kept.{AreKept}
 use Rattle.desk_memory.specs.Ledgers.{all_of}
 use Rattle.desk_memory.specs.declared.store.MemStore.{MemStore}
 
@@ -24,4 +25,4 @@ rows_of s = record {
 }
 
 abbrev pub memory_seen : MemStore → Seen (Unit {0})
-memory_seen s = record { holds = λ t. rows_of s ≡ t; is_honest = Unit {0}; is_open = Unit {0}; leaves = λ x. ⊥ }
+memory_seen s = record { holds = λ t. (rows_of s ≡ t) × AreKept s.tallies t; is_honest = Unit {0}; is_open = Unit {0}; leaves = λ x. ⊥ }

@@ -3,14 +3,14 @@
 ghost use Rattle.std.specs.Prelude.{◌≡◌, ℕ, Bool, true, ◌+◌, ◌-◌, ◌<◌, ◌≤◌, ◌++◌, ◌∷◌, [], find, filter, map, IfOk, IfErr, IfSome, OnOk, OnErr, length, Option, vec_len, unwrap_or, slice_get, List};
 ghost use Rattle.std.specs.Option.{option_copied};
 ghost use Rattle.desk_rows.specs.Lists.{put, put_all, updated};
-ghost use Rattle.desk_rows.specs.States.{state_after};
 ghost use Rattle.desk_rows.specs.Keys.{is_duty, is_duty_of, is_change_of, change_below};
 ghost use Rattle.desk_rows.specs.Tables.{moved_by, with_duty_state};
 ghost use Rattle.desk_rows.specs.Queries.{last_day};
 ghost use Rattle.desk_memory.specs.Ledgers.{end_in, ends_in, numbered, grouped, all_of, more_at, pushed, place_of, standing_by, standing_in, AreSingles, ArePlaces, AreWithin};
 
 use desk_base::{Day, Items};
-use desk_rows::{ChangeRow, DutyRow, DutyState, Fault, Standing, Word};
+use desk_rows::{ChangeRow, DutyRow, DutyState, Fault, Standing};
+use desk_tally::state_after;
 use std::alloc::{AllocError, Global};
 use std::mem::replace;
 
@@ -239,17 +239,6 @@ fn push_next(groups: &mut Vec<Items<ChangeRow>>, change: ChangeRow) -> Result<()
 struct Place {
     duty: u32,
     state: DutyState,
-}
-
-fn state_after(word: Word) -> DutyState
-    ensures { result ≡ state_after word }
-{
-    match word {
-        Word::Raised | Word::Reopened | Word::Ended => DutyState::IsOpen,
-        Word::Met => DutyState::Met,
-        Word::Waived => DutyState::Waived,
-        Word::Withdrawn => DutyState::Withdrawn,
-    }
 }
 
 /// Where each of some changes leaves its duty, if each is one of so many duties.

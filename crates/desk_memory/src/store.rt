@@ -9,6 +9,7 @@ ghost use Rattle.desk_rows.specs.Lists.{updated};
 ghost use Rattle.desk_rows.specs.Keys.{is_release, is_document, has_namespace, is_package, is_adoption, is_adoption_in, is_conclusion, is_shipped_by, is_attached_to, is_attachment, is_choice_of, is_duty, is_duty_of, is_change_of, is_rule, is_rule_of};
 ghost use Rattle.desk_rows.specs.Tables.{Tables, applied, with_release_state, withdrawn_release};
 ghost use Rattle.desk_rows.specs.declared.state.ReleaseState.TheVariants.{Frozen};
+ghost use Rattle.desk_tally.specs.Kept.{place_found, AreKept, IsPlaceFor};
 ghost use Rattle.desk_memory.specs.Memory.{rows_of, memory_seen};
 ghost use Rattle.desk_history.specs.FromTables.{rule_of};
 
@@ -24,8 +25,10 @@ use desk_base::{Day, Items, Text};
 use desk_rows::{
     AttachedRow, CatalogueRow, Change, ChangeRow, ChoiceRow, DocumentRow, DutyRow, ExtractedRow,
     Fault, FrozenRow, PackageRow, Profile, ReleaseRow, ReleaseState, Rule, RuleRow, Standing,
+    Totals,
 };
 use desk_sorted::{Appended, Sorted, reserve, run_of};
+use desk_tally::Tallies;
 use std::alloc::{AllocError, Global};
 
 fn copy_of(text: &Option<Text>) -> Result<Option<Text>, AllocError>
@@ -218,7 +221,7 @@ fn withdraw_release(releases: &mut Sorted<ReleaseRow>, name: &str)
     withdraw_rows(&mut releases.rows[run.start..run.end]);
 }
 
-/// Rows in memory, each list by its key.
+/// Rows in memory, each list by its key, and the tallies of the releases beside them.
 #[derive(Drop)]
 pub struct MemStore {
     alloc: Global,
@@ -234,6 +237,7 @@ pub struct MemStore {
     choices: Sorted<ChoiceRow>,
     frozen: Sorted<FrozenRow>,
     ledger: Ledger,
+    tallies: Tallies,
 }
 
 impl MemStore {
@@ -242,7 +246,8 @@ impl MemStore {
 
     /// The tables of the empty history.
     pub fn new(alloc: Global) -> MemStore
-        ensures { (w : Readings) → rows_of result ≡ tables w [] }
+        ensures rows { (w : Readings) → rows_of result ≡ tables w [] }
+        ensures kept { (w : Readings) → AreKept result.tallies (tables w []) }
     {
         MemStore {
             alloc,
@@ -258,6 +263,7 @@ impl MemStore {
             choices: Sorted::new(alloc),
             frozen: Sorted::new(alloc),
             ledger: Ledger::new(alloc),
+            tallies: Tallies::new(alloc),
         }
     }
 
@@ -269,6 +275,7 @@ impl MemStore {
     ) -> Result<(), Fault>
         ensures ok { OnOk result (rows_of self.new ≡ applied (Change.Loaded row rules forms) (rows_of self.old)) }
         ensures err { OnErr result (rows_of self.new ≡ rows_of self.old) }
+        ensures tallies { self.new.tallies ≡ self.old.tallies }
         ensures fault { IfErr result (λ fault. fault ≡ Fault.Memory) }
     {
         reserve(&mut self.catalogue, 1)?;
@@ -286,6 +293,7 @@ impl MemStore {
     ) -> Result<(), Fault>
         ensures ok { OnOk result (rows_of self.new ≡ applied (Change.Imported row packages references) (rows_of self.old)) }
         ensures err { OnErr result (rows_of self.new ≡ rows_of self.old) }
+        ensures tallies { self.new.tallies ≡ self.old.tallies }
         ensures fault { IfErr result (λ fault. fault ≡ Fault.Memory) }
     {
         let packages = packages.into_vec();
@@ -309,6 +317,7 @@ impl MemStore {
     ) -> Result<(), Fault>
         ensures ok { OnOk result (rows_of self.new ≡ applied (Change.Chosen release.now document package_id.now rows) (rows_of self.old)) }
         ensures err { OnErr result (rows_of self.new ≡ rows_of self.old) }
+        ensures tallies { self.new.tallies ≡ self.old.tallies }
         ensures fault { IfErr result (λ fault. fault ≡ Fault.Memory) }
     {
         let rows = rows.into_vec();
@@ -332,6 +341,7 @@ impl MemStore {
     ) -> Result<(), Fault>
         ensures ok { OnOk result (rows_of self.new ≡ applied (Change.Froze release.now revision frozen duties changes) (rows_of self.old)) }
         ensures err { OnErr result (rows_of self.new ≡ rows_of self.old) }
+        ensures tallies { self.new.tallies ≡ self.old.tallies }
         ensures fault { IfErr result (λ fault. fault ≡ Fault.Memory) }
     {
         let frozen = frozen.into_vec();
@@ -345,6 +355,7 @@ impl MemStore {
     fn move_all(&mut self, changes: Items<ChangeRow>) -> Result<(), Fault>
         ensures ok { OnOk result (rows_of self.new ≡ applied (Change.Moved changes) (rows_of self.old)) }
         ensures err { OnErr result (rows_of self.new ≡ rows_of self.old) }
+        ensures tallies { self.new.tallies ≡ self.old.tallies }
         ensures fault { IfErr result (λ fault. fault ≡ Fault.Memory) }
     {
         self.ledger.move_all(changes.into_vec())?;
@@ -354,6 +365,7 @@ impl MemStore {
     fn withdraw(&mut self, release: &Text, changes: Items<ChangeRow>) -> Result<(), Fault>
         ensures ok { OnOk result (rows_of self.new ≡ applied (Change.Withdrew release.now changes) (rows_of self.old)) }
         ensures err { OnErr result (rows_of self.new ≡ rows_of self.old) }
+        ensures tallies { self.new.tallies ≡ self.old.tallies }
         ensures fault { IfErr result (λ fault. fault ≡ Fault.Memory) }
     {
         self.ledger.move_all(changes.into_vec())?;
@@ -362,6 +374,74 @@ impl MemStore {
             release: release.as_str(),
         });
         Ok(())
+    }
+
+    /// Writes the rows of a change, or nothing.
+    fn write(&mut self, change: Change) -> Result<(), Fault>
+        ensures ok { OnOk result (rows_of self.new ≡ applied change (rows_of self.old)) }
+        ensures err { OnErr result (rows_of self.new ≡ rows_of self.old) }
+        ensures tallies { self.new.tallies ≡ self.old.tallies }
+        ensures fault { IfErr result (λ fault. fault ≡ Fault.Memory) }
+    {
+        match change {
+            Change::Loaded {
+                catalogue,
+                rules,
+                forms,
+            } => self.load(catalogue, rules, forms),
+            Change::Imported {
+                document,
+                packages,
+                references,
+            } => self.import(document, packages, references),
+            Change::Opened(row) => {
+                self.releases.reserve(1)?;
+                self.releases.put(row);
+                Ok(())
+            }
+            Change::Attached(row) => {
+                self.attached.reserve(1)?;
+                self.attached.put(row);
+                Ok(())
+            }
+            Change::Chosen {
+                release,
+                document,
+                package_id,
+                rows,
+            } => self.choose(&release, document, &package_id, rows),
+            Change::Froze {
+                release,
+                revision,
+                frozen,
+                duties,
+                changes,
+            } => self.freeze(&release, revision, frozen, duties, changes),
+            Change::Moved { changes } => self.move_all(changes),
+            Change::Withdrew { release, changes } => self.withdraw(&release, changes),
+            Change::Concluded(row) => self.office.conclude(row),
+            Change::Adopted(row) => self.office.adopt(row),
+        }
+    }
+
+    /// The place of a release.
+    fn place_of(&self, name: &str) -> Option<u32>
+        ensures { result ≡ place_found (rows_of self.now).releases name.now }
+    {
+        match self.releases.find(&ByName { name }) {
+            Some(row) => Some(row.place),
+            None => None,
+        }
+    }
+
+    /// Of a freeze, the place of its release.
+    fn place_for(&self, change: &Change) -> Option<u32>
+        ensures { IsPlaceFor change.now result (rows_of self.now) }
+    {
+        match change {
+            Change::Froze { release, .. } => self.place_of(release.as_str()),
+            _ => None,
+        }
     }
 }
 
@@ -532,6 +612,13 @@ impl Store for MemStore {
         }
     }
 
+    fn tally(&mut self, release: &str) -> Result<Option<Totals>, Fault> {
+        match self.place_of(release) {
+            Some(place) => Ok(self.tallies.totals(place)),
+            None => Ok(None),
+        }
+    }
+
     fn standings_of(&mut self, release: &str) -> Result<Vec<Standing>, Fault> {
         match self.ledger.standings_of(release) {
             Ok(found) => Ok(found),
@@ -562,44 +649,12 @@ impl Store for MemStore {
     }
 
     fn commit(&mut self, change: Change) -> Result<(), Fault> {
-        match change {
-            Change::Loaded {
-                catalogue,
-                rules,
-                forms,
-            } => self.load(catalogue, rules, forms),
-            Change::Imported {
-                document,
-                packages,
-                references,
-            } => self.import(document, packages, references),
-            Change::Opened(row) => {
-                self.releases.reserve(1)?;
-                self.releases.put(row);
-                Ok(())
-            }
-            Change::Attached(row) => {
-                self.attached.reserve(1)?;
-                self.attached.put(row);
-                Ok(())
-            }
-            Change::Chosen {
-                release,
-                document,
-                package_id,
-                rows,
-            } => self.choose(&release, document, &package_id, rows),
-            Change::Froze {
-                release,
-                revision,
-                frozen,
-                duties,
-                changes,
-            } => self.freeze(&release, revision, frozen, duties, changes),
-            Change::Moved { changes } => self.move_all(changes),
-            Change::Withdrew { release, changes } => self.withdraw(&release, changes),
-            Change::Concluded(row) => self.office.conclude(row),
-            Change::Adopted(row) => self.office.adopt(row),
-        }
+        let place = self.place_for(&change);
+        let Some(step) = self.tallies.plan(&change, place)? else {
+            return Err(Fault::Memory);
+        };
+        self.write(change)?;
+        self.tallies.take(step);
+        Ok(())
     }
 }

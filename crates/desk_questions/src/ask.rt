@@ -1,11 +1,10 @@
 //! Questions are answered.
 
-ghost use Rattle.std.specs.Prelude.{◌≡◌, ℕ, IfOk, IfErr, map, filter, length, count_by};
+ghost use Rattle.std.specs.Prelude.{◌≡◌, ℕ, IfOk, IfErr, map, filter};
 ghost use Rattle.desk_rows.specs.Readings.{Readings};
 ghost use Rattle.desk_rows.specs.Faults.{MayFail};
 ghost use Rattle.desk_rows.specs.Keys.{is_change_of};
-ghost use Rattle.desk_rows.specs.Queries.{duty_line, totals_of};
-ghost use Rattle.desk_rows.specs.States.{is_open, is_met, is_waived, is_withdrawn};
+ghost use Rattle.desk_rows.specs.Queries.{duty_line};
 ghost use Rattle.desk_access.specs.Seen.{Looked, OfRows};
 ghost use Rattle.desk_history.specs.FromTables.{queried_from, line_found};
 
@@ -15,7 +14,7 @@ use crate::packages::release;
 use desk_access::store::Store;
 use desk_access::texts::Texts;
 use desk_base::{Items, Text};
-use desk_rows::{Answer, DutyLine, DutyRow, DutyState, Fault, Query, Refusal, Totals};
+use desk_rows::{Answer, DutyLine, DutyRow, Fault, Query, Refusal};
 use std::alloc::Global;
 
 #[tactic(auto, using(desk_access::proofs::Chains::same_then_kept, desk_access::proofs::Chains::same_then_same))]
@@ -49,67 +48,6 @@ fn duty_lines<S: Store>(
     Ok(lines)
 }
 
-fn is_open(state: DutyState) -> bool
-    ensures { result ≡ is_open state }
-{
-    matches!(state, DutyState::IsOpen)
-}
-
-fn count_open(rows: &[DutyRow]) -> u64
-    ensures { result ≡ count_by (λ row. is_open row.state) rows.now }
-{
-    rows.iter().filter(|row| is_open(row.state)).count() as u64
-}
-
-fn is_met(state: DutyState) -> bool
-    ensures { result ≡ is_met state }
-{
-    matches!(state, DutyState::Met)
-}
-
-fn count_met(rows: &[DutyRow]) -> u64
-    ensures { result ≡ count_by (λ row. is_met row.state) rows.now }
-{
-    rows.iter().filter(|row| is_met(row.state)).count() as u64
-}
-
-fn is_waived(state: DutyState) -> bool
-    ensures { result ≡ is_waived state }
-{
-    matches!(state, DutyState::Waived)
-}
-
-fn count_waived(rows: &[DutyRow]) -> u64
-    ensures { result ≡ count_by (λ row. is_waived row.state) rows.now }
-{
-    rows.iter().filter(|row| is_waived(row.state)).count() as u64
-}
-
-fn is_withdrawn(state: DutyState) -> bool
-    ensures { result ≡ is_withdrawn state }
-{
-    matches!(state, DutyState::Withdrawn)
-}
-
-fn count_withdrawn(rows: &[DutyRow]) -> u64
-    ensures { result ≡ count_by (λ row. is_withdrawn row.state) rows.now }
-{
-    rows.iter().filter(|row| is_withdrawn(row.state)).count() as u64
-}
-
-/// How many of some duties stand where.
-fn totals_of(rows: &[DutyRow]) -> Totals
-    ensures { result ≡ totals_of rows.now }
-{
-    Totals {
-        raised: rows.len() as u64,
-        still_open: count_open(rows),
-        met: count_met(rows),
-        waived: count_waived(rows),
-        withdrawn: count_withdrawn(rows),
-    }
-}
-
 /// The duties of a release, by number.
 pub fn duties<S: Store>(alloc: Global, store: &mut S, release: &Text) -> Result<Answer, Fault>
     ensures answer { (w : Readings) → IfOk result (λ answer. OfRows (λ t. answer ≡ queried_from w t (Query.Duties release.now)) (S.seen store.old) (S.seen store.new)) }
@@ -129,11 +67,10 @@ pub fn totals<S: Store>(store: &mut S, release: &Text) -> Result<Answer, Fault>
     ensures kept { Looked (S.seen store.old) (S.seen store.new) result }
     ensures fault { IfErr result (MayFail S.tells) }
 {
-    if store.release(release.as_str())?.is_none() {
-        return Ok(Answer::Refused(Refusal::UnknownRelease));
+    match store.tally(release.as_str())? {
+        Some(totals) => Ok(Answer::Totals(totals)),
+        None => Ok(Answer::Refused(Refusal::UnknownRelease)),
     }
-    let rows = store.duties_of(release.as_str())?;
-    Ok(Answer::Totals(totals_of(rows.as_slice())))
 }
 
 /// The changes of a duty, by step.

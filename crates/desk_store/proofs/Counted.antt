@@ -1,38 +1,46 @@
--- What is seen of a store that keeps counts beside its tables.
-use Rattle.std.proofs.Common.{◌≡◌, ◌∙◌, ℕ, List, sym, ap, refl, Ok, Err, Result}
+-- What is seen of a store that keeps counts and tallies beside its tables.
+use Rattle.std.proofs.Common.{◌≡◌, ◌⊎◌, ◌∙◌, ℕ, List, sym, ap, refl, inl, inr, Ok, Err, Result}
+use Rattle.std.specs.Prelude.{IsTrue}
+use Rattle.std.specs.Result.{IsErr}
 use Rattle.sqlite_trees.specs.Tree.{Trees}
-use Rattle.desk_rows.specs.Tables.{Tables}
+use Rattle.sqlite.specs.State.{State, HasCleanDisk}
+use Rattle.desk_rows.specs.Keys.{release_below}
+use Rattle.desk_rows.specs.Tables.{Tables, applied}
+use Rattle.desk_history.specs.Laws.{Ascends}
+use Rattle.desk_tally.specs.Kept.{AreKept}
+use Rattle.desk_tally.specs.declared.tallies.Tallies.{Tallies}
 use Rattle.desk_rows.specs.declared.command.Change.{Change}
 use Rattle.desk_rows.specs.declared.command.Change.TheVariants as change
-use Rattle.desk_store.specs.Counting.{known_by, counts_after, forms_after}
+use Rattle.desk_store.specs.Counting.{known_by, counts_after, forms_after, tallied}
 use Rattle.desk_store.specs.declared.counts.Counts.{Counts}
 use Rattle.desk_rows.specs.declared.command.Fault.{Fault}
-use Rattle.desk_access.specs.Seen.{Seen, Kept, Same, Looked, OfRows, Made, Failed}
-use Rattle.desk_layout.specs.Held.{Known, Stands, known_of, known_after, counted}
+use Rattle.desk_access.specs.Follows.{Follows}
+use Rattle.desk_access.specs.Seen.{Seen, Kept, Same, Looked, OfRows, Made, Failed, Wrote}
+use Rattle.desk_layout.specs.Held.{Known, Stands, known_of, known_after, seen_of}
 use Rattle.desk_layout.proofs.Counting.{known_kept}
 
 -- ---- look-ups
 
-module _ (k : Known) where
-  kept : (a b : Seen Trees) → Kept a b → Kept (counted k a) (counted k b)
+module _ (n : Tallies) (k : Known) where
+  pub kept : (a b : Seen Trees) → Kept a b → Kept (tallied n k a) (tallied n k b)
   kept a b it = record {
-    spared = record { honest = it.spared.honest; holds = λ t holds. (holds.0, it.spared.holds t holds.1) };
-    leaves = λ honest is t holds x left. it.leaves honest is t holds.1 x left;
+    spared = record { honest = it.spared.honest; holds = λ t holds. (holds.0, holds.1, it.spared.holds t holds.2) };
+    leaves = λ honest is t holds x left. it.leaves honest is t holds.2 x left;
   }
 
-  same : (a b : Seen Trees) → Same a b → Same (counted k a) (counted k b)
+  pub same : (a b : Seen Trees) → Same a b → Same (tallied n k a) (tallied n k b)
   same a b it = record { kept = kept a b it.kept; stays = it.stays }
 
-  pub looked : {A : Type 0} (a b : Seen Trees) (r : Result A Fault) → Looked a b r → Looked (counted k a) (counted k b) r
+  pub looked : {A : Type 0} (a b : Seen Trees) (r : Result A Fault) → Looked a b r → Looked (tallied n k a) (tallied n k b) r
   looked a b (Ok x) it = same a b it
   looked a b (Err fault) it = kept a b it
 
-  pub of_rows : (P : Tables → Type 0) (a b : Seen Trees) → OfRows P a b → OfRows P (counted k a) (counted k b)
-  of_rows P a b it = λ honest t holds. it honest t holds.1
+  pub of_rows : (P : Tables → Type 0) (a b : Seen Trees) → OfRows P a b → OfRows P (tallied n k a) (tallied n k b)
+  of_rows P a b it = λ honest t holds. it honest t holds.2
 
   -- what is found where the counts are right
-  pub of_counted : (Q P : Tables → Type 0) (a b : Seen Trees) → ((t : Tables) → known_of t ≡ k → Q t) → OfRows (λ t. Q t → P t) a b → OfRows P (counted k a) (counted k b)
-  of_counted Q P a b right it = λ honest t holds. it honest t holds.1 (right t holds.0)
+  pub of_counted : (Q P : Tables → Type 0) (a b : Seen Trees) → ((t : Tables) → known_of t ≡ k → Q t) → OfRows (λ t. Q t → P t) a b → OfRows P (tallied n k a) (tallied n k b)
+  of_counted Q P a b right it = λ honest t holds. it honest t holds.2 (right t holds.0)
 
 -- ---- a change
 
@@ -48,20 +56,48 @@ known_is (change.Withdrew r moved) counts forms = refl
 known_is (change.Concluded row) counts forms = refl
 known_is (change.Adopted row) counts forms = refl
 
-pub wrote : (c : Change) (counts after : Counts) (forms : List (List ℕ)) (a b : Seen Trees) → after ≡ counts_after c counts → Made Stands c a b
-    → Made Stands c (counted (known_by counts forms) a) (counted (known_by after (forms_after c forms)) b)
-wrote c counts after forms a b are it = record {
-  honest = it.honest;
+-- the releases of a desk's tables ascend
+ascend : (s : State) (t : Tables) → HasCleanDisk s → IsTrue s.is_open → (seen_of s).holds t → Ascends release_below t.releases
+ascend s t clean is holds = (holds clean is).holds.orderly.sorted.releases
+
+-- after a look-up that was made for it, a change is written
+pub wrote : (c : Change) (counts after : Counts) (forms : List (List ℕ)) (n m : Tallies) (a b d : State) → after ≡ counts_after c counts → Same (seen_of a) (seen_of b) → Made Stands c (seen_of b) (seen_of d)
+    → (HasCleanDisk d → (t : Tables) → (seen_of a).holds t → Ascends release_below (applied c t).releases → AreKept n t → AreKept m (applied c t))
+    → Made Stands c (tallied n (known_by counts forms) (seen_of a)) (tallied m (known_by after (forms_after c forms)) (seen_of d))
+wrote c counts after forms n m a b d are still it leads = record {
+  honest = λ clean. still.kept.spared.honest (it.honest clean);
   stays = it.stays;
-  holds = λ honest t holds follows. (
-    known_kept c t ∙ (ap (known_after c) holds.0 ∙ (known_is c counts forms ∙ ap (λ (n : Counts). known_by n (forms_after c forms)) (sym are))),
-    it.holds honest t holds.1 follows,
-  );
-  leaves = λ honest t holds follows x left. it.leaves honest t holds.1 follows x left;
+  holds = λ clean t holds follows.
+      let shown = it.holds clean t (still.kept.spared.holds t holds.2) follows in (
+        known_kept c t ∙ (ap (known_after c) holds.0 ∙ (known_is c counts forms ∙ ap (λ (n : Counts). known_by n (forms_after c forms)) (sym are))),
+        leads clean t holds.2 (ascend d (applied c t) clean (it.stays clean) shown) holds.1,
+        shown,
+      );
+  leaves = λ clean t holds follows x left. it.leaves clean t (still.kept.spared.holds t holds.2) follows x left;
 }
 
-pub failed : (c : Change) (k : Known) (a b : Seen Trees) → Failed Stands c a b → Failed Stands c (counted k a) (counted k b)
-failed c k a b it = record {
-  spared = record { honest = it.spared.honest; holds = λ t holds. (holds.0, it.spared.holds t holds.1) };
-  leaves = λ honest is t holds follows x left. it.leaves honest is t holds.1 follows x left;
+pub failed : (c : Change) (k : Known) (n m : Tallies) (a b d : Seen Trees) → ((t : Tables) → AreKept n t → AreKept m t) → Same a b → Failed Stands c b d → Failed Stands c (tallied n k a) (tallied m k d)
+failed c k n m a b d kept still it = record {
+  spared = record {
+    honest = λ honest. still.kept.spared.honest (it.spared.honest honest);
+    holds = λ t holds. (holds.0, kept t holds.1, it.spared.holds t (still.kept.spared.holds t holds.2));
+  };
+  leaves = λ honest is t holds follows x left.
+      let before = it.spared.honest honest in
+      either x (λ was. still.kept.leaves before is t holds.2 x was) (it.leaves honest (still.stays before is) t (still.kept.spared.holds t holds.2) follows x left);
 }
+  where
+    either : {P Q R : Type 0} (x : Trees) → (P → Q) → P ⊎ R → Q ⊎ R
+    either x f (inl p) = inl (f p)
+    either x f (inr r) = inr r
+
+-- nothing is written where a look-up failed, or there was no step
+pub left : (c : Change) (k : Known) (n m : Tallies) (a b : Seen Trees) → ((t : Tables) → AreKept n t → AreKept m t) → Kept a b → Failed Stands c (tallied n k a) (tallied m k b)
+left c k n m a b kept it = record {
+  spared = record { honest = it.spared.honest; holds = λ t holds. (holds.0, kept t holds.1, it.spared.holds t holds.2) };
+  leaves = λ honest is t holds follows x left. inl (it.leaves honest is t holds.2 x left);
+}
+
+pub wrote_err : (c : Change) (a b : Seen Trees) (r : Result (Unit {0}) Fault) → IsErr r → Failed Stands c a b → Wrote Stands c a b r
+wrote_err c a b (Ok x) is it = absurd (cc)
+wrote_err c a b (Err fault) is it = it

@@ -1,8 +1,13 @@
--- What the store keeps beside its tables: how many rows some of them have, and the forms of the catalogue in force.
-use Rattle.std.specs.Prelude.{ℕ, ◌+◌, List, length}
+-- What the store keeps beside its tables: how many rows some of them have, the forms of the catalogue in force, and the tallies of the
+-- releases.
+use Rattle.std.specs.Prelude.{◌≡◌, ℕ, ◌+◌, List, length}
+use Rattle.sqlite_trees.specs.Tree.{Trees}
 use Rattle.desk_rows.specs.declared.command.Change.{Change}
 use Rattle.desk_rows.specs.declared.command.Change.TheVariants as change
-use Rattle.desk_layout.specs.Held.{Known}
+use Rattle.desk_access.specs.Seen.{Seen}
+use Rattle.desk_layout.specs.Held.{Known, known_of}
+use Rattle.desk_tally.specs.Kept.{AreKept}
+use Rattle.desk_tally.specs.declared.tallies.Tallies.{Tallies}
 use Rattle.desk_store.specs.declared.counts.Counts.{Counts}
 
 abbrev pub known_by : Counts → List (List ℕ) → Known
@@ -26,3 +31,12 @@ counts_after _ c = c
 abbrev pub forms_after : Change → List (List ℕ) → List (List ℕ)
 forms_after (change.Loaded row rules forms) old = forms
 forms_after _ old = old
+
+-- what is seen of a store that knows these of its rows, and has these tallies of them
+abbrev pub tallied : Tallies → Known → Seen Trees → Seen Trees
+tallied tallies k s = record {
+  holds = λ t. (known_of t ≡ k) × AreKept tallies t × s.holds t;
+  is_honest = s.is_honest;
+  is_open = s.is_open;
+  leaves = s.leaves;
+}

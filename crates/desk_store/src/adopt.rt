@@ -16,15 +16,18 @@ ghost use Rattle.desk_adopting.specs.Reading.{HasRead, HasStayed};
 ghost use Rattle.desk_adopting.specs.Version.{IsContent};
 ghost use Rattle.desk_store.specs.Adopting.{HasCounts, IsFault, IsLeft, IsReason};
 ghost use Rattle.desk_store.specs.Counting.{known_by};
+ghost use Rattle.desk_tally.specs.Kept.{AreKept};
 
 use crate::counts::Counts;
 use crate::fault::AdoptFault;
 use desk_access::texts::Texts;
 use desk_adopting::{
-    Content, body_of, document_count, duty_count, examine, release_count, revision_count,
+    Content, body_of, document_count, duties, duty_count, examine, release_count, releases,
+    revision_count,
 };
 use desk_base::{Items, Text};
 use desk_rows::{Fault, StoreFault};
+use desk_tally::Tallies;
 use desk_texts::Standard;
 use sqlite::{Alter, Connection};
 use std::alloc::Global;
@@ -57,8 +60,8 @@ fn forms_of_body(alloc: Global, body: Option<Text>) -> Result<Items<Text>, Fault
     }
 }
 
-/// What a store keeps beside its tables, read from a database: how many rows some have, and the forms of the catalogue in force.
-pub(crate) fn read_known<S: Alter>(
+/// How many rows some tables of a database have, and the forms of the catalogue in force.
+fn read_known<S: Alter>(
     alloc: Global,
     conn: &mut Connection<S>,
 ) -> Result<(Counts, Items<Text>), Fault>
@@ -73,12 +76,44 @@ pub(crate) fn read_known<S: Alter>(
     Ok((counts, forms))
 }
 
+/// The tallies of the releases, counted once from the rows of releases and duties.
+fn read_tallies<S: Alter>(alloc: Global, conn: &mut Connection<S>) -> Result<Tallies, Fault>
+    requires { conn.old.in_transaction ≡ false }
+    ensures kept { IfOk result (λ tallies. OfRows (AreKept tallies) (seen_of (state S.Store conn.old)) (seen_of (state S.Store conn.new))) }
+    ensures read { HasRead (state S.Store conn.old) (state S.Store conn.new) result }
+    ensures mode { conn.new.in_transaction ≡ false }
+{
+    let releases = releases(alloc, conn)?;
+    let duties = duties(alloc, conn)?;
+    match Tallies::counted(alloc, releases.as_slice(), duties.as_slice())? {
+        Some(tallies) => Ok(tallies),
+        None => Err(Fault::Store(StoreFault::Rows)),
+    }
+}
+
+/// What a store keeps beside its tables, read from a database.
+fn read_beside<S: Alter>(
+    alloc: Global,
+    conn: &mut Connection<S>,
+) -> Result<(Counts, Items<Text>, Tallies), Fault>
+    requires { conn.old.in_transaction ≡ false }
+    ensures known { IfOk result (λ beside. InHistory AreRight (λ w h. known_of (tables w h) ≡ known_by beside.0 beside.1) (seen_of (state S.Store conn.old)) (seen_of (state S.Store conn.new))) }
+    ensures kept { IfOk result (λ beside. OfRows (AreKept beside.2) (seen_of (state S.Store conn.old)) (seen_of (state S.Store conn.new))) }
+    ensures read { HasRead (state S.Store conn.old) (state S.Store conn.new) result }
+    ensures mode { conn.new.in_transaction ≡ false }
+{
+    let (counts, forms) = read_known(alloc, conn)?;
+    let tallies = read_tallies(alloc, conn)?;
+    Ok((counts, forms, tallies))
+}
+
 /// Examines a database, and reads of a desk what a store keeps beside its tables.
 pub(crate) fn examine_desk<S: Alter>(
     alloc: Global,
     conn: &mut Connection<S>,
-) -> Result<(Counts, Items<Text>), AdoptFault>
+) -> Result<(Counts, Items<Text>, Tallies), AdoptFault>
     requires { conn.old.in_transaction ≡ false }
+    ensures kept { IfOk result (λ beside. OfRows (AreKept beside.2) (seen_of (state S.Store conn.old)) (seen_of (state S.Store conn.new))) }
     ensures known { IfOk result (λ known. InHistory AreRight (λ w h. known_of (tables w h) ≡ known_by known.0 known.1) (seen_of (state S.Store conn.old)) (seen_of (state S.Store conn.new))) }
     ensures adopts { IfErr result (λ fault. IsTrue (state S.Store conn.old).is_open → OfRows (λ t. IsFault fault) (seen_of (state S.Store conn.old)) (seen_of (state S.Store conn.new))) }
     ensures desk { HasCleanDisk (state S.Store conn.new) → OnOk result (IsContent (state S.Store conn.old) Content.Desk) }
@@ -93,8 +128,8 @@ pub(crate) fn examine_desk<S: Alter>(
         Ok(Content::Other) => return Err(AdoptFault::NotADesk),
         Err(fault) => return Err(AdoptFault::Fault(fault)),
     }
-    match read_known(alloc, conn) {
-        Ok(known) => Ok(known),
+    match read_beside(alloc, conn) {
+        Ok(beside) => Ok(beside),
         Err(fault) => Err(AdoptFault::Fault(fault)),
     }
 }

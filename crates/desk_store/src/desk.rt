@@ -8,6 +8,7 @@ ghost use Rattle.desk_rows.specs.Tables.{Tables, tables};
 ghost use Rattle.desk_access.specs.Seen.{OfRows, Same};
 ghost use Rattle.desk_core.specs.Desks.{InHistory};
 ghost use Rattle.desk_layout.specs.Held.{Stands, known_of, seen_of};
+ghost use Rattle.desk_tally.specs.Kept.{AreKept};
 ghost use Rattle.desk_texts.specs.Right.{AreRight};
 ghost use Rattle.desk_writing.specs.Creating.{has_meta};
 ghost use Rattle.desk_writing.specs.Written.{Undone};
@@ -24,6 +25,7 @@ use desk_adopting::Content;
 use desk_base::{Items, Text};
 use desk_core::{Answer, Command, Desk, Fault, Query, TableDesk};
 use desk_rows::Profile;
+use desk_tally::Tallies;
 use desk_texts::Standard;
 use desk_writing::{Refused, create_tables};
 use sqlite::{Alter, Connection};
@@ -44,12 +46,18 @@ pub struct SqlDesk<S: Alter> {
 }
 
 impl<S: Alter> SqlDesk<S> {
-    fn over(alloc: Global, conn: Connection<S>, counts: Counts, forms: Items<Text>) -> SqlDesk<S>
+    fn over(
+        alloc: Global,
+        conn: Connection<S>,
+        counts: Counts,
+        forms: Items<Text>,
+        tallies: Tallies,
+    ) -> SqlDesk<S>
         requires { conn.in_transaction ≡ false }
         ensures same { result.desk.store.conn ≡ conn }
-        ensures holds { (t : Tables) → known_of t ≡ known_by counts forms → (seen_of (state S.Store conn)).holds t → (⟦<SqlDesk<S> as Desk>⟧.seen result).holds t }
+        ensures holds { (t : Tables) → known_of t ≡ known_by counts forms → AreKept tallies t → (seen_of (state S.Store conn)).holds t → (⟦<SqlDesk<S> as Desk>⟧.seen result).holds t }
     {
-        let store = SqlStore::over(alloc, conn, counts, forms);
+        let store = SqlStore::over(alloc, conn, counts, forms, tallies);
         SqlDesk {
             desk: TableDesk::over(alloc, Standard, store),
         }
@@ -74,7 +82,11 @@ impl<S: Alter> SqlDesk<S> {
     {
         let mut conn = conn;
         match create_tables(&mut conn) {
-            Ok(()) => Ok(SqlDesk::over(alloc, conn, NO_ROWS, Items::new(alloc))),
+            Ok(()) => {
+                let forms = Items::new(alloc);
+                let tallies = Tallies::new(alloc);
+                Ok(SqlDesk::over(alloc, conn, NO_ROWS, forms, tallies))
+            }
             Err(Refused::NotEmpty) => Err((CreateFault::NotEmpty, conn)),
             Err(Refused::Fault(fault)) => Err((CreateFault::Fault(fault), conn)),
         }
@@ -86,7 +98,7 @@ impl<S: Alter> SqlDesk<S> {
     /// `NotADesk` where no table `meta` tells one version, or where not all tables of a desk are declared as `create` declares them,
     /// in its order, or where a table, an index or a view stands beside them. After these the connection is as it was. A fault tells
     /// that memory was wanting, that the database failed, or that it gave rows that no desk has, such as a catalogue in force that
-    /// can't be read.
+    /// can't be read, releases whose places aren't those from 1 to their number, or more than 100,000 duties.
     pub fn adopt_connection(
         alloc: Global,
         conn: Connection<S>,
@@ -102,7 +114,9 @@ impl<S: Alter> SqlDesk<S> {
     {
         let mut conn = conn;
         match examine_desk(alloc, &mut conn) {
-            Ok((counts, forms)) => Ok(SqlDesk::over(alloc, conn, counts, forms)),
+            Ok((counts, forms, tallies)) => {
+                Ok(SqlDesk::over(alloc, conn, counts, forms, tallies))
+            }
             Err(fault) => Err((fault, conn)),
         }
     }

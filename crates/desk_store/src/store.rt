@@ -1,45 +1,52 @@
 //! The store: the desk's rows over a connection.
 
-ghost use Rattle.std.specs.Prelude.{◌≡◌, ℕ, List, false, unwrap_or};
+ghost use Rattle.std.specs.Prelude.{◌≡◌, ℕ, List, false, unwrap_or, IfOk};
 ghost use Rattle.std.specs.List.{list_any};
 ghost use Rattle.std.specs.Str.{bytes_eq};
 ghost use Rattle.sqlite_trees.specs.Tree.{Trees};
 ghost use Rattle.sqlite.specs.Held.{state};
-ghost use Rattle.desk_rows.specs.Tables.{Tables};
-ghost use Rattle.desk_layout.specs.Held.{Stands, counted, known_of, seen_of};
-ghost use Rattle.desk_store.specs.Counting.{forms_after, known_by};
+ghost use Rattle.desk_rows.specs.Tables.{Tables, applied};
+ghost use Rattle.desk_access.specs.Seen.{Looked, OfRows};
+ghost use Rattle.desk_history.specs.Laws.{Ascends};
+ghost use Rattle.desk_layout.specs.Held.{Stands, known_of, seen_of};
+ghost use Rattle.desk_rows.specs.Keys.{release_below};
+ghost use Rattle.desk_tally.specs.Kept.{AreKept, Fits, IsPlaceFor, LeadsTo};
+ghost use Rattle.desk_store.specs.Counting.{forms_after, known_by, tallied};
 
 use crate::counts::{Counts, counts_after};
 use desk_access::store::Store;
 use desk_base::{Day, Items, Text};
 use desk_rows::{
     AttachedRow, Change, ChangeRow, DutyRow, Fault, PackageRow, Profile, ReleaseRow, Rule,
-    Standing, StoreFault,
+    Standing, StoreFault, Totals,
 };
+use desk_tally::{Step, Tallies};
 use sqlite::{Alter, Connection};
 use std::alloc::Global;
 
-/// Rows in a database, with how many there are of some and the forms of the catalogue in force.
+/// Rows in a database, with how many there are of some, the forms of the catalogue in force, and the tallies of the releases.
 #[derive(Drop)]
 pub struct SqlStore<S: Alter> {
     alloc: Global,
     conn: Connection<S>,
     counts: Counts,
     forms: Items<Text>,
+    tallies: Tallies,
     ghost idle: { conn.in_transaction ≡ false },
 }
 
 impl<S: Alter> SqlStore<S> {
-    /// The store over a connection that is in no transaction. Where the connection shows tables that have so many rows, and these are
-    /// the forms of the catalogue in force, they are the store's rows.
+    /// The store over a connection that is in no transaction. Where the connection shows tables that have so many rows, these are the
+    /// forms of the catalogue in force and the tallies are theirs, they are the store's rows.
     pub fn over(
         alloc: Global,
         conn: Connection<S>,
         counts: Counts,
         forms: Items<Text>,
+        tallies: Tallies,
     ) -> SqlStore<S>
         requires { conn.in_transaction ≡ false }
-        ensures holds { (t : Tables) → known_of t ≡ known_by counts forms → (seen_of (state S.Store conn)).holds t → (⟦<SqlStore<S> as Store>⟧.seen result).holds t }
+        ensures holds { (t : Tables) → known_of t ≡ known_by counts forms → AreKept tallies t → (seen_of (state S.Store conn)).holds t → (⟦<SqlStore<S> as Store>⟧.seen result).holds t }
         ensures same { result.conn ≡ conn }
     {
         SqlStore {
@@ -47,6 +54,7 @@ impl<S: Alter> SqlStore<S> {
             conn,
             counts,
             forms,
+            tallies,
         }
     }
 
@@ -61,6 +69,7 @@ impl<S: Alter> SqlStore<S> {
             conn,
             counts: _,
             forms: _,
+            tallies: _,
         } = self;
         conn
     }
@@ -72,10 +81,48 @@ impl<S: Alter> SqlStore<S> {
         ensures forms { self.new.forms ≡ forms_after change self.old.forms }
         ensures conn { self.new.conn ≡ self.old.conn }
         ensures counts { self.new.counts ≡ self.old.counts }
+        ensures tallies { self.new.tallies ≡ self.old.tallies }
     {
         match forms_of(change) {
             Some(forms) => self.forms = forms,
             None => {}
+        }
+    }
+}
+
+/// Of a freeze, the place of its release.
+fn place_for<S: Alter>(
+    alloc: Global,
+    conn: &mut Connection<S>,
+    change: &Change,
+) -> Result<Option<u32>, Fault>
+    ensures found { IfOk result (λ place. OfRows (IsPlaceFor change.now place) (seen_of (state S.Store conn.old)) (seen_of (state S.Store conn.new))) }
+    ensures kept { Looked (seen_of (state S.Store conn.old)) (seen_of (state S.Store conn.new)) result }
+    ensures mode { conn.old.in_transaction ≡ false → conn.new.in_transaction ≡ false }
+{
+    let Change::Froze { release, .. } = change else {
+        return Ok(None);
+    };
+    match desk_lookups::release(alloc, conn, release.as_str())? {
+        Some(row) => Ok(Some(row.place)),
+        None => Ok(None),
+    }
+}
+
+impl<S: Alter> SqlStore<S> {
+    /// What a change comes to for the tallies, with room made for it.
+    fn plan(&mut self, change: &Change) -> Result<Step, Fault>
+        ensures leads { IfOk result (λ step. OfRows (λ t. Ascends release_below (applied change.now t).releases → AreKept self.old.tallies t → LeadsTo step self.new.tallies (applied change.now t)) (seen_of (state S.Store self.old.conn)) (seen_of (state S.Store self.new.conn))) }
+        ensures fits { IfOk result (λ step. Fits step self.new.tallies) }
+        ensures kept { Looked (seen_of (state S.Store self.old.conn)) (seen_of (state S.Store self.new.conn)) result }
+        ensures tallies { (t : Tables) → AreKept self.old.tallies t → AreKept self.new.tallies t }
+        ensures counts { self.new.counts ≡ self.old.counts }
+        ensures forms { self.new.forms ≡ self.old.forms }
+    {
+        let place = place_for(self.alloc, &mut self.conn, change)?;
+        match self.tallies.plan(change, place)? {
+            Some(step) => Ok(step),
+            None => Err(Fault::Store(StoreFault::Rows)),
         }
     }
 }
@@ -105,7 +152,7 @@ impl<S: Alter> Store for SqlStore<S> {
 
     ghost stands = { Stands };
 
-    ghost seen = { λ s. counted (known_by s.counts s.forms) (seen_of (state S.Store s.conn)) };
+    ghost seen = { λ s. tallied s.tallies (known_by s.counts s.forms) (seen_of (state S.Store s.conn)) };
 
     ghost tells = { λ fault. Unit {0} };
 
@@ -206,6 +253,13 @@ impl<S: Alter> Store for SqlStore<S> {
         desk_lookups::duties_of(self.alloc, &mut self.conn, release)
     }
 
+    fn tally(&mut self, release: &str) -> Result<Option<Totals>, Fault> {
+        match desk_lookups::release(self.alloc, &mut self.conn, release)? {
+            Some(row) => Ok(self.tallies.totals(row.place)),
+            None => Ok(None),
+        }
+    }
+
     fn standings_of(&mut self, release: &str) -> Result<Vec<Standing>, Fault> {
         desk_lookups::standings_of(self.alloc, &mut self.conn, self.counts.duties, release)
     }
@@ -230,9 +284,11 @@ impl<S: Alter> Store for SqlStore<S> {
         let Some(counts) = counts_after(&change, self.counts) else {
             return Err(Fault::Store(StoreFault::Rows));
         };
+        let step = self.plan(&change)?;
         match desk_writing::commit(self.alloc, &mut self.conn, &change) {
             Ok(()) => {
                 self.counts = counts;
+                self.tallies.take(step);
                 self.take_forms(change);
                 Ok(())
             }

@@ -12,4 +12,4 @@ returns-in-Ok-clause-found c = λ h t held.
     let document = c.args.document in
     c.in-Ok.ensures
     ∙ filter_within (is_shipped_by document) (is_package_of document) (λ row e. and_left (row.document == document) row.shipped e) c.among-rows.result.now c.args.self.now.packages.rows.items c.among-rows.ensures
-    ∙ ap (λ (u : Tables). filter (is_shipped_by document) u.packages) held
+    ∙ ap (λ (u : Tables). filter (is_shipped_by document) u.packages) held.0

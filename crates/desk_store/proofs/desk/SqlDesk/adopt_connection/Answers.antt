@@ -7,5 +7,7 @@ pub returns-in-Ok-clause-holds : goal.returns-in-Ok-clause-holds
 returns-in-Ok-clause-holds g c = λ w right honest h ok held.
     let old = state g.S.Store c.args.conn in
     let new = state g.S.Store c.examine_desk.new.conn in
-    let known = c.in-Ok.ensures.known w right (rw c.over.ensures.same at honest) h ok held in
-    c.over.ensures.holds (tables w h) known ((kept old new c.in-Ok.ensures.stayed.0).spared.holds (tables w h) held)
+    let clean = rw c.over.ensures.same at honest in
+    let known = c.in-Ok.ensures.known w right clean h ok held in
+    let tallies = c.in-Ok.ensures.kept clean (tables w h) held in
+    c.over.ensures.holds (tables w h) known tallies ((kept old new c.in-Ok.ensures.stayed.0).spared.holds (tables w h) held)

@@ -1,0 +1,23 @@
+use Rattle.sqlite.specs.Held.{state}
+use Rattle.desk_access.proofs.Chains.{looked_err}
+use Rattle.desk_layout.specs.Held.{seen_of}
+use Rattle.desk_store.specs.Counting.{known_by}
+use Rattle.desk_store.proofs.Counted.{looked, same}
+use Rattle.desk_store.proofs.store.SqlStoreStore.tally.Goals as goal
+
+pub returns-in_err-row-clause-kept : goal.returns-in_err-row-clause-kept
+returns-in_err-row-clause-kept g c =
+    let self = c.args.self.now in
+    let old = seen_of (state g.S.Store self.conn) in
+    let new = seen_of (state g.S.Store c.release.new.conn) in
+    looked self.tallies (known_by self.counts self.forms) old new c.from_residual.result (looked_err old new c.from_residual.result c.from_residual.ensures.0 c.in_err-row.ensures.kept)
+
+pub returns-in-Some-clause-kept : goal.returns-in-Some-clause-kept
+returns-in-Some-clause-kept g c =
+    let self = c.args.self.now in
+    same self.tallies (known_by self.counts self.forms) (seen_of (state g.S.Store self.conn)) (seen_of (state g.S.Store c.release.new.conn)) c.in_ok-row.ensures.kept
+
+pub returns-in-None-clause-kept : goal.returns-in-None-clause-kept
+returns-in-None-clause-kept g c =
+    let self = c.args.self.now in
+    same self.tallies (known_by self.counts self.forms) (seen_of (state g.S.Store self.conn)) (seen_of (state g.S.Store c.release.new.conn)) c.in_ok-row.ensures.kept

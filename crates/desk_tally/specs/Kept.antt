@@ -1,0 +1,98 @@
+-- What tallies are to the rows of tables.
+use Rattle.std.specs.Prelude.{◌≡◌, ◌<◌, ◌≤◌, ℕ, ◌+◌, ◌==◌, ◌&&◌, nat_le, Bool, true, false, List, [], ◌∷◌, length, find, map, Option, Some, unwrap_or, vec_len}
+use Rattle.std.specs.Vec.{vec_capacity}
+use Rattle.std.specs.Option.{option_map}
+use Rattle.std.specs.Str.{bytes_eq}
+use Rattle.desk_rows.specs.Keys.{is_release}
+use Rattle.desk_rows.specs.States.{is_open}
+use Rattle.desk_rows.specs.Tables.{Tables}
+use Rattle.desk_rows.specs.declared.row.ChangeRow.{ChangeRow}
+use Rattle.desk_rows.specs.declared.row.DutyRow.{DutyRow}
+use Rattle.desk_rows.specs.declared.row.ReleaseRow.{ReleaseRow}
+use Rattle.desk_rows.specs.declared.command.Change.{Change}
+use Rattle.desk_rows.specs.declared.command.Change.TheVariants as change
+use Rattle.desk_access.specs.Follows.{are_numbered}
+use Rattle.desk_tally.specs.Stands.{are_duties, are_placed, are_places, stands_after, count_after, shift_of}
+use Rattle.desk_tally.specs.declared.stand.Stand.{Stand}
+use Rattle.desk_tally.specs.declared.stand.Step.{Step}
+use Rattle.desk_tally.specs.declared.stand.Step.TheVariants as step
+use Rattle.desk_tally.specs.declared.tallies.Tallies.{Tallies}
+
+-- the place of the release with a name
+abbrev pub place_found : List ReleaseRow → List ℕ → Option ℕ
+place_found releases name = option_map (λ row. row.place) (find (is_release name) releases)
+
+-- where a duty stands; a release that isn't there is at 0
+abbrev pub stand_of : List ReleaseRow → DutyRow → Stand
+stand_of releases row = record { place = unwrap_or (place_found releases row.release) 0; state = row.state }
+
+-- releases are at places from 1 to their number, and no two at one
+pub record ArePlaces (releases : List ReleaseRow) : Type 0 where
+  pub within : (name : List ℕ) (place : ℕ) → place_found releases name ≡ Some place → (1 ≤ place) × (place ≤ length releases)
+  pub apart : (name other : List ℕ) (place : ℕ) → place_found releases name ≡ Some place → place_found releases other ≡ Some place → name ≡ other
+
+-- so many releases, and where each duty stands by its number: what tallies keep of these tables
+pub record IsKept (count : ℕ) (all : List Stand) (t : Tables) : Type 0 where
+  pub opened : count ≡ length t.releases
+  pub stands : all ≡ map (stand_of t.releases) t.duty
+  pub places : ArePlaces t.releases
+  pub numbered : are_numbered 1 t.duty ≡ true
+
+-- the tallies are those of these tables
+abbrev pub AreKept : Tallies → Tables → Type 0
+AreKept tallies t = IsKept (length tallies.tallies.items) tallies.stands.items t
+
+-- and after a step, of these
+abbrev pub LeadsTo : Step → Tallies → Tables → Type 0
+LeadsTo s tallies t = IsKept (count_after s (length tallies.tallies.items)) (stands_after s tallies.stands.items) t
+
+-- there is room for a step, and it names releases and duties that stand
+abbrev pub Fits : Step → Tallies → Type 0
+Fits step.Stay tallies = Unit {0}
+Fits step.Open tallies = vec_len tallies.tallies < vec_capacity tallies.tallies
+Fits (step.Raise place count) tallies =
+    (1 ≤ place) × (place ≤ length tallies.tallies.items) × (length tallies.stands.items + count ≤ 100000)
+    × (vec_len tallies.stands + count ≤ vec_capacity tallies.stands)
+Fits (step.Move shifts) tallies = are_duties (length tallies.stands.items) shifts ≡ true
+
+-- of a release that is frozen, its place
+abbrev pub IsPlaceFor : Change → Option ℕ → Tables → Type 0
+IsPlaceFor (change.Froze release revision rows duties changes) place t = place ≡ place_found t.releases release
+IsPlaceFor _ place t = Unit {0}
+
+-- new duties of a release, open and numbered on from n
+abbrev pub are_raised : ℕ → List ℕ → List DutyRow → Bool
+are_raised n release [] = true
+are_raised n release (row ∷ rows) = ((row.number == n) && (bytes_eq row.release release && is_open row.state)) && are_raised (n + 1) release rows
+
+-- new duties of the release at a place, which are at most 100,000 with those that stand
+pub record IsRaise (release : List ℕ) (duties : List DutyRow) (place : Option ℕ) (all : List Stand) (s : Step) : Type 0 where
+  pub at : ℕ
+  pub found : place ≡ Some at
+  pub is : s ≡ step.Raise at (length duties)
+  pub raised : are_raised (length all + 1) release duties ≡ true
+
+-- moves of duties that stand
+abbrev pub IsMove : List ChangeRow → List Stand → Step → Type 0
+IsMove changes all s = (s ≡ step.Move (map shift_of changes)) × (are_duties (length all) (map shift_of changes) ≡ true)
+
+-- the step of a change, over so many releases
+abbrev pub IsStep : Change → Option ℕ → ℕ → List Stand → Step → Type 0
+IsStep (change.Opened row) place count all s = (s ≡ step.Open) × (row.place ≡ count + 1)
+IsStep (change.Froze release revision rows duties changes) place count all s = IsRaise release duties place all s
+IsStep (change.Moved changes) place count all s = IsMove changes all s
+IsStep (change.Withdrew release changes) place count all s = IsMove changes all s
+IsStep _ place count all s = s ≡ step.Stay
+
+-- what tallies are counted from: the places of the tables' releases, and where each duty stands by its number
+pub record AreCounted (places : List ℕ) (all : List Stand) (t : Tables) : Type 0 where
+  pub releases : places ≡ map (λ row. row.place) t.releases
+  pub stands : all ≡ map (stand_of t.releases) t.duty
+  pub numbered : are_numbered 1 t.duty ≡ true
+
+abbrev pub can_count : List ℕ → List Stand → Bool
+can_count places all = nat_le (length all) 100000 && (are_placed (length places) all && are_places (length places) (λ place. false) places)
+
+-- duties that are numbered from 1 on, each of a release that stands, at most 100,000; and releases at the places from 1 to their number
+abbrev pub are_countable : List ReleaseRow → List DutyRow → Bool
+are_countable releases duties = are_numbered 1 duties && can_count (map (λ row. row.place) releases) (map (stand_of releases) duties)

@@ -1,0 +1,4 @@
+pub mod Numbers
+pub mod Totals
+pub mod Stands
+pub mod Kept
