@@ -1,6 +1,7 @@
 pub mod ElementLemmas
 pub mod LoopLemmas
 pub mod TargetLemmas
+pub mod AscendLemmas
 pub mod WalkLemmas
 pub mod ShippingLemmas
 pub mod ContentsLemmas

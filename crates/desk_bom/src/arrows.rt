@@ -3,13 +3,13 @@
 ghost use Rattle.std.specs.Prelude.{◌≡◌, ◌<◌, ◌++◌, ◌∷◌, [], ℕ, List, Contains, All, IfOk, OnOk, false, length, count_by, map, slice_index_or, replicate};
 ghost use Rattle.std.specs.List.Sorted.{IsNonDecreasingBy};
 ghost use Rattle.desk_bom.specs.Marks.{among, added, added_all, IsLeastFrom};
-ghost use Rattle.desk_bom.specs.Targets.{AreTargets};
+ghost use Rattle.desk_bom.specs.Targets.{AreTargets, Ascend};
 ghost use Rattle.desk_bom.specs.Shipping.{arrow_between};
 
 use std::alloc::{AllocError, Global};
 
-/// An arrow from one place to another.
-#[derive(Debug, Clone, Copy)]
+/// An arrow from one place to another. Arrows are ordered by where they come from, then by where they lead.
+#[derive(Debug, Clone, Copy, PartialEq, Eq, PartialOrd, Ord)]
 pub(crate) struct Arrow {
     pub from: usize,
     pub to: usize,
@@ -98,7 +98,8 @@ impl Reached {
 /// The arrows that come from a place.
 pub(crate) fn targets(arrows: &[Arrow], place: usize) -> &[Arrow]
     requires { IsNonDecreasingBy (λ x. x.from) arrows.now }
-    ensures { AreTargets arrows.now place result.now }
+    ensures targets { AreTargets arrows.now place result.now }
+    ensures order { Ascend arrows.now → Ascend result.now }
 {
     let start = arrows.partition_point(|arrow| arrow.from < place);
     let rest = &arrows[start..];

@@ -2,11 +2,12 @@ use Rattle.std.proofs.Common.{◌-◌, length, take, drop, rules, ltb, leb}
 use Rattle.std.proofs.lemmas.List.Sorted.{IsPartitionedBy-ltb, IsPartitionedBy-leb, IsPartitionPoint-from_clause, IsNonDecreasingBy-take, IsNonDecreasingBy-drop}
 use Rattle.std.proofs.lemmas.List.{take_rest}
 use Rattle.desk_bom.specs.declared.arrows.Arrow.{Arrow}
+use Rattle.desk_bom.proofs.AscendLemmas.{ascend_take, ascend_drop}
 use Rattle.desk_bom.proofs.TargetLemmas.{are_targets}
 use Rattle.desk_bom.proofs.arrows.targets.Goals as goal
 
-pub returns : goal.returns
-returns c =
+pub returns-clause-targets : goal.returns-clause-targets
+returns-clause-targets c =
     let xs = c.args.arrows.now in
     let from = λ (x : Arrow). x.from in
     let s = c.partition_point-start.result in
@@ -15,3 +16,9 @@ returns c =
     are_targets xs rest c.args.place s c.partition_point-end.result (take_rest xs s)
     (IsPartitionPoint-from_clause (λ x. ltb x.from c.args.place) xs s c.partition_point-start.ensures.partitioned (IsPartitionedBy-ltb from xs c.args.place c.requires) (λ a r q k. search rules))
     (IsPartitionPoint-from_clause (λ x. leb x.from c.args.place) rest c.partition_point-end.result c.partition_point-end.ensures.partitioned (IsPartitionedBy-leb from rest c.args.place sorted) (λ a r q k. search rules))
+
+pub returns-clause-order : goal.returns-clause-order
+returns-clause-order c = λ up.
+    let xs = c.args.arrows.now in
+    let s = c.partition_point-start.result in
+    ascend_take c.partition_point-end.result (take (length xs - s) (drop s xs)) (ascend_take (length xs - s) (drop s xs) (ascend_drop s xs up))
