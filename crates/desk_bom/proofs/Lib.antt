@@ -6,5 +6,5 @@ pub mod WalkLemmas
 pub mod ShippingLemmas
 pub mod ContentsLemmas
 pub mod CodeLemmas
-pub mod Guesses
+pub mod SlotLemmas
 pub mod OneState

@@ -19,7 +19,7 @@ use Rattle.desk_bom.specs.declared.state.Excluded.{Excluded}
 use Rattle.desk_bom.specs.declared.state.CodeState.{CodeState}
 use Rattle.desk_bom.specs.declared.state.CodeState.TheVariants as states
 use Rattle.desk_bom.specs.Contents.{AreFilesOf}
-use Rattle.desk_bom.specs.Places.{place_in}
+use Rattle.desk_bom.specs.Places.{place_of, texts}
 
 -- the code of some digests: each as 40 small digits, sorted, joined; the SHA1 of that text in small digits
 pub record IsCode (digests : List (List ℕ)) (code : List ℕ) : Type 0 where
@@ -131,7 +131,7 @@ files_at files arrows = filter_map (slice_get files) (map (λ x. x.to) arrows)
 -- whether a name is among those that were noted
 abbrev pub is_noted : Option Places → List ℕ → Bool
 is_noted None q = false
-is_noted (Some places) q = is_some (place_in places.tree q)
+is_noted (Some places) q = is_some (place_of q (texts places.ids.items))
 
 abbrev pub has_name : Excluded → List ℕ → Bool
 has_name excluded q = is_noted excluded.places q
