@@ -1,6 +1,6 @@
 //! The places of identifiers among others.
 
-ghost use Rattle.std.specs.Prelude.{◌≡◌, ◌<◌, ◌+◌, ℕ, List, IfOk, OnOk, length};
+ghost use Rattle.std.specs.Prelude.{◌≡◌, ◌<◌, ◌+◌, ℕ, List, Option, IfOk, OnOk, length};
 ghost use Rattle.desk_bom.specs.Places.{texts, tail_number, slot_of, place_of, found, Finds};
 
 use std::alloc::{AllocError, Global};
@@ -82,7 +82,7 @@ pub(crate) struct Places<'a> {
     slots: Vec<usize>,
     tree: BTreeMap<&'a str, usize>,
     ghost room: { 0 < length slots.items },
-    ghost finds: { (id : List ℕ) → found (texts ids.items) slots.items tree id ≡ place_of id (texts ids.items) },
+    ghost finds: { (id : List ℕ) (place : Option ℕ) → found (texts ids.items) slots.items tree id ≡ place → place_of id (texts ids.items) ≡ place },
 }
 
 impl<'a> Places<'a> {

@@ -42,5 +42,5 @@ invariant_of-result c =
     let count = c.loop-place.invariant.count in
     record {
       room = c.loop-place.invariant.room;
-      finds = λ q. c.loop-place.invariant.finds q ∙ ap (place_of q) (take_all c.loop-place.place (texts ids) (omega arith));
+      finds = λ q place is. sym (c.loop-place.invariant.finds q ∙ ap (place_of q) (take_all c.loop-place.place (texts ids) (omega arith))) ∙ is;
     }
