@@ -102,7 +102,7 @@ impl Contents {
         let mut arrows = Vec::new(alloc);
         add_own(&mut arrows, document.entries.as_slice())?;
         add_tied(&mut arrows, document, elements)?;
-        arrows.sort_unstable();
+        arrows.sort()?;
         arrows.dedup();
         Ok(Contents { arrows })
     }
