@@ -1,9 +1,10 @@
 -- Codes and what they exclude.
 use Rattle.std.proofs.Common.{◌≡◌, ◌∙◌, ℕ, ◌+◌, ◌<◌, Bool, true, false, cond, List, [], ◌∷◌, ◌++◌, length, take, drop, get_or, ap, sym, subst, refl, arith, eqb, Option, Some, None}
-use Rattle.std.specs.Prelude.{◌&&◌, IfNone, MatchOption, codes, nat_le, map}
-use Rattle.std.specs.List.{starts_with, ends_with, list_all}
+use Rattle.std.specs.Prelude.{◌&&◌, ◌||◌, IfNone, MatchOption, codes, nat_le, map, slice_get}
+use Rattle.std.specs.List.{starts_with, ends_with, list_all, list_any, filter_map, cons_option}
+use Rattle.std.specs.Option.{is_some}
 use Rattle.std.specs.Str.Pattern.{FindsTextSuffix, StripsSuffix}
-use Rattle.std.specs.Str.{IsCharBoundary, IsUtf8}
+use Rattle.std.specs.Str.{IsCharBoundary, IsUtf8, bytes_eq}
 use Rattle.std.proofs.lemmas.Str.Pattern.{ends_text}
 use denote.Ref.{Bor}
 use Rattle.std.specs.Char.{to_ascii_lowercase}
@@ -16,10 +17,10 @@ use Rattle.hex.specs.Hex.{encode_lower, encode_with, lower_digits}
 use Rattle.desk_base.specs.Folded.{folded}
 use Rattle.desk_tagvalue.specs.Parts.{is_hex, DocumentText, PackageText, FileText}
 use Rattle.std.proofs.Common.{append_assoc}
-use Rattle.desk_tagvalue.specs.declared.parts.FileEntry.{FileEntry}
-use Rattle.desk_tagvalue.specs.Views.{file_text}
 use Rattle.desk_bom.proofs.LoopLemmas.{seen_more}
-use Rattle.desk_bom.specs.Codes.{is_list, is_code, is_excluded, digest_spelled, digests_of, both, IsStateOf, IsStateAt}
+use Rattle.desk_bom.specs.declared.arrows.Arrow.{Arrow}
+use Rattle.desk_bom.specs.Places.{place_of, later}
+use Rattle.desk_bom.specs.Codes.{is_list, is_code, is_excluded, digest_spelled, digests_of, both, files_at, IsStateOf, IsStateAt}
 use Rattle.desk_bom.specs.Contents.{AreFilesOf}
 use Rattle.desk_bom.specs.declared.state.CodeState.{CodeState}
 use Rattle.desk_bom.specs.declared.state.CodeState.TheVariants.{Absent, Unchecked, Agrees, Differs}
@@ -84,27 +85,45 @@ one_behind : (found : List (List ℕ)) (x : List ℕ) (rest : Option (List (List
 one_behind found x None = refl
 one_behind found x (Some ys) = ap (λ l. Some l) (append_assoc found (x ∷ []) ys)
 
-module _ (xs : List FileEntry) (i : ℕ) (d : FileEntry) (inside : i < length xs) (names : List (List ℕ)) where
-  parted : digests_of names (map file_text (drop i xs)) ≡ cond (is_excluded names (file_text (get_or xs i d))) (digests_of names (map file_text (drop (i + 1) xs)))
-      (both (digest_spelled (file_text (get_or xs i d)).sha1) (digests_of names (map file_text (drop (i + 1) xs))))
-  parted = ap (digests_of names) (seen_more file_text xs i d inside)
+-- what the next file adds to the digests
+module _ (names : List (List ℕ)) (f : FileText) (rest whole : List FileText) (parted : whole ≡ f ∷ rest) where
+  split : digests_of names whole ≡ cond (is_excluded names f) (digests_of names rest) (both (digest_spelled f.sha1) (digests_of names rest))
+  split = ap (digests_of names) parted
 
-  pub excluded_passed : is_excluded names (file_text (get_or xs i d)) ≡ true → digests_of names (map file_text (drop (i + 1) xs)) ≡ digests_of names (map file_text (drop i xs))
-  excluded_passed is = sym (parted ∙ rw is)
+  pub excluded_passed : is_excluded names f ≡ true → digests_of names rest ≡ digests_of names whole
+  excluded_passed is = sym (split ∙ rw is)
 
-  pub digest_passed : (found : List (List ℕ)) (digest : List ℕ) → is_excluded names (file_text (get_or xs i d)) ≡ false → digest_spelled (file_text (get_or xs i d)).sha1 ≡ Some digest
-      → behind_front (found ++ digest ∷ []) (digests_of names (map file_text (drop (i + 1) xs))) ≡ behind_front found (digests_of names (map file_text (drop i xs)))
-  digest_passed found digest other is =
-      one_behind found digest (digests_of names (map file_text (drop (i + 1) xs))) ∙ ap (λ o. behind_front found (both o (digests_of names (map file_text (drop (i + 1) xs))))) (sym is)
-      ∙ ap (λ b. behind_front found (cond b (digests_of names (map file_text (drop (i + 1) xs))) (both (digest_spelled (file_text (get_or xs i d)).sha1) (digests_of names (map file_text (drop (i + 1) xs)))))) (sym other)
-      ∙ ap (behind_front found) (sym parted)
+  counted : (digest : Option (List ℕ)) → is_excluded names f ≡ false → digest_spelled f.sha1 ≡ digest → both digest (digests_of names rest) ≡ digests_of names whole
+  counted digest other is = ap (λ o. both o (digests_of names rest)) (sym is) ∙ ap (λ b. cond b (digests_of names rest) (both (digest_spelled f.sha1) (digests_of names rest))) (sym other) ∙ sym split
 
-  pub digest_missing : (found : List (List ℕ)) → is_excluded names (file_text (get_or xs i d)) ≡ false → digest_spelled (file_text (get_or xs i d)).sha1 ≡ None
-      → ◌≡◌ {A = Option (List (List ℕ))} None (behind_front found (digests_of names (map file_text (drop i xs))))
-  digest_missing found other is =
-      ap (λ o. behind_front found (both o (digests_of names (map file_text (drop (i + 1) xs))))) (sym is)
-      ∙ ap (λ b. behind_front found (cond b (digests_of names (map file_text (drop (i + 1) xs))) (both (digest_spelled (file_text (get_or xs i d)).sha1) (digests_of names (map file_text (drop (i + 1) xs)))))) (sym other)
-      ∙ ap (behind_front found) (sym parted)
+  pub digest_passed : (found : List (List ℕ)) (digest : List ℕ) → is_excluded names f ≡ false → digest_spelled f.sha1 ≡ Some digest
+      → behind_front (found ++ digest ∷ []) (digests_of names rest) ≡ behind_front found (digests_of names whole)
+  digest_passed found digest other is = one_behind found digest (digests_of names rest) ∙ ap (behind_front found) (counted (Some digest) other is)
+
+  pub digest_missing : (found : List (List ℕ)) → is_excluded names f ≡ false → digest_spelled f.sha1 ≡ None
+      → ◌≡◌ {A = Option (List (List ℕ))} None (behind_front found (digests_of names whole))
+  digest_missing found other is = ap (behind_front found) (counted None other is)
+
+-- the files at the ends of arrows, from one arrow on
+module _ (files : List FileText) (xs : List Arrow) (i : ℕ) (d : Arrow) (inside : i < length xs) where
+  next_file : files_at files (drop i xs) ≡ cons_option (slice_get files (get_or xs i d).to) (files_at files (drop (i + 1) xs))
+  next_file = ap (filter_map (slice_get files)) (seen_more (λ (x : Arrow). x.to) xs i d inside)
+
+  pub file_next : (f : FileText) → slice_get files (get_or xs i d).to ≡ Some f → files_at files (drop i xs) ≡ f ∷ files_at files (drop (i + 1) xs)
+  file_next f is = next_file ∙ ap (λ o. cons_option o (files_at files (drop (i + 1) xs))) is
+
+  pub no_file_next : slice_get files (get_or xs i d).to ≡ None → files_at files (drop (i + 1) xs) ≡ files_at files (drop i xs)
+  no_file_next is = sym (next_file ∙ ap (λ o. cons_option o (files_at files (drop (i + 1) xs))) is)
+
+-- a name that has a place is one of those
+pub is_some_place : (q : List ℕ) (names : List (List ℕ)) → is_some (place_of q names) ≡ list_any (λ name. bytes_eq name q) names
+is_some_place q [] = refl
+is_some_place q (x ∷ xs) = either (bytes_eq x q) (place_of q xs) ∙ ap (λ b. bytes_eq x q || b) (is_some_place q xs)
+  where
+    either : (b : Bool) (place : Option ℕ) → is_some (cond b (Some 0) (later place)) ≡ (b || is_some place)
+    either true place = refl
+    either false None = refl
+    either false (Some n) = refl
 
 pub state_at : (d : DocumentText) (k : ℕ) (p : PackageText) (fs : List FileText) (state : CodeState) → AreFilesOf d k fs → IsStateOf p fs state → IsStateAt d k p state
 state_at d k p fs Absent files is = is

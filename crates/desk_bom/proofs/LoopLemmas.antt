@@ -3,7 +3,6 @@ use Rattle.std.proofs.Common.{◌≡◌, ◌∙◌, ℕ, ◌+◌, ◌<◌, Bool,
 use Rattle.std.specs.Prelude.{Option, Some, None, map, ◌||◌}
 use Rattle.std.specs.List.{list_any, filter_map, cons_option, concat}
 use Rattle.std.proofs.lemmas.List.Folds.{concat-append}
-use Rattle.std.proofs.lemmas.List.Elements.{filter_map-append}
 use Rattle.std.proofs.lemmas.List.{drop_more, take_more}
 
 module _ {X Y : Type 0} (f : X → Y) (xs : List X) (i : ℕ) (d : X) (inside : i < length xs) where
@@ -27,14 +26,3 @@ module _ {X Y : Type 0} (f : X → Y) (xs : List X) (i : ℕ) (d : X) (inside : 
 pub concat_more : (xs : List (List ℕ)) (i : ℕ) (d : List ℕ) → i < length xs → concat (take i xs) ++ get_or xs i d ≡ concat (take (i + 1) xs)
 concat_more xs i d inside =
     ap (λ l. concat (take i xs) ++ l) (sym (append-nil (get_or xs i d))) ∙ sym (concat-append (take i xs) (get_or xs i d ∷ [])) ∙ ap concat (sym (take_more xs i d inside))
-
--- one element more that a filter keeps, or leaves out
-module _ {X Z : Type 0} (h : X → Option Z) (xs : List X) (i : ℕ) (d : X) (inside : i < length xs) where
-  one_on : filter_map h (take (i + 1) xs) ≡ filter_map h (take i xs) ++ cons_option (h (get_or xs i d)) []
-  one_on = ap (filter_map h) (take_more xs i d inside) ∙ filter_map-append h (take i xs) (get_or xs i d ∷ [])
-
-  pub taken_more : (z : Z) → h (get_or xs i d) ≡ Some z → filter_map h (take (i + 1) xs) ≡ filter_map h (take i xs) ++ z ∷ []
-  taken_more z is = one_on ∙ ap (λ o. filter_map h (take i xs) ++ cons_option o []) is
-
-  pub taken_over : h (get_or xs i d) ≡ None → filter_map h (take (i + 1) xs) ≡ filter_map h (take i xs)
-  taken_over is = one_on ∙ ap (λ o. filter_map h (take i xs) ++ cons_option o []) is ∙ append-nil (filter_map h (take i xs))

@@ -1,15 +1,24 @@
 -- The run of the arrows that come from a place.
-use Rattle.std.proofs.Common.{◌≡◌, ◌∙◌, ⊎_elim, ℕ, ◌+◌, ◌-◌, ◌<◌, ◌≤◌, true, false, List, length, take, drop, get_or, ap, sym, refl, subst, ltb, leb, arith, length-take, length-drop, get_or-take, get_or-drop}
+use Rattle.std.proofs.Common.{◌≡◌, ◌∙◌, ⊎_elim, ℕ, ◌+◌, ◌-◌, ◌<◌, ◌≤◌, true, false, List, length, take, drop, get_or, ap, sym, refl, subst, ltb, arith, length-take, length-drop, get_or-take, get_or-drop}
 use Rattle.std.specs.Prelude.{Contains, map}
 use Rattle.std.proofs.lemmas.List.{get_or-map, length-map}
 use Rattle.std.proofs.lemmas.List.Elements.{Contains-get_or}
-use Rattle.std.specs.List.Sorted.{IsPartitionPoint}
-use Rattle.std.proofs.lemmas.Bool.{ltb-true, ltb-false, leb-true, leb-false, cases_lt}
+use Rattle.std.specs.List.{AllWithin}
+use Rattle.std.specs.List.Sorted.{IsPartitionPoint, IsNonDecreasingBy}
+use Rattle.std.proofs.lemmas.List.{get_or_default}
+use Rattle.std.proofs.lemmas.Bool.{ltb-true, ltb-false, cases_lt}
 use Rattle.desk_bom.specs.declared.arrows.Arrow.{Arrow}
 use Rattle.desk_bom.specs.Targets.{AreTargets}
 
+-- all from one on that comes from a higher place do
+pub above_all : (xs : List Arrow) (place i n : ℕ) (e : Arrow) → IsNonDecreasingBy (λ x. x.from) xs → i < length xs → place < (get_or xs i e).from → n ≡ i → AllWithin (λ x. place < x.from) xs n (length xs)
+above_all xs place i n e up inside high same k d ge within =
+    let a = up i k d (omega arith) within in
+    let b = ap (λ (x : Arrow). x.from) (get_or_default xs i d e inside) in
+    omega arith
+
 module _ (xs rest : List Arrow) (place s n : ℕ) (behind : rest ≡ drop s xs) (below : IsPartitionPoint (λ x. ltb x.from place ≡ true) (λ x. ltb x.from place ≡ false) xs s)
-    (upto : IsPartitionPoint (λ x. leb x.from place ≡ true) (λ x. leb x.from place ≡ false) rest n) where
+    (upto : AllWithin (λ x. x.from ≤ place) rest 0 n) (above : AllWithin (λ x. place < x.from) rest n (length rest)) where
   rest_at : (k : ℕ) (x : Arrow) → get_or rest k x ≡ get_or xs (s + k) x
   rest_at k x = ap (λ l. get_or l k x) behind ∙ get_or-drop s xs k x
 
@@ -31,7 +40,7 @@ module _ (xs rest : List Arrow) (place s n : ℕ) (behind : rest ≡ drop s xs) 
 
       late : (k : ℕ) → n ≤ k → k < length rest → get_or rest k x ≡ x → ⊥
       late k ge inside at =
-          let t = leb-false x.from place (subst (λ (y : Arrow). leb y.from place ≡ false) at (upto.1 k x ge inside)) in
+          let t = subst (λ (y : Arrow). place < y.from) at (above k x ge inside) in
           omega arith
 
   only : (x : Arrow) → Contains (take n rest) x → Contains xs x × (x.from ≡ place)
@@ -45,7 +54,7 @@ module _ (xs rest : List Arrow) (place s n : ℕ) (behind : rest ≡ drop s xs) 
       let there : get_or rest h.0 x ≡ x = sym (get_or-take n rest h.0 x in_take) ∙ h.2 in
       let at : get_or xs (s + h.0) x ≡ x = sym (rest_at h.0 x) ∙ there in
       let least = ltb-false x.from place (subst (λ (y : Arrow). ltb y.from place ≡ false) at (below.1 (s + h.0) x (omega arith) inside)) in
-      let most = leb-true x.from place (subst (λ (y : Arrow). leb y.from place ≡ true) there (upto.0 h.0 x (omega arith) in_take)) in
+      let most = subst (λ (y : Arrow). y.from ≤ place) there (upto h.0 x (omega arith) in_take) in
       ((s + h.0, inside, at), omega arith)
 
   pub are_targets : AreTargets xs place (take n rest)

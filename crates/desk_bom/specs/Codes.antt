@@ -1,6 +1,7 @@
 -- Package verification codes (SPDX 2.3, clause 7.9).
 use Rattle.std.specs.Prelude.{◌≡◌, ◌≢◌, ℕ, not, ◌-◌, ◌==◌, ◌&&◌, ◌||◌, nat_eq, nat_le, Bool, false, List, [], ◌∷◌, length, take, drop, map, Option, Some, None, if◌then◌else◌, codes, slice_get, Vec}
-use Rattle.std.specs.List.{concat, list_all, list_any, starts_with, ends_with, slice_split}
+use Rattle.std.specs.List.{concat, list_all, list_any, starts_with, ends_with, slice_split, filter_map}
+use Rattle.std.specs.Option.{is_some}
 use Rattle.std.specs.List.Sorted.{IsPermutation, IsSorted}
 use Rattle.std.specs.Ordering.{nat_cmp}
 use Rattle.std.specs.Cmp.Lexicographic.{slice_cmp}
@@ -12,9 +13,13 @@ use Rattle.hex.specs.Hex.{encode_lower, decode_sized}
 use Rattle.desk_base.specs.Folded.{folded}
 use Rattle.desk_fields.specs.Text.{skip_blanks, trimmed}
 use Rattle.desk_tagvalue.specs.Parts.{DocumentText, PackageText, FileText, is_hex}
+use Rattle.desk_bom.specs.declared.arrows.Arrow.{Arrow}
+use Rattle.desk_bom.specs.declared.places.Places.{Places}
+use Rattle.desk_bom.specs.declared.state.Excluded.{Excluded}
 use Rattle.desk_bom.specs.declared.state.CodeState.{CodeState}
 use Rattle.desk_bom.specs.declared.state.CodeState.TheVariants as states
 use Rattle.desk_bom.specs.Contents.{AreFilesOf}
+use Rattle.desk_bom.specs.Places.{place_of, texts}
 
 -- the code of some digests: each as 40 small digits, sorted, joined; the SHA1 of that text in small digits
 pub record IsCode (digests : List (List ℕ)) (code : List ℕ) : Type 0 where
@@ -118,3 +123,15 @@ pub record IsState (d : DocumentText) (k : ℕ) (state : CodeState) : Type 0 whe
 abbrev pub items_of : Option (Vec (List ℕ) Global) → Option (List (List ℕ))
 items_of None = None
 items_of (Some v) = Some v.items
+
+-- the files at the ends of arrows
+abbrev pub files_at : List FileText → List Arrow → List FileText
+files_at files arrows = filter_map (slice_get files) (map (λ x. x.to) arrows)
+
+-- whether a name is among those that were noted
+abbrev pub is_noted : Option Places → List ℕ → Bool
+is_noted None q = false
+is_noted (Some places) q = is_some (place_of q (texts places.ids.items))
+
+abbrev pub has_name : Excluded → List ℕ → Bool
+has_name excluded q = is_noted excluded.places q

@@ -2,7 +2,7 @@
 -- files, the snippets.
 use Rattle.std.specs.Prelude.{ℕ, List, ◌∷◌, ◌++◌, map, Option, codes}
 use Rattle.desk_bom.specs.declared.elements.Elements.{Elements}
-use Rattle.desk_bom.specs.Places.{place_of, place_in}
+use Rattle.desk_bom.specs.Places.{place_of, texts}
 use Rattle.desk_tagvalue.specs.Parts.{DocumentText}
 
 abbrev pub package_ids : DocumentText → List (List ℕ)
@@ -24,7 +24,7 @@ element_named d id = place_of id (element_ids d)
 
 -- the element that an identifier names, by what was noted of a document
 abbrev pub element_noted : Elements → List ℕ → Option ℕ
-element_noted es id = place_in es.places.tree id
+element_noted es id = place_of id (texts es.places.ids.items)
 
 abbrev pub element_count : Elements → ℕ
 element_count es = es.count

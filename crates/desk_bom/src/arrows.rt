@@ -1,15 +1,16 @@
 //! Arrows between numbered places, and the least set of places that is closed under them.
 
-ghost use Rattle.std.specs.Prelude.{◌≡◌, ◌<◌, ◌++◌, ◌∷◌, [], ℕ, List, Contains, All, IfOk, OnOk, false, length, count_by, map, slice_index_or, replicate};
+ghost use Rattle.std.specs.Prelude.{◌≡◌, ◌<◌, ◌≤◌, ◌++◌, ◌∷◌, [], ℕ, List, Contains, All, IfOk, OnOk, false, length, count_by, map, slice_index_or, replicate};
+ghost use Rattle.std.specs.List.{AllWithin};
 ghost use Rattle.std.specs.List.Sorted.{IsNonDecreasingBy};
 ghost use Rattle.desk_bom.specs.Marks.{among, added, added_all, IsLeastFrom};
-ghost use Rattle.desk_bom.specs.Targets.{AreTargets};
+ghost use Rattle.desk_bom.specs.Targets.{AreTargets, Ascend};
 ghost use Rattle.desk_bom.specs.Shipping.{arrow_between};
 
 use std::alloc::{AllocError, Global};
 
-/// An arrow from one place to another.
-#[derive(Debug, Clone, Copy)]
+/// An arrow from one place to another. Arrows are ordered by where they come from, then by where they lead.
+#[derive(Debug, Clone, Copy, PartialEq, Eq, PartialOrd, Ord)]
 pub(crate) struct Arrow {
     pub from: usize,
     pub to: usize,
@@ -95,13 +96,30 @@ impl Reached {
     }
 }
 
-/// The arrows that come from a place.
+// How many arrows come from no higher place. They stand first.
+fn count_upto(arrows: &[Arrow], place: usize) -> usize
+    requires { IsNonDecreasingBy (λ x. x.from) arrows.now }
+    ensures within { result ≤ length arrows.now }
+    ensures upto { AllWithin (λ x. x.from ≤ place) arrows.now 0 result }
+    ensures above { AllWithin (λ x. place < x.from) arrows.now result (length arrows.now) }
+{
+    let mut count = 0;
+    for arrow in arrows {
+        if arrow.from > place {
+            return count;
+        }
+        count += 1;
+    }
+    count
+}
+
+/// The arrows that come from a place. Who asks for them walks over them, so their end is found by a walk too.
 pub(crate) fn targets(arrows: &[Arrow], place: usize) -> &[Arrow]
     requires { IsNonDecreasingBy (λ x. x.from) arrows.now }
-    ensures { AreTargets arrows.now place result.now }
+    ensures targets { AreTargets arrows.now place result.now }
+    ensures order { Ascend arrows.now → Ascend result.now }
 {
     let start = arrows.partition_point(|arrow| arrow.from < place);
     let rest = &arrows[start..];
-    let end = rest.partition_point(|arrow| arrow.from <= place);
-    &rest[..end]
+    &rest[..count_upto(rest, place)]
 }

@@ -2,13 +2,14 @@
 
 ghost use Rattle.std.specs.Prelude.{◌≡◌, ◌++◌, ◌↔◌, ℕ, List, IfOk, OnOk, Contains, map, length};
 ghost use Rattle.std.specs.List.{filter_map};
-ghost use Rattle.std.specs.List.Sorted.{IsNonDecreasingBy, IsStrictlyIncreasing, IsPermutation};
+ghost use Rattle.std.specs.List.Sorted.{IsStrictlyIncreasing};
 ghost use Rattle.desk_tagvalue.specs.Documents.{document_text};
 ghost use Rattle.desk_tagvalue.specs.Entries.{entry_text};
 ghost use Rattle.desk_tagvalue.specs.Parts.{DocumentText};
 ghost use Rattle.desk_tagvalue.specs.Views.{edge_text};
 ghost use Rattle.desk_bom.specs.declared.arrows.Arrow.{Arrow};
 ghost use Rattle.desk_bom.specs.Notes.{Notes};
+ghost use Rattle.desk_bom.specs.Targets.{Ascend};
 ghost use Rattle.desk_bom.specs.Contents.{onto_package, own_files, package_named, file_named, tie, contents};
 
 use crate::Elements;
@@ -83,7 +84,7 @@ fn add_tied(
 #[derive(Drop)]
 pub struct Contents {
     arrows: Vec<Arrow>,
-    ghost sorted: { IsNonDecreasingBy (λ x. x.from) arrows.items },
+    ghost ascend: { Ascend arrows.items },
 }
 
 impl Contents {
@@ -101,25 +102,16 @@ impl Contents {
         let mut arrows = Vec::new(alloc);
         add_own(&mut arrows, document.entries.as_slice())?;
         add_tied(&mut arrows, document, elements)?;
-        arrows.sort_by_key(|arrow| arrow.from)?;
+        arrows.sort()?;
+        arrows.dedup();
         Ok(Contents { arrows })
     }
 
-    /// The places of a package's files, each once.
-    pub(crate) fn files(&self, alloc: Global, owner: usize) -> Result<Vec<usize>, AllocError>
-        ensures once { IfOk result (λ v. IsStrictlyIncreasing v.items) }
-        ensures members { IfOk result (λ v. (j : ℕ) → Contains v.items j ↔ Contains self.now.arrows.items (record { from = owner; to = j })) }
+    /// The arrows to a package's files, each once, in the order of the files.
+    pub(crate) fn files(&self, owner: usize) -> &[Arrow]
+        ensures once { IsStrictlyIncreasing (map (λ x. x.to) result.now) }
+        ensures members { (j : ℕ) → Contains (map (λ x. x.to) result.now) j ↔ Contains self.now.arrows.items (record { from = owner; to = j }) }
     {
-        let mut places = targets_of(alloc, targets(&self.arrows, owner))?;
-        places.sort_unstable();
-        places.dedup();
-        Ok(places)
+        targets(&self.arrows, owner)
     }
-}
-
-// What arrows lead to.
-fn targets_of(alloc: Global, arrows: &[Arrow]) -> Result<Vec<usize>, AllocError>
-    ensures { IfOk result (λ v. v.items ≡ map (λ x. x.to) arrows.now) }
-{
-    arrows.iter().map(|arrow| arrow.to).collect(alloc)
 }

@@ -1,28 +1,24 @@
 //! The places of identifiers among others.
 
-ghost use Rattle.std.specs.Prelude.{◌≡◌, ◌<◌, [], ℕ, List, IfOk, Some, length, slice_index_or};
-ghost use Rattle.desk_bom.specs.Places.{texts, tail_number, slot_of, place_in, place_of};
+ghost use Rattle.std.specs.Prelude.{◌≡◌, ◌<◌, ◌+◌, ℕ, List, Option, IfOk, OnOk, length};
+ghost use Rattle.desk_bom.specs.Places.{texts, tail_number, slot_of, place_of, found, Finds};
 
 use std::alloc::{AllocError, Global};
 use std::collections::BTreeMap;
 
-// The first place of each identifier.
-fn places_of<'a>(alloc: Global, ids: &[&'a str]) -> Result<BTreeMap<&'a str, usize>, AllocError>
-    ensures { IfOk result (λ places. (id : List ℕ) → place_in places id ≡ place_of id (texts ids.now)) }
-{
-    let mut places = BTreeMap::new(alloc);
-    for i in (0..ids.len()).rev() {
-        places.insert(ids[i], i)?;
-    }
-    Ok(places)
-}
-
-// The number that the last eight bytes of an identifier make, if it has so many.
+// The number that the last eight bytes of an identifier make, or the last four or two where it has fewer.
 fn tail_number(id: &str) -> u64
     ensures { result ≡ tail_number id.now }
 {
-    match id.as_bytes().last_chunk::<8>() {
-        Some(tail) => u64::from_le_bytes(*tail),
+    let bytes = id.as_bytes();
+    if let Some(tail) = bytes.last_chunk::<8>() {
+        return u64::from_le_bytes(*tail);
+    }
+    if let Some(tail) = bytes.last_chunk::<4>() {
+        return u64::from(u32::from_le_bytes(*tail));
+    }
+    match bytes.last_chunk::<2>() {
+        Some(tail) => u64::from(u16::from_le_bytes(*tail)),
         None => 0,
     }
 }
@@ -35,49 +31,78 @@ fn slot_of(id: &str, slots: usize) -> usize
     (tail_number(id) % slots as u64) as usize
 }
 
-// In each slot the first place of an identifier that is looked for there, or no place. Most look-ups end there, and the others
-// in the tree, so that identifiers of one slot cost no more than they would without.
-fn guesses_of(alloc: Global, ids: &[&str]) -> Result<Vec<usize>, AllocError>
-    ensures room { IfOk result (λ v. 0 < length v.items) }
-    ensures first { IfOk result (λ v. (s : ℕ) → s < length v.items → slice_index_or v.items s 0 < length ids.now → place_of (slice_index_or (texts ids.now) (slice_index_or v.items s 0) []) (texts ids.now) ≡ Some (slice_index_or v.items s 0)) }
+// Where an identifier is found: at the place that its slot has, or else in a tree.
+fn find<'a>(
+    ids: &[&'a str],
+    slots: &[usize],
+    tree: &BTreeMap<&'a str, usize>,
+    id: &str,
+) -> Option<usize>
+    requires { 0 < length slots.now }
+    ensures { result ≡ found (texts ids.now) slots.now tree.now id.now }
 {
-    let slots = ids.len().saturating_mul(8).saturating_add(1);
-    let mut guesses = vec![in alloc; ids.len(); slots]?;
-    for i in (0..ids.len()).rev() {
-        let slot = slot_of(ids[i], slots);
-        guesses[slot] = i;
+    let held = slots[slot_of(id, slots.len())];
+    if held < ids.len() && ids[held] == id {
+        return Some(held);
     }
-    Ok(guesses)
+    tree.get(id).copied()
 }
 
-/// The first place of each identifier.
+// Notes an identifier that isn't found yet: in its slot, or in a tree where another one has that slot.
+fn add<'a>(
+    ids: &[&'a str],
+    slots: &mut [usize],
+    tree: &mut BTreeMap<&'a str, usize>,
+    place: usize,
+) -> Result<(), AllocError>
+    requires room { 0 < length slots.old }
+    requires within { place < length ids.now }
+    requires before { Finds place (texts ids.now) slots.old tree.old }
+    ensures count { length slots.new ≡ length slots.old }
+    ensures finds { OnOk result (Finds (place + 1) (texts ids.now) slots.new tree.new) }
+{
+    let id = ids[place];
+    if find(ids, slots, tree, id).is_some() {
+        return Ok(());
+    }
+    let slot = slot_of(id, slots.len());
+    if slots[slot] < ids.len() {
+        tree.insert(id, place)?;
+    } else {
+        slots[slot] = place;
+    }
+    Ok(())
+}
+
+/// The first place of each identifier: in a slot, or in a tree where another one has that slot. So most look-ups end in a slot,
+/// and identifiers of one slot cost no more than they would in a tree alone.
 #[derive(Drop)]
 pub(crate) struct Places<'a> {
     ids: Vec<&'a str>,
-    guesses: Vec<usize>,
+    slots: Vec<usize>,
     tree: BTreeMap<&'a str, usize>,
-    ghost room: { 0 < length guesses.items },
-    ghost first: { (s : ℕ) → s < length guesses.items → slice_index_or guesses.items s 0 < length ids.items → place_in tree (slice_index_or (texts ids.items) (slice_index_or guesses.items s 0) []) ≡ Some (slice_index_or guesses.items s 0) },
+    ghost room: { 0 < length slots.items },
+    ghost finds: { (id : List ℕ) (place : Option ℕ) → found (texts ids.items) slots.items tree id ≡ place → place_of id (texts ids.items) ≡ place },
 }
 
 impl<'a> Places<'a> {
     /// Notes the places of identifiers.
     pub(crate) fn of(alloc: Global, ids: Vec<&'a str>) -> Result<Places<'a>, AllocError>
-        ensures { IfOk result (λ p. (id : List ℕ) → place_in p.tree id ≡ place_of id (texts ids.entry.items)) }
+        ensures { IfOk result (λ p. p.ids.items ≡ ids.entry.items) }
     {
-        let tree = places_of(alloc, &ids)?;
-        let guesses = guesses_of(alloc, &ids)?;
-        Ok(Places { ids, guesses, tree })
+        let count = ids.len();
+        let mut slots = vec![in alloc; count; count.saturating_mul(8).saturating_add(1)]?;
+        let mut tree = BTreeMap::new(alloc);
+        for place in 0..count {
+            add(&ids, &mut slots, &mut tree, place)?;
+        }
+        Ok(Places { ids, slots, tree })
     }
 
     /// The first place of an identifier.
     pub(crate) fn get(&self, id: &str) -> Option<usize>
-        ensures { result ≡ place_in self.now.tree id.now }
+        ensures { result ≡ place_of id.now (texts self.now.ids.items) }
     {
-        let guess = self.guesses[slot_of(id, self.guesses.len())];
-        if guess < self.ids.len() && self.ids[guess] == id {
-            return Some(guess);
-        }
-        self.tree.get(id).copied()
+        find(&self.ids, &self.slots, &self.tree, id)
     }
 }

@@ -1,29 +1,28 @@
 //! What the code of a package says of its files.
 
-ghost use Rattle.std.specs.Prelude.{◌≡◌, ◌||◌, ◌↔◌, ◌<◌, ◌+◌, ◌-◌, ◌∷◌, ◌++◌, [], ℕ, List, IfOk, IfSome, IfNone, OnOk, Some, None, length, take, drop, map, nat_eq, true, false, IsTrue, if◌then◌else◌, ◌==◌, slice_get};
-ghost use Rattle.std.specs.List.{ends_with, starts_with, slice_split, filter_map, list_any};
+ghost use Rattle.std.specs.Prelude.{◌≡◌, ◌||◌, ◌↔◌, ◌<◌, ◌+◌, ◌-◌, ◌∷◌, ◌++◌, [], ℕ, List, IfOk, IfSome, IfNone, OnOk, Some, None, length, take, drop, map, nat_eq, true, false, IsTrue, if◌then◌else◌, ◌==◌, slice_get, not};
+ghost use Rattle.std.specs.List.{ends_with, starts_with, slice_split, list_any};
 ghost use Rattle.std.specs.Option.{option_map};
 ghost use Rattle.std.specs.Str.{bytes_eq};
 ghost use Rattle.desk_fields.specs.Text.{trimmed};
 ghost use Rattle.desk_base.specs.Folded.{folded};
 ghost use Rattle.hex.specs.Hex.{encode_lower};
 ghost use Rattle.desk_bom.specs.Places.{texts};
-ghost use Rattle.desk_bom.specs.Contents.{AreFilesOf};
 ghost use Rattle.desk_tagvalue.specs.Documents.{document_text};
 ghost use Rattle.desk_tagvalue.specs.Entries.{value_text};
 ghost use Rattle.desk_tagvalue.specs.Views.{package_text, file_text};
 ghost use Rattle.desk_tagvalue.specs.Parts.{DocumentText};
 ghost use Rattle.desk_bom.specs.declared.state.CodeState.{CodeState};
-ghost use Rattle.desk_bom.specs.Codes.{IsCode, items_of, code_digits, code_list, is_list, is_code, names_in, plain, names_of, excluded_by, excluded_names, inner_of, is_excluded, digest_spelled, digests_of, is_unanalyzed, checked_digests, IsStateOf, IsState};
-ghost use Rattle.desk_tagvalue.specs.Seen.{has_key};
+ghost use Rattle.desk_bom.specs.Codes.{IsCode, items_of, files_at, has_name, code_digits, code_list, is_list, is_code, names_in, plain, names_of, excluded_by, excluded_names, inner_of, is_excluded, digest_spelled, digests_of, is_unanalyzed, checked_digests, IsStateOf, IsState};
 
+use crate::arrows::Arrow;
 use crate::codes::verification_code;
+use crate::places::Places;
 use crate::{Contents, Elements};
 use desk_fields::{skip_blanks, trimmed};
 use desk_tagvalue::{Document, FileEntry, Package, all_hex, behind};
 use hex::FromHex;
 use std::alloc::{AllocError, Global};
-use std::collections::BTreeSet;
 
 /// What the verification code of a package says of its files (SPDX 2.3, clause 7.9).
 #[derive(Debug, Clone, Copy, PartialEq, Eq)]
@@ -119,35 +118,46 @@ fn parts_of(alloc: Global, text: &str) -> Result<Vec<&str>, AllocError>
     text.split(',').collect(alloc)
 }
 
-fn add_name<'a>(names: &mut BTreeSet<&'a str>, part: &'a str) -> Result<(), AllocError>
-    ensures { OnOk result ((q : List ℕ) → has_key q names.new ≡ (bytes_eq (plain (trimmed part.now)) q || has_key q names.old)) }
-{
-    names.insert(plain(trimmed(part)))?;
-    Ok(())
-}
-
 // The names that stand in some parts.
-fn names_of<'a>(alloc: Global, parts: &[&'a str]) -> Result<BTreeSet<&'a str>, AllocError>
-    ensures { IfOk result (λ s. (q : List ℕ) → has_key q s ≡ list_any (λ name. bytes_eq name q) (map (λ part. plain (trimmed part)) (texts parts.now))) }
+fn names_of<'a>(alloc: Global, parts: &[&'a str]) -> Result<Vec<&'a str>, AllocError>
+    ensures { IfOk result (λ v. texts v.items ≡ map (λ part. plain (trimmed part)) (texts parts.now)) }
 {
-    let mut names = BTreeSet::new(alloc);
+    let mut names = Vec::with_capacity(alloc, parts.len())?;
     for part in parts {
-        add_name(&mut names, part)?;
+        names.push(plain(trimmed(part)))?;
     }
     Ok(names)
 }
 
+/// The names that a code excludes, if it has a list of them.
+#[derive(Drop)]
+pub(crate) struct Excluded<'a> {
+    places: Option<Places<'a>>,
+}
+
+impl Excluded<'_> {
+    fn has(&self, name: &str) -> bool
+        ensures { result ≡ has_name self.now name.now }
+    {
+        match &self.places {
+            Some(places) => places.get(name).is_some(),
+            None => false,
+        }
+    }
+}
+
 // The names that a code excludes.
-fn excluded_names<'a>(alloc: Global, text: Option<&'a str>) -> Result<BTreeSet<&'a str>, AllocError>
-    ensures { IfOk result (λ s. (q : List ℕ) → has_key q s ≡ list_any (λ name. bytes_eq name q) (excluded_names (value_text text.entry))) }
+fn excluded_names<'a>(alloc: Global, text: Option<&'a str>) -> Result<Excluded<'a>, AllocError>
+    ensures { IfOk result (λ e. (q : List ℕ) → has_name e q ≡ list_any (λ name. bytes_eq name q) (excluded_names (value_text text.entry))) }
 {
     match text {
         Some(text) => {
             let parts = parts_of(alloc, text)?;
             let names = names_of(alloc, &parts)?;
-            Ok(names)
+            let places = Some(Places::of(alloc, names)?);
+            Ok(Excluded { places })
         }
-        None => Ok(BTreeSet::new(alloc)),
+        None => Ok(Excluded { places: None }),
     }
 }
 
@@ -160,17 +170,32 @@ fn digest_spelled(digits: Option<&str>) -> Option<[u8; 20]>
     }
 }
 
+// The file at a place.
+fn file_at<'d, 'a>(files: &'d [FileEntry<'a>], place: usize) -> Option<&'d FileEntry<'a>>
+    ensures { option_map (λ f. file_text f.now) result ≡ slice_get (map file_text files.now) place }
+{
+    if place < files.len() {
+        Some(&files[place])
+    } else {
+        None
+    }
+}
+
 // The digests of the files that aren't excluded, if each has one.
 fn digests_of(
     alloc: Global,
-    excluded: &BTreeSet<&str>,
+    excluded: &Excluded,
     files: &[FileEntry],
+    arrows: &[Arrow],
 ) -> Result<Option<Vec<[u8; 20]>>, AllocError>
-    ensures { (names : List (List ℕ)) → ((q : List ℕ) → has_key q excluded.now ≡ list_any (λ name. bytes_eq name q) names) → IfOk result (λ ds. items_of ds ≡ digests_of names (map file_text files.now)) }
+    ensures { (names : List (List ℕ)) → ((q : List ℕ) → has_name excluded.now q ≡ list_any (λ name. bytes_eq name q) names) → IfOk result (λ ds. items_of ds ≡ digests_of names (files_at (map file_text files.now) arrows.now)) }
 {
     let mut digests = Vec::new(alloc);
-    for file in files {
-        if excluded.contains(plain(file.name)) {
+    for arrow in arrows {
+        let Some(file) = file_at(files, arrow.to) else {
+            continue;
+        };
+        if excluded.has(plain(file.name)) {
             continue;
         }
         match digest_spelled(file.sha1) {
@@ -198,24 +223,30 @@ fn is_same(digits: &str, code: &[u8; 40]) -> bool
     digits.as_bytes().eq_ignore_ascii_case(code)
 }
 
+// The parts of a code that can be checked.
+fn checked_field<'a>(package: &Package, value: &'a str) -> Option<CodeField<'a>>
+    ensures none { IfNone result (is_unanalyzed (value_text «package».now.files_analyzed) || not (is_code value.now) ≡ true) }
+    ensures some { IfSome result (λ f. is_unanalyzed (value_text «package».now.files_analyzed) || not (is_code value.now) ≡ false) }
+    ensures digits { IfSome result (λ f. f.digits.now ≡ code_digits value.now) }
+    ensures names { IfSome result (λ f. excluded_names (value_text f.names) ≡ excluded_by value.now) }
+{
+    if is_unanalyzed(package.files_analyzed) {
+        return None;
+    }
+    code_field(value)
+}
+
 // The digests of which a code tells.
 fn checked_digests(
     alloc: Global,
-    package: &Package,
-    value: &str,
+    names: Option<&str>,
     files: &[FileEntry],
+    arrows: &[Arrow],
 ) -> Result<Option<Vec<[u8; 20]>>, AllocError>
-    ensures { IfOk result (λ ds. items_of ds ≡ checked_digests (value_text «package».now.files_analyzed) value.now (map file_text files.now)) }
+    ensures { IfOk result (λ ds. items_of ds ≡ digests_of (excluded_names (value_text names.entry)) (files_at (map file_text files.now) arrows.now)) }
 {
-    if is_unanalyzed(package.files_analyzed) {
-        return Ok(None);
-    }
-    let field = match code_field(value) {
-        Some(field) => field,
-        None => return Ok(None),
-    };
-    let excluded = excluded_names(alloc, field.names)?;
-    let digests = digests_of(alloc, &excluded, files)?;
+    let excluded = excluded_names(alloc, names)?;
+    let digests = digests_of(alloc, &excluded, files, arrows)?;
     Ok(digests)
 }
 
@@ -225,49 +256,23 @@ fn state_of_code(
     package: &Package,
     value: &str,
     files: &[FileEntry],
+    arrows: &[Arrow],
 ) -> Result<CodeState, AllocError>
     requires { value_text «package».now.verification_code ≡ Some value.now }
-    ensures { IfOk result (IsStateOf (package_text «package».now) (map file_text files.now)) }
+    ensures { IfOk result (IsStateOf (package_text «package».now) (files_at (map file_text files.now) arrows.now)) }
 {
-    match checked_digests(alloc, package, value, files)? {
-        Some(digests) => {
-            let code = verification_code(alloc, &digests)?;
-            match code_field(value) {
-                Some(field) if is_same(field.digits, &code) => Ok(CodeState::Agrees),
-                _ => Ok(CodeState::Differs),
-            }
-        }
-        None => Ok(CodeState::Unchecked),
-    }
-}
-
-// The file at a place.
-fn file_at<'a>(files: &[FileEntry<'a>], place: usize) -> Option<FileEntry<'a>>
-    ensures { option_map file_text result ≡ slice_get (map file_text files.now) place }
-{
-    if place < files.len() {
-        Some(files[place])
+    let Some(field) = checked_field(package, value) else {
+        return Ok(CodeState::Unchecked);
+    };
+    let Some(digests) = checked_digests(alloc, field.names, files, arrows)? else {
+        return Ok(CodeState::Unchecked);
+    };
+    let code = verification_code(alloc, &digests)?;
+    if is_same(field.digits, &code) {
+        Ok(CodeState::Agrees)
     } else {
-        None
+        Ok(CodeState::Differs)
     }
-}
-
-// The files at some places.
-fn files_at<'a>(
-    alloc: Global,
-    files: &[FileEntry<'a>],
-    places: &[usize],
-) -> Result<Vec<FileEntry<'a>>, AllocError>
-    ensures { IfOk result (λ v. map file_text v.items ≡ filter_map (slice_get (map file_text files.now)) places.now) }
-{
-    let mut found = Vec::with_capacity(alloc, places.len())?;
-    for place in places {
-        match file_at(files, *place) {
-            Some(file) => found.push(file)?,
-            None => {}
-        }
-    }
-    Ok(found)
 }
 
 fn package_at<'d, 'a>(document: &'d Document<'a>, place: usize) -> &'d Package<'a>
@@ -279,21 +284,6 @@ fn package_at<'d, 'a>(document: &'d Document<'a>, place: usize) -> &'d Package<'
 
 impl Contents {
     ghost use Rattle.desk_bom.specs.Held.{Holds};
-
-    // The files of a package.
-    fn files_of<'a>(
-        &self,
-        alloc: Global,
-        document: &Document<'a>,
-        owner: usize,
-    ) -> Result<Vec<FileEntry<'a>>, AllocError>
-        requires { Holds (document_text document.now) self.now }
-        ensures { IfOk result (λ v. AreFilesOf (document_text document.now) owner (map file_text v.items)) }
-    {
-        let places = self.files(alloc, owner)?;
-        let files = files_at(alloc, document.files.as_slice(), &places)?;
-        Ok(files)
-    }
 
     /// What the code of a package says of its files: the package of the document that was noted, by its place among the packages.
     pub fn code_state(
@@ -309,8 +299,8 @@ impl Contents {
         let package = package_at(document, owner);
         match package.verification_code {
             Some(value) => {
-                let files = self.files_of(alloc, document, owner)?;
-                let state = state_of_code(alloc, package, value, &files)?;
+                let files = document.files.as_slice();
+                let state = state_of_code(alloc, package, value, files, self.files(owner))?;
                 Ok(state)
             }
             None => Ok(CodeState::Absent),

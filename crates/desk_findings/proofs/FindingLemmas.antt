@@ -1,5 +1,5 @@
 -- Findings, field by field.
-use Rattle.std.proofs.Common.{◌≡◌, ◌∙◌, ℕ, ◌+◌, ◌<◌, Bool, true, false, List, ◌++◌, length, drop, get_or, ap, sym, refl, append_assoc}
+use Rattle.std.proofs.Common.{◌≡◌, ◌∙◌, ℕ, ◌+◌, ◌<◌, Bool, true, false, List, [], ◌∷◌, ◌++◌, length, take, drop, get_or, ap, sym, refl, append_assoc, append-nil}
 use Rattle.std.specs.Prelude.{◌&&◌, not, map}
 use Rattle.std.specs.List.{flat_map}
 use Rattle.desk_tagvalue.specs.declared.entries.Entry.{Entry}
@@ -7,6 +7,8 @@ use Rattle.desk_tagvalue.specs.declared.sections.SectionKind.{SectionKind}
 use Rattle.desk_tagvalue.specs.Entries.{entry_text}
 use Rattle.desk_tagvalue.specs.Faults.{kind_after}
 use Rattle.desk_tagvalue.specs.Sections.{section_begun}
+use Rattle.std.proofs.lemmas.List.{map_push, take_more}
+use Rattle.std.proofs.lemmas.Grind.{flat_map-append}
 use Rattle.desk_bom.proofs.LoopLemmas.{seen_more}
 use Rattle.desk_findings.specs.declared.finding.Finding.{Finding}
 use Rattle.desk_findings.specs.declared.finding.FindingKind.{FindingKind}
@@ -40,3 +42,12 @@ field_more gives kind after p n xs i d found new inside is_after is_n is_new =
     ∙ ap (λ s. found ++ (gives (record { section = s; packages = n; entry = e }) ++ flat_map gives (fields_in s n rest))) is_after
     ∙ ap (λ m. found ++ (gives (record { section = kind_after (section_begun e.tag) kind; packages = m; entry = e }) ++ flat_map gives (fields_in (kind_after (section_begun e.tag) kind) m rest))) is_n
     ∙ ap (λ l. found ++ flat_map gives (fields_in kind p l)) (sym (seen_more entry_text xs i d inside))
+
+-- what one item more gives, behind what those before it give
+pub gathered_more : {X Y : Type 0} (view : X → Y) (gives : Y → List Finding) (xs : List X) (i : ℕ) (d : X) (start found new : List Finding) → i < length xs
+    → found ≡ start ++ flat_map gives (map view (take i xs)) → new ≡ found ++ gives (view (get_or xs i d)) → new ≡ start ++ flat_map gives (map view (take (i + 1) xs))
+gathered_more view gives xs i d start found new inside before is =
+    let x = view (get_or xs i d) in
+    let parted = ap (λ l. flat_map gives (map view l)) (take_more xs i d inside) ∙ ap (flat_map gives) (map_push view (take i xs) (get_or xs i d))
+        ∙ (flat_map-append gives (map view (take i xs)) (x ∷ []) ∙ ap (λ l. flat_map gives (map view (take i xs)) ++ l) (append-nil (gives x))) in
+    is ∙ ap (λ l. l ++ gives x) before ∙ append_assoc start (flat_map gives (map view (take i xs))) (gives x) ∙ ap (λ l. start ++ l) (sym parted)
