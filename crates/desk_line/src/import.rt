@@ -27,7 +27,7 @@ does, and prints the reply, one line of JSON:
   {\"at\":[..],\"name\":\"..\",\"refused\":..}   it was refused, and nothing was changed";
 
 const AFTER_HELP: &str = "\
-A FILE that is not there, is empty, or is a database without a table meta becomes an empty desk first.
+A FILE that is not there, is empty, or is a database with no tables becomes an empty desk first.
 Any other that keeps no desk of this version is left as it is, and one line says so:
 
   fault: NotADesk    it is a database of something else

@@ -23,7 +23,7 @@ each line that is not blank, before it reads on. It goes on past what is refused
 than 8 MiB is no request. It stops after 1,048,576 reads.
 
 With --db FILE the desk is kept in the file, and the next script goes on with it. A file that is
-not there, is empty, or is a database without a table meta becomes an empty desk first. Without
+not there, is empty, or is a database with no tables becomes an empty desk first. Without
 --db the desk is in memory, empty at first and gone at the end.
 
 Requests, with an example of each and its reply:
