@@ -53,6 +53,11 @@ test: needs
 	@sh tests/acceptance/run.sh build/desk
 	@echo 'Running the scripts among them over files.'
 	@python3 tests/database.py build/desk
+	@echo 'Reading the tables of a desk by SQLite.'
+	@python3 tests/tables.py build/desk
+	@echo 'Stopping a desk in a file at each write, failing each call of its disk, and handing it files that are no desk.'
+	@python3 tests/stops/stops.py build/desk
+	@python3 tests/stops/places.py build/desk
 	@echo 'Feeding it large inputs and each fault of each reader.'
 	@python3 tests/ample/ample.py build/desk
 	@echo 'Refusing each allocation of build/desk in turn.'
@@ -90,12 +95,15 @@ try:
 	@echo 'Trying the program with no proof: this says nothing of its contracts.'
 	@cd $(program) && rt try -- $(ARGS)
 
-# Times the program, beside another one, its scripts, by the rows that a desk holds, the reading of documents, and patterns of paths.
+# Times the program, beside another one, its scripts, by the rows that a desk holds, in a file beside the library of SQLite, on trees, the
+# reading of documents, and patterns of paths.
 bench: build
 	@python3 bench/bench.py build/desk
 	@python3 bench/alternatives.py build/desk
 	@python3 bench/script.py build/desk build/scripts
 	@python3 bench/rows.py build/desk
+	@python3 bench/store.py build/desk
+	@python3 bench/trees.py build/desk
 	@echo 'Building the program that reads documents.'
 	@cd $(documents) && { rt run >../../build/log 2>&1 || { cat ../../build/log; exit 1; }; }
 	@python3 bench/documents.py $(documents)/out/desk_documents_bench build/documents

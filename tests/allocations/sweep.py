@@ -4,6 +4,7 @@ The scripts, the checks, the listings and the trees are those of the acceptance 
 with its Nth allocation refused, until a run makes fewer. Then
 
 - a check or a listing tells its answer with its status, or nothing with status 3 and its words;
+- a script over a file does so too, and may fail to open or to close it, with its words;
 - so do the document and the problems of a tree; the words may also be those of a folder or a file that found no memory;
 - a script tells its replies with its status; or one reply is {"fault":"memory"}, the status is 3 with its words, and the other replies
   are those of the script without that request, so what was accepted stands and the script went on; or it stopped with status 3 and its
@@ -27,6 +28,8 @@ sys.dont_write_bytecode = True
 import dialogue
 
 BYTES = 16_384
+MEMORY = "/dev/shm"
+OVER_A_FILE = ("script-first-release.dialogue",)
 FILES = 100
 MEMORY = b'{"fault":"memory"}\n'
 
@@ -34,6 +37,7 @@ WANTING = b"error: no memory is left\n"
 NOT_BEGUN = (WANTING, b"error: cannot write: out of memory\n")
 STOPPED = b"error: the script stopped: no memory is left for a line or a reply\n"
 ONE_FAILED = b"error: requests that failed: 1\n"
+UNUSED = re.compile(rb'error: cannot use ".*": .*\n')
 UNREAD = re.compile(rb'error: cannot read ".*": (out of memory|Cannot allocate memory.*)\n')
 
 
@@ -61,6 +65,9 @@ class Program:
 
     def run(self, words, text, refused=0):
         """Standard output, the status, standard error, and whether an allocation was refused."""
+        for name in ("desk.db", "desk.db-wal"):
+            if os.path.exists(os.path.join(self.folder, name)):
+                os.remove(os.path.join(self.folder, name))
         if os.path.exists(self.told):
             os.remove(self.told)
         env = {"LD_PRELOAD": self.library, "REFUSE": str(refused), "REFUSED": self.told} if refused else {}
@@ -124,7 +131,7 @@ class Script:
         return self.rests[place]
 
     def is_right(self, stdout, status, stderr):
-        if (stdout, status) == self.whole:
+        if (stdout, status) == self.whole or self.is_unused(stdout, status, stderr):
             return True
         replies = lines(stdout)
         failed = [n for n, reply in enumerate(replies) if reply == MEMORY]
@@ -136,6 +143,10 @@ class Script:
         self.told.add(failed[0])
         others = b"".join(replies[: failed[0]] + replies[failed[0] + 1 :])
         return status == 3 and stderr == ONE_FAILED and len(failed) == 1 and others == self.rest(failed[0])
+
+    def is_unused(self, stdout, status, stderr):
+        """Whether the file of a desk couldn't be opened, or not closed after all was replied."""
+        return "--db" in self.words and status == 3 and stdout in (b"", self.whole[0]) and UNUSED.fullmatch(stderr)
 
     def untold(self):
         """The requests that were never told want of memory."""
@@ -183,6 +194,8 @@ def cases():
             requests = dialogue.read(path)[0]
             if len(requests) <= BYTES:
                 yield name, ["script"], requests, None, None
+            if name in OVER_A_FILE:
+                yield name + " over a file", ["script", "--db", "desk.db"], requests, None, None
             continue
         listed, script = os.path.join(path, "args"), os.path.join(path, "run")
         data = os.path.join(path, "data") if os.path.isdir(os.path.join(path, "data")) else None
@@ -196,7 +209,7 @@ def cases():
 
 
 def main():
-    with tempfile.TemporaryDirectory() as room:
+    with tempfile.TemporaryDirectory(dir=MEMORY if os.path.isdir(MEMORY) else None) as room:
         library = os.path.join(room, "refuse.so")
         subprocess.run(["cc", "-O2", "-shared", "-fPIC", "-o", library, os.path.join(HERE, "refuse.c"), "-ldl"], check=True)
         program = Program(os.path.abspath(sys.argv[1]), library, room)
