@@ -13,7 +13,9 @@ import tempfile
 import time
 
 RUNS = 5
-HEAD = "// SPDX-FileCopyrightText: 2025 Firm\n// SPDX-License-Identifier: MIT\n\n"
+# Written in parts, since these are tags of the trees and not of this file.
+NOTICE, LICENCE = "SPDX-" + "FileCopyrightText: 2025 Firm", "SPDX-" + "License-Identifier: MIT"
+HEAD = f"// {NOTICE}\n// {LICENCE}\n\n"
 LINE = "    total = total + values[index] * weights[index]; // the next one\n"
 ANNOTATION = 'version = 1\n\n[[annotations]]\npath = "**"\nprecedence = "closest"\nSPDX-FileCopyrightText = "2025 Firm"\nSPDX-License-Identifier = "MIT"\n'
 DRAFT = ["--name", "n", "--namespace", "https://example.org/n", "--created", "2025-01-01T00:00:00Z"]
@@ -65,7 +67,7 @@ def one_large(root):
 
 
 def million_tags(root):
-    write(root, "tags.txt", "# SPDX-License-Identifier: MIT\n" * 1_000_000)
+    write(root, "tags.txt", f"# {LICENCE}\n" * 1_000_000)
     write(root, "LICENSES/MIT.txt", "MIT text\n")
 
 
