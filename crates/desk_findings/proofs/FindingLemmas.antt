@@ -49,5 +49,5 @@ pub gathered_more : {X Y : Type 0} (view : X → Y) (gives : Y → List Finding)
 gathered_more view gives xs i d start found new inside before is =
     let x = view (get_or xs i d) in
     let parted = ap (λ l. flat_map gives (map view l)) (take_more xs i d inside) ∙ ap (flat_map gives) (map_push view (take i xs) (get_or xs i d))
-        ∙ (flat_map-append gives (map view (take i xs)) (x ∷ []) ∙ ap (λ l. flat_map gives (map view (take i xs)) ++ l) (append-nil (gives x))) in
+    ∙ (flat_map-append gives (map view (take i xs)) (x ∷ []) ∙ ap (λ l. flat_map gives (map view (take i xs)) ++ l) (append-nil (gives x))) in
     is ∙ ap (λ l. l ++ gives x) before ∙ append_assoc start (flat_map gives (map view (take i xs))) (gives x) ∙ ap (λ l. start ++ l) (sym parted)
