@@ -1,4 +1,5 @@
 -- Which fault is told of an expression.
+use Rattle.desk_base.specs.Limits.{listed_terms}
 use Rattle.desk_expr.specs.Tree.{Tree}
 use Rattle.desk_alts.specs.declared.fault.AltFault.{AltFault}
 use Rattle.desk_alts.specs.declared.fault.AltFault.TheVariants.{TooManyTerms, TooMany, Memory}
@@ -6,12 +7,12 @@ use Rattle.desk_alts.specs.Sets.{HasMoreTerms, HasWideFront}
 
 -- the expression can be listed: it has at most 128 distinct terms, and no front has more than 64 minimal sets
 abbrev pub IsListable : Tree → Type 0
-IsListable e = (HasMoreTerms 128 e → ⊥) × (HasWideFront e → ⊥)
+IsListable e = (HasMoreTerms listed_terms e → ⊥) × (HasWideFront e → ⊥)
 
 -- the fault is the expression's, that of too many terms first; want of memory says nothing of it
 abbrev pub IsFaultOf : Tree → AltFault → Type 0
-IsFaultOf e TooManyTerms = HasMoreTerms 128 e
-IsFaultOf e TooMany = (HasMoreTerms 128 e → ⊥) × HasWideFront e
+IsFaultOf e TooManyTerms = HasMoreTerms listed_terms e
+IsFaultOf e TooMany = (HasMoreTerms listed_terms e → ⊥) × HasWideFront e
 IsFaultOf e (Memory error) = Unit {0}
 
 -- the same where there are few terms

@@ -5,6 +5,7 @@ use Rattle.std.specs.Ordering.{nat_cmp, ordering_then}
 use Rattle.std.specs.Cmp.Lexicographic.{slice_cmp}
 use Rattle.std.specs.List.{AllPairs}
 use Rattle.std.specs.List.Sorted.{IsStrictlySortedBy}
+use Rattle.desk_base.specs.Limits.{listed_sets}
 use Rattle.desk_expr.specs.declared.term.Term.{Term}
 use Rattle.desk_expr.specs.Tree.{Tree, Trees, one, all, any, no_more, more}
 use Rattle.desk_expr.specs.Meaning.{IsMinimal}
@@ -50,7 +51,7 @@ joined node (more t (more u us)) = node (more t (more u us))
 
 -- some front of a node, which is its first parts under its operator, has more than 64 minimal sets
 abbrev pub HasWideFrontOf : (Trees → Tree) → Trees → Type 0
-HasWideFrontOf node ts = (k : ℕ) × (1 ≤ k) × (k ≤ parts_count ts) × HasMoreSets 64 (joined node (first_parts k ts))
+HasWideFrontOf node ts = (k : ℕ) × (1 ≤ k) × (k ≤ parts_count ts) × HasMoreSets listed_sets (joined node (first_parts k ts))
 
 -- some front of some node has more than 64 minimal sets
 abbrev mutual

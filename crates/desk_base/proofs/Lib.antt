@@ -1,2 +1,6 @@
 pub mod IdstringLemmas
 pub mod LinesOnce
+pub mod Bools
+pub mod Numbers
+pub mod Texts
+pub mod Results

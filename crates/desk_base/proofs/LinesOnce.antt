@@ -7,6 +7,7 @@ use Rattle.std.proofs.lemmas.List.Elements.{All-get_or, All-tail, All-append, Al
 use Rattle.desk_base.specs.declared.lines.LineEnd.{LineEnd}
 use Rattle.desk_base.specs.declared.lines.LineEnd.TheVariants.{Lf, CrLf, Nothing}
 use Rattle.desk_base.specs.Lines.{IsLine, Ends, end_bytes, LineText, CutsInto}
+use Rattle.desk_base.proofs.Numbers.{head_not}
 
 -- a list is cut in one way at the first of some byte
 pub cut_once : (c : ℕ) (a b x y : List ℕ) → All (λ d. d ≢ c) a → All (λ d. d ≢ c) x → a ++ (c ∷ b) ≡ x ++ (c ∷ y) → (a ≡ x) × (b ≡ y)
@@ -18,9 +19,6 @@ cut_once c (d ∷ a) b (f ∷ x) y h k e =
     let rest = cut_once c a b x y (All-tail (λ e. e ≢ c) d a h) (All-tail (λ e. e ≢ c) f x k) tail in
     let head : d ≡ f = cc in
     ((λ i. head i ∷ rest.0 i), rest.1)
-
-head_not : (c d : ℕ) (a : List ℕ) → All (λ b. b ≢ c) (d ∷ a) → d ≢ c
-head_not c d a h = All-get_or (λ b. b ≢ c) (d ∷ a) 0 0 (omega arith) h
 
 pub no_lf_none : (l a b : List ℕ) → All (λ b. b ≢ 10) l → l ≡ a ++ (10 ∷ b) → ⊥
 no_lf_none [] [] b h e = cc

@@ -6,6 +6,7 @@
 //! items.
 #![tactic(auto)]
 
+mod bytes;
 mod day;
 mod idstring;
 mod items;
@@ -15,6 +16,7 @@ mod lines;
 mod profile;
 mod text;
 
+pub use bytes::are_shown;
 pub use day::Day;
 pub use idstring::{is_idstring, is_idstring_of_bytes};
 pub use items::Items;

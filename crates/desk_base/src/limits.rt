@@ -21,3 +21,54 @@ pub const LISTED_TERMS: usize = 128;
 
 /// How many minimal sets the first parts of a node of an expression may have where the minimal sets are listed.
 pub const LISTED_SETS: usize = 64;
+
+/// The bytes of the longest catalogue that is read.
+pub const CATALOGUE_BYTES: usize = 4_194_304;
+
+/// How many forms a catalogue may list.
+pub const FORMS: usize = 16;
+
+/// The bytes of the longest form and of the longest code of a duty.
+pub const ID_BYTES: usize = 64;
+
+/// The bytes of the longest title of a duty.
+pub const TITLE_BYTES: usize = 256;
+
+/// The most that a term costs.
+pub const TERM_COST: u64 = 1_000_000;
+
+/// How many revisions of the catalogue a desk keeps.
+pub const REVISIONS: u64 = 4_096;
+
+/// How many documents a desk keeps.
+pub const DOCUMENTS: u64 = 4_096;
+
+/// How many releases a desk keeps.
+pub const RELEASES: u64 = 4_096;
+
+/// How many documents a release may have.
+pub const ATTACHED: u64 = 64;
+
+/// The bytes of the longest name of a release.
+pub const NAME_BYTES: usize = 64;
+
+/// How many references of a document may be adopted.
+pub const ADOPTIONS: u64 = 10_000;
+
+/// How many duties a desk keeps.
+pub const DUTIES: u64 = 100_000;
+
+/// How many changes a duty has at most before it is withdrawn.
+pub const CHANGES: u64 = 999;
+
+/// The bytes of the longest text of a change.
+pub const NOTE_BYTES: usize = 1_024;
+
+/// The largest number in a request.
+pub const NUMBER: u64 = 9_223_372_036_854_775_807;
+
+/// The bytes of the longest line of a script that may be a request, without its end.
+pub const LINE_BYTES: usize = 8_388_608;
+
+/// How many files a source tree may have of which something is gathered.
+pub const TREE_FILES: usize = 10_000;

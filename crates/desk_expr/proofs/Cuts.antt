@@ -6,7 +6,8 @@ use Rattle.std.proofs.str.Laws.{order}
 use Rattle.std.proofs.lemmas.Str.{IsCharBoundary-start, IsCharBoundary-end, IsCharBoundary-before_ascii, IsCharBoundary-after_ascii}
 use Rattle.std.proofs.lemmas.Bool.Decides.{nat_tests}
 use Rattle.std.proofs.lemmas.List.Elements.{All-from_get_or}
-use Rattle.desk_expr.specs.Tokens.{is_blank, is_parenthesis, is_run_byte, NoRunBegins, IsPiece}
+use Rattle.desk_expr.specs.Tokens.{is_parenthesis, is_run_byte, NoRunBegins, IsPiece}
+use Rattle.desk_base.specs.Bytes.{is_blank}
 
 blank_low : (b : ℕ) → IsTrue (is_blank b) → b < 128
 blank_low b h = grind (arith, nat_tests)

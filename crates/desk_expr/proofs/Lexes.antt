@@ -3,10 +3,11 @@ use Rattle.std.proofs.Common.{◌≡◌, ◌∙◌, inl, inr, ℕ, ◌+◌, ◌<
 use Rattle.std.specs.Prelude.{IsTrue, All}
 use Rattle.desk_base.specs.declared.profile.Profile.TheVariants.{Capitals}
 use Rattle.desk_expr.specs.Words.{kind_by}
-use Rattle.desk_expr.specs.Tokens.{is_blank, is_parenthesis, is_run_byte, NoRunBegins, IsPiece, Lexeme, AreTokens}
+use Rattle.desk_expr.specs.Tokens.{is_parenthesis, is_run_byte, NoRunBegins, IsPiece, Lexeme, AreTokens}
 use Rattle.desk_expr.specs.Grammar.{Symbol}
 use Rattle.desk_expr.specs.Spelling.{symbol, symbols}
 use Rattle.desk_expr.proofs.Lexing.{all_more}
+use Rattle.desk_base.specs.Bytes.{is_blank}
 
 -- whatever follows, the tokens of the text are those of its front and those of what follows
 abbrev pub Follows : ℕ → List ℕ → List Symbol → List ℕ → List Lexeme → Type 0

@@ -2,7 +2,8 @@
 use Rattle.std.specs.Prelude.{◌≡◌, Option, Some, None, All, IsTrue}
 use Rattle.desk_expr.specs.declared.token.Token.{Token}
 use Rattle.desk_expr.specs.declared.cut.TokenCuts.{TokenCuts}
-use Rattle.desk_expr.specs.Tokens.{is_blank, IsFirstToken, lexeme}
+use Rattle.desk_expr.specs.Tokens.{IsFirstToken, lexeme}
+use Rattle.desk_base.specs.Bytes.{is_blank}
 
 -- the first token of what is left, and what follows it; or nothing but blanks is left, and stays so, so that the next call gives none either
 abbrev pub TokenGiven : TokenCuts → Option Token → TokenCuts → Type 0

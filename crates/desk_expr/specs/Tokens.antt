@@ -5,10 +5,7 @@ use Rattle.desk_expr.specs.declared.token.Token.{Token}
 use Rattle.desk_expr.specs.Words.{kind_by}
 use Rattle.desk_base.specs.declared.profile.Profile.{Profile}
 use Rattle.desk_base.specs.declared.profile.Profile.TheVariants.{Capitals}
-
--- a space or a tab
-abbrev pub is_blank : ℕ → Bool
-is_blank b = b == 32 || b == 9
+use Rattle.desk_base.specs.Bytes.{is_blank}
 
 abbrev pub is_parenthesis : ℕ → Bool
 is_parenthesis b = b == 40 || b == 41

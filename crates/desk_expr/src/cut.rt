@@ -5,8 +5,9 @@ ghost use Rattle.std.specs.Prelude.{◌≡◌, ◌==◌, ◌+◌, ◌≤◌, ◌
 ghost use Rattle.std.specs.List.{position_or_len};
 ghost use Rattle.std.specs.Str.{IsCharBoundary};
 ghost use Rattle.std.specs.Iterator.{at_most};
-ghost use Rattle.desk_expr.specs.Tokens.{is_blank, is_parenthesis, is_run_byte, IsPiece, IsFirstToken, lexeme};
+ghost use Rattle.desk_expr.specs.Tokens.{is_parenthesis, is_run_byte, IsPiece, IsFirstToken, lexeme};
 ghost use Rattle.desk_expr.specs.Words.{is_local_reference, is_reference_of_document, is_reference, begins_like_reference, is_licence_or_later, word_kind, is_operator, kind_by};
+ghost use Rattle.desk_base.specs.Bytes.{is_blank};
 
 use crate::token::{Kind, Token};
 use desk_base::{Profile, is_idstring_of_bytes};

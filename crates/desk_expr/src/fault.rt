@@ -1,6 +1,6 @@
 //! Why a text is no licence expression.
 
-ghost use Rattle.std.specs.Prelude.{◌≡◌, codes};
+ghost use Rattle.std.specs.Prelude.{◌≡◌, ◌<◌, codes, IfErr, OnOk};
 ghost use Rattle.desk_expr.specs.Faults.{fault_number, fault_name, fault_place};
 
 use std::alloc::AllocError;
@@ -84,5 +84,16 @@ impl ParseFault {
             | ParseFault::TooLong(place)
             | ParseFault::TooManyTerms(place) => place,
         }
+    }
+}
+
+/// Want of memory, as an error. Any other fault says that the text is no expression, or no term.
+pub fn told(fault: ParseFault) -> Result<(), AllocError>
+    ensures text { OnOk result (0 < fault_number fault) }
+    ensures memory { IfErr result (λ error. fault ≡ ParseFault.Memory error) }
+{
+    match fault {
+        ParseFault::Memory(error) => Err(error),
+        _ => Ok(()),
     }
 }

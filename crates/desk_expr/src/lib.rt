@@ -30,7 +30,7 @@ mod word;
 pub use cut::{TokenCuts, is_reference};
 pub use desk_base::Profile;
 pub use expr::{Expr, Shape};
-pub use fault::ParseFault;
+pub use fault::{ParseFault, told};
 pub use listing::terms;
 pub use printing::{print, print_term};
 pub use progress::{parse, parse_in};

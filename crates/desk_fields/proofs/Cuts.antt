@@ -12,7 +12,7 @@ use Rattle.std.proofs.Math.Nat.{add-sub_cancel_left}
 use Rattle.desk_base.specs.declared.lines.LineEnd.{LineEnd}
 use Rattle.desk_base.specs.declared.lines.LineEnd.TheVariants.{Lf, CrLf, Nothing}
 use Rattle.desk_base.specs.Lines.{IsLine, end_bytes}
-use Rattle.desk_fields.specs.Text.{is_blank}
+use Rattle.desk_base.specs.Bytes.{is_blank}
 
 blank_low : (b : ℕ) → is_blank b ≡ true → b < 128
 blank_low b h = grind (arith, nat_tests)

@@ -8,8 +8,9 @@ use Rattle.std.proofs.Math.Seq.{get_or-append_right}
 use Rattle.desk_base.specs.declared.lines.LineEnd.{LineEnd}
 use Rattle.desk_base.specs.declared.lines.LineEnd.TheVariants.{Lf, CrLf, Nothing}
 use Rattle.desk_base.specs.Lines.{Ends}
-use Rattle.desk_fields.specs.Text.{is_blank, skip_blanks}
+use Rattle.desk_fields.specs.Text.{skip_blanks}
 use Rattle.desk_fields.specs.Pieces.{text, bytes_of, opened, AllBlank, NoLf}
+use Rattle.desk_base.specs.Bytes.{is_blank}
 
 pub ends_append : (f l : List ℕ) (e : LineEnd) (r : List ℕ) → 0 < length l → Ends l e r → Ends (f ++ l) e r
 ends_append f l Lf r some h =

@@ -1,24 +1,22 @@
 -- A text begins with one piece at most.
-use Rattle.std.proofs.Common.{◌≡◌, ◌≢◌, ◌∙◌, ◌⊎◌, inl, inr, ℕ, ◌+◌, ◌-◌, ◌<◌, ◌≤◌, List, [], ◌∷◌, ◌++◌, length, get_or, take, drop, sym, ap, refl, arith, Bool, true, false, cond, append_assoc, length-append, append-nil, ⊎_elim, length-take-le, take-append-drop}
+use Rattle.std.proofs.Common.{◌≡◌, ◌≢◌, ◌∙◌, inl, inr, ℕ, ◌+◌, ◌-◌, ◌<◌, ◌≤◌, List, [], ◌∷◌, ◌++◌, length, get_or, take, drop, sym, ap, refl, arith, Bool, true, false, cond, append_assoc, length-append, append-nil, length-take-le, take-append-drop}
 use Rattle.desk_fields.proofs.Founds.{blank_cons}
-use Rattle.std.specs.Prelude.{All, codes, ◌==◌, ◌||◌}
+use Rattle.std.specs.Prelude.{codes, ◌==◌, ◌||◌}
 use Rattle.std.proofs.lemmas.Grind.{common_steps}
-use Rattle.std.proofs.str.Laws.{order}
 use Rattle.std.proofs.Math.Seq.{take-append_seam}
 use Rattle.std.specs.List.{prefix_len}
 use Rattle.std.proofs.lemmas.List.{append_cancel_left, append_cancel_right}
-use Rattle.std.proofs.lemmas.List.Elements.{All-get_or, All-tail, All-append, All-cons}
+use Rattle.std.proofs.lemmas.List.Elements.{All-tail, All-append, All-cons}
 use Rattle.std.proofs.lemmas.Bool.Decides.{nat_tests}
 use Rattle.desk_base.specs.declared.lines.LineEnd.{LineEnd}
 use Rattle.desk_base.specs.declared.lines.LineEnd.TheVariants.{Lf, CrLf, Nothing}
 use Rattle.desk_base.specs.Lines.{IsLine}
-use Rattle.desk_fields.specs.Text.{is_blank, skip_blanks, trimmed}
+use Rattle.desk_fields.specs.Text.{skip_blanks, trimmed}
 use Rattle.desk_fields.specs.Pieces.{NoLf, AllBlank, opened, IsFirstEnd, IsTagged, Opens, is_bare}
 use Rattle.desk_base.proofs.LinesOnce.{cut_once}
 use Rattle.desk_fields.proofs.Scans.{tag_first, skip-append}
-
-head_not : (c d : ℕ) (a : List ℕ) → All (λ b. b ≢ c) (d ∷ a) → d ≢ c
-head_not c d a h = All-get_or (λ b. b ≢ c) (d ∷ a) 0 0 (omega arith) h
+use Rattle.desk_base.proofs.Numbers.{three, head_not}
+use Rattle.desk_base.specs.Bytes.{is_blank}
 
 -- a front that has no LF and ends with no CR lies within the first line
 pub within_lf : (h inner l r : List ℕ) → NoLf h → h ++ (62 ∷ inner) ≡ l ++ (10 ∷ r) → (x : List ℕ) × (l ≡ h ++ (62 ∷ x))
@@ -88,9 +86,6 @@ blank_no_lf b h e = grind (arith, nat_tests)
 
 small_no_lf : NoLf (60 ∷ 116 ∷ 101 ∷ 120 ∷ 116 ∷ [])
 small_no_lf = All-cons (λ b. b ≢ 10) 60 (116 ∷ 101 ∷ 120 ∷ 116 ∷ []) (λ e. omega (arith, e)) (All-cons (λ b. b ≢ 10) 116 (101 ∷ 120 ∷ 116 ∷ []) (λ e. omega (arith, e)) (All-cons (λ b. b ≢ 10) 101 (120 ∷ 116 ∷ []) (λ e. omega (arith, e)) (All-cons (λ b. b ≢ 10) 120 (116 ∷ []) (λ e. omega (arith, e)) (All-cons (λ b. b ≢ 10) 116 ([]) (λ e. omega (arith, e)) (λ k d lt. absurd (omega arith))))))
-
-three : (m n : ℕ) → (m < n) ⊎ ((n < m) ⊎ (m ≡ n))
-three m n = ⊎_elim (λ lt. inl lt) (λ le. ⊎_elim (λ lt. inr (inl lt)) (λ ge. inr (inr (omega arith))) (order n m)) (order m n)
 
 pub gap_no_lf : (gap : List ℕ) → AllBlank gap → NoLf gap
 gap_no_lf [] h = λ k d lt. absurd (omega arith)

@@ -8,7 +8,7 @@ use Rattle.std.specs.Str.Pattern.{LacksTextAt}
 use Rattle.std.specs.List.{prefix_len, suffix_len}
 use Rattle.std.proofs.lemmas.Str.{IsCharBoundary-after_ascii}
 use Rattle.std.proofs.Math.Seq.{drop-append_seam, get_or-append_seam}
-use Rattle.desk_fields.specs.Text.{is_blank, skip_blanks, trimmed}
+use Rattle.desk_fields.specs.Text.{skip_blanks, trimmed}
 use Rattle.std.specs.Prelude.{Option, Some, None, IfNone, IfSome, MatchOption}
 use Rattle.std.specs.Str.Pattern.{FindsText, SplitsAroundMatch}
 use Rattle.std.proofs.lemmas.Bool.Decides.{nat_tests}
@@ -16,6 +16,7 @@ use Rattle.std.proofs.lemmas.Str.Pattern.{split_text_parts}
 use denote.Ref.{Bor}
 use Rattle.desk_base.proofs.LinesOnce.{cut_once}
 use Rattle.desk_fields.specs.Pieces.{IsFirstEnd, is_bare}
+use Rattle.desk_base.specs.Bytes.{is_blank}
 
 drop_next : (n b : ℕ) (xs : List ℕ) → drop (1 + n) (b ∷ xs) ≡ drop n xs
 drop_next n b xs = let e : 1 + n ≡ suc n = omega arith in ap (λ k. drop k (b ∷ xs)) e

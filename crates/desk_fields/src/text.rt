@@ -4,7 +4,8 @@ ghost use Rattle.std.specs.Prelude.{◌≡◌, ◌+◌, ◌-◌, ◌≤◌, ◌<
 ghost use Rattle.std.specs.List.{prefix_len, suffix_len, position_or_len};
 ghost use Rattle.std.specs.Str.{IsCharBoundary};
 ghost use Rattle.desk_base.specs.Lines.{IsLine};
-ghost use Rattle.desk_fields.specs.Text.{is_blank, skip_blanks, trim_end, trimmed, first_word, after_word};
+ghost use Rattle.desk_fields.specs.Text.{skip_blanks, trim_end, trimmed, first_word, after_word};
+ghost use Rattle.desk_base.specs.Bytes.{is_blank};
 
 use desk_base::{LineEnd, first_line as first_byte_line};
 

@@ -1,6 +1,8 @@
 -- Lines added one after another.
 use Rattle.std.proofs.Common.{◌≡◌, ◌∙◌, ℕ, ◌+◌, ◌-◌, ◌<◌, List, [], ◌++◌, length, get_or, drop, sym, subst, ap, arith, inl, inr, append_assoc, append-nil, length-append}
-use Rattle.std.specs.Prelude.{All}
+use Rattle.std.specs.Prelude.{All, codes}
+use Rattle.std.specs.Fmt.{decimal}
+use Rattle.hex.specs.Hex.{encode_lower}
 use Rattle.std.proofs.lemmas.Grind.{flat_map-append}
 use Rattle.std.proofs.lemmas.List.{get_or_append_left, drop_more}
 use Rattle.std.proofs.lemmas.List.Elements.{All-append, All-nil}
@@ -8,7 +10,7 @@ use Rattle.std.proofs.Math.Seq.{get_or-append_right}
 use Rattle.desk_tagvalue.specs.declared.drafts.Draft.{Draft}
 use Rattle.desk_tagvalue.specs.declared.drafts.DraftFile.{DraftFile}
 use Rattle.desk_tagvalue.specs.declared.writing.WriteFault.{WriteFault}
-use Rattle.desk_tagvalue.specs.Drafts.{LineText, spelled, text_of_lines, file_lines, files_lines, head_lines, draft_lines}
+use Rattle.desk_tagvalue.specs.Drafts.{LineText, spelled, text_of_lines, lines_of_file, file_lines, files_lines, head_lines, draft_lines}
 use Rattle.desk_tagvalue.specs.Written.{Stands, Adds, IsStopped}
 
 pub all_front : {X : Type 0} (P : X → Type 0) (xs ys : List X) → All P (xs ++ ys) → All P xs
@@ -38,6 +40,13 @@ stops_front ls ms e (inr b) = inr (b.0, λ all. b.1 (all_front Stands ls ms all)
 pub stops_back : (ls ms : List LineText) (e : WriteFault) → IsStopped ms e → IsStopped (ls ++ ms) e
 stops_back ls ms e (inl m) = inl m
 stops_back ls ms e (inr b) = inr (b.0, λ all. b.1 (all_back Stands ls ms all))
+
+-- the lines of a file by its texts
+pub file_texts : (k : ℕ) (f : DraftFile) (name id checksum : List ℕ) → name ≡ codes "./" ++ f.path → id ≡ codes "SPDXRef-File-" ++ decimal k → checksum ≡ codes "SHA1: " ++ encode_lower f.digest
+    → lines_of_file name id checksum f ≡ file_lines k f
+file_texts k f name id checksum is_name is_id is_checksum =
+    ap (λ n. lines_of_file n id checksum f) is_name ∙ ap (λ i. lines_of_file (codes "./" ++ f.path) i checksum f) is_id
+    ∙ ap (λ s. lines_of_file (codes "./" ++ f.path) (codes "SPDXRef-File-" ++ decimal k) s f) is_checksum
 
 -- the lines of a file, and of those behind it
 pub one_file : (k : ℕ) (files : List DraftFile) (i : ℕ) (d : DraftFile) → i < length files → files_lines k (drop i files) ≡ file_lines k (get_or files i d) ++ files_lines (k + 1) (drop (i + 1) files)

@@ -1,6 +1,7 @@
 -- The document of a draft's fields says what the draft says.
 use Rattle.std.proofs.Common.{◌≡◌, ◌∙◌, ℕ, ◌+◌, ◌≤◌, List, [], ◌∷◌, ◌++◌, length, sym, subst, ap, refl, false, cond, Some, None, Ok, IsUtf8}
-use Rattle.std.specs.Prelude.{codes, map, filter}
+use Rattle.std.specs.Prelude.{All, codes, map, filter}
+use Rattle.std.proofs.lemmas.List.Elements.{All-head, All-tail}
 use Rattle.hex.specs.Hex.{encode_lower}
 use Rattle.desk_fields.specs.declared.tag.Tag.{Tag}
 use Rattle.desk_fields.specs.declared.tag.Tag.TheVariants as tags
@@ -15,7 +16,7 @@ use Rattle.desk_tagvalue.specs.Parts.{head_of, Section, section_at, sections_of,
 use Rattle.desk_base.specs.Limits.{document_bytes}
 use Rattle.desk_tagvalue.specs.Documents.{judged, unless, Spells, fields}
 use Rattle.desk_tagvalue.specs.Drafts.{draft_lines}
-use Rattle.desk_tagvalue.specs.Written.{Adds, fields_of_lines}
+use Rattle.desk_tagvalue.specs.Written.{Adds, IsDigestRead, fields_of_lines}
 use Rattle.desk_tagvalue.specs.Given.{AreFiles, IsPackage, IsOnlyPackage, IsOnlyEdge, GivesDraft}
 use Rattle.desk_tagvalue.proofs.PartsLemmas.{head_inside}
 use Rattle.desk_tagvalue.proofs.DraftEntries.{entry, file_id, AreFileEntries, Places, package_entries, head_entries, entries_of_draft}
@@ -72,19 +73,19 @@ file_head k f b c d e rest none =
     let e5 = entry e tags.FileCopyright f.copyright in
     head_inside e2 (e3 ∷ e4 ∷ e5 ∷ rest) refl ∙ ap (λ l. e2 ∷ l) (head_inside e3 (e4 ∷ e5 ∷ rest) refl ∙ ap (λ l. e3 ∷ l) (head_inside e4 (e5 ∷ rest) refl ∙ ap (λ l. e4 ∷ l) (head_inside e5 rest refl ∙ ap (λ l. e5 ∷ l) none)))
 
-files_given : (k : ℕ) (fs : List DraftFile) (es : List EntryText) → AreFileEntries k fs es → AreFiles k fs (parts_of tags.FileName file_of es)
-files_given k [] es is = subst (λ l. AreFiles k [] (parts_of tags.FileName file_of l)) (sym is) tt
-files_given k (f ∷ fs) es is =
+files_given : (k : ℕ) (fs : List DraftFile) (es : List EntryText) → AreFileEntries k fs es → All IsDigestRead fs → AreFiles k fs (parts_of tags.FileName file_of es)
+files_given k [] es is digests = subst (λ l. AreFiles k [] (parts_of tags.FileName file_of l)) (sym is) tt
+files_given k (f ∷ fs) es is digests =
     let h = file_head k f is.1 is.2 is.3 is.4 is.5 (head_of_files (k + 1) fs is.5 is.7) in
     subst (λ l. AreFiles k (f ∷ fs) (parts_of tags.FileName file_of l)) (sym is.6) (
       record {
         name = refl;
         id = ap (text_of tags.Identifier) h;
-        sha1 = ap sha1_of h;
+        sha1 = ap sha1_of h ∙ All-head IsDigestRead f fs digests;
         concluded = ap (value_of tags.FileConcluded) h;
         copyright = ap (value_of tags.FileCopyright) h;
       },
-      files_given (k + 1) fs is.5 is.7,
+      files_given (k + 1) fs is.5 is.7 (All-tail IsDigestRead f fs digests),
     )
 
 package_head : (d : Draft) (p : Places) (rest : List EntryText) → head_of rest ≡ [] → head_of (package_entries d p rest) ≡ package_entries d p []
@@ -117,24 +118,24 @@ edge_given d p rest is =
     let x = edge_of (entry p.o tags.Relationship (codes "SPDXRef-DOCUMENT DESCRIBES SPDXRef-Package")) in
     subst (λ l. IsOnlyEdge (x ∷ l)) (sym (no_edges 1 d.files rest is)) (refl, refl, refl)
 
-draft_given : (d : Draft) (p : Places) (rest : List EntryText) → AreFileEntries 1 d.files rest → GivesDraft d (document_of (head_entries d p rest))
-draft_given d p rest is = record {
+draft_given : (d : Draft) (p : Places) (rest : List EntryText) → AreFileEntries 1 d.files rest → All IsDigestRead d.files → GivesDraft d (document_of (head_entries d p rest))
+draft_given d p rest is digests = record {
   name = refl;
   namespace = refl;
   created = refl;
   packages = package_given d p rest is;
-  files = files_given 1 d.files rest is;
+  files = files_given 1 d.files rest is digests;
   snippets = other_parts tags.SnippetIdentifier snippet_of refl 1 d.files rest is;
   extracted = other_parts tags.LicenseIdentifier extracted_of refl 1 d.files rest is;
   edges = edge_given d p rest is;
 }
 
 -- a draft's text spells a document that says what the draft says
-pub draft_read : (d : Draft) (t : List ℕ) → Adds [] (draft_lines d) t → IsUtf8 t → length t ≤ document_bytes → length d.files ≤ 9999 → (x : DocumentText) × Spells t (Ok x) × GivesDraft d x
-draft_read d t adds utf8 small few =
+pub draft_read : (d : Draft) (t : List ℕ) → Adds [] (draft_lines d) t → IsUtf8 t → length t ≤ document_bytes → length d.files ≤ 9999 → All IsDigestRead d.files → (x : DocumentText) × Spells t (Ok x) × GivesDraft d x
+draft_read d t adds utf8 small few digests =
     let w = entries_of_draft d in
     let es = head_entries d w.0 w.1 in
     let none : first_of (first_fault [] es) (missing_of es) ≡ None =
     ap (λ o. first_of o (missing_of es)) (draft_sound d w.0 w.1 w.3 few) ∙ ap (λ o. first_of o (missing_of_elements es)) (document_named d w.0 w.1) ∙ elements_named d w.0 w.1 w.3 in
     let is : judged (map read_entry (fields_of_lines 1 (draft_lines d))) ≡ Ok (document_of es) = ap judged w.2 ∙ ap (λ o. unless o (document_of es)) none in
-    (document_of es, subst (Spells t) is (fields t (fields_of_lines 1 (draft_lines d)) small utf8 (draft_again d t adds)), draft_given d w.0 w.1 w.3)
+    (document_of es, subst (Spells t) is (fields t (fields_of_lines 1 (draft_lines d)) small utf8 (draft_again d t adds)), draft_given d w.0 w.1 w.3 digests)

@@ -6,7 +6,7 @@ use Rattle.desk_fields.specs.declared.tag.Tag.TheVariants as tags
 use Rattle.desk_tagvalue.specs.declared.drafts.Draft.{Draft}
 use Rattle.desk_tagvalue.specs.declared.drafts.DraftFile.{DraftFile}
 use Rattle.desk_tagvalue.specs.Entries.{value_of}
-use Rattle.desk_tagvalue.specs.Parts.{DocumentText, PackageText, FileText, EdgeText, sha1_digits}
+use Rattle.desk_tagvalue.specs.Parts.{DocumentText, PackageText, FileText, EdgeText}
 
 -- the package of a draft
 pub record IsPackage (d : Draft) (p : PackageText) : Type 0 where
@@ -24,7 +24,7 @@ IsOnlyPackage d _ = ⊥
 pub record IsFile (k : ℕ) (f : DraftFile) (x : FileText) : Type 0 where
   pub name : x.name ≡ codes "./" ++ f.path
   pub id : x.id ≡ codes "SPDXRef-File-" ++ decimal k
-  pub sha1 : x.sha1 ≡ sha1_digits (codes "SHA1: " ++ encode_lower f.digest)
+  pub sha1 : x.sha1 ≡ Some (encode_lower f.digest)
   pub concluded : x.concluded ≡ Some f.concluded
   pub copyright : x.copyright ≡ Some f.copyright
 

@@ -1,10 +1,13 @@
 -- What can be written: a value that is read back from its field, printed alone.
-use Rattle.std.specs.Prelude.{◌≡◌, ◌⊎◌, ◌==◌, ◌+◌, ℕ, List, [], ◌∷◌, ◌++◌, Ok, All, count_by}
+use Rattle.std.specs.Prelude.{◌≡◌, ◌⊎◌, ◌==◌, ◌+◌, ℕ, List, [], ◌∷◌, ◌++◌, Ok, Some, All, codes, count_by}
+use Rattle.hex.specs.Hex.{encode_lower}
 use Rattle.desk_fields.specs.Tags.{tag_name}
 use Rattle.desk_fields.specs.Cutting.{Reads, FieldText}
 use Rattle.desk_tagvalue.specs.declared.writing.WriteFault.{WriteFault}
 use Rattle.desk_tagvalue.specs.declared.writing.WriteFault.TheVariants as faults
+use Rattle.desk_tagvalue.specs.declared.drafts.DraftFile.{DraftFile}
 use Rattle.desk_tagvalue.specs.Drafts.{LineText, blank, one_line, in_text, spelled, text_of_lines}
+use Rattle.desk_tagvalue.specs.Parts.{sha1_digits}
 
 abbrev pub field_at : ℕ → List ℕ → List ℕ → FieldText
 field_at line tag value = record { line = line; tag = tag; value = value }
@@ -23,6 +26,10 @@ pub record Adds (old : List ℕ) (ls : List LineText) (new : List ℕ) : Type 0 
 -- lines weren't added: memory ran out, or not each of them is read back
 abbrev pub IsStopped : List LineText → WriteFault → Type 0
 IsStopped ls e = (e ≡ faults.Memory) ⊎ ((e ≡ faults.BadValue) × (All Stands ls → ⊥))
+
+-- the digits of a file's digest are read back from its checksum
+abbrev pub IsDigestRead : DraftFile → Type 0
+IsDigestRead f = sha1_digits (codes "SHA1: " ++ encode_lower f.digest) ≡ Some (encode_lower f.digest)
 
 -- how many line feeds a text has
 abbrev pub feeds : List ℕ → ℕ

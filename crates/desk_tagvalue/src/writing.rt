@@ -11,7 +11,7 @@ ghost use Rattle.desk_tagvalue.specs.Drafts.{line_text, one_line, in_text, spell
 ghost use Rattle.desk_tagvalue.specs.Parts.{DocumentText, sha1_digits};
 ghost use Rattle.desk_tagvalue.specs.Documents.{Spells};
 ghost use Rattle.desk_tagvalue.specs.Given.{GivesDraft};
-ghost use Rattle.desk_tagvalue.specs.Written.{field_at, Stands, Adds, IsStopped, fields_of_lines};
+ghost use Rattle.desk_tagvalue.specs.Written.{field_at, Stands, Adds, IsDigestRead, IsStopped, fields_of_lines};
 
 use crate::drafts::{Draft, DraftFile, DraftLine, head_lines, lines_of_file};
 use desk_fields::{DocFault, Field, Tag, fields};
@@ -160,9 +160,10 @@ fn file_id(alloc: Global, number: u64) -> Result<String, AllocError>
     format!(in alloc; "SPDXRef-File-{number}")
 }
 
-// The checksum of a file.
-fn file_checksum(alloc: Global, digest: &[u8]) -> Result<String, AllocError>
-    ensures { IfOk result (λ s. string_bytes s ≡ codes "SHA1: " ++ encode_lower digest.now) }
+// The checksum of a file, from which its digest is read back.
+fn file_checksum(alloc: Global, digest: &[u8; 20]) -> Result<String, AllocError>
+    ensures text { IfOk result (λ s. string_bytes s ≡ codes "SHA1: " ++ encode_lower digest.now) }
+    ensures read { IfOk result (λ s. sha1_digits (string_bytes s) ≡ Some (encode_lower digest.now)) }
 {
     let digits = hex::encode(alloc, digest)?;
     let digits = digits.as_str();
@@ -177,6 +178,7 @@ fn put_file(
     file: &DraftFile,
 ) -> Result<(), WriteFault>
     ensures ok { OnOk result (Adds (string_bytes out.old) (file_lines number file.now) (string_bytes out.new)) }
+    ensures digest { OnOk result (IsDigestRead file.now) }
     ensures err { IfErr result (λ e. IsStopped (file_lines number file.now) e) }
 {
     let Ok(name) = file_name(alloc, file.path.as_str()) else {
@@ -185,7 +187,7 @@ fn put_file(
     let Ok(id) = file_id(alloc, number) else {
         return Err(WriteFault::Memory);
     };
-    let Ok(checksum) = file_checksum(alloc, file.digest.as_slice()) else {
+    let Ok(checksum) = file_checksum(alloc, &file.digest) else {
         return Err(WriteFault::Memory);
     };
     let lines = lines_of_file(&name, &id, &checksum, file);
@@ -195,6 +197,7 @@ fn put_file(
 // Adds the text of all files, numbered from 1.
 fn put_files(alloc: Global, out: &mut String, files: &[DraftFile]) -> Result<(), WriteFault>
     ensures ok { OnOk result (Adds (string_bytes out.old) (files_lines 1 files.now) (string_bytes out.new)) }
+    ensures digests { OnOk result (All IsDigestRead files.now) }
     ensures err { IfErr result (λ e. IsStopped (files_lines 1 files.now) e) }
 {
     for (i, file) in files.iter().enumerate() {

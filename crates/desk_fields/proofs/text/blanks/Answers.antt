@@ -1,8 +1,8 @@
 use Rattle.std.proofs.Common.{length, sym, arith}
 use Rattle.std.proofs.lemmas.List.Sums.{prefix_len_is}
 use Rattle.std.proofs.lemmas.Bool.Decides.{nat_tests}
-use Rattle.desk_fields.specs.Text.{is_blank}
 use Rattle.desk_fields.proofs.text.blanks.Goals as goal
+use Rattle.desk_base.specs.Bytes.{is_blank}
 
 pub returns-then-not-is_blank : goal.returns-then-not-is_blank
 returns-then-not-is_blank c = sym (prefix_len_is is_blank c.args.bytes.now c.loop-i.i 0 (omega arith) c.loop-i.invariant (λ lt. grind (arith, nat_tests)))

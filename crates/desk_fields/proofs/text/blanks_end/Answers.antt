@@ -1,9 +1,9 @@
 use Rattle.std.proofs.Common.{subst, sym, ap, ◌∙◌}
 use Rattle.std.specs.List.{prefix_len}
 use Rattle.std.specs.Str.{IsCharBoundary}
-use Rattle.desk_fields.specs.Text.{is_blank}
 use Rattle.desk_fields.proofs.Cuts.{blanks_cut}
 use Rattle.desk_fields.proofs.text.blanks_end.Goals as goal
+use Rattle.desk_base.specs.Bytes.{is_blank}
 
 pub returns-clause-cut : goal.returns-clause-cut
 returns-clause-cut c =

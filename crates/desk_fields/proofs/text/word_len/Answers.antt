@@ -2,8 +2,8 @@ use Rattle.std.proofs.Common.{length, sym, arith}
 use Rattle.std.specs.Prelude.{not}
 use Rattle.std.proofs.lemmas.List.Sums.{prefix_len_is}
 use Rattle.std.proofs.lemmas.Bool.Decides.{nat_tests}
-use Rattle.desk_fields.specs.Text.{is_blank}
 use Rattle.desk_fields.proofs.text.word_len.Goals as goal
+use Rattle.desk_base.specs.Bytes.{is_blank}
 
 pub returns-then-is_blank-clause-value : goal.returns-then-is_blank-clause-value
 returns-then-is_blank-clause-value c = sym (prefix_len_is (λ b. not (is_blank b)) c.args.bytes.now c.loop-i.i 0 (omega arith) c.loop-i.invariant (λ lt. grind (arith, nat_tests)))

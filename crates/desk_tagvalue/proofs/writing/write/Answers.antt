@@ -1,7 +1,8 @@
 use Rattle.std.proofs.Common.{subst}
 use Rattle.std.specs.String.{string_bytes}
 use Rattle.desk_tagvalue.specs.Drafts.{head_lines, files_lines}
-use Rattle.desk_tagvalue.specs.Written.{Adds, IsStopped}
+use Rattle.std.specs.Prelude.{All}
+use Rattle.desk_tagvalue.specs.Written.{Adds, IsDigestRead, IsStopped}
 use Rattle.desk_tagvalue.proofs.AddLemmas.{draft_added, stops_front, stops_back}
 use Rattle.std.proofs.lemmas.Str.{IsUtf8-string_bytes}
 use Rattle.desk_tagvalue.proofs.LinesReread.{draft_again}
@@ -38,4 +39,4 @@ returns-in-Ok-put_files-clause-read c = λ small few.
     let head = subst (λ l. Adds (string_bytes c.new-out.result) l (string_bytes c.put_all.new.out)) c.head_lines.ensures c.in-Ok.ensures.ok in
     let files = subst (λ l. Adds (string_bytes c.put_all.new.out) (files_lines 1 l) (string_bytes c.put_files.new.out)) c.as_slice.ensures c.in-Ok-put_files.ensures.ok in
     draft_read d (string_bytes c.put_files.new.out) (draft_added d (string_bytes c.new-out.result) (string_bytes c.put_all.new.out) (string_bytes c.put_files.new.out) c.new-out.ensures.bytes head files)
-    (IsUtf8-string_bytes c.put_files.new.out) small few
+    (IsUtf8-string_bytes c.put_files.new.out) small few (subst (All IsDigestRead) c.as_slice.ensures c.in-Ok-put_files.ensures.digests)

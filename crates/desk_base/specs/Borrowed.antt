@@ -1,0 +1,18 @@
+-- Texts without where they lie in memory.
+use Rattle.std.specs.Prelude.{ℕ, List, map}
+use Rattle.std.specs.Prelude.{Vec}
+use Rattle.std.specs.Ordering.{nat_cmp}
+use Rattle.std.specs.Cmp.Lexicographic.{slice_cmp}
+use Rattle.std.specs.declared.cmp.Ordering.{Ordering}
+use Rattle.std.specs.declared.alloc.Global.{Global}
+use denote.Ref.{Bor}
+
+-- the bytes of borrowed texts
+abbrev pub texts : List (Bor (List ℕ)) → List (List ℕ)
+texts borrowed = map (λ (text : Bor (List ℕ)). text.now) borrowed
+
+abbrev pub texts_in : Vec (Bor (List ℕ)) Global → List (List ℕ)
+texts_in v = texts v.items
+
+abbrev pub borrowed_cmp : Bor (List ℕ) → Bor (List ℕ) → Ordering
+borrowed_cmp a b = slice_cmp nat_cmp a.now b.now
