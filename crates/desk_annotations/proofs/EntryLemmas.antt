@@ -1,25 +1,14 @@
 -- A list of entries, read one after the other.
-use Rattle.std.proofs.Common.{◌≡◌, ◌∙◌, ℕ, ◌+◌, ◌<◌, ◌≤◌, List, [], ◌∷◌, ◌++◌, length, get_or, drop, sym, ap, refl, append_assoc}
+use Rattle.std.proofs.Common.{◌≡◌, ◌∙◌, ℕ, ◌+◌, ◌<◌, ◌≤◌, List, [], ◌∷◌, ◌++◌, length, get_or, drop, ap}
 use Rattle.std.specs.Prelude.{Ok, Err}
 use Rattle.std.proofs.lemmas.List.{append-nil, drop_more, drop_all}
 use Rattle.toml.specs.Data.{Data}
 use Rattle.toml.specs.View.{view, items_view}
 use Rattle.toml.specs.declared.value.Value.{Value}
 use Rattle.desk_annotations.specs.declared.fault.AnnotationsFault.{AnnotationsFault}
-use Rattle.desk_annotations.specs.Reading.{Read, each, followed}
-
--- what is read so far, and what the rest gives
-abbrev pub onto : {A : Type 0} → List A → Read (List A) → Read (List A)
-onto done (Ok xs) = Ok (done ++ xs)
-onto done (Err fault) = Err fault
-
-pub onto-nil : {A : Type 0} (r : Read (List A)) → onto [] r ≡ r
-onto-nil (Ok xs) = refl
-onto-nil (Err fault) = refl
-
-onto-followed : {A : Type 0} (done : List A) (x : A) (r : Read (List A)) → onto done (followed (Ok x) r) ≡ onto (done ++ x ∷ []) r
-onto-followed done x (Ok xs) = ap Ok (sym (append_assoc done (x ∷ []) xs))
-onto-followed done x (Err fault) = refl
+use Rattle.desk_annotations.specs.Reading.{Read, each}
+use Rattle.desk_base.specs.Results.{followed}
+use Rattle.desk_base.proofs.Results.{onto, onto-followed}
 
 -- one value more
 pub onto-item : {A : Type 0} (entry : ℕ → Data → Read A) (done : List A) (vs : List Value) (i : ℕ) (v : Value) (x : A) → i < length vs → entry i (view (get_or vs i v)) ≡ Ok x

@@ -11,7 +11,7 @@ use Rattle.desk_reuse.specs.declared.glob.Piece.{Piece}
 use Rattle.desk_reuse.specs.Glob.{Spells}
 use Rattle.desk_reuse.proofs.GlobOnce.{spells_once}
 use Rattle.desk_annotations.specs.Right.{Tells, Reading, IsRight}
-use Rattle.desk_annotations.specs.Shown.{texts}
+use Rattle.desk_base.specs.Borrowed.{texts}
 
 pub tells_once : (text : List ℕ) (a b : Bool) → Tells text a → Tells text b → a ≡ b
 tells_once text true true h k = refl

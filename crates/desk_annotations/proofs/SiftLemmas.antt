@@ -7,8 +7,9 @@ use Rattle.toml.specs.View.{view, items_view}
 use Rattle.toml.specs.declared.value.Value.{Value}
 use Rattle.desk_annotations.specs.declared.fault.AnnotationsFault.{AnnotationsFault}
 use Rattle.desk_annotations.specs.Right.{Reading}
-use Rattle.desk_annotations.specs.Reading.{Read, then_read, each, followed, annotation_at}
+use Rattle.desk_annotations.specs.Reading.{Read, each, annotation_at}
 use Rattle.desk_annotations.specs.Sifting.{good, bad, each_good, each_bad, good_in, bad_in, Agrees}
+use Rattle.desk_base.specs.Results.{then_read, followed}
 
 agrees_item : {A : Type 0} (x : Read A) (rest : Read (List A)) (faults : List AnnotationsFault) (ys : List A) → Agrees rest faults ys → Agrees (followed x rest) (bad x ++ faults) (good x ++ ys)
 agrees_item (Ok x) (Ok xs) faults ys h = (h.0, ap (λ l. x ∷ l) h.1)

@@ -1,6 +1,6 @@
 -- The annotations of a REUSE.toml, or its first fault: of the whole document, then of each annotation in turn, of which the fault
 -- with the least number is told.
-use Rattle.std.specs.Prelude.{ℕ, ◌+◌, List, [], ◌∷◌, map, codes, Option, Some, None, Result, Ok, Err, if◌then◌else◌}
+use Rattle.std.specs.Prelude.{ℕ, ◌+◌, List, [], map, codes, Option, Some, None, Result, Ok, Err, if◌then◌else◌}
 use Rattle.std.specs.Option.{ok_or}
 use Rattle.std.specs.List.{list_all}
 use Rattle.toml.specs.Data.{Data, as_array, as_table, get_member, Items, no_items, item, Members}
@@ -11,20 +11,11 @@ use Rattle.desk_annotations.specs.declared.fault.AnnotationsFault.{AnnotationsFa
 use Rattle.desk_annotations.specs.declared.fault.AnnotationsFault.TheVariants.{BadToml, BadAnnotation}
 use Rattle.desk_annotations.specs.Right.{Reading}
 use Rattle.desk_annotations.specs.Values.{texts_of, texts_at, precedence_text, precedence_of, is_version}
+use Rattle.desk_base.specs.Results.{then_read, followed}
 
 -- something, or its fault
 abbrev pub Read : Type 0 → Type 0
 Read A = Result A AnnotationsFault
-
--- what comes next, where there is no fault
-abbrev pub then_read : {A B : Type 0} → Read A → (A → Read B) → Read B
-then_read (Ok x) next = next x
-then_read (Err fault) next = Err fault
-
-abbrev pub followed : {A : Type 0} → Read A → Read (List A) → Read (List A)
-followed (Ok x) (Ok xs) = Ok (x ∷ xs)
-followed (Ok x) (Err fault) = Err fault
-followed (Err fault) more = Err fault
 
 -- each item in turn, with its index, or the first fault
 abbrev pub each : {A : Type 0} → (ℕ → Data → Read A) → ℕ → Items → Read (List A)

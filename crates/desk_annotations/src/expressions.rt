@@ -1,23 +1,12 @@
 //! Which texts are licence expressions.
 
-ghost use Rattle.std.specs.Prelude.{◌≡◌, ◌<◌, IfOk, OnOk};
+ghost use Rattle.std.specs.Prelude.{◌≡◌, true, IfOk, IfSome};
 ghost use Rattle.std.specs.List.{list_all};
-ghost use Rattle.desk_expr.specs.Faults.{fault_number};
 ghost use Rattle.desk_annotations.specs.Right.{Tells, Reading, IsRight};
-ghost use Rattle.desk_annotations.specs.Shown.{texts};
+ghost use Rattle.desk_base.specs.Borrowed.{texts};
 
-use desk_expr::{ParseFault, parse};
+use desk_expr::{parse, told};
 use std::alloc::{AllocError, Global};
-
-// Whether the fault is of the text.
-fn told(fault: ParseFault) -> Result<(), AllocError>
-    ensures { OnOk result (0 < fault_number fault) }
-{
-    match fault {
-        ParseFault::Memory(error) => Err(error),
-        _ => Ok(()),
-    }
-}
 
 /// Whether a text is a licence expression, with operators in capitals (SPDX 2.3, Annex D). The only error is want of memory.
 pub fn is_expression(alloc: Global, text: &str) -> Result<bool, AllocError>
@@ -32,13 +21,30 @@ pub fn is_expression(alloc: Global, text: &str) -> Result<bool, AllocError>
     }
 }
 
+/// The same where another text, if any, is known to be an expression: one that equals it isn't read again.
+pub fn is_expression_beside(
+    alloc: Global,
+    text: &str,
+    known: Option<&str>,
+) -> Result<bool, AllocError>
+    requires { IfSome known (λ k. Tells k.now true) }
+    ensures { IfOk result (Tells text.now) }
+{
+    if let Some(known) = known {
+        if known == text {
+            return Ok(true);
+        }
+    }
+    is_expression(alloc, text)
+}
+
 /// Whether each text is a licence expression.
 pub(crate) fn are_expressions(alloc: Global, listed: &[&str]) -> Result<bool, AllocError>
     ensures { (r : Reading) → IsRight r → IfOk result (λ b. b ≡ list_all r.is_expression (texts listed.now)) }
 {
     for text in listed {
-        let told = is_expression(alloc, text)?;
-        if !told {
+        let is_read = is_expression(alloc, text)?;
+        if !is_read {
             return Ok(false);
         }
     }

@@ -29,7 +29,7 @@ mod sifting;
 mod values;
 
 pub use annotation::{Annotation, Annotations, Precedence};
-pub use expressions::is_expression;
+pub use expressions::{is_expression, is_expression_beside};
 pub use fault::{AnnotationFault, AnnotationsFault};
 pub use laws::{one_reading, reading_is_sifting};
 pub use sifting::Sifted;

@@ -5,7 +5,7 @@ ghost use Rattle.toml.specs.Data.{get_member, as_integer};
 ghost use Rattle.toml.specs.View.{view, table_view, items_view};
 ghost use Rattle.desk_annotations.specs.Right.{Reading, IsRight};
 ghost use Rattle.desk_annotations.specs.Values.{strings, texts_of, texts_at, precedence_text, precedence_of, is_version};
-ghost use Rattle.desk_annotations.specs.Shown.{texts, texts_in};
+ghost use Rattle.desk_base.specs.Borrowed.{texts, texts_in};
 
 use crate::annotation::Precedence;
 use desk_base::{Items, Text};

@@ -1,27 +1,15 @@
 -- The files of a draft, one after the other.
-use Rattle.std.proofs.Common.{◌≡◌, ◌∙◌, ℕ, ◌+◌, ◌<◌, List, [], ◌∷◌, ◌++◌, length, get_or, drop, sym, ap, refl, append_assoc}
+use Rattle.std.proofs.Common.{◌≡◌, ◌∙◌, ℕ, ◌+◌, ◌<◌, List, [], ◌∷◌, ◌++◌, length, get_or, drop, ap}
 use Rattle.std.specs.Prelude.{Ok, Err}
 use Rattle.std.proofs.lemmas.List.{drop_more}
 use Rattle.desk_gather.specs.declared.fault.GatherFault.{GatherFault}
 use Rattle.desk_gather.specs.declared.files.SourceFile.{SourceFile}
 use Rattle.desk_gather.specs.declared.gathering.FileInfo.{FileInfo}
 use Rattle.desk_gather.specs.Readers.{Reader}
-use Rattle.desk_gather.specs.Trees.{Read, followed}
 use Rattle.desk_tagvalue.specs.declared.drafts.DraftFile.{DraftFile}
 use Rattle.desk_draft.specs.Drafts.{file_of, files_of}
-
--- what is told so far, and what the rest gives
-abbrev pub onto : {A : Type 0} → List A → Read (List A) → Read (List A)
-onto done (Ok xs) = Ok (done ++ xs)
-onto done (Err fault) = Err fault
-
-pub onto-nil : {A : Type 0} (r : Read (List A)) → onto [] r ≡ r
-onto-nil (Ok xs) = refl
-onto-nil (Err fault) = refl
-
-onto-followed : {A : Type 0} (done : List A) (x : A) (r : Read (List A)) → onto done (followed (Ok x) r) ≡ onto (done ++ x ∷ []) r
-onto-followed done x (Ok xs) = ap Ok (sym (append_assoc done (x ∷ []) xs))
-onto-followed done x (Err fault) = refl
+use Rattle.desk_base.specs.Results.{followed}
+use Rattle.desk_base.proofs.Results.{onto, onto-followed}
 
 module _ (r : Reader) (tree : List SourceFile) (done : List DraftFile) (infos : List FileInfo) (i : ℕ) (info : FileInfo) (within : i < length infos) where
   stepped : onto done (files_of r tree (drop i infos)) ≡ onto done (followed (file_of r tree (get_or infos i info)) (files_of r tree (drop (i + 1) infos)))

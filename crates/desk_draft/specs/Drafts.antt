@@ -8,9 +8,10 @@ use Rattle.desk_tagvalue.specs.declared.drafts.DraftFile.{DraftFile}
 use Rattle.desk_gather.specs.declared.files.SourceFile.{SourceFile}
 use Rattle.desk_gather.specs.declared.gathering.FileInfo.{FileInfo}
 use Rattle.desk_gather.specs.Readers.{Reader}
-use Rattle.desk_gather.specs.Trees.{Read, then_read, followed, bytes_at, tree_of}
+use Rattle.desk_gather.specs.Trees.{Read, bytes_at, tree_of}
 use Rattle.desk_gather.specs.Gathering.{gathered}
 use Rattle.desk_draft.specs.Texts.{expression_read, copyright_of}
+use Rattle.desk_base.specs.Results.{then_read, followed}
 
 -- the document's name, its namespace, and when it was made
 pub record Named : Type 0 where

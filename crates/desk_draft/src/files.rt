@@ -5,7 +5,8 @@ ghost use Rattle.std.specs.List.{list_any, flat_map};
 ghost use Rattle.desk_gather.specs.Readers.{Reader, IsRightReader};
 ghost use Rattle.desk_gather.specs.Shown.{tree_in};
 ghost use Rattle.desk_draft.specs.Drafts.{bytes_of, file_of, files_of, is_bare, package_licences, package_notices};
-ghost use Rattle.desk_draft.specs.Shown.{Gives, texts_in};
+ghost use Rattle.desk_draft.specs.Shown.{Gives};
+ghost use Rattle.desk_base.specs.Borrowed.{texts_in};
 
 use crate::texts::{copyright_of, expression_read};
 use desk_base::{Items, Text};

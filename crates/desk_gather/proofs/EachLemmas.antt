@@ -1,25 +1,14 @@
 -- A list of files, of which those that pass a test are read one after the other.
-use Rattle.std.proofs.Common.{◌≡◌, ◌∙◌, ℕ, ◌+◌, ◌<◌, ◌≤◌, Bool, true, false, cond, List, [], ◌∷◌, ◌++◌, length, get_or, drop, sym, ap, refl, append_assoc}
+use Rattle.std.proofs.Common.{◌≡◌, ◌∙◌, ℕ, ◌+◌, ◌<◌, ◌≤◌, Bool, true, false, cond, List, [], ◌∷◌, ◌++◌, length, get_or, drop, ap}
 use Rattle.std.specs.Prelude.{Ok, Err}
 use Rattle.std.proofs.lemmas.List.{append-nil, drop_more, drop_all}
 use Rattle.desk_gather.specs.declared.fault.GatherFault.{GatherFault}
 use Rattle.desk_gather.specs.declared.files.File.{File}
 use Rattle.desk_gather.specs.declared.files.SourceFile.{SourceFile}
-use Rattle.desk_gather.specs.Trees.{Read, each, followed}
+use Rattle.desk_gather.specs.Trees.{Read, each}
 use Rattle.desk_gather.specs.Shown.{file_of, files_of}
-
--- what is read so far, and what the rest gives
-abbrev pub onto : {A : Type 0} → List A → Read (List A) → Read (List A)
-onto done (Ok xs) = Ok (done ++ xs)
-onto done (Err fault) = Err fault
-
-pub onto-nil : {A : Type 0} (r : Read (List A)) → onto [] r ≡ r
-onto-nil (Ok xs) = refl
-onto-nil (Err fault) = refl
-
-onto-followed : {A : Type 0} (done : List A) (x : A) (r : Read (List A)) → onto done (followed (Ok x) r) ≡ onto (done ++ x ∷ []) r
-onto-followed done x (Ok xs) = ap Ok (sym (append_assoc done (x ∷ []) xs))
-onto-followed done x (Err fault) = refl
+use Rattle.desk_base.specs.Results.{followed}
+use Rattle.desk_base.proofs.Results.{onto, onto-followed}
 
 module _ {A : Type 0} (test : SourceFile → Bool) (read : SourceFile → Read A) (done : List A) (fs : List File) (i : ℕ) (f : File) (within : i < length fs) where
   stepped : onto done (each test read (files_of (drop i fs)))

@@ -11,7 +11,7 @@ use Rattle.desk_gather.specs.declared.tomls.Toml.{Toml}
 use Rattle.desk_gather.specs.Tomls.{TomlText, annotations_in}
 use Rattle.desk_gather.specs.Folders.{Folders, list_or_none, kept_for}
 use Rattle.desk_gather.specs.Shown.{tomls_in}
-use Rattle.desk_gather.proofs.TreeLemmas.{borrowed_cmp}
+use Rattle.desk_base.specs.Borrowed.{borrowed_cmp}
 
 -- the annotations of a folder, or others where no file is for it
 abbrev pub annotations_or : List TomlText → List ℕ → List Annotation → List Annotation

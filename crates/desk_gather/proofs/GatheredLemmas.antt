@@ -4,10 +4,11 @@ use Rattle.std.specs.Prelude.{Ok, Err}
 use Rattle.desk_gather.specs.declared.fault.GatherFault.{GatherFault}
 use Rattle.desk_gather.specs.declared.files.SourceFile.{SourceFile}
 use Rattle.desk_gather.specs.Readers.{Reader, Stated}
-use Rattle.desk_gather.specs.Trees.{then_read, tree_of}
+use Rattle.desk_gather.specs.Trees.{tree_of}
 use Rattle.desk_gather.specs.Tomls.{TomlText, tomls_of}
 use Rattle.desk_gather.specs.Information.{counting}
 use Rattle.desk_gather.specs.Gathering.{holder, stated_in, info_with, info_of, infos_of, gathered}
+use Rattle.desk_base.specs.Results.{then_read}
 
 pub gathered_fails : (r : Reader) (files tree : List SourceFile) (fault : GatherFault) → tree_of files ≡ Ok tree → tomls_of r tree ≡ Err fault → gathered r files ≡ Err fault
 gathered_fails r files tree fault has is =

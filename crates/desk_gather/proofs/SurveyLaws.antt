@@ -17,11 +17,12 @@ use Rattle.desk_gather.specs.declared.flaw.Flaw.{Flaw}
 use Rattle.desk_gather.specs.declared.flaw.Flaw.TheVariants.{TooManyFiles, BadPath, TwicePath, BadToml, BadExpression}
 use Rattle.desk_gather.specs.Readers.{Reader, Stated}
 use Rattle.desk_gather.specs.Paths.{is_path, is_toml, is_covered, folder_of}
-use Rattle.desk_gather.specs.Trees.{Read, then_read, followed, each, put_file, bytes_at, placed, tree_of}
+use Rattle.desk_gather.specs.Trees.{Read, each, put_file, bytes_at, placed, tree_of}
 use Rattle.desk_gather.specs.Tomls.{TomlText, told_of, toml_read, toml_of, tomls_of}
 use Rattle.desk_gather.specs.Information.{counting}
 use Rattle.desk_gather.specs.Gathering.{holder, bad_line, unless_bad, stated_in, info_with, info_of, infos_of, gathered}
 use Rattle.desk_gather.specs.Survey.{unless_flawed, sifted, path_flaws, flaw_of, toml_flaws, toml_sifted, tag_flaws, stated_flaws, kept, tree_flaws, flaws_of, info_sifted, infos_sifted, gather_fault, Agrees}
+use Rattle.desk_base.specs.Results.{then_read, followed}
 
 -- ---- one after the other
 

@@ -12,9 +12,7 @@ use Rattle.desk_rows.specs.Texts.{text_below}
 use Rattle.desk_gather.specs.declared.files.SourceFile.{SourceFile}
 use Rattle.desk_gather.specs.Trees.{put_file, bytes_at}
 use Rattle.desk_gather.specs.Shown.{file_at, entries_of}
-
-abbrev pub borrowed_cmp : Bor (List ℕ) → Bor (List ℕ) → Ordering
-borrowed_cmp a b = slice_cmp nat_cmp a.now b.now
+use Rattle.desk_base.specs.Borrowed.{borrowed_cmp}
 
 abbrev Entries : Type 0
 Entries = List (Bor (List ℕ) × Bor (List ℕ))

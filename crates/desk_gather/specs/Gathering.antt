@@ -9,9 +9,10 @@ use Rattle.desk_gather.specs.declared.gathering.FileInfo.{FileInfo}
 use Rattle.desk_gather.specs.declared.information.Subject.TheVariants.{Notices, Licences}
 use Rattle.desk_gather.specs.Readers.{Stated, Reader}
 use Rattle.desk_gather.specs.Paths.{is_covered}
-use Rattle.desk_gather.specs.Trees.{Read, then_read, each, bytes_at, tree_of}
+use Rattle.desk_gather.specs.Trees.{Read, each, bytes_at, tree_of}
 use Rattle.desk_gather.specs.Tomls.{TomlText, tomls_of}
 use Rattle.desk_gather.specs.Information.{counting, given}
+use Rattle.desk_base.specs.Results.{then_read}
 
 -- F.license where it is there, else F itself: the file whose tags are F's own information
 abbrev pub holder_by : List ℕ → SourceFile → Option (List ℕ) → SourceFile

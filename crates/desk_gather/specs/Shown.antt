@@ -1,8 +1,7 @@
 -- What the code's values show of the definitions'.
-use Rattle.std.specs.Prelude.{◌≡◌, ℕ, List, map, Vec, Result, Ok, Err}
+use Rattle.std.specs.Prelude.{◌≡◌, ℕ, List, map, Result, Ok, Err}
 use Rattle.std.specs.BTreeMap.{BTreeMap}
 use Rattle.std.specs.String.{string_bytes}
-use Rattle.std.specs.declared.alloc.Global.{Global}
 use denote.Ref.{Bor}
 use Rattle.desk_annotations.specs.declared.annotation.Annotation.{Annotation}
 use Rattle.desk_reuse.specs.Tags.{tag_text}
@@ -20,13 +19,6 @@ use Rattle.desk_gather.specs.Tomls.{TomlText}
 abbrev pub Gives : {A B : Type 0} → Read B → (A → B) → Result A GatherFault → Type 0
 Gives read show (Ok x) = read ≡ Ok (show x)
 Gives read show (Err fault) = read ≡ Err fault
-
--- the bytes of borrowed texts
-abbrev pub texts : List (Bor (List ℕ)) → List (List ℕ)
-texts borrowed = map (λ (text : Bor (List ℕ)). text.now) borrowed
-
-abbrev pub texts_in : Vec (Bor (List ℕ)) Global → List (List ℕ)
-texts_in v = texts v.items
 
 -- a file without where it lies in memory
 abbrev pub file_of : File → SourceFile

@@ -3,6 +3,7 @@ use Rattle.std.specs.Prelude.{◌≡◌, ℕ, nat_lt, not, List, [], ◌∷◌, 
 use Rattle.std.specs.List.{flat_map}
 use Rattle.std.specs.Option.{is_some}
 use Rattle.std.specs.Str.{is_utf8}
+use Rattle.desk_base.specs.Limits as most
 use Rattle.desk_reuse.specs.Tags.{TagText}
 use Rattle.desk_annotations.specs.declared.fault.AnnotationsFault.{AnnotationsFault}
 use Rattle.desk_annotations.specs.declared.fault.AnnotationsFault.TheVariants as why
@@ -75,14 +76,14 @@ stated_flaws r file = flat_map (tag_flaws r file.path) (r.stated file.bytes).lic
 
 -- at most 10,000 files are looked at
 abbrev pub kept : List SourceFile → List SourceFile
-kept files = if nat_lt 10000 (length files) then [] else sifted [] files
+kept files = if nat_lt most.tree_files (length files) then [] else sifted [] files
 
 -- the flaws of the REUSE.toml files by path, then of what the covered files state, by path
 abbrev pub tree_flaws : Reader → List SourceFile → List Flaw
 tree_flaws r tree = flat_map (toml_flaws r) (filter is_toml tree) ++ flat_map (λ f. stated_flaws r (holder tree f)) (filter is_covered tree)
 
 abbrev pub flaws_of : Reader → List SourceFile → List Flaw
-flaws_of r files = if nat_lt 10000 (length files) then TooManyFiles ∷ [] else path_flaws [] files ++ tree_flaws r (sifted [] files)
+flaws_of r files = if nat_lt most.tree_files (length files) then TooManyFiles ∷ [] else path_flaws [] files ++ tree_flaws r (sifted [] files)
 
 -- the information of a covered file, whatever is wrong in it or elsewhere
 abbrev pub info_sifted : Reader → List TomlText → List SourceFile → SourceFile → FileInfo

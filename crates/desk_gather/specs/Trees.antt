@@ -2,25 +2,17 @@
 use Rattle.std.specs.Prelude.{ℕ, nat_lt, not, Bool, List, [], ◌∷◌, length, Option, Some, None, Result, Ok, Err, if◌then◌else◌}
 use Rattle.std.specs.Option.{is_some}
 use Rattle.std.specs.Str.{bytes_eq}
+use Rattle.desk_base.specs.Limits as most
 use Rattle.desk_rows.specs.Texts.{text_below}
 use Rattle.desk_gather.specs.declared.fault.GatherFault.{GatherFault}
 use Rattle.desk_gather.specs.declared.fault.GatherFault.TheVariants.{BadPath, TwicePath, TooManyFiles}
 use Rattle.desk_gather.specs.declared.files.SourceFile.{SourceFile}
 use Rattle.desk_gather.specs.Paths.{is_path}
+use Rattle.desk_base.specs.Results.{followed}
 
 -- something, or its fault
 abbrev pub Read : Type 0 → Type 0
 Read A = Result A GatherFault
-
--- what comes next, where there is no fault
-abbrev pub then_read : {A B : Type 0} → Read A → (A → Read B) → Read B
-then_read (Ok x) next = next x
-then_read (Err fault) next = Err fault
-
-abbrev pub followed : {A : Type 0} → Read A → Read (List A) → Read (List A)
-followed (Ok x) (Ok xs) = Ok (x ∷ xs)
-followed (Ok x) (Err fault) = Err fault
-followed (Err fault) more = Err fault
 
 -- each item that passes a test in turn, or the first fault
 abbrev pub each : {A B : Type 0} → (A → Bool) → (A → Read B) → List A → Read (List B)
@@ -47,4 +39,4 @@ placed sorted (f ∷ fs) =
 
 -- at most 10,000
 abbrev pub tree_of : List SourceFile → Read (List SourceFile)
-tree_of files = if nat_lt 10000 (length files) then Err TooManyFiles else placed [] files
+tree_of files = if nat_lt most.tree_files (length files) then Err TooManyFiles else placed [] files

@@ -7,7 +7,7 @@ ghost use Rattle.desk_gather.specs.Shown.{Gives, file_of, files_of, tree_in};
 
 use crate::fault::GatherFault;
 use crate::paths::{is_left_out, is_path, name_of};
-use desk_base::{Items, Text};
+use desk_base::{Items, Text, limits};
 use std::alloc::{AllocError, Global};
 use std::collections::BTreeMap;
 
@@ -57,7 +57,7 @@ pub fn tree_of<'a>(
 ) -> Result<Result<BTreeMap<&'a str, &'a [u8]>, GatherFault>, AllocError>
     ensures { IfOk result (Gives (tree_of files.now) tree_in) }
 {
-    if files.len() > 10_000 {
+    if files.len() > limits::TREE_FILES {
         return Ok(Err(GatherFault::TooManyFiles));
     }
     placed(alloc, files)

@@ -8,14 +8,15 @@ ghost use Rattle.desk_gather.specs.Folders.{Holds};
 ghost use Rattle.desk_gather.specs.Gathering.{holder, bad_line, stated_in, values, info_with, info_of, infos_of, gathered};
 ghost use Rattle.desk_gather.specs.Trees.{each};
 ghost use Rattle.desk_gather.specs.Paths.{is_covered};
-ghost use Rattle.desk_gather.specs.Shown.{Gives, texts_in, file_of, files_of, held_in, tree_in, annotations_of, stated_of};
+ghost use Rattle.desk_gather.specs.Shown.{Gives, file_of, files_of, held_in, tree_in, annotations_of, stated_of};
+ghost use Rattle.desk_base.specs.Borrowed.{texts_in};
 
 use crate::counting::counting;
 use crate::fault::GatherFault;
 use crate::files::{File, SourceFile, bytes_at, files_of, is_covered, tree_of};
 use crate::information::{Subject, given};
 use crate::tomls::{by_folder, tomls_of};
-use desk_annotations::{Annotation, Annotations, is_expression};
+use desk_annotations::{Annotation, Annotations, is_expression_beside};
 use desk_base::{Items, Text};
 use desk_catalogue::sorted_set;
 use desk_reuse::{Info, Tagged, header};
@@ -51,11 +52,13 @@ pub(crate) struct Held<'a> {
 fn bad_line(alloc: Global, tags: &[Tagged<'_>]) -> Result<Option<u64>, AllocError>
     ensures { (r : Reader) → IsRightReader r → IfOk result (λ line. line ≡ bad_line r (map tag_text tags.now)) }
 {
+    let mut known = None;
     for tag in tags {
-        let told = is_expression(alloc, tag.value)?;
+        let told = is_expression_beside(alloc, tag.value, known)?;
         if !told {
             return Ok(Some(tag.line));
         }
+        known = Some(tag.value);
     }
     Ok(None)
 }

@@ -2,7 +2,8 @@
 
 ghost use Rattle.std.specs.Prelude.{◌≡◌, ◌++◌, IfOk, OnOk};
 ghost use Rattle.desk_gather.specs.Information.{texts_of, some_or, given};
-ghost use Rattle.desk_gather.specs.Shown.{texts, texts_in, annotations_of};
+ghost use Rattle.desk_gather.specs.Shown.{annotations_of};
+ghost use Rattle.desk_base.specs.Borrowed.{texts, texts_in};
 
 use desk_annotations::{Annotation, Precedence};
 use desk_base::Text;

@@ -3,7 +3,7 @@
 ghost use Rattle.std.specs.Prelude.{◌≡◌, ◌==◌, ◌++◌, nat_lt, not, codes, IfOk};
 ghost use Rattle.std.specs.List.{list_all, slice_split};
 ghost use Rattle.desk_gather.specs.Paths.{is_part, is_path, name_of, folder_of, is_named, is_licence_name, is_left_out};
-ghost use Rattle.desk_gather.specs.Shown.{texts, texts_in};
+ghost use Rattle.desk_base.specs.Borrowed.{texts, texts_in};
 
 use std::alloc::{AllocError, Global};
 

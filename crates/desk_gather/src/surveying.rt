@@ -1,8 +1,9 @@
 //! All that is wrong in a tree, and what is gathered of the rest of it.
 
-ghost use Rattle.std.specs.Prelude.{◌≡◌, ◌++◌, [], IfOk, OnOk, map, filter, option_to_list, List};
+ghost use Rattle.std.specs.Prelude.{◌≡◌, ◌++◌, [], true, IfOk, IfSome, OnOk, map, filter, option_to_list, List};
 ghost use Rattle.std.specs.List.{flat_map};
 ghost use Rattle.desk_reuse.specs.Tags.{tag_text};
+ghost use Rattle.desk_annotations.specs.Right.{Tells};
 ghost use Rattle.desk_gather.specs.Readers.{Reader, IsRightReader};
 ghost use Rattle.desk_gather.specs.Paths.{is_toml, is_covered};
 ghost use Rattle.desk_gather.specs.Tomls.{TomlText};
@@ -17,8 +18,8 @@ use crate::flaw::Flaw;
 use crate::gathering::{FileInfo, Known, holder, info_with};
 use crate::paths::{folder_of, is_path};
 use crate::tomls::{Toml, by_folder};
-use desk_annotations::{Annotations, AnnotationsFault, Sifted, is_expression};
-use desk_base::{Items, Text};
+use desk_annotations::{Annotations, AnnotationsFault, Sifted, is_expression_beside};
+use desk_base::{Items, Text, limits};
 use desk_reuse::{Info, Tagged, header};
 use std::alloc::{AllocError, Global};
 use std::collections::BTreeMap;
@@ -190,22 +191,26 @@ fn tomls_sifted<'a>(
     Ok(tomls)
 }
 
-// Adds a tag that is no licence expression.
-fn add_tag(
+// Adds a tag that is no licence expression, and tells a text that is known to be one: the tag's, or what was known before.
+fn add_tag<'a>(
     alloc: Global,
     path: &str,
-    tag: Tagged<'_>,
+    tag: Tagged<'a>,
+    known: Option<&'a str>,
     flaws: &mut Items<Flaw>,
-) -> Result<(), AllocError>
-    ensures { (r : Reader) → IsRightReader r → OnOk result (flaws.new ≡ flaws.old ++ tag_flaws r path.now (tag_text tag.entry)) }
+) -> Result<Option<&'a str>, AllocError>
+    requires { IfSome known (λ text. Tells text.now true) }
+    ensures known { IfOk result (λ told. IfSome told (λ text. Tells text.now true)) }
+    ensures flaws { (r : Reader) → IsRightReader r → OnOk result (flaws.new ≡ flaws.old ++ tag_flaws r path.now (tag_text tag.entry)) }
 {
-    let told = is_expression(alloc, tag.value)?;
+    let told = is_expression_beside(alloc, tag.value, known)?;
     if told {
-        return Ok(());
+        return Ok(Some(tag.value));
     }
     let path = Text::of(alloc, path)?;
     let value = Text::of(alloc, tag.value)?;
-    flaws.push(Flaw::BadExpression(path, tag.line, value))
+    flaws.push(Flaw::BadExpression(path, tag.line, value))?;
+    Ok(known)
 }
 
 // Adds the tags that are no licence expression.
@@ -217,8 +222,9 @@ fn add_tags(
 ) -> Result<(), AllocError>
     ensures { (r : Reader) → IsRightReader r → OnOk result (flaws.new ≡ flaws.old ++ flat_map (tag_flaws r path.now) (map tag_text tags.now)) }
 {
+    let mut known = None;
     for tag in tags {
-        add_tag(alloc, path, *tag, flaws)?;
+        known = add_tag(alloc, path, *tag, known, flaws)?;
     }
     Ok(())
 }
@@ -304,7 +310,7 @@ pub fn survey<'a>(alloc: Global, files: &'a [SourceFile]) -> Result<Surveyed<'a>
     ensures infos { (r : Reader) → IsRightReader r → IfOk result (λ s. s.infos.items ≡ infos_sifted r (kept files.now)) }
 {
     let mut flaws = Items::new(alloc);
-    if files.len() > 10_000 {
+    if files.len() > limits::TREE_FILES {
         flaws.push(Flaw::TooManyFiles)?;
         return Ok(Surveyed {
             tree: BTreeMap::new(alloc),

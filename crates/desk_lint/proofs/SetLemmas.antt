@@ -2,19 +2,13 @@
 use Rattle.std.proofs.Common.{◌≡◌, ◌∙◌, ℕ, ◌+◌, ◌<◌, Bool, true, false, cond, List, length, get_or, drop, sym, ap, refl}
 use Rattle.std.specs.Prelude.{◌||◌}
 use Rattle.std.specs.Str.{bytes_eq}
-use Rattle.std.specs.Ordering.{nat_cmp}
-use Rattle.std.specs.Cmp.Lexicographic.{slice_cmp}
-use Rattle.std.specs.declared.cmp.Ordering.{Ordering}
 use Rattle.std.specs.BTreeSet.{BTreeSet, UpdatesBy}
 use Rattle.std.proofs.lemmas.Map.Text.{is_eq-slice_cmp}
 use Rattle.std.proofs.lemmas.List.{drop_more}
 use denote.Ref.{Bor}
 use Rattle.desk_catalogue.specs.Values.{is_among}
-use Rattle.desk_catalogue.specs.Shown.{texts}
 use Rattle.desk_lint.specs.Sets.{has_text}
-
-abbrev borrowed_cmp : Bor (List ℕ) → Bor (List ℕ) → Ordering
-borrowed_cmp a b = slice_cmp nat_cmp a.now b.now
+use Rattle.desk_base.specs.Borrowed.{texts, borrowed_cmp}
 
 either : (b c : Bool) → cond b true c ≡ (b || c)
 either true c = refl

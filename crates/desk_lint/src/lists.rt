@@ -1,11 +1,11 @@
 //! The lists of what a tree lacks.
 
 ghost use Rattle.std.specs.Prelude.{◌≡◌, ◌++◌, IfOk, OnOk, map};
-ghost use Rattle.desk_catalogue.specs.Shown.{texts};
 ghost use Rattle.desk_lint.specs.Sets.{IsSetOf};
 ghost use Rattle.desk_lint.specs.Texts.{TextFile};
 ghost use Rattle.desk_lint.specs.Lists.{missing, unused, is_bare, bare};
 ghost use Rattle.desk_lint.specs.Shown.{bytes_in, only, texts_in};
+ghost use Rattle.desk_base.specs.Borrowed.{texts};
 
 use crate::texts::LicenceText;
 use desk_base::{Items, Key, Text};

@@ -1,11 +1,10 @@
 //! The licences and exceptions that the covered files use.
 
-ghost use Rattle.std.specs.Prelude.{◌≡◌, ◌⊎◌, ◌↔◌, ◌++◌, ◌<◌, ℕ, List, OnOk, IfOk, Contains};
-ghost use Rattle.desk_expr.specs.Faults.{fault_number};
+ghost use Rattle.std.specs.Prelude.{◌≡◌, ◌⊎◌, ◌↔◌, ◌++◌, ℕ, List, OnOk, IfOk, Contains};
 ghost use Rattle.desk_lint.specs.Used.{keys_in, Uses, IsUsed, IsUsedIn, AreUsed};
 
 use desk_base::{Key, Text};
-use desk_expr::{ParseFault, Term, parse, terms};
+use desk_expr::{Term, parse, terms, told};
 use desk_gather::FileInfo;
 use std::alloc::{AllocError, Global};
 
@@ -20,16 +19,6 @@ fn add_keys(keys: &mut Vec<Key>, terms: &[Term]) -> Result<(), AllocError>
         }
     }
     Ok(())
-}
-
-// Whether the fault is of the text.
-fn told(fault: ParseFault) -> Result<(), AllocError>
-    ensures { OnOk result (0 < fault_number fault) }
-{
-    match fault {
-        ParseFault::Memory(error) => Err(error),
-        _ => Ok(()),
-    }
 }
 
 // Adds the keys that a licence uses.

@@ -66,14 +66,14 @@ shown_within (suc bound) line (b ∷ t) within =
 -- ---- bytes without a tag
 
 -- a needle that begins with what bytes lack is lacking too
-lacks_more : (front back t : List ℕ) → Lacks front t → Lacks (front ++ back) t
+pub lacks_more : (front back t : List ℕ) → Lacks front t → Lacks (front ++ back) t
 lacks_more front back t none xs ys e = none xs (back ++ ys) (e ∙ ap (λ l. xs ++ l) (append_assoc front back ys))
 
 -- what bytes lack, their parts lack
-lacks_front : (needle t text more : List ℕ) → t ≡ text ++ more → Lacks needle t → Lacks needle text
+pub lacks_front : (needle t text more : List ℕ) → t ≡ text ++ more → Lacks needle t → Lacks needle text
 lacks_front needle t text more cut none xs ys e = none xs (ys ++ more) (cut ∙ ap (λ l. l ++ more) e ∙ append_assoc xs (needle ++ ys) more ∙ ap (λ l. xs ++ l) (append_assoc needle ys more))
 
-lacks_back : (needle t front more : List ℕ) → t ≡ front ++ more → Lacks needle t → Lacks needle more
+pub lacks_back : (needle t front more : List ℕ) → t ≡ front ++ more → Lacks needle t → Lacks needle more
 lacks_back needle t front more cut none xs ys e = none (front ++ xs) ys (cut ∙ ap (λ l. front ++ l) e ∙ sym (append_assoc front xs (needle ++ ys)))
 
 gives_nothing : (tag : List ℕ) (seen line : ℕ) (t : List ℕ) (rs : List RunText) → Lacks tag t → Shows line t rs → Gives tag seen rs []

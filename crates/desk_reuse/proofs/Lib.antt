@@ -7,3 +7,5 @@ pub mod TagLemmas
 pub mod RunOnce
 pub mod TagOnce
 pub mod EachRun
+pub mod SkipLemmas
+pub mod StartLemmas

@@ -34,20 +34,30 @@ drop_all xs ys e = e ∙ nil_of (drop (length xs) xs) (let l = length-drop (leng
 append_nil_at : (xs none : List ℕ) → none ≡ [] → xs ++ none ≡ xs
 append_nil_at xs none e = ap (λ l. xs ++ l) e ∙ append-nil xs
 
-pub run_rest : (line : ℕ) (bytes text : List ℕ) (end : LineEnd) (rest before after inner none : List ℕ) → IsLine bytes text end rest → text ≡ before ++ (start ++ after) → IsUpTo start before → inner ≡ drop (length before + 17) bytes → Lacks stop inner → none ≡ [] → IsRun line bytes before line none
-run_rest line bytes text end rest before after inner none l cut first is lacks e = record {
+-- a start stands in front, and what is ignored runs to the end
+pub run_open : (line : ℕ) (bytes before inner none : List ℕ) → bytes ≡ before ++ (start ++ inner) → All (λ b. b ≢ 10) before → IsUpTo start before → Lacks stop inner → none ≡ [] → IsRun line bytes before line none
+run_open line bytes before inner none cut no_lf first lacks e = record {
   end = ignored_rest inner;
-  cut = behind bytes text end rest before after inner l cut is ∙ ap (λ t. before ++ t) (sym (append_nil_at (start ++ inner) none e));
-  no_lf = front_no_lf text before (start ++ after) l.no_lf cut;
+  cut = cut ∙ ap (λ t. before ++ t) (sym (append_nil_at (start ++ inner) none e));
+  no_lf = no_lf;
   ends = (first, lacks, e);
   next = omega arith;
 }
 
-pub run_ignored : (line : ℕ) (bytes text : List ℕ) (end : LineEnd) (rest before after inner hidden more : List ℕ) (feeds : ℕ) → IsLine bytes text end rest → text ≡ before ++ (start ++ after) → IsUpTo start before → inner ≡ drop (length before + 17) bytes → inner ≡ hidden ++ (stop ++ more) → IsUpTo stop hidden → feeds ≡ count_by (λ b. b == 10) hidden → IsRun line bytes before (line + feeds) more
-run_ignored line bytes text end rest before after inner hidden more feeds l cut first is split last count = record {
+-- or up to a stop
+pub run_hidden : (line : ℕ) (bytes before inner hidden more : List ℕ) (feeds : ℕ) → bytes ≡ before ++ (start ++ inner) → All (λ b. b ≢ 10) before → IsUpTo start before → inner ≡ hidden ++ (stop ++ more) → IsUpTo stop hidden → feeds ≡ count_by (λ b. b == 10) hidden → IsRun line bytes before (line + feeds) more
+run_hidden line bytes before inner hidden more feeds cut no_lf first split last count = record {
   end = ignored hidden;
-  cut = behind bytes text end rest before after inner l cut is ∙ ap (λ t. before ++ (start ++ t)) (split ∙ sym (append_assoc hidden stop more)) ∙ ap (λ t. before ++ t) (sym (append_assoc start (hidden ++ stop) more));
-  no_lf = front_no_lf text before (start ++ after) l.no_lf cut;
+  cut = cut ∙ ap (λ t. before ++ (start ++ t)) (split ∙ sym (append_assoc hidden stop more)) ∙ ap (λ t. before ++ t) (sym (append_assoc start (hidden ++ stop) more));
+  no_lf = no_lf;
   ends = (first, last);
   next = ap (λ n. line + n) count;
 }
+
+pub run_rest : (line : ℕ) (bytes text : List ℕ) (end : LineEnd) (rest before after inner none : List ℕ) → IsLine bytes text end rest → text ≡ before ++ (start ++ after) → IsUpTo start before → inner ≡ drop (length before + 17) bytes → Lacks stop inner → none ≡ [] → IsRun line bytes before line none
+run_rest line bytes text end rest before after inner none l cut first is lacks e =
+    run_open line bytes before inner none (behind bytes text end rest before after inner l cut is) (front_no_lf text before (start ++ after) l.no_lf cut) first lacks e
+
+pub run_ignored : (line : ℕ) (bytes text : List ℕ) (end : LineEnd) (rest before after inner hidden more : List ℕ) (feeds : ℕ) → IsLine bytes text end rest → text ≡ before ++ (start ++ after) → IsUpTo start before → inner ≡ drop (length before + 17) bytes → inner ≡ hidden ++ (stop ++ more) → IsUpTo stop hidden → feeds ≡ count_by (λ b. b == 10) hidden → IsRun line bytes before (line + feeds) more
+run_ignored line bytes text end rest before after inner hidden more feeds l cut first is split last count =
+    run_hidden line bytes before inner hidden more feeds (behind bytes text end rest before after inner l cut is) (front_no_lf text before (start ++ after) l.no_lf cut) first split last count

@@ -1,21 +1,18 @@
 -- The runs of a file are one list.
-use Rattle.std.proofs.Common.{◌≡◌, ◌≢◌, ◌∙◌, ◌⊎◌, inl, inr, ℕ, ◌+◌, ◌-◌, ◌<◌, ◌≤◌, List, [], ◌∷◌, ◌++◌, length, take, drop, sym, subst, ap, refl, arith, append_assoc, length-append, append-nil, ⊎_elim, length-take-le, take-append-drop}
+use Rattle.std.proofs.Common.{◌≡◌, ◌≢◌, ◌∙◌, inl, inr, ℕ, ◌+◌, ◌-◌, ◌<◌, ◌≤◌, List, [], ◌∷◌, ◌++◌, length, take, drop, sym, subst, ap, refl, arith, append_assoc, length-append, append-nil, length-take-le, take-append-drop}
 use Rattle.std.specs.Prelude.{All, codes, count_by, ◌==◌}
-use Rattle.std.proofs.str.Laws.{order}
 use Rattle.std.proofs.Math.Seq.{take-append_seam}
 use Rattle.std.proofs.lemmas.List.{append_cancel_left}
-use Rattle.std.proofs.lemmas.List.Elements.{All-get_or, All-tail, All-append, All-cons, All-nil}
+use Rattle.std.proofs.lemmas.List.Elements.{All-tail, All-append, All-cons, All-nil}
 use Rattle.desk_base.specs.declared.lines.LineEnd.{LineEnd}
 use Rattle.desk_base.specs.declared.lines.LineEnd.TheVariants.{Lf, CrLf, Nothing}
 use Rattle.desk_base.specs.Lines.{Ends, end_bytes}
 use Rattle.desk_base.proofs.LinesOnce.{line_once}
 use Rattle.desk_reuse.specs.Runs.{Lacks, IsUpTo, RunEnd, line_end, ignored, ignored_rest, between, EndsRun, lines_between, RunText, Shows, start, stop}
-
-three : (m n : ℕ) → (m < n) ⊎ ((n < m) ⊎ (m ≡ n))
-three m n = ⊎_elim (λ lt. inl lt) (λ le. ⊎_elim (λ lt. inr (inl lt)) (λ ge. inr (inr (omega arith))) (order n m)) (order m n)
+use Rattle.desk_base.proofs.Numbers.{three, head_not}
 
 -- what ends at the first needle is known
-shorter : (needle value more v m : List ℕ) → value ++ (needle ++ more) ≡ v ++ (needle ++ m) → IsUpTo needle v → length value < length v → ⊥
+pub shorter : (needle value more v m : List ℕ) → value ++ (needle ++ more) ≡ v ++ (needle ++ m) → IsUpTo needle v → length value < length v → ⊥
 shorter needle value more v m e first lt =
     let a = length-append value (needle ++ more) in
     let a2 = length-append needle more in
@@ -48,9 +45,6 @@ up_to_once needle value more v m f g e =
 
 abbrev NoLf : List ℕ → Type 0
 NoLf l = All (λ b. b ≢ 10) l
-
-head_not : (c d : ℕ) (a : List ℕ) → All (λ b. b ≢ c) (d ∷ a) → d ≢ c
-head_not c d a h = All-get_or (λ b. b ≢ c) (d ∷ a) 0 0 (omega arith) h
 
 -- a front that has no LF and ends with no CR lies within the first line
 within_lf : (h inner l r : List ℕ) → NoLf h → h ++ (116 ∷ inner) ≡ l ++ (10 ∷ r) → (x : List ℕ) × (l ≡ h ++ (116 ∷ x))

@@ -3,3 +3,4 @@ pub mod Steps
 pub mod Runs
 pub mod Tags
 pub mod Found
+pub mod Skipping

@@ -1,19 +1,18 @@
 //! The notices and licences that a file states itself (REUSE Specification 3.3, comment headers).
 
-ghost use Rattle.std.specs.Prelude.{◌≡◌, ◌<◌, true, false, codes, length, List, ℕ, map, IfOk};
-ghost use Rattle.desk_reuse.specs.Runs.{Lacks};
+ghost use Rattle.std.specs.Prelude.{◌≡◌, ◌<◌, List, ℕ, codes, length, map, IfOk};
+ghost use Rattle.desk_reuse.specs.Skipping.{IsClear};
 ghost use Rattle.desk_reuse.specs.Tags.{IsInfo, TagText, tag_text};
 
-use crate::runs::{Run, around, first_run};
+use crate::runs::{Run, first_run};
+use crate::skipping::{MARK, clear_of, skip};
 use crate::tags::{Tagged, add};
+use memchr::memmem::Finder;
 use std::alloc::{AllocError, Global};
 
 const NOTICE: &[u8] = b"SPDX-FileCopyrightText:";
 
 const LICENCE: &[u8] = b"SPDX-License-Identifier:";
-
-/// What both tags begin with.
-const MARK: &[u8] = b"SPDX-";
 
 /// What a file states itself. Its texts are parts of the file.
 #[derive(Debug, Drop)]
@@ -24,20 +23,41 @@ pub struct Info<'a> {
     pub licences: Vec<Tagged<'a>>,
 }
 
-// Whether no tag begins in what is left of a file. `marked` is how many bytes were left where one may begin, as last looked for: it is
-// looked for anew only behind that place, so all look-ups together read the file once.
-fn has_no_mark(rest: &[u8], marked: &mut usize) -> bool
-    ensures none { result ≡ true → Lacks (codes "SPDX-") rest.now }
-    ensures some { result ≡ false → 0 < length rest.now }
+// The notices and licences of a file, where no tag begins in so many bytes. The searches are made once for all lines.
+fn tagged<'a>(
+    alloc: Global,
+    file: &'a [u8],
+    mark: &Finder<'_>,
+    known: usize,
+) -> Result<Info<'a>, AllocError>
+    requires mark { mark.now ≡ codes "SPDX-" }
+    requires clear { IsClear (codes "SPDX-") known file.now }
+    requires within { known < length file.now }
+    ensures { IfOk result (λ i. IsInfo file.now (map tag_text i.notices.items) (map tag_text i.licences.items)) }
 {
-    if !rest.is_empty() && rest.len() >= *marked {
-        return false;
+    let notice = Finder::new(NOTICE);
+    let licence = Finder::new(LICENCE);
+    let mut notices = Vec::new(alloc);
+    let mut licences = Vec::new(alloc);
+    let mut noticed = 0u64;
+    let mut licensed = 0u64;
+    let mut rest = file;
+    let mut line = 1u64;
+    let mut clear = known;
+    while let Some(ahead) = clear_of(rest, mark, clear) {
+        let left = skip(rest, ahead, line);
+        let found = first_run(left.bytes, left.line);
+        let run = Run {
+            line: left.line,
+            text: found.text,
+        };
+        noticed = add(&mut notices, run, &notice, noticed)?;
+        licensed = add(&mut licences, run, &licence, licensed)?;
+        clear = ahead.saturating_sub(rest.len() - found.rest.len());
+        rest = found.rest;
+        line = found.line;
     }
-    let Some((_, after)) = around(rest, MARK) else {
-        return true;
-    };
-    *marked = MARK.len() + after.len();
-    false
+    Ok(Info { notices, licences })
 }
 
 /// The notices and licences of a file, each with its line. The only error is want of memory.
@@ -49,25 +69,14 @@ fn has_no_mark(rest: &[u8], marked: &mut usize) -> bool
 pub fn header<'a>(alloc: Global, file: &'a [u8]) -> Result<Info<'a>, AllocError>
     ensures { IfOk result (λ i. IsInfo file.now (map tag_text i.notices.items) (map tag_text i.licences.items)) }
 {
-    let mut notices = Vec::new(alloc);
-    let mut licences = Vec::new(alloc);
-    let mut noticed = 0u64;
-    let mut licensed = 0u64;
-    let mut rest = file;
-    let mut line = 1u64;
-    let mut marked = usize::MAX;
-    while !has_no_mark(rest, &mut marked) {
-        let found = first_run(rest, line);
-        let run = Run {
-            line,
-            text: found.text,
-        };
-        noticed = add(&mut notices, run, NOTICE, noticed)?;
-        licensed = add(&mut licences, run, LICENCE, licensed)?;
-        rest = found.rest;
-        line = found.line;
-    }
-    Ok(Info { notices, licences })
+    let mark = Finder::new(MARK);
+    let Some(known) = clear_of(file, &mark, 0) else {
+        return Ok(Info {
+            notices: Vec::new(alloc),
+            licences: Vec::new(alloc),
+        });
+    };
+    tagged(alloc, file, &mark, known)
 }
 
 /// A file has one list of notices and one of licences.

@@ -12,6 +12,7 @@ mod glob;
 mod info;
 mod matching;
 mod runs;
+mod skipping;
 mod tags;
 
 pub use glob::{Glob, Piece, each_text_is_a_glob, one_glob};

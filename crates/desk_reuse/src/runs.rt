@@ -1,12 +1,13 @@
 //! What stands on the lines of a file outside ignored stretches.
 
-ghost use Rattle.std.specs.Prelude.{◌≡◌, ◌<◌, ◌≤◌, ◌+◌, ◌^◌, ◌==◌, ◌++◌, length, count_by, IfSome, IfNone};
-ghost use Rattle.desk_reuse.specs.Runs.{Lacks, IsUpTo, IsRun};
+ghost use Rattle.std.specs.Prelude.{◌≡◌, ◌≢◌, ◌<◌, ◌≤◌, ◌+◌, ◌^◌, ◌==◌, ◌++◌, ℕ, List, All, length, count_by, IfSome, IfNone};
+ghost use Rattle.desk_reuse.specs.Runs.{start, Lacks, IsUpTo, IsRun};
 
 use desk_base::first_line;
-use memchr::memmem;
+use memchr::memmem::Finder;
+use memchr::{memchr2, memmem};
 
-const START: &[u8] = b"REUSE-IgnoreStart";
+pub(crate) const START: &[u8] = b"REUSE-IgnoreStart";
 
 const STOP: &[u8] = b"REUSE-IgnoreEnd";
 
@@ -27,6 +28,20 @@ pub(crate) struct Found<'a> {
 }
 
 // What stands before the first place of a needle, and behind it.
+pub(crate) fn around_found<'a>(bytes: &'a [u8], needle: &Finder<'_>) -> Option<(&'a [u8], &'a [u8])>
+    requires { 0 < length needle.now }
+    ensures none { IfNone result (Lacks needle.now bytes.now) }
+    ensures cut { IfSome result (λ r. bytes.now ≡ r.0.now ++ (needle.now ++ r.1.now)) }
+    ensures first { IfSome result (λ r. IsUpTo needle.now r.0.now) }
+{
+    let Some(at) = needle.find(bytes) else {
+        return None;
+    };
+    let (_, after) = bytes.split_at(at + needle.needle().len());
+    Some((&bytes[..at], after))
+}
+
+// The same of a needle that isn't looked for again.
 pub(crate) fn around<'a>(bytes: &'a [u8], needle: &[u8]) -> Option<(&'a [u8], &'a [u8])>
     requires { 0 < length needle.now }
     ensures none { IfNone result (Lacks needle.now bytes.now) }
@@ -40,11 +55,42 @@ pub(crate) fn around<'a>(bytes: &'a [u8], needle: &[u8]) -> Option<(&'a [u8], &'
     Some((&bytes[..at], after))
 }
 
-fn line_feeds(bytes: &[u8]) -> usize
+pub(crate) fn line_feeds(bytes: &[u8]) -> usize
     ensures value { result ≡ count_by (λ b. b == 10) bytes.now }
     ensures bound { result ≤ length bytes.now }
 {
     bytes.iter().filter(|b| **b == b'\n').count()
+}
+
+// What stands behind a front.
+fn behind<'a>(bytes: &'a [u8], front: &[u8]) -> Option<&'a [u8]>
+    ensures none { IfNone result ((rest : List ℕ) → bytes.now ≢ front.now ++ rest) }
+    ensures some { IfSome result (λ r. bytes.now ≡ front.now ++ r.now) }
+{
+    bytes.strip_prefix(front)
+}
+
+// What stands before the first ignored stretch that begins on the first line, and behind the word with which it begins. Nothing
+// further right is looked at, so that a line of many stretches is read once.
+fn around_start(bytes: &[u8]) -> Option<(&[u8], &[u8])>
+    ensures none { IfNone result ((text more : List ℕ) → bytes.now ≡ text ++ more → All (λ b. b ≢ 10) text → Lacks start text) }
+    ensures cut { IfSome result (λ r. bytes.now ≡ r.0.now ++ (start ++ r.1.now)) }
+    ensures first { IfSome result (λ r. IsUpTo start r.0.now) }
+    ensures no_lf { IfSome result (λ r. All (λ b. b ≢ 10) r.0.now) }
+{
+    let mut seen = 0;
+    while let Some(more) = memchr2(b'\n', b'R', bytes.split_at(seen).1) {
+        let place = seen + more;
+        let (before, left) = bytes.split_at(place);
+        if let Some(inner) = behind(left, START) {
+            return Some((before, inner));
+        }
+        if bytes[place] == b'\n' {
+            return None;
+        }
+        seen = place + 1;
+    }
+    None
 }
 
 // The first run of bytes that begin on a line.
@@ -55,15 +101,14 @@ pub(crate) fn first_run<'a>(bytes: &'a [u8], line: u64) -> Found<'a>
     ensures less { length result.rest.now < length bytes.now }
     ensures room { result.line + length result.rest.now ≤ line + length bytes.now }
 {
-    let (text, _, rest) = first_line(bytes);
-    let Some((before, _)) = around(text, START) else {
+    let Some((before, inner)) = around_start(bytes) else {
+        let (text, _, rest) = first_line(bytes);
         return Found {
             text,
             rest,
             line: line + 1,
         };
     };
-    let (_, inner) = bytes.split_at(before.len() + START.len());
     let Some((hidden, rest)) = around(inner, STOP) else {
         return Found {
             text: before,

@@ -5,8 +5,9 @@ ghost use Rattle.desk_reuse.specs.Runs.{run_text};
 ghost use Rattle.desk_reuse.specs.Tags.{IsClose, IsBare, Tells, Counts, tag_text};
 ghost use Rattle.desk_reuse.specs.Found.{Adds, found, found_inner};
 
-use crate::runs::{Run, around};
+use crate::runs::{Run, around_found};
 use desk_fields::{trim_end_bytes, trimmed_bytes};
+use memchr::memmem::Finder;
 use std::alloc::AllocError;
 
 /// The value of a tag, and its line.
@@ -68,14 +69,14 @@ fn value(after: &[u8]) -> Option<&str>
 }
 
 // What a run tells, where its line hasn't had its tag.
-fn counted<'a>(run: Run<'a>, tag: &[u8], seen: u64) -> Option<Option<&'a str>>
+fn counted<'a>(run: Run<'a>, tag: &Finder<'_>, seen: u64) -> Option<Option<&'a str>>
     requires { 0 < length tag.now }
     ensures { Counts tag.now seen (run_text run.entry) (found result) }
 {
     if run.line == seen {
         return None;
     }
-    let (_, after) = around(run.text, tag)?;
+    let (_, after) = around_found(run.text, tag)?;
     Some(value(after))
 }
 
@@ -83,7 +84,7 @@ fn counted<'a>(run: Run<'a>, tag: &[u8], seen: u64) -> Option<Option<&'a str>>
 pub(crate) fn add<'a>(
     list: &mut Vec<Tagged<'a>>,
     run: Run<'a>,
-    tag: &[u8],
+    tag: &Finder<'_>,
     seen: u64,
 ) -> Result<u64, AllocError>
     requires { 0 < length tag.now }

@@ -1,29 +1,44 @@
 //! What the files of a tree hold.
 
-ghost use Rattle.std.specs.Prelude.{◌≡◌, IfOk, map};
+ghost use Rattle.std.specs.Prelude.{◌≡◌, ◌≤◌, IfOk, length, map};
 ghost use Rattle.std.specs.String.{string_bytes};
 ghost use Rattle.desk_trees.specs.Walking.{AreByPath};
 
 use crate::fault::TreeFault;
 use crate::walking::{paths_of, place};
-use desk_base::{Items, Text};
+use desk_base::{Items, Text, limits};
 use desk_gather::SourceFile;
 use std::fs::{self, OpenFile};
-use std::io::{self, Read};
+use std::io::{self, ErrorKind, Read};
 use std::rt::Files;
-
-/// How many files a tree may have of which something is gathered.
-const MOST_READ: usize = 10_000;
 
 /// After how many files the count of those that are read is told.
 const FILES_A_LINE: usize = 1_000;
 
-// What a file holds. Its room is taken by what the file's size is said to be, so that no more of it is taken than the file needs.
+// How much of a file is read at first. More at once would leave the processor's caches before it is looked at.
+const FIRST_READ: usize = 128 * 1024;
+
+// Reads what fits into some bytes, and says how many were read: none, where a signal interrupts it.
+fn read_some<F: Read>(file: &mut F, bytes: &mut [u8]) -> io::Result<usize>
+    ensures { IfOk result (λ count. count ≤ length bytes.new) }
+{
+    match file.read(bytes) {
+        Ok(count) => Ok(count),
+        Err(error) if error.kind() == ErrorKind::Interrupted => Ok(0),
+        Err(error) => Err(error),
+    }
+}
+
+// What a file holds. Its room is taken by what the file's size is said to be, so that no more of it is taken than the file needs, and
+// so much is read at first: then most files are read by one call and seen to end by another.
 fn bytes_at<R: Files + AllocGlobal + Clone + Drop>(rt: &R, place: &str) -> io::Result<Vec<u8>> {
     let mut file = fs::open(rt, place)?;
     let size = file.metadata()?.len();
     let room = usize::try_from(size).unwrap_or(usize::MAX);
     let mut bytes = Vec::with_capacity(rt.alloc(), room.saturating_add(1))?;
+    bytes.resize(room.min(FIRST_READ), 0)?;
+    let count = read_some(&mut file, bytes.as_mut_slice())?;
+    bytes.truncate(count);
     file.read_to_end(&mut bytes)?;
     Ok(bytes)
 }
@@ -103,7 +118,7 @@ pub fn files_of<R: Files + Eprint + AllocGlobal + Clone + Drop>(
     ensures { IfOk result (λ files. AreByPath files.items) }
 {
     let paths = paths_of(rt, root)?;
-    if paths.len() > MOST_READ {
+    if paths.len() > limits::TREE_FILES {
         return named(rt, paths.as_slice());
     }
     read(rt, root, paths.as_slice(), is_told)

@@ -8,13 +8,11 @@ ghost use Rattle.std.specs.Cmp.Lexicographic.{slice_cmp};
 ghost use Rattle.desk_trees.specs.Walking.{is_left_out, joined};
 
 use crate::fault::TreeFault;
+use desk_base::limits;
 use std::alloc::{AllocError, Global};
 use std::fs::{self, DirEntry};
 use std::io;
 use std::rt::Files;
-
-/// How many files are looked for: with one more than a tree may have, no further one matters.
-const MOST_FILES: usize = 10_001;
 
 // The files of a tree, and the folders in which more may be.
 #[derive(Drop)]
@@ -100,7 +98,8 @@ fn walk<R: Files + AllocGlobal + Clone + Drop>(
             Ok(()) => {}
             Err(error) => return Err(TreeFault::Read(place, error)),
         }
-        if met.files.len() >= MOST_FILES {
+        // With one more than a tree may have, no further one matters.
+        if met.files.len() > limits::TREE_FILES {
             break;
         }
     }

@@ -1,8 +1,9 @@
 use Rattle.std.proofs.Common.{◌∙◌, ◌+◌, sym, ap, drop}
 use Rattle.toml.specs.View.{view, items_view}
 use Rattle.desk_annotations.specs.Reading.{each, annotation_at}
-use Rattle.desk_annotations.proofs.EntryLemmas.{onto, onto-item, onto-fault}
+use Rattle.desk_annotations.proofs.EntryLemmas.{onto-item, onto-fault}
 use Rattle.desk_annotations.proofs.entries.each_annotation.Goals as goal
+use Rattle.desk_base.proofs.Results.{onto}
 
 pub returns-in-Err : goal.returns-in-Err
 returns-in-Err c = λ r right.

@@ -2,8 +2,8 @@ use Rattle.std.proofs.Common.{◌≡◌, drop}
 use Rattle.toml.specs.View.{items_view}
 use Rattle.desk_annotations.specs.Right.{Reading, IsRight}
 use Rattle.desk_annotations.specs.Reading.{each, annotation_at}
-use Rattle.desk_annotations.proofs.EntryLemmas.{onto}
 use Rattle.desk_annotations.proofs.entries.each_annotation.Given as goal
+use Rattle.desk_base.proofs.Results.{onto}
 
 -- the annotations so far, and those of the rest, are those of all
 abbrev pub invariant-loop-i : goal.invariant-loop-i

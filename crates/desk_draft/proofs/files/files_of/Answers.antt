@@ -1,8 +1,9 @@
 use Rattle.std.proofs.Common.{◌∙◌, ◌+◌, sym, ap, drop}
 use Rattle.desk_gather.specs.Shown.{tree_in}
 use Rattle.desk_draft.specs.Drafts.{file_of, files_of}
-use Rattle.desk_draft.proofs.FileLemmas.{onto, onto-file, onto-fault}
+use Rattle.desk_draft.proofs.FileLemmas.{onto-file, onto-fault}
 use Rattle.desk_draft.proofs.files.files_of.Goals as goal
+use Rattle.desk_base.proofs.Results.{onto}
 
 pub returns-in-Err : goal.returns-in-Err
 returns-in-Err c = λ r right.

@@ -3,8 +3,9 @@ use Rattle.desk_gather.specs.Paths.{is_covered}
 use Rattle.desk_gather.specs.Trees.{each}
 use Rattle.desk_gather.specs.Gathering.{info_of}
 use Rattle.desk_gather.specs.Shown.{files_of, tree_in}
-use Rattle.desk_gather.proofs.EachLemmas.{onto, onto-item, onto-fault}
+use Rattle.desk_gather.proofs.EachLemmas.{onto-item, onto-fault}
 use Rattle.desk_gather.proofs.gathering.infos_of.Goals as goal
+use Rattle.desk_base.proofs.Results.{onto}
 
 pub returns-in-Err : goal.returns-in-Err
 returns-in-Err c = λ r right tomls holds.

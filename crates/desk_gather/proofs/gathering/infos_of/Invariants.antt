@@ -6,8 +6,8 @@ use Rattle.desk_gather.specs.Tomls.{TomlText}
 use Rattle.desk_gather.specs.Folders.{Holds}
 use Rattle.desk_gather.specs.Gathering.{info_of}
 use Rattle.desk_gather.specs.Shown.{files_of, tree_in}
-use Rattle.desk_gather.proofs.EachLemmas.{onto}
 use Rattle.desk_gather.proofs.gathering.infos_of.Given as goal
+use Rattle.desk_base.proofs.Results.{onto}
 
 -- what is gathered so far, and what the rest gives, is that of all
 abbrev pub invariant-loop-file : goal.invariant-loop-file

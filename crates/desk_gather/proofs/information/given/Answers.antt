@@ -1,7 +1,8 @@
 use Rattle.std.proofs.Common.{◌∙◌, ap, []}
-use Rattle.desk_gather.specs.Shown.{texts, annotations_of}
+use Rattle.desk_gather.specs.Shown.{annotations_of}
 use Rattle.desk_gather.proofs.Running.{running, running_gives}
 use Rattle.desk_gather.proofs.information.given.Goals as goal
+use Rattle.desk_base.specs.Borrowed.{texts}
 
 pub loop-annotation-init : goal.loop-annotation-init
 loop-annotation-init c =

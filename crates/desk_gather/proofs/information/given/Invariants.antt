@@ -1,8 +1,9 @@
 use Rattle.std.proofs.Common.{◌≡◌, drop}
 use Rattle.desk_gather.specs.Information.{given}
-use Rattle.desk_gather.specs.Shown.{texts, texts_in, annotations_of}
+use Rattle.desk_gather.specs.Shown.{annotations_of}
 use Rattle.desk_gather.proofs.Running.{running}
 use Rattle.desk_gather.proofs.information.given.Given as goal
+use Rattle.desk_base.specs.Borrowed.{texts, texts_in}
 
 -- the texts so far, and what the rest gives to them, are those of all
 abbrev pub invariant-loop-annotation : goal.invariant-loop-annotation

@@ -4,8 +4,9 @@ use Rattle.desk_gather.specs.Paths.{is_toml}
 use Rattle.desk_gather.specs.Trees.{each}
 use Rattle.desk_gather.specs.Tomls.{toml_of}
 use Rattle.desk_gather.specs.Shown.{Gives, files_of, toml_in, tomls_in}
-use Rattle.desk_gather.proofs.EachLemmas.{onto, onto-item, onto-fault}
+use Rattle.desk_gather.proofs.EachLemmas.{onto-item, onto-fault}
 use Rattle.desk_gather.proofs.tomls.tomls_of.Goals as goal
+use Rattle.desk_base.proofs.Results.{onto}
 
 pub returns-in-Err : goal.returns-in-Err
 returns-in-Err c = λ r right.

@@ -4,8 +4,8 @@ use Rattle.desk_gather.specs.Paths.{is_toml}
 use Rattle.desk_gather.specs.Trees.{each}
 use Rattle.desk_gather.specs.Tomls.{toml_of, tomls_of}
 use Rattle.desk_gather.specs.Shown.{files_of, tomls_in}
-use Rattle.desk_gather.proofs.EachLemmas.{onto}
 use Rattle.desk_gather.proofs.tomls.tomls_of.Given as goal
+use Rattle.desk_base.proofs.Results.{onto}
 
 -- what is read so far, and what the rest gives, is that of all
 abbrev pub invariant-loop-file : goal.invariant-loop-file

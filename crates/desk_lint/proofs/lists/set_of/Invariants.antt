@@ -1,9 +1,9 @@
 use Rattle.std.proofs.Common.{◌≡◌, ℕ, drop, List}
 use Rattle.std.specs.Prelude.{◌||◌}
 use Rattle.desk_catalogue.specs.Values.{is_among}
-use Rattle.desk_catalogue.specs.Shown.{texts}
 use Rattle.desk_lint.specs.Sets.{has_text}
 use Rattle.desk_lint.proofs.lists.set_of.Given as goal
+use Rattle.desk_base.specs.Borrowed.{texts}
 
 -- what is still to come and what the set has are all
 abbrev pub invariant-loop-text : goal.invariant-loop-text

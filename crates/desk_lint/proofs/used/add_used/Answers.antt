@@ -12,5 +12,5 @@ returns-in_ok-found-in-Ok c =
 
 pub returns-in-Err : goal.returns-in-Err
 returns-in-Err c =
-    added_by c.told.result c.told.ensures (λ some.
+    added_by c.told.result c.told.ensures.text (λ some.
     uses_none c.args.licence.now c.args.keys.now.items c.args.keys.now.items (not_memory c.in-Err.fault some c.in-Err.ensures.complete) refl)

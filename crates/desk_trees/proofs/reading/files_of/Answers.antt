@@ -6,8 +6,8 @@ use Rattle.std.specs.Cmp.Lexicographic.{slice_cmp}
 use Rattle.desk_trees.proofs.OrderLemmas.{ok_along, sorted_map}
 use Rattle.desk_trees.proofs.reading.files_of.Goals as goal
 
-pub returns-then-len-gt-MOST_READ : goal.returns-then-len-gt-MOST_READ
-returns-then-len-gt-MOST_READ g c =
+pub returns-then-len-gt-TREE_FILES : goal.returns-then-len-gt-TREE_FILES
+returns-then-len-gt-TREE_FILES g c =
     ok_along c.named.result c.named.ensures (λ files same.
     subst (IsSorted (slice_cmp nat_cmp)) (sym (same ∙ ap (map string_bytes) c.as_slice.ensures.value)) (sorted_map string_bytes (slice_cmp nat_cmp) c.in_ok-paths.paths.items c.in_ok-paths.ensures))
 
