@@ -19,7 +19,8 @@ use Rattle.desk_bom.specs.declared.state.Excluded.{Excluded}
 use Rattle.desk_bom.specs.declared.state.CodeState.{CodeState}
 use Rattle.desk_bom.specs.declared.state.CodeState.TheVariants as states
 use Rattle.desk_bom.specs.Contents.{AreFilesOf}
-use Rattle.desk_bom.specs.Places.{place_of, texts}
+use Rattle.desk_bom.specs.Places.{place_of}
+use Rattle.desk_base.specs.Borrowed.{texts}
 
 -- the code of some digests: each as 40 small digits, sorted, joined; the SHA1 of that text in small digits
 pub record IsCode (digests : List (List ℕ)) (code : List ℕ) : Type 0 where

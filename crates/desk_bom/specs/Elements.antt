@@ -2,8 +2,9 @@
 -- files, the snippets.
 use Rattle.std.specs.Prelude.{ℕ, List, ◌∷◌, ◌++◌, map, Option, codes}
 use Rattle.desk_bom.specs.declared.elements.Elements.{Elements}
-use Rattle.desk_bom.specs.Places.{place_of, texts}
+use Rattle.desk_bom.specs.Places.{place_of}
 use Rattle.desk_tagvalue.specs.Parts.{DocumentText}
+use Rattle.desk_base.specs.Borrowed.{texts}
 
 abbrev pub package_ids : DocumentText → List (List ℕ)
 package_ids d = map (λ p. p.id) d.packages

@@ -7,10 +7,6 @@ use Rattle.std.specs.BTreeMap.{BTreeMap, get_by}
 use Rattle.std.specs.Str.{bytes_eq}
 use denote.Ref.{Bor}
 
--- texts without where they lie in memory
-abbrev pub texts : List (Bor (List ℕ)) → List (List ℕ)
-texts xs = map (λ x. x.now) xs
-
 abbrev pub later : Option ℕ → Option ℕ
 later None = None
 later (Some n) = Some (n + 1)

@@ -3,11 +3,12 @@
 ghost use Rattle.std.specs.Prelude.{◌≡◌, ◌++◌, ◌∷◌, ◌<◌, ◌%◌, [], ℕ, List, IfOk, OnOk, Some, codes, map, length, slice_index_or};
 ghost use Rattle.std.specs.Option.{option_copied};
 ghost use Rattle.desk_tagvalue.specs.Documents.{document_text};
-ghost use Rattle.desk_bom.specs.Places.{texts, tail_number, slot_of, place_in, place_of};
+ghost use Rattle.desk_bom.specs.Places.{tail_number, slot_of, place_in, place_of};
 ghost use Rattle.desk_bom.specs.Elements.{element_ids, element_named, element_noted, element_count};
 ghost use Rattle.desk_bom.specs.Notes.{Notes};
 ghost use Rattle.desk_bom.specs.Contents.{package_at, file_at, package_named, file_named};
 ghost use Rattle.desk_tagvalue.specs.Parts.{DocumentText};
+ghost use Rattle.desk_base.specs.Borrowed.{texts};
 
 use crate::places::Places;
 use desk_tagvalue::{Document, FileEntry, Package, Snippet};

@@ -1,7 +1,8 @@
 //! The places of identifiers among others.
 
 ghost use Rattle.std.specs.Prelude.{◌≡◌, ◌<◌, ◌+◌, ℕ, List, Option, IfOk, OnOk, length};
-ghost use Rattle.desk_bom.specs.Places.{texts, tail_number, slot_of, place_of, found, Finds};
+ghost use Rattle.desk_bom.specs.Places.{tail_number, slot_of, place_of, found, Finds};
+ghost use Rattle.desk_base.specs.Borrowed.{texts};
 
 use std::alloc::{AllocError, Global};
 use std::collections::BTreeMap;

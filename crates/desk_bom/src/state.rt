@@ -7,13 +7,13 @@ ghost use Rattle.std.specs.Str.{bytes_eq};
 ghost use Rattle.desk_fields.specs.Text.{trimmed};
 ghost use Rattle.desk_base.specs.Folded.{folded};
 ghost use Rattle.hex.specs.Hex.{encode_lower};
-ghost use Rattle.desk_bom.specs.Places.{texts};
 ghost use Rattle.desk_tagvalue.specs.Documents.{document_text};
 ghost use Rattle.desk_tagvalue.specs.Entries.{value_text};
 ghost use Rattle.desk_tagvalue.specs.Views.{package_text, file_text};
 ghost use Rattle.desk_tagvalue.specs.Parts.{DocumentText};
 ghost use Rattle.desk_bom.specs.declared.state.CodeState.{CodeState};
 ghost use Rattle.desk_bom.specs.Codes.{IsCode, items_of, files_at, has_name, code_digits, code_list, is_list, is_code, names_in, plain, names_of, excluded_by, excluded_names, inner_of, is_excluded, digest_spelled, digests_of, is_unanalyzed, checked_digests, IsStateOf, IsState};
+ghost use Rattle.desk_base.specs.Borrowed.{texts};
 
 use crate::arrows::Arrow;
 use crate::codes::verification_code;

@@ -1,6 +1,6 @@
 -- Findings, field by field.
-use Rattle.std.proofs.Common.{◌≡◌, ◌∙◌, ℕ, ◌+◌, ◌<◌, Bool, true, false, List, [], ◌∷◌, ◌++◌, length, take, drop, get_or, ap, sym, refl, append_assoc, append-nil}
-use Rattle.std.specs.Prelude.{◌&&◌, not, map}
+use Rattle.std.proofs.Common.{◌≡◌, ◌∙◌, ℕ, ◌+◌, ◌<◌, Bool, List, [], ◌∷◌, ◌++◌, length, take, drop, get_or, ap, sym, append_assoc, append-nil}
+use Rattle.std.specs.Prelude.{map}
 use Rattle.std.specs.List.{flat_map}
 use Rattle.desk_tagvalue.specs.declared.entries.Entry.{Entry}
 use Rattle.desk_tagvalue.specs.declared.sections.SectionKind.{SectionKind}
@@ -14,12 +14,6 @@ use Rattle.desk_findings.specs.declared.finding.Finding.{Finding}
 use Rattle.desk_findings.specs.declared.finding.FindingKind.{FindingKind}
 use Rattle.desk_findings.specs.Kinds.{noted}
 use Rattle.desk_findings.specs.Fields.{FieldAt, fields_in, packages_after}
-
-pub use_of : (same placed gone uses : Bool) → not placed ≡ false → gone ≡ false → (same && uses) ≡ (same && placed && not gone && uses)
-use_of true true false uses p g = refl
-use_of false placed gone uses p g = refl
-use_of true false gone uses p g = absurd cc
-use_of true true true uses p g = absurd cc
 
 pub noted_as : (x y : List Finding) (a b : Bool) (m n : ℕ) (kind : FindingKind) → y ≡ x ++ noted a m kind → a ≡ b → m ≡ n → y ≡ x ++ noted b n kind
 noted_as x y a b m n kind is same line = is ∙ ap (λ v. x ++ noted v m kind) same ∙ ap (λ l. x ++ noted b l kind) line

@@ -3,3 +3,4 @@ pub mod Fields
 pub mod Findings
 pub mod Placed
 pub mod Known
+pub mod Told

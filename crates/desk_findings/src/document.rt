@@ -1,6 +1,6 @@
 //! The findings of a whole document.
 
-ghost use Rattle.std.specs.Prelude.{◌≡◌, ◌++◌, ℕ, List, IfOk, OnOk, Option, map, slice_index_or, ◌||◌, ◌&&◌, Some};
+ghost use Rattle.std.specs.Prelude.{◌≡◌, ◌++◌, ℕ, List, IfOk, IfSome, OnOk, Option, map, slice_index_or, ◌||◌, ◌&&◌, Some};
 ghost use Rattle.std.specs.List.{flat_map, list_any};
 ghost use Rattle.std.specs.List.Sorted.{IsPermutation, IsSorted};
 ghost use Rattle.std.specs.Str.{bytes_eq};
@@ -20,6 +20,7 @@ ghost use Rattle.desk_bom.specs.Notes.{Notes};
 ghost use Rattle.desk_tagvalue.specs.Faults.{kind_after};
 ghost use Rattle.desk_tagvalue.specs.Sections.{section_begun};
 ghost use Rattle.desk_findings.specs.Known.{Defines, state_in};
+ghost use Rattle.desk_findings.specs.Told.{Tells, IsTold};
 ghost use Rattle.desk_findings.specs.Fields.{IsReading, is_bad_expression, is_undefined_use, uses_undefined, fields_in, packages_after};
 ghost use Rattle.desk_findings.specs.Findings.{field_findings, all_findings, AreStates, AreFindings};
 ghost use Rattle.desk_findings.specs.Placed.{placed_text};
@@ -51,9 +52,18 @@ struct Known<'a> {
 
 /// What a licence field tells.
 #[derive(Clone, Copy)]
-struct Licence {
+pub(crate) struct Licence {
     is_bad: bool,
     is_undefined: bool,
+}
+
+/// The licence field whose value was read last, and what it told. In a document many a licence stands again and again, and one that
+/// equals it isn't read anew.
+#[derive(Clone, Copy)]
+pub(crate) struct Told<'a> {
+    tag: Tag,
+    value: &'a str,
+    licence: Licence,
 }
 
 fn add_defined<'a>(
@@ -112,20 +122,11 @@ fn uses_undefined_in(
     uses_undefined(alloc, defined, expr)
 }
 
-// What a licence field tells, which is read once.
-fn licence_of(alloc: Global, known: &Known, field: &Placed) -> Result<Licence, AllocError>
-    ensures bad { (reads : List ℕ → Option Tree) → IsReading known.now.profile reads → IfOk result (λ l. l.is_bad ≡ is_bad_expression reads (placed_text field.now)) }
-    ensures undefined { (reads : List ℕ → Option Tree) → IsReading known.now.profile reads → (d : DocumentText) → ((q : List ℕ) → has_key q known.now.defined ≡ list_any (λ x. bytes_eq x.id q) d.extracted) → IfOk result (λ l. l.is_undefined ≡ is_undefined_use reads d (placed_text field.now)) }
+// What a value tells that is read in a licence field.
+fn licence_read(alloc: Global, known: &Known, tag: Tag, value: &str) -> Result<Licence, AllocError>
+    ensures { IfOk result (Tells known.now.profile known.now.defined tag value.now) }
 {
-    let nothing = Licence {
-        is_bad: false,
-        is_undefined: false,
-    };
-    let tag = field.entry.tag;
-    if !is_licence_field(tag) || is_misplaced(field) || is_no_licence(field.entry.value) {
-        return Ok(nothing);
-    }
-    match read_value(alloc, field.entry.value, known.profile)? {
+    match read_value(alloc, value, known.profile)? {
         Some(expr) => Ok(Licence {
             is_bad: false,
             is_undefined: uses_undefined_in(alloc, &known.defined, tag, &expr)?,
@@ -137,18 +138,77 @@ fn licence_of(alloc: Global, known: &Known, field: &Placed) -> Result<Licence, A
     }
 }
 
+// What was told last, where it was of the same tag and value.
+fn told_again(last: Option<Told<'_>>, tag: Tag, value: &str) -> Option<Licence>
+    ensures { IfSome result (λ l. (t : Told) × (last.entry ≡ Some t) × (t.tag ≡ tag) × (t.value.now ≡ value.now) × (t.licence ≡ l)) }
+{
+    match last {
+        Some(told) if told.tag == tag && told.value == value => Some(told.licence),
+        _ => None,
+    }
+}
+
+// What a value tells in a licence field, which is read unless it is the one that was read last.
+fn licence_told<'a>(
+    alloc: Global,
+    known: &Known,
+    last: &mut Option<Told<'a>>,
+    tag: Tag,
+    value: &'a str,
+) -> Result<Licence, AllocError>
+    requires { IfSome last.old (IsTold known.now.profile known.now.defined) }
+    ensures licence { IfOk result (Tells known.now.profile known.now.defined tag value.now) }
+    ensures told { OnOk result (IfSome last.new (IsTold known.now.profile known.now.defined)) }
+{
+    if let Some(licence) = told_again(*last, tag, value) {
+        return Ok(licence);
+    }
+    let licence = licence_read(alloc, known, tag, value)?;
+    *last = Some(Told {
+        tag,
+        value,
+        licence,
+    });
+    Ok(licence)
+}
+
+// What a licence field tells.
+fn licence_of<'a>(
+    alloc: Global,
+    known: &Known,
+    last: &mut Option<Told<'a>>,
+    field: &Placed<'a>,
+) -> Result<Licence, AllocError>
+    requires { IfSome last.old (IsTold known.now.profile known.now.defined) }
+    ensures bad { (reads : List ℕ → Option Tree) → IsReading known.now.profile reads → IfOk result (λ l. l.is_bad ≡ is_bad_expression reads (placed_text field.now)) }
+    ensures undefined { (reads : List ℕ → Option Tree) → IsReading known.now.profile reads → (d : DocumentText) → Defines d known.now.defined → IfOk result (λ l. l.is_undefined ≡ is_undefined_use reads d (placed_text field.now)) }
+    ensures told { OnOk result (IfSome last.new (IsTold known.now.profile known.now.defined)) }
+{
+    let tag = field.entry.tag;
+    if !is_licence_field(tag) || is_misplaced(field) || is_no_licence(field.entry.value) {
+        return Ok(Licence {
+            is_bad: false,
+            is_undefined: false,
+        });
+    }
+    licence_told(alloc, known, last, tag, field.entry.value)
+}
+
 // Adds the findings of a field: of its tag and section, of licences, of digests, of codes and of flags.
-fn add_of_field(
+fn add_of_field<'a>(
     alloc: Global,
     found: &mut Vec<Finding>,
     known: &Known,
+    last: &mut Option<Told<'a>>,
     document: &Document,
-    field: &Placed,
+    field: &Placed<'a>,
 ) -> Result<(), AllocError>
-    ensures { (reads : List ℕ → Option Tree) → IsReading known.now.profile reads → Defines (document_text document.now) known.now.defined → OnOk result (found.new.items ≡ found.old.items ++ field_findings reads (state_in known.now.states.items) (document_text document.now) (placed_text field.now)) }
+    requires { IfSome last.old (IsTold known.now.profile known.now.defined) }
+    ensures told { OnOk result (IfSome last.new (IsTold known.now.profile known.now.defined)) }
+    ensures found { (reads : List ℕ → Option Tree) → IsReading known.now.profile reads → Defines (document_text document.now) known.now.defined → OnOk result (found.new.items ≡ found.old.items ++ field_findings reads (state_in known.now.states.items) (document_text document.now) (placed_text field.now)) }
 {
     let line = u64::from(field.entry.line);
-    let licence = licence_of(alloc, known, field)?;
+    let licence = licence_of(alloc, known, last, field)?;
     note(found, is_unknown(field), line, FindingKind::UnknownTag)?;
     note(found, is_misplaced(field), line, FindingKind::Misplaced)?;
     note(found, licence.is_bad, line, FindingKind::BadExpression)?;
@@ -193,6 +253,7 @@ fn add_of_fields(
     let entries = document.entries.as_slice();
     let mut section = SectionKind::Document;
     let mut packages = 0;
+    let mut last = None;
     for entry in entries {
         section = section_after(section, entry.tag);
         if entry.tag.is(Tag::PackageName) {
@@ -203,7 +264,7 @@ fn add_of_fields(
             packages,
             entry: *entry,
         };
-        add_of_field(alloc, found, known, document, &field)?;
+        add_of_field(alloc, found, known, &mut last, document, &field)?;
     }
     Ok(())
 }

@@ -24,7 +24,7 @@ fn is_only_word(word: &str, text: &str) -> bool
 }
 
 /// Whether a value is `NONE` or `NOASSERTION` alone.
-pub(crate) fn is_no_licence(text: &str) -> bool
+pub fn is_no_licence(text: &str) -> bool
     ensures { result ≡ is_no_licence text.now }
 {
     is_only_word("NONE", text) || is_only_word("NOASSERTION", text)

@@ -13,4 +13,5 @@ mod finding;
 mod missing;
 
 pub use document::{findings, findings_in};
+pub use expression::is_no_licence;
 pub use finding::{Finding, FindingKind, MissingField};

@@ -1,7 +1,7 @@
 use Rattle.std.proofs.Common.{◌≡◌, ◌++◌, take}
 use Rattle.std.specs.Prelude.{map}
-use Rattle.desk_bom.specs.Places.{texts}
 use Rattle.desk_bom.proofs.elements.add_packages.Given as goal
+use Rattle.desk_base.specs.Borrowed.{texts}
 
 -- those so far were added
 abbrev pub invariant-loop-package : goal.invariant-loop-package

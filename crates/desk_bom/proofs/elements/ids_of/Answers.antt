@@ -1,8 +1,8 @@
 use Rattle.std.proofs.Common.{◌∙◌, ◌++◌, ap}
 use Rattle.std.specs.Prelude.{map}
-use Rattle.desk_bom.specs.Places.{texts}
 use Rattle.desk_bom.proofs.ElementLemmas.{ids_joined}
 use Rattle.desk_bom.proofs.elements.ids_of.Goals as goal
+use Rattle.desk_base.specs.Borrowed.{texts}
 
 pub returns : goal.returns
 returns c =

@@ -2,9 +2,10 @@ use Rattle.std.proofs.Common.{◌≡◌, ◌∙◌, ◌+◌, ◌<◌, ◌≤◌,
 use Rattle.std.specs.Option.{is_some}
 use Rattle.std.proofs.lemmas.List.{get_or-map, length-map}
 use denote.Ref.{Bor}
-use Rattle.desk_bom.specs.Places.{texts, slot_of, held_for, found, Finds}
+use Rattle.desk_bom.specs.Places.{slot_of, held_for, found, Finds}
 use Rattle.desk_bom.proofs.SlotLemmas.{finds_again, finds_in_slot, finds_in_tree}
 use Rattle.desk_bom.proofs.places.add.Goals as goal
+use Rattle.desk_base.specs.Borrowed.{texts}
 
 pub returns-then-is_some-clause-finds : goal.returns-then-is_some-clause-finds
 returns-then-is_some-clause-finds c =

@@ -6,9 +6,10 @@ use Rattle.std.specs.Str.{bytes_eq}
 use Rattle.desk_fields.specs.Text.{trimmed}
 use Rattle.desk_tagvalue.specs.Entries.{value_text}
 use Rattle.desk_bom.specs.Codes.{excluded_names, plain}
-use Rattle.desk_bom.specs.Places.{texts, place_of}
+use Rattle.desk_bom.specs.Places.{place_of}
 use Rattle.desk_bom.proofs.CodeLemmas.{is_some_place}
 use Rattle.desk_bom.proofs.state.excluded_names.Goals as goal
+use Rattle.desk_base.specs.Borrowed.{texts}
 
 pub returns-in_ok-of-in-Some : goal.returns-in_ok-of-in-Some
 returns-in_ok-of-in-Some c = λ q.

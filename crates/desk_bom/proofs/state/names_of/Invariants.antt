@@ -1,9 +1,9 @@
 use Rattle.std.proofs.Common.{◌≡◌, take}
 use Rattle.std.specs.Prelude.{map}
 use Rattle.desk_fields.specs.Text.{trimmed}
-use Rattle.desk_bom.specs.Places.{texts}
 use Rattle.desk_bom.specs.Codes.{plain}
 use Rattle.desk_bom.proofs.state.names_of.Given as goal
+use Rattle.desk_base.specs.Borrowed.{texts}
 
 -- those so far were added
 abbrev pub invariant-loop-part : goal.invariant-loop-part

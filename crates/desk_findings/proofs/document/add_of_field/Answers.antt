@@ -6,8 +6,8 @@ use Rattle.desk_findings.proofs.FindingLemmas.{joined, noted_as}
 use Rattle.desk_tagvalue.specs.Documents.{document_text}
 use Rattle.desk_findings.proofs.document.add_of_field.Goals as goal
 
-pub returns : goal.returns
-returns c = λ reads is defines.
+pub returns-clause-found : goal.returns-clause-found
+returns-clause-found c = λ reads is defines.
     let line = c.from-line.ensures in
     let bad = c.in_ok-licence.ensures.bad reads is in
     let undefined = c.in_ok-licence.ensures.undefined reads is (document_text c.args.document.now) defines in

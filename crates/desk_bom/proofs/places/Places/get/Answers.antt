@@ -1,6 +1,7 @@
 use Rattle.std.proofs.Common.{◌≡◌, ◌∙◌, ap, sym}
-use Rattle.desk_bom.specs.Places.{texts, found}
+use Rattle.desk_bom.specs.Places.{found}
 use Rattle.desk_bom.proofs.places.Places.get.Goals as goal
+use Rattle.desk_base.specs.Borrowed.{texts}
 
 pub returns : goal.returns
 returns c =

@@ -1,9 +1,10 @@
 use Rattle.std.proofs.Common.{◌≡◌, ◌∙◌, ◌+◌, ◌<◌, length, get_or, ap, sym, subst, arith, rules, ℕ, List, None}
 use Rattle.std.proofs.lemmas.List.{length-map, take_all, length-replicate, get_or-replicate}
 use denote.Ref.{Bor}
-use Rattle.desk_bom.specs.Places.{texts, slot_of, place_of, place_in, Finds}
+use Rattle.desk_bom.specs.Places.{slot_of, place_of, place_in, Finds}
 use Rattle.desk_bom.proofs.SlotLemmas.{finds_none, back_whole}
 use Rattle.desk_bom.proofs.places.Places.of.Goals as goal
+use Rattle.desk_base.specs.Borrowed.{texts}
 
 pub loop-place-init : goal.loop-place-init
 loop-place-init c =

@@ -1,6 +1,7 @@
 use Rattle.std.proofs.Common.{◌≡◌, ◌<◌, length}
-use Rattle.desk_bom.specs.Places.{texts, Finds}
+use Rattle.desk_bom.specs.Places.{Finds}
 use Rattle.desk_bom.proofs.places.Places.of.Given as goal
+use Rattle.desk_base.specs.Borrowed.{texts}
 
 -- those so far are found
 abbrev pub invariant-loop-place : goal.invariant-loop-place
