@@ -6,7 +6,8 @@ use Rattle.toml.specs.Data.{Data}
 use Rattle.toml.specs.View.{view, items_view}
 use Rattle.toml.specs.declared.value.Value.{Value}
 use Rattle.desk_rows.specs.declared.refusal.CatalogueFault.{CatalogueFault}
-use Rattle.desk_catalogue.specs.Reading.{Read, then_read, each, count}
+use Rattle.desk_catalogue.specs.Reading.{Read, each, count}
+use Rattle.desk_base.specs.Results.{then_read}
 
 module _ {S : Type 0} (put : S → ℕ → Data → Read S) (state : S) (vs : List Value) (i : ℕ) where
   -- one value more

@@ -18,7 +18,8 @@ use Rattle.desk_rows.specs.Texts.{text_below, put_new, sorted_set}
 use Rattle.desk_catalogue.specs.declared.order.Subject.{Subject}
 use Rattle.desk_catalogue.specs.declared.order.Said.{Said}
 use Rattle.desk_catalogue.specs.Kept.{put_rule, has_rule}
-use Rattle.desk_catalogue.specs.Shown.{texts, rule_of_entry}
+use Rattle.desk_catalogue.specs.Shown.{rule_of_entry}
+use Rattle.desk_base.specs.Borrowed.{texts, borrowed_cmp}
 
 -- ---- texts
 
@@ -34,9 +35,6 @@ put_texts-none (x ∷ xs) = ap (put_new x) (put_texts-none xs)
 pub put_texts-last : (xs : List (Bor (List ℕ))) (x : Bor (List ℕ)) (sorted : List (List ℕ)) → put_texts (texts (xs ++ x ∷ [])) sorted ≡ put_texts (texts xs) (put_new x.now sorted)
 put_texts-last [] x sorted = refl
 put_texts-last (y ∷ ys) x sorted = ap (put_new y.now) (put_texts-last ys x sorted)
-
-abbrev pub borrowed_cmp : Bor (List ℕ) → Bor (List ℕ) → Ordering
-borrowed_cmp a b = slice_cmp nat_cmp a.now b.now
 
 by_order : (o : Ordering) (b : Bool) (x y z : List (Bor (List ℕ))) → is_eq o ≡ b → texts (match_ordering o x y z) ≡ cond (is_lt o) (texts x) (cond b (texts y) (texts z))
 by_order Less b x y z is = refl
@@ -96,7 +94,7 @@ flipped a b =
       ]
     ]
 
-either_equal : (o p : Ordering) → is_eq (ordering_then o p) ≡ (is_eq o && is_eq p)
+pub either_equal : (o p : Ordering) → is_eq (ordering_then o p) ≡ (is_eq o && is_eq p)
 either_equal Less p = refl
 either_equal Equal p = refl
 either_equal Greater p = refl

@@ -5,4 +5,5 @@ pub mod SetLemmas
 pub mod ReadingLemmas
 pub mod PrintedLemmas
 pub mod OrderLaws
+pub mod Sought
 mod StandOnce

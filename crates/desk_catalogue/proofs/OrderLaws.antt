@@ -14,11 +14,13 @@ use Rattle.desk_rows.specs.declared.refusal.CataloguePart.TheVariants as part
 use Rattle.desk_rows.specs.declared.refusal.CatalogueFault.{CatalogueFault}
 use Rattle.desk_rows.specs.declared.refusal.CatalogueFault.TheVariants.{NotToml, TooLarge, Twice}
 use Rattle.desk_catalogue.specs.declared.catalogue.Catalogue.{Catalogue}
-use Rattle.desk_catalogue.specs.Limits as limit
-use Rattle.desk_catalogue.specs.Kept.{rule_order, put_rule, has_rule}
-use Rattle.desk_catalogue.specs.Reading.{Read, then_read, each, tables_of, forms_of, duties_of, rule_at, with_one, with_rule, rules_of, licence_texts_of, catalogue_of_table, catalogue_of}
+use Rattle.desk_base.specs.Limits as limit
+use Rattle.desk_catalogue.specs.Kept.{put_rule, has_rule}
+use Rattle.desk_catalogue.specs.Reading.{Read, each, tables_of, forms_of, duties_of, rule_at, with_one, with_rule, rules_of, licence_texts_of, catalogue_of_table, catalogue_of}
+use Rattle.desk_rows.specs.Keys.{rule_order}
+use Rattle.desk_base.specs.Results.{then_read}
 
-rule_order_total : IsTotalOrder rule_order
+pub rule_order_total : IsTotalOrder rule_order
 rule_order_total = search (comparing, rules)
 
 all_map : (P Q : Rule → Type 0) → ((r : Rule) → P r → Q r) → (rs : List Rule) → AllByRecursion P rs → AllByRecursion Q rs

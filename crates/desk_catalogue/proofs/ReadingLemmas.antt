@@ -12,9 +12,10 @@ use Rattle.desk_rows.specs.declared.refusal.CataloguePart.TheVariants as part
 use Rattle.desk_catalogue.specs.declared.catalogue.Catalogue.{Catalogue}
 use Rattle.desk_catalogue.specs.declared.catalogue.LicenceText.{LicenceText}
 use Rattle.desk_catalogue.specs.Terms.{licence_of}
-use Rattle.desk_catalogue.specs.Reading.{Read, then_read, each, with_form, is_form_count, forms_listed, forms_of, duties_of, rules_of, licence_texts_of, RuleTexts, rule_written, rule_of, rule_at, catalogue_of_table}
+use Rattle.desk_catalogue.specs.Reading.{Read, each, with_form, is_form_count, forms_listed, forms_of, duties_of, rules_of, licence_texts_of, RuleTexts, rule_written, rule_of, rule_at, catalogue_of_table}
 use Rattle.desk_catalogue.specs.Shown.{Gives}
 use Rattle.desk_catalogue.proofs.EntryLemmas.{count-items_view}
+use Rattle.desk_base.specs.Results.{then_read}
 
 -- ---- along an equation
 

@@ -14,8 +14,9 @@ use Rattle.desk_base.specs.Folded.{folded}
 use Rattle.desk_catalogue.specs.declared.catalogue.LicenceText.{LicenceText}
 use Rattle.desk_catalogue.specs.Kept.{is_text_of}
 use Rattle.desk_catalogue.specs.Values.{is_among}
-use Rattle.desk_catalogue.specs.Shown.{texts, HasIds}
+use Rattle.desk_catalogue.specs.Shown.{HasIds}
 use Rattle.desk_catalogue.proofs.KeptLemmas.{flipped}
+use Rattle.desk_base.specs.Borrowed.{texts}
 
 -- a text is found in a set where it is among its texts
 pub has_text : (ks : List (Bor (List ℕ))) (q : List ℕ) → list_any (is_at (λ (k : Bor (List ℕ)). slice_cmp nat_cmp q k.now)) ks ≡ is_among (texts ks) q

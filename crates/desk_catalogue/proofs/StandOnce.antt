@@ -10,11 +10,12 @@ use Rattle.desk_rows.specs.declared.refusal.CataloguePart.TheVariants as part
 use Rattle.desk_rows.specs.declared.refusal.CatalogueFault.TheVariants.{NotToml, TooLarge, Twice}
 use Rattle.desk_catalogue.specs.declared.catalogue.Catalogue.{Catalogue}
 use Rattle.desk_catalogue.specs.declared.catalogue.LicenceText.{LicenceText}
-use Rattle.desk_catalogue.specs.Limits as limit
+use Rattle.desk_base.specs.Limits as limit
 use Rattle.desk_catalogue.specs.Kept.{is_text_of, same_licence}
 use Rattle.desk_catalogue.specs.Values.{is_among}
-use Rattle.desk_catalogue.specs.Reading.{then_read, each, tables_of, forms_of, forms_listed, forms_once, duties_of, rules_of, text_at, with_one_text, with_text, licence_texts_of, catalogue_of_table, catalogue_of}
+use Rattle.desk_catalogue.specs.Reading.{each, tables_of, forms_of, forms_listed, forms_once, duties_of, rules_of, text_at, with_one_text, with_text, licence_texts_of, catalogue_of_table, catalogue_of}
 use Rattle.desk_catalogue.proofs.OrderLaws.{then_by, unless, same_read, each_holds}
+use Rattle.desk_base.specs.Results.{then_read}
 
 module _ {K : Type 0} (eq : K → K → Bool) where
   or_left : (a b : Bool) → (a || b) ≡ false → a ≡ false

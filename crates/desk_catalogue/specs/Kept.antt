@@ -1,12 +1,10 @@
 -- What a catalogue keeps, and in which order.
 use Rattle.std.specs.Prelude.{ℕ, ◌==◌, Bool, List, [], ◌∷◌, length}
 use Rattle.std.specs.List.{list_any}
-use Rattle.std.specs.Ordering.{nat_cmp, on, then_cmp, match_ordering}
+use Rattle.std.specs.Ordering.{match_ordering}
 use Rattle.std.specs.Str.{bytes_eq}
-use Rattle.std.specs.Cmp.Lexicographic.{slice_cmp}
-use Rattle.std.specs.declared.cmp.Ordering.{Ordering}
 use Rattle.desk_base.specs.Folded.{folded}
-use Rattle.desk_rows.specs.Keys.{is_rule}
+use Rattle.desk_rows.specs.Keys.{is_rule, rule_order}
 use Rattle.desk_rows.specs.Texts.{sorted_set}
 use Rattle.desk_rows.specs.declared.reading.Rule.{Rule}
 use Rattle.desk_catalogue.specs.declared.catalogue.LicenceText.{LicenceText}
@@ -14,10 +12,6 @@ use Rattle.desk_catalogue.specs.declared.catalogue.LicenceText.{LicenceText}
 -- none of the texts stands twice: as a set they are as many
 abbrev pub stand_once : List (List ℕ) → Bool
 stand_once texts = length (sorted_set texts) == length texts
-
--- rules are sorted by term, then by form
-abbrev pub rule_order : Rule → Rule → Ordering
-rule_order = then_cmp (on (λ rule. rule.term) (slice_cmp nat_cmp)) (on (λ rule. rule.form) (slice_cmp nat_cmp))
 
 -- a rule at its place in sorted rules
 abbrev pub put_rule : Rule → List Rule → List Rule

@@ -1,4 +1,3 @@
-pub mod Limits
 pub mod Values
 pub mod Terms
 pub mod Kept

@@ -1,5 +1,5 @@
 -- What is found in a catalogue.
-use Rattle.std.specs.Prelude.{ℕ, List, Bool, Option, option_map, find}
+use Rattle.std.specs.Prelude.{ℕ, List, [], Bool, Option, option_map, find}
 use Rattle.desk_expr.specs.declared.term.Term.{Term}
 use Rattle.desk_expr.specs.Printing.{printed_term}
 use Rattle.desk_rows.specs.Keys.{is_rule}
@@ -8,6 +8,10 @@ use Rattle.desk_catalogue.specs.declared.catalogue.Catalogue.{Catalogue}
 use Rattle.desk_catalogue.specs.declared.catalogue.LicenceText.{LicenceText}
 use Rattle.desk_catalogue.specs.Values.{is_among}
 use Rattle.desk_catalogue.specs.Kept.{is_text_of}
+
+-- what a rule for a term in a form is compared with
+abbrev pub sought : List ℕ → List ℕ → Rule
+sought term form = record { term = term; form = form; spelled = []; codes = [] }
 
 -- the rule for a term, which the catalogue keeps as it is printed, in a form
 abbrev pub rule_for : Catalogue → Term → List ℕ → Option Rule

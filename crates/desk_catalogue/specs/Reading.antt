@@ -13,19 +13,15 @@ use Rattle.desk_rows.specs.declared.refusal.CatalogueFault.{CatalogueFault}
 use Rattle.desk_rows.specs.declared.refusal.CatalogueFault.TheVariants.{NotToml, Missing, BadKind, BadTerm, UnknownForm, UnknownDuty, Twice, TooLarge}
 use Rattle.desk_catalogue.specs.declared.catalogue.Catalogue.{Catalogue}
 use Rattle.desk_catalogue.specs.declared.catalogue.LicenceText.{LicenceText}
-use Rattle.desk_catalogue.specs.Limits as limit
+use Rattle.desk_base.specs.Limits as limit
 use Rattle.desk_catalogue.specs.Values.{id_of, title_of, texts_of, is_among, is_text_id}
 use Rattle.desk_catalogue.specs.Terms.{licence_of}
 use Rattle.desk_catalogue.specs.Kept.{stand_once, put_rule, has_rule, is_text_of}
+use Rattle.desk_base.specs.Results.{then_read}
 
 -- something, or its fault
 abbrev pub Read : Type 0 → Type 0
 Read A = Result A CatalogueFault
-
--- what comes next, where there is no fault
-abbrev pub then_read : {A B : Type 0} → Read A → (A → Read B) → Read B
-then_read (Ok x) next = next x
-then_read (Err fault) next = Err fault
 
 -- ---- lists
 

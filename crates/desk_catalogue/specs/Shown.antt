@@ -1,11 +1,10 @@
 -- What the code's values show of the definitions'.
-use Rattle.std.specs.Prelude.{◌≡◌, ⊤, ℕ, List, map, Vec, Result, Ok, Err}
+use Rattle.std.specs.Prelude.{◌≡◌, ⊤, ℕ, List, map, Result, Ok, Err}
 use Rattle.std.specs.Ordering.{nat_cmp}
 use Rattle.std.specs.Cmp.Lexicographic.{slice_cmp}
 use Rattle.std.specs.List.{list_any}
 use Rattle.std.specs.BTreeMap.{BTreeMap}
 use Rattle.std.specs.BTreeSet.{BTreeSet, contains_by}
-use Rattle.std.specs.declared.alloc.Global.{Global}
 use denote.Ref.{Bor}
 use Rattle.desk_base.specs.Folded.{folded}
 use Rattle.desk_rows.specs.declared.reading.Rule.{Rule}
@@ -18,18 +17,12 @@ use Rattle.desk_catalogue.specs.declared.order.Subject.{Subject}
 use Rattle.desk_catalogue.specs.declared.order.Said.{Said}
 use Rattle.desk_catalogue.specs.Kept.{is_text_of}
 use Rattle.desk_catalogue.specs.Reading.{Read, RuleTexts}
+use Rattle.desk_base.specs.Borrowed.{texts, texts_in}
 
 -- a result is what is read, seen as it shows
 abbrev pub Gives : {A B : Type 0} → Read B → (A → B) → Result A CatalogueFault → Type 0
 Gives read show (Ok x) = read ≡ Ok (show x)
 Gives read show (Err fault) = read ≡ Err fault
-
--- the bytes of borrowed texts
-abbrev pub texts : List (Bor (List ℕ)) → List (List ℕ)
-texts borrowed = map (λ (text : Bor (List ℕ)). text.now) borrowed
-
-abbrev pub texts_in : Vec (Bor (List ℕ)) Global → List (List ℕ)
-texts_in v = texts v.items
 
 abbrev pub rule_texts_in : Written → RuleTexts
 rule_texts_in rule = record { term = rule.term.now; form = rule.form.now; duties = texts_in rule.duties }

@@ -4,9 +4,9 @@ use Rattle.std.specs.List.{list_all, list_any}
 use Rattle.std.specs.Str.{bytes_eq}
 use Rattle.toml.specs.Data.{Data, as_str, as_array, Items, no_items, item}
 use Rattle.desk_base.specs.Idstring.{is_idstring}
-use Rattle.desk_rows.specs.Texts.{is_shown}
 use Rattle.desk_expr.specs.Words.{begins_like_reference}
-use Rattle.desk_catalogue.specs.Limits as limit
+use Rattle.desk_base.specs.Limits as limit
+use Rattle.desk_base.specs.Bytes.{is_shown}
 
 -- a form, or the code of a duty: an idstring (SPDX 2.3, Annex D.2) of at most 64 bytes
 abbrev pub is_id : List ℕ → Bool

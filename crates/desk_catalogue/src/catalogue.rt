@@ -1,7 +1,7 @@
 //! What is kept of a catalogue.
 
+use crate::ordered::OrderedRules;
 use desk_base::{Items, Text};
-use desk_rows::Rule;
 
 /// The text of a licence or of an exception.
 #[derive(Debug, Drop)]
@@ -17,7 +17,7 @@ pub struct Catalogue {
     /// The forms, in their order.
     pub forms: Items<Text>,
     /// The rules, sorted by term and form.
-    pub rules: Items<Rule>,
+    pub rules: OrderedRules,
     /// The texts, in their order.
     pub texts: Items<LicenceText>,
 }

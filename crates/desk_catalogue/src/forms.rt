@@ -4,12 +4,12 @@ ghost use Rattle.std.specs.Prelude.{◌≡◌, [], IfOk, Some, codes};
 ghost use Rattle.toml.specs.Data.{get_member};
 ghost use Rattle.toml.specs.View.{table_view, items_view};
 ghost use Rattle.desk_catalogue.specs.Reading.{each, with_form, is_form_count, forms_listed, forms_once, forms_of};
-ghost use Rattle.desk_catalogue.specs.Shown.{Gives, texts, texts_in};
+ghost use Rattle.desk_catalogue.specs.Shown.{Gives};
+ghost use Rattle.desk_base.specs.Borrowed.{texts, texts_in};
 
-use crate::limits;
 use crate::order::is_kept;
 use crate::values::{id_of, member};
-use desk_base::{Items, Text};
+use desk_base::{Items, Text, limits};
 use desk_rows::{CatalogueFault, CataloguePart};
 use std::alloc::{AllocError, Global};
 use toml::{Table, Value};

@@ -6,8 +6,9 @@ ghost use Rattle.std.specs.List.Sorted.{IsStrictlySortedBy};
 ghost use Rattle.std.specs.Str.{bytes_eq};
 ghost use Rattle.desk_catalogue.specs.declared.catalogue.Catalogue.{Catalogue};
 ghost use Rattle.desk_catalogue.specs.Terms.{ReadsTerms};
-ghost use Rattle.desk_catalogue.specs.Kept.{rule_order, same_licence};
+ghost use Rattle.desk_catalogue.specs.Kept.{same_licence};
 ghost use Rattle.desk_catalogue.specs.Reading.{catalogue_of};
+ghost use Rattle.desk_rows.specs.Keys.{rule_order};
 
 /// Some function gives the printed term of each text that spells one, and none of any other text.
 pub fn terms_are_read()

@@ -34,9 +34,9 @@ mod entries;
 mod fault;
 mod forms;
 mod laws;
-pub mod limits;
 mod lookup;
 mod order;
+mod ordered;
 mod reading;
 mod rules;
 mod texts;
@@ -44,5 +44,6 @@ mod values;
 
 pub use catalogue::{Catalogue, LicenceText};
 pub use fault::CatFault;
-pub use laws::{one_catalogue, rules_stand_once, terms_are_read};
+pub use laws::{forms_and_texts_stand_once, one_catalogue, rules_stand_once, terms_are_read};
 pub use order::sorted_set;
+pub use ordered::OrderedRules;

@@ -8,9 +8,11 @@ ghost use Rattle.std.specs.Cmp.Lexicographic.{slice_cmp};
 ghost use Rattle.std.proofs.Common.{rules};
 ghost use Rattle.desk_rows.specs.Texts.{sorted_set};
 ghost use Rattle.desk_catalogue.specs.Kept.{stand_once, put_rule, has_rule};
-ghost use Rattle.desk_catalogue.specs.Shown.{texts_in, rules_in};
+ghost use Rattle.desk_catalogue.specs.Shown.{rules_in};
 ghost use Rattle.desk_catalogue.specs.Values.{is_among};
+ghost use Rattle.desk_base.specs.Borrowed.{texts_in};
 
+use crate::ordered::OrderedRules;
 use desk_base::{Items, Text};
 use desk_rows::Rule;
 use std::alloc::{AllocError, Global};
@@ -96,14 +98,15 @@ pub(crate) fn add_rule(rules: &mut BTreeMap<Subject, Said>, rule: Rule) -> Resul
     Ok(before.is_none())
 }
 
-/// The rules of a map, in its order.
-pub(crate) fn rules_in(
+// The rules of a map, in its order.
+fn listed(
     alloc: Global,
     rules: BTreeMap<Subject, Said>,
+    count: usize,
 ) -> Result<Items<Rule>, AllocError>
     ensures { IfOk result (λ listed. listed ≡ rules_in rules) }
 {
-    let mut listed = Items::new(alloc);
+    let mut listed = Vec::with_capacity(alloc, count)?;
     for (subject, said) in rules {
         let Subject { term, form } = subject;
         let Said { spelled, codes } = said;
@@ -114,7 +117,19 @@ pub(crate) fn rules_in(
             codes,
         })?;
     }
-    Ok(listed)
+    Ok(Items::from_vec(listed))
+}
+
+/// The rules of a map, in its order.
+pub(crate) fn rules_in(
+    alloc: Global,
+    rules: BTreeMap<Subject, Said>,
+) -> Result<OrderedRules, AllocError>
+    ensures { IfOk result (λ ordered. ordered ≡ rules_in rules) }
+{
+    let count = rules.len();
+    let rules = listed(alloc, rules, count)?;
+    Ok(OrderedRules::of(rules))
 }
 
 /// The codes of a rule sorted by their bytes, or none where one stands twice.

@@ -7,7 +7,8 @@ ghost use Rattle.toml.specs.View.{view, table_view, items_view};
 ghost use Rattle.desk_catalogue.specs.Terms.{ReadsTerms, licence_of};
 ghost use Rattle.desk_catalogue.specs.Values.{is_among, texts_of};
 ghost use Rattle.desk_catalogue.specs.Reading.{each, rule_texts, rule_written, rule_of, rule_at, with_rule, rules_of};
-ghost use Rattle.desk_catalogue.specs.Shown.{Gives, texts, rule_texts_in, codes_in, rules_in};
+ghost use Rattle.desk_catalogue.specs.Shown.{Gives, rule_texts_in, codes_in, rules_in};
+ghost use Rattle.desk_base.specs.Borrowed.{texts};
 
 use crate::entries::tables_of;
 use crate::order::{Said, Subject, add_rule, codes_once, is_kept};

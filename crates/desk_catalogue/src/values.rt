@@ -1,15 +1,12 @@
 //! The values of a catalogue's tables.
 
 ghost use Rattle.std.specs.Prelude.{◌≡◌, IfOk, option_map, map};
-ghost use Rattle.std.specs.List.{list_all};
 ghost use Rattle.toml.specs.Data.{get_member};
 ghost use Rattle.toml.specs.View.{view, table_view, items_view};
 ghost use Rattle.desk_expr.specs.Words.{begins_like_reference};
-ghost use Rattle.desk_rows.specs.Texts.{is_shown};
 ghost use Rattle.desk_catalogue.specs.Values.{is_id, is_text_id, is_title, id_of, title_of, strings, texts_of};
 
-use crate::limits;
-use desk_base::is_idstring_of_bytes;
+use desk_base::{are_shown, is_idstring_of_bytes, limits};
 use std::alloc::{AllocError, Global};
 use toml::{Table, Value};
 
@@ -39,20 +36,6 @@ pub(crate) fn is_text_id(text: &str) -> bool
     ensures { result ≡ is_text_id text.now }
 {
     is_idstring_of_bytes(text.as_bytes()) && !begins_like_reference(text)
-}
-
-// Whether the byte is no control byte.
-fn is_shown(byte: u8) -> bool
-    ensures { result ≡ is_shown byte }
-{
-    byte >= 32 && byte != 127
-}
-
-// Whether no byte is a control byte.
-fn are_shown(bytes: &[u8]) -> bool
-    ensures { result ≡ list_all is_shown bytes.now }
-{
-    bytes.iter().all(|byte| is_shown(*byte))
 }
 
 fn is_title(text: &str) -> bool

@@ -1,8 +1,8 @@
 use Rattle.std.proofs.Common.{◌≡◌, drop, []}
 use Rattle.toml.specs.View.{items_view}
 use Rattle.desk_catalogue.specs.Reading.{each, with_form}
-use Rattle.desk_catalogue.specs.Shown.{texts_in}
 use Rattle.desk_catalogue.proofs.forms.each_form.Given as goal
+use Rattle.desk_base.specs.Borrowed.{texts_in}
 
 -- the forms so far, with those of the rest, are those of all
 abbrev pub invariant-loop-i : goal.invariant-loop-i

@@ -1,9 +1,9 @@
 use Rattle.std.proofs.Common.{◌∙◌, sym, true, false, Some, []}
 use Rattle.toml.specs.View.{items_view}
 use Rattle.desk_catalogue.specs.Reading.{each, with_form, forms_listed}
-use Rattle.desk_catalogue.specs.Shown.{texts_in}
 use Rattle.desk_catalogue.proofs.ReadingLemmas.{forms_counted, gives_along}
 use Rattle.desk_catalogue.proofs.forms.forms_listed.Goals as goal
+use Rattle.desk_base.specs.Borrowed.{texts_in}
 
 pub returns-then-is_form_count : goal.returns-then-is_form_count
 returns-then-is_form_count c =

@@ -1,7 +1,7 @@
 use Rattle.std.proofs.Common.{◌∙◌, sym, ap}
-use Rattle.desk_catalogue.specs.Shown.{texts}
 use Rattle.desk_catalogue.proofs.KeptLemmas.{put_texts, put_texts-none, put_texts-last, texts-insert_key}
 use Rattle.desk_catalogue.proofs.order.sorted_set.Goals as goal
+use Rattle.desk_base.specs.Borrowed.{texts}
 
 pub loop-last-init : goal.loop-last-init
 loop-last-init c = ap (λ ks. put_texts (texts c.args.listed.items) (texts ks)) c.new-set.ensures.empty ∙ put_texts-none (texts c.args.listed.items)

@@ -1,8 +1,8 @@
 use Rattle.std.proofs.Common.{◌≡◌, ◌++◌, vec_len}
 use Rattle.desk_rows.specs.Texts.{sorted_set}
-use Rattle.desk_catalogue.specs.Shown.{texts, texts_in}
 use Rattle.desk_catalogue.proofs.KeptLemmas.{put_texts}
 use Rattle.desk_catalogue.proofs.order.sorted_set.Given as goal
+use Rattle.desk_base.specs.Borrowed.{texts, texts_in}
 
 -- the texts that are left, put into the set, make it whole
 abbrev pub invariant-loop-last : goal.invariant-loop-last

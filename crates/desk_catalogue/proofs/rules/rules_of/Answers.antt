@@ -1,10 +1,11 @@
 use Rattle.std.proofs.Common.{sym, ap, codes, []}
 use Rattle.toml.specs.Data.{get_member}
 use Rattle.toml.specs.View.{items_view, table_view}
-use Rattle.desk_catalogue.specs.Reading.{then_read, each, with_rule, rules_of}
+use Rattle.desk_catalogue.specs.Reading.{each, with_rule, rules_of}
 use Rattle.desk_catalogue.specs.Shown.{codes_in, rules_in}
 use Rattle.desk_catalogue.proofs.ReadingLemmas.{gives_along}
 use Rattle.desk_catalogue.proofs.rules.rules_of.Goals as goal
+use Rattle.desk_base.specs.Results.{then_read}
 
 pub returns-in-Ok : goal.returns-in-Ok
 returns-in-Ok c = λ terms h.

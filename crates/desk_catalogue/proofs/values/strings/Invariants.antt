@@ -1,8 +1,8 @@
 use Rattle.std.proofs.Common.{◌≡◌, drop, ◌++◌, option_map}
 use Rattle.toml.specs.View.{items_view}
 use Rattle.desk_catalogue.specs.Values.{strings}
-use Rattle.desk_catalogue.specs.Shown.{texts_in}
 use Rattle.desk_catalogue.proofs.values.strings.Given as goal
+use Rattle.desk_base.specs.Borrowed.{texts_in}
 
 -- the texts so far, and those of the rest, are those of all
 abbrev pub invariant-loop-value : goal.invariant-loop-value
