@@ -1,12 +1,15 @@
 -- Which changes go on from the rows of some tables. A store owes nothing to any other change.
-use Rattle.std.specs.Prelude.{◌≡◌, ℕ, ◌+◌, Bool, true, ◌==◌, ◌&&◌, nat_lt, List, [], ◌∷◌, length, map, is_some}
+use Rattle.std.specs.Prelude.{◌≡◌, ℕ, ◌+◌, ◌≤◌, Bool, true, false, ◌==◌, ◌&&◌, nat_lt, List, [], ◌∷◌, length, map, is_some}
 use Rattle.std.specs.List.{list_all}
 use Rattle.desk_rows.specs.Tables.{Tables}
 use Rattle.desk_rows.specs.declared.row.DutyRow.{DutyRow}
 use Rattle.desk_rows.specs.declared.row.ChangeRow.{ChangeRow}
 use Rattle.desk_rows.specs.declared.command.Change.{Change}
 use Rattle.desk_rows.specs.declared.command.Change.TheVariants as change
-use Rattle.desk_history.specs.FromTables.{steps_found, duty_found}
+use Rattle.desk_base.specs.Limits as most
+use Rattle.desk_rows.specs.Keys.{is_choice_of, is_duty_of}
+use Rattle.desk_rows.specs.States.{is_open}
+use Rattle.desk_history.specs.FromTables.{steps_found, duty_found, release_found}
 
 -- the duties are numbered on from n
 abbrev pub are_numbered : ℕ → List DutyRow → Bool
@@ -38,13 +41,26 @@ AreNext t rows =
     (are_next t rows ≡ true) × (rise (map (λ row. row.number) t.duty) ≡ true → rise (map (λ row. row.duty) rows) ≡ true)
     × (are_of_duties t rows ≡ true)
 
--- a new revision, document or release has the next number, new duties the next ones, a change of a duty that stands its next step
+-- each duty is of the release, and open
+abbrev pub are_open_of : List ℕ → List DutyRow → Bool
+are_open_of release rows = list_all (λ row. is_duty_of release row && is_open row.state) rows
+
+-- there is a release with the name
+abbrev pub has_release : Tables → List ℕ → Bool
+has_release t name = is_some (release_found t name)
+
+-- A new revision, document or release has the next number, and a release a name that no other has. Choices are those for one package
+-- in a release that stands. The new duties of a release that stands have the next numbers, and with them there are at most as many as
+-- may be; a change of a duty that stands has its next step.
 abbrev pub Follows : Change → Tables → Type 0
 Follows (change.Loaded row rules forms) t = row.revision ≡ length t.catalogue + 1
 Follows (change.Imported row packages references) t = row.number ≡ length t.document + 1
-Follows (change.Opened row) t = row.place ≡ length t.releases + 1
+Follows (change.Opened row) t = (row.place ≡ length t.releases + 1) × (has_release t row.name ≡ false)
+Follows (change.Chosen release document package_id rows) t =
+    (has_release t release ≡ true) × (list_all (is_choice_of release document package_id) rows ≡ true)
 Follows (change.Froze release revision rows duties changes) t =
     (are_numbered (length t.duty + 1) duties ≡ true) × (are_first (length t.duty + 1) changes ≡ true) × (length changes ≡ length duties)
+    × (has_release t release ≡ true) × (are_open_of release duties ≡ true) × (length t.duty + length duties ≤ most.duties)
 Follows (change.Moved rows) t = AreNext t rows
 Follows (change.Withdrew release rows) t = AreNext t rows
 Follows _ t = Unit {0}

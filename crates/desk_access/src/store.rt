@@ -181,6 +181,7 @@ pub trait Store {
     fn tally(&mut self, release: &str) -> Result<Option<Totals>, Fault>
         ensures found { IfOk result (λ found. OfRows (λ t. found ≡ option_map (λ row. totals_of (filter (is_duty_of release.now) t.duty)) (release_found t release.now)) (seen self.old) (seen self.new)) }
         ensures kept { Looked (seen self.old) (seen self.new) result }
+        ensures misses { OnErr result may_miss }
         ensures fault { IfErr result (MayFail tells) };
 
     /// Where the duties of a release stand, by number.

@@ -1,6 +1,6 @@
 -- A document is attached, or why not, from what was looked up.
 use Rattle.std.proofs.Common.{◌≡◌, ℕ, ◌≤◌, ◌<◌, true, false, List, length, Option, Some, None, sym, refl, ap, ◌∙◌, arith}
-use Rattle.std.specs.Prelude.{find, is_some, nat_le}
+use Rattle.std.specs.Prelude.{find, is_some, nat_lt}
 use Rattle.std.specs.List.{list_any}
 use Rattle.std.specs.Option.{option_map}
 use Rattle.std.proofs.lemmas.Bool.Decides.{nat_tests}
@@ -37,13 +37,13 @@ already_answer w t r d row k up already =
 pub full_answer : (w : Readings) (t : Tables) (r : List ℕ) (d : ℕ) (row : ReleaseRow) (k : ℕ × Profile) → LookedUp t r d row k → list_any (is_attachment r d) t.attached ≡ false
     → 64 ≤ length (attached_to t.attached r) → answered.Refused (why.Full limit.Attached) ≡ answer_from w t (Attach r d)
 full_answer w t r d row k up already many =
-    let full : nat_le 64 (length (attached_to t.attached r)) ≡ true = grind (arith, nat_tests) in
+    let full : nat_lt (length (attached_to t.attached r)) 64 ≡ false = grind (arith, nat_tests) in
     sym (rw (← up.release, known_is (find (is_document d) t.document) k up.document, already, ← up.ready, full) refl)
 
 pub done_answer : (w : Readings) (t : Tables) (r : List ℕ) (d : ℕ) (row : ReleaseRow) (k : ℕ × Profile) → LookedUp t r d row k → list_any (is_attachment r d) t.attached ≡ false
     → length (attached_to t.attached r) < 64 → answered.Done ≡ answer_from w t (Attach r d)
 done_answer w t r d row k up already few =
-    let room : nat_le 64 (length (attached_to t.attached r)) ≡ false = grind (arith, nat_tests) in
+    let room : nat_lt (length (attached_to t.attached r)) 64 ≡ true = grind (arith, nat_tests) in
     sym (rw (← up.release, known_is (find (is_document d) t.document) k up.document, already, ← up.ready, room) refl)
 
 pub attached_row : (r' r : List ℕ) (d' d : ℕ) → r' ≡ r → d' ≡ d → change.Attached (record { release = r'; document = d' }) ≡ change.Attached (record { release = r; document = d })

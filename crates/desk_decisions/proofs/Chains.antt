@@ -14,15 +14,11 @@ use Rattle.desk_history.specs.FromTables.{answer_from, change_for}
 use Rattle.desk_access.specs.Follows.{Follows}
 use Rattle.std.specs.Prelude.{IfOk, IfErr}
 use Rattle.desk_rows.specs.Faults.{MayFail}
-use Rattle.std.specs.Result.{IsErr}
-use Rattle.desk_access.specs.Seen.{Seen, Kept, Same, Looked, OfRows, Minds, Decides}
+use Rattle.desk_access.specs.Seen.{Seen, Kept, Same, OfRows, Minds, Decides}
 use Rattle.desk_access.specs.Plans.{IsPlan, IsPlanOf, IsSound, SparesStore, Plans, Carries}
 use Rattle.desk_access.proofs.Chains.{same_then_kept, same_then_same}
 use Rattle.desk_decisions.proofs.Following.{change_follows}
-
-contrary : (b : Bool) → b ≡ true → b ≡ false → ⊥
-contrary true e f = cc
-contrary false e f = cc
+use Rattle.desk_base.proofs.Bools.{contrary}
 
 module _ {Left : Type 0} where
   -- a plan after look-ups

@@ -5,14 +5,16 @@ use Rattle.std.specs.List.{enumerate_from}
 use Rattle.std.proofs.lemmas.List.{map-append}
 use Rattle.desk_rows.specs.Tables.{Tables}
 use Rattle.desk_history.specs.FromTables.{new_duty, conclusion_found, rules_found, choice_found}
-use Rattle.desk_decisions.specs.Walks.{GathersPackage}
+use Rattle.desk_decisions.specs.Walks.{GathersPackage, unfit_package}
 use Rattle.desk_decisions.specs.declared.freeze.Gathered.{Gathered}
 use Rattle.desk_rows.specs.declared.refusal.Refusal.{Refusal}
 use Rattle.desk_rows.specs.declared.row.DutyRow.{DutyRow}
 use Rattle.desk_rows.specs.declared.row.AdoptionRow.{AdoptionRow}
 use Rattle.desk_rows.specs.declared.row.Owed.{Owed}
 use Rattle.desk_rows.specs.Raised.{owed_for, frozen_for, owed_for_terms, frozen_for_terms, owed_code, frozen_term, rule_adopted}
-use Rattle.desk_rows.specs.Answers.{first_unruled, package_fault, walk}
+use Rattle.desk_rows.specs.Answers.{first_unruled, first_unadopted, package_fault, unchosen, unconcluded, walk}
+use Rattle.desk_rows.specs.Lists.{or_else}
+use Rattle.desk_rows.specs.declared.reading.Conclusion.{Conclusion}
 use Rattle.desk_rows.specs.declared.reading.Rule.{Rule}
 use Rattle.desk_rows.specs.declared.row.PackageRow.{PackageRow}
 
@@ -51,10 +53,24 @@ duties_push first xs x n rows rows' e f g =
 
 -- Packages
 
+-- a list of four, in the order in which they are met
+in_turn : (a b c d : Option Refusal) → or_else (or_else a (or_else b c)) d ≡ or_else a (or_else b (or_else c (or_else d None)))
+in_turn None None None None = refl
+in_turn None None None (Some x) = refl
+in_turn None None (Some x) d = refl
+in_turn None (Some x) c d = refl
+in_turn (Some x) b c d = refl
+
+unfit_is_fault : (w : Readings) (licences : List AdoptionRow) (rules : List Rule) (form : List ℕ) (conclusion : Option Conclusion) (terms : List (List ℕ)) (p : PackageRow)
+    → unfit_package w licences rules form conclusion terms p ≡ package_fault w licences rules form conclusion terms p
+unfit_is_fault w licences rules form conclusion terms p =
+    in_turn (unconcluded conclusion p) (unchosen p terms) (first_unadopted w licences p.document terms) (first_unruled w licences rules form p terms)
+
 -- the walk over packages, of which the first fails
 pub walk_fails : (w : Readings) (t : Tables) (form r : List ℕ) (ps rest : List PackageRow) (p : PackageRow) (old new : Gathered) (o : Option Refusal) (refusal : Refusal) → ps ≡ p ∷ rest → GathersPackage w t form r p old new o → o ≡ Some refusal → walk w t.adoption (rules_found t) form (conclusion_found w t) (choice_found t r) ps ≡ Some refusal
 walk_fails w t form r ps rest p old new o refusal split g e =
-    let g1 : package_fault w t.adoption (rules_found t) form (conclusion_found w t p) (choice_found t r p) p ≡ Some refusal = subst (GathersPackage w t form r p old new) e g in
+    let g1 : package_fault w t.adoption (rules_found t) form (conclusion_found w t p) (choice_found t r p) p ≡ Some refusal =
+    sym (unfit_is_fault w t.adoption (rules_found t) form (conclusion_found w t p) (choice_found t r p) p) ∙ subst (GathersPackage w t form r p old new) e g in
     rw (split, g1) refl
 
 pub record PackagesOn (w : Readings) (t : Tables) (form r : List ℕ) (ps rest : List PackageRow) (p : PackageRow) (old new : Gathered) : Type 0 where
@@ -67,8 +83,10 @@ pub record PackagesOn (w : Readings) (t : Tables) (form r : List ℕ) (ps rest :
 pub packages_on : (w : Readings) (t : Tables) (form r : List ℕ) (ps rest : List PackageRow) (p : PackageRow) (old new : Gathered) (o : Option Refusal) → ps ≡ p ∷ rest → GathersPackage w t form r p old new o → o ≡ None → PackagesOn w t form r ps rest p old new
 packages_on w t form r ps rest p old new o split g e =
     let g1 = subst (GathersPackage w t form r p old new) e g in
+    let fits : package_fault w t.adoption (rules_found t) form (conclusion_found w t p) (choice_found t r p) p ≡ None =
+    sym (unfit_is_fault w t.adoption (rules_found t) form (conclusion_found w t p) (choice_found t r p) p) ∙ g1.0 in
     record {
-      walked = rw (split, g1.0) refl;
+      walked = rw (split, fits) refl;
       frozen = rw split refl;
       owed = rw split refl;
       new_frozen = g1.1;

@@ -1,6 +1,7 @@
 -- What the steps of a conclusion and of an adoption have found.
 use Rattle.std.specs.Prelude.{◌≡◌, ◌||◌, ℕ, true, List, [], ◌∷◌, nat_lt, find, is_some, Option, Some, None, if◌then◌else◌}
 use Rattle.std.specs.Option.{option_map}
+use Rattle.desk_base.specs.Limits as most
 use Rattle.desk_rows.specs.Readings.{Readings}
 use Rattle.desk_rows.specs.Keys.{is_document, is_package}
 use Rattle.desk_rows.specs.Conclusions.{is_reference, is_plain, licence_for}
@@ -44,5 +45,5 @@ AreAdopted w r l (BadTerm i) =
 abbrev pub adopt_known : Tables → ℕ → List ℕ → Answer
 adopt_known t d reference = refused_first (
     unless (is_some (find (is_document d) t.document)) why.UnknownDocument
-    ∷ unless (is_some (licence_for t.adoption d reference) || nat_lt (adoption_count t d) 10000) (why.Full limit.Adoptions)
+    ∷ unless (is_some (licence_for t.adoption d reference) || nat_lt (adoption_count t d) most.adoptions) (why.Full limit.Adoptions)
     ∷ []) answered.Done

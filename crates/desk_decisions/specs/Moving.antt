@@ -2,8 +2,9 @@
 use Rattle.std.specs.Prelude.{◌≡◌, ℕ, true, false, List, [], ◌∷◌, ◌&&◌, nat_lt, Option, Some, None, is_some}
 use Rattle.std.specs.Option.{option_map_or, option_and_then}
 use Rattle.desk_base.specs.Day.{is_day}
+use Rattle.desk_base.specs.Limits as most
 use Rattle.desk_rows.specs.Tables.{Tables}
-use Rattle.desk_rows.specs.Answers.{refused_first, unless, refused_by, move_answer, gone, settled}
+use Rattle.desk_rows.specs.Answers.{refused_first, unless, refused_by, move_answer, Moving, gone, settled}
 use Rattle.desk_rows.specs.declared.state.DutyState.{DutyState}
 use Rattle.desk_rows.specs.declared.state.ReleaseState.{ReleaseState}
 use Rattle.desk_rows.specs.declared.state.Word.{Word}
@@ -25,11 +26,11 @@ AreDays day until (Some days) = ((is_day day && option_map_or is_day until true)
 abbrev pub IsRead : Word → List ℕ → List ℕ → Option (List ℕ) → Read → Type 0
 IsRead word day text until (read.Move m) = (refused_by day text until ≡ false) × (m ≡ record { day = day; word = word; body = text; last_day = until })
 IsRead word day text until (read.Refused refusal) =
-    (state : ReleaseState) (steps : ℕ) (place : Option DutyState) → move_answer word day text until state steps place ≡ answered.Refused refusal
+    (found : Moving) → move_answer word day text until found ≡ answered.Refused refusal
 
 -- the answer to a move of a duty that was found
 abbrev pub move_here : Word → ReleaseState → ℕ → DutyState → Answer
-move_here word state steps place = refused_first (gone state ∷ settled word place ∷ unless (nat_lt steps 999) (why.Full limit.Changes) ∷ []) answered.Done
+move_here word state steps place = refused_first (gone state ∷ settled word place ∷ unless (nat_lt steps most.changes) (why.Full limit.Changes) ∷ []) answered.Done
 
 -- the answer to a move of the duty with a number, once its days and text are read
 abbrev pub move_known : Tables → Word → ℕ → Answer
@@ -37,5 +38,5 @@ move_known t word q = refused_first (
     unless (is_some (duty_found t q)) why.UnknownDuty
     ∷ gone (release_state_found t (duty_found t q))
     ∷ option_and_then (λ row. settled word row.state) (duty_found t q)
-    ∷ unless (nat_lt (steps_found t q) 999) (why.Full limit.Changes)
+    ∷ unless (nat_lt (steps_found t q) most.changes) (why.Full limit.Changes)
     ∷ []) answered.Done

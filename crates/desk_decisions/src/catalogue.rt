@@ -13,14 +13,11 @@ ghost use Rattle.desk_rows.specs.declared.command.Command.TheVariants.{LoadCatal
 use crate::plan::refused;
 use desk_access::store::Store;
 use desk_access::texts::Texts;
-use desk_base::{Items, Text};
+use desk_base::{Items, Text, limits};
 use desk_rows::{
     Answer, Catalogue, CatalogueRow, Change, Fault, Limit, Plan, Refusal, Rule, RuleRow,
 };
 use std::alloc::{AllocError, Global};
-
-/// How many revisions of the catalogue a desk keeps.
-const MAX_REVISIONS: u64 = 4_096;
 
 fn rule_rows(alloc: Global, revision: u32, rules: Vec<Rule>) -> Result<Items<RuleRow>, AllocError>
     ensures { IfOk result (λ rows. rows ≡ map (rule_row revision) rules.items) }
@@ -50,7 +47,7 @@ fn load_read<S: Store>(
     ensures fault { IfErr result (MayFail S.tells) }
 {
     let count = store.revision_count()?;
-    if count >= MAX_REVISIONS {
+    if count >= limits::REVISIONS {
         return Ok(refused(Refusal::Full(Limit::Revisions)));
     }
     let revision = count as u32 + 1;

@@ -6,13 +6,13 @@ ghost use Rattle.desk_rows.specs.Readings.{Readings};
 ghost use Rattle.desk_rows.specs.Faults.{MayFail};
 ghost use Rattle.desk_rows.specs.Texts.{put_new, sorted_set};
 ghost use Rattle.desk_rows.specs.Tables.{choice_row};
-ghost use Rattle.desk_rows.specs.Answers.{choose_for, refused_or};
+ghost use Rattle.desk_rows.specs.Answers.{refused_or};
 ghost use Rattle.desk_history.specs.FromTables.{chosen_change};
 ghost use Rattle.desk_access.specs.Seen.{Looked, OfRows};
 ghost use Rattle.desk_access.specs.Plans.{IsPlan, IsPlanOf, IsSound, Plans, SparesStore};
-ghost use Rattle.desk_decisions.specs.Walks.{AreTermsOf, choose_found, IsFound, IsOpenPlace};
+ghost use Rattle.desk_decisions.specs.Walks.{AreTermsOf, choose_for, choose_found, judged, IsFound, IsOpenPlace};
 ghost use Rattle.desk_decisions.specs.Dropping.{drop_answer, unchoose_in};
-ghost use Rattle.desk_rows.specs.Answers.{judged, refused_alone};
+ghost use Rattle.desk_rows.specs.Answers.{refused_alone};
 ghost use Rattle.desk_rows.specs.declared.command.Answer.TheVariants.{Done};
 ghost use Rattle.desk_rows.specs.declared.command.Command.TheVariants.{Choose, Unchoose};
 

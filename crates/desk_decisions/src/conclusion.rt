@@ -14,12 +14,9 @@ ghost use Rattle.desk_rows.specs.declared.command.Command.TheVariants.{Adopt, Co
 use crate::plan::{done, refused};
 use desk_access::store::Store;
 use desk_access::texts::Texts;
-use desk_base::Text;
+use desk_base::{Text, limits};
 use desk_rows::{AdoptionRow, Change, ConclusionRow, Fault, Limit, Plan, Profile, Refusal};
 use std::alloc::{AllocError, Global};
-
-/// How many references of a document may be adopted.
-const MAX_ADOPTIONS: u64 = 10_000;
 
 fn concluded(document: u32, package_id: &Text, expression: &Text) -> Result<Plan, AllocError>
     ensures { IfOk result (λ plan. plan ≡ Plan.Make Done (Change.Concluded (conclusion_row document package_id.now expression.now))) }
@@ -143,7 +140,7 @@ fn adopt_read<S: Store>(
         return Ok(refused(Refusal::UnknownDocument));
     };
     if store.adoption(number, reference.as_str())?.is_none()
-        && store.adoption_count(number)? >= MAX_ADOPTIONS
+        && store.adoption_count(number)? >= limits::ADOPTIONS
     {
         return Ok(refused(Refusal::Full(Limit::Adoptions)));
     }

@@ -13,15 +13,12 @@ ghost use Rattle.desk_rows.specs.declared.command.Command.TheVariants.{Import};
 use crate::plan::refused;
 use desk_access::store::Store;
 use desk_access::texts::Texts;
-use desk_base::Items;
+use desk_base::{Items, limits};
 use desk_rows::{
     Answer, Change, Document, DocumentRow, ExtractedRow, Fault, Limit, Package, PackageRow, Plan,
     Profile, Reference, Refusal,
 };
 use std::alloc::{AllocError, Global};
-
-/// How many documents a desk keeps.
-const MAX_DOCUMENTS: u64 = 4_096;
 
 fn package_rows(
     alloc: Global,
@@ -109,7 +106,7 @@ fn import_read<S: Store>(
         return Ok(refused(Refusal::NamespaceTaken { document: number }));
     }
     let count = store.document_count()?;
-    if count >= MAX_DOCUMENTS {
+    if count >= limits::DOCUMENTS {
         return Ok(refused(Refusal::Full(Limit::Documents)));
     }
     let number = count as u32 + 1;

@@ -1,12 +1,11 @@
 //! Duties are met, waived and reopened.
 
 ghost use Rattle.std.specs.Prelude.{◌≡◌, ◌≤◌, ◌<◌, ◌+◌, ◌∷◌, [], IfOk, IfErr, MatchOption, Option, unwrap_or, true, false};
-ghost use Rattle.std.specs.List.{list_all};
 ghost use Rattle.desk_base.specs.Day.{is_day};
 ghost use Rattle.desk_rows.specs.Readings.{Readings};
 ghost use Rattle.desk_rows.specs.Faults.{MayFail};
 ghost use Rattle.desk_rows.specs.States.{goes_from};
-ghost use Rattle.desk_rows.specs.Texts.{is_before, is_shown, is_note};
+ghost use Rattle.desk_rows.specs.Texts.{is_before, is_note};
 ghost use Rattle.desk_rows.specs.Moves.{change_row};
 ghost use Rattle.desk_rows.specs.Answers.{gone, settled, is_over, refused_by, refused_alone};
 ghost use Rattle.desk_history.specs.FromTables.{moved_change, moved_found, state_found, steps_found};
@@ -17,29 +16,11 @@ ghost use Rattle.desk_rows.specs.declared.command.Command.TheVariants.{Meet, Wai
 
 use crate::plan::{done, refused};
 use desk_access::store::Store;
-use desk_base::{Day, Items, Text};
+use desk_base::{Day, Items, Text, are_shown, limits};
 use desk_rows::{
     Change, ChangeRow, DutyRow, DutyState, Fault, Limit, Move, Plan, Refusal, ReleaseState, Word,
 };
 use std::alloc::{AllocError, Global};
-
-/// How many changes a duty has at most before it is withdrawn.
-const MAX_CHANGES: u64 = 999;
-
-/// The bytes of the longest text of a change.
-const NOTE_BYTES: usize = 1_024;
-
-fn is_shown(byte: u8) -> bool
-    ensures { result ≡ is_shown byte }
-{
-    byte >= 32 && byte != 127
-}
-
-fn are_shown(bytes: &[u8]) -> bool
-    ensures { result ≡ list_all is_shown bytes.now }
-{
-    bytes.iter().all(|byte| is_shown(*byte))
-}
 
 /// Whether the text may stand at a change: 1 to 1,024 bytes without control bytes.
 pub fn is_note(text: &str) -> bool
@@ -48,7 +29,7 @@ pub fn is_note(text: &str) -> bool
     if text.is_empty() {
         return false;
     }
-    if text.len() > NOTE_BYTES {
+    if text.len() > limits::NOTE_BYTES {
         return false;
     }
     are_shown(text.as_bytes())
@@ -204,7 +185,7 @@ fn move_found<S: Store>(
         return Ok(refused(refusal));
     }
     let steps = store.steps(u64::from(row.number))?;
-    if steps >= MAX_CHANGES {
+    if steps >= limits::CHANGES {
         return Ok(refused(Refusal::Full(Limit::Changes)));
     }
     let Ok(change) = one_change(alloc, row.number, steps as u32 + 1, made) else {

@@ -6,11 +6,11 @@ ghost use Rattle.desk_rows.specs.Readings.{Readings};
 ghost use Rattle.desk_rows.specs.Faults.{MayFail};
 ghost use Rattle.desk_rows.specs.History.{attached_to};
 ghost use Rattle.desk_rows.specs.Raised.{owed_under, owed_code, frozen_term, rule_adopted};
-ghost use Rattle.desk_rows.specs.Answers.{first_unadopted, unadopted, unready_package, freeze_fits, refused_alone};
-ghost use Rattle.desk_history.specs.FromTables.{rules_found, new_duty, raised_row, froze_rows, froze_as, freeze_open_found, freeze_change_found};
+ghost use Rattle.desk_rows.specs.Answers.{first_unadopted, unadopted, refused_alone};
+ghost use Rattle.desk_history.specs.FromTables.{rules_found, new_duty, raised_row, froze_rows, froze_as, freeze_change_found};
 ghost use Rattle.desk_access.specs.Seen.{Looked, OfRows};
 ghost use Rattle.desk_access.specs.Plans.{IsPlan, IsPlanOf, Plans, SparesStore};
-ghost use Rattle.desk_decisions.specs.Walks.{GathersTerms, GathersPackage, GathersAll};
+ghost use Rattle.desk_decisions.specs.Walks.{GathersTerms, GathersPackage, GathersAll, freeze_fits, freeze_open_found, unready_package};
 ghost use Rattle.desk_rows.specs.declared.command.Command.TheVariants.{Freeze};
 
 use crate::duty::read_day;
@@ -18,16 +18,13 @@ use crate::plan::refused;
 use crate::release::unready;
 use desk_access::store::Store;
 use desk_access::texts::Texts;
-use desk_base::{Day, Items, Text};
+use desk_base::{Day, Items, Text, limits};
 use desk_packages::{conclusion_of, rule_adopted, shipped_packages};
 use desk_rows::{
     Answer, Change, ChangeRow, Conclusion, DutyRow, DutyState, Fault, FrozenRow, Limit, Owed,
     PackageRow, Plan, Refusal, Rule, Word,
 };
 use std::alloc::{AllocError, Global};
-
-/// How many duties a desk keeps.
-const MAX_DUTIES: u64 = 100_000;
 
 /// What a freeze has gathered: the frozen terms, and the duties that they owe.
 #[derive(Drop)]
@@ -360,7 +357,7 @@ fn freeze_gathered<S: Store>(
 {
     let old = store.duty_count()?;
     let new = gathered.owed.len() as u64;
-    if old > MAX_DUTIES || new > MAX_DUTIES - old {
+    if old > limits::DUTIES || new > limits::DUTIES - old {
         return Ok(refused(Refusal::Full(Limit::Duties)));
     }
     let first = old as u32 + 1;

@@ -6,7 +6,7 @@ ghost use Rattle.desk_rows.specs.Readings.{Readings};
 ghost use Rattle.desk_rows.specs.Faults.{MayFail};
 ghost use Rattle.desk_rows.specs.Texts.{is_release_name};
 ghost use Rattle.desk_rows.specs.Keys.{is_attachment, is_document};
-ghost use Rattle.desk_rows.specs.Answers.{open_answer, attach_answer, attach_to, unready, refused_alone};
+ghost use Rattle.desk_rows.specs.Answers.{unready, refused_alone};
 ghost use Rattle.desk_history.specs.FromTables.{opened_change, state_found};
 ghost use Rattle.desk_access.specs.Seen.{OfRows};
 ghost use Rattle.desk_access.specs.Plans.{IsPlanOf, Plans, SparesStore};
@@ -14,23 +14,14 @@ ghost use Rattle.desk_rows.specs.declared.command.Command.TheVariants.{OpenRelea
 
 use crate::plan::{done, refused};
 use desk_access::store::Store;
-use desk_base::{Text, is_idstring};
+use desk_base::{Text, is_idstring, limits};
 use desk_rows::{AttachedRow, Change, Fault, Limit, Plan, Refusal, ReleaseRow, ReleaseState};
-
-/// How many releases a desk keeps.
-const MAX_RELEASES: u64 = 4_096;
-
-/// How many documents a release may have.
-const MAX_ATTACHED: u64 = 64;
-
-/// The bytes of the longest name of a release.
-const NAME_BYTES: usize = 64;
 
 /// Whether the text is a name for a release: an idstring of at most 64 bytes.
 pub fn is_release_name(text: &str) -> bool
     ensures { result ≡ is_release_name text.now }
 {
-    text.len() <= NAME_BYTES && is_idstring(text)
+    text.len() <= limits::NAME_BYTES && is_idstring(text)
 }
 
 /// What stands against work on a release in this state.
@@ -61,7 +52,7 @@ pub fn open_release<S: Store>(store: &mut S, release: &Text, form: &Text) -> Res
         return Ok(refused(Refusal::NameTaken));
     }
     let count = store.release_count()?;
-    if count >= MAX_RELEASES {
+    if count >= limits::RELEASES {
         return Ok(refused(Refusal::Full(Limit::Releases)));
     }
     let Ok(name) = release.clone() else {
@@ -98,7 +89,7 @@ pub fn attach<S: Store>(store: &mut S, release: &Text, document: u64) -> Result<
     if store.is_attached(release.as_str(), document)? {
         return Ok(refused(Refusal::AlreadyAttached));
     }
-    if store.attached_count(release.as_str())? >= MAX_ATTACHED {
+    if store.attached_count(release.as_str())? >= limits::ATTACHED {
         return Ok(refused(Refusal::Full(Limit::Attached)));
     }
     let Ok(release) = release.clone() else {

@@ -1,5 +1,5 @@
 -- What is chosen for a package, in the history and in its tables.
-use Rattle.std.proofs.Common.{◌≡◌, ℕ, Bool, true, false, cond, List, [], ◌∷◌, ◌++◌, map, Option, Some, None, sym, refl, ap, ◌∙◌, subst, arith, append-nil}
+use Rattle.std.proofs.Common.{◌≡◌, ℕ, Bool, true, false, cond, List, [], ◌∷◌, ◌++◌, map, Option, Some, None, sym, refl, ap, ◌∙◌, subst, append-nil}
 use Rattle.std.specs.Prelude.{if◌then◌else◌, filter, ◌&&◌, ◌==◌, unwrap_or, not}
 use Rattle.std.specs.List.{filter_map}
 use Rattle.std.specs.Ordering.{is_lt, is_eq, ordering_reverse, nat_cmp}
@@ -10,7 +10,6 @@ use Rattle.std.specs.Str.{bytes_eq}
 use Rattle.std.proofs.lemmas.Cmp.{nat_list_cmp_total, nat_cmp_total, tied_itself}
 use Rattle.std.proofs.lemmas.Map.Text.{is_eq-slice_cmp}
 use Rattle.std.proofs.lemmas.List.Elements.{filter-append}
-use Rattle.std.proofs.lemmas.Bool.Decides.{nat_tests}
 use Rattle.std.proofs.Math.Path.{fun_ext}
 use Rattle.desk_rows.specs.Lists.{latest, or_else, in_order}
 use Rattle.desk_rows.specs.Texts.{text_below, put_new, sorted_set}
@@ -20,12 +19,15 @@ use Rattle.desk_rows.specs.History.{term_set, terms_given, choice, is_package_of
 use Rattle.desk_rows.specs.Raised.{chosen_in}
 use Rattle.desk_rows.specs.Tables.{tables, standing, choice_row, is_other_choice, is_choice_elsewhere}
 use Rattle.desk_history.specs.FromTables.{choice_found, terms_found}
-use Rattle.desk_history.proofs.Rows.{texts_equal, same_text}
-use Rattle.desk_history.proofs.Orders.{IsOrder, order_of, filter-in_order, choice_is_order, under, put_first, both, and_left, and_right}
+use Rattle.desk_history.proofs.Orders.{filter-in_order, choice_is_order, under, put_first}
 use Rattle.desk_rows.specs.declared.row.PackageRow.{PackageRow}
 use Rattle.desk_rows.specs.declared.row.ChoiceRow.{ChoiceRow}
 use Rattle.desk_rows.specs.declared.command.Command.{Command}
 use Rattle.desk_rows.specs.declared.command.Command.TheVariants.{Choose, Unchoose, Withdraw}
+use Rattle.desk_rows.proofs.Orders.{IsOrder, order_of}
+use Rattle.desk_base.proofs.Bools.{both, and_left, and_right}
+use Rattle.desk_base.proofs.Texts.{texts_equal, same_text}
+use Rattle.desk_base.proofs.Numbers.{numbers_equal, same_number}
 
 -- Sorted sets of texts
 
@@ -133,12 +135,6 @@ pub record SamePackage (r p r' p' : List ℕ) (d d' : ℕ) : Type 0 where
   pub release : r' ≡ r
   pub document : d' ≡ d
   pub package_id : p' ≡ p
-
-numbers_equal : (a b : ℕ) → (a == b) ≡ true → a ≡ b
-numbers_equal a b e = grind (arith, nat_tests)
-
-same_number : (a : ℕ) → (a == a) ≡ true
-same_number a = grind (arith, nat_tests)
 
 pub same_package : (r p r' p' : List ℕ) (d d' : ℕ) → is_package_of r d p r' d' p' ≡ true → SamePackage r p r' p' d d'
 same_package r p r' p' d d' e =

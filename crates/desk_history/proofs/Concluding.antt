@@ -1,12 +1,11 @@
 -- Conclusions and adoptions: the last one counts, and none is recorded for a package that a choice is held for.
-use Rattle.std.proofs.Common.{◌≡◌, ℕ, Bool, true, false, cond, List, [], ◌∷◌, Some, None, refl, ap, ◌∙◌, subst, arith}
+use Rattle.std.proofs.Common.{◌≡◌, ℕ, Bool, true, false, cond, List, [], ◌∷◌, Some, None, refl, ap, ◌∙◌, subst}
 use Rattle.std.specs.Prelude.{if◌then◌else◌, filter, find, not, ◌&&◌, ◌||◌, ◌==◌}
 use Rattle.std.specs.List.{list_any}
 use Rattle.std.specs.Option.{option_map}
 use Rattle.std.specs.Str.{bytes_eq}
-use Rattle.std.proofs.lemmas.Bool.Decides.{nat_tests}
 use Rattle.std.proofs.lemmas.Cmp.{on_total, then_total, nat_list_cmp_total, nat_cmp_total}
-use Rattle.desk_rows.specs.Lists.{latest, or_else, put, replaced}
+use Rattle.desk_rows.specs.Lists.{latest, or_else, put, replaced, ascends, over}
 use Rattle.desk_rows.specs.Readings.{Readings}
 use Rattle.desk_rows.specs.Keys.{below_by, conclusion_order, adoption_order, is_conclusion, is_adoption}
 use Rattle.desk_rows.specs.Conclusions.{conclusions, conclusion_row, office_text, text_given, adoptions, adoption_row, licence_for, licence_given}
@@ -14,8 +13,10 @@ use Rattle.desk_rows.specs.declared.row.AdoptionRow.{AdoptionRow}
 use Rattle.desk_rows.specs.declared.row.ConclusionRow.{ConclusionRow}
 use Rattle.desk_rows.specs.declared.command.Command.{Command}
 use Rattle.desk_rows.specs.declared.command.Command.TheVariants.{Conclude, Adopt}
-use Rattle.desk_history.proofs.Rows.{texts_equal, same_text}
-use Rattle.desk_history.proofs.Orders.{IsOrder, order_of, ascends, over, ascends-put, and_left, and_right, both}
+use Rattle.desk_rows.proofs.Orders.{IsOrder, order_of, ascends-put}
+use Rattle.desk_base.proofs.Bools.{and_left, and_right, both}
+use Rattle.desk_base.proofs.Texts.{texts_equal, same_text}
+use Rattle.desk_base.proofs.Numbers.{numbers_equal, same_number}
 
 -- A row instead of those at its key
 
@@ -71,12 +72,6 @@ replaced_elsewhere : {A : Type 0} (below : A → A → Bool) (test at : A → Bo
 replaced_elsewhere below test at x xs apart e = passed_by below test x (filter (λ y. not (at y)) xs) e ∙ kept_by test at apart xs
 
 -- Keys of a document's number and a text
-
-numbers_equal : (a b : ℕ) → (a == b) ≡ true → a ≡ b
-numbers_equal a b e = grind (arith, nat_tests)
-
-same_number : (a : ℕ) → (a == a) ≡ true
-same_number a = grind (arith, nat_tests)
 
 own_key : (d : ℕ) (p : List ℕ) → ((d == d) && bytes_eq p p) ≡ true
 own_key d p = rw (same_number d, same_text p) refl
@@ -167,10 +162,10 @@ ascends_kept below test (y ∷ ys) up =
 ascends_replaced : {A : Type 0} (below : A → A → Bool) → IsOrder below → (at : A → Bool) (x : A) (xs : List A) → ascends below xs ≡ true → ascends below (replaced below at x xs) ≡ true
 ascends_replaced below o at x xs up = ascends-put below o x (filter (λ y. not (at y)) xs) (ascends_kept below (λ y. not (at y)) xs up)
 
-conclusion_is_order : IsOrder (below_by conclusion_order)
+pub conclusion_is_order : IsOrder (below_by conclusion_order)
 conclusion_is_order = order_of (then_total (on_total (λ row. row.document) nat_cmp_total) (on_total (λ row. row.package_id) nat_list_cmp_total))
 
-adoption_is_order : IsOrder (below_by adoption_order)
+pub adoption_is_order : IsOrder (below_by adoption_order)
 adoption_is_order = order_of (then_total (on_total (λ row. row.document) nat_cmp_total) (on_total (λ row. row.reference) nat_list_cmp_total))
 
 pub ascends_conclusions : (h : List Command) → ascends (below_by conclusion_order) (conclusions h) ≡ true

@@ -16,7 +16,8 @@ use Rattle.desk_rows.specs.declared.state.Word.TheVariants as word
 use Rattle.desk_rows.specs.declared.command.Command.{Command}
 use Rattle.desk_rows.specs.declared.command.Command.TheVariants.{CloseDay, Withdraw}
 use Rattle.desk_history.specs.Laws.{IsOver}
-use Rattle.desk_history.proofs.Rows.{same_text}
+use Rattle.desk_base.proofs.Texts.{same_text}
+use Rattle.desk_base.proofs.Bools.{and_left, and_right}
 
 abbrev withdrawal : List ℕ → List ℕ → Move
 withdrawal day text = record { day = day; word = word.Withdrawn; body = text; last_day = None }
@@ -61,14 +62,6 @@ waived_word word.Reopened e = cc
 waived_word word.Withdrawn e = cc
 waived_word word.Ended e = cc
 
-first_of : (a b : Bool) → (a && b) ≡ true → a ≡ true
-first_of true b e = refl
-first_of false b e = e
-
-second_of : (a b : Bool) → (a && b) ≡ true → b ≡ true
-second_of true b e = e
-second_of false b e = cc
-
 over_by : (w : Readings) (h : List Command) (day : List ℕ) (q : ℕ) (last : Move) (before : List Move) (end : Option (List ℕ)) → moves w h q ≡ last ∷ before → last.word ≡ word.Waived → last.last_day ≡ end
     → option_map_or (λ (l : List ℕ). is_before l day) end false ≡ true → IsOver w h day q
 over_by w h day q last before None e waives until over = cc
@@ -77,8 +70,8 @@ over_by w h day q last before (Some end) e waives until over = record { last = l
 over_from : (w : Readings) (h : List Command) (day : List ℕ) (q : ℕ) (ms : List Move) → moves w h q ≡ ms → has_ended day (place_after ms) (end_after ms) ≡ true → IsOver w h day q
 over_from w h day q [] e f = cc
 over_from w h day q (m ∷ ms) e f =
-    over_by w h day q m ms m.last_day e (waived_word m.word (first_of (is_waived (state_after m.word)) (option_map_or (λ (l : List ℕ). is_before l day) m.last_day false) f)) refl
-    (second_of (is_waived (state_after m.word)) (option_map_or (λ (l : List ℕ). is_before l day) m.last_day false) f)
+    over_by w h day q m ms m.last_day e (waived_word m.word (and_left (is_waived (state_after m.word)) (option_map_or (λ (l : List ℕ). is_before l day) m.last_day false) f)) refl
+    (and_right (is_waived (state_after m.word)) (option_map_or (λ (l : List ℕ). is_before l day) m.last_day false) f)
 
 ends_only : (w : Readings) (h : List Command) (day : List ℕ) (q : ℕ) (b : Bool) → has_ended day (place w h q) (end_after (moves w h q)) ≡ b → (with_move (move_if b (ending day)) (moves w h q) ≡ moves w h q) ⊎ IsOver w h day q
 ends_only w h day q true e = inr (over_from w h day q (moves w h q) refl e)

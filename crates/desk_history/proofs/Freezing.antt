@@ -2,7 +2,7 @@
 use Rattle.std.proofs.Common.{Option, Some, None, ◌≡◌, ℕ, ◌+◌, ◌<◌, ◌≤◌, true, false, List, [], ◌∷◌, ◌++◌, length, map, sym, refl, ap, ◌∙◌, arith, length-append, add-zero, suc, inl, inr}
 use Rattle.std.specs.Prelude.{is_some, ◌&&◌, nat_lt, nat_le, ◌==◌, unwrap_or}
 use Rattle.std.specs.List.{flat_map, enumerate_from}
-use Rattle.std.specs.Option.{option_map, option_map_or}
+use Rattle.std.specs.Option.{option_map_or}
 use Rattle.std.specs.Str.{bytes_eq}
 use Rattle.std.proofs.lemmas.List.{length-map, map-append}
 use Rattle.std.proofs.lemmas.List.Concat.{flat_map-append, flat_map_single}
@@ -10,7 +10,7 @@ use Rattle.std.proofs.lemmas.Bool.Decides.{nat_tests}
 use Rattle.desk_rows.specs.Lists.{put_all, in_order, updated}
 use Rattle.desk_rows.specs.Readings.{Readings}
 use Rattle.desk_rows.specs.Keys.{is_release, below_by, frozen_order}
-use Rattle.desk_rows.specs.History.{revisions, in_force, rules_in, attached, attached_to, names, form_of, state_of}
+use Rattle.desk_rows.specs.History.{revisions, in_force, rules_in, attached, names, form_of}
 use Rattle.desk_rows.specs.declared.row.Owed.{Owed}
 use Rattle.desk_rows.specs.Conclusions.{adoptions}
 use Rattle.desk_rows.specs.Raised.{raised, owed_at, owed_for, numbered, shipped, chosen_in, frozen, frozen_at, frozen_for}
@@ -19,16 +19,19 @@ use Rattle.desk_rows.specs.Moves.{duties, duty_row, changes, moves, place, move_
 use Rattle.desk_rows.specs.declared.state.Word.TheVariants as word
 use Rattle.desk_history.proofs.Moving.{in_range, known_at}
 use Rattle.desk_rows.specs.Tables.{tables, release_row, with_release_state}
-use Rattle.desk_rows.specs.Answers.{answer, freeze_answer, walk, conclusion}
-use Rattle.desk_history.specs.FromTables.{answer_from, rules_found, form_found, choice_found, owed_found, frozen_found, new_duty, raised_row, new_duties}
-use Rattle.desk_history.proofs.Rows.{updated-map, text_tells, texts_turned, in_order-append, map-map}
+use Rattle.desk_rows.specs.Answers.{Freezing, freezing, walk, conclusion}
+use Rattle.desk_history.specs.FromTables.{freezing_found, rules_found, form_found, choice_found, owed_found, frozen_found, new_duty, raised_row, new_duties}
+use Rattle.desk_history.proofs.Rows.{updated-map, texts_turned, in_order-append, map-map}
 use Rattle.desk_history.proofs.Lookups.{state-found, form-found, rules-found}
 use Rattle.desk_history.proofs.Chosen.{choice-found}
 use Rattle.desk_rows.specs.declared.row.DutyRow.{DutyRow}
 use Rattle.desk_rows.specs.declared.row.ChangeRow.{ChangeRow}
+use Rattle.desk_rows.specs.declared.refusal.Refusal.{Refusal}
+use Rattle.desk_rows.specs.declared.state.ReleaseState.{ReleaseState}
 use Rattle.desk_rows.specs.declared.state.ReleaseState.TheVariants.{Frozen}
 use Rattle.desk_rows.specs.declared.command.Command.{Command}
 use Rattle.desk_rows.specs.declared.command.Command.TheVariants.{Freeze, Meet, Waive, Reopen, Withdraw}
+use Rattle.desk_base.proofs.Texts.{text_tells}
 
 -- What is looked up
 
@@ -57,12 +60,18 @@ length-numbered n (x ∷ xs) = ap suc (length-numbered (n + 1) xs)
 pub length-duties : (w : Readings) (h : List Command) → length (duties w h) ≡ length (raised w h)
 length-duties w h = length-map (numbered w h) (λ d. duty_row (place w h d.0) d) ∙ length-numbered 1 (raised w h)
 
-pub freeze-answer : (w : Readings) (h : List Command) (r day : List ℕ) → answer_from w (tables w h) (Freeze r day) ≡ answer w h (Freeze r day)
-freeze-answer w h r day =
-    ap (λ s. freeze_answer day s (length (attached_to (attached h) r)) (walk w (adoptions w h) (rules_found (tables w h)) (form_found (tables w h) r) (conclusion w h) (choice_found (tables w h) r) (shipped w h r)) (length (duties w h)) (length (owed_found w (tables w h) r))) (state-found w h r)
-    ∙ (ap (λ f. freeze_answer day (option_map (λ form. state_of h r) (form_of h r)) (length (attached_to (attached h) r)) f (length (duties w h)) (length (owed_found w (tables w h) r))) (walk-found w h r)
-    ∙ (ap (λ n. freeze_answer day (option_map (λ form. state_of h r) (form_of h r)) (length (attached_to (attached h) r)) (walk w (adoptions w h) (rules_in (in_force w h)) (unwrap_or (form_of h r) []) (conclusion w h) (chosen_in w h r) (shipped w h r)) n (length (owed_found w (tables w h) r))) (length-duties w h)
-    ∙ ap (λ xs. freeze_answer day (option_map (λ form. state_of h r) (form_of h r)) (length (attached_to (attached h) r)) (walk w (adoptions w h) (rules_in (in_force w h)) (unwrap_or (form_of h r) []) (conclusion w h) (chosen_in w h r) (shipped w h r)) (length (raised w h)) (length xs)) (owed-found w h r)))
+frozen_by : (a b : Freezing) → a.state ≡ b.state → a.attached ≡ b.attached → a.fault ≡ b.fault → a.raised ≡ b.raised → a.owed ≡ b.owed → a ≡ b
+frozen_by a b state attached fault raised owed =
+    let with : Option ReleaseState → ℕ → Option Refusal → ℕ → ℕ → Freezing = λ s n o old new. record { state = s; attached = n; fault = o; raised = old; owed = new } in
+    ap (λ s. with s a.attached a.fault a.raised a.owed) state
+    ∙ (ap (λ n. with b.state n a.fault a.raised a.owed) attached
+    ∙ (ap (λ o. with b.state b.attached o a.raised a.owed) fault
+    ∙ (ap (λ n. with b.state b.attached b.fault n a.owed) raised
+    ∙ ap (λ n. with b.state b.attached b.fault b.raised n) owed)))
+
+pub freezing-found : (w : Readings) (h : List Command) (r : List ℕ) → freezing_found w (tables w h) r ≡ freezing w h r
+freezing-found w h r =
+    frozen_by (freezing_found w (tables w h) r) (freezing w h r) (state-found w h r) refl (walk-found w h r) (length-duties w h) (ap (λ (owed : List Owed). length owed) (owed-found w h r))
 
 -- Duties that are not raised yet don't move
 

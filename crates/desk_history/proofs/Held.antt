@@ -18,7 +18,7 @@ use Rattle.desk_rows.specs.Answers.{answer, is_recorded, IsHistory}
 use Rattle.desk_history.specs.Laws.{IsFrozenTerm, IsHeldMinimal}
 use Rattle.desk_history.proofs.Members.{in_cases, from_flat_map}
 use Rattle.desk_history.proofs.Chosen.{same_package}
-use Rattle.desk_history.proofs.Minimal.{recorded_is_minimal}
+use Rattle.desk_history.proofs.Minimal.{history_before, recorded_is_minimal}
 use Rattle.desk_rows.specs.declared.reading.Rule.{Rule}
 use Rattle.desk_rows.specs.declared.row.DocumentRow.{DocumentRow}
 use Rattle.desk_rows.specs.declared.row.FrozenRow.{FrozenRow}
@@ -176,12 +176,8 @@ some_in : (x : List ℕ) (xs : List (List ℕ)) → IsIn x xs → xs ≡ [] → 
 some_in x [] m e = m
 some_in x (y ∷ ys) m e = cc
 
-history_at : (w : Readings) (later before : List Command) → IsHistory w (later ++ before) → IsHistory w before
-history_at w [] before ok = ok
-history_at w (c ∷ later) before ok = history_at w later before ok.1
-
 pub frozen_was_minimal : (w : Readings) (h : List Command) (f : FrozenRow) → IsHistory w h → (is : IsFrozenTerm w h f)
     → IsHeldMinimal w is.before is.row.document is.row.id (choice w is.before f.release is.row.document is.row.id)
 frozen_was_minimal w h f ok is =
-    let at : IsHistory w (Freeze f.release is.day ∷ is.before) = history_at w is.later (Freeze f.release is.day ∷ is.before) (subst (IsHistory w) is.split ok) in
+    let at : IsHistory w (Freeze f.release is.day ∷ is.before) = history_before w is.later (Freeze f.release is.day ∷ is.before) (subst (IsHistory w) is.split ok) in
     choice_is_minimal w is.before f.release is.row.document is.row.id at.1 (λ none. some_in f.term (choice w is.before f.release is.row.document is.row.id) is.chosen none)

@@ -2,32 +2,29 @@
 use Rattle.std.proofs.Common.{◌≡◌, ℕ, Bool, true, false, cond, List, [], ◌∷◌, map, Option, Some, None, sym, refl, ap, ◌∙◌, subst, inl, inr}
 use Rattle.std.specs.Prelude.{if◌then◌else◌, filter, find, ◌||◌, nat_lt, is_some, IsTrue, unwrap_or}
 use Rattle.std.specs.List.{list_any}
-use Rattle.std.specs.Option.{option_map, option_map_or}
+use Rattle.std.specs.Option.{option_map}
 use Rattle.std.specs.Str.{bytes_eq}
 use Rattle.desk_rows.specs.Lists.{latest, or_else}
 use Rattle.desk_rows.specs.Readings.{Readings}
-use Rattle.desk_rows.specs.Keys.{is_choice_of, is_document, is_package, is_attachment, below_by, choice_order}
-use Rattle.desk_rows.specs.History.{documents, packages, attached, choice, form_of, state_of, names, is_package_of, profile_of, term_set, terms_given}
+use Rattle.desk_rows.specs.Keys.{is_choice_of, is_document, is_package, below_by, choice_order}
+use Rattle.desk_rows.specs.History.{documents, packages, choice, form_of, state_of, names, is_package_of, profile_of, term_set, terms_given}
 use Rattle.desk_rows.specs.Conclusions.{conclusions, office_text, text_given, conclusion_by, holds, sooner, first_opened, holder}
 use Rattle.desk_rows.specs.Tables.{release_row, release_rows, standing, choices, choice_row}
-use Rattle.desk_rows.specs.Answers.{answer, conclusion, conclude_answer, choose_answer, first_bad, is_recorded, IsHistory, release_state, unless}
-use Rattle.desk_base.specs.declared.profile.Profile.TheVariants.{Capitals}
-use Rattle.desk_rows.specs.declared.reading.Conclusion.{Conclusion}
-use Rattle.desk_rows.specs.declared.refusal.ExpressionFault.{ExpressionFault}
+use Rattle.desk_rows.specs.Answers.{answer, conclusion, Concluding, conclude_answer, concluding, Choosing, choose_answer, choosing, first_bad, is_recorded, IsHistory, unless}
+use Rattle.desk_history.proofs.Recorded.{past, is_so}
 use Rattle.desk_rows.specs.declared.refusal.Refusal.TheVariants as why
 use Rattle.desk_rows.specs.declared.row.ChoiceRow.{ChoiceRow}
 use Rattle.desk_rows.specs.declared.row.DocumentRow.{DocumentRow}
 use Rattle.desk_rows.specs.declared.row.PackageRow.{PackageRow}
 use Rattle.desk_rows.specs.declared.row.ReleaseRow.{ReleaseRow}
-use Rattle.desk_rows.specs.declared.state.ReleaseState.{ReleaseState}
-use Rattle.desk_rows.specs.declared.command.Answer.TheVariants as answered
 use Rattle.desk_rows.specs.declared.command.Command.{Command}
 use Rattle.desk_rows.specs.declared.command.Command.TheVariants.{Choose, Unchoose, Withdraw, OpenRelease, Conclude}
 use Rattle.desk_history.proofs.Chosen.{same_package, standing-choice}
 use Rattle.desk_history.proofs.Concluding.{office_text_after, key_number, key_text}
 use Rattle.desk_history.proofs.Lookups.{names-form}
-use Rattle.desk_history.proofs.Opening.{refused_still, is_some-map}
-use Rattle.desk_history.proofs.Rows.{list_any-in_order, text_tells}
+use Rattle.desk_history.proofs.Opening.{is_some-map}
+use Rattle.desk_history.proofs.Rows.{list_any-in_order}
+use Rattle.desk_base.proofs.Texts.{text_tells}
 
 -- What is held stands in the table of choices
 
@@ -61,19 +58,15 @@ opened_stays (OpenRelease r' form) h r e = step (bytes_eq r' r)
     step false = e
 opened_stays c h r e = e
 
-chosen_known : (w : Readings) (texts : List (List ℕ)) (o : Option ReleaseState) (document : Option DocumentRow) (found : Option PackageRow) (b : Bool) (concluded : PackageRow → Option Conclusion)
-    → IsTrue (is_recorded (choose_answer w texts o document found b concluded)) → is_some o ≡ true
-chosen_known w texts (Some s) document found b concluded r = refl
-chosen_known w texts None document found b concluded r = step (first_bad w 0 texts) r
-  where
-    step : (o : Option ℕ) → IsTrue (is_recorded (option_map_or (λ i. answered.Refused (why.BadTerm i)) o (answered.Refused why.UnknownRelease))) → false ≡ true
-    step None r = cc
-    step (Some i) r = cc
+chosen_known : (w : Readings) (texts : List (List ℕ)) (found : Choosing) → IsTrue (is_recorded (choose_answer w texts found)) → is_some found.state ≡ true
+chosen_known w texts found e =
+    let one = past (option_map (λ i. why.BadTerm i) (first_bad w 0 texts)) _ e in
+    is_so (is_some found.state) why.UnknownRelease (past (unless (is_some found.state) why.UnknownRelease) _ one.1).0
 
 chosen_opened : (w : Readings) (h : List Command) (r p : List ℕ) (d : ℕ) (texts : List (List ℕ)) → IsTrue (is_recorded (answer w h (Choose r d p texts))) → is_some (form_of h r) ≡ true
 chosen_opened w h r p d texts recorded =
     sym (is_some-map (λ form. state_of h r) (form_of h r))
-    ∙ chosen_known w texts (release_state h r) (find (is_document d) (documents w h)) (find (is_package d p) (packages w h)) (list_any (is_attachment r d) (attached h)) (conclusion w h) recorded
+    ∙ chosen_known w texts (choosing w h r d p) recorded
 
 held_opened : (w : Readings) (h : List Command) (r : List ℕ) (d : ℕ) (p t : List ℕ) (ts : List (List ℕ)) → IsHistory w h → choice w h r d p ≡ t ∷ ts → is_some (form_of h r) ≡ true
 held_opened w [] r d p t ts ok e = cc
@@ -126,16 +119,21 @@ held_by_one w h r d p t ts ok e =
     ∙ some_first (holds (choices w h) d p) (release_rows h)
     (among (choices w h) h d p r (names h) (names-form h r ∙ held_opened w h r d p t ts ok e) (held_row w h r d p t ts e))
 
-recorded_unheld : (fault : Option ExpressionFault) (known found : Bool) (o : Option (List ℕ)) → IsTrue (is_recorded (conclude_answer fault known found o)) → is_some o ≡ false
-recorded_unheld fault known found None r = refl
-recorded_unheld fault known found (Some release) r =
-    let none : is_recorded (conclude_answer fault known found (Some release)) ≡ false =
-    refused_still (option_map (λ f. why.BadExpression f) fault) _ (refused_still (unless known why.UnknownDocument) _ (refused_still (unless found why.UnknownPackage) (answered.Refused (why.Chosen release)) refl)) in cc
+no_holder : (o : Option (List ℕ)) → option_map (λ r. why.Chosen r) o ≡ None → is_some o ≡ false
+no_holder None e = refl
+no_holder (Some release) e = cc
+
+recorded_unheld : (found : Concluding) → IsTrue (is_recorded (conclude_answer found)) → is_some found.holder ≡ false
+recorded_unheld found e =
+    let one = past (option_map (λ fault. why.BadExpression fault) found.fault) _ e in
+    let two = past (unless found.has_document why.UnknownDocument) _ one.1 in
+    let three = past (unless found.has_package why.UnknownPackage) _ two.1 in
+    no_holder found.holder (past (option_map (λ r. why.Chosen r) found.holder) _ three.1).0
 
 pub unheld : (w : Readings) (h : List Command) (d : ℕ) (p text r t : List ℕ) (ts : List (List ℕ)) → IsHistory w h → IsTrue (is_recorded (answer w h (Conclude d p text))) → choice w h r d p ≡ t ∷ ts → ⊥
 unheld w h d p text r t ts ok recorded e =
     let held = held_by_one w h r d p t ts ok e in
-    let none = recorded_unheld (w.expression_fault Capitals text) (is_some (find (is_document d) (documents w h))) (is_some (find (is_package d p) (packages w h))) (holder (release_rows h) (choices w h) d p) recorded in
+    let none = recorded_unheld (concluding w h d p text) recorded in
     cc
 
 -- The conclusion in force stays, where a command doesn't conclude for the package

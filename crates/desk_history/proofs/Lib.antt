@@ -3,7 +3,8 @@ pub mod Orders
 mod Same
 pub mod Lookups
 mod Chosen
-mod Concluding
+pub mod Concluding
+mod Recorded
 mod Opening
 mod Holding
 mod Moving
@@ -21,7 +22,7 @@ mod Distinct
 pub mod OwnKeys
 mod Held
 mod Numbers
-mod Sorting
+pub mod Sorting
 mod Ends
 mod Rising
 mod Listed

@@ -15,11 +15,12 @@ use Rattle.desk_rows.specs.History.{revisions, in_force, rules_in, rule_row, rul
 use Rattle.desk_rows.specs.Tables.{tables, release_row, choice_row}
 use Rattle.desk_rows.specs.Answers.{release_state}
 use Rattle.desk_history.specs.FromTables.{release_found, state_found, form_found, rules_found, rule_of}
-use Rattle.desk_history.proofs.Rows.{find-map, find_text, list_any-in_order, length-in_order, text_tells}
+use Rattle.desk_history.proofs.Rows.{find-map, find_text, list_any-in_order, length-in_order}
 use Rattle.desk_rows.specs.declared.reading.Rule.{Rule}
 use Rattle.desk_rows.specs.declared.row.ReleaseRow.{ReleaseRow}
 use Rattle.desk_rows.specs.declared.command.Command.{Command}
 use Rattle.desk_rows.specs.declared.command.Command.TheVariants.{LoadCatalogue, OpenRelease}
+use Rattle.desk_base.proofs.Texts.{text_tells}
 
 -- Releases
 

@@ -17,7 +17,8 @@ use Rattle.desk_rows.specs.States.{state_after}
 use Rattle.desk_rows.specs.declared.row.Move.{Move}
 use Rattle.desk_rows.specs.Moves.{move_if, is_known, with_move, duties, duty_row, duty_at, changes, change_rows, change_row, moves, place, place_after, all_changes}
 use Rattle.desk_rows.specs.Tables.{tables, with_duty_state, moved_by}
-use Rattle.desk_rows.specs.Answers.{is_recorded, is_over, unless, refused_or, release_state_of, move_answer, moved_answer}
+use Rattle.desk_rows.specs.Answers.{is_recorded, is_over, unless, release_state_of, Moving, move_answer, moving}
+use Rattle.desk_history.proofs.Recorded.{past, is_so}
 use Rattle.desk_history.specs.FromTables.{duty_found, steps_found, release_state_found, moved_found}
 use Rattle.desk_history.proofs.Rows.{find-map, put-past}
 use Rattle.desk_history.proofs.Lookups.{state-found}
@@ -28,11 +29,10 @@ use Rattle.desk_rows.specs.declared.state.ReleaseState.{ReleaseState}
 use Rattle.desk_rows.specs.declared.state.ReleaseState.TheVariants as release
 use Rattle.desk_rows.specs.declared.state.DutyState.{DutyState}
 use Rattle.desk_rows.specs.declared.state.Word.{Word}
-use Rattle.desk_rows.specs.declared.refusal.Refusal.{Refusal}
 use Rattle.desk_rows.specs.declared.refusal.Refusal.TheVariants as why
-use Rattle.desk_rows.specs.declared.command.Answer.{Answer}
-use Rattle.desk_rows.specs.declared.command.Answer.TheVariants as answered
 use Rattle.desk_rows.specs.declared.command.Command.{Command}
+use Rattle.desk_base.proofs.Numbers.{same_number}
+use Rattle.desk_base.proofs.Bools.{and_left, and_right}
 
 abbrev pub in_range : ℕ → ℕ → ℕ → Bool
 in_range n q k = nat_le n q && nat_lt q (n + k)
@@ -110,6 +110,9 @@ steps-numbered w h q n xs =
     ∙ elim (in_range n q (length xs)) as (λ b. length (if b then changes w h q else []) ≡ (if b then length (moves w h q) else 0)) [ true ↦ length-change_rows q (moves w h q) | false ↦ refl ]
 
 -- the answer
+abbrev looked : Option DutyState → ReleaseState → ℕ → Moving
+looked place state steps = record { place = place; release = state; steps = steps }
+
 some_where : {A : Type 0} (o : Option A) (b : Bool) → option_map {U = ℕ} (λ x. 0) o ≡ (if b then Some 0 else None) → is_some o ≡ b
 some_where None true e = cc
 some_where None false e = refl
@@ -120,16 +123,16 @@ pub known_at : (w : Readings) (h : List Command) (q : ℕ) → is_some (duty_at 
 known_at w h q = some_where (duty_at w h q) (in_range 1 q (length (raised w h))) (find_numbered (λ k. 0) q 1 (raised w h))
 
 steps_matter : {A : Type 0} (word : Word) (day text : List ℕ) (until : Option (List ℕ)) (s : ReleaseState) (n : ℕ) (f : A → DutyState) (o : Option A) (b : Bool) → is_some o ≡ b
-    → move_answer word day text until s (if b then n else 0) (option_map f o) ≡ move_answer word day text until s n (option_map f o)
+    → move_answer word day text until (looked (option_map f o) s (if b then n else 0)) ≡ move_answer word day text until (looked (option_map f o) s n)
 steps_matter word day text until s n f None b e = refl
 steps_matter word day text until s n f (Some x) true e = refl
 steps_matter word day text until s n f (Some x) false e = cc
 
-pub move-answer : (w : Readings) (h : List Command) (word : Word) (q : ℕ) (day text : List ℕ) (until : Option (List ℕ)) → moved_found (tables w h) word q day text until ≡ moved_answer w h word q day text until
+pub move-answer : (w : Readings) (h : List Command) (word : Word) (q : ℕ) (day text : List ℕ) (until : Option (List ℕ)) → moved_found (tables w h) word q day text until ≡ move_answer word day text until (moving w h q)
 move-answer w h word q day text until =
-    ap (λ s. move_answer word day text until s (steps_found (tables w h) q) (option_map (λ row. row.state) (duty_found (tables w h) q))) (release_state-found w h q)
-    ∙ (ap (λ o. move_answer word day text until (release_state_of h (duty_at w h q)) (steps_found (tables w h) q) o) (place-found w h q)
-    ∙ (ap (λ n. move_answer word day text until (release_state_of h (duty_at w h q)) n (option_map (λ d. place w h d.0) (duty_at w h q))) (steps-numbered w h q 1 (raised w h))
+    ap (λ s. move_answer word day text until (looked (option_map (λ (row : DutyRow). row.state) (duty_found (tables w h) q)) s (steps_found (tables w h) q))) (release_state-found w h q)
+    ∙ (ap (λ o. move_answer word day text until (looked o (release_state_of h (duty_at w h q)) (steps_found (tables w h) q))) (place-found w h q)
+    ∙ (ap (λ n. move_answer word day text until (looked (option_map (λ (d : ℕ × Owed). place w h d.0) (duty_at w h q)) (release_state_of h (duty_at w h q)) n)) (steps-numbered w h q 1 (raised w h))
     ∙ steps_matter word day text until (release_state_of h (duty_at w h q)) (length (moves w h q)) (λ d. place w h d.0) (duty_at w h q) (in_range 1 q (length (raised w h))) (known_at w h q)))
 
 -- A command that moves duties
@@ -161,14 +164,6 @@ all_both true true e f = refl
 all_both true false e f = f
 all_both false b e f = e
 
-first_of : (a b : Bool) → (a && b) ≡ true → a ≡ true
-first_of true b e = refl
-first_of false b e = e
-
-second_of : (a b : Bool) → (a && b) ≡ true → b ≡ true
-second_of true b e = e
-second_of false b e = cc
-
 beyond_new : (k n : ℕ) (ms : List Move) (o : Option Move) (rows : List ChangeRow) → k < n → beyond k rows ≡ true → beyond k (new_row n ms o ++ rows) ≡ true
 beyond_new k n ms None rows lt all = all
 beyond_new k n ms (Some m) rows lt all = let here : nat_lt k n ≡ true = grind (arith, nat_tests) in all_both (nat_lt k n) (beyond k rows) here all
@@ -185,17 +180,14 @@ differ n q e = grind (arith, nat_tests)
 moved_past : (row : DutyRow) (changes : List ChangeRow) (rows : List DutyRow) → beyond row.number changes ≡ true → moved_by changes (row ∷ rows) ≡ row ∷ moved_by changes rows
 moved_past row [] rows all = refl
 moved_past row (c ∷ cs) rows all =
-    ap (updated (is_duty c.duty) (with_duty_state (state_after c.word))) (moved_past row cs rows (second_of (nat_lt row.number c.duty) (beyond row.number cs) all))
-    ∙ rw (differ row.number c.duty (first_of (nat_lt row.number c.duty) (beyond row.number cs) all)) refl
+    ap (updated (is_duty c.duty) (with_duty_state (state_after c.word))) (moved_past row cs rows (and_right (nat_lt row.number c.duty) (beyond row.number cs) all))
+    ∙ rw (differ row.number c.duty (and_left (nat_lt row.number c.duty) (beyond row.number cs) all)) refl
 
 none_updated : (state : DutyState) (before : ℕ → List Move) (q n : ℕ) (xs : List Owed) → q < n → updated (is_duty q) (with_duty_state state) (rows_of before (enumerate_from n xs)) ≡ rows_of before (enumerate_from n xs)
 none_updated state before q n [] lt = refl
 none_updated state before q n (x ∷ xs) lt =
     let no : (n == q) ≡ false = grind (arith, nat_tests) in
     rw no (ap (λ rows. duty_row (place_after (before n)) (n, x) ∷ rows) (none_updated state before q (n + 1) xs (omega arith)))
-
-same_number : (n : ℕ) → (n == n) ≡ true
-same_number n = grind (arith, nat_tests)
 
 moved_here : (ms : List Move) (o : Option Move) (n : ℕ) (x : Owed) (changes : List ChangeRow) (rows : List DutyRow) (later : List DutyRow) → beyond n changes ≡ true → moved_by changes rows ≡ later
     → ((state : DutyState) → updated (is_duty n) (with_duty_state state) later ≡ later)
@@ -248,8 +240,8 @@ less_by n q e = grind (arith, nat_tests)
 put_past : (n : ℕ) (ms : List Move) (rows zs : List ChangeRow) → beyond n rows ≡ true → put_all change_below rows (change_rows n ms ++ zs) ≡ change_rows n ms ++ put_all change_below rows zs
 put_past n ms [] zs all = refl
 put_past n ms (row ∷ rows) zs all =
-    let lt : n < row.duty = less_by n row.duty (first_of (nat_lt n row.duty) (beyond n rows) all) in
-    ap (put change_below row) (put_past n ms rows zs (second_of (nat_lt n row.duty) (beyond n rows) all))
+    let lt : n < row.duty = less_by n row.duty (and_left (nat_lt n row.duty) (beyond n rows) all) in
+    ap (put change_below row) (put_past n ms rows zs (and_right (nat_lt n row.duty) (beyond n rows) all))
     ∙ put-past change_below row (change_rows n ms) (put_all change_below rows zs) (none_below row n ms (λ step le. later_change row.duty n row.step step lt))
 
 put_here : (ms : List Move) (o : Option Move) (n : ℕ) (rows zs later : List ChangeRow) → beyond n rows ≡ true → put_all change_below rows zs ≡ later
@@ -307,18 +299,17 @@ pub named-changes : (w : Readings) (h : List Command) (q : ℕ) (m : Move) → i
 named-changes w h q m known = sym (moved-changes (moves w h) (named w h q m) 1 (raised w h)) ∙ ap (λ rows. put_all change_below rows (all_changes w h)) (named_rows w h q m known)
 
 -- a duty that is not known is not moved
-refused_still : (o : Option Refusal) (a : Answer) → is_recorded a ≡ false → is_recorded (refused_or o a) ≡ false
-refused_still None a e = e
-refused_still (Some r) a e = refl
+known_by : (word : Word) (day text : List ℕ) (until : Option (List ℕ)) (found : Moving) → IsTrue (is_recorded (move_answer word day text until found)) → is_some found.place ≡ true
+known_by word day text until found e =
+    let one = past (unless (is_day day && option_map_or is_day until true) why.BadDay) _ e in
+    let two = past (unless (is_note text) why.BadText) _ one.1 in
+    let three = past (unless (not (is_over day until)) why.BadEnd) _ two.1 in
+    is_so (is_some found.place) why.UnknownDuty (past (unless (is_some found.place) why.UnknownDuty) _ three.1).0
 
-known_by : {A : Type 0} (word : Word) (day text : List ℕ) (until : Option (List ℕ)) (s : ReleaseState) (n : ℕ) (f : A → DutyState) (o : Option A) → is_recorded (move_answer word day text until s n (option_map f o)) ≡ true → is_some o ≡ true
-known_by word day text until s n f (Some x) r = refl
-known_by word day text until s n f None r =
-    let none : is_recorded (move_answer word day text until s n None) ≡ false =
-    refused_still (unless (is_day day && option_map_or is_day until true) why.BadDay) _
-    (refused_still (unless (is_note text) why.BadText) _
-    (refused_still (unless (not (is_over day until)) why.BadEnd) (answered.Refused why.UnknownDuty) refl)) in cc
+placed : (w : Readings) (h : List Command) (o : Option (ℕ × Owed)) → is_some (option_map (λ (d : ℕ × Owed). place w h d.0) o) ≡ is_some o
+placed w h None = refl
+placed w h (Some d) = refl
 
-pub recorded_known : (w : Readings) (h : List Command) (word : Word) (q : ℕ) (day text : List ℕ) (until : Option (List ℕ)) → IsTrue (is_recorded (moved_answer w h word q day text until)) → in_range 1 q (length (raised w h)) ≡ true
-recorded_known w h word q day text until r =
-    sym (known_at w h q) ∙ known_by word day text until (release_state_of h (duty_at w h q)) (length (moves w h q)) (λ d. place w h d.0) (duty_at w h q) r
+pub recorded_known : (w : Readings) (h : List Command) (word : Word) (q : ℕ) (day text : List ℕ) (until : Option (List ℕ)) → IsTrue (is_recorded (move_answer word day text until (moving w h q))) → in_range 1 q (length (raised w h)) ≡ true
+recorded_known w h word q day text until e =
+    sym (known_at w h q) ∙ (sym (placed w h (duty_at w h q)) ∙ known_by word day text until (moving w h q) e)

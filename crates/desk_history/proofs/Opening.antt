@@ -1,29 +1,26 @@
 -- What the opening of a release and an attachment leave.
 use Rattle.std.proofs.Common.{◌≡◌, ℕ, ◌+◌, Bool, true, false, List, [], ◌∷◌, length, map, Option, Some, None, sym, refl, ap, ◌∙◌, inl, inr}
-use Rattle.std.specs.Prelude.{if◌then◌else◌, is_some, unwrap_or, IsTrue, not}
+use Rattle.std.specs.Prelude.{if◌then◌else◌, is_some, IsTrue, not}
 use Rattle.std.specs.List.{list_any}
-use Rattle.std.specs.Option.{option_map}
+use Rattle.std.specs.Option.{option_map, option_and_then}
 use Rattle.std.specs.Str.{bytes_eq}
 use Rattle.desk_base.specs.Day.{is_day}
 use Rattle.desk_rows.specs.Lists.{latest, or_else, put}
 use Rattle.desk_rows.specs.Texts.{text_below, is_release_name, is_note}
 use Rattle.desk_rows.specs.Readings.{Readings}
 use Rattle.desk_rows.specs.Keys.{release_below}
-use Rattle.desk_rows.specs.Conclusions.{adoptions}
-use Rattle.desk_rows.specs.Raised.{shipped, chosen_in, raised, owed_at}
-use Rattle.desk_rows.specs.History.{in_force, rules_in, attached, attached_to, opened, names, form_of, state_given, state_of, revision_of}
+use Rattle.desk_rows.specs.History.{opened, names, form_of, state_given, state_of, revision_of}
 use Rattle.desk_rows.specs.Tables.{release_row}
-use Rattle.desk_rows.specs.Answers.{IsHistory, is_recorded, release_state, open_answer, freeze_answer, walk, conclusion, refused_or, unless, withdraw_answer}
-use Rattle.desk_rows.specs.declared.command.Answer.{Answer}
-use Rattle.desk_history.proofs.Rows.{map-put, map_others, text_tells, same_text, texts_turned}
+use Rattle.desk_rows.specs.Answers.{IsHistory, is_recorded, release_state, open_answer, Freezing, freeze_answer, freezing, unready, unless, withdraw_answer}
+use Rattle.desk_history.proofs.Recorded.{past, is_so, is_ready}
+use Rattle.desk_history.proofs.Rows.{map-put, map_others, texts_turned}
 use Rattle.desk_history.proofs.Lookups.{names-form, length-releases}
 use Rattle.desk_rows.specs.declared.state.ReleaseState.{ReleaseState}
 use Rattle.desk_rows.specs.declared.state.ReleaseState.TheVariants.{IsOpen}
-use Rattle.desk_rows.specs.declared.refusal.Refusal.{Refusal}
 use Rattle.desk_rows.specs.declared.refusal.Refusal.TheVariants as why
-use Rattle.desk_rows.specs.declared.command.Answer.TheVariants as answered
 use Rattle.desk_rows.specs.declared.command.Command.{Command}
 use Rattle.desk_rows.specs.declared.command.Command.TheVariants.{OpenRelease, Freeze, Withdraw}
+use Rattle.desk_base.proofs.Texts.{text_tells, same_text}
 
 -- a release that is not opened yet has no state and no revision
 pub record IsUntouched (h : List Command) (r : List ℕ) : Type 0 where
@@ -31,21 +28,19 @@ pub record IsUntouched (h : List Command) (r : List ℕ) : Type 0 where
   pub revision : revision_of h r ≡ 0
 
 -- a freeze is recorded only of a release that is open
-pub frozen_open : (day : List ℕ) (s : Option ReleaseState) (count : ℕ) (fault : Option Refusal) (old new : ℕ) → IsTrue (is_recorded (freeze_answer day s count fault old new)) → is_some s ≡ true
-frozen_open day (Some s) count fault old new h = refl
-frozen_open day None count fault old new h =
-    (elim (is_day day) as (λ b. IsTrue (is_recorded (if not b then answered.Refused why.BadDay else answered.Refused why.UnknownRelease)) → false ≡ true) [ true ↦ λ e. cc | false ↦ λ e. cc ]) h
+pub frozen_open : (day : List ℕ) (found : Freezing) → IsTrue (is_recorded (freeze_answer day found)) → found.state ≡ Some IsOpen
+frozen_open day found e =
+    let one = past (unless (is_day day) why.BadDay) _ e in
+    let two = past (unless (is_some found.state) why.UnknownRelease) _ one.1 in
+    let three = past (option_and_then unready found.state) _ two.1 in
+    is_ready found.state (is_so (is_some found.state) why.UnknownRelease two.0) three.0
 
 -- a withdrawal only of one that was opened
-pub refused_still : (o : Option Refusal) (a : Answer) → is_recorded a ≡ false → is_recorded (refused_or o a) ≡ false
-refused_still None a e = e
-refused_still (Some r) a e = refl
-
 withdrawn_known : (day text : List ℕ) (s : Option ReleaseState) → IsTrue (is_recorded (withdraw_answer day text s)) → is_some s ≡ true
-withdrawn_known day text (Some s) r = refl
-withdrawn_known day text None r =
-    let none : is_recorded (withdraw_answer day text None) ≡ false =
-    refused_still (unless (is_day day) why.BadDay) _ (refused_still (unless (is_note text) why.BadText) (answered.Refused why.UnknownRelease) refl) in cc
+withdrawn_known day text s e =
+    let one = past (unless (is_day day) why.BadDay) _ e in
+    let two = past (unless (is_note text) why.BadText) _ one.1 in
+    is_so (is_some s) why.UnknownRelease (past (unless (is_some s) why.UnknownRelease) _ two.1).0
 
 or_else_rest : {B : Type 0} (o p : Option B) → is_some (or_else o p) ≡ false → is_some p ≡ false
 or_else_rest None p h = h
@@ -69,7 +64,7 @@ untouched w [] r ok none = record { state = refl; revision = refl }
 untouched w (OpenRelease r' f ∷ h) r ok none = let u = untouched w h r ok.1 (or_else_rest (if bytes_eq r' r then Some f else None) (form_of h r) none) in record { state = u.state; revision = u.revision }
 untouched w (Freeze r' day ∷ h) r ok none =
     let u = untouched w h r ok.1 none in
-    let e : bytes_eq r' r ≡ false = another h r r' (frozen_open day (release_state h r') (length (attached_to (attached h) r')) (walk w (adoptions w h) (rules_in (in_force w h)) (unwrap_or (form_of h r') []) (conclusion w h) (chosen_in w h r') (shipped w h r')) (length (raised w h)) (length (owed_at w h r')) ok.0) none in
+    let e : bytes_eq r' r ≡ false = another h r r' (ap is_some (frozen_open day (freezing w h r') ok.0)) none in
     record { state = rw e u.state; revision = rw e u.revision }
 untouched w (Withdraw r' day text ∷ h) r ok none =
     let u = untouched w h r ok.1 none in
@@ -77,14 +72,17 @@ untouched w (Withdraw r' day text ∷ h) r ok none =
     record { state = rw e u.state; revision = u.revision }
 untouched w (_ ∷ h) r ok none = let u = untouched w h r ok.1 none in record { state = u.state; revision = u.revision }
 
+pub not_so : (b : Bool) → not b ≡ true → b ≡ false
+not_so false e = refl
+not_so true e = cc
+
 -- a release is opened only where its name is free
 pub open_free : (name form : List ℕ) (forms : List (List ℕ)) (taken : Bool) (n : ℕ) → IsTrue (is_recorded (open_answer name form forms taken n)) → taken ≡ false
-open_free name form forms false n h = refl
-open_free name form forms true n h =
-    (elim (is_release_name name) as (λ b. IsTrue (is_recorded (if not b then answered.Refused why.BadName else (if not (list_any (bytes_eq form) forms) then answered.Refused why.UnknownForm else answered.Refused why.NameTaken))) → true ≡ false) [
-      | true ↦ elim (list_any (bytes_eq form) forms) as (λ b. IsTrue (is_recorded (if not b then answered.Refused why.UnknownForm else answered.Refused why.NameTaken)) → true ≡ false) [ true ↦ λ e. cc | false ↦ λ e. cc ]
-      | false ↦ λ e. cc
-    ]) h
+open_free name form forms taken n e =
+    let one = past (unless (is_release_name name) why.BadName) _ e in
+    let two = past (unless (list_any (bytes_eq form) forms) why.UnknownForm) _ one.1 in
+    let three = past (unless (not taken) why.NameTaken) _ two.1 in
+    not_so taken (is_so (not taken) why.NameTaken three.0)
 
 other_row : (h : List Command) (r f n : List ℕ) → bytes_eq n r ≡ false → release_row h n ≡ release_row (OpenRelease r f ∷ h) n
 other_row h r f n differ = let e : bytes_eq r n ≡ false = texts_turned r n ∙ differ in rw e refl

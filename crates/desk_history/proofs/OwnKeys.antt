@@ -2,26 +2,27 @@
 use Rattle.std.proofs.Common.{◌≡◌, ◌≢◌, ℕ, ◌+◌, ◌≤◌, Bool, true, false, List, [], ◌∷◌, length, map, Option, Some, None, sym, refl, ap, ◌∙◌, subst, arith, length-append, inl, inr}
 use Rattle.std.specs.Prelude.{if◌then◌else◌, filter, find, not, ◌||◌, ◌==◌, unwrap_or, Result, Ok, Err, IsTrue, cond, is_some}
 use Rattle.std.specs.List.{list_any, enumerate_from}
-use Rattle.std.specs.Option.{option_and_then, option_map, option_map_or}
+use Rattle.std.specs.Option.{option_and_then, option_map}
 use Rattle.std.specs.Result.{result_ok}
 use Rattle.std.specs.Str.{bytes_eq}
 use Rattle.std.specs.Ordering.{is_lt}
 use Rattle.std.proofs.lemmas.Cmp.{nat_list_cmp_total, tied_itself}
 use Rattle.std.proofs.lemmas.List.{map-append}
 use Rattle.std.proofs.lemmas.Bool.Decides.{nat_tests}
-use Rattle.desk_base.specs.Day.{is_day}
 use Rattle.desk_rows.specs.Lists.{IsIn, latest, or_else}
 use Rattle.desk_rows.specs.Texts.{text_below}
 use Rattle.desk_rows.specs.Readings.{Readings}
-use Rattle.desk_rows.specs.Keys.{is_shipped_by, is_attached_to, is_attachment, below_by, attached_order, is_rule, is_document}
+use Rattle.desk_rows.specs.Keys.{is_shipped_by, is_attached_to, is_attachment, below_by, attached_order, is_rule}
 use Rattle.desk_rows.specs.History.{loaded, namespace_in, in_force, rules_in, rule_for, documents, packages, packages_in, package_row, form_of, state_of, state_given, attached, attached_to}
 use Rattle.desk_rows.specs.Conclusions.{adopted, adoptions}
 use Rattle.desk_rows.specs.Raised.{raised, owed_at, owed_for_terms, owed_under, owed_code, rule_adopted, shipped, chosen_in}
 use Rattle.desk_rows.specs.Moves.{duties, duty_row, place}
-use Rattle.desk_rows.specs.Answers.{is_recorded, IsHistory, attach_answer, freeze_open, refused_or, unready, release_state, walk, conclusion}
+use Rattle.desk_rows.specs.Answers.{answer, is_recorded, IsHistory, Attaching, attach_answer, attaching, freezing, unless, unready}
+use Rattle.desk_history.proofs.Recorded.{past, is_so}
+use Rattle.desk_history.proofs.Opening.{frozen_open, not_so}
 use Rattle.desk_history.specs.Laws.{AreDistinct, ListsOnce, key_of}
-use Rattle.desk_history.proofs.Rows.{same_text, texts_equal, map-map}
-use Rattle.desk_history.proofs.Orders.{under, and_left, and_right}
+use Rattle.desk_history.proofs.Rows.{map-map}
+use Rattle.desk_history.proofs.Orders.{under}
 use Rattle.desk_history.proofs.Chosen.{rises, rises-choice}
 use Rattle.desk_history.proofs.Members.{in_cases, in_map, from_map, from_flat_map}
 use Rattle.desk_history.proofs.Distinct.{distinct-append, distinct-map, from_filter, distinct-filter, distinct-flat_map, distinct-put}
@@ -31,16 +32,16 @@ use Rattle.desk_rows.specs.declared.reading.Package.{Package}
 use Rattle.desk_rows.specs.declared.reading.Rule.{Rule}
 use Rattle.desk_rows.specs.declared.refusal.CatalogueFault.{CatalogueFault}
 use Rattle.desk_rows.specs.declared.refusal.DocumentFault.{DocumentFault}
-use Rattle.desk_rows.specs.declared.refusal.Refusal.{Refusal}
 use Rattle.desk_rows.specs.declared.refusal.Refusal.TheVariants as why
 use Rattle.desk_rows.specs.declared.row.AttachedRow.{AttachedRow}
 use Rattle.desk_rows.specs.declared.row.PackageRow.{PackageRow}
 use Rattle.desk_rows.specs.declared.row.Owed.{Owed}
 use Rattle.desk_rows.specs.declared.state.ReleaseState.{ReleaseState}
 use Rattle.desk_rows.specs.declared.state.ReleaseState.TheVariants.{IsOpen, Frozen, Withdrawn}
-use Rattle.desk_rows.specs.declared.command.Answer.TheVariants as answered
 use Rattle.desk_rows.specs.declared.command.Command.{Command}
 use Rattle.desk_rows.specs.declared.command.Command.TheVariants.{Import, Attach, Freeze, Withdraw}
+use Rattle.desk_base.proofs.Bools.{and_left, and_right}
+use Rattle.desk_base.proofs.Texts.{same_text, texts_equal}
 
 abbrev pub Key : Type 0
 Key = List ℕ × ℕ × List ℕ × List ℕ × List ℕ
@@ -183,13 +184,13 @@ distinct-packages w once (c ∷ h) = distinct-packages w once h
 
 -- Attached documents: none is attached twice
 
-attached_new : (o : Option ReleaseState) (known already : Bool) (count : ℕ) → IsTrue (is_recorded (attach_answer o known already count)) → already ≡ false
-attached_new o known false count e = refl
-attached_new None known true count e = cc
-attached_new (Some state) false true count e = cc
-attached_new (Some IsOpen) true true count e = cc
-attached_new (Some Frozen) true true count e = cc
-attached_new (Some Withdrawn) true true count e = cc
+attached_new : (found : Attaching) → IsTrue (is_recorded (attach_answer found)) → found.is_attached ≡ false
+attached_new found e =
+    let one = past (unless (is_some found.state) why.UnknownRelease) _ e in
+    let two = past (unless found.has_document why.UnknownDocument) _ one.1 in
+    let three = past (option_and_then unready found.state) _ two.1 in
+    let four = past (unless (not found.is_attached) why.AlreadyAttached) _ three.1 in
+    not_so found.is_attached (is_so (not found.is_attached) why.AlreadyAttached four.0)
 
 attachment_found : (row : AttachedRow) (rows : List AttachedRow) → IsIn row rows → list_any (is_attachment row.release row.document) rows ≡ true
 attachment_found row [] m = absurd m
@@ -203,7 +204,7 @@ distinct-attached : (w : Readings) (h : List Command) → IsHistory w h → AreD
 distinct-attached w [] ok = tt
 distinct-attached w (Attach r d ∷ h) ok =
     let row : AttachedRow = record { release = r; document = d } in
-    let none : list_any (is_attachment r d) (attached h) ≡ false = attached_new (release_state h r) (is_some (find (is_document d) (documents w h))) (list_any (is_attachment r d) (attached h)) (length (attached_to (attached h) r)) ok.0 in
+    let none : list_any (is_attachment r d) (attached h) ≡ false = attached_new (attaching w h r d) ok.0 in
     distinct-put (below_by attached_order) row (attached h) (λ m. let some : list_any (is_attachment r d) (attached h) ≡ true = attachment_found row (attached h) m in cc) (distinct-attached w h ok.1)
 distinct-attached w (c ∷ h) ok = distinct-attached w h ok.1
 
@@ -267,20 +268,17 @@ raised_closed w (Withdraw r day text ∷ h) d m = closed_still (bytes_eq r d.rel
 raised_closed w (c ∷ h) d m = raised_closed w h d m
 
 -- a freeze is recorded only of a release that is open
-open_by : (s : ReleaseState) (count : ℕ) (fault : Option Refusal) (old new : ℕ) → IsTrue (is_recorded (refused_or (unready s) (freeze_open count fault old new))) → s ≡ IsOpen
-open_by IsOpen count fault old new e = refl
-open_by Frozen count fault old new e = cc
-open_by Withdrawn count fault old new e = cc
+open_by : (s : ReleaseState) (form : Option (List ℕ)) → option_map (λ (form : List ℕ). s) form ≡ Some IsOpen → s ≡ IsOpen
+open_by s None e = cc
+open_by s (Some form) e = cc
 
-pub open_on : (b : Bool) (s : ReleaseState) (form : Option (List ℕ)) (count : ℕ) (fault : Option Refusal) (old new : ℕ) → IsTrue (is_recorded (if not b then answered.Refused why.BadDay else option_map_or (λ s. refused_or (unready s) (freeze_open count fault old new)) (option_map (λ (form : List ℕ). s) form) (answered.Refused why.UnknownRelease))) → s ≡ IsOpen
-open_on false s form count fault old new e = cc
-open_on true s None count fault old new e = cc
-open_on true s (Some form) count fault old new e = open_by s count fault old new e
+pub open_at : (w : Readings) (h : List Command) (r day : List ℕ) → IsTrue (is_recorded (answer w h (Freeze r day))) → state_of h r ≡ IsOpen
+open_at w h r day e = open_by (state_of h r) (form_of h r) (frozen_open day (freezing w h r) e)
 
 pub distinct-raised : (w : Readings) → ListsOnce w → (h : List Command) → IsHistory w h → AreDistinct (map owed_key (raised w h))
 distinct-raised w once [] ok = tt
 distinct-raised w once (Freeze r day ∷ h) ok =
-    let here : state_of h r ≡ IsOpen = open_on (is_day day) (state_of h r) (form_of h r) (length (attached_to (attached h) r)) (walk w (adoptions w h) (rules_in (in_force w h)) (unwrap_or (form_of h r) []) (conclusion w h) (chosen_in w h r) (shipped w h r)) (length (raised w h)) (length (owed_at w h r)) ok.0 in
+    let here : state_of h r ≡ IsOpen = open_at w h r day ok.0 in
     let apart : (k : Key) → IsIn k (map owed_key (raised w h)) → IsIn k (map owed_key (owed_at w h r)) → ⊥ =
     λ k a b. (let old = from_map owed_key k (raised w h) a in
     let new = from_map owed_key k (owed_at w h r) b in

@@ -1,14 +1,14 @@
 -- The answers to queries, from tables.
 use Rattle.std.proofs.Common.{◌≡◌, ℕ, ◌+◌, ◌≤◌, Bool, true, false, List, [], ◌∷◌, Option, Some, None, length, map, refl, sym, ap, ◌∙◌, arith}
-use Rattle.std.specs.Prelude.{if◌then◌else◌, filter, find, is_some, cond}
+use Rattle.std.specs.Prelude.{if◌then◌else◌, filter, is_some, cond}
 use Rattle.std.specs.List.{enumerate_from}
 use Rattle.std.specs.Option.{option_map, option_map_or}
 use Rattle.std.proofs.lemmas.Bool.Decides.{nat_tests}
 use Rattle.desk_rows.specs.Readings.{Readings}
 use Rattle.std.specs.List.{list_any}
 use Rattle.std.specs.Str.{bytes_eq}
-use Rattle.desk_rows.specs.Keys.{is_change_of, is_document, is_duty_of, is_package}
-use Rattle.desk_rows.specs.History.{documents, form_of, forms_in, in_force, packages}
+use Rattle.desk_rows.specs.Keys.{is_change_of, is_duty_of}
+use Rattle.desk_rows.specs.History.{form_of, forms_in, in_force}
 use Rattle.desk_rows.specs.Conclusions.{adoptions}
 use Rattle.desk_rows.specs.Listings.{cheapest_answer, term_cost}
 use Rattle.desk_rows.specs.declared.row.Owed.{Owed}
@@ -16,7 +16,7 @@ use Rattle.desk_rows.specs.Raised.{raised, chosen_in, shipped}
 use Rattle.desk_rows.specs.Moves.{duty_row, changes, place, all_changes}
 use Rattle.desk_rows.specs.Tables.{Tables, tables, release_row}
 use Rattle.desk_rows.specs.Answers.{conclusion}
-use Rattle.desk_rows.specs.Queries.{queried, duty_line, package_line, duties_of, totals_of}
+use Rattle.desk_rows.specs.Queries.{queried, listing, duty_line, package_line, duties_of, totals_of}
 use Rattle.desk_rows.specs.Moves.{duty_at}
 use Rattle.desk_history.specs.FromTables.{queried_from, choice_found, duty_found}
 use Rattle.desk_history.proofs.Lookups.{is_found, release_found-tables, rules-found}
@@ -89,8 +89,7 @@ query-answer w h (query.Findings d) = refl
 query-answer w h (query.Release r) = release_told w h r
 query-answer w h (query.Alternatives d p) = refl
 query-answer w h (query.Cheapest d p form) =
-    ap (λ rules. cheapest_answer w (is_some (find (is_document d) (documents w h))) (list_any (bytes_eq form) (forms_in (in_force w h)))
-    (term_cost w (adoptions w h) rules form) (conclusion w h) (find (is_package d p) (packages w h))) (rules-found w h)
+    ap (λ rules. cheapest_answer w (list_any (bytes_eq form) (forms_in (in_force w h))) (term_cost w (adoptions w h) rules form) (listing w h d p)) (rules-found w h)
 
 pub query_at_history : (w : Readings) (h : List Command) (q : Query) (t : Tables) → t ≡ tables w h → queried_from w t q ≡ queried w h q
 query_at_history w h q t e = ap (λ u. queried_from w u q) e ∙ query-answer w h q

@@ -11,27 +11,25 @@ use Rattle.std.specs.declared.cmp.Ordering.{Ordering}
 use Rattle.std.specs.declared.cmp.Ordering.TheVariants.{Less, Equal, Greater}
 use Rattle.std.proofs.lemmas.Cmp.{nat_cmp_total, nat_list_cmp_total, on_total, then_total, tied_itself}
 use Rattle.std.proofs.lemmas.Bool.Decides.{nat_tests}
-use Rattle.desk_base.specs.Day.{is_day}
 use Rattle.desk_rows.specs.Lists.{IsIn, latest}
 use Rattle.desk_rows.specs.Texts.{text_below}
 use Rattle.desk_rows.specs.Readings.{Readings}
-use Rattle.desk_rows.specs.Keys.{below_by, attached_order, is_attached_to, is_shipped_by}
+use Rattle.desk_rows.specs.Keys.{below_by, attached_order, is_attached_to, is_shipped_by, package_order}
 use Rattle.desk_rows.specs.History.{attached, attached_to, attachment, form_of, in_force, loaded, packages, rules_in, state_of}
 use Rattle.desk_rows.specs.Conclusions.{adopted, adoptions}
 use Rattle.desk_rows.specs.Raised.{raised, owed_at, owed_for_terms, owed_under, owed_code, rule_adopted, shipped, chosen_in, numbered}
 use Rattle.desk_rows.specs.Moves.{duties, duty_row, place}
-use Rattle.desk_rows.specs.Answers.{IsHistory, walk, conclusion}
-use Rattle.desk_history.specs.Laws.{AreNumberedInOrder, Ascends, IsCounted, IsNumbered, ListsInOrder, Rises, duty_order, owed_order, package_order}
-use Rattle.desk_history.proofs.Rows.{same_text, texts_equal}
-use Rattle.desk_history.proofs.Orders.{IsOrder, order_of, under, and_left, and_right, attached_is_order, filter-in_order}
+use Rattle.desk_rows.specs.Answers.{IsHistory}
+use Rattle.desk_history.specs.Laws.{AreNumberedInOrder, Ascends, IsCounted, IsNumbered, ListsInOrder, Rises, duty_order, owed_order}
+use Rattle.desk_history.proofs.Orders.{under, attached_is_order, filter-in_order}
 use Rattle.desk_history.proofs.Chosen.{rises, rises-choice}
 use Rattle.desk_history.proofs.Distinct.{from_filter}
 use Rattle.desk_history.proofs.Listed.{rising_packages}
 use Rattle.desk_history.proofs.Members.{from_map}
 use Rattle.desk_history.proofs.Minimal.{history_before}
 use Rattle.desk_history.proofs.Numbers.{numbered_in}
-use Rattle.desk_history.proofs.OwnKeys.{under_all, rule_in, owed_key, key_under, place_of, package_of, key_for_terms, distinct-documents, shipped_document, owed_release, raised_closed, open_on}
-use Rattle.desk_history.proofs.Rising.{less_by, first_less, rest_less, rises-append, rises-apart, rises-by, rises-filter, rises-flat_map, rises-map, in_numbered, smaller_first, counted}
+use Rattle.desk_history.proofs.OwnKeys.{under_all, rule_in, owed_key, key_under, place_of, package_of, key_for_terms, distinct-documents, shipped_document, owed_release, raised_closed, open_at}
+use Rattle.desk_history.proofs.Rising.{first_less, rest_less, rises-append, rises-apart, rises-by, rises-filter, rises-flat_map, rises-map, in_numbered, smaller_first, counted}
 use Rattle.desk_history.proofs.Sorting.{ordered}
 use Rattle.desk_rows.specs.declared.reading.Catalogue.{Catalogue}
 use Rattle.desk_rows.specs.declared.reading.Rule.{Rule}
@@ -42,6 +40,9 @@ use Rattle.desk_rows.specs.declared.row.Owed.{Owed}
 use Rattle.desk_rows.specs.declared.row.PackageRow.{PackageRow}
 use Rattle.desk_rows.specs.declared.command.Command.{Command}
 use Rattle.desk_rows.specs.declared.command.Command.TheVariants.{Freeze}
+use Rattle.desk_rows.proofs.Orders.{IsOrder, order_of, less_by}
+use Rattle.desk_base.proofs.Bools.{and_left, and_right}
+use Rattle.desk_base.proofs.Texts.{same_text, texts_equal}
 
 -- ---- the order of what is owed
 
@@ -166,7 +167,7 @@ apart_by a b false e n = refl
 rising_raised : (w : Readings) → ListsInOrder w → (h : List Command) → IsHistory w h → Rises apart_or_before (raised w h)
 rising_raised w lists [] ok = tt
 rising_raised w lists (Freeze r day ∷ h) ok =
-    let here = open_on (is_day day) (state_of h r) (form_of h r) (length (attached_to (attached h) r)) (walk w (adoptions w h) (rules_in (in_force w h)) (unwrap_or (form_of h r) []) (conclusion w h) (chosen_in w h r) (shipped w h r)) (length (raised w h)) (length (owed_at w h r)) ok.0 in
+    let here = open_at w h r day ok.0 in
     rises-append apart_or_before (raised w h) (owed_at w h r) (rising_raised w lists h ok.1)
     (rises-by (below_by owed_order) apart_or_before (owed_at w h r) (λ x y m n e. before_or (not (bytes_eq x.release y.release)) (below_by owed_order x y) e) (rising_owed w h r lists ok.1))
     (λ x y old new. apart_by x y (bytes_eq x.release y.release) refl (λ same. raised_closed w h x old (ap (state_of h) (same ∙ owed_release w h r y new) ∙ here)))

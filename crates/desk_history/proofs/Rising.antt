@@ -4,23 +4,18 @@ use Rattle.std.specs.Prelude.{filter, nat_lt}
 use Rattle.std.specs.List.{enumerate_from, flat_map}
 use Rattle.std.specs.Ordering.{is_lt, nat_cmp, ordering_then}
 use Rattle.std.specs.declared.cmp.Ordering.{Ordering}
-use Rattle.std.specs.declared.cmp.Ordering.TheVariants.{Less, Equal, Greater}
+use Rattle.std.specs.declared.cmp.Ordering.TheVariants.{Less, Equal}
 use Rattle.std.proofs.lemmas.Bool.Decides.{nat_tests}
 use Rattle.desk_rows.specs.Lists.{IsIn}
 use Rattle.desk_history.specs.Laws.{Ascends, AreDistinct, Rises}
 use Rattle.desk_history.proofs.Members.{in_cases, in_map, from_map, from_flat_map}
 use Rattle.desk_history.proofs.Distinct.{from_filter}
-use Rattle.desk_history.proofs.Orders.{IsOrder}
+use Rattle.desk_rows.proofs.Orders.{IsOrder}
 
 -- ---- orders
 
 pub smaller : (a b : ℕ) → a < b → nat_cmp a b ≡ Less
 smaller a b lt = let e : nat_lt a b ≡ true = grind (arith, nat_tests) in rw e refl
-
-pub less_by : (o : Ordering) → is_lt o ≡ true → o ≡ Less
-less_by Less e = refl
-less_by Equal e = cc
-less_by Greater e = cc
 
 -- an order that tells of the first part of a key, or else of the rest
 pub first_less : (o p : Ordering) → o ≡ Less → is_lt (ordering_then o p) ≡ true

@@ -1,25 +1,13 @@
 -- Lists of rows made of lists of keys.
-use Rattle.std.proofs.Common.{◌≡◌, ◌≢◌, ℕ, ◌+◌, Bool, true, false, cond, List, [], ◌∷◌, ◌++◌, length, map, Some, None, sym, refl, ap, ◌∙◌, arith, inl, inr}
-use Rattle.std.specs.Prelude.{if◌then◌else◌, find, ◌||◌, ◌⊎◌}
+use Rattle.std.proofs.Common.{◌≡◌, ℕ, ◌+◌, Bool, true, false, cond, List, [], ◌∷◌, ◌++◌, length, map, Some, None, sym, refl, ap, ◌∙◌, arith, inl, inr}
+use Rattle.std.specs.Prelude.{if◌then◌else◌, find, ◌||◌}
 use Rattle.std.specs.List.{list_any}
 use Rattle.std.specs.Option.{option_map}
 use Rattle.std.specs.Str.{bytes_eq}
 use Rattle.std.proofs.lemmas.Slice.Eq.{bytes_eq-Decides}
 use Rattle.desk_rows.specs.Lists.{put, put_all, in_order, updated}
-
--- a test of two texts tells whether they are the same
-tells : (a b : List ℕ) (r : Bool) → bytes_eq a b ≡ r → ((bytes_eq a b ≡ true) × (a ≡ b)) ⊎ ((bytes_eq a b ≡ false) × (a ≢ b))
-tells a b true e = inl (e, (bytes_eq-Decides a b).0 e)
-tells a b false e = inr (e, λ same. let yes : bytes_eq a b ≡ true = (bytes_eq-Decides a b).1 same in cc)
-
-pub text_tells : (a b : List ℕ) → ((bytes_eq a b ≡ true) × (a ≡ b)) ⊎ ((bytes_eq a b ≡ false) × (a ≢ b))
-text_tells a b = tells a b (bytes_eq a b) refl
-
-pub same_text : (a : List ℕ) → bytes_eq a a ≡ true
-same_text a = (bytes_eq-Decides a a).1 refl
-
-pub texts_equal : (a b : List ℕ) → bytes_eq a b ≡ true → a ≡ b
-texts_equal a b e = (bytes_eq-Decides a b).0 e
+use Rattle.desk_base.proofs.Bools.{or_left, or_right}
+use Rattle.desk_base.proofs.Texts.{text_tells, texts_equal}
 
 texts_turned_by : (a b : List ℕ) (r s : Bool) → bytes_eq a b ≡ r → bytes_eq b a ≡ s → r ≡ s
 texts_turned_by a b true true e f = refl
@@ -86,14 +74,6 @@ find_text r (x ∷ xs) =
       | inl w ↦ rw w.0 (ap Some w.1)
       | inr w ↦ rw w.0 (find_text r xs)
     ]
-
-or_left : (a b : Bool) → (a || b) ≡ false → a ≡ false
-or_left true b e = e
-or_left false b e = refl
-
-or_right : (a b : Bool) → (a || b) ≡ false → b ≡ false
-or_right true b e = cc
-or_right false b e = e
 
 -- rows of keys that are not r
 pub map_others : {B : Type 0} (f g : List ℕ → B) (r : List ℕ) → ((n : List ℕ) → bytes_eq n r ≡ false → f n ≡ g n) → (ns : List (List ℕ)) → list_any (λ n. bytes_eq n r) ns ≡ false → map f ns ≡ map g ns

@@ -5,7 +5,7 @@ use Rattle.std.specs.List.{enumerate_from, flat_map, filter_map}
 use Rattle.std.specs.Result.{result_ok}
 use Rattle.std.proofs.lemmas.Bool.Decides.{nat_tests}
 use Rattle.std.proofs.lemmas.Cmp.{on_total, then_total, nat_list_cmp_total, nat_cmp_total}
-use Rattle.desk_rows.specs.Lists.{IsIn, in_order}
+use Rattle.desk_rows.specs.Lists.{IsIn, in_order, over, ascends}
 use Rattle.desk_rows.specs.Readings.{Readings}
 use Rattle.desk_rows.specs.Texts.{text_below}
 use Rattle.desk_rows.specs.Keys.{below_by, release_below, attached_order, choice_order, frozen_order, change_below, conclusion_order, adoption_order}
@@ -18,7 +18,7 @@ use Rattle.desk_rows.specs.Moves.{duty_row, place, moves, changes, change_row, c
 use Rattle.desk_rows.specs.Tables.{tables, release_row, standing}
 use Rattle.desk_history.specs.Laws.{Ascends, AreSorted, revision_below, document_below, duty_below}
 use Rattle.desk_history.proofs.Members.{in_cases, from_map}
-use Rattle.desk_history.proofs.Orders.{IsOrder, order_of, over, ascends, ascends-in_order, and_left, and_right, not_true, attached_is_order, choice_is_order}
+use Rattle.desk_history.proofs.Orders.{ascends-in_order, attached_is_order, choice_is_order}
 use Rattle.desk_rows.specs.declared.row.CatalogueRow.{CatalogueRow}
 use Rattle.desk_rows.specs.declared.row.DocumentRow.{DocumentRow}
 use Rattle.desk_rows.specs.declared.row.DutyRow.{DutyRow}
@@ -26,6 +26,9 @@ use Rattle.desk_rows.specs.declared.row.ChangeRow.{ChangeRow}
 use Rattle.desk_rows.specs.declared.row.Owed.{Owed}
 use Rattle.desk_rows.specs.declared.command.Command.{Command}
 use Rattle.desk_rows.specs.declared.command.Command.TheVariants.{LoadCatalogue, Import}
+use Rattle.desk_rows.proofs.Orders.{IsOrder, order_of}
+use Rattle.desk_base.proofs.Bools.{and_left, and_right, not_true}
+use Rattle.desk_base.proofs.Numbers.{not_less}
 
 -- rows that were put in order
 
@@ -47,7 +50,7 @@ each_ascends below (y ∷ ys) up = (
 pub ordered : {A : Type 0} (below : A → A → Bool) → IsOrder below → (xs : List A) → Ascends below (in_order below xs)
 ordered below o xs = each_ascends below (in_order below xs) (ascends-in_order below o xs)
 
-frozen_is_order : IsOrder (below_by frozen_order)
+pub frozen_is_order : IsOrder (below_by frozen_order)
 frozen_is_order =
     order_of (then_total (on_total (λ row. row.release) nat_list_cmp_total) (then_total (on_total (λ row. row.document) nat_cmp_total)
     (then_total (on_total (λ row. row.package_id) nat_list_cmp_total) (on_total (λ row. row.term) nat_list_cmp_total))))
@@ -71,9 +74,6 @@ joined below (x ∷ xs) ys up more after = (
 last_row : {A : Type 0} (below : A → A → Bool) (xs : List A) (y : A) → Ascends below xs → ((x : A) → IsIn x xs → below y x ≡ false) → Ascends below (xs ++ y ∷ [])
 last_row below xs y up after =
     joined below xs (y ∷ []) up ((λ z m. absurd m), tt) (λ x z n m. elim m [ inl e ↦ subst (λ u. below u x ≡ false) e (after x n) | inr none ↦ absurd none ])
-
-not_less : (a b : ℕ) → b ≤ a → nat_lt a b ≡ false
-not_less a b le = grind (arith, nat_tests)
 
 -- the numbers of revisions and documents
 

@@ -1,23 +1,22 @@
 -- The tables of a history answer and change as the history does.
 use Rattle.std.proofs.Common.{◌≡◌, ℕ, Bool, true, false, List, ◌∷◌, Option, None, ◌++◌, length, map, sym, refl, ap, ◌∙◌}
-use Rattle.std.specs.Prelude.{if◌then◌else◌, IsTrue, is_some, find, filter}
-use Rattle.std.specs.List.{list_any}
+use Rattle.std.specs.Prelude.{if◌then◌else◌, IsTrue, is_some, filter}
 use Rattle.desk_rows.specs.Lists.{put_all}
 use Rattle.desk_rows.specs.Readings.{Readings}
-use Rattle.desk_rows.specs.Keys.{is_document, is_package, is_attachment, below_by, choice_order}
-use Rattle.desk_rows.specs.History.{opened, form_of, forms_in, in_force, documents, packages, attached, attached_to, term_set}
+use Rattle.desk_rows.specs.Keys.{below_by, choice_order}
+use Rattle.desk_rows.specs.History.{opened, form_of, forms_in, in_force, term_set}
 use Rattle.desk_rows.specs.declared.row.Move.{Move}
 use Rattle.desk_rows.specs.Moves.{duties, all_changes}
 use Rattle.desk_rows.specs.declared.state.Word.TheVariants as word
 use Rattle.desk_rows.specs.Tables.{Tables, tables, applied, standing, choice_row, is_other_choice, is_choice_elsewhere}
-use Rattle.desk_rows.specs.Answers.{answer, IsHistory, is_recorded, noted, open_answer, attach_answer, choose_answer, unchoose_answer, withdraw_answer, close_answer, moved_answer, release_state, conclusion}
-use Rattle.desk_history.specs.FromTables.{answer_from, change_for, rows_noted, raised_row, terms_found}
+use Rattle.desk_rows.specs.Answers.{answer, IsHistory, is_recorded, noted, open_answer, attach_answer, attaching, choose_answer, choosing, unchoose_answer, unchoosing, freeze_answer, withdraw_answer, close_answer, move_answer, moving}
+use Rattle.desk_history.specs.FromTables.{answer_from, change_for, rows_noted, raised_row, unchoosing_found}
 use Rattle.desk_history.proofs.Same.{same_tables}
 use Rattle.desk_history.proofs.Rows.{in_order-append}
 use Rattle.desk_history.proofs.Orders.{filter-in_order, choice_is_order}
 use Rattle.desk_history.proofs.Lookups.{is_found, length-releases, state-found}
 use Rattle.desk_history.proofs.Opening.{open-releases, open_free}
-use Rattle.desk_history.proofs.Freezing.{freeze-answer, freeze-releases, freeze-duties, freeze-changes, freeze-frozen, new-duties}
+use Rattle.desk_history.proofs.Freezing.{freezing-found, freeze-releases, freeze-duties, freeze-changes, freeze-frozen, new-duties}
 use Rattle.desk_history.proofs.Moving.{move-answer, recorded_known, named-duties, named-changes}
 use Rattle.desk_history.proofs.Withdrawing.{withdrawn-releases, withdrawn-duties, withdrawn-changes, ended-duties, ended-changes, ended-count}
 use Rattle.desk_history.proofs.Chosen.{terms-found}
@@ -33,12 +32,12 @@ pub step-answer : (w : Readings) (h : List Command) (c : Command) → answer_fro
 step-answer w h (LoadCatalogue text) = refl
 step-answer w h (Import bytes profile) = refl
 step-answer w h (OpenRelease r f) = open-answer w h r f
-step-answer w h (Attach r d) = ap (λ s. attach_answer s (is_some (find (is_document d) (documents w h))) (list_any (is_attachment r d) (attached h)) (length (attached_to (attached h) r))) (state-found w h r)
-step-answer w h (Choose r d p texts) = ap (λ s. choose_answer w texts s (find (is_document d) (documents w h)) (find (is_package d p) (packages w h)) (list_any (is_attachment r d) (attached h)) (conclusion w h)) (state-found w h r)
-step-answer w h (Freeze r day) = freeze-answer w h r day
+step-answer w h (Attach r d) = ap (λ s. attach_answer (record (attaching w h r d) { state = s })) (state-found w h r)
+step-answer w h (Choose r d p texts) = ap (λ s. choose_answer w texts (record (choosing w h r d p) { state = s })) (state-found w h r)
+step-answer w h (Freeze r day) = ap (freeze_answer day) (freezing-found w h r)
 step-answer w h (Unchoose r d p) =
-    ap (λ s. unchoose_answer d p s (is_some (find (is_document d) (documents w h))) (is_some (find (is_package d p) (packages w h))) (terms_found (tables w h) r d p)) (state-found w h r)
-    ∙ ap (unchoose_answer d p (release_state h r) (is_some (find (is_document d) (documents w h))) (is_some (find (is_package d p) (packages w h)))) (terms-found w h r d p)
+    ap (λ s. unchoose_answer d p (record (unchoosing_found (tables w h) r d p) { state = s })) (state-found w h r)
+    ∙ ap (λ terms. unchoose_answer d p (record (unchoosing w h r d p) { chosen = terms })) (terms-found w h r d p)
 step-answer w h (Meet q day text) = move-answer w h word.Met q day text None
 step-answer w h (Waive q day text until) = move-answer w h word.Waived q day text until
 step-answer w h (Reopen q day text) = move-answer w h word.Reopened q day text None
@@ -73,19 +72,19 @@ unchoose-rows w h r p d =
     refl refl refl
 
 -- a command that moves one duty
-meet-rows : (w : Readings) (h : List Command) (q : ℕ) (day text : List ℕ) → IsTrue (is_recorded (moved_answer w h word.Met q day text None)) → tables w (Meet q day text ∷ h) ≡ applied (change_for w (tables w h) (Meet q day text)) (tables w h)
+meet-rows : (w : Readings) (h : List Command) (q : ℕ) (day text : List ℕ) → IsTrue (is_recorded (move_answer word.Met day text None (moving w h q))) → tables w (Meet q day text ∷ h) ≡ applied (change_for w (tables w h) (Meet q day text)) (tables w h)
 meet-rows w h q day text recorded =
     let known = recorded_known w h word.Met q day text None recorded in
     let m : Move = record { day = day; word = word.Met; body = text; last_day = None } in
     same_tables _ _ refl refl refl refl refl refl refl refl refl refl refl refl (named-duties w h q m known) (named-changes w h q m known)
 
-waive-rows : (w : Readings) (h : List Command) (q : ℕ) (day text : List ℕ) (until : Option (List ℕ)) → IsTrue (is_recorded (moved_answer w h word.Waived q day text until)) → tables w (Waive q day text until ∷ h) ≡ applied (change_for w (tables w h) (Waive q day text until)) (tables w h)
+waive-rows : (w : Readings) (h : List Command) (q : ℕ) (day text : List ℕ) (until : Option (List ℕ)) → IsTrue (is_recorded (move_answer word.Waived day text until (moving w h q))) → tables w (Waive q day text until ∷ h) ≡ applied (change_for w (tables w h) (Waive q day text until)) (tables w h)
 waive-rows w h q day text until recorded =
     let known = recorded_known w h word.Waived q day text until recorded in
     let m : Move = record { day = day; word = word.Waived; body = text; last_day = until } in
     same_tables _ _ refl refl refl refl refl refl refl refl refl refl refl refl (named-duties w h q m known) (named-changes w h q m known)
 
-reopen-rows : (w : Readings) (h : List Command) (q : ℕ) (day text : List ℕ) → IsTrue (is_recorded (moved_answer w h word.Reopened q day text None)) → tables w (Reopen q day text ∷ h) ≡ applied (change_for w (tables w h) (Reopen q day text)) (tables w h)
+reopen-rows : (w : Readings) (h : List Command) (q : ℕ) (day text : List ℕ) → IsTrue (is_recorded (move_answer word.Reopened day text None (moving w h q))) → tables w (Reopen q day text ∷ h) ≡ applied (change_for w (tables w h) (Reopen q day text)) (tables w h)
 reopen-rows w h q day text recorded =
     let known = recorded_known w h word.Reopened q day text None recorded in
     let m : Move = record { day = day; word = word.Reopened; body = text; last_day = None } in

@@ -23,8 +23,10 @@ use Rattle.desk_rows.specs.declared.command.Command.{Command}
 use Rattle.desk_rows.specs.declared.command.Command.TheVariants.{Withdraw, CloseDay}
 use Rattle.desk_history.specs.FromTables.{steps_found, end_found, standing_found, standings_found, ended_found, is_unmet, ends, next_row, withdrawn_rows, ended_rows}
 use Rattle.std.proofs.lemmas.List.{length-map}
-use Rattle.desk_history.proofs.Rows.{updated-map, text_tells, texts_turned}
+use Rattle.desk_history.proofs.Rows.{updated-map, texts_turned}
 use Rattle.desk_history.proofs.Moving.{in_range, known_at, changes-numbered, steps-numbered, new_row, new_rows, rows_of, changes_of, after, moved-duties, moved-changes}
+use Rattle.desk_base.proofs.Texts.{text_tells}
+use Rattle.desk_base.proofs.Numbers.{same_number}
 
 -- Lists of duties with their numbers
 
@@ -41,9 +43,6 @@ beyond_step n k x rest d false t later e = let le : n + 1 ≤ k = later e in ome
 beyond : (n k : ℕ) (xs : List Owed) (d : ℕ × Owed) → find (λ (e : ℕ × Owed). e.0 == k) (enumerate_from n xs) ≡ Some d → n ≤ k
 beyond n k [] d e = cc
 beyond n k (x ∷ xs) d e = beyond_step n k x (find (λ (e : ℕ × Owed). e.0 == k) (enumerate_from (n + 1) xs)) d (n == k) refl (beyond (n + 1) k xs d) e
-
-same_number : (n : ℕ) → (n == n) ≡ true
-same_number n = grind (arith, nat_tests)
 
 other_number : (n k : ℕ) → n + 1 ≤ k → (n == k) ≡ false
 other_number n k le = grind (arith, nat_tests)

@@ -15,10 +15,10 @@ use Rattle.desk_rows.specs.States.{is_met}
 use Rattle.desk_rows.specs.declared.row.Standing.{Standing}
 use Rattle.desk_rows.specs.declared.state.Word.{Word}
 use Rattle.desk_rows.specs.Tables.{Tables, applied, choice_row}
-use Rattle.desk_rows.specs.Answers.{load_answer, import_answer, open_answer, attach_answer, choose_answer, freeze_answer, freeze_open, unchoose_answer, move_answer, withdraw_answer, close_answer, conclude_answer, adopt_answer, walk, is_recorded}
+use Rattle.desk_rows.specs.Answers.{load_answer, import_answer, open_answer, attach_answer, choose_answer, freeze_answer, unchoose_answer, Attaching, Choosing, Unchoosing, Freezing, Moving, Concluding, Adopting, move_answer, withdraw_answer, close_answer, conclude_answer, adopt_answer, walk, is_recorded}
 use Rattle.desk_rows.specs.Queries.{duty_line, package_line, totals_of}
 use Rattle.desk_rows.specs.Findings.{findings_answer}
-use Rattle.desk_rows.specs.Listings.{alternatives_answer, cheapest_answer, term_cost}
+use Rattle.desk_rows.specs.Listings.{Listing, alternatives_answer, cheapest_answer, term_cost}
 use Rattle.desk_rows.specs.declared.reading.Catalogue.{Catalogue}
 use Rattle.desk_rows.specs.declared.reading.Document.{Document}
 use Rattle.desk_base.specs.declared.profile.Profile.{Profile}
@@ -127,28 +127,89 @@ owed_found w t r = owed_for w t.adoption (rules_found t) (form_found t r) r (cho
 abbrev pub frozen_found : Readings → Tables → List ℕ → List FrozenRow
 frozen_found w t r = frozen_for w t.adoption (rules_found t) (form_found t r) r (choice_found t r) (shipped_found t r)
 
+-- a document stands
+abbrev pub stands_document : Tables → ℕ → Bool
+stands_document t d = is_some (find (is_document d) t.document)
+
+abbrev pub package_found : Tables → ℕ → List ℕ → Option PackageRow
+package_found t d p = find (is_package d p) t.packages
+
+-- What each command looks up in tables
+
+abbrev pub attaching_found : Tables → List ℕ → ℕ → Attaching
+attaching_found t r d = record {
+  state = state_found t r;
+  has_document = stands_document t d;
+  is_attached = list_any (is_attachment r d) t.attached;
+  attached = length (attached_to t.attached r);
+}
+
+abbrev pub choosing_found : Readings → Tables → List ℕ → ℕ → List ℕ → Choosing
+choosing_found w t r d p = record {
+  state = state_found t r;
+  has_document = stands_document t d;
+  row = package_found t d p;
+  is_attached = list_any (is_attachment r d) t.attached;
+  conclusion = option_and_then (conclusion_found w t) (package_found t d p);
+}
+
+abbrev pub unchoosing_found : Tables → List ℕ → ℕ → List ℕ → Unchoosing
+unchoosing_found t r d p = record {
+  state = state_found t r;
+  has_document = stands_document t d;
+  has_package = is_some (package_found t d p);
+  chosen = terms_found t r d p;
+}
+
+abbrev pub freezing_found : Readings → Tables → List ℕ → Freezing
+freezing_found w t r = record {
+  state = state_found t r;
+  attached = length (attached_to t.attached r);
+  fault = walk w t.adoption (rules_found t) (form_found t r) (conclusion_found w t) (choice_found t r) (shipped_found t r);
+  raised = length t.duty;
+  owed = length (owed_found w t r);
+}
+
+abbrev pub moving_found : Tables → ℕ → Moving
+moving_found t q = record {
+  place = option_map (λ row. row.state) (duty_found t q);
+  release = release_state_found t (duty_found t q);
+  steps = steps_found t q;
+}
+
 abbrev pub moved_found : Tables → Word → ℕ → List ℕ → List ℕ → Option (List ℕ) → Answer
-moved_found t word q day text until =
-    move_answer word day text until (release_state_found t (duty_found t q)) (steps_found t q) (option_map (λ row. row.state) (duty_found t q))
+moved_found t word q day text until = move_answer word day text until (moving_found t q)
+
+abbrev pub concluding_found : Readings → Tables → ℕ → List ℕ → List ℕ → Concluding
+concluding_found w t d p text = record {
+  fault = w.expression_fault Capitals text;
+  has_document = stands_document t d;
+  has_package = is_some (package_found t d p);
+  holder = holder_found t d p;
+}
+
+abbrev pub adopting_found : Readings → Tables → ℕ → List ℕ → List ℕ → Adopting
+adopting_found w t d reference licence =
+    let row = adoption_row w d reference licence in
+    record {
+      is_reference = is_reference w reference;
+      is_licence = is_plain w licence;
+      has_document = stands_document t d;
+      is_adopted = is_some (licence_for t.adoption d row.reference);
+      adoptions = adoption_count t d;
+    }
 
 -- the answer
 abbrev pub answer_from : Readings → Tables → Command → Answer
 answer_from w t (LoadCatalogue text) = load_answer (w.catalogue text) (length t.catalogue)
 answer_from w t (Import bytes profile) = import_answer (w.document bytes) bytes t.document
 answer_from w t (OpenRelease r form) = open_answer r form t.forms (is_some (release_found t r)) (length t.releases)
-answer_from w t (Attach r d) = attach_answer (state_found t r) (is_some (find (is_document d) t.document)) (list_any (is_attachment r d) t.attached) (length (attached_to t.attached r))
-answer_from w t (Choose r d p texts) = choose_answer w texts (state_found t r) (find (is_document d) t.document) (find (is_package d p) t.packages) (list_any (is_attachment r d) t.attached) (conclusion_found w t)
-answer_from w t (Freeze r day) =
-    freeze_answer day (state_found t r) (length (attached_to t.attached r))
-    (walk w t.adoption (rules_found t) (form_found t r) (conclusion_found w t) (choice_found t r) (shipped_found t r))
-    (length t.duty) (length (owed_found w t r))
-answer_from w t (Unchoose r d p) =
-    unchoose_answer d p (state_found t r) (is_some (find (is_document d) t.document)) (is_some (find (is_package d p) t.packages)) (terms_found t r d p)
-answer_from w t (Conclude d p text) =
-    conclude_answer (w.expression_fault Capitals text) (is_some (find (is_document d) t.document)) (is_some (find (is_package d p) t.packages)) (holder_found t d p)
-answer_from w t (Adopt d reference licence) =
-    let row = adoption_row w d reference licence in
-    adopt_answer (is_reference w reference) (is_plain w licence) (is_some (find (is_document d) t.document)) (is_some (licence_for t.adoption d row.reference)) (adoption_count t d)
+answer_from w t (Attach r d) = attach_answer (attaching_found t r d)
+answer_from w t (Choose r d p texts) = choose_answer w texts (choosing_found w t r d p)
+answer_from w t (Unchoose r d p) = unchoose_answer d p (unchoosing_found t r d p)
+answer_from w t (Freeze r day) = freeze_answer day (freezing_found w t r)
+answer_from w t (Conclude d p text) = conclude_answer (concluding_found w t d p text)
+answer_from w t (Adopt d reference licence) = adopt_answer (adopting_found w t d reference licence)
 answer_from w t (Meet q day text) = moved_found t word.Met q day text None
 answer_from w t (Waive q day text until) = moved_found t word.Waived q day text until
 answer_from w t (Reopen q day text) = moved_found t word.Reopened q day text None
@@ -194,12 +255,7 @@ froze_change t r day rows new = froze_rows r (length t.catalogue) day rows new
 abbrev pub froze_as : Tables → List ℕ → List ℕ → List FrozenRow → List Owed → Change
 froze_as t r day rows owed = froze_change t r day rows (map new_duty (enumerate_from (length t.duty + 1) owed))
 
--- the freeze of an open release with this form
-abbrev pub freeze_open_found : Readings → Tables → List ℕ → List ℕ → Answer
-freeze_open_found w t r form =
-    freeze_open (length (attached_to t.attached r)) (walk w t.adoption (rules_found t) form (conclusion_found w t) (choice_found t r) (shipped_found t r))
-    (length t.duty) (length (owed_for w t.adoption (rules_found t) form r (choice_found t r) (shipped_found t r)))
-
+-- the rows of a freeze of a release with this form
 abbrev pub freeze_change_found : Readings → Tables → List ℕ → List ℕ → List ℕ → Change
 freeze_change_found w t r form day =
     froze_as t r day (frozen_for w t.adoption (rules_found t) form r (choice_found t r) (shipped_found t r)) (owed_for w t.adoption (rules_found t) form r (choice_found t r) (shipped_found t r))
@@ -254,6 +310,14 @@ known_document row = (row.number, row.profile)
 abbrev pub line_found : Tables → DutyRow → DutyLine
 line_found t row = duty_line (λ q. filter (is_change_of q) t.changes) row
 
+-- what Alternatives and Cheapest look up in tables
+abbrev pub listing_found : Readings → Tables → ℕ → List ℕ → Listing
+listing_found w t d p = record {
+  has_document = stands_document t d;
+  row = package_found t d p;
+  conclusion = option_and_then (conclusion_found w t) (package_found t d p);
+}
+
 -- the answer to a query
 abbrev pub queried_from : Readings → Tables → Query → Answer
 queried_from w t (query.Duties r) =
@@ -267,8 +331,6 @@ queried_from w t (query.Findings d) = findings_answer w (find (is_document d) t.
 queried_from w t (query.Release r) =
     option_map_or (λ row. answered.Release row (map (package_line (conclusion_found w t) (choice_found t r)) (shipped_found t r))) (release_found t r)
     (answered.Refused why.UnknownRelease)
-queried_from w t (query.Alternatives d p) =
-    alternatives_answer w (is_some (find (is_document d) t.document)) (conclusion_found w t) (find (is_package d p) t.packages)
+queried_from w t (query.Alternatives d p) = alternatives_answer w (listing_found w t d p)
 queried_from w t (query.Cheapest d p form) =
-    cheapest_answer w (is_some (find (is_document d) t.document)) (list_any (bytes_eq form) t.forms)
-    (term_cost w t.adoption (rules_found t) form) (conclusion_found w t) (find (is_package d p) t.packages)
+    cheapest_answer w (list_any (bytes_eq form) t.forms) (term_cost w t.adoption (rules_found t) form) (listing_found w t d p)

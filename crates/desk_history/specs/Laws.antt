@@ -7,7 +7,7 @@ use Rattle.std.specs.Cmp.Lexicographic.{slice_cmp}
 use Rattle.std.specs.declared.cmp.Ordering.{Ordering}
 use Rattle.desk_rows.specs.Lists.{IsIn}
 use Rattle.desk_rows.specs.Readings.{Readings}
-use Rattle.desk_rows.specs.Keys.{below_by, release_below, attached_order, choice_order, frozen_order, conclusion_order, adoption_order, change_below, is_package, is_document, is_change_of}
+use Rattle.desk_rows.specs.Keys.{below_by, release_below, attached_order, choice_order, frozen_order, conclusion_order, adoption_order, change_below, is_package, is_document, is_change_of, package_order, rule_order}
 use Rattle.desk_rows.specs.Texts.{is_before, sorted_set, text_below}
 use Rattle.desk_rows.specs.History.{documents, packages, choice, form_of, in_force, rules_in}
 use Rattle.desk_rows.specs.Conclusions.{adoptions}
@@ -146,10 +146,7 @@ abbrev pub Rises : {A : Type 0} → (A → A → Bool) → List A → Type 0
 Rises below [] = Unit {0}
 Rises below (x ∷ xs) = ((y : _) → IsIn y xs → below x y ≡ true) × Rises below xs
 
--- rules by term and form; packages and references by id
-abbrev pub rule_order : Rule → Rule → Ordering
-rule_order = then_cmp (on (λ rule. rule.term) (slice_cmp nat_cmp)) (on (λ rule. rule.form) (slice_cmp nat_cmp))
-
+-- packages and references of a document by id
 abbrev pub package_below : Package → Package → Bool
 package_below a b = text_below a.id b.id
 
@@ -167,9 +164,6 @@ abbrev pub rule_row_order : RuleRow → RuleRow → Ordering
 rule_row_order =
     then_cmp (on (λ row. row.revision) nat_cmp)
     (then_cmp (on (λ row. row.term) (slice_cmp nat_cmp)) (on (λ row. row.form) (slice_cmp nat_cmp)))
-
-abbrev pub package_order : PackageRow → PackageRow → Ordering
-package_order = then_cmp (on (λ row. row.document) nat_cmp) (on (λ row. row.id) (slice_cmp nat_cmp))
 
 abbrev pub extracted_order : ExtractedRow → ExtractedRow → Ordering
 extracted_order = then_cmp (on (λ row. row.document) nat_cmp) (on (λ row. row.reference) (slice_cmp nat_cmp))

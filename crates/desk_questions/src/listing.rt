@@ -4,18 +4,18 @@ ghost use Rattle.std.specs.Prelude.{◌≡◌, IfOk, IfErr, find, is_some, map};
 ghost use Rattle.desk_rows.specs.Readings.{Readings};
 ghost use Rattle.desk_rows.specs.Faults.{MayFail};
 ghost use Rattle.desk_rows.specs.Keys.{is_document, is_package};
-ghost use Rattle.desk_rows.specs.Listings.{list_refusal, listed, priced, rule_cost, term_cost, of_package, told_of};
+ghost use Rattle.desk_rows.specs.Listings.{list_refusal, rule_cost, term_cost};
 ghost use Rattle.desk_access.specs.Seen.{Looked, OfRows};
 ghost use Rattle.desk_history.specs.FromTables.{conclusion_found, queried_from, rules_found};
-ghost use Rattle.desk_questions.specs.Found.{priced_found, told_found};
+ghost use Rattle.desk_questions.specs.Found.{listed, listed_found, of_package, priced, priced_found, told_found};
 ghost use Rattle.desk_rows.specs.declared.row.PackageRow.{PackageRow};
 ghost use Rattle.desk_rows.specs.declared.command.Answer.{Answer};
 
 use desk_access::store::Store;
 use desk_access::texts::Texts;
-use desk_base::Text;
+use desk_base::{Text, limits};
 use desk_packages::{conclusion_of, rule_adopted};
-use desk_rows::{Answer, Conclusion, Fault, ListFault, MAX_COST, PackageRow, Query, Refusal, Rule};
+use desk_rows::{Answer, Conclusion, Fault, ListFault, PackageRow, Query, Refusal, Rule};
 use std::alloc::Global;
 
 fn list_refusal(fault: ListFault) -> Refusal
@@ -72,7 +72,7 @@ fn listed_for<T: Texts, S: Store>(
     store: &mut S,
     row: PackageRow,
 ) -> Result<Answer, Fault>
-    ensures answer { (w : Readings) → T.are_right w → IfOk result (λ answer. OfRows (λ t. answer ≡ told_of (λ c. listed (w.alternatives c.profile c.text)) (conclusion_found w t row) row) (S.seen store.old) (S.seen store.new)) }
+    ensures answer { (w : Readings) → T.are_right w → IfOk result (λ answer. OfRows (λ t. answer ≡ listed_found w t row) (S.seen store.old) (S.seen store.new)) }
     ensures kept { Looked (S.seen store.old) (S.seen store.new) result }
     ensures fault { IfErr result (MayFail S.tells) }
 {
@@ -103,7 +103,7 @@ pub fn alternatives<T: Texts, S: Store>(
 fn rule_cost(rule: &Rule) -> u64
     ensures { result ≡ rule_cost rule.now }
 {
-    (rule.codes.as_slice().len() as u64).min(MAX_COST)
+    (rule.codes.as_slice().len() as u64).min(limits::TERM_COST)
 }
 
 /// How many duties the adopted form of a term of a document owes in a form, where it has a rule.

@@ -1,10 +1,11 @@
 -- The answer to each command and query: the first refusal that applies, else what was done. Each is a function of what is looked up.
-use Rattle.std.specs.Prelude.{ℕ, ◌+◌, ◌==◌, filter, ◌&&◌, ◌||◌, nat_lt, nat_le, not, Bool, true, false, List, [], ◌∷◌, length, find, slice_index_or, Option, Some, None, is_some, is_none, unwrap_or, Result, Ok, Err, IsTrue, if◌then◌else◌}
+use Rattle.std.specs.Prelude.{ℕ, ◌+◌, filter, map, ◌&&◌, ◌||◌, nat_lt, nat_le, not, Bool, true, false, List, [], ◌∷◌, length, find, slice_index_or, Option, Some, None, is_some, is_none, unwrap_or, Result, IsTrue, if◌then◌else◌}
 use Rattle.std.specs.List.{list_any, filter_map}
 use Rattle.std.specs.Option.{option_map, option_map_or, option_and_then}
-use Rattle.std.specs.Result.{result_ok}
+use Rattle.std.specs.Result.{result_ok, result_err}
 use Rattle.std.specs.Str.{bytes_eq}
 use Rattle.desk_base.specs.Day.{is_day}
+use Rattle.desk_base.specs.Limits as most
 use Rattle.desk_rows.specs.Lists.{or_else}
 use Rattle.desk_rows.specs.Texts.{is_before, is_release_name, is_note}
 use Rattle.desk_rows.specs.Readings.{Readings}
@@ -56,153 +57,184 @@ refused_first (refusal ∷ refusals) answer = refused_or refusal (refused_first 
 abbrev pub unless : Bool → Refusal → Option Refusal
 unless so refusal = if so then None else Some refusal
 
--- LoadCatalogue: a text that is no catalogue, the revisions
+-- the first of some refusals that applies
+abbrev pub first_refusal : List (Option Refusal) → Option Refusal
+first_refusal [] = None
+first_refusal (refusal ∷ refusals) = or_else refusal (first_refusal refusals)
+
+-- LoadCatalogue, of a text that was read, after so many revisions
 abbrev pub load_answer : Result Catalogue CatalogueFault → ℕ → Answer
-load_answer (Err fault) count = answered.Refused (why.BadCatalogue fault)
-load_answer (Ok catalogue) count = if nat_le 4096 count then answered.Refused (why.Full limit.Revisions) else answered.Revision (count + 1)
+load_answer catalogue count = refused_first (
+    option_map (λ fault. why.BadCatalogue fault) (result_err catalogue)
+    ∷ unless (nat_lt count most.revisions) (why.Full limit.Revisions)
+    ∷ []) (answered.Revision (count + 1))
 
--- Import: bytes that are no document; its namespace, with the same bytes or others; the documents
-abbrev pub import_known : List ℕ → ℕ → Option DocumentRow → Answer
-import_known bytes count None = if nat_le 4096 count then answered.Refused (why.Full limit.Documents) else answered.Imported (count + 1)
-import_known bytes count (Some row) = if bytes_eq row.bytes bytes then answered.Again row.number else answered.Refused (why.NamespaceTaken row.number)
+-- the document with the namespace of one that was read
+abbrev pub same_namespace : Result Document DocumentFault → List DocumentRow → Option DocumentRow
+same_namespace document rows = option_and_then (λ d. find (has_namespace d.namespace) rows) (result_ok document)
 
+-- one with other bytes
+abbrev pub taken : List ℕ → DocumentRow → Option Refusal
+taken bytes row = unless (bytes_eq row.bytes bytes) (why.NamespaceTaken row.number)
+
+-- Import, of bytes that were read, after these documents; with the same bytes, one is told again
 abbrev pub import_answer : Result Document DocumentFault → List ℕ → List DocumentRow → Answer
-import_answer (Err fault) bytes rows = answered.Refused (why.BadDocument fault)
-import_answer (Ok document) bytes rows = import_known bytes (length rows) (find (has_namespace document.namespace) rows)
+import_answer document bytes rows =
+    let old = same_namespace document rows in
+    refused_first (
+    option_map (λ fault. why.BadDocument fault) (result_err document)
+    ∷ option_and_then (taken bytes) old
+    ∷ unless (is_some old || nat_lt (length rows) most.documents) (why.Full limit.Documents)
+    ∷ []) (option_map_or (λ row. answered.Again row.number) old (answered.Imported (length rows + 1)))
 
--- OpenRelease: the name; the form, which the catalogue in force must have; a name that is taken; the releases
+-- OpenRelease, with these forms in force, of a name that is taken or free, after so many releases
 abbrev pub open_answer : List ℕ → List ℕ → List (List ℕ) → Bool → ℕ → Answer
-open_answer name form forms taken count =
-    if not (is_release_name name) then answered.Refused why.BadName
-    else (if not (list_any (bytes_eq form) forms) then answered.Refused why.UnknownForm
-    else (if taken then answered.Refused why.NameTaken
-    else (if nat_le 4096 count then answered.Refused (why.Full limit.Releases) else answered.Done)))
+open_answer name form forms is_taken count = refused_first (
+    unless (is_release_name name) why.BadName
+    ∷ unless (list_any (bytes_eq form) forms) why.UnknownForm
+    ∷ unless (not is_taken) why.NameTaken
+    ∷ unless (nat_lt count most.releases) (why.Full limit.Releases)
+    ∷ []) answered.Done
 
 -- a release that isn't open
 abbrev pub unready : ReleaseState → Option Refusal
 unready release.IsOpen = None
 unready state = Some (why.ReleaseState state)
 
--- Attach: the release, the document, the release's state, a document that is attached already, the attached
-abbrev pub attach_to : Bool → Bool → ℕ → ReleaseState → Answer
-attach_to known already count state =
-    if not known then answered.Refused why.UnknownDocument
-    else refused_or (unready state)
-    (if already then answered.Refused why.AlreadyAttached
-    else (if nat_le 64 count then answered.Refused (why.Full limit.Attached) else answered.Done))
+-- what an Attach looks up: the release's state, the document, whether it is attached already, how many are
+pub record Attaching : Type 0 where
+  pub state : Option ReleaseState
+  pub has_document : Bool
+  pub is_attached : Bool
+  pub attached : ℕ
 
-abbrev pub attach_answer : Option ReleaseState → Bool → Bool → ℕ → Answer
-attach_answer state known already count = option_map_or (attach_to known already count) state (answered.Refused why.UnknownRelease)
+abbrev pub attach_answer : Attaching → Answer
+attach_answer found = refused_first (
+    unless (is_some found.state) why.UnknownRelease
+    ∷ unless found.has_document why.UnknownDocument
+    ∷ option_and_then unready found.state
+    ∷ unless (not found.is_attached) why.AlreadyAttached
+    ∷ unless (nat_lt found.attached most.attached) (why.Full limit.Attached)
+    ∷ []) answered.Done
 
 -- the place of the first text that spells no term
 abbrev pub first_bad : Readings → ℕ → List (List ℕ) → Option ℕ
 first_bad w i [] = None
 first_bad w i (text ∷ texts) = if is_some (w.term text) then first_bad w (i + 1) texts else Some i
 
--- what a verdict on the terms answers
-abbrev pub judged : List (List ℕ) → Verdict → Answer
-judged terms verdict.NotEnough = answered.Refused why.NotEnough
-judged terms (verdict.Superfluous i) = answered.Refused (why.NotMinimal (slice_index_or terms i []))
-judged terms verdict.Minimal = answered.Done
+-- a package without a conclusion
+abbrev pub unconcluded : Option Conclusion → PackageRow → Option Refusal
+unconcluded conclusion p = unless (is_some conclusion) (why.NoConclusion p.document p.id)
 
--- the terms for a package of an open release: no conclusion, else the verdict on them
-abbrev pub choose_for : Readings → List (List ℕ) → Option Conclusion → PackageRow → Answer
-choose_for w terms conclusion p =
-    option_map_or (λ c. judged terms (w.verdict c.profile c.text terms)) conclusion (answered.Refused (why.NoConclusion p.document p.id))
+-- terms that don't satisfy the conclusion
+abbrev pub not_enough : Verdict → Option Refusal
+not_enough verdict.NotEnough = Some why.NotEnough
+not_enough _ = None
 
--- a release that isn't open, a document that isn't attached or a package that isn't shipped
-abbrev pub choose_shipped : Readings → List (List ℕ) → Bool → (PackageRow → Option Conclusion) → ReleaseState → PackageRow → Answer
-choose_shipped w terms is_attached conclusion state p =
-    refused_or (unready state)
-    (if not (is_attached && p.shipped) then answered.Refused why.NotShipped else choose_for w terms (conclusion p) p)
+-- terms of which one can go
+abbrev pub not_minimal : List (List ℕ) → Verdict → Option Refusal
+not_minimal terms (verdict.Superfluous i) = Some (why.NotMinimal (slice_index_or terms i []))
+not_minimal terms _ = None
 
-abbrev pub choose_package : Readings → List (List ℕ) → Bool → (PackageRow → Option Conclusion) → ReleaseState → Option PackageRow → Answer
-choose_package w terms is_attached conclusion state found =
-    option_map_or (choose_shipped w terms is_attached conclusion state) found (answered.Refused why.UnknownPackage)
+-- what a Choose looks up: the release's state, the document, the package, whether the document is attached, and the package's
+-- conclusion
+pub record Choosing : Type 0 where
+  pub state : Option ReleaseState
+  pub has_document : Bool
+  pub row : Option PackageRow
+  pub is_attached : Bool
+  pub conclusion : Option Conclusion
 
-abbrev pub choose_document : Readings → List (List ℕ) → Bool → (PackageRow → Option Conclusion) → Option PackageRow → ReleaseState → Option DocumentRow → Answer
-choose_document w terms is_attached conclusion found state document =
-    option_map_or (λ row. choose_package w terms is_attached conclusion state found) document (answered.Refused why.UnknownDocument)
+-- whether the package of an attached document is shipped
+abbrev pub is_shipped : Choosing → Bool
+is_shipped found = found.is_attached && option_map_or (λ row. row.shipped) found.row false
 
--- the release, the document, the package, the release's state, and the rest
-abbrev pub choose_terms : Readings → List (List ℕ) → Option ReleaseState → Option DocumentRow → Option PackageRow → Bool → (PackageRow → Option Conclusion) → Answer
-choose_terms w terms state document found is_attached conclusion =
-    option_map_or (λ s. choose_document w terms is_attached conclusion found s document) state (answered.Refused why.UnknownRelease)
+-- what terms are to a conclusion
+abbrev pub verdict_on : Readings → Option Conclusion → List (List ℕ) → Option Verdict
+verdict_on w conclusion terms = option_map (λ c. w.verdict c.profile c.text terms) conclusion
 
--- Choose: a text that is no term, the release, the document, the package, the release's state, and the rest
-abbrev pub choose_answer : Readings → List (List ℕ) → Option ReleaseState → Option DocumentRow → Option PackageRow → Bool → (PackageRow → Option Conclusion) → Answer
-choose_answer w texts state document found is_attached conclusion =
-    option_map_or (λ i. answered.Refused (why.BadTerm i)) (first_bad w 0 texts)
-    (choose_terms w (filter_map w.term texts) state document found is_attached conclusion)
+abbrev pub choose_answer : Readings → List (List ℕ) → Choosing → Answer
+choose_answer w texts found =
+    let terms = filter_map w.term texts in
+    refused_first (
+    option_map (λ i. why.BadTerm i) (first_bad w 0 texts)
+    ∷ unless (is_some found.state) why.UnknownRelease
+    ∷ unless found.has_document why.UnknownDocument
+    ∷ unless (is_some found.row) why.UnknownPackage
+    ∷ option_and_then unready found.state
+    ∷ unless (is_shipped found) why.NotShipped
+    ∷ option_and_then (unconcluded found.conclusion) found.row
+    ∷ option_and_then not_enough (verdict_on w found.conclusion terms)
+    ∷ option_and_then (not_minimal terms) (verdict_on w found.conclusion terms)
+    ∷ []) answered.Done
 
--- Unchoose: the release, the document, the package, the state of the release, a package without a choice
-abbrev pub unchoose_answer : ℕ → List ℕ → Option ReleaseState → Bool → Bool → List (List ℕ) → Answer
-unchoose_answer d p state known found chosen = refused_first (
-    unless (is_some state) why.UnknownRelease
-    ∷ unless known why.UnknownDocument
-    ∷ unless found why.UnknownPackage
-    ∷ option_and_then unready state
-    ∷ unless (nat_lt 0 (length chosen)) (why.NoChoice d p)
+-- what an Unchoose looks up: the release's state, the document, the package, the terms chosen for it
+pub record Unchoosing : Type 0 where
+  pub state : Option ReleaseState
+  pub has_document : Bool
+  pub has_package : Bool
+  pub chosen : List (List ℕ)
+
+abbrev pub unchoose_answer : ℕ → List ℕ → Unchoosing → Answer
+unchoose_answer d p found = refused_first (
+    unless (is_some found.state) why.UnknownRelease
+    ∷ unless found.has_document why.UnknownDocument
+    ∷ unless found.has_package why.UnknownPackage
+    ∷ option_and_then unready found.state
+    ∷ unless (nat_lt 0 (length found.chosen)) (why.NoChoice d p)
     ∷ []) answered.Done
 
 -- Freeze's walk over the shipped packages: the first that fails
+
+abbrev pub unchosen : PackageRow → List (List ℕ) → Option Refusal
+unchosen p [] = Some (why.NoChoice p.document p.id)
+unchosen p (t ∷ ts) = None
 
 -- a reference of the document without adoption
 abbrev pub unadopted : Readings → List AdoptionRow → ℕ → List ℕ → Option Refusal
 unadopted w licences d term =
     option_and_then (λ reference. unless (is_some (licence_for licences d reference)) (why.NotAdopted d reference)) (w.reference term)
 
--- the first term without adoption
 abbrev pub first_unadopted : Readings → List AdoptionRow → ℕ → List (List ℕ) → Option Refusal
-first_unadopted w licences d [] = None
-first_unadopted w licences d (t ∷ ts) = or_else (unadopted w licences d t) (first_unadopted w licences d ts)
+first_unadopted w licences d terms = first_refusal (map (unadopted w licences d) terms)
 
--- the first term whose adopted form has no rule
+-- a term whose adopted form has no rule
+abbrev pub unruled : Readings → List AdoptionRow → List Rule → List ℕ → PackageRow → List ℕ → Option Refusal
+unruled w licences rules form p term = unless (is_some (rule_adopted w licences rules form p.document term)) (why.NoRule p.document p.id term)
+
 abbrev pub first_unruled : Readings → List AdoptionRow → List Rule → List ℕ → PackageRow → List (List ℕ) → Option Refusal
-first_unruled w licences rules form p [] = None
-first_unruled w licences rules form p (t ∷ ts) =
-    if is_some (rule_adopted w licences rules form p.document t) then first_unruled w licences rules form p ts
-    else Some (why.NoRule p.document p.id t)
+first_unruled w licences rules form p terms = first_refusal (map (unruled w licences rules form p) terms)
 
-abbrev pub unchosen : PackageRow → List (List ℕ) → Option Refusal
-unchosen p [] = Some (why.NoChoice p.document p.id)
-unchosen p (t ∷ ts) = None
-
-abbrev pub unconcluded : Option Conclusion → PackageRow → Option Refusal
-unconcluded conclusion p = unless (is_some conclusion) (why.NoConclusion p.document p.id)
-
--- no conclusion, no choice, a term without adoption
-abbrev pub unready_package : Readings → List AdoptionRow → Option Conclusion → List (List ℕ) → PackageRow → Option Refusal
-unready_package w licences conclusion terms p =
-    or_else (unconcluded conclusion p) (or_else (unchosen p terms) (first_unadopted w licences p.document terms))
-
--- a package fails by one of these, or by a term without a rule
+-- why a package with this conclusion and these terms fails
 abbrev pub package_fault : Readings → List AdoptionRow → List Rule → List ℕ → Option Conclusion → List (List ℕ) → PackageRow → Option Refusal
-package_fault w licences rules form conclusion terms p =
-    or_else (unready_package w licences conclusion terms p) (first_unruled w licences rules form p terms)
+package_fault w licences rules form conclusion terms p = first_refusal (
+    unconcluded conclusion p
+    ∷ unchosen p terms
+    ∷ first_unadopted w licences p.document terms
+    ∷ first_unruled w licences rules form p terms
+    ∷ [])
 
 abbrev pub walk : Readings → List AdoptionRow → List Rule → List ℕ → (PackageRow → Option Conclusion) → (PackageRow → List (List ℕ)) → List PackageRow → Option Refusal
-walk w licences rules form conclusion chosen [] = None
-walk w licences rules form conclusion chosen (p ∷ ps) =
-    or_else (package_fault w licences rules form (conclusion p) (chosen p) p) (walk w licences rules form conclusion chosen ps)
+walk w licences rules form conclusion chosen ps = first_refusal (map (λ p. package_fault w licences rules form (conclusion p) (chosen p) p) ps)
 
--- nothing attached
-abbrev pub unattached : ℕ → Option Refusal
-unattached count = if count == 0 then Some why.EmptyRelease else None
+-- what a Freeze looks up: the release's state, how many documents are attached, what the walk refuses, how many duties there are, and
+-- how many it would raise
+pub record Freezing : Type 0 where
+  pub state : Option ReleaseState
+  pub attached : ℕ
+  pub fault : Option Refusal
+  pub raised : ℕ
+  pub owed : ℕ
 
--- so many new duties beside the old ones
-abbrev pub freeze_fits : ℕ → ℕ → Answer
-freeze_fits old new = if nat_lt 100000 (old + new) then answered.Refused (why.Full limit.Duties) else answered.Frozen (old + 1) new
-
--- what a freeze of an open release answers, of these attached documents, with this walk and these new duties
-abbrev pub freeze_open : ℕ → Option Refusal → ℕ → ℕ → Answer
-freeze_open attached fault old new = refused_or (unattached attached) (refused_or fault (freeze_fits old new))
-
--- Freeze: the day, the release, its state, nothing attached, the walk, the duties
-abbrev pub freeze_answer : List ℕ → Option ReleaseState → ℕ → Option Refusal → ℕ → ℕ → Answer
-freeze_answer day state attached fault old new =
-    if not (is_day day) then answered.Refused why.BadDay
-    else option_map_or (λ s. refused_or (unready s) (freeze_open attached fault old new)) state (answered.Refused why.UnknownRelease)
+abbrev pub freeze_answer : List ℕ → Freezing → Answer
+freeze_answer day found = refused_first (
+    unless (is_day day) why.BadDay
+    ∷ unless (is_some found.state) why.UnknownRelease
+    ∷ option_and_then unready found.state
+    ∷ unless (nat_lt 0 found.attached) why.EmptyRelease
+    ∷ found.fault
+    ∷ unless (nat_le (found.raised + found.owed) most.duties) (why.Full limit.Duties)
+    ∷ []) (answered.Frozen (found.raised + 1) found.owed)
 
 -- a release that is withdrawn
 abbrev pub gone : ReleaseState → Option Refusal
@@ -217,20 +249,25 @@ settled word state = unless (goes_from word state) (why.DutyState state)
 abbrev pub is_over : List ℕ → Option (List ℕ) → Bool
 is_over day until = option_map_or (λ last. is_before last day) until false
 
--- Meet, Waive and Reopen: the day, and the last day of a waiver that ends; the text; an end before the day; the duty; its release's
--- state; its own; its changes
-abbrev pub move_answer : Word → List ℕ → List ℕ → Option (List ℕ) → ReleaseState → ℕ → Option DutyState → Answer
-move_answer word day text until state steps place = refused_first (
+-- what a Meet, a Waive and a Reopen look up: where the duty stands, the state of its release, how many changes it has
+pub record Moving : Type 0 where
+  pub place : Option DutyState
+  pub release : ReleaseState
+  pub steps : ℕ
+
+-- Meet, Waive and Reopen, the last day being that of a waiver that ends
+abbrev pub move_answer : Word → List ℕ → List ℕ → Option (List ℕ) → Moving → Answer
+move_answer word day text until found = refused_first (
     unless (is_day day && option_map_or is_day until true) why.BadDay
     ∷ unless (is_note text) why.BadText
     ∷ unless (not (is_over day until)) why.BadEnd
-    ∷ unless (is_some place) why.UnknownDuty
-    ∷ gone state
-    ∷ option_and_then (settled word) place
-    ∷ unless (nat_lt steps 999) (why.Full limit.Changes)
+    ∷ unless (is_some found.place) why.UnknownDuty
+    ∷ gone found.release
+    ∷ option_and_then (settled word) found.place
+    ∷ unless (nat_lt found.steps most.changes) (why.Full limit.Changes)
     ∷ []) answered.Done
 
--- Withdraw: the day, the text, the release, its state
+-- Withdraw, of a release in this state
 abbrev pub withdraw_answer : List ℕ → List ℕ → Option ReleaseState → Answer
 withdraw_answer day text state = refused_first (
     unless (is_day day) why.BadDay
@@ -239,26 +276,40 @@ withdraw_answer day text state = refused_first (
     ∷ option_and_then gone state
     ∷ []) answered.Done
 
--- CloseDay: the day; so many waivers end
+-- CloseDay, where so many waivers end
 abbrev pub close_answer : List ℕ → ℕ → Answer
 close_answer day count = refused_first (unless (is_day day) why.BadDay ∷ []) (answered.Closed count)
 
--- Conclude: a text that is no expression, the document, the package, a release that holds a choice for it
-abbrev pub conclude_answer : Option ExpressionFault → Bool → Bool → Option (List ℕ) → Answer
-conclude_answer fault known found held_by = refused_first (
-    option_map (λ f. why.BadExpression f) fault
-    ∷ unless known why.UnknownDocument
-    ∷ unless found why.UnknownPackage
-    ∷ option_map (λ r. why.Chosen r) held_by
+-- what a Conclude looks up: why the text is no expression, the document, the package, the release that holds a choice for it
+pub record Concluding : Type 0 where
+  pub fault : Option ExpressionFault
+  pub has_document : Bool
+  pub has_package : Bool
+  pub holder : Option (List ℕ)
+
+abbrev pub conclude_answer : Concluding → Answer
+conclude_answer found = refused_first (
+    option_map (λ fault. why.BadExpression fault) found.fault
+    ∷ unless found.has_document why.UnknownDocument
+    ∷ unless found.has_package why.UnknownPackage
+    ∷ option_map (λ r. why.Chosen r) found.holder
     ∷ []) answered.Done
 
--- Adopt: a text that is no reference alone, one that is no licence alone, the document, one more adoption than 10,000
-abbrev pub adopt_answer : Bool → Bool → Bool → Bool → ℕ → Answer
-adopt_answer reference licence known already count = refused_first (
-    unless reference (why.BadTerm 0)
-    ∷ unless licence (why.BadTerm 1)
-    ∷ unless known why.UnknownDocument
-    ∷ unless (already || nat_lt count 10000) (why.Full limit.Adoptions)
+-- what an Adopt looks up: whether its texts are a reference alone and a licence alone, the document, whether the reference is adopted
+-- already, and how many of the document's are
+pub record Adopting : Type 0 where
+  pub is_reference : Bool
+  pub is_licence : Bool
+  pub has_document : Bool
+  pub is_adopted : Bool
+  pub adoptions : ℕ
+
+abbrev pub adopt_answer : Adopting → Answer
+adopt_answer found = refused_first (
+    unless found.is_reference (why.BadTerm 0)
+    ∷ unless found.is_licence (why.BadTerm 1)
+    ∷ unless found.has_document why.UnknownDocument
+    ∷ unless (found.is_adopted || nat_lt found.adoptions most.adoptions) (why.Full limit.Adoptions)
     ∷ []) answered.Done
 
 -- Over a history
@@ -271,42 +322,95 @@ release_state h r = option_map (λ form. state_of h r) (form_of h r)
 abbrev pub conclusion : Readings → List Command → PackageRow → Option Conclusion
 conclusion w h = conclusion_in w (documents w h) (conclusions h)
 
-abbrev pub state_or_open : Option ReleaseState → ReleaseState
-state_or_open state = unwrap_or state release.IsOpen
-
 -- the state of a duty's release
 abbrev pub release_state_of : List Command → Option (ℕ × Owed) → ReleaseState
 release_state_of h duty = option_map_or (λ d. unwrap_or (release_state h d.1.release) release.IsOpen) duty release.IsOpen
 
--- of a duty with this number
-abbrev pub moved_answer : Readings → List Command → Word → ℕ → List ℕ → List ℕ → Option (List ℕ) → Answer
-moved_answer w h word q day text until =
-    let duty = duty_at w h q in
-    move_answer word day text until (release_state_of h duty) (length (moves w h q)) (option_map (λ d. place w h d.0) duty)
+-- a document was imported
+abbrev pub has_document : Readings → List Command → ℕ → Bool
+has_document w h d = is_some (find (is_document d) (documents w h))
 
+abbrev pub package_at : Readings → List Command → ℕ → List ℕ → Option PackageRow
+package_at w h d p = find (is_package d p) (packages w h)
+
+-- What each command looks up in a history
+
+abbrev pub attaching : Readings → List Command → List ℕ → ℕ → Attaching
+attaching w h r d = record {
+  state = release_state h r;
+  has_document = has_document w h d;
+  is_attached = list_any (is_attachment r d) (attached h);
+  attached = length (attached_to (attached h) r);
+}
+
+abbrev pub choosing : Readings → List Command → List ℕ → ℕ → List ℕ → Choosing
+choosing w h r d p = record {
+  state = release_state h r;
+  has_document = has_document w h d;
+  row = package_at w h d p;
+  is_attached = list_any (is_attachment r d) (attached h);
+  conclusion = option_and_then (conclusion w h) (package_at w h d p);
+}
+
+abbrev pub unchoosing : Readings → List Command → List ℕ → ℕ → List ℕ → Unchoosing
+unchoosing w h r d p = record {
+  state = release_state h r;
+  has_document = has_document w h d;
+  has_package = is_some (package_at w h d p);
+  chosen = choice w h r d p;
+}
+
+abbrev pub freezing : Readings → List Command → List ℕ → Freezing
+freezing w h r =
+    let form = unwrap_or (form_of h r) [] in
+    record {
+      state = release_state h r;
+      attached = length (attached_to (attached h) r);
+      fault = walk w (adoptions w h) (rules_in (in_force w h)) form (conclusion w h) (chosen_in w h r) (shipped w h r);
+      raised = length (raised w h);
+      owed = length (owed_at w h r);
+    }
+
+abbrev pub moving : Readings → List Command → ℕ → Moving
+moving w h q = record {
+  place = option_map (λ d. place w h d.0) (duty_at w h q);
+  release = release_state_of h (duty_at w h q);
+  steps = length (moves w h q);
+}
+
+abbrev pub concluding : Readings → List Command → ℕ → List ℕ → List ℕ → Concluding
+concluding w h d p text = record {
+  fault = w.expression_fault Capitals text;
+  has_document = has_document w h d;
+  has_package = is_some (package_at w h d p);
+  holder = holder (release_rows h) (choices w h) d p;
+}
+
+abbrev pub adopting : Readings → List Command → ℕ → List ℕ → List ℕ → Adopting
+adopting w h d reference licence =
+    let row = adoption_row w d reference licence in
+    record {
+      is_reference = is_reference w reference;
+      is_licence = is_plain w licence;
+      has_document = has_document w h d;
+      is_adopted = is_some (licence_for (adoptions w h) d row.reference);
+      adoptions = length (filter (is_adoption_in d) (adoptions w h));
+    }
+
+-- The answer to a command after a history
 abbrev pub answer : Readings → List Command → Command → Answer
 answer w h (LoadCatalogue text) = load_answer (w.catalogue text) (length (revisions h))
 answer w h (Import bytes profile) = import_answer (w.document bytes) bytes (documents w h)
 answer w h (OpenRelease r form) = open_answer r form (forms_in (in_force w h)) (is_some (form_of h r)) (length (opened h))
-answer w h (Attach r d) = attach_answer (release_state h r) (is_some (find (is_document d) (documents w h))) (list_any (is_attachment r d) (attached h)) (length (attached_to (attached h) r))
-answer w h (Choose r d p texts) = choose_answer w texts (release_state h r) (find (is_document d) (documents w h)) (find (is_package d p) (packages w h)) (list_any (is_attachment r d) (attached h)) (conclusion w h)
-answer w h (Freeze r day) =
-    let form = unwrap_or (form_of h r) [] in
-    freeze_answer day (release_state h r) (length (attached_to (attached h) r))
-    (walk w (adoptions w h) (rules_in (in_force w h)) form (conclusion w h) (chosen_in w h r) (shipped w h r))
-    (length (raised w h)) (length (owed_at w h r))
-answer w h (Unchoose r d p) =
-    unchoose_answer d p (release_state h r) (is_some (find (is_document d) (documents w h))) (is_some (find (is_package d p) (packages w h))) (choice w h r d p)
-answer w h (Conclude d p text) =
-    conclude_answer (w.expression_fault Capitals text) (is_some (find (is_document d) (documents w h))) (is_some (find (is_package d p) (packages w h)))
-    (holder (release_rows h) (choices w h) d p)
-answer w h (Adopt d reference licence) =
-    let row = adoption_row w d reference licence in
-    adopt_answer (is_reference w reference) (is_plain w licence) (is_some (find (is_document d) (documents w h)))
-    (is_some (licence_for (adoptions w h) d row.reference)) (length (filter (is_adoption_in d) (adoptions w h)))
-answer w h (Meet q day text) = moved_answer w h word.Met q day text None
-answer w h (Waive q day text until) = moved_answer w h word.Waived q day text until
-answer w h (Reopen q day text) = moved_answer w h word.Reopened q day text None
+answer w h (Attach r d) = attach_answer (attaching w h r d)
+answer w h (Choose r d p texts) = choose_answer w texts (choosing w h r d p)
+answer w h (Unchoose r d p) = unchoose_answer d p (unchoosing w h r d p)
+answer w h (Freeze r day) = freeze_answer day (freezing w h r)
+answer w h (Conclude d p text) = conclude_answer (concluding w h d p text)
+answer w h (Adopt d reference licence) = adopt_answer (adopting w h d reference licence)
+answer w h (Meet q day text) = move_answer word.Met day text None (moving w h q)
+answer w h (Waive q day text until) = move_answer word.Waived day text until (moving w h q)
+answer w h (Reopen q day text) = move_answer word.Reopened day text None (moving w h q)
 answer w h (Withdraw r day text) = withdraw_answer day text (release_state h r)
 answer w h (CloseDay day) = close_answer day (length (filter (λ d. has_ended day (place w h d.0) (end_after (moves w h d.0))) (numbered w h)))
 

@@ -97,3 +97,11 @@ is_duty_of release row = bytes_eq row.release release
 
 abbrev pub is_change_of : ℕ → ChangeRow → Bool
 is_change_of duty row = row.duty == duty
+
+-- packages by document and id
+abbrev pub package_order : PackageRow → PackageRow → Ordering
+package_order = then_cmp (on (λ row. row.document) nat_cmp) (on (λ row. row.id) (slice_cmp nat_cmp))
+
+-- rules of a catalogue by term and form
+abbrev pub rule_order : Rule → Rule → Ordering
+rule_order = then_cmp (on (λ rule. rule.term) (slice_cmp nat_cmp)) (on (λ rule. rule.form) (slice_cmp nat_cmp))

@@ -1,5 +1,6 @@
 -- Words on lists. A history has its newest command first.
-use Rattle.std.specs.Prelude.{◌≡◌, ◌⊎◌, Bool, not, filter, List, [], ◌∷◌, Option, Some, None, if◌then◌else◌}
+use Rattle.std.specs.Prelude.{◌≡◌, ◌⊎◌, ◌&&◌, Bool, true, not, filter, List, [], ◌∷◌, Option, Some, None, if◌then◌else◌}
+use Rattle.std.specs.List.{list_all}
 
 -- the first of two that is there
 abbrev pub or_else : {B : Type 0} → Option B → Option B → Option B
@@ -39,3 +40,12 @@ updated test change (x ∷ xs) = (if test x then change x else x) ∷ updated te
 abbrev pub IsIn : {A : Type 0} → A → List A → Type 0
 IsIn x [] = ⊥
 IsIn x (y ∷ ys) = (y ≡ x) ⊎ IsIn x ys
+
+-- none of some is below y
+abbrev pub over : {A : Type 0} → (A → A → Bool) → A → List A → Bool
+over below y zs = list_all (λ z. not (below z y)) zs
+
+-- no row is below one before it
+abbrev pub ascends : {A : Type 0} → (A → A → Bool) → List A → Bool
+ascends below [] = true
+ascends below (y ∷ ys) = over below y ys && ascends below ys

@@ -3,19 +3,19 @@ use Rattle.std.specs.Prelude.{ℕ, List, [], ◌∷◌, length, filter, map, fin
 use Rattle.desk_rows.specs.Readings.{Readings}
 use Rattle.std.specs.List.{list_any}
 use Rattle.std.specs.Str.{bytes_eq}
-use Rattle.desk_rows.specs.Keys.{is_document, is_duty_of, is_package}
-use Rattle.desk_rows.specs.History.{documents, form_of, forms_in, in_force, packages, rules_in}
+use Rattle.desk_rows.specs.Keys.{is_document, is_duty_of}
+use Rattle.desk_rows.specs.History.{documents, form_of, forms_in, in_force, rules_in}
 use Rattle.desk_rows.specs.Conclusions.{adoptions}
 use Rattle.desk_rows.specs.Findings.{findings_answer}
-use Rattle.desk_rows.specs.Listings.{alternatives_answer, cheapest_answer, term_cost}
+use Rattle.desk_rows.specs.Listings.{Listing, alternatives_answer, cheapest_answer, term_cost}
 use Rattle.desk_rows.specs.Moves.{changes, duties}
 use Rattle.desk_rows.specs.States.{is_open, is_met, is_waived, is_withdrawn}
 use Rattle.desk_rows.specs.Moves.{duty_at}
 use Rattle.desk_rows.specs.declared.refusal.Refusal.TheVariants as why
-use Rattle.std.specs.Option.{option_map}
+use Rattle.std.specs.Option.{option_map, option_and_then}
 use Rattle.desk_rows.specs.Raised.{chosen_in, shipped}
 use Rattle.desk_rows.specs.Tables.{release_row}
-use Rattle.desk_rows.specs.Answers.{conclusion}
+use Rattle.desk_rows.specs.Answers.{conclusion, has_document, package_at}
 use Rattle.desk_rows.specs.declared.reading.Conclusion.{Conclusion}
 use Rattle.desk_rows.specs.declared.row.PackageRow.{PackageRow}
 use Rattle.desk_rows.specs.declared.command.PackageLine.{PackageLine}
@@ -71,6 +71,14 @@ package_line concluded chosen p = record {
   terms = chosen p;
 }
 
+-- what Alternatives and Cheapest look up in a history
+abbrev pub listing : Readings → List Command → ℕ → List ℕ → Listing
+listing w h d p = record {
+  has_document = has_document w h d;
+  row = package_at w h d p;
+  conclusion = option_and_then (conclusion w h) (package_at w h d p);
+}
+
 abbrev pub queried : Readings → List Command → Query → Answer
 queried w h (query.Duties r) =
     if is_some (form_of h r) then answered.Duties (map (duty_line (changes w h)) (duties_of w h r)) else answered.Refused why.UnknownRelease
@@ -82,8 +90,6 @@ queried w h (query.Findings d) = findings_answer w (find (is_document d) (docume
 queried w h (query.Release r) =
     if is_some (form_of h r) then answered.Release (release_row h r) (map (package_line (conclusion w h) (chosen_in w h r)) (shipped w h r))
     else answered.Refused why.UnknownRelease
-queried w h (query.Alternatives d p) =
-    alternatives_answer w (is_some (find (is_document d) (documents w h))) (conclusion w h) (find (is_package d p) (packages w h))
+queried w h (query.Alternatives d p) = alternatives_answer w (listing w h d p)
 queried w h (query.Cheapest d p form) =
-    cheapest_answer w (is_some (find (is_document d) (documents w h))) (list_any (bytes_eq form) (forms_in (in_force w h)))
-    (term_cost w (adoptions w h) (rules_in (in_force w h)) form) (conclusion w h) (find (is_package d p) (packages w h))
+    cheapest_answer w (list_any (bytes_eq form) (forms_in (in_force w h))) (term_cost w (adoptions w h) (rules_in (in_force w h)) form) (listing w h d p)

@@ -1,10 +1,12 @@
 -- Texts: how they compare, and which may stand where.
-use Rattle.std.specs.Prelude.{ℕ, ◌==◌, ◌&&◌, not, nat_lt, nat_le, Bool, List, [], ◌∷◌, length, if◌then◌else◌}
+use Rattle.std.specs.Prelude.{ℕ, ◌&&◌, nat_le, Bool, List, [], ◌∷◌, length, if◌then◌else◌}
 use Rattle.std.specs.List.{list_all}
 use Rattle.std.specs.Ordering.{nat_cmp, is_lt}
 use Rattle.std.specs.Cmp.Lexicographic.{slice_cmp}
 use Rattle.std.specs.Str.{bytes_eq}
 use Rattle.desk_base.specs.Idstring.{is_idstring_byte}
+use Rattle.desk_base.specs.Limits as most
+use Rattle.desk_base.specs.Bytes.{is_shown}
 
 -- texts sort by their bytes
 abbrev pub text_below : List ℕ → List ℕ → Bool
@@ -26,12 +28,8 @@ sorted_set (x ∷ xs) = put_new x (sorted_set xs)
 
 -- the name of a release: an idstring of at most 64 bytes
 abbrev pub is_release_name : List ℕ → Bool
-is_release_name text = nat_le 1 (length text) && nat_le (length text) 64 && list_all is_idstring_byte text
-
--- no control byte
-abbrev pub is_shown : ℕ → Bool
-is_shown byte = not (nat_lt byte 32) && not (byte == 127)
+is_release_name text = nat_le 1 (length text) && nat_le (length text) most.name_bytes && list_all is_idstring_byte text
 
 -- the text of a change: 1 to 1,024 bytes without control bytes
 abbrev pub is_note : List ℕ → Bool
-is_note text = nat_le 1 (length text) && nat_le (length text) 1024 && list_all is_shown text
+is_note text = nat_le 1 (length text) && nat_le (length text) most.note_bytes && list_all is_shown text

@@ -16,8 +16,8 @@ pub use command::{
 };
 pub use finding::FindingRow;
 pub use reading::{
-    Catalogue, Cheapest, Conclusion, Document, ListFault, MAX_COST, Package, Profile, Reference,
-    Rule, Verdict,
+    Catalogue, Cheapest, Conclusion, Document, ListFault, Package, Profile, Reference, Rule,
+    Verdict,
 };
 pub use refusal::{CatalogueFault, CataloguePart, DocumentFault, ExpressionFault, Limit, Refusal};
 pub use row::{

@@ -8,6 +8,7 @@ use desk_base::{Items, Text};
 pub struct Rule {
     /// The term, as it is printed.
     pub term: Text,
+    /// One of the catalogue's forms.
     pub form: Text,
     /// The term, as the catalogue spells it.
     pub spelled: Text,
@@ -18,6 +19,7 @@ pub struct Rule {
 /// A catalogue of rules.
 #[derive(Debug, Drop)]
 pub struct Catalogue {
+    /// The forms, in the order of the text, each once.
     pub forms: Items<Text>,
     /// The rules, sorted by term and form.
     pub rules: Items<Rule>,
@@ -28,7 +30,9 @@ pub struct Catalogue {
 pub struct Package {
     /// Its SPDXID.
     pub id: Text,
+    /// The value of PackageName.
     pub name: Text,
+    /// The value of PackageVersion.
     pub version: Option<Text>,
     /// The value of PackageLicenseConcluded, as it is written.
     pub concluded: Option<Text>,
@@ -41,13 +45,16 @@ pub struct Package {
 /// A licence reference that a document defines.
 #[derive(Debug, Drop)]
 pub struct Reference {
+    /// The value of LicenseID.
     pub id: Text,
+    /// The value of ExtractedText.
     pub body: Option<Text>,
 }
 
 /// A document.
 #[derive(Debug, Drop)]
 pub struct Document {
+    /// The value of DocumentNamespace.
     pub namespace: Text,
     /// The packages, sorted by their ids.
     pub packages: Items<Package>,
@@ -58,12 +65,11 @@ pub struct Document {
 /// The licence expression that is concluded for a package, as it was written, and the profile that it is read by.
 #[derive(Debug, Drop)]
 pub struct Conclusion {
+    /// How its operators may be written.
     pub profile: Profile,
+    /// The expression.
     pub text: Text,
 }
-
-/// The most that a term costs.
-pub const MAX_COST: u64 = 1_000_000;
 
 /// Why the minimal sets of terms of a licence expression aren't listed.
 #[derive(Clone, Copy, Debug, PartialEq, Eq)]
@@ -77,7 +83,9 @@ pub enum ListFault {
 /// The cheapest set of terms that a licence expression is true under, printed, and what it costs.
 #[derive(Debug, Drop)]
 pub struct Cheapest {
+    /// The number of duties that the terms owe.
     pub cost: u64,
+    /// The terms, in order.
     pub terms: Items<Text>,
 }
 

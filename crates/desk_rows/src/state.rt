@@ -64,6 +64,7 @@ pub enum Word {
 impl Word {
     ghost use Rattle.std.specs.Prelude.{◌≡◌};
     ghost use Rattle.desk_rows.specs.Names.{word_name};
+    ghost use Rattle.desk_rows.specs.States.{state_after};
 
     /// The word as it is printed.
     pub fn name(&self) -> &'static str
@@ -76,6 +77,18 @@ impl Word {
             Word::Reopened => "reopened",
             Word::Withdrawn => "withdrawn",
             Word::Ended => "ended",
+        }
+    }
+
+    /// Where a change with this word leaves a duty.
+    pub fn state_after(self) -> DutyState
+        ensures { result ≡ state_after self }
+    {
+        match self {
+            Word::Raised | Word::Reopened | Word::Ended => DutyState::IsOpen,
+            Word::Met => DutyState::Met,
+            Word::Waived => DutyState::Waived,
+            Word::Withdrawn => DutyState::Withdrawn,
         }
     }
 }

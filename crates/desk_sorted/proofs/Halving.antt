@@ -9,10 +9,11 @@ use Rattle.std.specs.declared.cmp.Ordering.{Ordering}
 use Rattle.std.specs.declared.cmp.Ordering.TheVariants.{Less, Equal, Greater}
 use Rattle.std.proofs.lemmas.Bool.Decides.{nat_tests}
 use Rattle.std.proofs.lemmas.List.{take-append-drop}
-use Rattle.desk_rows.specs.Lists.{put, put_all, updated}
+use Rattle.desk_rows.specs.Lists.{put, put_all, updated, ascends}
 use Rattle.desk_rows.specs.Keys.{below_by}
-use Rattle.desk_sorted.specs.Sorted.{ascends, Rises, Climbs, IsRun, IsPlace}
-use Rattle.desk_sorted.proofs.Ascending.{and_left, both, IsOrder, ascends-put}
+use Rattle.desk_sorted.specs.Sorted.{Rises, Climbs, IsRun, IsPlace}
+use Rattle.desk_base.proofs.Bools.{and_left, both, or_left, or_right}
+use Rattle.desk_rows.proofs.Orders.{IsOrder, ascends-put}
 
 -- sides that do not fall
 
@@ -222,14 +223,6 @@ is_place {A} {order} t x xs n within p = record {
   front = any_take (below_by order x) xs n (λ k d a b. turned_le (order x (get_or xs k d)) (order (get_or xs k d) x) (t.antisymm x (get_or xs k d)) (p.0 k d a b)) within;
   back = all_drop (below_by order x) xs n (λ k d a b. turned_gt (order x (get_or xs k d)) (order (get_or xs k d) x) (t.antisymm x (get_or xs k d)) (p.1 k d a b));
 }
-
-or_left : (a b : Bool) → (a || b) ≡ false → a ≡ false
-or_left true b e = e
-or_left false b e = refl
-
-or_right : (a b : Bool) → (a || b) ≡ false → b ≡ false
-or_right true b e = cc
-or_right false b e = e
 
 put_first : {A : Type 0} (below : A → A → Bool) (x : A) (ys : List A) → list_all (below x) ys ≡ true → put below x ys ≡ x ∷ ys
 put_first below x [] all = refl

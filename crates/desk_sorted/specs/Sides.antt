@@ -1,12 +1,13 @@
 -- The sides on which rows stand of what is sought.
 use Rattle.std.specs.Prelude.{◌≡◌, ℕ, ◌≤◌, ◌&&◌, ◌==◌, Bool, true, false, List, refl}
-use Rattle.std.specs.Ordering.{nat_cmp, is_lt, is_eq, ordering_index, ordering_reverse, ordering_then}
+use Rattle.std.specs.Ordering.{nat_cmp, is_lt, is_eq, on, ordering_index, ordering_reverse, ordering_then, then_cmp}
 use Rattle.std.specs.Cmp.{IsTotalOrder}
 use Rattle.std.specs.Cmp.Lexicographic.{slice_cmp}
 use Rattle.std.specs.Str.{bytes_eq}
 use Rattle.std.specs.declared.cmp.Ordering.{Ordering}
 use Rattle.std.specs.declared.cmp.Ordering.TheVariants.{Less, Equal, Greater}
 use Rattle.std.proofs.Common.{sym, ap, ◌∙◌, arith}
+use Rattle.std.proofs.lemmas.Cmp.{on_total, then_total, nat_list_cmp_total, nat_cmp_total}
 use Rattle.std.proofs.lemmas.Map.Text.{is_eq-slice_cmp}
 use Rattle.std.proofs.lemmas.Bool.Decides.{nat_tests}
 use Rattle.desk_sorted.specs.Sorted.{IsSideOf}
@@ -37,6 +38,13 @@ untrue false b f e = refl
 pub side_by : {A K : Type 0} (order : A → A → Ordering) (key : A → K) (R : K → K → Ordering) → IsTotalOrder R → ((x y : A) → is_lt (R (key y) (key x)) ≡ true → is_lt (order y x) ≡ true) → (k : K) → IsSideOf order (λ x. R (key x) k)
 side_by order key R t begins k =
     λ x y h. sides_of R t (key x) (key y) k (R (key x) k) (R (key y) k) refl refl (untrue (is_lt (R (key y) (key x))) (is_lt (order y x)) (begins x y) h)
+
+-- keys of a number and a text
+abbrev pub number_cmp : ℕ × List ℕ → ℕ × List ℕ → Ordering
+number_cmp = then_cmp (on (λ p. p.0) nat_cmp) (on (λ p. p.1) (slice_cmp nat_cmp))
+
+pub number_total : IsTotalOrder number_cmp
+number_total = then_total (on_total (λ p. p.0) nat_cmp_total) (on_total (λ p. p.1) nat_list_cmp_total)
 
 pub first_less : (o p : Ordering) → is_lt o ≡ true → is_lt (ordering_then o p) ≡ true
 first_less Less p e = refl

@@ -1,20 +1,11 @@
 -- Rows in the order of their keys.
-use Rattle.std.specs.Prelude.{◌≡◌, ℕ, ◌≤◌, ◌&&◌, not, Bool, true, false, List, [], ◌∷◌, length, take, drop}
+use Rattle.std.specs.Prelude.{◌≡◌, ℕ, ◌≤◌, not, Bool, true, false, List, [], ◌∷◌, length, take, drop}
 use Rattle.std.specs.List.{list_all, list_any, AllWithin, AllAdjacentBelow}
 use Rattle.std.specs.List.Sorted.{IsNonDecreasingBy}
 use Rattle.std.specs.Ordering.{is_lt, ordering_index}
 use Rattle.desk_rows.specs.Lists.{put}
 use Rattle.std.specs.declared.cmp.Ordering.{Ordering}
 use Rattle.std.specs.declared.cmp.Ordering.TheVariants.{Less, Equal, Greater}
-
--- none of some is below y
-abbrev pub over : {A : Type 0} → (A → A → Bool) → A → List A → Bool
-over below y zs = list_all (λ z. not (below z y)) zs
-
--- no row is below one before it
-abbrev pub ascends : {A : Type 0} → (A → A → Bool) → List A → Bool
-ascends below [] = true
-ascends below (y ∷ ys) = over below y ys && ascends below ys
 
 -- each of some in its place, one after another
 abbrev pub put_in_turn : {A : Type 0} → (A → A → Bool) → List A → List A → List A

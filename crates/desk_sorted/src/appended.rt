@@ -5,7 +5,7 @@ ghost use Rattle.std.specs.Vec.{vec_capacity};
 ghost use Rattle.std.specs.Option.{option_copied};
 ghost use Rattle.std.specs.Ordering.{is_eq};
 ghost use Rattle.desk_rows.specs.Keys.{below_by};
-ghost use Rattle.desk_sorted.specs.Sorted.{ascends};
+ghost use Rattle.desk_rows.specs.Lists.{ascends};
 
 use crate::sorted::{Keyed, Sought, reserve, run_of};
 use desk_rows::Fault;

@@ -9,4 +9,4 @@ mod sorted;
 mod tables;
 
 pub use appended::Appended;
-pub use sorted::{Keyed, Run, Sorted, Sought, reserve, run_of};
+pub use sorted::{Keyed, Run, Sorted, Sought, item_at, reserve, run_of};

@@ -1,15 +1,15 @@
 //! Rows in the order of their keys, found by halving.
 
-ghost use Rattle.std.specs.Prelude.{◌≡◌, ℕ, Bool, true, not, ◌+◌, ◌<◌, ◌≤◌, ◌++◌, [], ◌∷◌, filter, find, OnOk, OnErr, IfSome, IfErr, length, vec_len, List, take, drop};
+ghost use Rattle.std.specs.Prelude.{◌≡◌, ℕ, Bool, true, not, ◌+◌, ◌<◌, ◌≤◌, ◌++◌, [], ◌∷◌, filter, find, OnOk, OnErr, IfSome, IfErr, length, vec_len, slice_get, List, take, drop};
 ghost use Rattle.std.specs.Vec.{vec_capacity};
 ghost use Rattle.std.specs.Cmp.{IsTotalOrder};
 ghost use Rattle.std.specs.List.{list_any};
 ghost use Rattle.std.specs.Option.{option_copied};
 ghost use Rattle.std.specs.Ordering.{is_eq, is_lt};
 ghost use Rattle.std.specs.declared.cmp.Ordering.{Ordering};
-ghost use Rattle.desk_rows.specs.Lists.{put, put_all};
+ghost use Rattle.desk_rows.specs.Lists.{put, put_all, ascends};
 ghost use Rattle.desk_rows.specs.Keys.{below_by};
-ghost use Rattle.desk_sorted.specs.Sorted.{ascends, put_in_turn, Climbs, IsSideOf, IsRun, IsPlace, Rises};
+ghost use Rattle.desk_sorted.specs.Sorted.{put_in_turn, Climbs, IsSideOf, IsRun, IsPlace, Rises};
 
 use desk_rows::Fault;
 use std::alloc::Global;
@@ -114,6 +114,13 @@ pub fn reserve<R>(rows: &mut Vec<R>, count: usize) -> Result<(), Fault>
         Ok(()) => Ok(()),
         Err(_) => Err(Fault::Memory),
     }
+}
+
+/// The item at a place, if there is one.
+pub fn item_at<T>(items: &[T], place: usize) -> Option<&T>
+    ensures { option_copied result ≡ slice_get items.now place }
+{
+    items.get(place)
 }
 
 /// Rows in the order of their keys.

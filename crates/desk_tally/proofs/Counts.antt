@@ -14,7 +14,8 @@ use Rattle.desk_tally.specs.Stands.{is_of, is_in, totals_at, AreTallied, is_with
 use Rattle.desk_tally.specs.declared.stand.Shift.{Shift}
 use Rattle.desk_tally.specs.declared.stand.Stand.{Stand}
 use Rattle.desk_tally.specs.declared.tally.Tally.{Tally}
-use Rattle.desk_tally.proofs.Bools.{and_left, and_right, both, within_low, within_high, within_from}
+use Rattle.desk_tally.proofs.Bools.{within_low, within_high, within_from}
+use Rattle.desk_base.proofs.Bools.{and_left, and_right, both}
 
 pub count-cons : {A : Type 0} (test : A → Bool) (x : A) (xs : List A) → count_by test (x ∷ xs) ≡ one_if (test x) + count_by test xs
 count-cons test x xs = sum_by-cons (λ y. cond (test y) 1 0) x xs

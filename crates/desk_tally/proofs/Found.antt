@@ -14,8 +14,8 @@ use Rattle.desk_tally.specs.Numbers.{one_if}
 use Rattle.desk_tally.specs.Stands.{is_of, is_in, totals_at}
 use Rattle.desk_tally.specs.Kept.{IsKept, ArePlaces, place_found, stand_of}
 use Rattle.desk_tally.specs.declared.stand.Stand.{Stand}
-use Rattle.desk_tally.proofs.Bools.{text_tells}
 use Rattle.desk_tally.proofs.Counts.{count-cons, same_totals}
+use Rattle.desk_base.proofs.Texts.{text_tells}
 
 -- a duty stands at the place of a release where it is that release's
 same_place : (releases : List ReleaseRow) → ArePlaces releases → (name other : List ℕ) (place : ℕ) → place_found releases name ≡ Some place → (unwrap_or (place_found releases other) 0 == place) ≡ bytes_eq other name

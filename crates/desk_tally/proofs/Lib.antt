@@ -6,3 +6,6 @@ pub mod Leads
 pub mod Found
 pub mod Plans
 pub mod Placing
+pub mod Once
+pub mod Countable
+pub mod Steps

@@ -16,13 +16,16 @@ use Rattle.desk_access.specs.Follows.{are_numbered}
 use Rattle.desk_tally.specs.Stands.{is_within, at_state, shifted, are_duties, shift_of, open_at}
 use Rattle.desk_tally.specs.Kept.{place_found, stand_of, are_raised}
 use Rattle.desk_tally.specs.declared.stand.Stand.{Stand}
-use Rattle.desk_tally.proofs.Bools.{and_left, and_right, both, number_at, within_low, texts_equal}
+use Rattle.desk_tally.proofs.Bools.{within_low}
+use Rattle.desk_base.proofs.Numbers.{numbers_equal}
+use Rattle.desk_base.proofs.Bools.{and_left, and_right, both}
+use Rattle.desk_base.proofs.Texts.{texts_equal}
 
 -- no duty before the first has its number
 updated_none : (change : DutyRow → DutyRow) (q n : ℕ) (rows : List DutyRow) → are_numbered n rows ≡ true → q < n → updated (is_duty q) change rows ≡ rows
 updated_none change q n [] e below = refl
 updated_none change q n (row ∷ rows) e below =
-    let here : row.number ≡ n = number_at row.number n (and_left (row.number == n) (are_numbered (n + 1) rows) e) in
+    let here : row.number ≡ n = numbers_equal row.number n (and_left (row.number == n) (are_numbered (n + 1) rows) e) in
     let differ : (row.number == q) ≡ false = grind (arith, nat_tests) in
     rw (differ, updated_none change q (n + 1) rows (and_right (row.number == n) (are_numbered (n + 1) rows) e) (omega arith)) refl
 
@@ -31,11 +34,11 @@ state_at : (releases : List ReleaseRow) (state : DutyState) (n i : ℕ) (rows : 
     → map (stand_of releases) (updated (is_duty (n + i)) (with_duty_state state) rows) ≡ at_state i state (map (stand_of releases) rows)
 state_at releases state n i [] e = refl
 state_at releases state n zero (row ∷ rows) e =
-    let here : row.number ≡ n = number_at row.number n (and_left (row.number == n) (are_numbered (n + 1) rows) e) in
+    let here : row.number ≡ n = numbers_equal row.number n (and_left (row.number == n) (are_numbered (n + 1) rows) e) in
     let same : (row.number == n + 0) ≡ true = grind (arith, nat_tests) in
     rw (same, updated_none (with_duty_state state) (n + 0) (n + 1) rows (and_right (row.number == n) (are_numbered (n + 1) rows) e) (omega arith)) refl
 state_at releases state n (suc i) (row ∷ rows) e =
-    let here : row.number ≡ n = number_at row.number n (and_left (row.number == n) (are_numbered (n + 1) rows) e) in
+    let here : row.number ≡ n = numbers_equal row.number n (and_left (row.number == n) (are_numbered (n + 1) rows) e) in
     let differ : (row.number == n + suc i) ≡ false = grind (arith, nat_tests) in
     let next : n + suc i ≡ n + 1 + i = omega arith in
     rw differ (ap (λ all. stand_of releases row ∷ all)

@@ -17,7 +17,8 @@ use Rattle.desk_history.specs.Laws.{Ascends}
 use Rattle.desk_tally.specs.Stands.{is_within, are_placed}
 use Rattle.desk_tally.specs.Kept.{place_found, stand_of, ArePlaces}
 use Rattle.desk_tally.specs.declared.stand.Stand.{Stand}
-use Rattle.desk_tally.proofs.Bools.{and_left, and_right, texts_equal}
+use Rattle.desk_base.proofs.Bools.{and_left, and_right}
+use Rattle.desk_base.proofs.Texts.{texts_equal}
 
 abbrev place_of : Option ReleaseRow → Option ℕ
 place_of found = option_map (λ row. row.place) found

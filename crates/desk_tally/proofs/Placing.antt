@@ -11,7 +11,9 @@ use Rattle.desk_rows.specs.declared.row.ReleaseRow.{ReleaseRow}
 use Rattle.desk_tally.specs.Stands.{is_within, are_places}
 use Rattle.desk_tally.specs.Kept.{AreCounted, IsKept, place_found}
 use Rattle.desk_tally.specs.declared.stand.Stand.{Stand}
-use Rattle.desk_tally.proofs.Bools.{and_left, and_right, within_low, within_high, texts_equal}
+use Rattle.desk_tally.proofs.Bools.{within_low, within_high}
+use Rattle.desk_base.proofs.Bools.{and_left, and_right, or_left, or_right}
+use Rattle.desk_base.proofs.Texts.{texts_equal}
 
 -- one place more is taken
 taken_at : (marks : List Bool) (place other : ℕ) → place < length marks → get_or (slice_set marks place true) other false ≡ ((other == place) || get_or marks other false)
@@ -40,14 +42,6 @@ place_next count i place marks places all split within free lt before =
 not_taken : (b : Bool) → not b ≡ true → b ≡ false
 not_taken true e = cc
 not_taken false e = refl
-
-or_left : (a b : Bool) → (a || b) ≡ false → a ≡ false
-or_left true b e = e
-or_left false b e = refl
-
-or_right : (a b : Bool) → (a || b) ≡ false → b ≡ false
-or_right true b e = cc
-or_right false b e = e
 
 -- a place that is found is within the count, and wasn't taken before
 record IsFree (count : ℕ) (taken : ℕ → Bool) (place : ℕ) : Type 0 where

@@ -1,8 +1,9 @@
 -- What tallies are to the rows of tables.
-use Rattle.std.specs.Prelude.{◌≡◌, ◌<◌, ◌≤◌, ℕ, ◌+◌, ◌==◌, ◌&&◌, nat_le, Bool, true, false, List, [], ◌∷◌, length, find, map, Option, Some, unwrap_or, vec_len}
+use Rattle.std.specs.Prelude.{◌≡◌, ◌<◌, ◌≤◌, ℕ, ◌+◌, ◌==◌, ◌&&◌, nat_le, Bool, true, false, List, [], ◌∷◌, length, find, map, Option, Some, None, unwrap_or, vec_len}
 use Rattle.std.specs.Vec.{vec_capacity}
 use Rattle.std.specs.Option.{option_map}
 use Rattle.std.specs.Str.{bytes_eq}
+use Rattle.desk_base.specs.Limits as most
 use Rattle.desk_rows.specs.Keys.{is_release}
 use Rattle.desk_rows.specs.States.{is_open}
 use Rattle.desk_rows.specs.Tables.{Tables}
@@ -11,7 +12,7 @@ use Rattle.desk_rows.specs.declared.row.DutyRow.{DutyRow}
 use Rattle.desk_rows.specs.declared.row.ReleaseRow.{ReleaseRow}
 use Rattle.desk_rows.specs.declared.command.Change.{Change}
 use Rattle.desk_rows.specs.declared.command.Change.TheVariants as change
-use Rattle.desk_access.specs.Follows.{are_numbered}
+use Rattle.desk_access.specs.Follows.{Follows, are_numbered}
 use Rattle.desk_tally.specs.Stands.{are_duties, are_placed, are_places, stands_after, count_after, shift_of}
 use Rattle.desk_tally.specs.declared.stand.Stand.{Stand}
 use Rattle.desk_tally.specs.declared.stand.Step.{Step}
@@ -51,7 +52,7 @@ abbrev pub Fits : Step → Tallies → Type 0
 Fits step.Stay tallies = Unit {0}
 Fits step.Open tallies = vec_len tallies.tallies < vec_capacity tallies.tallies
 Fits (step.Raise place count) tallies =
-    (1 ≤ place) × (place ≤ length tallies.tallies.items) × (length tallies.stands.items + count ≤ 100000)
+    (1 ≤ place) × (place ≤ length tallies.tallies.items) × (length tallies.stands.items + count ≤ most.duties)
     × (vec_len tallies.stands + count ≤ vec_capacity tallies.stands)
 Fits (step.Move shifts) tallies = are_duties (length tallies.stands.items) shifts ≡ true
 
@@ -84,6 +85,24 @@ IsStep (change.Moved changes) place count all s = IsMove changes all s
 IsStep (change.Withdrew release changes) place count all s = IsMove changes all s
 IsStep _ place count all s = s ≡ step.Stay
 
+-- new duties of the release at a place, if there is one, can be counted: they are numbered on, and there is room for them
+abbrev pub CanRaise : List ℕ → List DutyRow → Option ℕ → ℕ → List Stand → Type 0
+CanRaise release duties None count all = ⊥
+CanRaise release duties (Some at) count all =
+    (1 ≤ at) × (at ≤ count) × (length all + length duties ≤ most.duties) × (are_raised (length all + 1) release duties ≡ true)
+
+-- a change that has a step, over so many releases
+abbrev pub HasStep : Change → Option ℕ → ℕ → List Stand → Type 0
+HasStep (change.Opened row) place count all = row.place ≡ count + 1
+HasStep (change.Froze release revision rows duties changes) place count all = CanRaise release duties place count all
+HasStep (change.Moved changes) place count all = are_duties (length all) (map shift_of changes) ≡ true
+HasStep (change.Withdrew release changes) place count all = are_duties (length all) (map shift_of changes) ≡ true
+HasStep _ place count all = Unit {0}
+
+-- no tables that the tallies are of are such as the change goes on from
+abbrev pub IsAstray : Change → Option ℕ → Tallies → Type 0
+IsAstray c place tallies = (t : Tables) → IsPlaceFor c place t → AreKept tallies t → Follows c t → ⊥
+
 -- what tallies are counted from: the places of the tables' releases, and where each duty stands by its number
 pub record AreCounted (places : List ℕ) (all : List Stand) (t : Tables) : Type 0 where
   pub releases : places ≡ map (λ row. row.place) t.releases
@@ -91,7 +110,7 @@ pub record AreCounted (places : List ℕ) (all : List Stand) (t : Tables) : Type
   pub numbered : are_numbered 1 t.duty ≡ true
 
 abbrev pub can_count : List ℕ → List Stand → Bool
-can_count places all = nat_le (length all) 100000 && (are_placed (length places) all && are_places (length places) (λ place. false) places)
+can_count places all = nat_le (length all) most.duties && (are_placed (length places) all && are_places (length places) (λ place. false) places)
 
 -- duties that are numbered from 1 on, each of a release that stands, at most 100,000; and releases at the places from 1 to their number
 abbrev pub are_countable : List ReleaseRow → List DutyRow → Bool

@@ -1,6 +1,6 @@
 //! What changes of the rows say of duties.
 
-ghost use Rattle.std.specs.Prelude.{◌≡◌, true, IfOk, IfSome, map};
+ghost use Rattle.std.specs.Prelude.{◌≡◌, true, IfNone, IfOk, IfSome, map};
 ghost use Rattle.desk_rows.specs.States.{state_after};
 ghost use Rattle.desk_tally.specs.Stands.{are_duties, shift_of};
 ghost use Rattle.desk_tally.specs.Kept.{are_raised};
@@ -47,6 +47,7 @@ pub(crate) fn shifts_of(
 ) -> Result<Option<Items<Shift>>, AllocError>
     ensures is { IfOk result (λ found. IfSome found (λ shifts. shifts ≡ map shift_of changes.now)) }
     ensures within { IfOk result (λ found. IfSome found (λ shifts. are_duties count shifts ≡ true)) }
+    ensures none { IfOk result (λ found. IfNone found (are_duties count (map shift_of changes.now) ≡ true → ⊥)) }
 {
     let mut shifts = Vec::with_capacity(alloc, changes.len())?;
     for change in changes {

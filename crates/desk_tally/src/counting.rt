@@ -109,7 +109,19 @@ fn place_of(releases: &[ReleaseRow], name: &str) -> u32
     0
 }
 
-/// Where duties stand.
+/// The place of a release, where that of the last one asked for is known.
+fn place_after(releases: &[ReleaseRow], last: &str, place: u32, name: &str) -> u32
+    requires { place ≡ unwrap_or (place_found releases.now last.now) 0 }
+    ensures { result ≡ unwrap_or (place_found releases.now name.now) 0 }
+{
+    if name == last {
+        place
+    } else {
+        place_of(releases, name)
+    }
+}
+
+/// Where duties stand. Those that one freeze raised stand side by side, so the place of their release is looked up once.
 pub(crate) fn stands_of(
     alloc: Global,
     releases: &[ReleaseRow],
@@ -118,9 +130,14 @@ pub(crate) fn stands_of(
     ensures { IfOk result (λ stands. stands.items ≡ map (stand_of releases.now) duties.now) }
 {
     let mut stands = Vec::with_capacity(alloc, duties.len())?;
+    let mut last = "";
+    let mut place = place_of(releases, last);
     for duty in duties {
+        let release = duty.release.as_str();
+        place = place_after(releases, last, place, release);
+        last = release;
         stands.push(Stand {
-            place: place_of(releases, duty.release.as_str()),
+            place,
             state: duty.state,
         })?;
     }

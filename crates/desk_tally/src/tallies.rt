@@ -8,11 +8,9 @@ use crate::counting::{are_numbered, are_placed, are_places, places_of, stands_of
 use crate::lists::{push_open, raise_at, shift_all, tally_at};
 use crate::stand::{Shift, Stand, Step};
 use crate::tally::Tally;
+use desk_base::limits;
 use desk_rows::{Change, ChangeRow, DutyRow, ReleaseRow, Totals};
 use std::alloc::{AllocError, Global};
-
-/// So many duties are kept at most.
-const MAX_DUTIES: usize = 100_000;
 
 /// The tallies of all releases by their places, and where each duty stands by its number, both from 1. There are at most 100,000
 /// duties.
@@ -54,7 +52,7 @@ impl Tallies {
         ensures none { IfOk result (λ found. IfNone found (can_count places.now stands.items ≡ false)) }
     {
         let releases = places.len();
-        if stands.len() > MAX_DUTIES || !are_placed(releases, stands.as_slice()) {
+        if stands.len() > limits::DUTIES as usize || !are_placed(releases, stands.as_slice()) {
             return Ok(None);
         }
         if !are_places(alloc, places)? {
@@ -101,13 +99,13 @@ impl Tallies {
 }
 
 impl Tallies {
-    ghost use Rattle.std.specs.Prelude.{◌<◌, ◌++◌, vec_len, List, IfOk, IfSome, Option, replicate};
+    ghost use Rattle.std.specs.Prelude.{◌<◌, ◌++◌, vec_len, List, IfNone, IfOk, IfSome, Option, map, replicate};
     ghost use Rattle.std.specs.Vec.{vec_capacity};
     ghost use Rattle.desk_rows.specs.Keys.{release_below};
     ghost use Rattle.desk_rows.specs.Tables.{Tables, applied};
     ghost use Rattle.desk_history.specs.Laws.{Ascends};
-    ghost use Rattle.desk_tally.specs.Stands.{are_duties, count_after, open_at, shifted, stands_after};
-    ghost use Rattle.desk_tally.specs.Kept.{AreKept, Fits, IsPlaceFor, IsStep, IsRaise, IsMove, LeadsTo};
+    ghost use Rattle.desk_tally.specs.Stands.{are_duties, count_after, open_at, shift_of, shifted, stands_after};
+    ghost use Rattle.desk_tally.specs.Kept.{AreKept, CanRaise, Fits, HasStep, IsAstray, IsPlaceFor, IsStep, IsRaise, IsMove, LeadsTo};
 
     /// The step of a release that is opened next.
     fn plan_open(&mut self, row: &ReleaseRow) -> Result<Option<Step>, AllocError>
@@ -115,6 +113,7 @@ impl Tallies {
         ensures tallies { self.new.tallies.items ≡ self.old.tallies.items }
         ensures fits { IfOk result (λ found. IfSome found (λ step. Fits step self.new)) }
         ensures step { IfOk result (λ found. IfSome found (λ step. IsStep (Change.Opened row.now) None (length self.old.tallies.items) self.old.stands.items step)) }
+        ensures none { IfOk result (λ found. IfNone found (row.now.place ≡ length self.old.tallies.items + 1 → ⊥)) }
     {
         if row.place as usize != self.tallies.len() + 1 {
             return Ok(None);
@@ -134,6 +133,7 @@ impl Tallies {
         ensures tallies { self.new.tallies.items ≡ self.old.tallies.items }
         ensures fits { IfOk result (λ found. IfSome found (λ step. Fits step self.new)) }
         ensures step { IfOk result (λ found. IfSome found (λ step. IsRaise release.now duties.now place self.old.stands.items step)) }
+        ensures none { IfOk result (λ found. IfNone found (CanRaise release.now duties.now place (length self.old.tallies.items) self.old.stands.items → ⊥)) }
     {
         let Some(place) = place else {
             return Ok(None);
@@ -142,7 +142,9 @@ impl Tallies {
             return Ok(None);
         }
         let count = self.stands.len();
-        if duties.len() > MAX_DUTIES - count || !are_raised(count as u64 + 1, release, duties) {
+        if duties.len() > limits::DUTIES as usize - count
+            || !are_raised(count as u64 + 1, release, duties)
+        {
             return Ok(None);
         }
         self.stands.reserve(duties.len())?;
@@ -156,6 +158,7 @@ impl Tallies {
     fn plan_move(&self, changes: &[ChangeRow]) -> Result<Option<Step>, AllocError>
         ensures fits { IfOk result (λ found. IfSome found (λ step. Fits step self.now)) }
         ensures step { IfOk result (λ found. IfSome found (λ step. IsMove changes.now self.now.stands.items step)) }
+        ensures none { IfOk result (λ found. IfNone found (are_duties (length self.now.stands.items) (map shift_of changes.now) ≡ true → ⊥)) }
     {
         match shifts_of(self.alloc, self.stands.len(), changes)? {
             Some(shifts) => Ok(Some(Step::Move(shifts))),
@@ -169,6 +172,7 @@ impl Tallies {
         ensures tallies { self.new.tallies.items ≡ self.old.tallies.items }
         ensures fits { IfOk result (λ found. IfSome found (λ step. Fits step self.new)) }
         ensures step { IfOk result (λ found. IfSome found (λ step. IsStep change.now place (length self.old.tallies.items) self.old.stands.items step)) }
+        ensures none { IfOk result (λ found. IfNone found (HasStep change.now place (length self.old.tallies.items) self.old.stands.items → ⊥)) }
     {
         match change {
             Change::Opened(row) => self.plan_open(row),
@@ -185,12 +189,13 @@ impl Tallies {
 
     /// What a change of the rows comes to. Room is made for it, and nothing is done yet. Of a freeze, `place` is that of its release.
     ///
-    /// There is no step for what no command does: releases that aren't opened one after the other, duties that aren't numbered on or
-    /// are more than 100,000, and changes of duties that don't stand.
+    /// There is a step for each change that goes on from the rows, and none for what no command does: releases that aren't opened
+    /// one after the other, duties that aren't numbered on or are more than 100,000, and changes of duties that don't stand.
     pub fn plan(&mut self, change: &Change, place: Option<u32>) -> Result<Option<Step>, AllocError>
         ensures kept { (t : Tables) → AreKept self.old t → AreKept self.new t }
         ensures fits { IfOk result (λ found. IfSome found (λ step. Fits step self.new)) }
         ensures leads { IfOk result (λ found. IfSome found (λ step. (t : Tables) → Ascends release_below (applied change.now t).releases → IsPlaceFor change.now place t → AreKept self.old t → LeadsTo step self.new (applied change.now t))) }
+        ensures none { IfOk result (λ found. IfNone found (IsAstray change.now place self.old)) }
     {
         self.step_of(change, place)
     }

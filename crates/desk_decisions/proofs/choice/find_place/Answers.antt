@@ -2,7 +2,7 @@ use Rattle.std.proofs.Common.{◌≡◌, ◌∙◌, sym, ap, ℕ, List, Some}
 use Rattle.std.specs.Prelude.{find}
 use Rattle.std.specs.List.{list_any}
 use Rattle.desk_rows.specs.Keys.{is_package, is_attachment}
-use Rattle.desk_rows.specs.Answers.{choose_shipped}
+use Rattle.desk_decisions.specs.Walks.{choose_shipped}
 use Rattle.desk_history.specs.FromTables.{conclusion_found, release_found}
 use Rattle.desk_decisions.proofs.Places.{found_at, is_found, same_number}
 use Rattle.desk_decisions.proofs.choice.find_place.Goals as goal

@@ -1,6 +1,7 @@
 use Rattle.std.proofs.Common.{◌≡◌, ◌∙◌, sym, ap, Some}
 use Rattle.desk_rows.specs.declared.command.Command.TheVariants.{Freeze}
-use Rattle.desk_history.specs.FromTables.{release_found, answer_from, change_for, freeze_open_found, freeze_change_found}
+use Rattle.desk_history.specs.FromTables.{release_found, answer_from, change_for, freeze_change_found}
+use Rattle.desk_decisions.specs.Walks.{freeze_open_found}
 use Rattle.desk_decisions.proofs.Chains.{plans_after, plan_after}
 use Rattle.desk_decisions.proofs.Freezes.{frozen_answer, frozen_change}
 use Rattle.desk_decisions.proofs.freeze.freeze.Goals as goal

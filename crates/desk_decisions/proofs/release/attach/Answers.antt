@@ -27,8 +27,8 @@ returns-then-branch-clause-plan g c = λ w h t held.
     subst (IsPlan (answer_from w t (Attach r c.args.document)) (change_for w t (Attach r c.args.document))) (sym c.refused-then-branch.ensures)
     (already_answer w t r c.args.document c.in-Some.row _ up already)
 
-pub returns-then-branch-ge-MAX_ATTACHED-clause-plan : goal.returns-then-branch-ge-MAX_ATTACHED-clause-plan
-returns-then-branch-ge-MAX_ATTACHED-clause-plan g c = λ w h t held.
+pub returns-then-branch-ge-ATTACHED-clause-plan : goal.returns-then-branch-ge-ATTACHED-clause-plan
+returns-then-branch-ge-ATTACHED-clause-plan g c = λ w h t held.
     let one = c.in_ok-row.ensures in
     let two = c.in_ok-number.ensures in
     let three = c.in_ok-is_attached.ensures in
@@ -47,8 +47,8 @@ returns-then-branch-ge-MAX_ATTACHED-clause-plan g c = λ w h t held.
     ap (λ (x : List ℕ). list_any (is_attachment x c.args.document) t.attached) (sym c.as_str-2.ensures) ∙ (sym (three.found h3 t t2) ∙ c.if-branch.false) in
     let count : c.in_ok-attached_count.field-0 ≡ length (attached_to t.attached r) =
     four.found h t (three.kept.kept.spared.holds t t2) ∙ ap (λ (x : List ℕ). length (attached_to t.attached x)) c.as_str-3.ensures in
-    let many : 64 ≤ length (attached_to t.attached r) = omega (arith, count, c.if-branch-ge-MAX_ATTACHED.true) in
-    subst (IsPlan (answer_from w t (Attach r c.args.document)) (change_for w t (Attach r c.args.document))) (sym c.refused-then-branch-ge-MAX_ATTACHED.ensures)
+    let many : 64 ≤ length (attached_to t.attached r) = omega (arith, count, c.if-branch-ge-ATTACHED.true) in
+    subst (IsPlan (answer_from w t (Attach r c.args.document)) (change_for w t (Attach r c.args.document))) (sym c.refused-then-branch-ge-ATTACHED.ensures)
     (full_answer w t r c.args.document c.in-Some.row _ up already many)
 
 pub returns-clause-plan : goal.returns-clause-plan
@@ -71,7 +71,7 @@ returns-clause-plan g c = λ w h t held.
     ap (λ (x : List ℕ). list_any (is_attachment x c.args.document) t.attached) (sym c.as_str-2.ensures) ∙ (sym (three.found h3 t t2) ∙ c.if-branch.false) in
     let count : c.in_ok-attached_count.field-0 ≡ length (attached_to t.attached r) =
     four.found h t (three.kept.kept.spared.holds t t2) ∙ ap (λ (x : List ℕ). length (attached_to t.attached x)) c.as_str-3.ensures in
-    let few : length (attached_to t.attached r) < 64 = omega (arith, count, c.if-branch-ge-MAX_ATTACHED.false) in
+    let few : length (attached_to t.attached r) < 64 = omega (arith, count, c.if-branch-ge-ATTACHED.false) in
     let number : c.in-Some-2.number ≡ c.args.document = same_number c.in_ok-number.field-0 c.in-Some-2.number c.args.document c.in-Some-2.field-0-1 c.in-Some-2.is two.same in
     subst (IsPlan (answer_from w t (Attach r c.args.document)) (change_for w t (Attach r c.args.document))) (sym c.done.ensures)
     (done_answer w t r c.args.document c.in-Some.row _ up already few, attached_row c.in-Ok.release r c.in-Some-2.number c.args.document c.in-Ok.ensures.cases number)

@@ -1,10 +1,11 @@
 use Rattle.std.proofs.Common.{ap, subst, ◌∙◌}
 use Rattle.std.specs.Prelude.{not}
 use Rattle.desk_rows.specs.Keys.{below_by}
-use Rattle.desk_sorted.specs.Sorted.{ascends, IsRun}
+use Rattle.desk_sorted.specs.Sorted.{IsRun}
 use Rattle.desk_sorted.proofs.Ascending.{ascends-filter}
 use Rattle.desk_sorted.proofs.Halving.{run_cut}
 use Rattle.desk_sorted.proofs.sorted.Sorted.cut.Goals as goal
+use Rattle.desk_rows.specs.Lists.{ascends}
 
 pub returns-clause-items : goal.returns-clause-items
 returns-clause-items g c =

@@ -1,10 +1,11 @@
 use Rattle.std.proofs.Common.{ap, sym, subst, ◌∙◌}
 use Rattle.std.specs.Prelude.{is_ok}
 use Rattle.desk_rows.specs.Keys.{below_by}
-use Rattle.desk_sorted.specs.Sorted.{ascends, IsPlace}
-use Rattle.desk_sorted.proofs.Ascending.{order_of}
+use Rattle.desk_sorted.specs.Sorted.{IsPlace}
 use Rattle.desk_sorted.proofs.Halving.{put_at, ascends_either}
 use Rattle.desk_sorted.proofs.sorted.Sorted.put.Goals as goal
+use Rattle.desk_rows.proofs.Orders.{order_of}
+use Rattle.desk_rows.specs.Lists.{ascends}
 
 pub invariant_of-self : goal.invariant_of-self
 invariant_of-self g c =

@@ -1,9 +1,9 @@
 use Rattle.std.proofs.Common.{◌≡◌, ◌++◌, take, drop, ap, sym, subst, ◌∙◌}
-use Rattle.desk_rows.specs.Lists.{put_all}
+use Rattle.desk_rows.specs.Lists.{put_all, ascends}
 use Rattle.desk_rows.specs.Keys.{below_by}
-use Rattle.desk_sorted.specs.Sorted.{ascends}
-use Rattle.desk_sorted.proofs.Ascending.{order_of, ascends-put_all}
+use Rattle.desk_sorted.proofs.Ascending.{ascends-put_all}
 use Rattle.desk_sorted.proofs.sorted.Sorted.put_all.Goals as goal
+use Rattle.desk_rows.proofs.Orders.{order_of}
 
 pub invariant_of-self : goal.invariant_of-self
 invariant_of-self g c =
