@@ -19,6 +19,7 @@ use Rattle.sqlite_rules.specs.Lists.{Has}
 use Rattle.sqlite_rules.proofs.KeyLemmas.{agree_back, agree_chain}
 use Rattle.sqlite_rules.proofs.ListLemmas.{all_has, test_has, some_from}
 use Rattle.sqlite_rules.proofs.TableLemmas.{int_is}
+use Rattle.desk_base.proofs.Bools.{contrary}
 
 differ_ints : (m n : ℤ) → value_cmp (Int m) (Int n) ≡ Less → differ (Int m) (Int n) ≡ true
 unfolding binary
@@ -29,10 +30,6 @@ differ_is a b one two less =
     let x = int_is a one in
     let y = int_is b two in
     rw (x, y) (differ_ints (id_in a) (id_in b) (subst (λ v. value_cmp v (Int (id_in b)) ≡ Less) x (subst (λ v. value_cmp a v ≡ Less) y less)))
-
-contrary : (b : Bool) → b ≡ true → b ≡ false → ⊥
-contrary true e f = cc
-contrary false e f = cc
 
 none_passes : (p : Row → Bool) (rows : List Row) → ((b : Row) → Has rows b → p b ≡ true → ⊥) → filter p rows ≡ []
 none_passes p [] none = refl

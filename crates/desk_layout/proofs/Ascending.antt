@@ -2,14 +2,15 @@
 use Rattle.std.proofs.Common.{◌≡◌, ◌⊎◌, inl, inr, ℕ, ◌+◌, ◌≤◌, Bool, true, false, cond, List, [], ◌∷◌, ◌++◌, map, filter, length, sym, refl, subst, arith}
 use Rattle.std.specs.Prelude.{nat_lt, ◌==◌, ◌&&◌, ◌||◌}
 use Rattle.std.proofs.lemmas.Bool.Decides.{nat_tests}
-use Rattle.std.proofs.lemmas.Cmp.{on_total, then_total, nat_list_cmp_total, nat_cmp_total}
+use Rattle.std.proofs.lemmas.Cmp.{on_total, nat_list_cmp_total}
 use Rattle.desk_rows.specs.Lists.{put, put_all, updated, IsIn}
-use Rattle.desk_rows.specs.Keys.{below_by, release_below, frozen_order, change_below, conclusion_order, adoption_order}
+use Rattle.desk_rows.specs.Keys.{release_below, change_below}
 use Rattle.desk_rows.specs.Texts.{text_below}
 use Rattle.desk_history.specs.Laws.{Ascends}
 use Rattle.desk_history.proofs.Members.{in_cases, in_map, from_map}
-use Rattle.desk_history.proofs.Orders.{IsOrder, order_of}
 use Rattle.desk_layout.specs.Held.{AreNumbered}
+use Rattle.desk_rows.proofs.Orders.{IsOrder, order_of}
+use Rattle.desk_base.proofs.Numbers.{not_less}
 
 -- ---- orders
 
@@ -18,17 +19,6 @@ release_is_order = order_of (on_total (λ row. row.name) nat_list_cmp_total)
 
 pub text_is_order : IsOrder text_below
 text_is_order = order_of nat_list_cmp_total
-
-pub frozen_is_order : IsOrder (below_by frozen_order)
-frozen_is_order =
-    order_of (then_total (on_total (λ row. row.release) nat_list_cmp_total) (then_total (on_total (λ row. row.document) nat_cmp_total)
-    (then_total (on_total (λ row. row.package_id) nat_list_cmp_total) (on_total (λ row. row.term) nat_list_cmp_total))))
-
-pub conclusion_is_order : IsOrder (below_by conclusion_order)
-conclusion_is_order = order_of (then_total (on_total (λ row. row.document) nat_cmp_total) (on_total (λ row. row.package_id) nat_list_cmp_total))
-
-pub adoption_is_order : IsOrder (below_by adoption_order)
-adoption_is_order = order_of (then_total (on_total (λ row. row.document) nat_cmp_total) (on_total (λ row. row.reference) nat_list_cmp_total))
 
 pub before_step : (a b c d : ℕ) → (nat_lt a c || ((a == c) && nat_lt b d)) ≡ true → (nat_lt c a || ((c == a) && nat_lt d b)) ≡ false
 before_step a b c d e = grind (arith, nat_tests)
@@ -119,9 +109,6 @@ at_least : (n m : ℕ) (ns : List ℕ) → AreNumbered n ns → IsIn m ns → n 
 at_least n m [] are there = absurd there
 at_least n m (k ∷ ks) are (inl e) = omega (arith, are.0, e)
 at_least n m (k ∷ ks) are (inr there) = omega (arith, at_least (n + 1) m ks are.1 there)
-
-pub not_less : (a b : ℕ) → b ≤ a → nat_lt a b ≡ false
-not_less a b le = grind (arith, nat_tests)
 
 pub numbers_ascend : (n : ℕ) (ns : List ℕ) → AreNumbered n ns → Ascends nat_lt ns
 numbers_ascend n [] are = tt

@@ -18,7 +18,7 @@ use Rattle.sqlite_schema.specs.declared.schema.Kind.TheVariants.{Integer, Text a
 use Rattle.sqlite_rules.specs.Cast.{cast}
 use Rattle.desk_layout.specs.Cells.{text_or_null}
 
-truth_is : (b : Bool) → is_true (from_truth (Some b)) ≡ b
+pub truth_is : (b : Bool) → is_true (from_truth (Some b)) ≡ b
 truth_is true = refl
 truth_is false = refl
 

@@ -24,12 +24,15 @@ use Rattle.desk_rows.specs.declared.command.Change.TheVariants.{Loaded, Imported
 use Rattle.desk_history.specs.FromTables.{duty_found}
 use Rattle.desk_history.specs.Laws.{Ascends}
 use Rattle.desk_history.proofs.Members.{in_cases}
-use Rattle.desk_history.proofs.Orders.{attached_is_order, choice_is_order, and_left, and_right, both}
+use Rattle.desk_history.proofs.Orders.{attached_is_order, choice_is_order}
 use Rattle.desk_access.specs.Follows.{Follows, AreNext, are_numbered, are_first}
 use Rattle.desk_layout.specs.Cells.{is_word}
 use Rattle.desk_layout.specs.Held.{AreNumbered, AreOrderly, package_below}
 use Rattle.desk_layout.specs.Writable.{rise, are_of, is_writable}
-use Rattle.desk_layout.proofs.Ascending.{release_is_order, text_is_order, frozen_is_order, conclusion_is_order, adoption_is_order, change_is_order, from_put, ascends_put, ascends_put_all, ascends_filter, ascends_behind, by_key, same_keys, ascends_updated, numbers_ascend, numbered_on}
+use Rattle.desk_layout.proofs.Ascending.{release_is_order, text_is_order, change_is_order, from_put, ascends_put, ascends_put_all, ascends_filter, ascends_behind, by_key, same_keys, ascends_updated, numbers_ascend, numbered_on}
+use Rattle.desk_base.proofs.Bools.{and_left, and_right, both}
+use Rattle.desk_history.proofs.Sorting.{frozen_is_order}
+use Rattle.desk_history.proofs.Concluding.{conclusion_is_order, adoption_is_order}
 
 -- ---- all of a list
 

@@ -1,5 +1,5 @@
 -- What INSERT, DELETE and UPDATE make of the rows of the desk's tables.
-use Rattle.std.proofs.Common.{◌≡◌, ◌≢◌, ℕ, Bool, not, List, [], ◌∷◌, filter, length, slice_get, Option, Some, Ok, refl}
+use Rattle.std.proofs.Common.{◌≡◌, ◌≢◌, ℕ, Bool, not, List, [], ◌∷◌, ◌++◌, filter, length, slice_get, Option, Some, Ok, refl}
 use Rattle.std.specs.Prelude.{◌/◌}
 use Rattle.std.specs.List.{AllByRecursion}
 use Rattle.std.specs.List.Sorted.{IsPermutation}
@@ -24,7 +24,7 @@ use Rattle.desk_layout.specs.Held.{HasRows}
 use Rattle.desk_layout.proofs.Edits.{changed_where}
 use Rattle.desk_layout.proofs.Queries.{query_on, passes, env}
 use Rattle.desk_layout.proofs.Steps.{HasNoKeys, inserts, deletes, updates}
-use Rattle.desk_layout.proofs.Writes.{AreApart, after_insert, after_delete, after_update}
+use Rattle.desk_layout.proofs.Writes.{AreApart, Shows, after_insert, after_delete, after_update}
 
 pub alone : HasNoKeys desk_schema
 alone = (refl, (refl, (refl, (refl, (refl, (refl, (refl, (refl, (refl, (refl, (refl, (refl, (refl, (refl, (refl, (refl, tt))))))))))))))))
@@ -38,17 +38,24 @@ module _ (name : List ℕ) (tree : ℕ) (columns : List Column) (key : Option �
 
   module _ (place : ℕ) (listed : slice_get desk_schema.tables place ≡ Some this) (sql : List ℕ) (plain : IsPlain (understood desk_schema sql)) (params : Row) (rows after : ℕ → List Row)
       (same : AllByRecursion (λ t. t.tree ≢ tree → after t.tree ≡ rows t.tree) desk_schema.tables) (old new : State) (count : ℕ) (ran : Executes sql params old new (Ok count)) (has : HasRows rows old.now) where
+    -- several rows in one statement
+    pub all_inserted : (terms : List Term) (width : ℕ) (sources wanted : List Row) → command_of (understood desk_schema sql) ≡ Insert place (Values terms width)
+        → value_rows params width (length terms / width) terms ≡ sources
+        → Shows name tree columns key primary uniques orders sources wanted
+        → IsPermutation (after tree) (wanted ++ rows tree) → HasRows after new.now
+    all_inserted terms width sources wanted is source shows perm =
+        let w = runs_as sql params old new desk_schema has.declared (Insert place (Values terms width)) is plain count ran in
+        let step = inserts name tree columns key primary uniques orders desk_schema place listed alone old has.declared params (statement_of sql (understood desk_schema sql)) new.now w.tally terms width sources source w.changed in
+        record {
+          declared = step.schema_is;
+          stored = after_insert name tree columns key primary uniques orders desk_schema place listed apart rows after old.now new.now has.stored same sources wanted shows step perm;
+          sound = w.sound;
+        }
+
     pub inserted : (terms : List Term) (width : ℕ) (row wanted : Row) → command_of (understood desk_schema sql) ≡ Insert place (Values terms width)
         → value_rows params width (length terms / width) terms ≡ row ∷ [] → ((stored : List Row) → cells this (with_rowid Chosen stored (cast_row this row)) ≡ wanted)
         → IsPermutation (after tree) (wanted ∷ rows tree) → HasRows after new.now
-    inserted terms width row wanted is source shows perm =
-        let w = runs_as sql params old new desk_schema has.declared (Insert place (Values terms width)) is plain count ran in
-        let step = inserts name tree columns key primary uniques orders desk_schema place listed alone old has.declared params (statement_of sql (understood desk_schema sql)) new.now w.tally terms width row source w.changed in
-        record {
-          declared = step.schema_is;
-          stored = after_insert name tree columns key primary uniques orders desk_schema place listed apart rows after old.now new.now has.stored same row wanted shows step perm;
-          sound = w.sound;
-        }
+    inserted terms width row wanted is source shows perm = all_inserted terms width (row ∷ []) (wanted ∷ []) is source (shows, tt) perm
 
     pub deleted : (tests : List Term) (q : Row → Bool) → command_of (understood desk_schema sql) ≡ Delete place (record { lets = []; body = query_on tree tests (col 1 0 ∷ []) [] })
         → ((r : Row) → passes tests params r ≡ q (cells this r)) → IsPermutation (after tree) (filter (λ x. not (q x)) (rows tree)) → HasRows after new.now

@@ -26,7 +26,7 @@ use Rattle.sqlite.specs.State.{State, mode_of}
 use Rattle.sqlite.proofs.Callers.{one_step}
 use Rattle.desk_layout.specs.Layout.{table_of}
 
-same_value : {B E : Type 0} {a b : B} → ◌≡◌ {A = Result B E} (Ok a) (Ok b) → a ≡ b
+pub same_value : {B E : Type 0} {a b : B} → ◌≡◌ {A = Result B E} (Ok a) (Ok b) → a ≡ b
 same_value e = cc
 
 abbrev pub at : Schema → Trees → Database
@@ -38,7 +38,7 @@ pub record Stepped (schema : Schema) (old new : Database) (edit : Edit) : Type 0
   pub applies : Applies schema Enforced old.trees edit new.trees
 
 -- a part that gave a value did not stop on the way
-went : {B E R : Type 0} {b : B} {Stops : E → Type 0} → ((stop : E) × Stops stop × (Ok b ≡ Err stop)) ⊎ R → R
+pub went : {B E R : Type 0} {b : B} {Stops : E → Type 0} → ((stop : E) × Stops stop × (Ok b ≡ Err stop)) ⊎ R → R
 went (inl stopped) = absurd (let e = stopped.2 in cc)
 went (inr on) = on
 
@@ -58,10 +58,10 @@ module _ (name : List ℕ) (tree : ℕ) (columns : List Column) (key : Option �
   this = table_of name tree columns key primary uniques orders
 
   module _ (schema : Schema) (place : ℕ) (listed : slice_get schema.tables place ≡ Some this) (alone : HasNoKeys schema) (s : State) (has : s.now.schema ≡ schema) (params : Row) (text : List ℕ) (new : Database) (tally : Tally) where
-    pub inserts : (terms : List Term) (width : ℕ) (row : Row) → value_rows params width (length terms / width) terms ≡ row ∷ []
+    pub inserts : (terms : List Term) (width : ℕ) (sources : List Row) → value_rows params width (length terms / width) terms ≡ sources
         → Does s.step_limit (mode_of s) params s.now text None (Insert place (Values terms width)) (Ok (tally, new))
-        → Stepped schema s.now new (edit_of s.now.trees this [] Chosen 0 (row ∷ []))
-    inserts terms width row source did =
+        → Stepped schema s.now new (edit_of s.now.trees this [] Chosen 0 sources)
+    inserts terms width sources source did =
         let db = s.now.trees in
         let it = rw (has, listed) at did in
         let done = went it in
@@ -70,7 +70,7 @@ module _ (name : List ℕ) (tree : ℕ) (columns : List Column) (key : Option �
         let written = went (went given.2).2 in
         let counted = went written.2 in
         let trees : done.0.trees ≡ written.0 = ap (λ (it : Written). it.trees) (same_value counted.2) ∙ same_value counted.1 in
-        let rows : given.0 ≡ row ∷ [] = given.1.1 ∙ rw append-nil source in
+        let rows : given.0 ≡ sources = given.1.1 ∙ rw append-nil source in
         let applies = one_step schema Enforced db written.0 (edit_of db this [] Chosen 0 given.0) (no_works schema Enforced 0 tree _) written.1 in
         let next : written.0 ≡ new.trees = sym (ap (λ (d : Database). d.trees) now ∙ trees) in
         record { schema_is = ap (λ (d : Database). d.schema) now; applies = subst₂ (λ rows next. Applies schema Enforced db (edit_of db this [] Chosen 0 rows) next) rows next applies }

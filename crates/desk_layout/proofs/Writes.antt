@@ -1,13 +1,13 @@
 -- What the tables show after INSERT, DELETE and UPDATE of one of them.
-use Rattle.std.proofs.Common.{◌≡◌, ◌≢◌, inl, inr, ℕ, Bool, true, false, not, List, [], ◌∷◌, map, filter, drop, slice_get, Option, Some, refl, sym, ap, subst, subst₂, ◌∙◌}
-use Rattle.std.specs.List.{AllByRecursion}
+use Rattle.std.proofs.Common.{◌≡◌, ◌≢◌, inl, inr, ℕ, Bool, true, false, not, List, [], ◌∷◌, ◌++◌, map, filter, drop, slice_get, Option, Some, refl, sym, ap, subst, subst₂, ◌∙◌}
+use Rattle.std.specs.List.{AllByRecursion, AllZip}
 use Rattle.std.specs.List.Sorted.{IsPermutation}
 use Rattle.std.proofs.lemmas.Bool.{and_parts, cases_Bool}
-use Rattle.std.proofs.lemmas.List.Sorted.{IsPermutation-map, IsPermutation-trans, IsPermutation-sym}
+use Rattle.std.proofs.lemmas.List.Sorted.{IsPermutation-map, IsPermutation-trans, IsPermutation-sym, IsPermutation-middle}
 use Rattle.sqlite_value.specs.declared.keys.Order.{Order}
 use Rattle.sqlite_value.specs.declared.value.Value.TheVariants.{Null, Int}
 use Rattle.sqlite_value.specs.Order.{Row}
-use Rattle.sqlite_trees.specs.Tree.{rowid, IsAscending}
+use Rattle.sqlite_trees.specs.Tree.{rowid, put_row, IsAscending}
 use Rattle.sqlite_trees.specs.View.{is_int}
 use Rattle.sqlite_trees.proofs.ListLemmas.{map-map}
 use Rattle.sqlite_sql.specs.Term.{Term, col, eval_all}
@@ -17,7 +17,7 @@ use Rattle.sqlite_schema.specs.declared.schema.Table.{Table}
 use Rattle.sqlite_schema.specs.declared.schema.Schema.{Schema}
 use Rattle.sqlite_rules.specs.declared.error.Rowids.TheVariants.{Chosen, Given}
 use Rattle.sqlite_rules.specs.Cast.{cast_row}
-use Rattle.sqlite_rules.specs.Edit.{id_in, edit_of, with_rowid, is_taken, are_fresh, put_all, without_all, have_rowids}
+use Rattle.sqlite_rules.specs.Edit.{id_in, edit_of, with_rowid, numbered, is_taken, are_fresh, put_all, without_all, have_rowids}
 use Rattle.sqlite_rules.specs.Calls.{ids_of}
 use Rattle.sqlite_rules.specs.Lists.{Has}
 use Rattle.sqlite_rules.proofs.ListLemmas.{all_has, all_from, test_has, has_filtered, has_kept, has_got}
@@ -60,6 +60,31 @@ module _ (name : List ℕ) (tree : ℕ) (columns : List Column) (key : Option �
   abbrev this : Table
   this = table_of name tree columns key primary uniques orders
 
+  -- each source is this row, wherever its rowid is chosen
+  abbrev pub Shows : List Row → List Row → Type 0
+  Shows = AllZip (λ source wanted. (stored : List Row) → cells this (with_rowid Chosen stored (cast_row this source)) ≡ wanted)
+
+  abbrev cast : List Row → List Row
+  cast = map (λ source. cast_row this (drop 0 source))
+
+  put_each : (sources wanted shown stored : List Row) → AreStored this shown stored → Shows sources wanted → have_rowids (numbered Chosen stored (cast sources)) ≡ true
+      → are_fresh stored (numbered Chosen stored (cast sources)) ≡ true → AreStored this (wanted ++ shown) (put_all stored (numbered Chosen stored (cast sources)))
+  put_each [] [] shown stored are shows keyed fresh = are
+  put_each [] (w ∷ wanted) shown stored are shows keyed fresh = absurd shows
+  put_each (s ∷ sources) [] shown stored are shows keyed fresh = absurd shows
+  put_each (s ∷ sources) (w ∷ wanted) shown stored are shows keyed fresh =
+      let new_row = with_rowid Chosen stored (cast_row this s) in
+      let rest = numbered Chosen (put_row new_row stored) (cast sources) in
+      let apart = and_parts (not (is_taken stored new_row)) (are_fresh (put_row new_row stored) rest) fresh in
+      let whole = and_parts (is_int (rowid new_row)) (have_rowids rest) keyed in
+      let free : is_taken stored new_row ≡ false = elim (cases_Bool (is_taken stored new_row)) [
+        | inl taken ↦ absurd (let e = rw taken at apart.0 in cc)
+        | inr free ↦ free
+      ] in
+      let more = stored_more this shown stored are new_row free whole.0 in
+      stored_as this (wanted ++ w ∷ shown) (w ∷ wanted ++ shown) (put_all stored (new_row ∷ rest)) (IsPermutation-sym _ _ (IsPermutation-middle wanted w shown))
+      (put_each sources wanted (w ∷ shown) (put_row new_row stored) (subst (λ x. AreStored this (x ∷ shown) (put_row new_row stored)) (shows.0 stored) more) shows.1 whole.1 apart.1)
+
   module _ (schema : Schema) (place : ℕ) (listed : slice_get schema.tables place ≡ Some this) (apart : AreApart schema) (rows after : ℕ → List Row) (old new : Database)
       (were : AllStored schema rows old.trees) (same : AllByRecursion (λ t. t.tree ≢ tree → after t.tree ≡ rows t.tree) schema.tables) where
     in_schema : Has schema.tables this
@@ -74,21 +99,12 @@ module _ (name : List ℕ) (tree : ℕ) (columns : List Column) (key : Option �
         (all_from (λ t. t.tree ≡ tree → AreStored t (after t.tree) (new.trees t.tree)) schema.tables
         (λ t there e. subst (λ (u : Table). AreStored u (after u.tree) (new.trees u.tree)) (sym (same_table schema.tables t this apart there in_schema e)) here))
 
-    pub after_insert : (row wanted : Row) → ((stored : List Row) → cells this (with_rowid Chosen stored (cast_row this row)) ≡ wanted)
-        → Stepped schema old new (edit_of old.trees this [] Chosen 0 (row ∷ [])) → IsPermutation (after tree) (wanted ∷ rows tree) → AllStored schema after new.trees
-    after_insert row wanted shows step perm =
-        let stored = old.trees tree in
-        let new_row = with_rowid Chosen stored (cast_row this row) in
-        let fresh = step.applies.fresh in
-        let free : is_taken stored new_row ≡ false = elim (cases_Bool (is_taken stored new_row)) [
-          | inl taken ↦ absurd (let e = rw taken at fresh in cc)
-          | inr free ↦ free
-        ] in
-        let keyed : is_int (rowid new_row) ≡ true = (and_parts (is_int (rowid new_row)) true step.applies.keyed).0 in
-        let more = stored_more this (rows tree) stored mine new_row free keyed in
-        rest [] Chosen 0 (row ∷ []) step
-        (stored_as this (wanted ∷ rows tree) (after tree) (new.trees tree) perm
-        (subst₂ (λ x s. AreStored this (x ∷ rows tree) s) (shows stored) (sym step.applies.rows) more))
+    pub after_insert : (sources wanted : List Row) → Shows sources wanted
+        → Stepped schema old new (edit_of old.trees this [] Chosen 0 sources) → IsPermutation (after tree) (wanted ++ rows tree) → AllStored schema after new.trees
+    after_insert sources wanted shows step perm =
+        rest [] Chosen 0 sources step
+        (stored_as this (wanted ++ rows tree) (after tree) (new.trees tree) perm
+        (subst (AreStored this (wanted ++ rows tree)) (sym step.applies.rows) (put_each sources wanted (rows tree) (old.trees tree) mine shows step.applies.keyed step.applies.fresh)))
 
     pub after_delete : (tests : List Term) (params : Row) (found : List Row) (q : Row → Bool) → ((r : Row) → passes tests params r ≡ q (cells this r))
         → Answers (at schema old.trees) (record { lets = []; body = query_on tree tests (col 1 0 ∷ []) [] }) params found

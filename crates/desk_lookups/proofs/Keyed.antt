@@ -33,10 +33,6 @@ same_number a b h = grind (arith, nat_tests)
 pub same_text : (a b : List ℕ) → bytes_eq a b ≡ true → a ≡ b
 same_text a b h = (bytes_eq-Decides a b).0 h
 
-pub together : (a b c : Bool) → (a && (b && c)) ≡ ((a && b) && c)
-together true b c = refl
-together false b c = refl
-
 -- ---- orders
 
 pub numbers : (a b : ℕ) → value_cmp (number a) (number b) ≡ nat_cmp a b

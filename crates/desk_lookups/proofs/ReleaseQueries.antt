@@ -25,8 +25,9 @@ use Rattle.desk_rows.specs.declared.row.ReleaseRow.{ReleaseRow}
 use Rattle.desk_rows.specs.declared.row.AttachedRow.{AttachedRow}
 use Rattle.desk_rows.specs.declared.row.ChoiceRow.{ChoiceRow}
 use Rattle.desk_lookups.proofs.Ties.{is_key}
-use Rattle.desk_lookups.proofs.Keyed.{same_text, together, attached_sorted, choices_sorted, releases_sorted}
+use Rattle.desk_lookups.proofs.Keyed.{same_text, attached_sorted, choices_sorted, releases_sorted}
 use Rattle.desk_lookups.proofs.Selects.{order_by, by_unique, at_one_key, counts, shows}
+use Rattle.desk_base.proofs.Bools.{together}
 
 -- ---- the release with a name
 

@@ -1,6 +1,6 @@
 -- Stored rows with no two at one key, and lists that ascend.
 use Rattle.std.proofs.Common.{◌≡◌, inl, inr, ℕ, zero, suc, Bool, true, false, List, [], ◌∷◌, map, refl, sym, ap, ◌∙◌, arith, add-one, true≢false, IsSorted, Less, Equal, Greater, is_lt, is_eq}
-use Rattle.std.specs.Prelude.{◌&&◌, Some}
+use Rattle.std.specs.Prelude.{◌&&◌}
 use Rattle.std.specs.List.{AllByRecursion}
 use Rattle.std.specs.declared.cmp.Ordering.{Ordering}
 use Rattle.std.specs.Ordering.{ordering_then}
@@ -14,7 +14,7 @@ use Rattle.sqlite_value.specs.Order.{Row, column, value_cmp}
 use Rattle.sqlite_value.proofs.KeyLemmas.{first_key-plain}
 use Rattle.sqlite_trees.specs.Tree.{IsAscending, IsTable, rowid}
 use Rattle.sqlite_trees.specs.View.{is_int}
-use Rattle.sqlite_sql.specs.Ops.{binary, is_true, from_truth}
+use Rattle.sqlite_sql.specs.Ops.{binary}
 use Rattle.sqlite_sql.specs.Query.{key_cmp}
 use Rattle.sqlite_sql.proofs.QueryLemmas.{key_cmp_shift}
 use Rattle.sqlite_schema.specs.Rules.{agree, clashes, equal, differ}
@@ -22,6 +22,7 @@ use Rattle.sqlite_rules.specs.Lists.{Has}
 use Rattle.sqlite_rules.proofs.ListLemmas.{some_from, all_has}
 use Rattle.desk_rows.specs.Lists.{IsIn}
 use Rattle.desk_history.specs.Laws.{Ascends}
+use Rattle.desk_layout.proofs.Casts.{truth_is}
 
 -- ---- values of keys
 
@@ -34,10 +35,6 @@ is_key _ = false
 abbrev pub are_keys : List ℕ → Row → Bool
 are_keys [] r = true
 are_keys (p ∷ ps) r = is_key (column r p) && are_keys ps r
-
-truth_is : (b : Bool) → is_true (from_truth (Some b)) ≡ b
-truth_is true = refl
-truth_is false = refl
 
 tied : (a b : Value) → is_key a ≡ true → is_key b ≡ true → is_eq (value_cmp a b) ≡ true → equal Binary a b ≡ true
 unfolding binary

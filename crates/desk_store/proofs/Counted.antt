@@ -1,13 +1,16 @@
 -- What is seen of a store that keeps counts and tallies beside its tables.
-use Rattle.std.proofs.Common.{◌≡◌, ◌⊎◌, ◌∙◌, ℕ, List, sym, ap, refl, inl, inr, Ok, Err, Result}
-use Rattle.std.specs.Prelude.{IsTrue}
+use Rattle.std.proofs.Common.{◌≡◌, ◌⊎◌, ◌∙◌, ℕ, List, sym, ap, refl, inl, inr, Ok, Err, Result, Option, Some, None, false}
+use Rattle.std.specs.Prelude.{IsTrue, IfSome, IfNone}
 use Rattle.std.specs.Result.{IsErr}
 use Rattle.sqlite_trees.specs.Tree.{Trees}
 use Rattle.sqlite.specs.State.{State, HasCleanDisk}
 use Rattle.desk_rows.specs.Keys.{release_below}
 use Rattle.desk_rows.specs.Tables.{Tables, applied}
 use Rattle.desk_history.specs.Laws.{Ascends}
-use Rattle.desk_tally.specs.Kept.{AreKept}
+use Rattle.desk_rows.specs.declared.row.DutyRow.{DutyRow}
+use Rattle.desk_rows.specs.declared.row.ReleaseRow.{ReleaseRow}
+use Rattle.desk_tally.specs.Kept.{AreKept, are_countable}
+use Rattle.desk_store.specs.Adopting.{IsUncountable}
 use Rattle.desk_tally.specs.declared.tallies.Tallies.{Tallies}
 use Rattle.desk_rows.specs.declared.command.Change.{Change}
 use Rattle.desk_rows.specs.declared.command.Change.TheVariants as change
@@ -101,3 +104,17 @@ left c k n m a b kept it = record {
 pub wrote_err : (c : Change) (a b : Seen Trees) (r : Result (Unit {0}) Fault) → IsErr r → Failed Stands c a b → Wrote Stands c a b r
 wrote_err c a b (Ok x) is it = absurd (cc)
 wrote_err c a b (Err fault) is it = it
+
+-- ---- what is counted of rows that were read
+
+pub counted_kept : (a b : Seen Trees) (releases : List ReleaseRow) (duties : List DutyRow) → OfRows (λ t. (releases ≡ t.releases) × (duties ≡ t.duty)) a b → (found : Option Tallies)
+    → IfSome found (λ tallies. (t : Tables) → releases ≡ t.releases → duties ≡ t.duty → AreKept tallies t) → IfSome found (λ tallies. OfRows (AreKept tallies) a b)
+counted_kept a b releases duties read None is = is
+counted_kept a b releases duties read (Some tallies) is = λ honest t held. let rows = read honest t held in is t rows.0 rows.1
+
+pub counted_none : (a b : Seen Trees) (releases : List ReleaseRow) (duties : List DutyRow) → OfRows (λ t. (releases ≡ t.releases) × (duties ≡ t.duty)) a b → (found : Option Tallies)
+    → IfNone found (are_countable releases duties ≡ false) → IfNone found (OfRows IsUncountable a b)
+counted_none a b releases duties read None is = λ honest t held.
+    let rows = read honest t held in
+    ap (λ rs. are_countable rs t.duty) (sym rows.0) ∙ (ap (are_countable releases) (sym rows.1) ∙ is)
+counted_none a b releases duties read (Some tallies) is = is

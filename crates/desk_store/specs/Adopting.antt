@@ -1,11 +1,12 @@
 -- What creating a desk in a database, and adopting one, tell and leave.
-use Rattle.std.specs.Prelude.{◌≡◌, [], length}
+use Rattle.std.specs.Prelude.{◌≡◌, ◌⊎◌, true, false, [], length}
 use Rattle.sqlite_trees.specs.Tree.{Trees}
 use Rattle.sqlite.specs.State.{State}
 use Rattle.desk_rows.specs.Readings.{Readings}
 use Rattle.desk_rows.specs.Tables.{Tables, tables}
 use Rattle.desk_access.specs.Seen.{Seen}
-use Rattle.desk_layout.specs.Held.{Stands}
+use Rattle.desk_layout.specs.Held.{Stands, seen_of}
+use Rattle.desk_tally.specs.Kept.{are_countable}
 use Rattle.desk_adopting.specs.Reading.{IsSpared, HasStayed}
 use Rattle.desk_adopting.specs.declared.version.Content.TheVariants as content
 use Rattle.desk_adopting.specs.Version.{IsContent}
@@ -35,9 +36,20 @@ abbrev pub IsFault : AdoptFault → Type 0
 IsFault (Fault fault) = Unit {0}
 IsFault _ = ⊥
 
+-- whether the releases and duties of tables can be counted
+abbrev pub IsCountable : Tables → Type 0
+IsCountable t = are_countable t.releases t.duty ≡ true
+
+abbrev pub IsUncountable : Tables → Type 0
+IsUncountable t = are_countable t.releases t.duty ≡ false
+
+-- the tables of a desk, with rows that can't be counted
+abbrev pub IsUncounted : State → Type 0
+IsUncounted s = IsContent s content.Desk × ((t : Tables) → (seen_of s).holds t → IsUncountable t)
+
 -- what the database was found to hold, where it isn't adopted
 abbrev pub IsReason : State → AdoptFault → Type 0
-IsReason s NotADesk = IsContent s content.Other
+IsReason s NotADesk = IsContent s content.Other ⊎ IsUncounted s
 IsReason s (BadVersion version) = IsContent s (content.OtherVersion version)
 IsReason s (Fault fault) = Unit {0}
 

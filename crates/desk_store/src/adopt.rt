@@ -1,6 +1,6 @@
 //! What a store knows of the rows of a desk that is adopted.
 
-ghost use Rattle.std.specs.Prelude.{◌≡◌, false, IfOk, IfErr, OnOk, IsTrue};
+ghost use Rattle.std.specs.Prelude.{◌≡◌, false, IfOk, IfErr, IfSome, IfNone, OnOk, IsTrue};
 ghost use Rattle.std.specs.Option.{option_and_then};
 ghost use Rattle.std.specs.Result.{result_ok};
 ghost use Rattle.sqlite.specs.Held.{state};
@@ -14,7 +14,7 @@ ghost use Rattle.desk_layout.specs.Held.{known_of, seen_of};
 ghost use Rattle.desk_texts.specs.Right.{AreRight};
 ghost use Rattle.desk_adopting.specs.Reading.{HasRead, HasStayed};
 ghost use Rattle.desk_adopting.specs.Version.{IsContent};
-ghost use Rattle.desk_store.specs.Adopting.{HasCounts, IsFault, IsLeft, IsReason};
+ghost use Rattle.desk_store.specs.Adopting.{HasCounts, IsCountable, IsFault, IsLeft, IsReason, IsUncountable};
 ghost use Rattle.desk_store.specs.Counting.{known_by};
 ghost use Rattle.desk_tally.specs.Kept.{AreKept};
 
@@ -76,38 +76,40 @@ fn read_known<S: Alter>(
     Ok((counts, forms))
 }
 
-/// The tallies of the releases, counted once from the rows of releases and duties.
-fn read_tallies<S: Alter>(alloc: Global, conn: &mut Connection<S>) -> Result<Tallies, Fault>
+/// The tallies of the releases, counted once from the rows of releases and duties, if these can be counted.
+fn read_tallies<S: Alter>(alloc: Global, conn: &mut Connection<S>) -> Result<Option<Tallies>, Fault>
     requires { conn.old.in_transaction ≡ false }
-    ensures kept { IfOk result (λ tallies. OfRows (AreKept tallies) (seen_of (state S.Store conn.old)) (seen_of (state S.Store conn.new))) }
+    ensures kept { IfOk result (λ found. IfSome found (λ tallies. OfRows (AreKept tallies) (seen_of (state S.Store conn.old)) (seen_of (state S.Store conn.new)))) }
+    ensures none { IfOk result (λ found. IfNone found (OfRows IsUncountable (seen_of (state S.Store conn.old)) (seen_of (state S.Store conn.new)))) }
     ensures read { HasRead (state S.Store conn.old) (state S.Store conn.new) result }
     ensures mode { conn.new.in_transaction ≡ false }
 {
     let releases = releases(alloc, conn)?;
     let duties = duties(alloc, conn)?;
-    match Tallies::counted(alloc, releases.as_slice(), duties.as_slice())? {
-        Some(tallies) => Ok(tallies),
-        None => Err(Fault::Store(StoreFault::Rows)),
-    }
+    let tallies = Tallies::counted(alloc, releases.as_slice(), duties.as_slice())?;
+    Ok(tallies)
 }
 
-/// What a store keeps beside its tables, read from a database.
+/// What a store keeps beside its tables, read from a database, if its rows can be counted.
 fn read_beside<S: Alter>(
     alloc: Global,
     conn: &mut Connection<S>,
-) -> Result<(Counts, Items<Text>, Tallies), Fault>
+) -> Result<Option<(Counts, Items<Text>, Tallies)>, Fault>
     requires { conn.old.in_transaction ≡ false }
-    ensures known { IfOk result (λ beside. InHistory AreRight (λ w h. known_of (tables w h) ≡ known_by beside.0 beside.1) (seen_of (state S.Store conn.old)) (seen_of (state S.Store conn.new))) }
-    ensures kept { IfOk result (λ beside. OfRows (AreKept beside.2) (seen_of (state S.Store conn.old)) (seen_of (state S.Store conn.new))) }
+    ensures known { IfOk result (λ found. IfSome found (λ beside. InHistory AreRight (λ w h. known_of (tables w h) ≡ known_by beside.0 beside.1) (seen_of (state S.Store conn.old)) (seen_of (state S.Store conn.new)))) }
+    ensures kept { IfOk result (λ found. IfSome found (λ beside. OfRows (AreKept beside.2) (seen_of (state S.Store conn.old)) (seen_of (state S.Store conn.new)))) }
+    ensures none { IfOk result (λ found. IfNone found (OfRows IsUncountable (seen_of (state S.Store conn.old)) (seen_of (state S.Store conn.new)))) }
     ensures read { HasRead (state S.Store conn.old) (state S.Store conn.new) result }
     ensures mode { conn.new.in_transaction ≡ false }
 {
     let (counts, forms) = read_known(alloc, conn)?;
-    let tallies = read_tallies(alloc, conn)?;
-    Ok((counts, forms, tallies))
+    match read_tallies(alloc, conn)? {
+        Some(tallies) => Ok(Some((counts, forms, tallies))),
+        None => Ok(None),
+    }
 }
 
-/// Examines a database, and reads of a desk what a store keeps beside its tables.
+/// Examines a database, and reads of a desk what a store keeps beside its tables. One whose rows can't be counted is no desk.
 pub(crate) fn examine_desk<S: Alter>(
     alloc: Global,
     conn: &mut Connection<S>,
@@ -115,7 +117,7 @@ pub(crate) fn examine_desk<S: Alter>(
     requires { conn.old.in_transaction ≡ false }
     ensures kept { IfOk result (λ beside. OfRows (AreKept beside.2) (seen_of (state S.Store conn.old)) (seen_of (state S.Store conn.new))) }
     ensures known { IfOk result (λ known. InHistory AreRight (λ w h. known_of (tables w h) ≡ known_by known.0 known.1) (seen_of (state S.Store conn.old)) (seen_of (state S.Store conn.new))) }
-    ensures adopts { IfErr result (λ fault. IsTrue (state S.Store conn.old).is_open → OfRows (λ t. IsFault fault) (seen_of (state S.Store conn.old)) (seen_of (state S.Store conn.new))) }
+    ensures countable { IfErr result (λ fault. IsTrue (state S.Store conn.old).is_open → OfRows (λ t. IsCountable t → IsFault fault) (seen_of (state S.Store conn.old)) (seen_of (state S.Store conn.new))) }
     ensures desk { HasCleanDisk (state S.Store conn.new) → OnOk result (IsContent (state S.Store conn.old) Content.Desk) }
     ensures reason { HasCleanDisk (state S.Store conn.new) → IfErr result (IsReason (state S.Store conn.old)) }
     ensures stayed { OnOk result (HasStayed (state S.Store conn.old) (state S.Store conn.new)) }
@@ -129,7 +131,8 @@ pub(crate) fn examine_desk<S: Alter>(
         Err(fault) => return Err(AdoptFault::Fault(fault)),
     }
     match read_beside(alloc, conn) {
-        Ok(beside) => Ok(beside),
+        Ok(Some(beside)) => Ok(beside),
+        Ok(None) => Err(AdoptFault::NotADesk),
         Err(fault) => Err(AdoptFault::Fault(fault)),
     }
 }

@@ -14,7 +14,7 @@ ghost use Rattle.desk_writing.specs.Creating.{has_meta};
 ghost use Rattle.desk_writing.specs.Written.{Undone};
 ghost use Rattle.desk_adopting.specs.Reading.{HasStayed};
 ghost use Rattle.desk_adopting.specs.Version.{IsContent};
-ghost use Rattle.desk_store.specs.Adopting.{IsEmpty, IsFault, IsLeft, IsReason, StandsEmpty};
+ghost use Rattle.desk_store.specs.Adopting.{IsCountable, IsEmpty, IsFault, IsLeft, IsReason, StandsEmpty};
 ghost use Rattle.desk_store.specs.Counting.{known_by};
 
 use crate::adopt::examine_desk;
@@ -96,16 +96,20 @@ impl<S: Alter> SqlDesk<S> {
     ///
     /// It isn't adopted as `BadVersion` where its table `meta` tells another version than 3, whatever else stands in it; as
     /// `NotADesk` where no table `meta` tells one version, or where not all tables of a desk are declared as `create` declares them,
-    /// in its order, or where a table, an index or a view stands beside them. After these the connection is as it was. A fault tells
-    /// that memory was wanting, that the database failed, or that it gave rows that no desk has, such as a catalogue in force that
-    /// can't be read, releases whose places aren't those from 1 to their number, or more than 100,000 duties.
+    /// in its order, or where a table, an index or a view stands beside them, or where its rows can't be counted: releases whose
+    /// places aren't those from 1 to their number, duties that aren't numbered from 1 on or are of no release, or more than 100,000
+    /// of them. After these the connection is as it was. A fault tells that memory was wanting, that the database failed, or that it
+    /// gave rows that no desk has, such as a catalogue in force that can't be read.
+    ///
+    /// The tables of a recorded history can be counted, so of them a fault alone is answered.
     pub fn adopt_connection(
         alloc: Global,
         conn: Connection<S>,
     ) -> Result<SqlDesk<S>, (AdoptFault, Connection<S>)>
         requires { conn.in_transaction ≡ false }
         ensures holds { IfOk result (λ desk. InHistory AreRight (λ w h. (⟦<SqlDesk<S> as Desk>⟧.seen desk).holds (tables w h)) (seen_of (state S.Store conn)) (⟦<SqlDesk<S> as Desk>⟧.seen desk)) }
-        ensures adopts { IfErr result (λ e. IsTrue (state S.Store conn).is_open → OfRows (λ t. IsFault e.0) (seen_of (state S.Store conn)) (seen_of (state S.Store e.1))) }
+        ensures adopts { IfErr result (λ e. IsTrue (state S.Store conn).is_open → InHistory (λ w. Unit {0}) (λ w h. IsFault e.0) (seen_of (state S.Store conn)) (seen_of (state S.Store e.1))) }
+        ensures countable { IfErr result (λ e. IsTrue (state S.Store conn).is_open → OfRows (λ t. IsCountable t → IsFault e.0) (seen_of (state S.Store conn)) (seen_of (state S.Store e.1))) }
         ensures desk { IfOk result (λ desk. HasCleanDisk (state S.Store desk.desk.store.conn) → IsContent (state S.Store conn) Content.Desk) }
         ensures reason { IfErr result (λ e. HasCleanDisk (state S.Store e.1) → IsReason (state S.Store conn) e.0) }
         ensures stayed { IfOk result (λ desk. HasStayed (state S.Store conn) (state S.Store desk.desk.store.conn)) }

@@ -17,7 +17,8 @@ pub enum CreateFault {
 /// Why a database wasn't adopted as a desk. It is shown by its name, with the version that the database tells.
 #[derive(Clone, Copy, Debug, Drop, PartialEq, Eq, Error)]
 pub enum AdoptFault {
-    /// The database tells no version, or one table of a desk isn't there as it is declared, or something stands beside them.
+    /// The database tells no version, or one table of a desk isn't there as it is declared, or something stands beside them, or its
+    /// rows can't be counted.
     #[error("NotADesk")]
     NotADesk,
     /// The tables are of another version.

@@ -193,6 +193,22 @@ fn adopts_no_changed_desk(rt: HostRuntime) -> Result<(), Fail> {
             "BadVersion(1)",
         ),
         (
+            "INSERT INTO releases VALUES ('r', 2, 'binary', 'open', 0)",
+            "NotADesk",
+        ),
+        (
+            "INSERT INTO releases VALUES ('r', 1, 'binary', 'open', 0), ('s', 2, 'binary', 'open', 0)",
+            "adopted",
+        ),
+        (
+            "INSERT INTO duty VALUES (1, 'r', 1, 'SPDXRef-p', 'MIT', 'mit', 'MIT', 'open')",
+            "NotADesk",
+        ),
+        (
+            "INSERT INTO releases VALUES ('r', 1, 'binary', 'frozen', 1); INSERT INTO duty VALUES (2, 'r', 1, 'SPDXRef-p', 'MIT', 'mit', 'MIT', 'open')",
+            "NotADesk",
+        ),
+        (
             "INSERT INTO catalogue VALUES (1, 'no catalogue')",
             "the store failed",
         ),

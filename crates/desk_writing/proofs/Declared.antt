@@ -1,29 +1,21 @@
 -- Tables are declared one after another.
-use Rattle.std.proofs.Common.{◌≡◌, ◌∙◌, ◌⊎◌, inl, inr, ℕ, suc, ◌+◌, Bool, false, List, [], ◌∷◌, ◌++◌, map, IsTrue, Option, None, Some, drop, slice_get, Ok, Err, Result, refl, sym, ap, subst, arith, add-one, drop-cons}
+use Rattle.std.proofs.Common.{◌≡◌, ◌∙◌, ℕ, suc, ◌+◌, false, List, [], ◌∷◌, ◌++◌, map, None, Some, drop, slice_get, Ok, Err, Result, sym, ap, subst, add-one, drop-cons}
 use Rattle.std.specs.List.{AllByRecursion}
 use Rattle.sqlite_schema.specs.declared.schema.Table.{Table}
 use Rattle.sqlite_schema.specs.declared.schema.Schema.{Schema}
 use Rattle.sqlite_schema.specs.declared.command.Command.TheVariants.{CreateTable}
-use Rattle.sqlite_resolve.specs.Compile.{table_defined_by}
 use Rattle.sqlite_catalog.specs.Change.{created, next_tree, KeepsRows}
 use Rattle.sqlite_trees.specs.Tree.{Trees}
-use Rattle.sqlite.specs.Listing.{understood}
 use Rattle.sqlite.specs.Effect.{Database, IsDatabase}
-use Rattle.sqlite.specs.Does.{Tally, Does, lacks_sequence}
-use Rattle.sqlite.specs.State.{State, Writes, Executes, ExecutesInside, HasCleanDisk}
-use Rattle.sqlite.proofs.Callers.{IsPlain, command_of, statement_of, runs_as}
+use Rattle.sqlite.specs.Does.{Tally, lacks_sequence}
+use Rattle.sqlite.specs.State.{State, Writes, Executes, HasCleanDisk}
+use Rattle.sqlite.proofs.Callers.{runs_as}
 use Rattle.sqlite.proofs.InsideLemmas.{keeps_then}
 use Rattle.desk_rows.specs.declared.command.Fault.{Fault}
 use Rattle.std.proofs.lemmas.Option.{slice_get_within, get_or_from_slice_get}
 use Rattle.desk_writing.specs.Declaring.{Declares, AreDeclared, schema_after, IsBare, Left, Went}
 use Rattle.desk_writing.specs.Written.{Ran}
-
-went : {B E R : Type 0} {b : B} {Stops : E → Type 0} → ((stop : E) × Stops stop × (Ok b ≡ Err stop)) ⊎ R → R
-went (inl stopped) = absurd (let e = stopped.2 in cc)
-went (inr on) = on
-
-same_value : {B E : Type 0} {a b : B} → ◌≡◌ {A = Result B E} (Ok a) (Ok b) → a ≡ b
-same_value e = cc
+use Rattle.desk_layout.proofs.Steps.{same_value, went}
 
 pub creates : (text : List ℕ) (table : Table) (schema : Schema) (old new : State) (count : ℕ) → Declares text table schema → old.now.schema ≡ schema → Executes text [] old new (Ok count)
     → (new.now.schema ≡ created schema table) × (new.now.trees (next_tree schema) ≡ []) × KeepsRows schema.tables old.now.trees new.now.trees × IsDatabase new.now

@@ -1,5 +1,5 @@
 -- What each DELETE does to the tables.
-use Rattle.std.proofs.Common.{◌≡◌, ℕ, pos, Bool, true, false, not, List, [], ◌∷◌, filter, map, codes, Ok, refl, sym, ◌∙◌}
+use Rattle.std.proofs.Common.{◌≡◌, ℕ, pos, Bool, true, not, List, [], ◌∷◌, filter, map, codes, Ok, refl, sym, ◌∙◌}
 use Rattle.std.specs.Prelude.{◌&&◌, ◌==◌, bytes_eq}
 use Rattle.sqlite_value.specs.declared.keys.Collation.TheVariants.{Binary}
 use Rattle.sqlite_value.specs.declared.value.Value.TheVariants.{Int, Text}
@@ -26,10 +26,7 @@ use Rattle.desk_layout.proofs.Casts.{int_test, text_test, and_true, same}
 use Rattle.desk_layout.proofs.Queries.{query_on}
 use Rattle.desk_layout.proofs.Statements.{deleted}
 use Rattle.desk_writing.specs.Contents.{Contents, cells_of, with_tables}
-
-together : (a b c : Bool) → (a && (b && c)) ≡ ((a && b) && c)
-together true b c = refl
-together false b c = refl
+use Rattle.desk_base.proofs.Bools.{together}
 
 -- ---- drop_choices
 

@@ -1,6 +1,5 @@
 -- An empty desk's tables.
 use Rattle.std.proofs.Common.{◌≡◌, ◌⊎◌, inl, inr, ℕ, pos, List, [], ◌∷◌, codes, IsTrue, Ok, Err, Result, refl, sym, subst}
-use Rattle.std.specs.List.Sorted.{IsPermutation}
 use Rattle.std.proofs.lemmas.List.Sorted.{IsPermutation-refl}
 use Rattle.sqlite_value.specs.declared.value.Value.TheVariants.{Null, Int}
 use Rattle.sqlite_value.specs.Order.{Row}
@@ -24,7 +23,7 @@ use Rattle.desk_layout.proofs.Statements.{inserted}
 use Rattle.sqlite_schema.specs.declared.schema.Table.{Table}
 use Rattle.desk_writing.specs.Declaring.{IsBare, Left, Went}
 use Rattle.desk_writing.specs.Written.{Ran}
-use Rattle.desk_writing.specs.Creating.{no_tables, Founds, HasFounded, LeavesTables}
+use Rattle.desk_writing.specs.Creating.{no_tables, HasFounded, LeavesTables}
 use Rattle.desk_writing.proofs.Declared.{all_declared}
 use Rattle.desk_writing.proofs.Declarations.{declarations, all_are_declared, desk_schema_is}
 

@@ -1,14 +1,16 @@
 -- What each INSERT does to the tables.
-use Rattle.std.proofs.Common.{◌≡◌, ℕ, pos, List, [], ◌∷◌, ◌++◌, map, codes, Ok, refl, sym, ap, subst}
-use Rattle.std.specs.Prelude.{if◌then◌else◌}
+use Rattle.std.proofs.Common.{◌≡◌, ℕ, pos, ◌+◌, List, [], ◌∷◌, ◌++◌, map, flat_map, length, codes, Ok, refl, sym, subst}
+use Rattle.std.specs.Prelude.{if◌then◌else◌, ◌/◌}
 use Rattle.std.specs.List.Sorted.{IsPermutation}
 use Rattle.std.proofs.lemmas.List.{map-append}
-use Rattle.std.proofs.lemmas.List.Sorted.{IsPermutation-middle}
+use Rattle.std.proofs.lemmas.List.Sorted.{IsPermutation-middle, IsPermutation-append_comm}
 use Rattle.sqlite_value.specs.declared.value.Value.TheVariants.{Null, Text, Blob}
+use Rattle.sqlite_value.specs.Order.{Row}
 use Rattle.sqlite_sql.specs.Term.{Term, lit, col}
 use Rattle.sqlite_schema.specs.declared.command.Command.TheVariants.{Insert}
 use Rattle.sqlite_schema.specs.declared.command.Source.TheVariants.{Values}
 use Rattle.sqlite_tied.specs.Compute.{everything}
+use Rattle.sqlite.specs.Effect.{value_rows}
 use Rattle.sqlite.specs.Listing.{understood}
 use Rattle.sqlite.specs.State.{State, Executes}
 use Rattle.sqlite.proofs.Callers.{IsPlain, command_of}
@@ -31,9 +33,10 @@ use Rattle.desk_layout.specs.Layout as d
 use Rattle.desk_layout.specs.Cells.{number, text_or_null, joined, catalogue_cells, rule_cells, document_cells, reading_cells, package_cells, extracted_cells, conclusion_cells, adoption_cells, release_cells, attached_cells, choice_cells, frozen_cells, duty_cells, change_cells, waiver_cells}
 use Rattle.desk_layout.specs.Held.{HasRows}
 use Rattle.desk_layout.proofs.Casts.{cast_null, cast_int, cast_text}
-use Rattle.desk_layout.proofs.Statements.{inserted}
+use Rattle.desk_layout.proofs.Statements.{inserted, all_inserted}
+use Rattle.desk_layout.proofs.Writes.{Shows}
 use Rattle.desk_writing.specs.Contents.{Contents, cells_of, with_tables}
-use Rattle.desk_writing.proofs.Lists.{append_nil}
+use Rattle.desk_writing.proofs.Lists.{append_nil, eight}
 
 last_first : {X : Type 0} (x : X) (xs : List X) → IsPermutation (xs ++ x ∷ []) (x ∷ xs)
 last_first x xs = subst (λ l. IsPermutation (xs ++ x ∷ []) (x ∷ l)) (append_nil xs) (IsPermutation-middle xs x [])
@@ -41,6 +44,10 @@ last_first x xs = subst (λ l. IsPermutation (xs ++ x ∷ []) (x ∷ l)) (append
 -- a row behind the others is, in some order, a row before them
 one_more : {X Y : Type 0} (f : X → Y) (xs : List X) (x : X) → IsPermutation (map f (xs ++ x ∷ [])) (f x ∷ map f xs)
 one_more f xs x = subst (λ l. IsPermutation l (f x ∷ map f xs)) (sym (map-append f xs (x ∷ []))) (last_first (f x) (map f xs))
+
+-- and so are several
+all_more : {X Y : Type 0} (f : X → Y) (xs ys : List X) → IsPermutation (map f (xs ++ ys)) (map f ys ++ map f xs)
+all_more f xs ys = subst (λ l. IsPermutation l (map f ys ++ map f xs)) (sym (map-append f xs ys)) (IsPermutation-append_comm (map f xs) (map f ys))
 
 -- ---- catalogue
 
@@ -341,6 +348,42 @@ duty_added row old new count c ran has =
     (λ n. refl, (λ n. refl, (λ n. refl, (λ n. refl, (λ n. refl, (λ n. refl, (λ n. refl, (λ n. refl, (λ n. refl, (λ n. refl, (λ n. refl, (λ n. refl, (λ n. absurd (n refl), (λ n. refl, (λ n. refl, (λ n. refl, tt))))))))))))))))
     old new count ran has duty_terms 9 (number row.number ∷ Null ∷ Text row.release ∷ number row.document ∷ Text row.package_id ∷ Text row.term ∷ Text row.code ∷ Text row.rule ∷ Text (duty_state_name row.state) ∷ []) (duty_cells row) add_duty_is refl (λ stored. rw (cast_null, cast_int (pos row.number), cast_int (pos row.document)) refl) (one_more duty_cells c.tables.duty row)
 
+-- ---- eight duties
+
+abbrev pub add_eight_duties_text : List ℕ
+add_eight_duties_text = codes "INSERT INTO duty VALUES (?, ?, ?, ?, ?, ?, ?, ?), (?, ?, ?, ?, ?, ?, ?, ?), (?, ?, ?, ?, ?, ?, ?, ?), (?, ?, ?, ?, ?, ?, ?, ?), (?, ?, ?, ?, ?, ?, ?, ?), (?, ?, ?, ?, ?, ?, ?, ?), (?, ?, ?, ?, ?, ?, ?, ?), (?, ?, ?, ?, ?, ?, ?, ?)"
+
+abbrev duty_terms_at : ℕ → List Term
+duty_terms_at n = col 0 n ∷ lit Null ∷ col 0 (n + 1) ∷ col 0 (n + 2) ∷ col 0 (n + 3) ∷ col 0 (n + 4) ∷ col 0 (n + 5) ∷ col 0 (n + 6) ∷ col 0 (n + 7) ∷ []
+
+abbrev eight_duty_terms : List Term
+eight_duty_terms = flat_map duty_terms_at (0 ∷ 8 ∷ 16 ∷ 24 ∷ 32 ∷ 40 ∷ 48 ∷ 56 ∷ [])
+
+abbrev duty_source : DutyRow → Row
+duty_source row = number row.number ∷ Null ∷ Text row.release ∷ number row.document ∷ Text row.package_id ∷ Text row.term ∷ Text row.code ∷ Text row.rule ∷ Text (duty_state_name row.state) ∷ []
+
+add_eight_duties_is : command_of (understood d.desk_schema add_eight_duties_text) ≡ Insert 12 (Values eight_duty_terms 9)
+unfolding understood everything
+add_eight_duties_is = refl
+
+add_eight_duties_plain : IsPlain (understood d.desk_schema add_eight_duties_text)
+unfolding understood everything
+add_eight_duties_plain = (refl, refl)
+
+duties_given : (rows : List DutyRow) → length rows ≡ 8 → value_rows (flat_map duty_cells rows) 9 (length eight_duty_terms / 9) eight_duty_terms ≡ map duty_source rows
+duties_given = eight (λ rows. value_rows (flat_map duty_cells rows) 9 (length eight_duty_terms / 9) eight_duty_terms ≡ map duty_source rows) (λ a b c d e f g h. refl)
+
+duties_show : (rows : List DutyRow) → let this = d.duty_table in Shows this.name 23 this.columns this.key this.primary this.uniques this.orders (map duty_source rows) (map duty_cells rows)
+duties_show [] = tt
+duties_show (row ∷ rows) = ((λ stored. rw (cast_null, cast_int (pos row.number), cast_int (pos row.document)) refl), duties_show rows)
+
+pub duties_added : (rows : List DutyRow) → length rows ≡ 8 → (old new : State) (count : ℕ) (c : Contents) → Executes add_eight_duties_text (flat_map duty_cells rows) old new (Ok count) → HasRows (cells_of c) old.now → HasRows (cells_of (with_tables (λ t. record t { duty = t.duty ++ rows }) c)) new.now
+duties_added rows same old new count c ran has =
+    let this = d.duty_table in
+    all_inserted this.name 23 this.columns this.key this.primary this.uniques this.orders 12 refl add_eight_duties_text add_eight_duties_plain (flat_map duty_cells rows) (cells_of c) (cells_of (with_tables (λ t. record t { duty = t.duty ++ rows }) c))
+    (λ n. refl, (λ n. refl, (λ n. refl, (λ n. refl, (λ n. refl, (λ n. refl, (λ n. refl, (λ n. refl, (λ n. refl, (λ n. refl, (λ n. refl, (λ n. refl, (λ n. absurd (n refl), (λ n. refl, (λ n. refl, (λ n. refl, tt))))))))))))))))
+    old new count ran has eight_duty_terms 9 (map duty_source rows) (map duty_cells rows) add_eight_duties_is (duties_given rows same) (duties_show rows) (all_more duty_cells c.tables.duty rows)
+
 -- ---- change
 
 abbrev pub add_change_text : List ℕ
@@ -363,6 +406,42 @@ change_added row old new count c ran has =
     inserted this.name 25 this.columns this.key this.primary this.uniques this.orders 13 refl add_change_text add_change_plain (change_cells row) (cells_of c) (cells_of (with_tables (λ t. record t { changes = t.changes ++ row ∷ [] }) c))
     (λ n. refl, (λ n. refl, (λ n. refl, (λ n. refl, (λ n. refl, (λ n. refl, (λ n. refl, (λ n. refl, (λ n. refl, (λ n. refl, (λ n. refl, (λ n. refl, (λ n. refl, (λ n. absurd (n refl), (λ n. refl, (λ n. refl, tt))))))))))))))))
     old new count ran has change_terms 6 (Null ∷ number row.duty ∷ number row.step ∷ Text row.day ∷ Text (word_name row.word) ∷ Text row.body ∷ []) (change_cells row) add_change_is refl (λ stored. rw (cast_null, cast_int (pos row.duty), cast_int (pos row.step)) refl) (one_more change_cells c.tables.changes row)
+
+-- ---- eight changes
+
+abbrev pub add_eight_changes_text : List ℕ
+add_eight_changes_text = codes "INSERT INTO change VALUES (?, ?, ?, ?, ?), (?, ?, ?, ?, ?), (?, ?, ?, ?, ?), (?, ?, ?, ?, ?), (?, ?, ?, ?, ?), (?, ?, ?, ?, ?), (?, ?, ?, ?, ?), (?, ?, ?, ?, ?)"
+
+abbrev change_terms_at : ℕ → List Term
+change_terms_at n = lit Null ∷ col 0 n ∷ col 0 (n + 1) ∷ col 0 (n + 2) ∷ col 0 (n + 3) ∷ col 0 (n + 4) ∷ []
+
+abbrev eight_change_terms : List Term
+eight_change_terms = flat_map change_terms_at (0 ∷ 5 ∷ 10 ∷ 15 ∷ 20 ∷ 25 ∷ 30 ∷ 35 ∷ [])
+
+abbrev change_source : ChangeRow → Row
+change_source row = Null ∷ number row.duty ∷ number row.step ∷ Text row.day ∷ Text (word_name row.word) ∷ Text row.body ∷ []
+
+add_eight_changes_is : command_of (understood d.desk_schema add_eight_changes_text) ≡ Insert 13 (Values eight_change_terms 6)
+unfolding understood everything
+add_eight_changes_is = refl
+
+add_eight_changes_plain : IsPlain (understood d.desk_schema add_eight_changes_text)
+unfolding understood everything
+add_eight_changes_plain = (refl, refl)
+
+changes_given : (rows : List ChangeRow) → length rows ≡ 8 → value_rows (flat_map change_cells rows) 6 (length eight_change_terms / 6) eight_change_terms ≡ map change_source rows
+changes_given = eight (λ rows. value_rows (flat_map change_cells rows) 6 (length eight_change_terms / 6) eight_change_terms ≡ map change_source rows) (λ a b c d e f g h. refl)
+
+changes_show : (rows : List ChangeRow) → let this = d.change_table in Shows this.name 25 this.columns this.key this.primary this.uniques this.orders (map change_source rows) (map change_cells rows)
+changes_show [] = tt
+changes_show (row ∷ rows) = ((λ stored. rw (cast_null, cast_int (pos row.duty), cast_int (pos row.step)) refl), changes_show rows)
+
+pub changes_added : (rows : List ChangeRow) → length rows ≡ 8 → (old new : State) (count : ℕ) (c : Contents) → Executes add_eight_changes_text (flat_map change_cells rows) old new (Ok count) → HasRows (cells_of c) old.now → HasRows (cells_of (with_tables (λ t. record t { changes = t.changes ++ rows }) c)) new.now
+changes_added rows same old new count c ran has =
+    let this = d.change_table in
+    all_inserted this.name 25 this.columns this.key this.primary this.uniques this.orders 13 refl add_eight_changes_text add_eight_changes_plain (flat_map change_cells rows) (cells_of c) (cells_of (with_tables (λ t. record t { changes = t.changes ++ rows }) c))
+    (λ n. refl, (λ n. refl, (λ n. refl, (λ n. refl, (λ n. refl, (λ n. refl, (λ n. refl, (λ n. refl, (λ n. refl, (λ n. refl, (λ n. refl, (λ n. refl, (λ n. refl, (λ n. absurd (n refl), (λ n. refl, (λ n. refl, tt))))))))))))))))
+    old new count ran has eight_change_terms 6 (map change_source rows) (map change_cells rows) add_eight_changes_is (changes_given rows same) (changes_show rows) (all_more change_cells c.tables.changes rows)
 
 -- ---- waiver
 

@@ -1,4 +1,5 @@
 mod Inside
+mod Grown
 mod Inserts
 mod Deletes
 mod Updates

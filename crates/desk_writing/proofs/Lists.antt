@@ -1,9 +1,10 @@
 -- The front of a list grows by one, and what is left of it behind.
 use Rattle.std.specs.List.{join_with_byte}
 use Rattle.std.specs.Prelude.{Some}
+use Rattle.std.proofs.lemmas.Grind.{flat_map-append}
 use Rattle.desk_rows.specs.declared.row.ChangeRow.{ChangeRow}
 use Rattle.desk_layout.specs.Cells.{is_waiver}
-use Rattle.std.proofs.Common.{◌≡◌, Bool, true, false, cond, drop, filter, ℕ, zero, suc, ◌<◌, ◌≤◌, List, [], ◌∷◌, ◌++◌, take, length, get_or, refl, sym, ap, arith, add-one, ◌∙◌, ◌+◌}
+use Rattle.std.proofs.Common.{◌≡◌, Bool, true, false, cond, drop, filter, flat_map, ℕ, zero, suc, ◌<◌, ◌≤◌, List, [], ◌∷◌, ◌++◌, take, length, get_or, refl, sym, ap, arith, add-one, ◌∙◌, ◌+◌}
 
 pub append_nil : {X : Type 0} (xs : List X) → xs ++ [] ≡ xs
 append_nil [] = refl
@@ -78,3 +79,30 @@ joined_on codes rest first code i old blank new whole low is so then last =
 
 pub waiver_kept : (row : ChangeRow) (day : List ℕ) → row.last_day ≡ Some day → filter is_waiver (row ∷ []) ≡ row ∷ []
 waiver_kept row day is = rw is refl
+
+-- the rows are the added ones and those that are left, of which more were added
+pub more_added : {X : Type 0} (rows added left more rest : List X) → rows ≡ added ++ left → left ≡ more ++ rest → rows ≡ (added ++ more) ++ rest
+more_added rows added left more rest was is = was ∙ ap (λ l. added ++ l) is ∙ sym (append_all added more rest)
+
+pub take_and_drop : {X : Type 0} (n : ℕ) (xs : List X) → xs ≡ take n xs ++ drop n xs
+take_and_drop zero [] = refl
+take_and_drop zero (x ∷ xs) = refl
+take_and_drop (suc n) [] = refl
+take_and_drop (suc n) (x ∷ xs) = ap (λ l. x ∷ l) (take_and_drop n xs)
+
+-- what holds of any eight holds of a list of eight
+pub eight : {X : Type 0} (P : List X → Type 0) → ((a b c d e f g h : X) → P (a ∷ b ∷ c ∷ d ∷ e ∷ f ∷ g ∷ h ∷ [])) → (rows : List X) → length rows ≡ 8 → P rows
+eight P holds (a ∷ b ∷ c ∷ d ∷ e ∷ f ∷ g ∷ h ∷ []) is = holds a b c d e f g h
+eight P holds (a ∷ b ∷ c ∷ d ∷ e ∷ f ∷ g ∷ h ∷ i ∷ rows) is = absurd (omega arith)
+eight P holds (a ∷ b ∷ c ∷ d ∷ e ∷ f ∷ g ∷ []) is = absurd (omega arith)
+eight P holds (a ∷ b ∷ c ∷ d ∷ e ∷ f ∷ []) is = absurd (omega arith)
+eight P holds (a ∷ b ∷ c ∷ d ∷ e ∷ []) is = absurd (omega arith)
+eight P holds (a ∷ b ∷ c ∷ d ∷ []) is = absurd (omega arith)
+eight P holds (a ∷ b ∷ c ∷ []) is = absurd (omega arith)
+eight P holds (a ∷ b ∷ []) is = absurd (omega arith)
+eight P holds (a ∷ []) is = absurd (omega arith)
+eight P holds [] is = absurd (omega arith)
+
+-- what the front of a list and the next one make
+pub flat_more : {X V : Type 0} (f : X → List V) (rows : List X) (i : ℕ) (d x : X) → x ≡ get_or rows i d → i < length rows → flat_map f (take i rows) ++ flat_map f (x ∷ []) ≡ flat_map f (take (i + 1) rows)
+flat_more f rows i d x is low = sym (flat_map-append f (take i rows) (x ∷ [])) ∙ ap (flat_map f) (front_more [] rows i d x is low)

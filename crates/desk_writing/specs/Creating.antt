@@ -1,5 +1,5 @@
 -- What creating the desk's tables does to a connection.
-use Rattle.std.specs.Prelude.{◌≡◌, ℕ, Bool, List, [], codes, IsTrue, Result, Ok, Err}
+use Rattle.std.specs.Prelude.{◌≡◌, Bool, [], codes, IsTrue, Result, Ok, Err}
 use Rattle.std.specs.List.{list_any}
 use Rattle.sqlite_schema.specs.declared.schema.Schema.{Schema}
 use Rattle.sqlite_schema.specs.Names.{same_name}

@@ -7,7 +7,6 @@ use Rattle.sqlite.specs.State.{State, HasCleanDisk, KeepsCommit, ExecutesInside}
 use Rattle.desk_rows.specs.Tables.{Tables, applied}
 use Rattle.desk_rows.specs.declared.command.Change.{Change}
 use Rattle.desk_rows.specs.declared.command.Fault.{Fault}
-use Rattle.desk_layout.specs.Layout.{no_schema}
 use Rattle.desk_layout.specs.Held.{HasRows, rows_of}
 
 -- Inside a transaction, which goes on, this was made of whatever rows the database had, and nothing was committed.

@@ -125,6 +125,7 @@ pub(crate) fn adopt<S: Alter>(tx: &mut Transaction<'_, S>, row: &AdoptionRow) ->
 
 /// Duties are raised.
 pub(crate) fn raise<S: Alter>(
+    alloc: Global,
     tx: &mut Transaction<'_, S>,
     duties: &[DutyRow],
     changes: &[ChangeRow],
@@ -133,12 +134,13 @@ pub(crate) fn raise<S: Alter>(
     ensures wrote { Writes cells_of (λ it. with_steps changes.now (with_tables (λ t. record t { duty = t.duty ++ duties.now }) it)) (state S.Store tx.old.conn.now) (state S.Store tx.new.conn.now) result }
     ensures survives { Survives (state S.Store tx.old.conn.now) (state S.Store tx.new.conn.now) (λ _. ⊥) }
 {
-    add_duties(tx, duties)?;
-    add_steps(tx, changes)
+    add_duties(alloc, tx, duties)?;
+    add_steps(alloc, tx, changes)
 }
 
 /// Adds the terms that a release is frozen with, and raises its duties.
 pub(crate) fn add_terms<S: Alter>(
+    alloc: Global,
     tx: &mut Transaction<'_, S>,
     frozen: &[FrozenRow],
     duties: &[DutyRow],
@@ -149,11 +151,12 @@ pub(crate) fn add_terms<S: Alter>(
     ensures survives { Survives (state S.Store tx.old.conn.now) (state S.Store tx.new.conn.now) (λ _. ⊥) }
 {
     add_frozen_terms(tx, frozen)?;
-    raise(tx, duties, changes)
+    raise(alloc, tx, duties, changes)
 }
 
 /// A release is frozen.
 pub(crate) fn freeze<S: Alter>(
+    alloc: Global,
     tx: &mut Transaction<'_, S>,
     release: &Text,
     revision: u64,
@@ -166,11 +169,12 @@ pub(crate) fn freeze<S: Alter>(
     ensures survives { Survives (state S.Store tx.old.conn.now) (state S.Store tx.new.conn.now) (λ _. ⊥) }
 {
     freeze_release(tx, release, revision)?;
-    add_terms(tx, frozen, duties, changes)
+    add_terms(alloc, tx, frozen, duties, changes)
 }
 
 /// Duties are moved.
 pub(crate) fn move_duties<S: Alter>(
+    alloc: Global,
     tx: &mut Transaction<'_, S>,
     changes: &[ChangeRow],
 ) -> Result<(), Fault>
@@ -179,11 +183,12 @@ pub(crate) fn move_duties<S: Alter>(
     ensures survives { Survives (state S.Store tx.old.conn.now) (state S.Store tx.new.conn.now) (λ _. ⊥) }
 {
     set_duties(tx, changes)?;
-    add_steps(tx, changes)
+    add_steps(alloc, tx, changes)
 }
 
 /// The terms that are chosen in a release go, and its duties are moved.
 pub(crate) fn clear<S: Alter>(
+    alloc: Global,
     tx: &mut Transaction<'_, S>,
     release: &Text,
     changes: &[ChangeRow],
@@ -193,11 +198,12 @@ pub(crate) fn clear<S: Alter>(
     ensures survives { Survives (state S.Store tx.old.conn.now) (state S.Store tx.new.conn.now) (λ _. ⊥) }
 {
     drop_choices_in(tx, release)?;
-    move_duties(tx, changes)
+    move_duties(alloc, tx, changes)
 }
 
 /// A release is withdrawn.
 pub(crate) fn withdraw<S: Alter>(
+    alloc: Global,
     tx: &mut Transaction<'_, S>,
     release: &Text,
     changes: &[ChangeRow],
@@ -207,7 +213,7 @@ pub(crate) fn withdraw<S: Alter>(
     ensures survives { Survives (state S.Store tx.old.conn.now) (state S.Store tx.new.conn.now) (λ _. ⊥) }
 {
     withdraw_release(tx, release)?;
-    clear(tx, release, changes)
+    clear(alloc, tx, release, changes)
 }
 
 /// Writes a change.
@@ -246,6 +252,7 @@ pub(crate) fn make<S: Alter>(
             duties,
             changes,
         } => freeze(
+            alloc,
             tx,
             release,
             *revision,
@@ -253,8 +260,8 @@ pub(crate) fn make<S: Alter>(
             duties.as_slice(),
             changes.as_slice(),
         ),
-        Change::Moved { changes } => move_duties(tx, changes.as_slice()),
-        Change::Withdrew { release, changes } => withdraw(tx, release, changes.as_slice()),
+        Change::Moved { changes } => move_duties(alloc, tx, changes.as_slice()),
+        Change::Withdrew { release, changes } => withdraw(alloc, tx, release, changes.as_slice()),
         Change::Concluded(row) => conclude(tx, row),
         Change::Adopted(row) => adopt(tx, row),
     }

@@ -1,22 +1,26 @@
 //! Duties and their changes.
 
-ghost use Rattle.std.specs.Prelude.{◌≡◌, ◌++◌, ◌∷◌, [], filter, not};
+ghost use Rattle.std.specs.Prelude.{◌≡◌, ◌++◌, ◌∷◌, [], filter, length, IfOk};
+ghost use Rattle.std.specs.List.{flat_map};
 ghost use Rattle.sqlite.specs.Held.{state};
 ghost use Rattle.sqlite.specs.State.{Survives};
 ghost use Rattle.sqlite.specs.Values.{bound};
 ghost use Rattle.desk_rows.specs.Keys.{is_duty};
 ghost use Rattle.desk_rows.specs.Lists.{updated};
 ghost use Rattle.desk_rows.specs.Tables.{with_duty_state, moved_by};
-ghost use Rattle.desk_rows.specs.States.{state_after};
-ghost use Rattle.desk_layout.specs.Cells.{duty_cells, change_cells, waiver_cells};
+ghost use Rattle.desk_layout.specs.Cells.{duty_cells, change_cells, is_waiver, waiver_cells};
 ghost use Rattle.desk_writing.specs.Contents.{cells_of, with_tables, with_steps};
 ghost use Rattle.desk_writing.specs.Written.{Writes};
 
 use crate::statement::execute;
 use desk_layout::values::{day, day_or_null, duty_state, number, text, word};
-use desk_rows::{ChangeRow, DutyRow, DutyState, Fault, Word};
+use desk_rows::{ChangeRow, DutyRow, DutyState, Fault};
 use sqlite::{Alter, Transaction};
 use sqlite_value::value::ValueRef;
+use std::alloc::{AllocError, Global};
+
+/// How many rows a statement adds, where there are so many: they share what it costs beside them.
+const ROWS: usize = 8;
 
 fn duty_values<'a>(row: &'a DutyRow) -> [ValueRef<'a>; 8]
     ensures { bound result ≡ duty_cells row.now }
@@ -117,8 +121,41 @@ pub(crate) fn set_duty<S: Alter>(
     )
 }
 
+/// The values of duties, those of one behind those of another.
+fn values_of_duties<'a>(alloc: Global, rows: &'a [DutyRow]) -> Result<Vec<ValueRef<'a>>, AllocError>
+    ensures { IfOk result (λ values. bound values.items ≡ flat_map duty_cells rows.now) }
+{
+    let mut values = Vec::new(alloc);
+    for row in rows {
+        values.extend_from_slice(&duty_values(row))?;
+    }
+    Ok(values)
+}
+
+/// Adds eight duties.
+fn add_eight_duties<S: Alter>(
+    alloc: Global,
+    tx: &mut Transaction<'_, S>,
+    rows: &[DutyRow],
+) -> Result<(), Fault>
+    requires { length rows.now ≡ 8 }
+    ensures same_reference { tx.new.conn.ghost_name ≡ tx.old.conn.ghost_name }
+    ensures wrote { Writes cells_of (with_tables (λ t. record t { duty = t.duty ++ rows.now })) (state S.Store tx.old.conn.now) (state S.Store tx.new.conn.now) result }
+    ensures survives { Survives (state S.Store tx.old.conn.now) (state S.Store tx.new.conn.now) (λ _. ⊥) }
+{
+    let Ok(values) = values_of_duties(alloc, rows) else {
+        return Err(Fault::Memory);
+    };
+    execute(
+        tx,
+        "INSERT INTO duty VALUES (?, ?, ?, ?, ?, ?, ?, ?), (?, ?, ?, ?, ?, ?, ?, ?), (?, ?, ?, ?, ?, ?, ?, ?), (?, ?, ?, ?, ?, ?, ?, ?), (?, ?, ?, ?, ?, ?, ?, ?), (?, ?, ?, ?, ?, ?, ?, ?), (?, ?, ?, ?, ?, ?, ?, ?), (?, ?, ?, ?, ?, ?, ?, ?)",
+        values.as_slice(),
+    )
+}
+
 /// Adds duties.
 pub(crate) fn add_duties<S: Alter>(
+    alloc: Global,
     tx: &mut Transaction<'_, S>,
     rows: &[DutyRow],
 ) -> Result<(), Fault>
@@ -126,22 +163,20 @@ pub(crate) fn add_duties<S: Alter>(
     ensures wrote { Writes cells_of (with_tables (λ t. record t { duty = t.duty ++ rows.now })) (state S.Store tx.old.conn.now) (state S.Store tx.new.conn.now) result }
     ensures survives { Survives (state S.Store tx.old.conn.now) (state S.Store tx.new.conn.now) (λ _. ⊥) }
 {
-    for row in rows {
-        add_duty(tx, row)?;
+    let mut left = rows;
+    while let Some((first, rest)) = left.split_first() {
+        left = match left.split_at_checked(ROWS) {
+            Some((eight, behind)) => {
+                add_eight_duties(alloc, tx, eight)?;
+                behind
+            }
+            None => {
+                add_duty(tx, first)?;
+                rest
+            }
+        };
     }
     Ok(())
-}
-
-/// Where a change with this word leaves a duty.
-fn state_after(word: Word) -> DutyState
-    ensures { result ≡ state_after word }
-{
-    match word {
-        Word::Raised | Word::Reopened | Word::Ended => DutyState::IsOpen,
-        Word::Met => DutyState::Met,
-        Word::Waived => DutyState::Waived,
-        Word::Withdrawn => DutyState::Withdrawn,
-    }
 }
 
 /// Sets the state of each duty, the last one first.
@@ -156,26 +191,99 @@ pub(crate) fn set_duties<S: Alter>(
     let mut left = rows.len();
     while left > 0 {
         left -= 1;
-        set_duty(tx, rows[left].duty, state_after(rows[left].word))?;
+        set_duty(tx, rows[left].duty, rows[left].word.state_after())?;
     }
     Ok(())
 }
 
-/// Adds a change, and the last day of a waiver that ends.
-pub(crate) fn add_step<S: Alter>(tx: &mut Transaction<'_, S>, row: &ChangeRow) -> Result<(), Fault>
+/// The values of changes, those of one behind those of another.
+fn values_of_changes<'a>(
+    alloc: Global,
+    rows: &'a [ChangeRow],
+) -> Result<Vec<ValueRef<'a>>, AllocError>
+    ensures { IfOk result (λ values. bound values.items ≡ flat_map change_cells rows.now) }
+{
+    let mut values = Vec::new(alloc);
+    for row in rows {
+        values.extend_from_slice(&change_values(row))?;
+    }
+    Ok(values)
+}
+
+/// Adds eight changes.
+fn add_eight_changes<S: Alter>(
+    alloc: Global,
+    tx: &mut Transaction<'_, S>,
+    rows: &[ChangeRow],
+) -> Result<(), Fault>
+    requires { length rows.now ≡ 8 }
     ensures same_reference { tx.new.conn.ghost_name ≡ tx.old.conn.ghost_name }
-    ensures wrote { Writes cells_of (with_steps (row.now ∷ [])) (state S.Store tx.old.conn.now) (state S.Store tx.new.conn.now) result }
+    ensures wrote { Writes cells_of (with_tables (λ t. record t { changes = t.changes ++ rows.now })) (state S.Store tx.old.conn.now) (state S.Store tx.new.conn.now) result }
     ensures survives { Survives (state S.Store tx.old.conn.now) (state S.Store tx.new.conn.now) (λ _. ⊥) }
 {
-    add_change(tx, row)?;
+    let Ok(values) = values_of_changes(alloc, rows) else {
+        return Err(Fault::Memory);
+    };
+    execute(
+        tx,
+        "INSERT INTO change VALUES (?, ?, ?, ?, ?), (?, ?, ?, ?, ?), (?, ?, ?, ?, ?), (?, ?, ?, ?, ?), (?, ?, ?, ?, ?), (?, ?, ?, ?, ?), (?, ?, ?, ?, ?), (?, ?, ?, ?, ?)",
+        values.as_slice(),
+    )
+}
+
+/// Adds changes.
+fn add_changes<S: Alter>(
+    alloc: Global,
+    tx: &mut Transaction<'_, S>,
+    rows: &[ChangeRow],
+) -> Result<(), Fault>
+    ensures same_reference { tx.new.conn.ghost_name ≡ tx.old.conn.ghost_name }
+    ensures wrote { Writes cells_of (with_tables (λ t. record t { changes = t.changes ++ rows.now })) (state S.Store tx.old.conn.now) (state S.Store tx.new.conn.now) result }
+    ensures survives { Survives (state S.Store tx.old.conn.now) (state S.Store tx.new.conn.now) (λ _. ⊥) }
+{
+    let mut left = rows;
+    while let Some((first, rest)) = left.split_first() {
+        left = match left.split_at_checked(ROWS) {
+            Some((eight, behind)) => {
+                add_eight_changes(alloc, tx, eight)?;
+                behind
+            }
+            None => {
+                add_change(tx, first)?;
+                rest
+            }
+        };
+    }
+    Ok(())
+}
+
+/// Adds the last day of a change, where it is a waiver that ends.
+fn add_last_day<S: Alter>(tx: &mut Transaction<'_, S>, row: &ChangeRow) -> Result<(), Fault>
+    ensures same_reference { tx.new.conn.ghost_name ≡ tx.old.conn.ghost_name }
+    ensures wrote { Writes cells_of (λ it. record it { waiver = it.waiver ++ filter is_waiver (row.now ∷ []) }) (state S.Store tx.old.conn.now) (state S.Store tx.new.conn.now) result }
+    ensures survives { Survives (state S.Store tx.old.conn.now) (state S.Store tx.new.conn.now) (λ _. ⊥) }
+{
     match row.last_day {
         Some(_) => add_waiver(tx, row),
         None => Ok(()),
     }
 }
 
+/// Adds the last days of the waivers that end.
+fn add_waivers<S: Alter>(tx: &mut Transaction<'_, S>, rows: &[ChangeRow]) -> Result<(), Fault>
+    ensures same_reference { tx.new.conn.ghost_name ≡ tx.old.conn.ghost_name }
+    ensures wrote { Writes cells_of (λ it. record it { waiver = it.waiver ++ filter is_waiver rows.now }) (state S.Store tx.old.conn.now) (state S.Store tx.new.conn.now) result }
+    ensures survives { Survives (state S.Store tx.old.conn.now) (state S.Store tx.new.conn.now) (λ _. ⊥) }
+{
+    for row in rows {
+        add_last_day(tx, row)?;
+    }
+    Ok(())
+}
+
 /// Adds changes, and the last days of waivers that end.
 pub(crate) fn add_steps<S: Alter>(
+    alloc: Global,
     tx: &mut Transaction<'_, S>,
     rows: &[ChangeRow],
 ) -> Result<(), Fault>
@@ -183,8 +291,6 @@ pub(crate) fn add_steps<S: Alter>(
     ensures wrote { Writes cells_of (with_steps rows.now) (state S.Store tx.old.conn.now) (state S.Store tx.new.conn.now) result }
     ensures survives { Survives (state S.Store tx.old.conn.now) (state S.Store tx.new.conn.now) (λ _. ⊥) }
 {
-    for row in rows {
-        add_step(tx, row)?;
-    }
-    Ok(())
+    add_changes(alloc, tx, rows)?;
+    add_waivers(tx, rows)
 }

@@ -1,4 +1,4 @@
-use Rattle.std.proofs.Common.{map, refl}
+use Rattle.std.proofs.Common.{refl}
 use Rattle.sqlite.specs.Held.{state}
 use Rattle.desk_writing.proofs.Inside.{clean_before}
 use Rattle.desk_writing.proofs.Empty.{all_texts, founded}

@@ -1,28 +1,12 @@
-use Rattle.std.proofs.Common.{◌∙◌, ◌∷◌, [], ◌+◌, take}
+use Rattle.std.proofs.Common.{◌++◌, filter}
 use Rattle.sqlite.specs.Held.{state}
 use Rattle.desk_layout.specs.Cells.{is_waiver}
-use Rattle.desk_writing.specs.Contents.{Contents, cells_of, with_steps}
-use Rattle.desk_writing.proofs.Inside.{clean_before, survives_both, wrote_as, wrote_both}
-use Rattle.desk_writing.proofs.Lists.{front_more, filter_more}
+use Rattle.desk_writing.specs.Contents.{cells_of, with_tables}
+use Rattle.desk_writing.proofs.Inside.{wrote_then}
 use Rattle.desk_writing.proofs.duty.add_steps.Goals as goal
 
-pub loop-row-preserved : goal.loop-row-preserved
-loop-row-preserved g c =
-    let a = state g.S.Store c.args.tx.now.conn.now in
-    let b = state g.S.Store c.loop-row.tx.conn.now in
-    let e = state g.S.Store c.add_step.new.tx.conn.now in
-    let rows = c.args.rows.now in
-    let n = c.loop-row.row-index in
-    let row = c.row-item.result in
-    let grown = λ (it : Contents). front_more it.tables.changes rows n row row c.row-item.is c.loop-row-test.true in
-    let ended = λ (it : Contents). filter_more is_waiver it.waiver rows n row row c.row-item.is c.loop-row-test.true in
-    record {
-      same_reference = c.in_ok-add_step.ensures.same_reference ∙ c.loop-row.invariant.same_reference;
-      wrote = λ clean inside.
-          let before = c.loop-row.invariant.wrote (clean_before b e _ c.add_step.ensures.survives clean) inside in
-          let next = c.in_ok-add_step.ensures.wrote clean before.inside in
-          wrote_as cells_of (λ it. with_steps (row ∷ []) (with_steps (take n rows) it)) (with_steps (take (n + 1) rows)) a e
-          (λ it i. record it { tables = record it.tables { changes = grown it i }; waiver = ended it i })
-          (wrote_both cells_of (with_steps (take n rows)) (with_steps (row ∷ [])) a b e before next);
-      survives = survives_both a b e c.loop-row.invariant.survives c.add_step.ensures.survives;
-    }
+pub returns-clause-wrote : goal.returns-clause-wrote
+returns-clause-wrote g c =
+    wrote_then cells_of (with_tables (λ t. record t { changes = t.changes ++ c.args.rows.now })) (λ it. record it { waiver = it.waiver ++ filter is_waiver c.args.rows.now })
+    (state g.S.Store c.args.tx.now.conn.now) (state g.S.Store c.add_changes.new.tx.conn.now) (state g.S.Store c.add_waivers.new.tx.conn.now) c.add_waivers.result
+    (λ clean inside. c.in_ok-add_changes.ensures.wrote clean inside) c.add_waivers.ensures.survives c.add_waivers.ensures.wrote
