@@ -5,12 +5,9 @@ ghost use Rattle.std.specs.String.{string_bytes};
 ghost use Rattle.serde_json.specs.View.{view, items_view};
 ghost use Rattle.desk_json.specs.Fields.{size, text_in, number_in, profile_in, texts, texts_in};
 
-use desk_base::{Items, Profile, Text};
+use desk_base::{Items, Profile, Text, limits};
 use serde_json::Value;
 use std::alloc::{AllocError, Global};
-
-/// The greatest number in a request.
-const MAX_NUMBER: u64 = 9_223_372_036_854_775_807;
 
 /// How many members the object has.
 pub(crate) fn size_of(value: &Value) -> usize
@@ -51,7 +48,7 @@ pub(crate) fn number_at(value: &Value, key: &str) -> Option<u64>
 {
     match value.get(key) {
         Some(member) => match member.as_u64() {
-            Some(number) if number <= MAX_NUMBER => Some(number),
+            Some(number) if number <= limits::NUMBER => Some(number),
             _ => None,
         },
         None => None,

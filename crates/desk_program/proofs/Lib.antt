@@ -1,5 +1,0 @@
-pub mod ReportLemmas
-pub mod WriterLemmas
-pub mod OneAnswer
-pub mod ListingLemmas
-pub mod FilingLemmas

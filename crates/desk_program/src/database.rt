@@ -2,13 +2,13 @@
 
 ghost use Rattle.std.specs.Prelude.{◌≡◌, false, IfOk};
 
-use crate::commands;
-use crate::failure::Failure;
-use crate::filing::NoDesk;
 use crate::input::bytes_at;
-use crate::trouble::Trouble;
+use crate::trouble::trouble_of;
 use desk_base::{Items, Profile, Text};
 use desk_store::{AdoptFault, CreateFault, SqlDesk};
+use desk_subcommands::{
+    Failure, NoDesk, Trouble, catalogue, refuse_catalogue, refuse_database, text_of,
+};
 use sqlite::Connection;
 use sqlite_disk::Wary;
 use sqlite_std_file::FileFrom;
@@ -47,7 +47,7 @@ fn connected(rt: &HostRuntime, path: &str) -> Result<FileConnection, Failure>
 {
     match Connection::open_from(rt, path, false, Wary) {
         Ok(conn) => Ok(conn),
-        Err((error, _)) => Err(unusable(rt.alloc(), path, Trouble::from(error))),
+        Err((error, _)) => Err(unusable(rt.alloc(), path, trouble_of(error))),
     }
 }
 
@@ -85,7 +85,7 @@ fn desk_at(
 fn close(alloc: Global, desk: FileDesk, path: &str) -> Result<(), Failure> {
     match desk.into_connection().close() {
         Ok(()) => Ok(()),
-        Err(error) => Err(Failure::Close(String::from_str(alloc, path)?, Trouble::from(error))),
+        Err(error) => Err(Failure::Close(String::from_str(alloc, path)?, trouble_of(error))),
     }
 }
 
@@ -95,14 +95,14 @@ fn serve(rt: &HostRuntime, path: &str, task: Task) -> Result<u8, Failure> {
     let mut writer = BufWriter::new(alloc, io::writer(rt))?;
     let mut desk = match desk_at(rt, alloc, path)? {
         Ok(desk) => desk,
-        Err(reason) => return commands::refuse_database(reason, &mut writer),
+        Err(reason) => return refuse_database(reason, &mut writer),
     };
     let told = match task {
-        Task::Script => commands::script(alloc, &mut desk, &mut rt.reader(), &mut writer),
+        Task::Script => desk_subcommands::script(alloc, &mut desk, &mut rt.reader(), &mut writer),
         Task::Import { bytes, profile } => {
-            commands::import(alloc, &mut desk, bytes, profile, &mut writer)
+            desk_subcommands::import(alloc, &mut desk, bytes, profile, &mut writer)
         }
-        Task::Load { text } => commands::catalogue(alloc, &mut desk, text, &mut writer),
+        Task::Load { text } => catalogue(alloc, &mut desk, text, &mut writer),
     };
     let closed = close(alloc, desk, path);
     let status = told?;
@@ -130,8 +130,8 @@ pub fn import(
 pub fn load(rt: &HostRuntime, path: &str, catalogue: &str) -> Result<u8, Failure> {
     let alloc = rt.alloc();
     let bytes = bytes_at(rt, catalogue)?;
-    match commands::text_of(alloc, bytes.as_slice())? {
+    match text_of(alloc, bytes.as_slice())? {
         Some(text) => serve(rt, path, Task::Load { text }),
-        None => commands::refuse_catalogue(alloc, &mut io::writer(rt)),
+        None => refuse_catalogue(alloc, &mut io::writer(rt)),
     }
 }

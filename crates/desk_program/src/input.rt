@@ -1,6 +1,6 @@
 //! The files of documents and catalogues.
 
-use crate::failure::Failure;
+use desk_subcommands::Failure;
 use std::alloc::AllocError;
 use std::fs::File;
 use std::io::{self, Read};

@@ -1,25 +1,18 @@
 //! The licence obligation desk as a program.
 //!
-//! `line` of `desk_line` reads the words, a function of `commands` does what they ask for, and what
+//! `line` of `desk_line` reads the words, a function of `desk_subcommands` does what they ask for, and what
 //! it answers is the program's status: 0 done, 1 refused. Words that are no command line give 2, and
 //! want of memory or a failing file or stream gives 3.
 #![tactic(auto)]
 
-mod commands;
 mod database;
-mod failure;
-mod filing;
-mod gathering;
 mod input;
-mod linting;
-mod listing;
-mod report;
 mod trouble;
 
-use crate::failure::Failure;
 use desk_base::{Profile, Text};
 use desk_core::desk::MemDesk;
 use desk_line::{Call, LineFault, line};
+use desk_subcommands::{Failure, alternatives, lint};
 use desk_texts::Standard;
 use desk_trees::files_of;
 use std::alloc::{AllocError, Global};
@@ -81,7 +74,7 @@ fn check<R: Print>(
     terms: &[Text],
 ) -> Result<u8, Failure> {
     let words: Vec<&str> = terms.iter().map(|term| term.as_str()).collect(alloc)?;
-    commands::check(
+    desk_subcommands::check(
         alloc,
         expression,
         profile,
@@ -99,7 +92,7 @@ fn script<R: Print + Input + AllocGlobal + Clone + Drop>(
     // The process ends with the script, so the desk is left to the system and not freed row by row.
     let mut desk = ManuallyDrop::new(MemDesk::new(alloc, Standard));
     let mut writer = BufWriter::new(alloc, io::writer(rt))?;
-    commands::script(alloc, &mut *desk, &mut rt.reader(), &mut writer)
+    desk_subcommands::script(alloc, &mut *desk, &mut rt.reader(), &mut writer)
 }
 
 /// Writes the document of a source tree.
@@ -112,7 +105,7 @@ fn gather(
     is_watched: bool,
 ) -> Result<u8, Failure> {
     let files = files_of(rt, folder, is_watched)?;
-    commands::gather(
+    desk_subcommands::gather(
         rt.alloc(),
         files.as_slice(),
         name,
@@ -132,7 +125,7 @@ fn answer(rt: &HostRuntime, alloc: Global, call: &Call, is_watched: bool) -> Res
         Call::Alternatives {
             expression,
             profile,
-        } => commands::alternatives(alloc, expression.as_str(), *profile, &mut io::writer(rt)),
+        } => alternatives(alloc, expression.as_str(), *profile, &mut io::writer(rt)),
         Call::Script { database: None } => script(rt, alloc),
         Call::Script {
             database: Some(path),
@@ -157,7 +150,7 @@ fn answer(rt: &HostRuntime, alloc: Global, call: &Call, is_watched: bool) -> Res
         }
         Call::Lint { folder, json } => {
             let files = files_of(rt, folder.as_str(), is_watched)?;
-            commands::lint(alloc, files.as_slice(), *json, &mut io::writer(rt))
+            lint(alloc, files.as_slice(), *json, &mut io::writer(rt))
         }
     }
 }

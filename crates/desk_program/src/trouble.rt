@@ -1,62 +1,24 @@
-//! Why a file can't keep a desk, in words that say what to do.
+//! Why a file can't keep a desk, by the error that its database told.
 
-use desk_rows::{Fault, StoreFault};
+ghost use Rattle.std.specs.Prelude.{◌≡◌};
+ghost use Rattle.desk_program.specs.Troubles.{trouble_of_error};
+
+use desk_subcommands::Trouble;
 use sqlite::{Error, ErrorCode};
-use thiserror::Error as ErrorWords;
 
 /// Why the database of a file can't be used.
-#[derive(Clone, Copy, Debug, Drop, PartialEq, Eq, ErrorWords)]
-pub enum Trouble {
-    #[error("no memory is left")]
-    Memory,
-    #[error("another program has it open; end that one, then try again")]
-    Busy,
-    #[error("it is no file that may be read and written, or its folder is not there")]
-    CannotOpen,
-    #[error("it is no database, or it is damaged; name another file, or put back a copy of it")]
-    Damaged,
-    #[error("its disk is full; make room, then try again")]
-    Full,
-    #[error("its disk failed to read or write; look after the disk, then try again")]
-    Disk,
-    #[error("it has tables of something else, or cannot be read or written; see that its disk has room, then try again")]
-    Refused,
-    #[error("it has rows that no desk writes; put back a copy of it")]
-    Rows,
-}
-
-impl From<Error> for Trouble {
-    ghost use Rattle.std.specs.Prelude.{◌≡◌};
-    ghost use Rattle.desk_program.specs.Troubles.{trouble_of_error};
-
-    ghost from_gives = { λ error trouble. trouble ≡ trouble_of_error error };
-
-    fn from(error: Error) -> Trouble {
-        match error {
-            Error::SqliteFailure(ErrorCode::OutOfMemory) => Trouble::Memory,
-            Error::SqliteFailure(ErrorCode::DatabaseBusy) => Trouble::Busy,
-            Error::SqliteFailure(ErrorCode::CannotOpen) => Trouble::CannotOpen,
-            Error::SqliteFailure(ErrorCode::NotADatabase | ErrorCode::DatabaseCorrupt) => {
-                Trouble::Damaged
-            }
-            Error::SqliteFailure(ErrorCode::DiskFull) => Trouble::Full,
-            Error::SqliteFailure(ErrorCode::SystemIoFailure | ErrorCode::Closed) => Trouble::Disk,
-            _ => Trouble::Refused,
+pub fn trouble_of(error: Error) -> Trouble
+    ensures { result ≡ trouble_of_error error }
+{
+    match error {
+        Error::SqliteFailure(ErrorCode::OutOfMemory) => Trouble::Memory,
+        Error::SqliteFailure(ErrorCode::DatabaseBusy) => Trouble::Busy,
+        Error::SqliteFailure(ErrorCode::CannotOpen) => Trouble::CannotOpen,
+        Error::SqliteFailure(ErrorCode::NotADatabase | ErrorCode::DatabaseCorrupt) => {
+            Trouble::Damaged
         }
-    }
-}
-
-impl From<Fault> for Trouble {
-    ghost use Rattle.std.specs.Prelude.{◌≡◌};
-    ghost use Rattle.desk_program.specs.Troubles.{trouble_of_fault};
-
-    ghost from_gives = { λ fault trouble. trouble ≡ trouble_of_fault fault };
-
-    fn from(fault: Fault) -> Trouble {
-        match fault {
-            Fault::Memory => Trouble::Memory,
-            Fault::Store(StoreFault::Database) => Trouble::Refused,
-            Fault::Store(StoreFault::Rows) => Trouble::Rows,
-        }
+        Error::SqliteFailure(ErrorCode::DiskFull) => Trouble::Full,
+        Error::SqliteFailure(ErrorCode::SystemIoFailure | ErrorCode::Closed) => Trouble::Disk,
+        _ => Trouble::Refused,
     }
 }

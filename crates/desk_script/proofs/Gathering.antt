@@ -10,8 +10,10 @@ use Rattle.desk_base.specs.Lines.{IsLine}
 use Rattle.desk_base.specs.declared.lines.LineEnd.{LineEnd}
 use Rattle.desk_base.specs.declared.lines.LineEnd.TheVariants.{Lf, CrLf, Nothing}
 use Rattle.desk_script.specs.Gathered.{HasCome, Shows, with_cr}
-use Rattle.desk_script.specs.Lines.{line_bytes, is_blank, is_blank_line}
+use Rattle.desk_base.specs.Limits.{line_bytes}
+use Rattle.desk_script.specs.Lines.{is_blank_line}
 use Rattle.desk_script.specs.declared.line.Line.{Line}
+use Rattle.desk_base.specs.Bytes.{is_blank}
 
 -- the front of some bytes and more
 pub kept_more : (n : ℕ) (text kept run : List ℕ) → kept ≡ take n text → kept ++ take (n - length kept) run ≡ take n (text ++ run)

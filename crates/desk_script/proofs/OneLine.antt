@@ -1,5 +1,5 @@
 -- The reply to one line.
-use Rattle.std.proofs.Common.{◌≡◌, ℕ, ◌+◌, Bool, true, false, List, [], ◌∷◌, Option, length, take, refl, sym, ap, ◌∙◌, subst, arith, append-nil}
+use Rattle.std.proofs.Common.{◌≡◌, ℕ, ◌+◌, Bool, true, false, List, [], ◌∷◌, Option, length, take, refl, sym, ap, ◌∙◌, subst, arith, append-nil, inr}
 use Rattle.std.specs.Prelude.{if◌then◌else◌, nat_lt}
 use Rattle.std.specs.Io.KnownBytes.{Appends}
 use Rattle.std.proofs.lemmas.List.{take_all}
@@ -12,15 +12,18 @@ use Rattle.desk_json.specs.Requests.{request_in}
 use Rattle.desk_json.specs.declared.request.Request.{Request}
 use Rattle.desk_json.specs.declared.request.Request.TheVariants.{Act, Ask, BadCommand}
 use Rattle.desk_script.specs.Gathered.{HasCome}
-use Rattle.desk_script.specs.Lines.{line_bytes, request_at, request_of}
-use Rattle.desk_script.specs.Replies.{AreReplied, Replies}
-use Rattle.desk_script.specs.Script.{Serves}
+use Rattle.desk_base.specs.Limits.{line_bytes}
+use Rattle.desk_script.specs.Lines.{request_at, request_of}
+use Rattle.desk_script.specs.Losses.{Loses}
+use Rattle.desk_script.specs.Replies.{Replies}
+use Rattle.desk_script.specs.Script.{Serves, ServesUntil}
 use Rattle.desk_script.specs.Texts.{line_of, count_refused, count_failed}
 use Rattle.desk_script.specs.declared.answer.Reply.{Reply}
 use Rattle.desk_script.specs.declared.answer.Reply.TheVariants.{Became, NoRequest}
 use Rattle.desk_script.specs.declared.line.Line.{Line}
 use Rattle.desk_script.specs.declared.serving.ScriptEnd.{ScriptEnd}
-use Rattle.desk_script.proofs.Chains.{AreReplied-none, AreReplied-one, Serves-none}
+use Rattle.desk_script.specs.declared.serving.ScriptFault.{ScriptFault}
+use Rattle.desk_script.proofs.Chains.{AreReplied-one, Serves-none}
 
 -- a text within the limit is kept whole
 kept_whole : (n : ℕ) (text : List ℕ) → nat_lt n (length text) ≡ false → take n text ≡ text
@@ -56,32 +59,34 @@ module _ (is_right : Readings → Type 0) (tells : StoreFault → Type 0) {Left 
   Replies-long now line text h long =
       subst (λ (b : Bool). Replies is_right tells now (if b then BadCommand else request_in text) NoRequest now) (sym (sym h.long ∙ long)) (no_request now)
 
-  pub AreReplied-blank : (now : Seen Left) (line : Line) (text : List ℕ) → HasCome line text → line.is_blank ≡ true
-      → (replies : List Reply) × AreReplied is_right tells now (request_at text) replies now
-  AreReplied-blank now line text h blank =
-      ([], subst (λ (rs : List Request). AreReplied is_right tells now rs [] now) (sym (request_at-blank line text h blank)) (AreReplied-none is_right tells now))
-
-  pub Serves-blank : (now : Seen Left) (w : Option (List ℕ)) (from : ScriptEnd) (line : Line) (text : List ℕ) → HasCome line text → line.is_blank ≡ true
-      → Serves is_right tells (request_at text) now now w w from from
+module _ (is_right : Readings → Type 0) (tells : StoreFault → Type 0) {Left Desk : Type 0} (seen : Desk → Seen Left) where
+  pub Serves-blank : (now : Desk) (w : Option (List ℕ)) (from : ScriptEnd) (line : Line) (text : List ℕ) → HasCome line text → line.is_blank ≡ true
+      → Serves is_right tells seen (request_at text) now now w w from from
   Serves-blank now w from line text h blank =
-      subst (λ (rs : List Request). Serves is_right tells rs now now w w from from) (sym (request_at-blank line text h blank)) (Serves-none is_right tells now w from)
+      subst (λ (rs : List Request). Serves is_right tells seen rs now now w w from from) (sym (request_at-blank line text h blank)) (Serves-none is_right tells seen now w from)
 
-  pub AreReplied-line : (now after : Seen Left) (line : Line) (text : List ℕ) (reply : Reply) → HasCome line text → line.is_blank ≡ false
-      → Replies is_right tells now (request_of text) reply after
-      → (replies : List Reply) × AreReplied is_right tells now (request_at text) replies after
-  AreReplied-line now after line text reply h blank replies =
-      (reply ∷ [], subst (λ (rs : List Request). AreReplied is_right tells now rs (reply ∷ []) after) (sym (request_at-one line text h blank)) (AreReplied-one is_right tells now after (request_of text) reply replies))
-
-  pub Serves-one : (now after : Seen Left) (u v : Option (List ℕ)) (from to : ScriptEnd) (line : Line) (text : List ℕ) (reply : Reply) → HasCome line text → line.is_blank ≡ false
-      → Replies is_right tells now (request_of text) reply after
+  pub Serves-one : (now after : Desk) (u v : Option (List ℕ)) (from to : ScriptEnd) (line : Line) (text : List ℕ) (reply : Reply) → HasCome line text → line.is_blank ≡ false
+      → Replies is_right tells (seen now) (request_of text) reply (seen after)
       → Appends u v (line_of reply) → to.refused ≡ from.refused + count_refused reply → to.failed ≡ from.failed + count_failed reply
-      → Serves is_right tells (request_at text) now after u v from to
+      → Serves is_right tells seen (request_at text) now after u v from to
   Serves-one now after u v from to line text reply h blank replies written refused failed =
-      subst (λ (rs : List Request). Serves is_right tells rs now after u v from to) (sym (request_at-one line text h blank))
+      subst (λ (rs : List Request). Serves is_right tells seen rs now after u v from to) (sym (request_at-one line text h blank))
       (record {
         replies = reply ∷ [];
-        replied = AreReplied-one is_right tells now after (request_of text) reply replies;
+        replied = AreReplied-one is_right tells seen now after (request_of text) reply replies;
         written = subst (λ (bs : List ℕ). Appends u v bs) (sym (append-nil (line_of reply))) written;
         refused = omega (arith, refused);
         failed = omega (arith, failed);
+      })
+
+  -- the reply to a line is lost
+  pub ServesUntil-one : (fault : ScriptFault) (now after : Desk) (u v : Option (List ℕ)) (line : Line) (text : List ℕ) (reply : Reply) → HasCome line text → line.is_blank ≡ false
+      → Replies is_right tells (seen now) (request_of text) reply (seen after) → Loses fault reply u v
+      → ServesUntil is_right tells seen fault (request_at text) now after u v
+  ServesUntil-one fault now after u v line text reply h blank replies loses =
+      subst (λ (rs : List Request). ServesUntil is_right tells seen fault rs now after u v) (sym (request_at-one line text h blank))
+      (record {
+        replies = reply ∷ [];
+        replied = AreReplied-one is_right tells seen now after (request_of text) reply replies;
+        told = inr (record { told = []; last = reply; are = refl; front = loses.front; lost = loses.lost; written = loses.written });
       })

@@ -1,5 +1,5 @@
 -- What more bytes make of a script.
-use Rattle.std.proofs.Common.{◌≡◌, ◌≢◌, ℕ, ◌+◌, Bool, true, false, List, [], ◌∷◌, ◌++◌, Option, None, Some, length, refl, sym, ap, ◌∙◌, subst, arith, append_assoc, append-nil}
+use Rattle.std.proofs.Common.{◌≡◌, ◌≢◌, ℕ, ◌+◌, true, false, List, [], ◌∷◌, ◌++◌, Option, None, Some, length, refl, sym, ap, ◌∙◌, subst, arith, append_assoc, append-nil}
 use Rattle.std.specs.Prelude.{All, if◌then◌else◌}
 use Rattle.std.specs.Io.KnownBytes.{Consumes, IsAtEnd}
 use Rattle.std.proofs.lemmas.List.Elements.{All-nil, All-cons, All-append}
@@ -12,13 +12,13 @@ use Rattle.desk_access.specs.Seen.{Seen}
 use Rattle.desk_json.specs.declared.request.Request.{Request}
 use Rattle.desk_script.specs.Gathered.{Shows}
 use Rattle.desk_script.specs.Lines.{BeginsWith, is_blank_line, request_at, request_of, requests_of}
-use Rattle.desk_script.specs.Replies.{AreReplied}
-use Rattle.desk_script.specs.Script.{AreLeft, HasServed, IsCutOff, IsFront, IsFrontAt, IsPart, IsScript, Serves}
-use Rattle.desk_script.specs.declared.answer.Reply.{Reply}
+use Rattle.desk_script.specs.Losses.{IsOfLine}
+use Rattle.desk_script.specs.Script.{AreLeft, HasServed, IsCutOff, IsFront, IsFrontAt, IsPart, IsScript, Serves, ServesUntil}
 use Rattle.desk_script.specs.declared.line.Line.{Line}
 use Rattle.desk_script.specs.declared.serving.ScriptEnd.{ScriptEnd}
+use Rattle.desk_script.specs.declared.serving.ScriptFault.{ScriptFault}
 use Rattle.desk_script.proofs.Cutting.{BeginsWith-more, BeginsWith-append, CutsInto-append, requests_of-append}
-use Rattle.desk_script.proofs.Chains.{AreReplied-none, AreReplied-then, IsRun-of, Serves-none, Serves-then}
+use Rattle.desk_script.proofs.Chains.{IsRun-of, Serves-none, Serves-then, ServesUntil-line, ServesUntil-then}
 use Rattle.desk_script.proofs.Gathering.{IsLine-of, no_lf-of}
 
 no_lines : All (λ (l : LineText). l.end ≢ Nothing) []
@@ -48,10 +48,10 @@ last_line number (b ∷ bs) no_lf =
       requests_of-one number (b ∷ bs) Nothing,
     )
 
-module _ (is_right : Readings → Type 0) (tells : StoreFault → Type 0) {Left : Type 0} where
+module _ (is_right : Readings → Type 0) (tells : StoreFault → Type 0) {Left Desk : Type 0} (seen : Desk → Seen Left) where
   -- nothing came but a line so far
-  pub HasServed-came : (number : ℕ) (came : List ℕ) (now : Seen Left) (w : Option (List ℕ)) (from : ScriptEnd) (line : Line) → Shows line came → All (λ b. b ≢ 10) came
-      → HasServed is_right tells number came now now w w from from line
+  pub HasServed-came : (number : ℕ) (came : List ℕ) (now : Desk) (w : Option (List ℕ)) (from : ScriptEnd) (line : Line) → Shows line came → All (λ b. b ≢ 10) came
+      → HasServed is_right tells seen number came now now w w from from line
   HasServed-came number came now w from line shows no_lf = record {
     lines = [];
     came = came;
@@ -59,13 +59,13 @@ module _ (is_right : Readings → Type 0) (tells : StoreFault → Type 0) {Left 
     fed = no_lines;
     no_lf = no_lf;
     shows = shows;
-    serves = Serves-none is_right tells now w from;
+    serves = Serves-none is_right tells seen now w from;
   }
 
   -- bytes among which there is no LF
-  pub HasServed-run : (number : ℕ) (front run : List ℕ) (before now : Seen Left) (u v : Option (List ℕ)) (from to : ScriptEnd) (line next : Line)
-      → (h : HasServed is_right tells number front before now u v from to line) → All (λ b. b ≢ 10) run → Shows next (h.came ++ run)
-      → HasServed is_right tells number (front ++ run) before now u v from to next
+  pub HasServed-run : (number : ℕ) (front run : List ℕ) (before now : Desk) (u v : Option (List ℕ)) (from to : ScriptEnd) (line next : Line)
+      → (h : HasServed is_right tells seen number front before now u v from to line) → All (λ b. b ≢ 10) run → Shows next (h.came ++ run)
+      → HasServed is_right tells seen number (front ++ run) before now u v from to next
   HasServed-run number front run before now u v from to line next h no_lf shows = record {
     lines = h.lines;
     came = h.came ++ run;
@@ -76,23 +76,24 @@ module _ (is_right : Readings → Type 0) (tells : StoreFault → Type 0) {Left 
     serves = h.serves;
   }
 
-  both_replied : (lines more : List LineText) (a b c : Seen Left) (ps qs : List Reply) → AreReplied is_right tells a (requests_of lines) ps b
-      → AreReplied is_right tells b (requests_of more) qs c → AreReplied is_right tells a (requests_of (lines ++ more)) (ps ++ qs) c
-  both_replied lines more a b c ps qs h k =
-      subst (λ (rs : List Request). AreReplied is_right tells a rs (ps ++ qs) c) (sym (requests_of-append lines more))
-      (AreReplied-then is_right tells a b c (requests_of lines) (requests_of more) ps qs h k)
-
-  both_served : (lines more : List LineText) (a b c : Seen Left) (u v w : Option (List ℕ)) (from mid to : ScriptEnd) → Serves is_right tells (requests_of lines) a b u v from mid
-      → Serves is_right tells (requests_of more) b c v w mid to → Serves is_right tells (requests_of (lines ++ more)) a c u w from to
+  both_served : (lines more : List LineText) (a b c : Desk) (u v w : Option (List ℕ)) (from mid to : ScriptEnd) → Serves is_right tells seen (requests_of lines) a b u v from mid
+      → Serves is_right tells seen (requests_of more) b c v w mid to → Serves is_right tells seen (requests_of (lines ++ more)) a c u w from to
   both_served lines more a b c u v w from mid to h k =
-      subst (λ (rs : List Request). Serves is_right tells rs a c u w from to) (sym (requests_of-append lines more))
-      (Serves-then is_right tells a b c (requests_of lines) (requests_of more) u v w from mid to h k)
+      subst (λ (rs : List Request). Serves is_right tells seen rs a c u w from to) (sym (requests_of-append lines more))
+      (Serves-then is_right tells seen a b c (requests_of lines) (requests_of more) u v w from mid to h k)
+
+  served_until : (fault : ScriptFault) (lines more : List LineText) (a b c : Desk) (u v w : Option (List ℕ)) (from mid : ScriptEnd)
+      → Serves is_right tells seen (requests_of lines) a b u v from mid → ServesUntil is_right tells seen fault (requests_of more) b c v w
+      → ServesUntil is_right tells seen fault (requests_of (lines ++ more)) a c u w
+  served_until fault lines more a b c u v w from mid h k =
+      subst (λ (rs : List Request). ServesUntil is_right tells seen fault rs a c u w) (sym (requests_of-append lines more))
+      (ServesUntil-then is_right tells seen fault a b c (requests_of lines) (requests_of more) u v w from mid h k)
 
   -- more bytes, on the line so far
-  pub HasServed-then : (number : ℕ) (front more : List ℕ) (a b c : Seen Left) (u v w : Option (List ℕ)) (from mid to : ScriptEnd) (line next : Line)
-      → (h : HasServed is_right tells number front a b u v from mid line)
-      → HasServed is_right tells (number + length h.lines) (h.came ++ more) b c v w mid to next
-      → HasServed is_right tells number (front ++ more) a c u w from to next
+  pub HasServed-then : (number : ℕ) (front more : List ℕ) (a b c : Desk) (u v w : Option (List ℕ)) (from mid to : ScriptEnd) (line next : Line)
+      → (h : HasServed is_right tells seen number front a b u v from mid line)
+      → HasServed is_right tells seen (number + length h.lines) (h.came ++ more) b c v w mid to next
+      → HasServed is_right tells seen number (front ++ more) a c u w from to next
   HasServed-then number front more a b c u v w from mid to line next h k = record {
     lines = h.lines ++ k.lines;
     came = k.came;
@@ -103,40 +104,41 @@ module _ (is_right : Readings → Type 0) (tells : StoreFault → Type 0) {Left 
     serves = both_served h.lines k.lines a b c u v w from mid to h.serves k.serves;
   }
 
-  pub IsFrontAt-then : (number : ℕ) (front more : List ℕ) (a b c : Seen Left) (u v : Option (List ℕ)) (from mid : ScriptEnd) (line : Line)
-      → (h : HasServed is_right tells number front a b u v from mid line)
-      → IsFrontAt is_right tells (number + length h.lines) (h.came ++ more) b c
-      → IsFrontAt is_right tells number (front ++ more) a c
-  IsFrontAt-then number front more a b c u v from mid line h k = record {
+  pub IsFrontAt-then : (number : ℕ) (fault : ScriptFault) (front more : List ℕ) (a b c : Desk) (u v w : Option (List ℕ)) (from mid : ScriptEnd) (line : Line)
+      → (h : HasServed is_right tells seen number front a b u v from mid line)
+      → IsFrontAt is_right tells seen (number + length h.lines) fault (h.came ++ more) b c v w
+      → IsFrontAt is_right tells seen number fault (front ++ more) a c u w
+  IsFrontAt-then number fault front more a b c u v w from mid line h k = record {
     lines = h.lines ++ k.lines;
     rest = k.rest;
-    replies = h.serves.replies ++ k.replies;
     begins = BeginsWith-append number (front ++ more) h.lines k.lines (h.came ++ more) k.rest (BeginsWith-more number front h.lines h.came more h.begins h.fed) k.begins;
-    replied = both_replied h.lines k.lines a b c h.serves.replies k.replies h.serves.replied k.replied;
+    serves = served_until fault h.lines k.lines a b c u v w from mid h.serves k.serves;
   }
 
-  pub IsFrontAt-of : (number : ℕ) (front more : List ℕ) (a b : Seen Left) (u v : Option (List ℕ)) (from to : ScriptEnd) (line : Line)
-      → HasServed is_right tells number front a b u v from to line → IsFrontAt is_right tells number (front ++ more) a b
-  IsFrontAt-of number front more a b u v from to line h = record {
+  -- a fault that is no reply's
+  pub IsFrontAt-of : (number : ℕ) (fault : ScriptFault) (front more : List ℕ) (a b : Desk) (u v : Option (List ℕ)) (from to : ScriptEnd) (line : Line)
+      → IsOfLine fault → HasServed is_right tells seen number front a b u v from to line → IsFrontAt is_right tells seen number fault (front ++ more) a b u v
+  IsFrontAt-of number fault front more a b u v from to line of_line h = record {
     lines = h.lines;
     rest = h.came ++ more;
-    replies = h.serves.replies;
     begins = BeginsWith-more number front h.lines h.came more h.begins h.fed;
-    replied = h.serves.replied;
+    serves = ServesUntil-line is_right tells seen fault a b (requests_of h.lines) u v from to of_line h.serves;
   }
 
-  pub IsFront-at : (bytes : List ℕ) (a b : Seen Left) → IsFrontAt is_right tells 1 bytes a b → IsFront is_right tells bytes a b
-  IsFront-at bytes a b f = record {
+  pub IsFront-at : (fault : ScriptFault) (bytes : List ℕ) (a b : Desk) (u v : Option (List ℕ)) → IsFrontAt is_right tells seen 1 fault bytes a b u v
+      → IsFront is_right tells seen fault bytes a b u v
+  IsFront-at fault bytes a b u v f = record {
     lines = f.lines;
     rest = f.rest;
-    replies = f.replies;
+    replies = f.serves.replies;
     begins = f.begins;
-    replied = f.replied;
-    run = IsRun-of is_right tells a b (requests_of f.lines) f.replies f.replied;
+    replied = f.serves.replied;
+    run = IsRun-of is_right tells seen a b (requests_of f.lines) f.serves.replies f.serves.replied;
+    told = f.serves.told;
   }
 
-  pub IsCutOff-of : (front : List ℕ) (a b : Seen Left) (u v : Option (List ℕ)) (from to : ScriptEnd) (line : Line)
-      → HasServed is_right tells 1 front a b u v from to line → IsCutOff is_right tells front a b u v
+  pub IsCutOff-of : (front : List ℕ) (a b : Desk) (u v : Option (List ℕ)) (from to : ScriptEnd) (line : Line)
+      → HasServed is_right tells seen 1 front a b u v from to line → IsCutOff is_right tells seen front a b u v
   IsCutOff-of front a b u v from to line h = record {
     lines = h.lines;
     rest = h.came;
@@ -145,11 +147,12 @@ module _ (is_right : Readings → Type 0) (tells : StoreFault → Type 0) {Left 
     fed = h.fed;
     no_lf = h.no_lf;
     replied = h.serves.replied;
+    run = IsRun-of is_right tells seen a b (requests_of h.lines) h.serves.replies h.serves.replied;
     written = h.serves.written;
   }
 
-  pub HasServed-line : (number : ℕ) (came : List ℕ) (a b : Seen Left) (u v : Option (List ℕ)) (from to : ScriptEnd) (line next : Line) → (shows : Shows line came) → All (λ b. b ≢ 10) came
-      → Serves is_right tells (request_at shows.0) a b u v from to → Shows next [] → HasServed is_right tells number (came ++ 10 ∷ []) a b u v from to next
+  pub HasServed-line : (number : ℕ) (came : List ℕ) (a b : Desk) (u v : Option (List ℕ)) (from to : ScriptEnd) (line next : Line) → (shows : Shows line came) → All (λ b. b ≢ 10) came
+      → Serves is_right tells seen (request_at shows.0) a b u v from to → Shows next [] → HasServed is_right tells seen number (came ++ 10 ∷ []) a b u v from to next
   HasServed-line number came a b u v from to line next shows no_lf serves none =
       let at = line_of_came number came [] line shows no_lf in
       let one : LineText = record { number = number; text = shows.0; end = at.0 } in
@@ -160,59 +163,64 @@ module _ (is_right : Readings → Type 0) (tells : StoreFault → Type 0) {Left 
         fed = All-cons (λ (l : LineText). l.end ≢ Nothing) one [] at.1 no_lines;
         no_lf = All-nil (λ (b : ℕ). b ≢ 10);
         shows = none;
-        serves = subst (λ (rs : List Request). Serves is_right tells rs a b u v from to) (sym (requests_of-one number shows.0 at.0)) serves;
+        serves = subst (λ (rs : List Request). Serves is_right tells seen rs a b u v from to) (sym (requests_of-one number shows.0 at.0)) serves;
       }
 
-  pub IsFrontAt-line : (number : ℕ) (came more : List ℕ) (a b : Seen Left) (line : Line) → (shows : Shows line came) → All (λ b. b ≢ 10) came
-      → ((replies : List Reply) × AreReplied is_right tells a (request_at shows.0) replies b) → IsFrontAt is_right tells number (came ++ 10 ∷ more) a b
-  IsFrontAt-line number came more a b line shows no_lf replied =
+  pub IsFrontAt-line : (number : ℕ) (fault : ScriptFault) (came more : List ℕ) (a b : Desk) (u v : Option (List ℕ)) (line : Line) → (shows : Shows line came)
+      → All (λ b. b ≢ 10) came → ServesUntil is_right tells seen fault (request_at shows.0) a b u v
+      → IsFrontAt is_right tells seen number fault (came ++ 10 ∷ more) a b u v
+  IsFrontAt-line number fault came more a b u v line shows no_lf serves =
       let at = line_of_came number came more line shows no_lf in
       record {
         lines = record { number = number; text = shows.0; end = at.0 } ∷ [];
         rest = more;
-        replies = replied.0;
         begins = at.2;
-        replied = subst (λ (rs : List Request). AreReplied is_right tells a rs replied.0 b) (sym (requests_of-one number shows.0 at.0)) replied.1;
+        serves = subst (λ (rs : List Request). ServesUntil is_right tells seen fault rs a b u v) (sym (requests_of-one number shows.0 at.0)) serves;
       }
 
   -- nothing was replied
-  pub IsFrontAt-none : (number : ℕ) (bytes : List ℕ) (a : Seen Left) → IsFrontAt is_right tells number bytes a a
-  IsFrontAt-none number bytes a = record { lines = []; rest = bytes; replies = []; begins = refl; replied = AreReplied-none is_right tells a }
+  pub IsFrontAt-none : (number : ℕ) (fault : ScriptFault) (bytes : List ℕ) (a : Desk) (w : Option (List ℕ)) (from : ScriptEnd) → IsOfLine fault
+      → IsFrontAt is_right tells seen number fault bytes a a w w
+  IsFrontAt-none number fault bytes a w from of_line = record {
+    lines = [];
+    rest = bytes;
+    begins = refl;
+    serves = ServesUntil-line is_right tells seen fault a a [] w w from from of_line (Serves-none is_right tells seen a w from);
+  }
 
-  pub IsFrontAt-last : (number : ℕ) (came : List ℕ) (a b : Seen Left) → All (λ b. b ≢ 10) came
-      → ((replies : List Reply) × AreReplied is_right tells a (request_at came) replies b) → IsFrontAt is_right tells number came a b
-  IsFrontAt-last number came a b no_lf replied =
+  pub IsFrontAt-last : (number : ℕ) (fault : ScriptFault) (came : List ℕ) (a b : Desk) (u v : Option (List ℕ)) → All (λ b. b ≢ 10) came
+      → ServesUntil is_right tells seen fault (request_at came) a b u v → IsFrontAt is_right tells seen number fault came a b u v
+  IsFrontAt-last number fault came a b u v no_lf serves =
       let at = last_line number came no_lf in
       record {
         lines = at.0;
         rest = [];
-        replies = replied.0;
         begins = at.2;
-        replied = subst (λ (rs : List Request). AreReplied is_right tells a rs replied.0 b) (sym at.3) replied.1;
+        serves = subst (λ (rs : List Request). ServesUntil is_right tells seen fault rs a b u v) (sym at.3) serves;
       }
 
-  pub IsPart-last : (number : ℕ) (came : List ℕ) (a b : Seen Left) (u v : Option (List ℕ)) (from to : ScriptEnd) → All (λ b. b ≢ 10) came
-      → Serves is_right tells (request_at came) a b u v from to → IsPart is_right tells number came a b u v from to
+  pub IsPart-last : (number : ℕ) (came : List ℕ) (a b : Desk) (u v : Option (List ℕ)) (from to : ScriptEnd) → All (λ b. b ≢ 10) came
+      → Serves is_right tells seen (request_at came) a b u v from to → IsPart is_right tells seen number came a b u v from to
   IsPart-last number came a b u v from to no_lf serves =
       let at = last_line number came no_lf in
       record {
         lines = at.0;
         cut = at.1;
-        serves = subst (λ (rs : List Request). Serves is_right tells rs a b u v from to) (sym at.3) serves;
+        serves = subst (λ (rs : List Request). Serves is_right tells seen rs a b u v from to) (sym at.3) serves;
       }
 
-  pub IsScript-of : (front : List ℕ) (a b c : Seen Left) (u v w : Option (List ℕ)) (mid to : ScriptEnd) (line : Line)
-      → (h : HasServed is_right tells 1 front a b u v (record { refused = 0; failed = 0 }) mid line)
-      → IsPart is_right tells (1 + length h.lines) h.came b c v w mid to → IsScript is_right tells front a c u w to
+  pub IsScript-of : (front : List ℕ) (a b c : Desk) (u v w : Option (List ℕ)) (mid to : ScriptEnd) (line : Line)
+      → (h : HasServed is_right tells seen 1 front a b u v (record { refused = 0; failed = 0 }) mid line)
+      → IsPart is_right tells seen (1 + length h.lines) h.came b c v w mid to → IsScript is_right tells seen front a c u w to
   IsScript-of front a b c u v w mid to line h k =
-      let all : Serves is_right tells (requests_of (h.lines ++ k.lines)) a c u w (record { refused = 0; failed = 0 }) to =
+      let all : Serves is_right tells seen (requests_of (h.lines ++ k.lines)) a c u w (record { refused = 0; failed = 0 }) to =
       both_served h.lines k.lines a b c u v w (record { refused = 0; failed = 0 }) mid to h.serves k.serves in
       record {
         lines = h.lines ++ k.lines;
         replies = all.replies;
         cut = CutsInto-append 1 front h.lines k.lines h.came h.begins k.cut;
         replied = all.replied;
-        run = IsRun-of is_right tells a c (requests_of (h.lines ++ k.lines)) all.replies all.replied;
+        run = IsRun-of is_right tells seen a c (requests_of (h.lines ++ k.lines)) all.replies all.replied;
         written = all.written;
         refused = omega (arith, all.refused);
         failed = omega (arith, all.failed);

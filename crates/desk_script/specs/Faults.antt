@@ -10,6 +10,13 @@ IsOfReply Memory = Unit {0}
 IsOfReply Read = ⊥
 IsOfReply Turns = ⊥
 
+-- a writer that failed
+abbrev pub IsOfWriter : ScriptFault → Type 0
+IsOfWriter Write = Unit {0}
+IsOfWriter Memory = ⊥
+IsOfWriter Read = ⊥
+IsOfWriter Turns = ⊥
+
 -- a reader that gave so many bytes and failed, or was asked too often: each time it gave a byte at least
 abbrev pub IsOfReader : ScriptFault → ℕ → Type 0
 IsOfReader Read count = Unit {0}

@@ -1,6 +1,7 @@
 -- What is kept of a line as far as it came.
 use Rattle.std.specs.Prelude.{◌≡◌, ◌≢◌, ℕ, ◌-◌, Bool, true, false, List, [], ◌∷◌, ◌++◌, nat_lt, length, take, slice_index}
-use Rattle.desk_script.specs.Lines.{line_bytes, is_blank_line}
+use Rattle.desk_base.specs.Limits.{line_bytes}
+use Rattle.desk_script.specs.Lines.{is_blank_line}
 use Rattle.desk_script.specs.declared.line.Line.{Line}
 
 -- these bytes of a line came: as many as a request may have are kept, whether there are more is known, and whether they are blank

@@ -3,4 +3,5 @@ pub mod Replies
 pub mod Texts
 pub mod Gathered
 pub mod Faults
+pub mod Losses
 pub mod Script

@@ -1,18 +1,12 @@
 -- The lines of a script, and the request of each.
-use Rattle.std.specs.Prelude.{◌≡◌, ℕ, ◌+◌, ◌==◌, ◌||◌, Bool, List, [], ◌∷◌, nat_lt, length, if◌then◌else◌}
+use Rattle.std.specs.Prelude.{◌≡◌, ℕ, ◌+◌, Bool, List, [], ◌∷◌, nat_lt, length, if◌then◌else◌}
 use Rattle.std.specs.List.{list_all}
+use Rattle.desk_base.specs.Limits.{line_bytes}
 use Rattle.desk_base.specs.Lines.{IsLine, LineText}
 use Rattle.desk_json.specs.Requests.{request_in}
 use Rattle.desk_json.specs.declared.request.Request.{Request}
 use Rattle.desk_json.specs.declared.request.Request.TheVariants.{BadCommand}
-
--- the bytes of the longest line that may be a request, without its end
-abbrev pub line_bytes : ℕ
-line_bytes = 8388608
-
--- a space or a tab
-abbrev pub is_blank : ℕ → Bool
-is_blank b = b == 32 || b == 9
+use Rattle.desk_base.specs.Bytes.{is_blank}
 
 -- a line of spaces and tabs alone, or of nothing
 abbrev pub is_blank_line : List ℕ → Bool

@@ -1,7 +1,7 @@
 -- What requests are replied, one after the other.
 use Rattle.std.specs.Prelude.{◌≡◌, Bool, false, ◌||◌, List, [], ◌∷◌}
 use Rattle.desk_rows.specs.Readings.{Readings}
-use Rattle.desk_rows.specs.Tables.{Tables, tables}
+use Rattle.desk_rows.specs.Tables.{tables}
 use Rattle.desk_rows.specs.Answers.{IsHistory, is_recorded}
 use Rattle.desk_rows.specs.Queries.{queried}
 use Rattle.desk_rows.specs.Faults.{MayBecome}
@@ -27,12 +27,6 @@ Fits tells BadCommand (Became (Failed Memory)) = Unit {0}
 Fits tells BadCommand NoRequest = Unit {0}
 Fits tells _ _ = ⊥
 
--- there is one reply for each request, and it fits
-abbrev pub AllFit : (StoreFault → Type 0) → List Request → List Reply → Type 0
-AllFit tells [] [] = Unit {0}
-AllFit tells (request ∷ requests) (reply ∷ replies) = Fits tells request reply × AllFit tells requests replies
-AllFit tells _ _ = ⊥
-
 -- an outcome that is no fault is the answer to the query
 abbrev pub IsQueried : Readings → List Command → Query → Outcome → Type 0
 IsQueried w h q (Answered a) = a ≡ queried w h q
@@ -48,16 +42,6 @@ IsReply w h _ _ = Unit {0}
 abbrev pub history_past : List Command → Request → Reply → List Command
 history_past h (Act c) (Became o) = history_with h c o
 history_past h _ _ = h
-
--- each reply is the answer after the history that those before it leave
-abbrev pub AreReplies : Readings → List Command → List Request → List Reply → Type 0
-AreReplies w h (request ∷ requests) (reply ∷ replies) = IsReply w h request reply × AreReplies w (history_past h request reply) requests replies
-AreReplies w h _ _ = Unit {0}
-
--- the history with the commands of requests that were recorded
-abbrev pub history_past_all : List Command → List Request → List Reply → List Command
-history_past_all h (request ∷ requests) (reply ∷ replies) = history_past_all (history_past h request reply) requests replies
-history_past_all h _ _ = h
 
 -- only a command that was answered, and neither refused nor answered Again, is recorded
 abbrev pub is_recorded_by : Request → Reply → Bool
@@ -79,14 +63,14 @@ module _ (is_right : Readings → Type 0) (tells : StoreFault → Type 0) {Left 
     pub answer : InHistory is_right (λ w h. IsReply w h request reply) old new
     pub content : InHistory is_right (λ w h. new.holds (tables w (history_past h request reply))) old new
 
-  -- A desk gives requests these replies, one after the other, each on the rows that the ones before it leave.
-  pub record AreReplied (old : Seen Left) (requests : List Request) (replies : List Reply) (new : Seen Left) : Type 0 where
-    pub fit : AllFit tells requests replies
-    pub honest : new.is_honest → old.is_honest
-    pub keeps : is_any_recorded requests replies ≡ false → Spared old new
-    pub answers : InHistory is_right (λ w h. AreReplies w h requests replies) old new
-    pub history : InHistory is_right (λ w h. IsHistory w (history_past_all h requests replies)) old new
-    pub content : InHistory is_right (λ w h. new.holds (tables w (history_past_all h requests replies))) old new
+  module _ {Desk : Type 0} (seen : Desk → Seen Left) where
+    -- A desk gives requests these replies, one after the other, each on the desk as the ones before it left it: so there is a desk
+    -- between each two.
+    abbrev pub AreReplied : Desk → List Request → List Reply → Desk → Type 0
+    AreReplied before [] [] after = before ≡ after
+    AreReplied before (request ∷ requests) (reply ∷ replies) after =
+        (between : Desk) × Replies (seen before) request reply (seen between) × AreReplied between requests replies after
+    AreReplied before _ _ after = ⊥
 
 -- the commands among requests, and what became of them
 abbrev pub commands_of : List Request → List Command
@@ -99,8 +83,12 @@ outcomes_of (Act c ∷ requests) (Became o ∷ replies) = o ∷ outcomes_of requ
 outcomes_of (_ ∷ requests) (_ ∷ replies) = outcomes_of requests replies
 outcomes_of _ _ = []
 
--- The commands among the requests are a run: for each right reading and each history whose tables were the rows before, each outcome
--- that is no fault is the answer at its place, and the rows after it are the tables of the history after the recorded commands.
+-- The commands among the requests are a run. Whatever the rows were, they stay where no command was recorded. For each right reading
+-- and each history whose tables were the rows before, each outcome that is no fault is the answer at its place, the recorded commands
+-- go on the history, and the rows after it are its tables.
 pub record IsRun {Left : Type 0} (is_right : Readings → Type 0) (old : Seen Left) (requests : List Request) (replies : List Reply) (new : Seen Left) : Type 0 where
+  pub honest : new.is_honest → old.is_honest
+  pub keeps : is_any_recorded requests replies ≡ false → Spared old new
   pub answers : InHistory is_right (λ w h. AreAnswers w h (commands_of requests) (outcomes_of requests replies)) old new
+  pub history : InHistory is_right (λ w h. IsHistory w (history_after h (commands_of requests) (outcomes_of requests replies))) old new
   pub content : InHistory is_right (λ w h. new.holds (tables w (history_after h (commands_of requests) (outcomes_of requests replies)))) old new

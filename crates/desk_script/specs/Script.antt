@@ -9,75 +9,85 @@ use Rattle.desk_access.specs.Seen.{Seen}
 use Rattle.desk_json.specs.declared.request.Request.{Request}
 use Rattle.desk_script.specs.Gathered.{Shows}
 use Rattle.desk_script.specs.Lines.{BeginsWith, requests_of}
+use Rattle.desk_script.specs.Losses.{AreToldUntil}
 use Rattle.desk_script.specs.Replies.{AreReplied, IsRun}
 use Rattle.desk_script.specs.Texts.{lines_of, count_refused, count_failed}
 use Rattle.desk_script.specs.declared.answer.Reply.{Reply}
 use Rattle.desk_script.specs.declared.line.Line.{Line}
 use Rattle.desk_script.specs.declared.serving.ScriptEnd.{ScriptEnd}
+use Rattle.desk_script.specs.declared.serving.ScriptFault.{ScriptFault}
 
 -- the bytes that a reader has left; of one that doesn't tell them, any
 abbrev pub AreLeft : Option (List ℕ) → List ℕ → Type 0
 AreLeft remaining bytes = IfSome remaining (λ told. told ≡ bytes)
 
-module _ (is_right : Readings → Type 0) (tells : StoreFault → Type 0) {Left : Type 0} where
+module _ (is_right : Readings → Type 0) (tells : StoreFault → Type 0) {Left Desk : Type 0} (seen : Desk → Seen Left) where
   -- requests were replied, the replies written as lines, and counted
-  pub record Serves (requests : List Request) (before after : Seen Left) (old new : Option (List ℕ)) (from to : ScriptEnd) : Type 0 where
+  pub record Serves (requests : List Request) (before after : Desk) (old new : Option (List ℕ)) (from to : ScriptEnd) : Type 0 where
     pub replies : List Reply
-    pub replied : AreReplied is_right tells before requests replies after
+    pub replied : AreReplied is_right tells seen before requests replies after
     pub written : Appends old new (lines_of replies)
     pub refused : to.refused ≡ from.refused + sum_by count_refused replies
     pub failed : to.failed ≡ from.failed + sum_by count_failed replies
 
+  -- requests were replied until a fault, and the replies written as far as it let them be
+  pub record ServesUntil (fault : ScriptFault) (requests : List Request) (before after : Desk) (old new : Option (List ℕ)) : Type 0 where
+    pub replies : List Reply
+    pub replied : AreReplied is_right tells seen before requests replies after
+    pub told : AreToldUntil fault replies old new
+
   -- A whole script: the bytes are cut into lines, the request of each line that isn't blank is replied, the commands among them are a
   -- run, the replies are written, a line each, and counted.
-  pub record IsScript (bytes : List ℕ) (before after : Seen Left) (old new : Option (List ℕ)) (end : ScriptEnd) : Type 0 where
+  pub record IsScript (bytes : List ℕ) (before after : Desk) (old new : Option (List ℕ)) (end : ScriptEnd) : Type 0 where
     pub lines : List LineText
     pub replies : List Reply
     pub cut : CutsInto 1 bytes lines
-    pub replied : AreReplied is_right tells before (requests_of lines) replies after
-    pub run : IsRun is_right before (requests_of lines) replies after
+    pub replied : AreReplied is_right tells seen before (requests_of lines) replies after
+    pub run : IsRun is_right (seen before) (requests_of lines) replies (seen after)
     pub written : Appends old new (lines_of replies)
     pub refused : end.refused ≡ sum_by count_refused replies
     pub failed : end.failed ≡ sum_by count_failed replies
 
-  -- a part of a script that stopped: of the lines that the bytes begin with, numbered on from a number, some front was replied, and
-  -- nothing else
-  pub record IsFrontAt (number : ℕ) (bytes : List ℕ) (before after : Seen Left) : Type 0 where
-    pub lines : List LineText
-    pub rest : List ℕ
-    pub replies : List Reply
-    pub begins : BeginsWith number bytes lines rest
-    pub replied : AreReplied is_right tells before (requests_of lines) replies after
-
-  -- a script that stopped: of the lines that the bytes begin with some front was replied, and nothing else
-  pub record IsFront (bytes : List ℕ) (before after : Seen Left) : Type 0 where
+  -- A script that stopped: of the lines that the bytes begin with some front was replied, and nothing else; the commands among them are
+  -- a run; and the replies are written, a line each, but for the last one where it is lost.
+  pub record IsFront (fault : ScriptFault) (bytes : List ℕ) (before after : Desk) (old new : Option (List ℕ)) : Type 0 where
     pub lines : List LineText
     pub rest : List ℕ
     pub replies : List Reply
     pub begins : BeginsWith 1 bytes lines rest
-    pub replied : AreReplied is_right tells before (requests_of lines) replies after
-    pub run : IsRun is_right before (requests_of lines) replies after
+    pub replied : AreReplied is_right tells seen before (requests_of lines) replies after
+    pub run : IsRun is_right (seen before) (requests_of lines) replies (seen after)
+    pub told : AreToldUntil fault replies old new
 
   -- a script whose reader gave no more than these bytes: the lines that an LF ended are replied, their replies written, and nothing else
-  pub record IsCutOff (bytes : List ℕ) (before after : Seen Left) (old new : Option (List ℕ)) : Type 0 where
+  pub record IsCutOff (bytes : List ℕ) (before after : Desk) (old new : Option (List ℕ)) : Type 0 where
     pub lines : List LineText
     pub rest : List ℕ
     pub replies : List Reply
     pub begins : BeginsWith 1 bytes lines rest
     pub fed : All (λ l. l.end ≢ Nothing) lines
     pub no_lf : All (λ b. b ≢ 10) rest
-    pub replied : AreReplied is_right tells before (requests_of lines) replies after
+    pub replied : AreReplied is_right tells seen before (requests_of lines) replies after
+    pub run : IsRun is_right (seen before) (requests_of lines) replies (seen after)
     pub written : Appends old new (lines_of replies)
 
+  -- a part of a script that stopped: some front of the lines that the bytes begin with, numbered on from a number, is served until a
+  -- fault
+  pub record IsFrontAt (number : ℕ) (fault : ScriptFault) (bytes : List ℕ) (before after : Desk) (old new : Option (List ℕ)) : Type 0 where
+    pub lines : List LineText
+    pub rest : List ℕ
+    pub begins : BeginsWith number bytes lines rest
+    pub serves : ServesUntil fault (requests_of lines) before after old new
+
   -- the last part of a script: its bytes are cut into lines, numbered on from a number, and served
-  pub record IsPart (number : ℕ) (bytes : List ℕ) (before after : Seen Left) (old new : Option (List ℕ)) (from to : ScriptEnd) : Type 0 where
+  pub record IsPart (number : ℕ) (bytes : List ℕ) (before after : Desk) (old new : Option (List ℕ)) (from to : ScriptEnd) : Type 0 where
     pub lines : List LineText
     pub cut : CutsInto number bytes lines
     pub serves : Serves (requests_of lines) before after old new from to
 
   -- as far as some bytes came: the lines that an LF ended, numbered on from a number, are served, and what came after them is the
   -- line so far
-  pub record HasServed (number : ℕ) (bytes : List ℕ) (before after : Seen Left) (old new : Option (List ℕ)) (from to : ScriptEnd) (line : Line) : Type 0 where
+  pub record HasServed (number : ℕ) (bytes : List ℕ) (before after : Desk) (old new : Option (List ℕ)) (from to : ScriptEnd) (line : Line) : Type 0 where
     pub lines : List LineText
     pub came : List ℕ
     pub begins : BeginsWith number bytes lines came

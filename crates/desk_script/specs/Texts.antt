@@ -1,6 +1,7 @@
 -- What is written and counted.
 use Rattle.std.specs.Prelude.{ℕ, List, [], ◌∷◌, ◌++◌, flat_map}
 use Rattle.desk_rows.specs.declared.command.Answer.TheVariants.{Refused}
+use Rattle.desk_rows.specs.declared.command.Fault.TheVariants.{Memory}
 use Rattle.desk_rows.specs.declared.command.Outcome.TheVariants.{Answered, Failed}
 use Rattle.desk_json.specs.Replies.{reply_text, bad_command_text}
 use Rattle.desk_script.specs.declared.answer.Reply.{Reply}
@@ -17,6 +18,12 @@ line_of reply = text_of reply ++ 10 ∷ []
 
 abbrev pub lines_of : List Reply → List ℕ
 lines_of replies = flat_map line_of replies
+
+-- the text of a reply takes memory, unless it tells that memory was wanting or that there was no request
+abbrev pub TakesMemory : Reply → Type 0
+TakesMemory (Became (Failed Memory)) = ⊥
+TakesMemory (Became _) = Unit {0}
+TakesMemory NoRequest = ⊥
 
 -- a line counts as refused where its request is refused, or where it is none
 abbrev pub count_refused : Reply → ℕ

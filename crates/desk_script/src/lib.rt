@@ -8,7 +8,7 @@
 //! Each is replied on the desk as the lines before left it, and for each right reading of texts and each history whose tables the desk
 //! held the outcomes are those of a run of the commands among the requests, which leaves the tables of the history after them. What is
 //! written is the reply lines in order, and the end counts the refused and the failed ones. After a fault, some front of the lines was
-//! replied in this way: what was accepted stands.
+//! replied in this way: what was accepted stands, and of the replies only the last one can be missing or cut short.
 //!
 //! - `line` gathers the bytes of a line as they come.
 //! - `answer` answers the request of a line.
@@ -22,6 +22,5 @@ mod serving;
 mod stream;
 
 pub use answer::{Reply, answer_line};
-pub use line::LINE_BYTES;
 pub use serving::{ScriptEnd, ScriptFault};
 pub use stream::script;

@@ -2,12 +2,11 @@
 
 ghost use Rattle.std.specs.Prelude.{◌≡◌, ◌++◌, ◌&&◌, [], List, ℕ, OnOk, false};
 ghost use Rattle.desk_script.specs.Gathered.{Shows, HasCome};
-ghost use Rattle.desk_script.specs.Lines.{is_blank, is_blank_line};
+ghost use Rattle.desk_script.specs.Lines.{is_blank_line};
+ghost use Rattle.desk_base.specs.Bytes.{is_blank};
 
+use desk_base::limits;
 use std::alloc::{AllocError, Global};
-
-/// The bytes of the longest line that may be a request, without its end.
-pub const LINE_BYTES: usize = 8_388_608;
 
 /// The bytes of a line as far as they came, without a CR at their end.
 #[derive(Drop)]
@@ -69,7 +68,7 @@ impl Line {
         ensures cr { self.new.ends_by_cr ≡ self.old.ends_by_cr }
     {
         self.is_blank = stays_blank(self.is_blank, run);
-        let room = LINE_BYTES.saturating_sub(self.kept.len());
+        let room = limits::LINE_BYTES.saturating_sub(self.kept.len());
         if run.len() <= room {
             return self.kept.extend_from_slice(run);
         }

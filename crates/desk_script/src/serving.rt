@@ -1,13 +1,14 @@
 //! Serves a line: answers its request, writes the reply and counts it.
 
-ghost use Rattle.std.specs.Prelude.{◌≡◌, ◌∷◌, ◌++◌, ◌+◌, ◌≤◌, ◌<◌, ◌^◌, [], List, ℕ, OnOk, IfErr};
-ghost use Rattle.std.specs.Io.KnownBytes.{Appends};
-ghost use Rattle.desk_script.specs.Faults.{IsOfReply};
+ghost use Rattle.std.specs.Prelude.{◌≡◌, ◌∷◌, ◌++◌, ◌+◌, ◌≤◌, ◌<◌, ◌^◌, [], List, ℕ, OnOk, OnErr, IfOk, IfErr, length, take};
+ghost use Rattle.std.specs.Io.KnownBytes.{Appends, Keeps};
+ghost use Rattle.desk_script.specs.Faults.{IsOfReply, IsOfWriter};
 ghost use Rattle.desk_script.specs.Gathered.{HasCome};
 ghost use Rattle.desk_script.specs.Texts.{line_of, count_refused, count_failed};
 ghost use Rattle.desk_script.specs.Lines.{request_at, request_of};
-ghost use Rattle.desk_script.specs.Replies.{AreReplied, Replies};
-ghost use Rattle.desk_script.specs.Script.{Serves};
+ghost use Rattle.desk_script.specs.Losses.{AppendsFront, Loses};
+ghost use Rattle.desk_script.specs.Replies.{Replies};
+ghost use Rattle.desk_script.specs.Script.{Serves, ServesUntil};
 ghost use Rattle.desk_script.specs.declared.answer.Reply.{Reply};
 
 use crate::answer::{Reply, answer_line};
@@ -16,7 +17,7 @@ use desk_core::desk::Desk;
 use desk_json::{bad_command_line, memory_line, reply_line};
 use desk_rows::{Answer, Fault, Outcome};
 use std::alloc::{AllocError, Global};
-use std::io::Write;
+use std::io::{ErrorKind, Write};
 use std::mem;
 use thiserror::Error;
 
@@ -69,24 +70,55 @@ impl ScriptEnd {
     }
 }
 
+/// Writes some front of the bytes, which is empty where the writer was interrupted.
+fn write_some<W: Write>(writer: &mut W, bytes: &[u8]) -> Result<usize, ScriptFault>
+    ensures ok { IfOk result (λ taken. (taken ≤ length bytes.now) × Appends (W.contents writer.old) (W.contents writer.new) (take taken bytes.now)) }
+    ensures err { OnErr result (Keeps (W.contents writer.old) (W.contents writer.new)) }
+    ensures fault { IfErr result IsOfWriter }
+{
+    match writer.write(bytes) {
+        Ok(0) => Err(ScriptFault::Write),
+        Ok(taken) => Ok(taken),
+        Err(error) if error.kind() == ErrorKind::Interrupted => Ok(0),
+        Err(_) => Err(ScriptFault::Write),
+    }
+}
+
+/// Writes bytes as `write_all` does, of which nothing is known after a fault: here a front of them is written then.
+fn write_bytes<W: Write>(writer: &mut W, bytes: &[u8]) -> Result<(), ScriptFault>
+    ensures ok { OnOk result (Appends (W.contents writer.old) (W.contents writer.new) bytes.now) }
+    ensures err { OnErr result (AppendsFront (W.contents writer.old) (W.contents writer.new) bytes.now) }
+    ensures fault { IfErr result IsOfWriter }
+{
+    let mut rest = bytes;
+    for _ in 0..u64::MAX {
+        if rest.is_empty() {
+            return Ok(());
+        }
+        let taken = write_some(writer, rest)?;
+        rest = &rest[taken..];
+    }
+    Err(ScriptFault::Write)
+}
+
 /// Writes a text as a line.
 fn write_line<W: Write>(writer: &mut W, text: &str) -> Result<(), ScriptFault>
     ensures ok { OnOk result (Appends (W.contents writer.old) (W.contents writer.new) (text.now ++ 10 ∷ [])) }
-    ensures fault { IfErr result IsOfReply }
+    ensures err { OnErr result (AppendsFront (W.contents writer.old) (W.contents writer.new) (text.now ++ 10 ∷ [])) }
+    ensures fault { IfErr result IsOfWriter }
 {
-    if writer.write_all(text.as_bytes()).is_err() {
-        return Err(ScriptFault::Write);
+    write_bytes(writer, text.as_bytes())?;
+    write_bytes(writer, b"\n")?;
+    match writer.flush() {
+        Ok(()) => Ok(()),
+        Err(_) => Err(ScriptFault::Write),
     }
-    if writer.write_all(b"\n").is_err() || writer.flush().is_err() {
-        return Err(ScriptFault::Write);
-    }
-    Ok(())
 }
 
 /// Writes a reply as a line. That memory was wanting, and that there was no request, is told without taking memory.
 fn write_reply<W: Write>(alloc: Global, writer: &mut W, reply: &Reply) -> Result<(), ScriptFault>
     ensures ok { OnOk result (Appends (W.contents writer.old) (W.contents writer.new) (line_of reply.now)) }
-    ensures fault { IfErr result IsOfReply }
+    ensures err { IfErr result (λ fault. Loses fault reply.now (W.contents writer.old) (W.contents writer.new)) }
 {
     match reply {
         Reply::NoRequest => write_line(writer, bad_command_line()),
@@ -118,10 +150,10 @@ pub fn serve<D: Desk, W: Write>(
     line: &mut Line,
 ) -> Result<(), ScriptFault>
     requires room { (end.old.refused + 1 < 2 ^ 64) × (end.old.failed + 1 < 2 ^ 64) }
-    ensures ok { (text : List ℕ) → HasCome line.old text → OnOk result (Serves D.are_right D.tells (request_at text)
-        (D.seen desk.old) (D.seen desk.new) (W.contents writer.old) (W.contents writer.new) end.old end.new) }
-    ensures replied { (text : List ℕ) → HasCome line.old text → (replies : List Reply)
-        × AreReplied D.are_right D.tells (D.seen desk.old) (request_at text) replies (D.seen desk.new) }
+    ensures ok { (text : List ℕ) → HasCome line.old text → OnOk result (Serves D.are_right D.tells D.seen (request_at text)
+        desk.old desk.new (W.contents writer.old) (W.contents writer.new) end.old end.new) }
+    ensures err { (text : List ℕ) → HasCome line.old text → IfErr result (λ fault. ServesUntil D.are_right D.tells D.seen fault (request_at text)
+        desk.old desk.new (W.contents writer.old) (W.contents writer.new)) }
     ensures few { (end.new.refused ≤ end.old.refused + 1) × (end.new.failed ≤ end.old.failed + 1) }
     ensures fault { IfErr result IsOfReply }
 {

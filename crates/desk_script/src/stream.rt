@@ -1,6 +1,6 @@
 //! Cuts what is read into lines, and serves each as soon as it is whole.
 
-ghost use Rattle.std.specs.Prelude.{◌≡◌, ◌≢◌, ◌∷◌, ◌++◌, ◌+◌, ◌*◌, ◌≤◌, ◌<◌, ◌^◌, [], List, ℕ, OnOk, OnErr, IfOk, IfErr, Option, MatchOption, All, length, ◌⊎◌};
+ghost use Rattle.std.specs.Prelude.{◌≡◌, ◌≢◌, ◌∷◌, ◌++◌, ◌+◌, ◌*◌, ◌≤◌, ◌<◌, ◌^◌, [], List, ℕ, OnOk, IfOk, IfErr, Option, MatchOption, All, length, ◌⊎◌};
 ghost use Rattle.std.specs.Io.KnownBytes.{Consumes};
 ghost use Rattle.desk_script.specs.Faults.{IsOfReader, IsOfReply};
 ghost use Rattle.desk_script.specs.Script.{AreLeft, HasServed, IsCutOff, IsFront, IsFrontAt, IsPart, IsScript};
@@ -38,9 +38,9 @@ fn end_line<D: Desk, W: Write>(
 ) -> Result<(), ScriptFault>
     requires room { (end.old.refused + 1 < 2 ^ 64) × (end.old.failed + 1 < 2 ^ 64) }
     ensures ok { (number : ℕ) (came : List ℕ) → Shows line.old came → All (λ b. b ≢ 10) came
-        → OnOk result (HasServed D.are_right D.tells number (came ++ 10 ∷ []) (D.seen desk.old) (D.seen desk.new) (W.contents writer.old) (W.contents writer.new) end.old end.new line.new) }
+        → OnOk result (HasServed D.are_right D.tells D.seen number (came ++ 10 ∷ []) desk.old desk.new (W.contents writer.old) (W.contents writer.new) end.old end.new line.new) }
     ensures err { (number : ℕ) (came more : List ℕ) → Shows line.old came → All (λ b. b ≢ 10) came
-        → OnErr result (IsFrontAt D.are_right D.tells number (came ++ 10 ∷ more) (D.seen desk.old) (D.seen desk.new)) }
+        → IfErr result (λ fault. IsFrontAt D.are_right D.tells D.seen number fault (came ++ 10 ∷ more) desk.old desk.new (W.contents writer.old) (W.contents writer.new)) }
     ensures few { (end.new.refused ≤ end.old.refused + 1) × (end.new.failed ≤ end.old.failed + 1) }
     ensures fault { IfErr result IsOfReply }
 {
@@ -60,9 +60,9 @@ fn feed<D: Desk, W: Write>(
 ) -> Result<(), ScriptFault>
     requires room { (end.old.refused + length piece.now < 2 ^ 64) × (end.old.failed + length piece.now < 2 ^ 64) }
     ensures ok { (number : ℕ) (came : List ℕ) → Shows line.old came → All (λ b. b ≢ 10) came
-        → OnOk result (HasServed D.are_right D.tells number (came ++ piece.now) (D.seen desk.old) (D.seen desk.new) (W.contents writer.old) (W.contents writer.new) end.old end.new line.new) }
+        → OnOk result (HasServed D.are_right D.tells D.seen number (came ++ piece.now) desk.old desk.new (W.contents writer.old) (W.contents writer.new) end.old end.new line.new) }
     ensures err { (number : ℕ) (came more : List ℕ) → Shows line.old came → All (λ b. b ≢ 10) came
-        → OnErr result (IsFrontAt D.are_right D.tells number (came ++ (piece.now ++ more)) (D.seen desk.old) (D.seen desk.new)) }
+        → IfErr result (λ fault. IsFrontAt D.are_right D.tells D.seen number fault (came ++ (piece.now ++ more)) desk.old desk.new (W.contents writer.old) (W.contents writer.new)) }
     ensures few { (end.new.refused ≤ end.old.refused + length piece.now) × (end.new.failed ≤ end.old.failed + length piece.now) }
     ensures fault { IfErr result IsOfReply }
 {
@@ -86,9 +86,9 @@ fn finish<D: Desk, W: Write>(
 ) -> Result<(), ScriptFault>
     requires room { (end.old.refused + 1 < 2 ^ 64) × (end.old.failed + 1 < 2 ^ 64) }
     ensures ok { (number : ℕ) (came : List ℕ) → Shows line.old came → All (λ b. b ≢ 10) came
-        → OnOk result (IsPart D.are_right D.tells number came (D.seen desk.old) (D.seen desk.new) (W.contents writer.old) (W.contents writer.new) end.old end.new) }
+        → OnOk result (IsPart D.are_right D.tells D.seen number came desk.old desk.new (W.contents writer.old) (W.contents writer.new) end.old end.new) }
     ensures err { (number : ℕ) (came : List ℕ) → Shows line.old came → All (λ b. b ≢ 10) came
-        → OnErr result (IsFrontAt D.are_right D.tells number came (D.seen desk.old) (D.seen desk.new)) }
+        → IfErr result (λ fault. IsFrontAt D.are_right D.tells D.seen number fault came desk.old desk.new (W.contents writer.old) (W.contents writer.new)) }
     ensures fault { IfErr result IsOfReply }
 {
     line.keep_cr()?;
@@ -98,9 +98,10 @@ fn finish<D: Desk, W: Write>(
 /// Reads requests, a line each, and writes a reply line for each line that isn't blank. Replies go out line by line: each is
 /// written and flushed before the next line is served.
 ///
-/// It goes on past refusals and faults, and counts them. At most 1,048,576 times the reader is asked for bytes, each time for at
-/// most 65,536. After a fault of
-/// the reader, of the writer or of memory for a line or a reply, what was accepted stands. Where the reader failed, or was asked
+/// It goes on past refusals and faults, and counts them: want of memory for a request or for its answer is a reply, and ends nothing. At
+/// most 1,048,576 times the reader is asked for bytes, each time for at most 65,536. After a fault of the reader, of the writer or of
+/// memory for a line or a reply's text, what was accepted stands, and all replies are written but for the last one, where the fault
+/// was its: of that one a front of its line is written, and nothing where its text found no memory. Where the reader failed, or was asked
 /// too often, each line that ended among the bytes it gave is replied, and each reply written.
 pub fn script<D: Desk, R: Read, W: Write>(
     alloc: Global,
@@ -109,12 +110,12 @@ pub fn script<D: Desk, R: Read, W: Write>(
     writer: &mut W,
 ) -> Result<ScriptEnd, ScriptFault>
     ensures ok { IfOk result (λ end. (bytes : List ℕ) × AreLeft (R.remaining reader.old) bytes
-        × IsScript D.are_right D.tells bytes (D.seen desk.old) (D.seen desk.new) (W.contents writer.old) (W.contents writer.new) end) }
-    ensures err { OnErr result ((bytes : List ℕ) × AreLeft (R.remaining reader.old) bytes
-        × IsFront D.are_right D.tells bytes (D.seen desk.old) (D.seen desk.new)) }
+        × IsScript D.are_right D.tells D.seen bytes desk.old desk.new (W.contents writer.old) (W.contents writer.new) end) }
+    ensures err { IfErr result (λ fault. (bytes : List ℕ) × AreLeft (R.remaining reader.old) bytes
+        × IsFront D.are_right D.tells D.seen fault bytes desk.old desk.new (W.contents writer.old) (W.contents writer.new)) }
     ensures fault { IfErr result (λ fault. IsOfReply fault ⊎ ((bytes : List ℕ) × IsOfReader fault (length bytes)
         × Consumes (R.remaining reader.old) (R.remaining reader.new) bytes
-        × IsCutOff D.are_right D.tells bytes (D.seen desk.old) (D.seen desk.new) (W.contents writer.old) (W.contents writer.new))) }
+        × IsCutOff D.are_right D.tells D.seen bytes desk.old desk.new (W.contents writer.old) (W.contents writer.new))) }
     ensures taken { (bytes : List ℕ) × Consumes (R.remaining reader.old) (R.remaining reader.new) bytes × (length bytes ≤ 1048576 * 65536) }
 {
     let mut end = ScriptEnd {

@@ -7,7 +7,7 @@ abbrev pub invariant-loop-turn : goal.invariant-loop-turn
 invariant-loop-turn g l = record {
   front : List ℕ;
   read : Consumes (g.R.Read.remaining l.fn.reader) (g.R.Read.remaining l.reader) front;
-  served : HasServed g.D.Desk.are_right g.D.Desk.tells 1 front (g.D.Desk.seen l.fn.desk) (g.D.Desk.seen l.desk) (g.W.Write.contents l.fn.writer)
+  served : HasServed g.D.Desk.are_right g.D.Desk.tells g.D.Desk.seen 1 front l.fn.desk l.desk (g.W.Write.contents l.fn.writer)
       (g.W.Write.contents l.writer) (record { refused = 0; failed = 0 }) l.end l.line;
   turns : l.turn ≤ length front;
   few : length front ≤ l.turn * 65536;

@@ -1,0 +1,5 @@
+pub mod ReportLemmas
+pub mod WriterLemmas
+pub mod OneAnswer
+pub mod ListingLemmas
+pub mod FilingLemmas

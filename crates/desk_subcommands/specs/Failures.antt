@@ -1,0 +1,47 @@
+-- What holds after a failure.
+use Rattle.std.specs.Prelude.{ℕ}
+use Rattle.desk_rows.specs.declared.command.Fault.{Fault}
+use Rattle.desk_script.specs.declared.serving.ScriptFault.{ScriptFault}
+use Rattle.desk_subcommands.specs.declared.failure.Failure.{Failure}
+use Rattle.desk_subcommands.specs.declared.failure.Failure.TheVariants.{Memory, Write, Script, Failed, Request, BadValue}
+
+-- the fact holds where memory was wanting
+abbrev pub IfMemory : Type 0 → Failure → Type 0
+IfMemory fact (Memory error) = fact
+IfMemory fact _ = Unit {0}
+
+-- where some value can't stand in its field
+abbrev pub IfBadValue : Type 0 → Failure → Type 0
+IfBadValue fact BadValue = fact
+IfBadValue fact _ = Unit {0}
+
+-- where there was nothing to tell for one of these
+abbrev pub IfUntold : Type 0 → Failure → Type 0
+IfUntold fact (Memory error) = fact
+IfUntold fact BadValue = fact
+IfUntold fact _ = Unit {0}
+
+-- the program's status: the command line is wrong, where a value can't stand; or a fault
+abbrev pub failure_status : Failure → ℕ
+failure_status BadValue = 2
+failure_status _ = 3
+
+-- what holds where a script stopped by a fault, which the failure tells, and where so many of its requests failed; it has no other
+-- failure
+abbrev pub OfScript : (ScriptFault → Type 0) → (ℕ → Type 0) → Failure → Type 0
+OfScript stopped failed (Script fault) = stopped fault
+OfScript stopped failed (Failed count) = failed count
+OfScript stopped failed _ = ⊥
+
+-- what holds where the desk failed at a command by a fault, and where no reply to it could be written; it has no other failure
+abbrev pub OfRequest : (Fault → Type 0) → Type 0 → Failure → Type 0
+OfRequest failed untold (Request fault) = failed fault
+OfRequest failed untold (Memory error) = untold
+OfRequest failed untold (Write error) = untold
+OfRequest failed untold _ = ⊥
+
+-- a text couldn't be written, or there was no memory for it
+abbrev pub IsOfOutput : Failure → Type 0
+IsOfOutput (Memory error) = Unit {0}
+IsOfOutput (Write error) = Unit {0}
+IsOfOutput _ = ⊥

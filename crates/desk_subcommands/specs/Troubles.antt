@@ -1,0 +1,12 @@
+-- Why the database of a file can't be used, by what the desk tells.
+use Rattle.desk_rows.specs.declared.command.Fault.{Fault}
+use Rattle.desk_rows.specs.declared.command.Fault.TheVariants as fault
+use Rattle.desk_rows.specs.declared.command.StoreFault.TheVariants as store
+use Rattle.desk_subcommands.specs.declared.trouble.Trouble.{Trouble}
+use Rattle.desk_subcommands.specs.declared.trouble.Trouble.TheVariants as trouble
+
+-- of a fault of the desk
+abbrev pub trouble_of_fault : Fault → Trouble
+trouble_of_fault fault.Memory = trouble.Memory
+trouble_of_fault (fault.Store store.Database) = trouble.Refused
+trouble_of_fault (fault.Store store.Rows) = trouble.Rows

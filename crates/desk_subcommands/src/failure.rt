@@ -1,0 +1,90 @@
+//! Why a subcommand could not do its work.
+
+use crate::trouble::Trouble;
+use desk_rows::Fault;
+use desk_script::ScriptFault;
+use desk_trees::TreeFault;
+use std::alloc::AllocError;
+use std::io;
+use thiserror::Error;
+
+/// A fault of the program's surroundings: what the words asked for was fine.
+#[derive(Debug, Drop, Error)]
+pub enum Failure {
+    #[error("no memory is left")]
+    Memory(AllocError),
+    #[error("cannot write: {0}")]
+    Write(io::Error),
+    /// A script stopped before its end.
+    #[error("the script stopped: {0}")]
+    Script(ScriptFault),
+    /// So many requests of a script failed.
+    #[error("requests that failed: {0}")]
+    Failed(u64),
+    /// A desk failed at a command.
+    #[error("the request failed, and nothing was changed: {0}")]
+    Request(Fault),
+    /// A file that is to be read can't be: its path, and why.
+    #[error("cannot read {0:?}: {1}")]
+    Read(String, io::Error),
+    /// A file can't keep a desk: its path, and why.
+    #[error("cannot use {0:?}: {1}")]
+    Database(String, Trouble),
+    /// What was done couldn't be moved into the file that keeps the desk: its path, and why.
+    #[error("cannot close {0:?}: {1}; what was done stands in the file beside it whose name ends in -wal: keep both together")]
+    Close(String, Trouble),
+    /// The files of a tree can't be had.
+    #[error("{0}")]
+    Tree(TreeFault),
+    /// Some value of a document can't be read back from its field.
+    #[error("a value cannot stand in its field of the document: a licence of a REUSE.toml has blanks at its ends")]
+    BadValue,
+}
+
+impl Failure {
+    ghost use Rattle.std.specs.Prelude.{◌≡◌};
+    ghost use Rattle.desk_subcommands.specs.Failures.{failure_status};
+
+    /// The program's status: 2 where a value can't stand in its field, and else 3.
+    pub fn status(&self) -> u8
+        ensures { result ≡ failure_status self.now }
+    {
+        match self {
+            Failure::BadValue => 2,
+            _ => 3,
+        }
+    }
+}
+
+impl From<AllocError> for Failure {
+    ghost use Rattle.std.specs.Prelude.{◌≡◌};
+    ghost use Rattle.desk_subcommands.specs.declared.failure.Failure.TheVariants.{Memory};
+
+    ghost from_gives = { λ error failure. failure ≡ Memory error };
+
+    fn from(error: AllocError) -> Failure {
+        Failure::Memory(error)
+    }
+}
+
+impl From<io::Error> for Failure {
+    ghost use Rattle.std.specs.Prelude.{◌≡◌};
+    ghost use Rattle.desk_subcommands.specs.declared.failure.Failure.TheVariants.{Write};
+
+    ghost from_gives = { λ error failure. failure ≡ Write error };
+
+    fn from(error: io::Error) -> Failure {
+        Failure::Write(error)
+    }
+}
+
+impl From<TreeFault> for Failure {
+    ghost use Rattle.std.specs.Prelude.{◌≡◌};
+    ghost use Rattle.desk_subcommands.specs.declared.failure.Failure.TheVariants.{Tree};
+
+    ghost from_gives = { λ fault failure. failure ≡ Tree fault };
+
+    fn from(fault: TreeFault) -> Failure {
+        Failure::Tree(fault)
+    }
+}

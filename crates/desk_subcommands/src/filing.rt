@@ -1,0 +1,169 @@
+//! The commands whose texts stand in files: the import of a document, and the loading of a catalogue.
+
+ghost use Rattle.std.specs.Prelude.{◌≡◌, ◌++◌, ◌∷◌, [], IfOk, IfErr, OnOk, MatchOption};
+ghost use Rattle.std.specs.Io.KnownBytes.{Appends, Keeps};
+ghost use Rattle.std.specs.Str.{IsUtf8};
+ghost use Rattle.desk_rows.specs.declared.command.Answer.{Answer};
+ghost use Rattle.desk_rows.specs.declared.command.Command.TheVariants.{Import, LoadCatalogue};
+ghost use Rattle.desk_rows.specs.declared.command.Outcome.TheVariants.{Answered, Failed};
+ghost use Rattle.desk_subcommands.specs.Failures.{IfMemory, IsOfOutput, OfRequest};
+ghost use Rattle.desk_subcommands.specs.Filing.{answer_status, Comes, HasFailed, IsAnswered, IsUntold, no_desk_line, no_text, outcome_line};
+
+use crate::failure::Failure;
+use desk_base::{Items, Text};
+use desk_core::desk::Desk;
+use desk_json::{memory_line, reply_line};
+use desk_rows::{Answer, CatalogueFault, Command, Fault, Outcome, Profile, Refusal};
+use std::alloc::{AllocError, Global};
+use std::io::Write;
+
+/// Why a file keeps no desk that this program goes on with.
+#[derive(Clone, Copy, Debug, Drop, PartialEq, Eq)]
+pub enum NoDesk {
+    /// It has a table `meta`, and not all tables of a desk and no others.
+    NotADesk,
+    /// Its tables are of another version.
+    BadVersion,
+}
+
+// The line that tells why a file keeps no desk, without its end.
+fn no_desk_line(reason: NoDesk) -> &'static str
+    ensures { result.now ≡ no_desk_line reason }
+{
+    match reason {
+        NoDesk::NotADesk => "fault: NotADesk",
+        NoDesk::BadVersion => "fault: BadVersion",
+    }
+}
+
+fn status_of(answer: &Answer) -> u8
+    ensures { result ≡ answer_status answer.now }
+{
+    match answer {
+        Answer::Refused(_) => 1,
+        _ => 0,
+    }
+}
+
+fn write_line<W: Write>(writer: &mut W, text: &str) -> Result<(), Failure>
+    ensures ok { OnOk result (Appends (W.contents writer.old) (W.contents writer.new) (text.now ++ 10 ∷ [])) }
+    ensures err { IfErr result IsOfOutput }
+    ensures memory { IfErr result (IfMemory (Keeps (W.contents writer.old) (W.contents writer.new))) }
+{
+    writer.write_all(text.as_bytes())?;
+    writer.write_all(b"\n")?;
+    writer.flush()?;
+    Ok(())
+}
+
+// Writes the reply to an outcome as a line. That memory was wanting is told without taking memory.
+fn write_reply<W: Write>(alloc: Global, outcome: &Outcome, writer: &mut W) -> Result<(), Failure>
+    ensures ok { OnOk result (Appends (W.contents writer.old) (W.contents writer.new) (outcome_line outcome.now)) }
+    ensures err { IfErr result IsOfOutput }
+    ensures memory { IfErr result (IfMemory (Keeps (W.contents writer.old) (W.contents writer.new))) }
+{
+    match outcome {
+        Outcome::Failed(Fault::Memory) => write_line(writer, memory_line()),
+        _ => {
+            let text = reply_line(alloc, outcome)?;
+            write_line(writer, text.as_str())
+        }
+    }
+}
+
+// Writes the reply to an outcome as a line, and answers the status.
+fn tell<W: Write>(alloc: Global, outcome: &Outcome, writer: &mut W) -> Result<u8, Failure>
+    ensures done { IfOk result (λ status. (answer : Answer) × (outcome.now ≡ Answered answer)
+        × Appends (W.contents writer.old) (W.contents writer.new) (outcome_line outcome.now) × (status ≡ answer_status answer)) }
+    ensures failed { IfErr result (OfRequest
+        (λ fault. (outcome.now ≡ Failed fault) × Appends (W.contents writer.old) (W.contents writer.new) (outcome_line outcome.now)) (Unit {0})) }
+    ensures memory { IfErr result (IfMemory (Keeps (W.contents writer.old) (W.contents writer.new))) }
+{
+    write_reply(alloc, outcome, writer)?;
+    match outcome {
+        Outcome::Answered(answer) => Ok(status_of(answer)),
+        Outcome::Failed(fault) => Err(Failure::Request(*fault)),
+    }
+}
+
+// Imports a document.
+fn imported<D: Desk>(desk: &mut D, bytes: Items<u8>, profile: Profile) -> Outcome
+    ensures { Comes D.are_right D.tells (Import bytes profile) (D.seen desk.old) (D.seen desk.new) result }
+{
+    Outcome::from(desk.import(bytes, profile))
+}
+
+// Loads a catalogue.
+fn loaded<D: Desk>(desk: &mut D, text: Text) -> Outcome
+    ensures { Comes D.are_right D.tells (LoadCatalogue text) (D.seen desk.old) (D.seen desk.new) result }
+{
+    let command = Command::LoadCatalogue { text };
+    Outcome::from(desk.apply(&command))
+}
+
+/// Has a desk import a document, as the request `import` does, writes the reply as a line, and answers the program's status. Where the
+/// desk fails, the reply tells it and so does the failure. Where the reply can't be written, what the desk did stands.
+pub fn import<D: Desk, W: Write>(
+    alloc: Global,
+    desk: &mut D,
+    bytes: Items<u8>,
+    profile: Profile,
+    writer: &mut W,
+) -> Result<u8, Failure>
+    ensures done { IfOk result (IsAnswered D.are_right D.tells (Import bytes profile) (D.seen desk.old) (D.seen desk.new)
+        (W.contents writer.old) (W.contents writer.new)) }
+    ensures failed { IfErr result (OfRequest
+        (HasFailed D.are_right D.tells (Import bytes profile) (D.seen desk.old) (D.seen desk.new) (W.contents writer.old) (W.contents writer.new))
+        (IsUntold D.are_right D.tells (Import bytes profile) (D.seen desk.old) (D.seen desk.new))) }
+    ensures memory { IfErr result (IfMemory (Keeps (W.contents writer.old) (W.contents writer.new))) }
+{
+    let outcome = imported(desk, bytes, profile);
+    tell(alloc, &outcome, writer)
+}
+
+/// Has a desk load a catalogue, as the request `catalogue` does, writes the reply as a line, and answers the program's status. Where the
+/// desk fails, the reply tells it and so does the failure. Where the reply can't be written, what the desk did stands.
+pub fn catalogue<D: Desk, W: Write>(
+    alloc: Global,
+    desk: &mut D,
+    text: Text,
+    writer: &mut W,
+) -> Result<u8, Failure>
+    ensures done { IfOk result (IsAnswered D.are_right D.tells (LoadCatalogue text) (D.seen desk.old) (D.seen desk.new)
+        (W.contents writer.old) (W.contents writer.new)) }
+    ensures failed { IfErr result (OfRequest
+        (HasFailed D.are_right D.tells (LoadCatalogue text) (D.seen desk.old) (D.seen desk.new) (W.contents writer.old) (W.contents writer.new))
+        (IsUntold D.are_right D.tells (LoadCatalogue text) (D.seen desk.old) (D.seen desk.new))) }
+    ensures memory { IfErr result (IfMemory (Keeps (W.contents writer.old) (W.contents writer.new))) }
+{
+    let outcome = loaded(desk, text);
+    tell(alloc, &outcome, writer)
+}
+
+/// The text that bytes are, or none where they are no UTF-8.
+pub fn text_of(alloc: Global, bytes: &[u8]) -> Result<Option<Text>, AllocError>
+    ensures { IfOk result (λ found. MatchOption found (¬ (IsUtf8 bytes.now)) (λ text. (text ≡ bytes.now) × IsUtf8 bytes.now)) }
+{
+    match str::from_utf8(bytes) {
+        Ok(text) => Ok(Some(Text::of(alloc, text)?)),
+        Err(_) => Ok(None),
+    }
+}
+
+/// Writes the reply to the loading of a catalogue that is no text: it is refused as no TOML document. It answers the program's status.
+pub fn refuse_catalogue<W: Write>(alloc: Global, writer: &mut W) -> Result<u8, Failure>
+    ensures told { IfOk result (λ status. (status ≡ 1) × Appends (W.contents writer.old) (W.contents writer.new) (outcome_line no_text)) }
+    ensures memory { IfErr result (IfMemory (Keeps (W.contents writer.old) (W.contents writer.new))) }
+{
+    let refusal = Refusal::BadCatalogue(CatalogueFault::NotToml);
+    tell(alloc, &Outcome::Answered(Answer::Refused(refusal)), writer)
+}
+
+/// Writes why a file keeps no desk, as a line, and answers the program's status.
+pub fn refuse_database<W: Write>(reason: NoDesk, writer: &mut W) -> Result<u8, Failure>
+    ensures told { IfOk result (λ status. (status ≡ 1) × Appends (W.contents writer.old) (W.contents writer.new) (no_desk_line reason ++ 10 ∷ [])) }
+    ensures memory { IfErr result (IfMemory (Keeps (W.contents writer.old) (W.contents writer.new))) }
+{
+    write_line(writer, no_desk_line(reason))?;
+    Ok(1)
+}

@@ -1,0 +1,30 @@
+//! The subcommands of the desk, each a function over what it reads and writes.
+//!
+//! A subcommand is handed its values, a desk where it works on one, and a writer. It writes what its definition says and answers the
+//! program's status: 0 done, 1 refused. A failure tells why it could not do its work, and has a status of its own. Over any desk,
+//! reader and writer the contracts are the same, so they speak of the desk in memory as of the one in a file.
+//!
+//! - `check` judges a choice of terms (`specs/Report.antt`), `alternatives` lists the choices that there are (`specs/Listing.antt`).
+//! - `script` replies to requests, `import` and `catalogue` do one each (`specs/Filing.antt`).
+//! - `gather` writes the document of a tree of files (`specs/Gathering.antt`), `lint` what is wrong in it (`specs/Linting.antt`).
+//! - `Failure` and `Trouble` say in words what failed, and what to do.
+#![tactic(auto)]
+
+mod checking;
+mod failure;
+mod filing;
+mod gathering;
+mod linting;
+mod listing;
+mod report;
+mod scripting;
+mod trouble;
+
+pub use checking::check;
+pub use failure::Failure;
+pub use filing::{NoDesk, catalogue, import, refuse_catalogue, refuse_database, text_of};
+pub use gathering::gather;
+pub use linting::lint;
+pub use listing::alternatives;
+pub use scripting::script;
+pub use trouble::Trouble;

@@ -1,0 +1,38 @@
+//! The problems of a source tree, written out.
+
+ghost use Rattle.std.specs.Prelude.{◌≡◌, ℕ, List, IfOk, IfErr};
+ghost use Rattle.std.specs.Io.KnownBytes.{Appends, Keeps};
+ghost use Rattle.desk_gather.specs.Readers.{Reader, IsRightReader};
+ghost use Rattle.desk_subcommands.specs.Failures.{IfMemory};
+ghost use Rattle.desk_subcommands.specs.Linting.{lint_status, Lints};
+
+use crate::failure::Failure;
+use desk_gather::SourceFile;
+use desk_problems::{Report, report_on};
+use std::alloc::Global;
+use std::io::Write;
+
+fn status_of(report: &Report) -> u8
+    ensures { result ≡ lint_status report.now }
+{
+    if report.is_clean { 0 } else { 1 }
+}
+
+/// Writes the problems of a tree of files, as one JSON object or a line each, and answers the program's status. Where memory is
+/// wanting, nothing is written.
+pub fn lint<W: Write>(
+    alloc: Global,
+    files: &[SourceFile],
+    json: bool,
+    writer: &mut W,
+) -> Result<u8, Failure>
+    ensures told { (r : Reader) → IsRightReader r → IfOk result (λ status. (text : List ℕ)
+        × Lints r files.now json text status
+        × Appends (W.contents writer.old) (W.contents writer.new) text) }
+    ensures memory { IfErr result (IfMemory (Keeps (W.contents writer.old) (W.contents writer.new))) }
+{
+    let report = report_on(alloc, files, json)?;
+    writer.write_all(report.text.as_slice())?;
+    writer.flush()?;
+    Ok(status_of(&report))
+}

@@ -1,0 +1,40 @@
+//! Why a file can't keep a desk, in words that say what to do.
+
+use desk_rows::{Fault, StoreFault};
+use thiserror::Error;
+
+/// Why the database of a file can't be used.
+#[derive(Clone, Copy, Debug, Drop, PartialEq, Eq, Error)]
+pub enum Trouble {
+    #[error("no memory is left")]
+    Memory,
+    #[error("another program has it open; end that one, then try again")]
+    Busy,
+    #[error("it is no file that may be read and written, or its folder is not there")]
+    CannotOpen,
+    #[error("it is no database, or it is damaged; name another file, or put back a copy of it")]
+    Damaged,
+    #[error("its disk is full; make room, then try again")]
+    Full,
+    #[error("its disk failed to read or write; look after the disk, then try again")]
+    Disk,
+    #[error("it has tables of something else, or cannot be read or written; see that its disk has room, then try again")]
+    Refused,
+    #[error("it has rows that no desk writes; put back a copy of it")]
+    Rows,
+}
+
+impl From<Fault> for Trouble {
+    ghost use Rattle.std.specs.Prelude.{◌≡◌};
+    ghost use Rattle.desk_subcommands.specs.Troubles.{trouble_of_fault};
+
+    ghost from_gives = { λ fault trouble. trouble ≡ trouble_of_fault fault };
+
+    fn from(fault: Fault) -> Trouble {
+        match fault {
+            Fault::Memory => Trouble::Memory,
+            Fault::Store(StoreFault::Database) => Trouble::Refused,
+            Fault::Store(StoreFault::Rows) => Trouble::Rows,
+        }
+    }
+}
