@@ -85,6 +85,60 @@ impl Write for Narrow {
     }
 }
 
+/// Takes a byte in each other call while there is room, and is interrupted in the calls between.
+#[derive(Drop)]
+struct Crumbs {
+    written: Vec<u8>,
+    room: usize,
+    is_ready: bool,
+}
+
+impl Write for Crumbs {
+    fn write(&mut self, buf: &[u8]) -> io::Result<usize> {
+        self.is_ready = !self.is_ready;
+        if self.is_ready {
+            return Err(io::Error::from(io::ErrorKind::Interrupted));
+        }
+        let Some(byte) = buf.first() else {
+            return Ok(0);
+        };
+        if self.room == 0 || self.written.push(*byte).is_err() {
+            return Err(io::Error::from(io::ErrorKind::BrokenPipe));
+        }
+        self.room -= 1;
+        Ok(1)
+    }
+
+    fn flush(&mut self) -> io::Result<()> {
+        Ok(())
+    }
+}
+
+/// Lets go of what it holds when it is flushed, which fails after so many times.
+#[derive(Drop)]
+struct Flushed {
+    out: Vec<u8>,
+    held: Vec<u8>,
+    left: usize,
+}
+
+impl Write for Flushed {
+    fn write(&mut self, buf: &[u8]) -> io::Result<usize> {
+        self.held.extend_from_slice(buf)?;
+        Ok(buf.len())
+    }
+
+    fn flush(&mut self) -> io::Result<()> {
+        if self.left == 0 {
+            return Err(io::Error::from(io::ErrorKind::BrokenPipe));
+        }
+        self.left -= 1;
+        self.out.extend_from_slice(self.held.as_slice())?;
+        self.held.clear();
+        Ok(())
+    }
+}
+
 /// Gives blanks without an end.
 #[derive(Drop)]
 struct Blanks(u32);
@@ -158,9 +212,9 @@ fn replies_to_a_release(rt: HostRuntime) -> Result<(), Fail> {
     Ok(())
 }
 
-/// How many requests are whole among the first so many bytes.
-fn whole_requests(requests: &str, bytes: usize) -> usize {
-    let came = requests.get(..bytes).unwrap_or(requests);
+/// How many lines are whole among the first so many bytes.
+fn whole_lines(lines: &str, bytes: usize) -> usize {
+    let came = lines.get(..bytes).unwrap_or(lines);
     came.split('\n').skip(1).count()
 }
 
@@ -175,7 +229,7 @@ fn stands_after(alloc: Global, pieces: usize) -> Result<bool, AllocError> {
     };
     let mut written: Vec<u8> = Vec::new(alloc);
     let end = script(alloc, &mut desk, &mut reader, &mut written);
-    let whole = whole_requests(requests.as_str(), pieces.saturating_mul(97));
+    let whole = whole_lines(requests.as_str(), pieces.saturating_mul(97));
     let first = REPLIES.get(..whole).unwrap_or_default().concat(alloc)?;
     Ok(
         matches!(end, Err(ScriptFault::Read))
@@ -193,8 +247,8 @@ fn stands_where_the_reader_fails(rt: HostRuntime) -> Result<(), Fail> {
     Ok(())
 }
 
-/// Whether a script stands, as it is to, where its writer fails after so many writes. The request whose reply wasn't written was
-/// served.
+/// Whether a script stands, as it is to, where its writer fails after so many writes, of which each reply takes two: its text and its
+/// line end. The request whose reply wasn't written was served.
 fn stands_behind(alloc: Global, writes: usize) -> Result<bool, AllocError> {
     let requests = rest(alloc, REQUESTS.as_slice(), 0)?;
     let mut desk = empty_desk(alloc);
@@ -203,13 +257,96 @@ fn stands_behind(alloc: Global, writes: usize) -> Result<bool, AllocError> {
         left: writes,
     };
     let end = script(alloc, &mut desk, &mut requests.as_bytes(), &mut writer);
-    Ok(matches!(end, Err(ScriptFault::Write)) && goes_on(alloc, &mut desk, writes / 2 + 1)?)
+    let mut told = REPLIES.get(..writes / 2).unwrap_or_default().concat(alloc)?;
+    if writes % 2 == 1 {
+        told.push_str(REPLIES.get(writes / 2).unwrap_or(&"").trim_end())?;
+    }
+    Ok(
+        matches!(end, Err(ScriptFault::Write))
+            && writer.written.as_slice() == told.as_bytes()
+            && goes_on(alloc, &mut desk, writes / 2 + 1)?,
+    )
 }
 
 #[test]
 fn stands_where_the_writer_fails(rt: HostRuntime) -> Result<(), Fail> {
     for writes in 0..20usize {
         assert!(rt; stands_behind(rt.alloc(), writes)?, "{writes} writes");
+    }
+    Ok(())
+}
+
+/// Whether a script stands, as it is to, where its writer has room for so many bytes: these are the first of the replies.
+fn stands_within(alloc: Global, replies: &str, room: usize) -> Result<bool, AllocError> {
+    let requests = rest(alloc, REQUESTS.as_slice(), 0)?;
+    let mut desk = empty_desk(alloc);
+    let mut writer = Crumbs {
+        written: Vec::new(alloc),
+        room,
+        is_ready: false,
+    };
+    let end = script(alloc, &mut desk, &mut requests.as_bytes(), &mut writer);
+    let whole = whole_lines(replies, room);
+    Ok(
+        matches!(end, Err(ScriptFault::Write))
+            && writer.written.as_slice() == replies.as_bytes().get(..room).unwrap_or_default()
+            && goes_on(alloc, &mut desk, whole.saturating_add(1))?,
+    )
+}
+
+#[test]
+fn stands_where_room_ends(rt: HostRuntime) -> Result<(), Fail> {
+    let replies = rest(rt.alloc(), REPLIES.as_slice(), 0)?;
+    for room in 0..replies.len() {
+        assert!(rt;
+            stands_within(rt.alloc(), replies.as_str(), room)?,
+            "{room} bytes"
+        );
+    }
+    Ok(())
+}
+
+#[test]
+fn replies_byte_by_byte(rt: HostRuntime) -> Result<(), Fail> {
+    let requests = rest(rt.alloc(), REQUESTS.as_slice(), 0)?;
+    let replies = rest(rt.alloc(), REPLIES.as_slice(), 0)?;
+    let mut desk = empty_desk(rt.alloc());
+    let mut writer = Crumbs {
+        written: Vec::new(rt.alloc()),
+        room: replies.len(),
+        is_ready: false,
+    };
+    let end = script(rt.alloc(), &mut desk, &mut requests.as_bytes(), &mut writer);
+    assert!(rt; matches!(end, Ok(end) if end.refused == 1 && end.failed == 0));
+    assert!(rt; writer.written.as_slice() == replies.as_bytes());
+    Ok(())
+}
+
+/// Whether a script stands, as it is to, where its writer can't be flushed after so many times: the replies before are out, and the one
+/// that wasn't flushed is held back, whose request was served.
+fn stands_unflushed(alloc: Global, flushes: usize) -> Result<bool, AllocError> {
+    let requests = rest(alloc, REQUESTS.as_slice(), 0)?;
+    let mut desk = empty_desk(alloc);
+    let mut writer = Flushed {
+        out: Vec::new(alloc),
+        held: Vec::new(alloc),
+        left: flushes,
+    };
+    let end = script(alloc, &mut desk, &mut requests.as_bytes(), &mut writer);
+    let told = REPLIES.get(..flushes).unwrap_or_default().concat(alloc)?;
+    let last = REPLIES.get(flushes).unwrap_or(&"");
+    Ok(
+        matches!(end, Err(ScriptFault::Write))
+            && writer.out.as_slice() == told.as_bytes()
+            && writer.held.as_slice() == last.as_bytes()
+            && goes_on(alloc, &mut desk, flushes.saturating_add(1))?,
+    )
+}
+
+#[test]
+fn stands_where_a_flush_fails(rt: HostRuntime) -> Result<(), Fail> {
+    for flushes in 0..10usize {
+        assert!(rt; stands_unflushed(rt.alloc(), flushes)?, "{flushes} flushes");
     }
     Ok(())
 }

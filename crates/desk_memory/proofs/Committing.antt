@@ -1,13 +1,12 @@
 -- Releases that ascend, as tallies want them.
 use Rattle.std.proofs.Common.{◌≡◌, Bool, true, false, List, [], ◌∷◌, refl, subst, inl, inr}
-use Rattle.std.specs.Prelude.{not, ◌&&◌}
-use Rattle.desk_rows.specs.Lists.{IsIn}
+use Rattle.std.specs.Prelude.{not}
+use Rattle.desk_rows.specs.Lists.{IsIn, over, ascends}
 use Rattle.desk_rows.specs.Keys.{below_by, release_below}
 use Rattle.desk_rows.specs.declared.row.ReleaseRow.{ReleaseRow}
 use Rattle.desk_history.specs.Laws.{Ascends}
 use Rattle.desk_sorted.specs.Orders.{release_order}
-use Rattle.desk_sorted.specs.Sorted.{over, ascends}
-use Rattle.desk_sorted.proofs.Ascending.{and_left, and_right}
+use Rattle.desk_base.proofs.Bools.{and_left, and_right}
 
 fails : (b : Bool) → not b ≡ true → b ≡ false
 fails true e = cc

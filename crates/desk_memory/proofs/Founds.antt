@@ -1,10 +1,10 @@
 -- What a search finds passes its test.
-use Rattle.std.proofs.Common.{◌≡◌, ℕ, Bool, true, false, cond, List, [], ◌∷◌, Some, refl, ap, ◌∙◌, sym, arith}
-use Rattle.std.specs.Prelude.{find, ◌==◌}
-use Rattle.std.proofs.lemmas.Bool.Decides.{nat_tests}
+use Rattle.std.proofs.Common.{◌≡◌, ℕ, Bool, true, false, cond, List, [], ◌∷◌, Some, refl, ap, ◌∙◌, sym}
+use Rattle.std.specs.Prelude.{find}
 use Rattle.desk_rows.specs.Keys.{is_document, is_duty}
 use Rattle.desk_rows.specs.declared.row.DocumentRow.{DocumentRow}
 use Rattle.desk_rows.specs.declared.row.DutyRow.{DutyRow}
+use Rattle.desk_base.proofs.Numbers.{numbers_equal}
 
 passes : {A : Type 0} (test : A → Bool) (y : A) (ys : List A) (x : A) (b : Bool) → test y ≡ b → cond b (Some y) (find test ys) ≡ Some x → (find test ys ≡ Some x → test x ≡ true) → test x ≡ true
 passes test y ys x true e f rest = let same : y ≡ x = cc in ap test (sym same) ∙ e
@@ -13,9 +13,6 @@ passes test y ys x false e f rest = rest f
 find_passes : {A : Type 0} (test : A → Bool) (xs : List A) (x : A) → find test xs ≡ Some x → test x ≡ true
 find_passes test [] x e = cc
 find_passes test (y ∷ ys) x e = passes test y ys x (test y) refl e (find_passes test ys x)
-
-numbers_equal : (a b : ℕ) → (a == b) ≡ true → a ≡ b
-numbers_equal a b e = grind (arith, nat_tests)
 
 pub document_number : (n : ℕ) (rows : List DocumentRow) (row : DocumentRow) → Some row ≡ find (is_document n) rows → row.number ≡ n
 document_number n rows row e = numbers_equal row.number n (find_passes (is_document n) rows row (sym e))

@@ -1,9 +1,4 @@
-mod Days
 mod Founds
-mod Ledgering
-mod Pushing
-mod Ending
 mod Naming
 mod Ruling
-mod Holding
 mod Committing

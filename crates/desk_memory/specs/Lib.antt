@@ -1,9 +1,7 @@
-pub mod Ledgers
 pub mod Sides
 pub mod Namespaces
 pub mod Splitting
 pub mod NamespaceLaws
 pub mod RulePlaces
 pub mod RuleLaws
-pub mod Office
 pub mod Memory

@@ -1,9 +1,10 @@
--- What is seen of a store in memory: its rows, always, and tallies that are theirs; nothing outlives a stop.
+-- What is seen of a store in memory: its rows, always, and tallies and holders that are theirs; nothing outlives a stop.
 use Rattle.std.specs.Prelude.{◌≡◌}
 use Rattle.desk_rows.specs.Tables.{Tables}
 use Rattle.desk_access.specs.Seen.{Seen}
 use Rattle.desk_tally.specs.Kept.{AreKept}
-use Rattle.desk_memory.specs.Ledgers.{all_of}
+use Rattle.desk_ledger.specs.Books.{changes_in, duties_in}
+use Rattle.desk_office.specs.Holders.{AreHolders}
 use Rattle.desk_memory.specs.declared.store.MemStore.{MemStore}
 
 abbrev pub rows_of : MemStore → Tables
@@ -18,11 +19,11 @@ rows_of s = record {
   adoption = s.office.adoptions.rows.items;
   releases = s.releases.rows.items;
   attached = s.attached.rows.items;
-  choice = s.choices.rows.items;
+  choice = s.choices.rows.rows.items;
   frozen = s.frozen.rows.items;
-  duty = s.ledger.duties.items;
-  changes = all_of s.ledger.groups.items;
+  duty = duties_in s.ledger;
+  changes = changes_in s.ledger;
 }
 
 abbrev pub memory_seen : MemStore → Seen (Unit {0})
-memory_seen s = record { holds = λ t. (rows_of s ≡ t) × AreKept s.tallies t; is_honest = Unit {0}; is_open = Unit {0}; leaves = λ x. ⊥ }
+memory_seen s = record { holds = λ t. (rows_of s ≡ t) × AreKept s.tallies t × AreHolders s.choices.holders.rows.items t; is_honest = Unit {0}; is_open = Unit {0}; leaves = λ x. ⊥ }

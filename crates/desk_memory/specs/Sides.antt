@@ -3,13 +3,10 @@ use Rattle.std.specs.Prelude.{ℕ, ◌==◌, Bool, List}
 use Rattle.std.specs.Ordering.{nat_cmp, ordering_then}
 use Rattle.std.specs.Cmp.Lexicographic.{slice_cmp}
 use Rattle.std.specs.declared.cmp.Ordering.{Ordering}
-use Rattle.desk_rows.specs.declared.row.AdoptionRow.{AdoptionRow}
-use Rattle.desk_rows.specs.declared.row.ConclusionRow.{ConclusionRow}
 use Rattle.desk_rows.specs.declared.row.DocumentRow.{DocumentRow}
 use Rattle.desk_rows.specs.declared.row.PackageRow.{PackageRow}
 use Rattle.desk_rows.specs.declared.row.ReleaseRow.{ReleaseRow}
 use Rattle.desk_rows.specs.declared.row.AttachedRow.{AttachedRow}
-use Rattle.desk_rows.specs.declared.row.ChoiceRow.{ChoiceRow}
 
 abbrev pub document_side : ℕ → DocumentRow → Ordering
 document_side number row = nat_cmp row.number number
@@ -23,15 +20,6 @@ packages_side document row = nat_cmp row.document document
 abbrev pub package_side : ℕ → List ℕ → PackageRow → Ordering
 package_side document id row = ordering_then (nat_cmp row.document document) (slice_cmp nat_cmp row.id id)
 
-abbrev pub conclusion_side : ℕ → List ℕ → ConclusionRow → Ordering
-conclusion_side document id row = ordering_then (nat_cmp row.document document) (slice_cmp nat_cmp row.package_id id)
-
-abbrev pub adoption_side : ℕ → List ℕ → AdoptionRow → Ordering
-adoption_side document reference row = ordering_then (nat_cmp row.document document) (slice_cmp nat_cmp row.reference reference)
-
-abbrev pub adoptions_side : ℕ → AdoptionRow → Ordering
-adoptions_side document row = nat_cmp row.document document
-
 abbrev pub release_side : List ℕ → ReleaseRow → Ordering
 release_side name row = slice_cmp nat_cmp row.name name
 
@@ -40,9 +28,3 @@ attached_side release row = slice_cmp nat_cmp row.release release
 
 abbrev pub attachment_side : List ℕ → ℕ → AttachedRow → Ordering
 attachment_side release document row = ordering_then (slice_cmp nat_cmp row.release release) (nat_cmp row.document document)
-
-abbrev pub choice_side : List ℕ → ℕ → List ℕ → ChoiceRow → Ordering
-choice_side release document id row = ordering_then (ordering_then (slice_cmp nat_cmp row.release release) (nat_cmp row.document document)) (slice_cmp nat_cmp row.package_id id)
-
-abbrev pub holder_side : List ℕ → ChoiceRow → Ordering
-holder_side release row = slice_cmp nat_cmp row.release release

@@ -7,9 +7,8 @@ ghost use Rattle.desk_rows.specs.Keys.{has_namespace};
 ghost use Rattle.desk_memory.specs.Namespaces.{is_named};
 
 use crate::keys::{ByNamespace, NamespacePlace};
-use crate::ledger::item_at;
 use desk_rows::{DocumentRow, Fault};
-use desk_sorted::{Appended, Sorted};
+use desk_sorted::{Appended, Sorted, item_at};
 use std::alloc::Global;
 
 /// The documents in the order of import, and the place of each by its namespace.

@@ -6,8 +6,6 @@
 
 mod documents;
 mod keys;
-mod ledger;
-mod office;
 mod rules;
 mod store;
 

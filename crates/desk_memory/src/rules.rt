@@ -8,9 +8,8 @@ ghost use Rattle.desk_history.specs.FromTables.{rule_of};
 ghost use Rattle.desk_memory.specs.RulePlaces.{is_placed, is_rule_row, rule_places};
 
 use crate::keys::{ByRule, RulePlace};
-use crate::ledger::item_at;
 use desk_rows::{Fault, RuleRow};
-use desk_sorted::Sorted;
+use desk_sorted::{Sorted, item_at};
 use std::alloc::{AllocError, Global};
 
 /// The rules in the order in which they came, and the place of each.

@@ -1,6 +1,6 @@
 //! Rows kept in memory.
 
-ghost use Rattle.std.specs.Prelude.{◌≡◌, ℕ, Bool, ◌+◌, ◌<◌, ◌≤◌, ◌++◌, [], ◌∷◌, ◌&&◌, not, find, filter, map, IfOk, IfErr, OnOk, OnErr, IfSome, IfNone, MatchOption, length, if◌then◌else◌, Option, vec_len, Some, None};
+ghost use Rattle.std.specs.Prelude.{◌≡◌, ℕ, Bool, ◌+◌, ◌<◌, ◌≤◌, ◌++◌, [], ◌∷◌, ◌&&◌, not, find, filter, map, IfOk, IfErr, OnOk, OnErr, IfSome, IfNone, MatchOption, true, length, if◌then◌else◌, Option, vec_len, Some, None};
 ghost use Rattle.std.specs.Vec.{vec_capacity};
 ghost use Rattle.std.specs.Option.{option_copied, option_map};
 ghost use Rattle.std.specs.List.{list_any};
@@ -10,18 +10,18 @@ ghost use Rattle.desk_rows.specs.Keys.{is_release, is_document, has_namespace, i
 ghost use Rattle.desk_rows.specs.Tables.{Tables, applied, with_release_state, withdrawn_release};
 ghost use Rattle.desk_rows.specs.declared.state.ReleaseState.TheVariants.{Frozen};
 ghost use Rattle.desk_tally.specs.Kept.{place_found, AreKept, IsPlaceFor};
+ghost use Rattle.desk_ledger.specs.Books.{takes};
+ghost use Rattle.desk_office.specs.Holders.{holders_after};
 ghost use Rattle.desk_memory.specs.Memory.{rows_of, memory_seen};
 ghost use Rattle.desk_history.specs.FromTables.{rule_of};
 
 use crate::documents::Documents;
-use crate::keys::{
-    ByAttachment, ByDocument, ByHolder, ById, ByName, ByNumber, ByPackage, ByRelease,
-};
-use crate::ledger::Ledger;
-use crate::office::{ByAdopting, ByConcluded, ByReference, Office, first_holder};
+use crate::keys::{ByAttachment, ByDocument, ById, ByName, ByNumber, ByRelease};
 use crate::rules::Rules;
 use desk_access::store::Store;
 use desk_base::{Day, Items, Text};
+use desk_ledger::Ledger;
+use desk_office::{ByAdopting, ByConcluded, ByPackage, ByReference, Choices, Office};
 use desk_rows::{
     AttachedRow, CatalogueRow, Change, ChangeRow, ChoiceRow, DocumentRow, DutyRow, ExtractedRow,
     Fault, FrozenRow, PackageRow, Profile, ReleaseRow, ReleaseState, Rule, RuleRow, Standing,
@@ -234,7 +234,7 @@ pub struct MemStore {
     office: Office,
     releases: Sorted<ReleaseRow>,
     attached: Sorted<AttachedRow>,
-    choices: Sorted<ChoiceRow>,
+    choices: Choices,
     frozen: Sorted<FrozenRow>,
     ledger: Ledger,
     tallies: Tallies,
@@ -248,6 +248,7 @@ impl MemStore {
     pub fn new(alloc: Global) -> MemStore
         ensures rows { (w : Readings) → rows_of result ≡ tables w [] }
         ensures kept { (w : Readings) → AreKept result.tallies (tables w []) }
+        ensures holders { result.choices.holders.rows.items ≡ [] }
     {
         MemStore {
             alloc,
@@ -260,7 +261,7 @@ impl MemStore {
             office: Office::new(alloc),
             releases: Sorted::new(alloc),
             attached: Sorted::new(alloc),
-            choices: Sorted::new(alloc),
+            choices: Choices::new(alloc),
             frozen: Sorted::new(alloc),
             ledger: Ledger::new(alloc),
             tallies: Tallies::new(alloc),
@@ -276,6 +277,7 @@ impl MemStore {
         ensures ok { OnOk result (rows_of self.new ≡ applied (Change.Loaded row rules forms) (rows_of self.old)) }
         ensures err { OnErr result (rows_of self.new ≡ rows_of self.old) }
         ensures tallies { self.new.tallies ≡ self.old.tallies }
+        ensures holders { self.new.choices.holders.rows.items ≡ self.old.choices.holders.rows.items }
         ensures fault { IfErr result (λ fault. fault ≡ Fault.Memory) }
     {
         reserve(&mut self.catalogue, 1)?;
@@ -294,6 +296,7 @@ impl MemStore {
         ensures ok { OnOk result (rows_of self.new ≡ applied (Change.Imported row packages references) (rows_of self.old)) }
         ensures err { OnErr result (rows_of self.new ≡ rows_of self.old) }
         ensures tallies { self.new.tallies ≡ self.old.tallies }
+        ensures holders { self.new.choices.holders.rows.items ≡ self.old.choices.holders.rows.items }
         ensures fault { IfErr result (λ fault. fault ≡ Fault.Memory) }
     {
         let packages = packages.into_vec();
@@ -308,29 +311,6 @@ impl MemStore {
         Ok(())
     }
 
-    fn choose(
-        &mut self,
-        release: &Text,
-        document: u32,
-        package_id: &Text,
-        rows: Items<ChoiceRow>,
-    ) -> Result<(), Fault>
-        ensures ok { OnOk result (rows_of self.new ≡ applied (Change.Chosen release.now document package_id.now rows) (rows_of self.old)) }
-        ensures err { OnErr result (rows_of self.new ≡ rows_of self.old) }
-        ensures tallies { self.new.tallies ≡ self.old.tallies }
-        ensures fault { IfErr result (λ fault. fault ≡ Fault.Memory) }
-    {
-        let rows = rows.into_vec();
-        self.choices.reserve(rows.len())?;
-        self.choices.cut(&ByPackage {
-            release: release.as_str(),
-            document,
-            id: package_id.as_str(),
-        });
-        self.choices.put_all(rows);
-        Ok(())
-    }
-
     fn freeze(
         &mut self,
         release: &Text,
@@ -339,9 +319,11 @@ impl MemStore {
         duties: Items<DutyRow>,
         changes: Items<ChangeRow>,
     ) -> Result<(), Fault>
+        requires { takes (Change.Froze release.now revision frozen duties changes) self.old.ledger ≡ true }
         ensures ok { OnOk result (rows_of self.new ≡ applied (Change.Froze release.now revision frozen duties changes) (rows_of self.old)) }
         ensures err { OnErr result (rows_of self.new ≡ rows_of self.old) }
         ensures tallies { self.new.tallies ≡ self.old.tallies }
+        ensures holders { self.new.choices.holders.rows.items ≡ self.old.choices.holders.rows.items }
         ensures fault { IfErr result (λ fault. fault ≡ Fault.Memory) }
     {
         let frozen = frozen.into_vec();
@@ -353,9 +335,11 @@ impl MemStore {
     }
 
     fn move_all(&mut self, changes: Items<ChangeRow>) -> Result<(), Fault>
+        requires { takes (Change.Moved changes) self.old.ledger ≡ true }
         ensures ok { OnOk result (rows_of self.new ≡ applied (Change.Moved changes) (rows_of self.old)) }
         ensures err { OnErr result (rows_of self.new ≡ rows_of self.old) }
         ensures tallies { self.new.tallies ≡ self.old.tallies }
+        ensures holders { self.new.choices.holders.rows.items ≡ self.old.choices.holders.rows.items }
         ensures fault { IfErr result (λ fault. fault ≡ Fault.Memory) }
     {
         self.ledger.move_all(changes.into_vec())?;
@@ -363,24 +347,29 @@ impl MemStore {
     }
 
     fn withdraw(&mut self, release: &Text, changes: Items<ChangeRow>) -> Result<(), Fault>
+        requires { takes (Change.Withdrew release.now changes) self.old.ledger ≡ true }
         ensures ok { OnOk result (rows_of self.new ≡ applied (Change.Withdrew release.now changes) (rows_of self.old)) }
         ensures err { OnErr result (rows_of self.new ≡ rows_of self.old) }
         ensures tallies { self.new.tallies ≡ self.old.tallies }
+        ensures holders { OnOk result (self.new.choices.holders.rows.items ≡ holders_after (Change.Withdrew release.now changes) (rows_of self.old).releases self.old.choices.holders.rows.items) }
+        ensures holders_err { OnErr result (self.new.choices.holders.rows.items ≡ self.old.choices.holders.rows.items) }
         ensures fault { IfErr result (λ fault. fault ≡ Fault.Memory) }
     {
         self.ledger.move_all(changes.into_vec())?;
+        let place = self.place_of(release.as_str());
         withdraw_release(&mut self.releases, release.as_str());
-        self.choices.cut(&ByHolder {
-            release: release.as_str(),
-        });
+        self.choices.withdraw(release, place);
         Ok(())
     }
 
     /// Writes the rows of a change, or nothing.
     fn write(&mut self, change: Change) -> Result<(), Fault>
+        requires { takes change self.old.ledger ≡ true }
         ensures ok { OnOk result (rows_of self.new ≡ applied change (rows_of self.old)) }
         ensures err { OnErr result (rows_of self.new ≡ rows_of self.old) }
         ensures tallies { self.new.tallies ≡ self.old.tallies }
+        ensures holders { OnOk result (self.new.choices.holders.rows.items ≡ holders_after change (rows_of self.old).releases self.old.choices.holders.rows.items) }
+        ensures holders_err { OnErr result (self.new.choices.holders.rows.items ≡ self.old.choices.holders.rows.items) }
         ensures fault { IfErr result (λ fault. fault ≡ Fault.Memory) }
     {
         match change {
@@ -409,7 +398,11 @@ impl MemStore {
                 document,
                 package_id,
                 rows,
-            } => self.choose(&release, document, &package_id, rows),
+            } => {
+                let place = self.place_of(release.as_str());
+                self.choices
+                    .choose(&release, place, document, &package_id, rows)
+            }
             Change::Froze {
                 release,
                 revision,
@@ -551,7 +544,7 @@ impl Store for MemStore {
     }
 
     fn chosen(&mut self, release: &str, document: u32, id: &str) -> Result<Vec<Text>, Fault> {
-        let rows = self.choices.run(&ByPackage {
+        let rows = self.choices.rows.run(&ByPackage {
             release,
             document,
             id,
@@ -570,9 +563,8 @@ impl Store for MemStore {
     }
 
     fn holder(&mut self, document: u32, id: &str) -> Result<Option<Text>, Fault> {
-        let releases = &self.releases;
-        match first_holder(releases.rows.as_slice(), &self.choices, document, id) {
-            Some(row) => Ok(Some(row.name.clone()?)),
+        match self.choices.holder(document, id) {
+            Some(holder) => Ok(Some(holder.release.clone()?)),
             None => Ok(None),
         }
     }
@@ -648,10 +640,14 @@ impl Store for MemStore {
         Ok(self.ledger.last_day(u64::from(duty)))
     }
 
+    // A change that doesn't go on from the rows comes from no command. Nothing is owed to it, and it is left undone.
     fn commit(&mut self, change: Change) -> Result<(), Fault> {
+        if !self.ledger.can_take(&change) {
+            return Ok(());
+        }
         let place = self.place_for(&change);
         let Some(step) = self.tallies.plan(&change, place)? else {
-            return Err(Fault::Memory);
+            return Ok(());
         };
         self.write(change)?;
         self.tallies.take(step);

@@ -20,8 +20,8 @@ use Rattle.desk_rows.specs.declared.refusal.CatalogueFault.{CatalogueFault}
 use Rattle.desk_rows.specs.declared.refusal.CatalogueFault.TheVariants.{BadTerm, UnknownForm, UnknownDuty, Twice}
 use Rattle.desk_history.specs.Laws.{AreDistinct, ListsOnce}
 use Rattle.desk_catalogue.specs.declared.catalogue.Catalogue.{Catalogue as WholeCatalogue}
-use Rattle.desk_catalogue.specs.Kept.{stand_once, put_rule, rule_order}
-use Rattle.desk_catalogue.specs.Reading.{Read, then_read, rule_written, rule_at, rule_of, RuleTexts, catalogue_of}
+use Rattle.desk_catalogue.specs.Kept.{stand_once, put_rule}
+use Rattle.desk_catalogue.specs.Reading.{Read, rule_written, rule_at, rule_of, RuleTexts, catalogue_of}
 use Rattle.desk_catalogue.specs.Terms.{licence_of}
 use Rattle.desk_catalogue.specs.Values.{is_among}
 use Rattle.desk_catalogue.proofs.OrderLaws.{then_by, same_read, rules_hold, rules_read}
@@ -33,7 +33,9 @@ use Rattle.desk_texts.specs.Rising.{Each, Rises}
 use Rattle.desk_texts.specs.Right.{AreRight}
 use Rattle.desk_right.proofs.Ships.{something_kept}
 use Rattle.desk_texts.proofs.Orders.{below_self}
-use Rattle.desk_texts.proofs.Halving.{rises_put}
+use Rattle.desk_texts.proofs.Halving.{rises_put, map_map}
+use Rattle.desk_rows.specs.Keys.{rule_order}
+use Rattle.desk_base.specs.Results.{then_read}
 
 -- ---- texts that rise are different
 
@@ -74,10 +76,6 @@ set_distinct : (xs : List (List ℕ)) → AreDistinct (sorted_set xs)
 set_distinct xs = subst AreDistinct (sorted-same xs) (rises_distinct (map (λ y. y) (sorted_by (λ y. y) xs)) (rises_sorted (λ y. y) xs))
 
 -- ---- packages
-
-pub map_map : {A B C : Type 0} (f : B → C) (g : A → B) (xs : List A) → map f (map g xs) ≡ map (λ x. f (g x)) xs
-map_map f g [] = refl
-map_map f g (x ∷ xs) = ap (λ l. f (g x) ∷ l) (map_map f g xs)
 
 abbrev pub id_in : PackageText × Bool → List ℕ
 id_in m = m.0.id

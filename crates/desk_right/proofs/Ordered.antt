@@ -5,7 +5,7 @@ use Rattle.std.specs.List.{AllByRecursion}
 use Rattle.std.specs.List.Sorted.{IsStrictlySortedBy}
 use Rattle.std.specs.Ordering.{is_lt}
 use Rattle.desk_fields.specs.declared.fault.DocFault.{DocFault}
-use Rattle.desk_rows.specs.Keys.{below_by}
+use Rattle.desk_rows.specs.Keys.{below_by, rule_order}
 use Rattle.desk_rows.specs.Lists.{IsIn}
 use Rattle.desk_rows.specs.Readings.{Readings}
 use Rattle.desk_rows.specs.Texts.{text_below, sorted_set}
@@ -16,7 +16,6 @@ use Rattle.desk_rows.specs.declared.reading.Rule.{Rule}
 use Rattle.desk_history.specs.Laws as law
 use Rattle.desk_history.specs.Laws.{ListsInOrder, package_below, reference_below}
 use Rattle.desk_history.proofs.Members.{in_map}
-use Rattle.desk_catalogue.specs.Kept.{rule_order}
 use Rattle.desk_catalogue.specs.Reading.{catalogue_of}
 use Rattle.desk_catalogue.proofs.OrderLaws.{rules_sorted}
 use Rattle.desk_document_laws.proofs.EachDocument.{each_document}
@@ -24,8 +23,9 @@ use Rattle.desk_tagvalue.specs.Parts.{DocumentText, PackageText, ExtractedText}
 use Rattle.desk_texts.specs.Documents.{sorted_by, marked, package_of, reference_of, document_of, Keeps}
 use Rattle.desk_texts.specs.Rising.{Rises}
 use Rattle.desk_texts.specs.Right.{AreRight}
-use Rattle.desk_right.proofs.Once.{each_in, rises_sorted, sorted-same, map_map, id_in, id_of, HasSet, catalogue_has, of_whole}
+use Rattle.desk_right.proofs.Once.{each_in, rises_sorted, sorted-same, id_in, id_of, HasSet, catalogue_has, of_whole}
 use Rattle.desk_right.proofs.Ships.{something_kept}
+use Rattle.desk_texts.proofs.Halving.{map_map}
 
 -- what rises by its ids
 by_ids : {A : Type 0} (id : A → List ℕ) (xs : List A) → Rises (map id xs) → law.Rises (λ a b. text_below (id a) (id b)) xs
@@ -66,15 +66,15 @@ all_in : {A : Type 0} (P : A → Type 0) (x : A) (xs : List A) → IsIn x xs →
 all_in P x [] m all = absurd m
 all_in P x (y ∷ ys) m all = elim m [ inl same ↦ subst P same all.0 | inr n ↦ all_in P x ys n all.1 ]
 
-rules_rise : (rules : List Rule) → IsStrictlySortedBy rule_order rules → law.Rises (below_by law.rule_order) rules
+rules_rise : (rules : List Rule) → IsStrictlySortedBy rule_order rules → law.Rises (below_by rule_order) rules
 unfolding IsStrictlySortedBy
 rules_rise [] up = tt
 rules_rise (r ∷ rs) up = (λ x m. ap is_lt (all_in (λ s. rule_order r s ≡ Less) x rs m up.0), rules_rise rs up.1)
 
-rules_listed : (w : Readings) → AreRight w → (text : List ℕ) (catalogue : Catalogue) → w.catalogue text ≡ Ok catalogue → law.Rises (below_by law.rule_order) catalogue.rules
+rules_listed : (w : Readings) → AreRight w → (text : List ℕ) (catalogue : Catalogue) → w.catalogue text ≡ Ok catalogue → law.Rises (below_by rule_order) catalogue.rules
 rules_listed w right text catalogue e =
     let whole = of_whole (catalogue_of w.term text) catalogue (sym (right.catalogue text) ∙ e) in
-    subst (law.Rises (below_by law.rule_order)) (sym whole.2) (rules_rise whole.0.rules (rules_sorted w.term text whole.0 whole.1))
+    subst (law.Rises (below_by rule_order)) (sym whole.2) (rules_rise whole.0.rules (rules_sorted w.term text whole.0 whole.1))
 
 unmapped : (xs : List (List ℕ)) → map (λ x. x) xs ≡ xs
 unmapped [] = refl

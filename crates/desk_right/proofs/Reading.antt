@@ -22,7 +22,7 @@ use Rattle.desk_expr_laws.proofs.TreeOrStop.{tree_or_stop, stops_spell_nothing}
 use Rattle.desk_expr_laws.proofs.TreeStops.{one_stop}
 use Rattle.desk_texts.specs.Catalogues.{kept_catalogue}
 use Rattle.desk_texts.specs.Documents.{Keeps}
-use Rattle.desk_texts.specs.Expressions.{is_no_licence, word_place, IsExpression, IsRead, Tells, fault_of, IsFault, IsVerdict, Judges}
+use Rattle.desk_texts.specs.Expressions.{word_place, IsExpression, IsRead, Tells, fault_of, IsFault, IsVerdict, Judges}
 use Rattle.desk_texts.specs.Terms.{IsTerm, AreTerms, AreAllTerms, reference_in, is_licence, adopted_as}
 use Rattle.desk_texts.specs.Right.{AreRight}
 use Rattle.desk_right.proofs.Findings.{rows_exist, rows_once}
@@ -33,6 +33,7 @@ use Rattle.desk_rows.specs.declared.reading.ListFault.{ListFault}
 use Rattle.desk_texts.specs.Findings.{Finds}
 use Rattle.desk_right.proofs.Ships.{something_kept, kept_once}
 use Rattle.desk_right.proofs.Verdicts.{judged_once}
+use Rattle.desk_findings.specs.Fields.{is_no_licence}
 
 -- ---- terms
 

@@ -146,7 +146,7 @@ first_at_end id x [] (suc n) e = refl
 first_at_end id x (y ∷ ys) zero e = absurd (omega (arith, e))
 first_at_end id x (y ∷ ys) (suc n) e = first_at_end id x ys n (omega (arith, e))
 
-map_map : {A B C : Type 0} (f : B → C) (g : A → B) (xs : List A) → map f (map g xs) ≡ map (λ x. f (g x)) xs
+pub map_map : {A B C : Type 0} (f : B → C) (g : A → B) (xs : List A) → map f (map g xs) ≡ map (λ x. f (g x)) xs
 map_map f g [] = refl
 map_map f g (x ∷ xs) = ap (λ l. f (g x) ∷ l) (map_map f g xs)
 

@@ -1,7 +1,6 @@
 -- Licence expressions in the fields of a document (SPDX 2.3, clause 7.13 and Annex D), read by the profile of operators that the
 -- document was imported with.
-use Rattle.std.specs.Prelude.{◌≡◌, ◌⊎◌, ℕ, ◌-◌, ◌<◌, ◌==◌, ◌&&◌, ◌||◌, Bool, true, false, List, Option, Some, None, length, codes, Contains}
-use Rattle.std.specs.Str.{bytes_eq}
+use Rattle.std.specs.Prelude.{◌≡◌, ◌⊎◌, ℕ, ◌-◌, ◌<◌, Bool, true, false, List, Option, Some, None, length, Contains}
 use Rattle.desk_base.specs.declared.profile.Profile.{Profile}
 use Rattle.desk_expr.specs.declared.term.Term.{Term}
 use Rattle.desk_expr.specs.Tree.{Tree}
@@ -11,20 +10,13 @@ use Rattle.desk_expr.specs.Spelling.{SpellsWithinBy, IsStopBy}
 use Rattle.desk_expr.specs.declared.fault.ParseFault.{ParseFault}
 use Rattle.desk_expr.specs.declared.fault.ParseFault.TheVariants as parse
 use Rattle.desk_expr.specs.Meaning.{Holds, CanGo, IsFirst, IsMinimal}
-use Rattle.desk_fields.specs.Text.{first_word, after_word, skip_blanks}
+use Rattle.desk_fields.specs.Text.{skip_blanks}
 use Rattle.desk_rows.specs.declared.refusal.ExpressionFault.{ExpressionFault}
 use Rattle.desk_rows.specs.declared.refusal.ExpressionFault.TheVariants as fault
 use Rattle.desk_rows.specs.declared.reading.Verdict.{Verdict}
 use Rattle.desk_rows.specs.declared.reading.Verdict.TheVariants.{NotEnough, Superfluous, Minimal}
 use Rattle.desk_texts.specs.Terms.{AreTerms}
-
--- one word alone
-abbrev pub is_only_word : List ℕ → List ℕ → Bool
-is_only_word word text = bytes_eq (first_word text) word && length (skip_blanks (after_word text)) == 0
-
--- NONE or NOASSERTION alone, which tells of no licence
-abbrev pub is_no_licence : List ℕ → Bool
-is_no_licence text = is_only_word (codes "NONE") text || is_only_word (codes "NOASSERTION") text
+use Rattle.desk_findings.specs.Fields.{is_no_licence}
 
 -- the expression of a field's value
 abbrev pub IsExpression : Profile → List ℕ → Tree → Type 0

@@ -3,6 +3,7 @@ use Rattle.std.specs.Prelude.{◌≡◌, ◌⊎◌, ℕ, List, [], ◌∷◌, ma
 use Rattle.std.specs.Option.{option_map}
 use Rattle.std.specs.Ordering.{is_eq}
 use Rattle.desk_base.specs.declared.profile.Profile.{Profile}
+use Rattle.desk_base.specs.Limits as most
 use Rattle.desk_expr.specs.declared.term.Term.{Term}
 use Rattle.desk_expr.specs.Tree.{Tree}
 use Rattle.desk_expr.specs.Occurring.{term_order, AreTermsOf}
@@ -58,4 +59,4 @@ cost_at (x ∷ xs) (cost ∷ costs) t = if is_eq (term_order x t) then cost else
 
 -- at most 1,000,000
 abbrev pub cost_within : List Term → List (Option ℕ) → Term → Option ℕ
-cost_within ts costs t = option_map (at_most 1000000) (cost_at ts costs t)
+cost_within ts costs t = option_map (at_most most.term_cost) (cost_at ts costs t)

@@ -19,6 +19,7 @@ pub(crate) fn read_catalogue(
     match desk_catalogue::Catalogue::read(alloc, text) {
         Ok(read) => {
             let desk_catalogue::Catalogue { forms, rules, .. } = read;
+            let rules = rules.into_items();
             Ok(Ok(Catalogue { forms, rules }))
         }
         Err(CatFault::Refused(fault)) => Ok(Err(fault)),

@@ -2,29 +2,16 @@
 
 ghost use Rattle.std.specs.Prelude.{◌≡◌, ◌<◌, IfOk, OnOk, IsTrue, Contains};
 ghost use Rattle.desk_expr.specs.Faults.{fault_number};
-ghost use Rattle.desk_texts.specs.Expressions.{is_only_word, is_no_licence, word_place, IsRead, Tells, fault_of, IsFault, IsVerdict, Judges};
+ghost use Rattle.desk_texts.specs.Expressions.{word_place, IsRead, Tells, fault_of, IsFault, IsVerdict, Judges};
+ghost use Rattle.desk_findings.specs.Fields.{is_no_licence};
 
-use crate::term::{read_terms, told};
+use crate::term::read_terms;
 use desk_base::Text;
-use desk_expr::{Expr, ParseFault, Profile, Term, check_choice, parse_in};
-use desk_fields::{skip_blanks, split_word};
+use desk_expr::{Expr, ParseFault, Profile, Term, check_choice, parse_in, told};
+use desk_fields::skip_blanks;
+use desk_findings::is_no_licence;
 use desk_rows::{ExpressionFault, Verdict};
 use std::alloc::{AllocError, Global};
-
-/// Whether a text is one word alone.
-fn is_only_word(word: &str, text: &str) -> bool
-    ensures { result ≡ is_only_word word.now text.now }
-{
-    let (first, after) = split_word(text);
-    first == word && skip_blanks(after).is_empty()
-}
-
-/// Whether a value is `NONE` or `NOASSERTION` alone.
-fn is_no_licence(text: &str) -> bool
-    ensures { result ≡ is_no_licence text.now }
-{
-    is_only_word("NONE", text) || is_only_word("NOASSERTION", text)
-}
 
 /// The expression that a value is by a profile of operators.
 pub(crate) fn read_expression(

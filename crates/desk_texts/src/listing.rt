@@ -12,9 +12,9 @@ ghost use Rattle.desk_texts.specs.Listings.{IsListFault, Lists, HasTerms, Prices
 
 use crate::expression::read_expression;
 use desk_alts::{AltFault, Cost, TermSet};
-use desk_base::{Items, Text};
+use desk_base::{Items, Text, limits};
 use desk_expr::{Profile, Term, TermTable, print_term};
-use desk_rows::{Cheapest, ListFault, MAX_COST};
+use desk_rows::{Cheapest, ListFault};
 use std::alloc::{AllocError, Global};
 
 /// Why an expression isn't listed, or want of memory.
@@ -109,7 +109,7 @@ impl Cost for Costs<'_> {
 
     fn cost(&self, term: &Term) -> Option<u64> {
         match self.at_place(term) {
-            Some(cost) => Some(cost.min(MAX_COST)),
+            Some(cost) => Some(cost.min(limits::TERM_COST)),
             None => None,
         }
     }

@@ -1,25 +1,14 @@
 //! Terms as texts.
 
-ghost use Rattle.std.specs.Prelude.{◌≡◌, ◌<◌, IfOk, OnOk};
+ghost use Rattle.std.specs.Prelude.{◌≡◌, IfOk};
 ghost use Rattle.std.specs.Option.{option_map};
-ghost use Rattle.desk_expr.specs.Faults.{fault_number};
 ghost use Rattle.desk_catalogue.specs.Terms.{IsTermOf};
 ghost use Rattle.desk_texts.specs.Terms.{IsTerm, AreAllTerms, reference_in, is_licence, adopted_as};
 
 use desk_base::{Text, is_idstring_of_bytes};
-use desk_expr::{ParseFault, Term, is_reference, parse_term, print_term};
+use desk_expr::{Term, is_reference, parse_term, print_term, told};
 use desk_fields::split_word;
 use std::alloc::{AllocError, Global};
-
-/// Whether a fault is want of memory, which is handed on.
-pub(crate) fn told(fault: ParseFault) -> Result<(), AllocError>
-    ensures { OnOk result (0 < fault_number fault) }
-{
-    match fault {
-        ParseFault::Memory(error) => Err(error),
-        _ => Ok(()),
-    }
-}
 
 /// The term that a text spells.
 fn read_term(alloc: Global, text: &str) -> Result<Option<Term>, AllocError>

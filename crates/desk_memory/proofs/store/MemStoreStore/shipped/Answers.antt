@@ -3,9 +3,9 @@ use Rattle.std.specs.Prelude.{◌==◌}
 use Rattle.desk_rows.specs.Keys.{is_shipped_by}
 use Rattle.desk_rows.specs.Tables.{Tables}
 use Rattle.desk_memory.specs.Sides.{is_package_of}
-use Rattle.desk_sorted.proofs.Ascending.{and_left}
 use Rattle.desk_sorted.proofs.Placing.{filter_within}
 use Rattle.desk_memory.proofs.store.MemStoreStore.shipped.Goals as goal
+use Rattle.desk_base.proofs.Bools.{and_left}
 
 pub returns-in-Ok-clause-found : goal.returns-in-Ok-clause-found
 returns-in-Ok-clause-found c = λ h t held.

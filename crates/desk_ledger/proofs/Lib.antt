@@ -1,0 +1,5 @@
+mod Days
+mod Ledgering
+mod Pushing
+mod Ending
+mod Turns

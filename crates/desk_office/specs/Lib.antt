@@ -1,0 +1,4 @@
+pub mod Sides
+pub mod Splitting
+pub mod Holders
+pub mod HolderLaws

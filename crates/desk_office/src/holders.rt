@@ -1,0 +1,155 @@
+//! The releases that hold a choice for a package.
+
+ghost use Rattle.std.specs.Prelude.{◌≡◌, ℕ, ◌==◌, ◌&&◌, not, filter, OnErr, OnOk, IfErr, IfOk};
+ghost use Rattle.std.specs.Str.{bytes_eq};
+ghost use Rattle.desk_rows.specs.Lists.{replaced};
+ghost use Rattle.desk_rows.specs.Keys.{below_by};
+ghost use Rattle.desk_office.specs.Holders.{held_side, holder_of, holder_order, holding_side, is_held, is_holding, is_of};
+ghost use Rattle.desk_office.specs.HolderLaws.{held_meets, held_splits, holder_total, holding_meets, holding_splits};
+
+use desk_base::Text;
+use desk_rows::Fault;
+use desk_sorted::{Keyed, Sorted, Sought};
+use std::alloc::AllocError;
+use std::cmp::Ordering;
+
+/// A release, with its place among those that were opened, that holds a choice for a package.
+#[derive(Drop)]
+pub struct Holder {
+    pub document: u32,
+    pub package_id: Text,
+    pub place: u32,
+    pub release: Text,
+}
+
+impl Keyed for Holder {
+    ghost order = { holder_order };
+
+    ghost total = { holder_total };
+
+    fn compare(&self, other: &Self) -> Ordering {
+        self.document
+            .cmp(&other.document)
+            .then(self.package_id.as_str().cmp(other.package_id.as_str()))
+            .then(self.place.cmp(&other.place))
+            .then(self.release.as_str().cmp(other.release.as_str()))
+    }
+}
+
+/// The holders of a choice for a package.
+#[derive(Clone, Copy)]
+pub(crate) struct ByHeld<'a> {
+    pub(crate) document: u32,
+    pub(crate) id: &'a str,
+}
+
+impl Sought<Holder> for ByHeld<'_> {
+    ghost side = { λ key. held_side key.document key.id.now };
+
+    ghost is_at = { λ key. is_held key.document key.id.now };
+
+    ghost splits = { λ key. held_splits key.document key.id.now };
+
+    ghost meets = { λ key row. held_meets key.document key.id.now row };
+
+    fn side_of(&self, row: &Holder) -> Ordering {
+        row.document
+            .cmp(&self.document)
+            .then(row.package_id.as_str().cmp(self.id))
+    }
+}
+
+/// A release as it holds a choice for a package.
+#[derive(Clone, Copy)]
+pub(crate) struct ByHolding<'a> {
+    pub(crate) document: u32,
+    pub(crate) id: &'a str,
+    pub(crate) place: u32,
+    pub(crate) release: &'a str,
+}
+
+impl Sought<Holder> for ByHolding<'_> {
+    ghost side = { λ key. holding_side key.document key.id.now key.place key.release.now };
+
+    ghost is_at = { λ key. is_holding key.document key.id.now key.place key.release.now };
+
+    ghost splits = { λ key. holding_splits key.document key.id.now key.place key.release.now };
+
+    ghost meets = { λ key row. holding_meets key.document key.id.now key.place key.release.now row };
+
+    fn side_of(&self, row: &Holder) -> Ordering {
+        row.document
+            .cmp(&self.document)
+            .then(row.package_id.as_str().cmp(self.id))
+            .then(row.place.cmp(&self.place))
+            .then(row.release.as_str().cmp(self.release))
+    }
+}
+
+fn holder_of(
+    release: &Text,
+    place: u32,
+    document: u32,
+    package_id: &Text,
+) -> Result<Holder, AllocError>
+    ensures { IfOk result (λ holder. holder ≡ holder_of release.now place document package_id.now) }
+{
+    Ok(Holder {
+        document,
+        package_id: package_id.clone()?,
+        place,
+        release: release.clone()?,
+    })
+}
+
+/// The release holds a choice for the package no more.
+pub(crate) fn drop_choice(
+    holders: &mut Sorted<Holder>,
+    release: &Text,
+    place: u32,
+    document: u32,
+    package_id: &Text,
+)
+    ensures { holders.new.rows.items ≡ filter (λ holder. not (is_holding document package_id.now place release.now holder)) holders.old.rows.items }
+{
+    holders.cut(&ByHolding {
+        document,
+        id: package_id.as_str(),
+        place,
+        release: release.as_str(),
+    });
+}
+
+/// The release holds a choice for the package, whether it held one before or not.
+pub(crate) fn note(
+    holders: &mut Sorted<Holder>,
+    release: &Text,
+    place: u32,
+    document: u32,
+    package_id: &Text,
+) -> Result<(), Fault>
+    ensures ok { OnOk result (holders.new.rows.items ≡ replaced (below_by holder_order) (is_holding document package_id.now place release.now) (holder_of release.now place document package_id.now) holders.old.rows.items) }
+    ensures err { OnErr result (holders.new.rows.items ≡ holders.old.rows.items) }
+    ensures fault { IfErr result (λ fault. fault ≡ Fault.Memory) }
+{
+    let Ok(holder) = holder_of(release, place, document, package_id) else {
+        return Err(Fault::Memory);
+    };
+    holders.reserve(1)?;
+    holders.cut(&ByHolding {
+        document,
+        id: package_id.as_str(),
+        place,
+        release: release.as_str(),
+    });
+    holders.put(holder);
+    Ok(())
+}
+
+/// The release holds no choice any more.
+pub(crate) fn drop_release(holders: &mut Sorted<Holder>, release: &Text, place: u32)
+    ensures { holders.new.rows.items ≡ filter (λ holder. not (is_of place release.now holder)) holders.old.rows.items }
+{
+    let name = release.as_str();
+    holders.rows.retain(|holder| !(holder.place == place && holder.release.as_str() == name));
+}
