@@ -42,6 +42,8 @@ needs:
 
 # The merge gate, and then the acceptance cases, large inputs and refused allocations on the built program.
 test: needs
+	@echo 'Comparing the tables of the pages with the definitions and the code.'
+	@python3 tests/pages.py
 	@echo 'Running the gate: every proof from nothing, every must-fail edit, every test.'
 	@echo 'That takes minutes to hours: docs/GATE.md has the times of each machine.'
 	@mkdir -p build
@@ -72,6 +74,14 @@ acceptance: needs build
 # The scripts among them over files, in one run each and in three.
 database: needs build
 	@python3 tests/database.py build/desk
+
+# Each allocation refused in turn of the tests that tell want of memory: of documents, of what ships, of codes, of findings, and of listings.
+refused: needs
+	@mkdir -p build
+	@for crate in desk_tagvalue_tests desk_bom_tests desk_alts_tests; do \
+	    (cd crates/$$crate && rt test >../../build/log 2>&1) || { cat build/log; exit 1; }; \
+	    python3 tests/allocations/cases.py crates/$$crate/out/$${crate}_tests || exit 1; \
+	done
 
 # What a checkout of this tree lacks to be REUSE-compliant, which is nothing.
 lint: needs build
@@ -121,4 +131,4 @@ install: build
 clean:
 	rm -rf build
 
-.PHONY: all build demo needs test acceptance database lint ample allocations edits try bench install clean
+.PHONY: all build demo needs test acceptance database refused lint ample allocations edits try bench install clean

@@ -12,8 +12,8 @@ HEAD = ("SPDXVersion: SPDX-2.3\nDataLicense: CC0-1.0\nSPDXID: SPDXRef-DOCUMENT\n
         "DocumentNamespace: https://example.org/big\nCreator: Tool: x-1\nCreated: 2025-01-01T00:00:00Z\n")
 
 
-def package(k, code):
-    return (f"PackageName: package-{k}\nSPDXID: SPDXRef-Package-{k}\nPackageVersion: 1.{k}\n"
+def package(k, code, name="Package-"):
+    return (f"PackageName: package-{k}\nSPDXID: SPDXRef-{name}{k}\nPackageVersion: 1.{k}\n"
             f"PackageDownloadLocation: https://example.org/package-{k}.tar.gz\nPackageVerificationCode: {code:040x}\n"
             "PackageLicenseConcluded: MIT OR Apache-2.0\nPackageLicenseDeclared: NOASSERTION\n")
 
@@ -22,15 +22,15 @@ def file(k):
     return f"FileName: ./f{k}\nSPDXID: SPDXRef-F{k}\nFileChecksum: SHA1: {k:040x}\nLicenseConcluded: MIT\n"
 
 
-def mixed(elements, relationships):
+def mixed(elements, relationships, name="Package-"):
     """Packages with a file each, and relationships among them, every other one from a package to a file."""
     count = elements // 2
-    yield "Relationship: SPDXRef-DOCUMENT DESCRIBES SPDXRef-Package-0\n"
+    yield f"Relationship: SPDXRef-DOCUMENT DESCRIBES SPDXRef-{name}0\n"
     for k in range(count):
-        yield package(k, k) + file(k)
+        yield package(k, k, name) + file(k)
     for k in range(relationships):
-        target = "CONTAINS SPDXRef-F" if k % 2 else "DEPENDS_ON SPDXRef-Package-"
-        yield f"Relationship: SPDXRef-Package-{k % count} {target}{(k * 7 + 1) % count}\n"
+        target = "CONTAINS SPDXRef-F" if k % 2 else f"DEPENDS_ON SPDXRef-{name}"
+        yield f"Relationship: SPDXRef-{name}{k % count} {target}{(k * 7 + 1) % count}\n"
 
 
 def chain():
@@ -39,6 +39,13 @@ def chain():
         yield package(k, 0)
         if k:
             yield f"Relationship: SPDXRef-Package-{k - 1} DEPENDS_ON SPDXRef-Package-{k}\n"
+
+
+def ring():
+    """Packages that each depend on the next one, and the last one on the first."""
+    yield "Relationship: SPDXRef-DOCUMENT DESCRIBES SPDXRef-Package-0\n"
+    for k in range(10000):
+        yield package(k, 0) + f"Relationship: SPDXRef-Package-{k} DEPENDS_ON SPDXRef-Package-{(k + 1) % 10000}\n"
 
 
 def shared():
@@ -60,7 +67,9 @@ DOCUMENTS = {
     "mixed-1": lambda: mixed(2500, 10000),
     "mixed-2": lambda: mixed(5000, 20000),
     "mixed-4": lambda: mixed(9200, 36000),
+    "mixed-5": lambda: mixed(10000, 40000, "P"),
     "chain": chain,
+    "ring": ring,
     "shared-file": shared,
     "one-package": one_package,
 }

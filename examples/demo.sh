@@ -98,8 +98,7 @@ IFS= read -r licence <"$here/unicode-ident/expression"
 ask 3-too-many "$licence" MIT Apache-2.0 Unicode-3.0
 ask 4-too-few "$licence" MIT
 ask_small
-cat "$here/first-release/script.jsonl" "$here/first-release/duties.jsonl" "$here/first-release/later.jsonl" |
-    add 6-release script
+(cd "$here/first-release" && cat script.jsonl duties.jsonl ships.jsonl later.jsonl) | add 6-release script
 add 7-findings script <"$here/findings/script.jsonl"
 
 if [ -n "$desk" ]; then
@@ -122,13 +121,14 @@ show 3-too-many 4-too-few
 echo 'The same licence with its operators in small letters, read by the profile that takes them:'
 echo
 show 5-small
-echo 'A first release: requests (>), each with its reply (<). At last its duty is reopened, waived up to'
-echo 'a day, open again after it, and withdrawn with the release.'
+echo 'A first release: requests (>), each with its reply (<). Then its document is asked for findings, and it for'
+echo 'what ships. At last its duty is reopened, waived up to a day, open again after it, and withdrawn with the release.'
 echo
-echo '$ cd examples/first-release; cat script.jsonl duties.jsonl later.jsonl | desk script'
+echo '$ cd examples/first-release; cat script.jsonl duties.jsonl ships.jsonl later.jsonl | desk script'
 show_script 6-release
 echo
-echo "What in a document isn't as the standard has it: the line, the number and the name of each finding."
+echo "What in a document isn't as the standard has it: the line, the number and the name of each finding. Then a release"
+echo 'of it, with the package that ships.'
 echo
 echo '$ desk script < examples/findings/script.jsonl'
 show_script 7-findings

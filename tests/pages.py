@@ -1,0 +1,132 @@
+"""Compares the tables of the user's pages with the definitions and with the code: python3 tests/pages.py
+
+Numbers and names of refusals, of faults and of kinds of findings, and the limits. The prover sees that code and definitions agree where a
+contract cites both; here each number and name is also read out of the pages.
+"""
+
+import os
+import re
+import sys
+
+HERE = os.path.dirname(os.path.abspath(__file__))
+TREE = os.path.dirname(HERE)
+CRATES = os.path.join(TREE, "crates")
+
+failures = []
+
+
+def text_of(*path):
+    with open(os.path.join(TREE, *path), encoding="utf-8") as file:
+        return file.read()
+
+
+def compare(what, found, wanted):
+    """Tells each entry that only one of two tables has."""
+    if not wanted:
+        failures.append(f"{what}: the definition has no entry")
+    for key in sorted(set(found) | set(wanted), key=str):
+        if found.get(key) != wanted.get(key):
+            failures.append(f"{what}: {key} is {found.get(key)} here and {wanted.get(key)} there")
+
+
+def section(text, heading):
+    """What stands below a heading, up to the next one."""
+    return re.split(r"^#+ ", text.split(heading + "\n", 1)[1], maxsplit=1, flags=re.M)[0]
+
+
+def rows_of(text):
+    """Number and name of each row of a page's table."""
+    return {name: int(number) for number, name in re.findall(r"^\| (\d+) \| (\w+) \|", text, flags=re.M)}
+
+
+def defined(crate, file, function):
+    """What a definition gives each variant: a number, or the text of a name."""
+    text = text_of("crates", crate, "specs", file + ".antt")
+    lines = re.findall(rf"^{function} \(?\w+\.(\w+)[^=]*= (?:codes \"([^\"]*)\"|(\d+))$", text, flags=re.M)
+    return {variant: name if name else int(number) for variant, name, number in lines}
+
+
+def limits_of_definitions():
+    text = text_of("crates/desk_base/specs/Limits.antt")
+    return {name: int(value) for name, value in re.findall(r"^(\w+) = (\d+)$", text, flags=re.M)}
+
+
+def limits_of_code():
+    text = text_of("crates/desk_base/src/limits.rt")
+    found = re.findall(r"^pub const (\w+): \w+ = ([\d_]+);$", text, flags=re.M)
+    return {name.lower(): int(value.replace("_", "")) for name, value in found}
+
+
+# What the pages call the limits: the page, a pattern of its row with the number in it, and the definition's names of that number.
+LIMITS = [
+    ("REQUESTS", r"a line, without its end \| ([\d,]+) bytes", ["line_bytes"]),
+    ("REQUESTS", r"a document \| ([\d,]+) bytes", ["document_bytes"]),
+    ("REQUESTS", r"of a document, together \| ([\d,]+)", ["document_elements"]),
+    ("REQUESTS", r"a catalogue \| ([\d,]+) bytes", ["catalogue_bytes"]),
+    ("REQUESTS", r"a licence expression \| ([\d,]+) bytes", ["expression_bytes"]),
+    ("REQUESTS", r"a licence expression \| .* bytes, ([\d,]+) terms", ["expression_terms"]),
+    ("REQUESTS", r"where it stands\), ([\d,]+) parentheses open", ["open_parentheses"]),
+    ("REQUESTS", r"releases \(`releases`\) \| ([\d,]+) each", ["revisions", "documents", "releases"]),
+    ("REQUESTS", r"attached to one release \(`attached`\) \| ([\d,]+)", ["attached"]),
+    ("REQUESTS", r"a replacement is free \| ([\d,]+)", ["adoptions"]),
+    ("REQUESTS", r"duties of all releases \(`duties`\) \| ([\d,]+)", ["duties"]),
+    ("REQUESTS", r"the name of a release \| ([\d,]+) bytes", ["name_bytes"]),
+    ("REQUESTS", r"or a withdrawal \| ([\d,]+) bytes", ["note_bytes"]),
+    ("REQUESTS", r"met, waived or reopened \| ([\d,]+)", ["changes"]),
+    ("CATALOGUE", r"must be there \| 1 to ([\d,]+) entries", ["forms"]),
+    ("CATALOGUE", r"1 to \d+ entries, each of 1 to ([\d,]+) letters", ["id_bytes"]),
+    ("CATALOGUE", r"for people \| 1 to ([\d,]+) bytes", ["title_bytes"]),
+    ("REFUSALS", r"has more than ([\d,]+) minimal sets", ["listed_sets"]),
+    ("REFUSALS", r"has more than ([\d,]+) distinct terms", ["listed_terms"]),
+    ("REFUSALS", r"the (\d+)th parenthesis", ["open_parentheses"]),
+]
+
+
+def check_names():
+    refusals = text_of("docs/REFUSALS.md")
+    first = refusals.split("\n## ", 1)[0]
+    compare("docs/REFUSALS.md", rows_of(first), defined("desk_rows", "Numbers", "refusal_number"))
+    names = defined("desk_rows", "Names", "refusal_name")
+    compare("the names of refusals", {name: name for name in rows_of(first)}, names)
+    for heading, function in (
+        ("## Faults of a document, in BadDocument", "document_fault_number"),
+        ("## Faults of an expression", "expression_fault_number"),
+    ):
+        compare(heading, rows_of(section(refusals, heading)), defined("desk_rows", "FaultNumbers", function))
+    faults = rows_of(section(text_of("docs/CATALOGUE.md"), "## Faults"))
+    compare("docs/CATALOGUE.md", faults, defined("desk_rows", "FaultNumbers", "catalogue_fault_number"))
+    requests = text_of("docs/REQUESTS.md")
+    findings = section(requests, "### findings: what in a document isn't as the standard has it")
+    compare("the kinds of findings", rows_of(findings), defined("desk_findings", "Kinds", "kind_number"))
+    words = re.search(r"^\| 27 \| Full \| the limit: (.*?) \|", first, flags=re.M).group(1)
+    listed = {word: word for word in re.findall(r"`(\w+)`", words)}
+    compare("the limits that Full names", listed, {n: n for n in defined("desk_rows", "Names", "limit_name").values()})
+
+
+def check_limits():
+    definitions = limits_of_definitions()
+    code = limits_of_code()
+    compare("desk_base's limits", {name: code.get(name) for name in definitions}, definitions)
+    for page, pattern, names in LIMITS:
+        found = re.search(pattern, text_of("docs", page + ".md"))
+        if not found:
+            failures.append(f"docs/{page}.md has no row like {pattern}")
+            continue
+        number = int(found.group(1).replace(",", ""))
+        for name in names:
+            wanted = definitions[name] + (1 if "th parenthesis" in pattern else 0)
+            if number != wanted:
+                failures.append(f"docs/{page}.md has {number} for {name}, which is {wanted}")
+
+
+def main():
+    check_names()
+    check_limits()
+    for failure in failures:
+        print(failure, file=sys.stderr)
+    print("pages: passed" if not failures else f"pages: {len(failures)} differences")
+    return 1 if failures else 0
+
+
+if __name__ == "__main__":
+    sys.exit(main())
