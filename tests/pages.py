@@ -1,7 +1,7 @@
 """Compares the tables of the user's pages with the definitions and with the code: python3 tests/pages.py
 
 Numbers and names of refusals, of faults and of kinds of findings, and the limits. The prover sees that code and definitions agree where a
-contract cites both; here each number and name is also read out of the pages.
+contract cites both; here each number and name is also read out of the pages. Each refusal has an example on one of them, too.
 """
 
 import os
@@ -103,6 +103,16 @@ def check_names():
     compare("the limits that Full names", listed, {n: n for n in defined("desk_rows", "Names", "limit_name").values()})
 
 
+def check_examples():
+    """Each refusal is told in a dialogue of the pages, which the acceptance cases run."""
+    told = set()
+    for page in ("REFUSALS", "REQUESTS", "CATALOGUE"):
+        for block in re.findall(r"^```dialogue\n(.*?)^```$", text_of("docs", page + ".md"), flags=re.M | re.S):
+            told |= set(re.findall(r'^< \{.*"name":"(\w+)","refused":\d+\}$', block, flags=re.M))
+    names = set(rows_of(text_of("docs/REFUSALS.md").split("\n## ", 1)[0]))
+    failures.extend(f"no page has an example of {name}" for name in sorted(names - told))
+
+
 def check_limits():
     definitions = limits_of_definitions()
     code = limits_of_code()
@@ -121,6 +131,7 @@ def check_limits():
 
 def main():
     check_names()
+    check_examples()
     check_limits()
     for failure in failures:
         print(failure, file=sys.stderr)

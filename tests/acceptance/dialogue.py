@@ -7,10 +7,13 @@ A dialogue is a text of lines:
     < the reply to it
     = another dialogue beside it, whose requests and replies come here
     status 1                    the exit status that is wanted (none: 0)
+    repeat 2..998 by 2          the lines down to `end`, once for each of these numbers, which stands for % in them, and the next one
+    end                         for %+1
 
 A blank line has no reply. {{NAME}} is the text of a fixture as a JSON string, and {{NAME: OLD => NEW; ..}} the same with NEW in the
-place of OLD, which stands in it once; in both \\n is a line feed. ‹ff› is a byte by its hexadecimal digits. A request behind `>|` has no
-line end: it is the last one. Of a page (NAME.md) the dialogue is what stands in its blocks that begin with ```dialogue.
+place of OLD, which stands in it once; in both \\n is a line feed. ‹ff› is a byte by its hexadecimal digits, and «1..7:TEXT» a text once
+for each of these numbers, as with `repeat`. A request behind `>|` has no line end: it is the last one. Of a page (NAME.md) the dialogue is
+what stands in its blocks that begin with ```dialogue.
 """
 
 import json
@@ -33,6 +36,9 @@ FIXTURES = {
 }
 
 
+NUMBERS = r"«(\d+)\.\.(\d+)(?: by (\d+))?"
+
+
 def fixture(name):
     with open(os.path.join(TOP, FIXTURES[name]), encoding="utf-8", newline="") as file:
         return file.read()
@@ -50,7 +56,14 @@ def put_in(match):
     return json.dumps(text, ensure_ascii=False)
 
 
+def copies(first, last, step, text):
+    """The text once for each number from the first on, which stands for % in it."""
+    for number in range(int(first), int(last) + 1, int(step or 1)):
+        yield re.sub(r"%(?:\+(\d+))?", lambda match: str(number + int(match.group(1) or 0)), text)
+
+
 def written_out(text):
+    text = re.sub(NUMBERS + ":(.*?)»", lambda match: "".join(copies(*match.groups())), text)
     text = re.sub(r"\{\{(.*?)\}\}", put_in, text).encode()
     return re.sub("‹(..)›".encode(), lambda match: bytes.fromhex(match.group(1).decode()), text)
 
@@ -70,10 +83,28 @@ def lines_of(path):
     return kept
 
 
+def unrolled(lines):
+    """The lines with those that are repeated once for each copy."""
+    repeated, kept = None, []
+    for number, line in lines:
+        if repeated and line == "end":
+            for copy in copies(*repeated, "\n".join(kept)):
+                yield from ((number, text) for text in copy.split("\n"))
+            repeated, kept = None, []
+        elif repeated:
+            kept.append(line)
+        elif line.startswith("repeat "):
+            repeated = re.fullmatch(NUMBERS, "«" + line.removeprefix("repeat ")).groups()
+        else:
+            yield number, line
+    if repeated:
+        raise ValueError("a repetition without its end")
+
+
 def read(path):
     """The requests and the replies of a dialogue as bytes, and its status."""
     requests, replies, status = [], [], 0
-    for number, line in lines_of(path):
+    for number, line in unrolled(lines_of(path)):
         mark, text = line[:2], line[2:]
         if mark in ("> ", ">"):
             requests.append(written_out(text) + b"\n")
