@@ -1,13 +1,15 @@
 """Times `desk script` by the rows that a desk holds: python3 bench/rows.py PROGRAM
 
-Two desks, each once with a tenth of the rows and once with all: one with 4,096 documents and as many releases, each attached, chosen
-and frozen, with a conclusion and an adoption for each; and one with a single release whose freeze raises 100,000 duties, each of which
-is met, reopened and waived up to a day, after which all waivers end at once and the release is withdrawn. The requests of a step are
-sent together, and its time ends with its last reply. Each time is the least of three runs.
+Three desks, each once with a tenth of the rows and once with all: one with 4,096 documents and as many releases, each attached, chosen
+and frozen, with a conclusion and an adoption for each; one with a single release whose freeze raises 100,000 duties, each of which
+is met, reopened and waived up to a day, after which all waivers end at once and the release is withdrawn; and one with a single release
+that holds 100,000 choices, of which a thousand are dropped and made again. The requests of a step are sent together, and its time ends
+with its last reply. Each time is the least of three runs.
 """
 
 import json
 import os
+import random
 import subprocess
 import sys
 import threading
@@ -15,6 +17,9 @@ import time
 
 RUNS = 3
 DUTIES_OF_A_PACKAGE = 10
+PACKAGES_OF_A_DOCUMENT = 10_000
+DROPPED = 1_000
+UNDER_A_CHOICE = "conclude, Chosen"
 
 
 def line(**request):
@@ -47,6 +52,10 @@ def choose(release, number, package):
     return line(do="choose", release=release, document=number, package=f"SPDXRef-p{package}", terms=["MIT"])
 
 
+def unchoose(release, number, package):
+    return line(do="unchoose", release=release, document=number, package=f"SPDXRef-p{package}")
+
+
 def releases(count):
     """Documents and releases, one document attached to each."""
     each = range(1, count + 1)
@@ -58,7 +67,8 @@ def releases(count):
         ("conclude", [line(do="conclude", document=n, package="SPDXRef-p0", expression="MIT OR Zlib") for n in each]),
         ("adopt", [line(do="adopt", document=n, reference="LicenseRef-1", licence="MIT") for n in each]),
         ("choose", [choose(f"r{n}", n, 0) for n in each]),
-        ("unchoose", [line(do="unchoose", release=f"r{n}", document=n, package="SPDXRef-p0") for n in each]),
+        (UNDER_A_CHOICE, [line(do="conclude", document=n, package="SPDXRef-p0", expression="MIT") for n in each]),
+        ("unchoose", [unchoose(f"r{n}", n, 0) for n in each]),
         ("choose again", [choose(f"r{n}", n, 0) for n in each]),
         ("freeze", [line(do="freeze", release=f"r{n}", day="2025-03-03") for n in each]),
         ("meet", [line(do="meet", duty=n, day="2025-03-04", text="notices.txt") for n in each]),
@@ -85,8 +95,25 @@ def duties(count):
     ]
 
 
+def choices(count):
+    """One release with this many choices, some of which are dropped and made again, in no order."""
+    documents = range(1, count // PACKAGES_OF_A_DOCUMENT + 1)
+    each = [(number, package) for number in documents for package in range(PACKAGES_OF_A_DOCUMENT)]
+    some = random.Random(count).sample(each, DROPPED)
+    return [
+        ("catalogue", [catalogue(1)]),
+        ("import", [document(number, PACKAGES_OF_A_DOCUMENT) for number in documents]),
+        ("open", [line(do="open", release="r", form="binary")]),
+        ("attach", [line(do="attach", release="r", document=number) for number in documents]),
+        ("choose", [choose("r", *place) for place in each]),
+        ("unchoose, 1,000", [unchoose("r", *place) for place in some]),
+        ("choose again, 1,000", [choose("r", *place) for place in some]),
+    ]
+
+
 def sent(process, name, requests):
-    """The seconds until the last reply to requests that are sent together, none of which may be refused."""
+    """The seconds until the last reply to requests that are sent together: none may be refused, or each by the choice that is held."""
+    wanted = b'"name":"Chosen"' if name == UNDER_A_CHOICE else b""
     text = "".join(requests).encode()
 
     def send():
@@ -98,7 +125,8 @@ def sent(process, name, requests):
     sender.start()
     for _ in requests:
         reply = process.stdout.readline()
-        if b'"refused"' in reply or b'"fault"' in reply or not reply:
+        is_refused = b'"refused"' in reply or b'"fault"' in reply
+        if not reply or is_refused != bool(wanted) or wanted not in reply:
             sys.exit(f"{name}: {reply!r}")
     spent = time.perf_counter() - start
     sender.join()
@@ -131,6 +159,7 @@ def main():
     desk = os.path.abspath(sys.argv[1])
     table(desk, "documents, releases", 409, 4_096, releases)
     table(desk, "duties of a freeze", 10_000, 100_000, duties)
+    table(desk, "choices of a release", 10_000, 100_000, choices)
 
 
 if __name__ == "__main__":
