@@ -1,7 +1,8 @@
 -- What is told of the document of a tree of files.
-use Rattle.std.specs.Prelude.{◌≡◌, ℕ, Bool, true, false, List, [], ◌∷◌, ◌++◌, map, codes, decimal, Ok, Err, All}
+use Rattle.std.specs.Prelude.{◌≡◌, ◌≤◌, ◌<◌, ℕ, Bool, true, false, List, [], ◌∷◌, ◌++◌, length, map, codes, decimal, Ok, Err, All}
 use Rattle.std.specs.String.{string_bytes}
 use Rattle.desk_annotations.specs.Numbers.{kind_number}
+use Rattle.desk_base.specs.Limits.{document_bytes, document_elements}
 use Rattle.desk_bom.specs.Codes.{IsCode}
 use Rattle.desk_gather.specs.declared.fault.GatherFault.{GatherFault}
 use Rattle.desk_gather.specs.declared.fault.GatherFault.TheVariants.{BadToml, BadAnnotation, BadExpression, BadPath, TwicePath, TooManyFiles, ExpressionTooLong, Memory}
@@ -10,7 +11,10 @@ use Rattle.desk_gather.specs.Readers.{Reader}
 use Rattle.desk_draft.specs.Drafts.{Named, draft_of}
 use Rattle.desk_tagvalue.specs.declared.drafts.Draft.{Draft}
 use Rattle.desk_tagvalue.specs.declared.drafts.DraftFile.{DraftFile}
+use Rattle.desk_tagvalue.specs.Documents.{Spells}
 use Rattle.desk_tagvalue.specs.Drafts.{draft_lines}
+use Rattle.desk_tagvalue.specs.Given.{GivesDraft}
+use Rattle.desk_tagvalue.specs.Parts.{DocumentText}
 use Rattle.desk_tagvalue.specs.Written.{Adds, Stands}
 use Rattle.desk_tree_texts.specs.declared.document.Gathering.{Gathering}
 use Rattle.desk_tree_texts.specs.declared.document.Gathering.TheVariants.{Document, Fault}
@@ -32,9 +36,13 @@ fault_line (Memory error) = []
 abbrev pub IsDraft : Reader → List SourceFile → Named → Draft → Type 0
 IsDraft r files title d = (draft_of r files title d.code ≡ Ok d) × IsCode (map (λ (f : DraftFile). f.digest) d.files) d.code
 
--- the answer for a tree: the text of its draft's lines, or the fault for which it has no draft
+-- a text that a document can have is read as a document that says what a draft says
+abbrev pub IsReadBack : Draft → List ℕ → Type 0
+IsReadBack d text = length text ≤ document_bytes → length d.files < document_elements → (x : DocumentText) × Spells text (Ok x) × GivesDraft d x
+
+-- the answer for a tree: the text of its draft's lines, from which the draft is read back, or the fault for which it has no draft
 abbrev pub IsGathering : Reader → List SourceFile → Named → Gathering → Type 0
-IsGathering r files title (Document text) = (d : Draft) × IsDraft r files title d × Adds [] (draft_lines d) (string_bytes text)
+IsGathering r files title (Document text) = (d : Draft) × IsDraft r files title d × Adds [] (draft_lines d) (string_bytes text) × IsReadBack d (string_bytes text)
 IsGathering r files title (Fault fault) = (code : List ℕ) → draft_of r files title code ≡ Err fault
 
 -- it has a draft of which some value can't stand in its field

@@ -5,7 +5,7 @@ ghost use Rattle.std.specs.String.{string_bytes};
 ghost use Rattle.desk_gather.specs.Readers.{Reader, IsRightReader};
 ghost use Rattle.desk_tagvalue.specs.Drafts.{draft_lines};
 ghost use Rattle.desk_tagvalue.specs.Written.{Adds, Stands};
-ghost use Rattle.desk_tree_texts.specs.Gathering.{fault_line, gathering_text, is_document, IsGathering, MayFail};
+ghost use Rattle.desk_tree_texts.specs.Gathering.{fault_line, gathering_text, is_document, IsGathering, IsReadBack, MayFail};
 
 use desk_draft::draft;
 use desk_gather::{GatherFault, SourceFile};
@@ -93,6 +93,7 @@ impl Gathering {
 // The text of a draft.
 fn text_of(alloc: Global, draft: &Draft) -> Result<String, TextFault>
     ensures ok { IfOk result (λ text. Adds [] (draft_lines draft.now) (string_bytes text)) }
+    ensures read { IfOk result (λ text. IsReadBack draft.now (string_bytes text)) }
     ensures err { IfErr result (λ fault. (fault ≡ TextFault.BadValue) → All Stands (draft_lines draft.now) → ⊥) }
 {
     match write(alloc, draft) {
