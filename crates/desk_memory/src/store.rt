@@ -640,7 +640,8 @@ impl Store for MemStore {
         Ok(self.ledger.last_day(u64::from(duty)))
     }
 
-    // A change that doesn't go on from the rows comes from no command. Nothing is owed to it, and it is left undone.
+    // A change that doesn't go on from the rows comes from no command, and nothing is owed to it. Where its duties, their changes or
+    // the place of its release don't go on, it is left undone; any other is written as it stands.
     fn commit(&mut self, change: Change) -> Result<(), Fault> {
         if !self.ledger.can_take(&change) {
             return Ok(());
