@@ -11,7 +11,7 @@ use Rattle.desk_rows.specs.Raised.{frozen_for, owed_for}
 use Rattle.desk_rows.specs.Answers.{walk, unready}
 use Rattle.desk_history.specs.FromTables.{answer_from, change_for, froze_as, conclusion_found, rules_found, choice_found, shipped_found, release_found, freeze_change_found}
 use Rattle.desk_decisions.specs.Walks.{GathersAll, freeze_fits, freeze_open_found}
-use Rattle.desk_decisions.specs.declared.freeze.Gathered.{Gathered}
+use Rattle.desk_decisions.specs.declared.gathering.Gathered.{Gathered}
 use Rattle.desk_rows.specs.declared.row.PackageRow.{PackageRow}
 use Rattle.desk_rows.specs.declared.row.ReleaseRow.{ReleaseRow}
 use Rattle.desk_rows.specs.declared.refusal.Refusal.{Refusal}

@@ -6,7 +6,7 @@ use Rattle.std.proofs.lemmas.List.{map-append}
 use Rattle.desk_rows.specs.Tables.{Tables}
 use Rattle.desk_history.specs.FromTables.{new_duty, conclusion_found, rules_found, choice_found}
 use Rattle.desk_decisions.specs.Walks.{GathersPackage, unfit_package}
-use Rattle.desk_decisions.specs.declared.freeze.Gathered.{Gathered}
+use Rattle.desk_decisions.specs.declared.gathering.Gathered.{Gathered}
 use Rattle.desk_rows.specs.declared.refusal.Refusal.{Refusal}
 use Rattle.desk_rows.specs.declared.row.DutyRow.{DutyRow}
 use Rattle.desk_rows.specs.declared.row.AdoptionRow.{AdoptionRow}

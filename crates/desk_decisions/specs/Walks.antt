@@ -12,7 +12,7 @@ use Rattle.desk_rows.specs.History.{attached_to}
 use Rattle.desk_rows.specs.Lists.{or_else}
 use Rattle.desk_rows.specs.Tables.{Tables}
 use Rattle.desk_history.specs.FromTables.{state_found, stands_document, package_found, conclusion_found, rules_found, choice_found, shipped_found}
-use Rattle.desk_decisions.specs.declared.freeze.Gathered.{Gathered}
+use Rattle.desk_decisions.specs.declared.gathering.Gathered.{Gathered}
 use Rattle.desk_rows.specs.declared.command.Answer.{Answer}
 use Rattle.desk_rows.specs.declared.command.Answer.TheVariants as answered
 use Rattle.desk_decisions.specs.declared.choice.Place.{Place}

@@ -16,6 +16,7 @@ pub mod conclusion;
 pub mod document;
 pub mod duty;
 pub mod freeze;
+mod gathering;
 mod plan;
 pub mod release;
 pub mod withdraw;

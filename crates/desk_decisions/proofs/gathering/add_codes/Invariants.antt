@@ -1,6 +1,6 @@
 use Rattle.std.proofs.Common.{◌≡◌, ◌++◌, map, drop}
 use Rattle.desk_rows.specs.Raised.{owed_code}
-use Rattle.desk_decisions.proofs.freeze.add_codes.Given as goal
+use Rattle.desk_decisions.proofs.gathering.add_codes.Given as goal
 
 abbrev pub invariant-loop-code : goal.invariant-loop-code
 invariant-loop-code l =

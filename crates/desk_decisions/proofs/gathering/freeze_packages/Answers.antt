@@ -4,12 +4,12 @@ use Rattle.desk_rows.specs.declared.row.PackageRow.{PackageRow}
 use Rattle.desk_history.specs.FromTables.{choice_found, rules_found}
 use Rattle.desk_access.proofs.Chains.{same_then_same}
 use Rattle.desk_decisions.proofs.Walking.{drop_item, more_of, walk_fails, packages_on, PackagesOn}
-use Rattle.desk_decisions.proofs.freeze.freeze_packages.Goals as goal
+use Rattle.desk_decisions.proofs.gathering.freeze_packages.Goals as goal
 
 pub returns-in-Some-clause-gathered : goal.returns-in-Some-clause-gathered
 returns-in-Some-clause-gathered g c =
-    let form : List ℕ = c.args.form.now in
-    let r : List ℕ = c.args.release.now in
+    let form : List ℕ = c.args.freezing.now.form.now in
+    let r : List ℕ = c.args.freezing.now.release.now in
     let ps : List PackageRow = c.args.packages.now in
     let i : ℕ = c.loop-row.row-index in
     let p : PackageRow = c.row-item.result in
@@ -22,8 +22,8 @@ returns-in-Some-clause-gathered g c =
 
 pub loop-row-preserved : goal.loop-row-preserved
 loop-row-preserved g c =
-    let form : List ℕ = c.args.form.now in
-    let r : List ℕ = c.args.release.now in
+    let form : List ℕ = c.args.freezing.now.form.now in
+    let r : List ℕ = c.args.freezing.now.release.now in
     let ps : List PackageRow = c.args.packages.now in
     let i : ℕ = c.loop-row.row-index in
     let p : PackageRow = c.row-item.result in

@@ -2,7 +2,7 @@ use Rattle.std.proofs.Common.{◌≡◌, drop}
 use Rattle.desk_rows.specs.Readings.{Readings}
 use Rattle.desk_rows.specs.Answers.{first_unadopted}
 use Rattle.desk_access.specs.Seen.{Same, OfRows}
-use Rattle.desk_decisions.proofs.freeze.first_unadopted.Given as goal
+use Rattle.desk_decisions.proofs.gathering.first_unadopted.Given as goal
 
 abbrev pub invariant-loop-term : goal.invariant-loop-term
 invariant-loop-term g l =
