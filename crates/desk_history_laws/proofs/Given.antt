@@ -1,0 +1,50 @@
+-- What commands give, in the order in which they were recorded.
+use Rattle.std.proofs.Common.{◌≡◌, ℕ, ◌+◌, List, [], ◌∷◌, ◌++◌, length, map, Option, Some, None, refl, ap, ◌∙◌, sym, arith, length-append, append-nil, append_assoc, add-zero}
+use Rattle.std.specs.Prelude.{reverse}
+use Rattle.std.specs.List.{filter_map, cons_option, last_or, enumerate_from, flat_map}
+use Rattle.std.proofs.lemmas.List.{reverse-append, map-append}
+use Rattle.std.proofs.lemmas.List.Elements.{filter_map-append}
+use Rattle.desk_rows.specs.Lists.{latest, or_else}
+use Rattle.desk_rows.specs.declared.command.Command.{Command}
+use Rattle.desk_history_laws.specs.Filters.{given, last_given}
+
+-- what the newest command gives stands last
+pub given-cons : {A : Type 0} (f : Command → Option A) (c : Command) (h : List Command) → given f (c ∷ h) ≡ given f h ++ cons_option (f c) []
+given-cons f c h = ap (filter_map f) (reverse-append (c ∷ []) h) ∙ filter_map-append f (reverse h) (c ∷ [])
+
+-- a command that gives nothing
+pub given_nothing : {A : Type 0} (f : Command → Option A) (c : Command) (h : List Command) → f c ≡ None → given f (c ∷ h) ≡ given f h
+given_nothing f c h e = given-cons f c h ∙ (ap (λ o. given f h ++ cons_option o []) e ∙ append-nil (given f h))
+
+last_or-push : {A : Type 0} (o : Option A) (xs : List A) (p : Option A) → last_or o (xs ++ cons_option p []) ≡ or_else p (last_or o xs)
+last_or-push o [] None = refl
+last_or-push o [] (Some x) = refl
+last_or-push o (y ∷ ys) p = last_or-push (Some y) ys p
+
+-- the newest entry that gives something is the last of what is given
+pub latest-last : {A : Type 0} (f : Command → Option A) (h : List Command) → latest f h ≡ last_given f h
+latest-last f [] = refl
+latest-last f (c ∷ h) =
+    ap (or_else (f c)) (latest-last f h)
+    ∙ (sym (last_or-push None (given f h) (f c))
+    ∙ ap (last_or None) (sym (given-cons f c h)))
+
+-- one more number
+pub numbered-push : {A : Type 0} (n : ℕ) (xs : List A) (x : A) → enumerate_from n (xs ++ x ∷ []) ≡ enumerate_from n xs ++ (n + length xs, x) ∷ []
+numbered-push n [] x = ap (λ k. (k, x) ∷ []) (sym (add-zero n))
+numbered-push n (y ∷ ys) x = ap (λ zs. (n, y) ∷ zs) (numbered-push (n + 1) ys x ∙ ap (λ k. enumerate_from (n + 1) ys ++ (k, x) ∷ []) (omega arith))
+
+-- rows made of what is given, numbered from 1
+pub rows-push : {A B : Type 0} (row : ℕ × A → B) (xs : List A) (x : A) → map row (enumerate_from 1 (xs ++ x ∷ [])) ≡ map row (enumerate_from 1 xs) ++ row (length xs + 1, x) ∷ []
+rows-push row xs x =
+    ap (map row) (numbered-push 1 xs x)
+    ∙ (map-append row (enumerate_from 1 xs) ((1 + length xs, x) ∷ [])
+    ∙ ap (λ k. map row (enumerate_from 1 xs) ++ row (k, x) ∷ []) (omega arith))
+
+pub length-rows : {A B : Type 0} (row : ℕ × A → B) (n : ℕ) (xs : List A) → length (map row (enumerate_from n xs)) ≡ length xs
+length-rows row n [] = refl
+length-rows row n (x ∷ xs) = omega (arith, length-rows row (n + 1) xs)
+
+pub flat_map-push : {A B : Type 0} (f : A → List B) (xs : List A) (x : A) → flat_map f (xs ++ x ∷ []) ≡ flat_map f xs ++ f x
+flat_map-push f [] x = append-nil (f x)
+flat_map-push f (y ∷ ys) x = ap (λ zs. f y ++ zs) (flat_map-push f ys x) ∙ sym (append_assoc (f y) (flat_map f ys) (f x))

@@ -1,0 +1,52 @@
+-- What a history says by filters and last entries, its commands taken in the order in which they were recorded.
+use Rattle.std.specs.Prelude.{ℕ, List, map, reverse, Option, Some, None}
+use Rattle.std.specs.List.{filter_map, last_or}
+use Rattle.std.specs.Result.{result_ok}
+use Rattle.desk_rows.specs.Readings.{Readings}
+use Rattle.desk_rows.specs.History.{rules_in, rule_row, namespace_in, packages_in, references_in, package_row, extracted_row}
+use Rattle.desk_base.specs.declared.profile.Profile.{Profile}
+use Rattle.desk_rows.specs.declared.row.CatalogueRow.{CatalogueRow}
+use Rattle.desk_rows.specs.declared.row.RuleRow.{RuleRow}
+use Rattle.desk_rows.specs.declared.row.DocumentRow.{DocumentRow}
+use Rattle.desk_rows.specs.declared.row.PackageRow.{PackageRow}
+use Rattle.desk_rows.specs.declared.row.ExtractedRow.{ExtractedRow}
+use Rattle.desk_rows.specs.declared.command.Command.{Command}
+use Rattle.desk_rows.specs.declared.command.Command.TheVariants.{Import}
+
+-- what the commands give, in the order in which they were recorded
+abbrev pub given : {A : Type 0} → (Command → Option A) → List Command → List A
+given f h = filter_map f (reverse h)
+
+-- the last of it
+abbrev pub last_given : {A : Type 0} → (Command → Option A) → List Command → Option A
+last_given f h = last_or None (given f h)
+
+-- Catalogues
+
+abbrev pub revision_row : ℕ × List ℕ → CatalogueRow
+revision_row load = record { revision = load.0; body = load.1 }
+
+-- the rules of a revision
+abbrev pub rules_of : Readings → CatalogueRow → List RuleRow
+rules_of w row = map (rule_row row.revision) (rules_in (result_ok (w.catalogue row.body)))
+
+-- Documents
+
+abbrev pub imported : Command → Option (List ℕ × Profile)
+imported (Import bytes profile) = Some (bytes, profile)
+imported _ = None
+
+abbrev pub document_row : Readings → ℕ × (List ℕ × Profile) → DocumentRow
+document_row w read = record {
+  number = read.0;
+  namespace = namespace_in (result_ok (w.document read.1.0));
+  bytes = read.1.0;
+  profile = read.1.1;
+}
+
+-- the packages of a document, and the references that it defines
+abbrev pub packages_of : Readings → DocumentRow → List PackageRow
+packages_of w row = map (package_row row.number) (packages_in (result_ok (w.document row.bytes)))
+
+abbrev pub references_of : Readings → DocumentRow → List ExtractedRow
+references_of w row = map (extracted_row row.number) (references_in (result_ok (w.document row.bytes)))
