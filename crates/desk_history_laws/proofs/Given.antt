@@ -1,9 +1,9 @@
 -- What commands give, in the order in which they were recorded.
 use Rattle.std.proofs.Common.{◌≡◌, ℕ, ◌+◌, List, [], ◌∷◌, ◌++◌, length, map, Option, Some, None, refl, ap, ◌∙◌, sym, arith, length-append, append-nil, append_assoc, add-zero}
-use Rattle.std.specs.Prelude.{reverse}
+use Rattle.std.specs.Prelude.{reverse, filter, cond, Bool, true, false, if◌then◌else◌}
 use Rattle.std.specs.List.{filter_map, cons_option, last_or, enumerate_from, flat_map}
 use Rattle.std.proofs.lemmas.List.{reverse-append, map-append}
-use Rattle.std.proofs.lemmas.List.Elements.{filter_map-append}
+use Rattle.std.proofs.lemmas.List.Elements.{filter_map-append, filter-append}
 use Rattle.desk_rows.specs.Lists.{latest, or_else}
 use Rattle.desk_rows.specs.declared.command.Command.{Command}
 use Rattle.desk_history_laws.specs.Filters.{given, last_given}
@@ -48,3 +48,30 @@ length-rows row n (x ∷ xs) = omega (arith, length-rows row (n + 1) xs)
 pub flat_map-push : {A B : Type 0} (f : A → List B) (xs : List A) (x : A) → flat_map f (xs ++ x ∷ []) ≡ flat_map f xs ++ f x
 flat_map-push f [] x = append-nil (f x)
 flat_map-push f (y ∷ ys) x = ap (λ zs. f y ++ zs) (flat_map-push f ys x) ∙ sym (append_assoc (f y) (flat_map f ys) (f x))
+
+-- the last of those that pass a test
+push_last : {A : Type 0} (x : A) (xs : List A) (b : Bool) → last_or None (xs ++ cond b (x ∷ []) []) ≡ or_else (if b then Some x else None) (last_or None xs)
+push_last x xs true = last_or-push None xs (Some x)
+push_last x xs false = last_or-push None xs None
+
+pub last-filter : (test : Command → Bool) (c : Command) (h : List Command) → last_or None (filter test (reverse (c ∷ h))) ≡ or_else (if test c then Some c else None) (last_or None (filter test (reverse h)))
+last-filter test c h =
+    ap (λ cs. last_or None (filter test cs)) (reverse-append (c ∷ []) h)
+    ∙ (ap (last_or None) (filter-append test (reverse h) (c ∷ []))
+    ∙ push_last c (filter test (reverse h)) (test c))
+
+-- the last of a list the other way round
+pub last-reverse : {A : Type 0} (x : A) (xs : List A) → last_or None (reverse (x ∷ xs)) ≡ Some x
+last-reverse x xs = ap (last_or None) (reverse-append (x ∷ []) xs) ∙ last_or-push None (reverse xs) (Some x)
+
+cons_reverse : {A : Type 0} (o : Option A) (xs : List A) → reverse xs ++ cons_option o [] ≡ reverse (cons_option o xs)
+cons_reverse None xs = append-nil (reverse xs)
+cons_reverse (Some x) xs = sym (reverse-append (x ∷ []) xs)
+
+pub filter_map-reverse : {A B : Type 0} (f : A → Option B) (xs : List A) → filter_map f (reverse xs) ≡ reverse (filter_map f xs)
+filter_map-reverse f [] = refl
+filter_map-reverse f (x ∷ xs) =
+    ap (filter_map f) (reverse-append (x ∷ []) xs)
+    ∙ (filter_map-append f (reverse xs) (x ∷ [])
+    ∙ (ap (λ ys. ys ++ cons_option (f x) []) (filter_map-reverse f xs)
+    ∙ cons_reverse (f x) (filter_map f xs)))

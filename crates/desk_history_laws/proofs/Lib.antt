@@ -1,3 +1,9 @@
 mod Given
+mod Members
 mod Catalogues
 mod Documents
+mod Releases
+mod Choices
+mod Conclusions
+mod Moves
+mod Days

@@ -1,9 +1,10 @@
 -- What a history says by filters and last entries, its commands taken in the order in which they were recorded.
-use Rattle.std.specs.Prelude.{ℕ, List, map, reverse, Option, Some, None}
+use Rattle.std.specs.Prelude.{ℕ, Bool, false, List, [], map, filter, reverse, Option, Some, None}
 use Rattle.std.specs.List.{filter_map, last_or}
 use Rattle.std.specs.Result.{result_ok}
+use Rattle.std.specs.Str.{bytes_eq}
 use Rattle.desk_rows.specs.Readings.{Readings}
-use Rattle.desk_rows.specs.History.{rules_in, rule_row, namespace_in, packages_in, references_in, package_row, extracted_row}
+use Rattle.desk_rows.specs.History.{rules_in, rule_row, namespace_in, packages_in, references_in, package_row, extracted_row, is_package_of, term_set}
 use Rattle.desk_base.specs.declared.profile.Profile.{Profile}
 use Rattle.desk_rows.specs.declared.row.CatalogueRow.{CatalogueRow}
 use Rattle.desk_rows.specs.declared.row.RuleRow.{RuleRow}
@@ -11,7 +12,7 @@ use Rattle.desk_rows.specs.declared.row.DocumentRow.{DocumentRow}
 use Rattle.desk_rows.specs.declared.row.PackageRow.{PackageRow}
 use Rattle.desk_rows.specs.declared.row.ExtractedRow.{ExtractedRow}
 use Rattle.desk_rows.specs.declared.command.Command.{Command}
-use Rattle.desk_rows.specs.declared.command.Command.TheVariants.{Import}
+use Rattle.desk_rows.specs.declared.command.Command.TheVariants.{Import, OpenRelease, Choose, Unchoose, Freeze, Withdraw}
 
 -- what the commands give, in the order in which they were recorded
 abbrev pub given : {A : Type 0} → (Command → Option A) → List Command → List A
@@ -50,3 +51,32 @@ packages_of w row = map (package_row row.number) (packages_in (result_ok (w.docu
 
 abbrev pub references_of : Readings → DocumentRow → List ExtractedRow
 references_of w row = map (extracted_row row.number) (references_in (result_ok (w.document row.bytes)))
+
+-- Releases
+
+-- a command that opens a release, and one that freezes it
+abbrev pub opens : List ℕ → Command → Bool
+opens r (OpenRelease r' form) = bytes_eq r' r
+opens r _ = false
+
+abbrev pub freezes : List ℕ → Command → Bool
+freezes r (Freeze r' day) = bytes_eq r' r
+freezes r _ = false
+
+-- Choices
+
+-- a command that says what is chosen for a package in a release: a Choose or an Unchoose of it, or a withdrawal of the release
+abbrev pub decides : List ℕ → ℕ → List ℕ → Command → Bool
+decides r d p (Choose r' d' p' texts) = is_package_of r d p r' d' p'
+decides r d p (Unchoose r' d' p') = is_package_of r d p r' d' p'
+decides r d p (Withdraw r' day text) = bytes_eq r' r
+decides r d p _ = false
+
+-- the last of these
+abbrev pub last_decision : List ℕ → ℕ → List ℕ → List Command → Option Command
+last_decision r d p h = last_or None (filter (decides r d p) (reverse h))
+
+-- what it leaves: the terms of a Choose, and none else
+abbrev pub terms_left : Readings → Option Command → List (List ℕ)
+terms_left w (Some (Choose r d p texts)) = term_set w texts
+terms_left w _ = []

@@ -1,1 +1,4 @@
 pub mod Filters
+pub mod Moved
+pub mod Shipping
+pub mod Dates

@@ -1,21 +1,40 @@
 //! Laws of the recorded history beside its definitions, each the contract of a function with an empty body.
 //!
 //! The definitions of `desk_rows` go over the commands from the newest to the oldest. Here the same is said by filters and last
-//! entries, with the commands in the order in which they were recorded: which documents, packages and references there are, which
-//! revisions of the catalogue, which rules, and which catalogue is in force.
+//! entries, with the commands in the order in which they were recorded: which documents, revisions and rules there are, which choices,
+//! conclusions and adoptions stand, and how each duty was moved. Beside it stands that written days sort as dates do.
 #![tactic(auto)]
 
-ghost use Rattle.std.specs.Prelude.{◌≡◌, ℕ, List, map, filter, length, is_some};
-ghost use Rattle.std.specs.List.{enumerate_from, flat_map};
+ghost use Rattle.std.specs.Prelude.{◌≡◌, ◌+◌, ◌++◌, ◌∷◌, ℕ, Some, None, List, false, map, filter, length, reverse, IsTrue, is_some, unwrap_or};
+ghost use Rattle.std.specs.List.{enumerate_from, flat_map, last_or, list_any};
 ghost use Rattle.std.specs.Option.{option_and_then};
 ghost use Rattle.std.specs.Result.{result_ok};
+ghost use Rattle.std.specs.Ordering.{nat_cmp};
+ghost use Rattle.std.specs.Cmp.Lexicographic.{slice_cmp};
+ghost use Rattle.desk_base.specs.Day.{is_day};
 ghost use Rattle.desk_rows.specs.Answers.{IsHistory};
-ghost use Rattle.desk_rows.specs.History.{documents, in_force, loaded, packages, references, revisions, rule_rows, rules_in};
-ghost use Rattle.desk_rows.specs.Keys.{is_rule_of};
+ghost use Rattle.desk_rows.specs.Conclusions.{adoptions, conclusions, licence_given, text_given};
+ghost use Rattle.desk_rows.specs.History.{choice, documents, form_given, form_of, in_force, loaded, opened, packages, place_in, references, revision_of, revisions, rule_rows, rules_in, state_given, state_of};
+ghost use Rattle.desk_rows.specs.Keys.{below_by, is_rule_of};
+ghost use Rattle.desk_rows.specs.Lists.{IsIn};
+ghost use Rattle.desk_rows.specs.Moves.{changes, moves, place};
+ghost use Rattle.desk_rows.specs.Raised.{shipped};
 ghost use Rattle.desk_rows.specs.Readings.{Readings};
+ghost use Rattle.desk_rows.specs.Tables.{choices};
+ghost use Rattle.desk_rows.specs.Texts.{is_before};
 ghost use Rattle.desk_rows.specs.declared.command.Command.{Command};
+ghost use Rattle.desk_rows.specs.declared.command.Command.TheVariants.{Freeze, OpenRelease};
+ghost use Rattle.desk_rows.specs.declared.row.AdoptionRow.{AdoptionRow};
+ghost use Rattle.desk_rows.specs.declared.row.ChoiceRow.{ChoiceRow};
+ghost use Rattle.desk_rows.specs.declared.row.ConclusionRow.{ConclusionRow};
+ghost use Rattle.desk_rows.specs.declared.row.Move.{Move};
+ghost use Rattle.desk_rows.specs.declared.row.PackageRow.{PackageRow};
+ghost use Rattle.desk_rows.specs.declared.state.ReleaseState.TheVariants.{IsOpen};
 ghost use Rattle.desk_history.specs.FromTables.{rule_of};
-ghost use Rattle.desk_history_laws.specs.Filters.{document_row, given, imported, last_given, packages_of, references_of, revision_row, rules_of};
+ghost use Rattle.desk_history_laws.specs.Dates.{date_order};
+ghost use Rattle.desk_history_laws.specs.Filters.{document_row, freezes, given, imported, last_decision, last_given, opens, packages_of, references_of, revision_row, rules_of, terms_left};
+ghost use Rattle.desk_history_laws.specs.Moved.{left_by, moves_given, step_row, IsMove};
+ghost use Rattle.desk_history_laws.specs.Shipping.{IsShipped};
 
 /// The revisions of the catalogue are the texts that were loaded, in order and numbered from 1, and the rules of all revisions those of
 /// each. The catalogue in force is that of the last text loaded: in a recorded history there is one as soon as a text was loaded, and
@@ -34,4 +53,63 @@ pub fn documents_are_the_imports()
     ensures documents { (w : Readings) (h : List Command) → documents w h ≡ map (document_row w) (enumerate_from 1 (given imported h)) }
     ensures packages { (w : Readings) (h : List Command) → packages w h ≡ flat_map (packages_of w) (documents w h) }
     ensures references { (w : Readings) (h : List Command) → references w h ≡ flat_map (references_of w) (documents w h) }
+{}
+
+/// A release has the form of its opening, and the state that the last Freeze or Withdraw of it gave, open before. Its place is one more
+/// than the releases opened before it, and its revision the number of catalogues loaded before its freeze, 0 where it wasn't frozen.
+pub fn releases_are_the_last_entries()
+    ensures form { (h : List Command) (r : List ℕ) → form_of h r ≡ last_given (form_given r) h }
+    ensures state { (h : List Command) (r : List ℕ) → state_of h r ≡ unwrap_or (last_given (state_given r) h) IsOpen }
+    ensures place { (later before : List Command) (r form : List ℕ) → list_any (opens r) later ≡ false → place_in (opened (later ++ OpenRelease r form ∷ before)) r ≡ length (opened before) + 1 }
+    ensures revision { (later before : List Command) (r day : List ℕ) → list_any (freezes r) later ≡ false → revision_of (later ++ Freeze r day ∷ before) r ≡ length (revisions before) }
+    ensures unfrozen { (h : List Command) (r : List ℕ) → list_any (freezes r) h ≡ false → revision_of h r ≡ 0 }
+{}
+
+/// A release ships a package exactly where the package's document was attached to it and ships the package.
+pub fn shipped_exactly()
+    ensures held { (w : Readings) (h : List Command) (r : List ℕ) (p : PackageRow) → IsShipped w h r p → IsIn p (shipped w h r) }
+    ensures only { (w : Readings) (h : List Command) (r : List ℕ) (p : PackageRow) → IsIn p (shipped w h r) → IsShipped w h r p }
+{}
+
+/// What is chosen for a package in a release is what the last command left that decides it, a Choose or an Unchoose of the package or a
+/// withdrawal of the release: the terms of a Choose, and none else. The rows of the choices are these terms and no others.
+pub fn choices_are_the_last_decisions()
+    ensures last { (w : Readings) (h : List Command) (r : List ℕ) (d : ℕ) (p : List ℕ) → choice w h r d p ≡ terms_left w (last_decision r d p h) }
+    ensures held { (w : Readings) (h : List Command) (row : ChoiceRow) → IsIn row.term (choice w h row.release row.document row.package_id) → IsIn row (choices w h) }
+    ensures only { (w : Readings) (h : List Command) (row : ChoiceRow) → IsIn row (choices w h) → IsIn row.term (choice w h row.release row.document row.package_id) }
+{
+    desk_history::last_choice_stands();
+}
+
+/// The rows of the office's conclusions are, for each package, the text of the last Conclude of it, and no others.
+pub fn conclusions_are_the_last()
+    ensures held { (h : List Command) (row : ConclusionRow) → last_given (text_given row.document row.package_id) h ≡ Some row.expression → IsIn row (conclusions h) }
+    ensures only { (h : List Command) (row : ConclusionRow) → IsIn row (conclusions h) → last_given (text_given row.document row.package_id) h ≡ Some row.expression }
+{}
+
+/// The rows of the adoptions are, for each reference of a document, the licence of the last Adopt of it, and no others.
+pub fn adoptions_are_the_last()
+    ensures held { (w : Readings) (h : List Command) (row : AdoptionRow) → last_given (licence_given w row.document row.reference) h ≡ Some row.licence → IsIn row (adoptions w h) }
+    ensures only { (w : Readings) (h : List Command) (row : AdoptionRow) → IsIn row (adoptions w h) → last_given (licence_given w row.document row.reference) h ≡ Some row.licence }
+{}
+
+/// The moves of a duty, the first one first, are what the commands of the history give by the table of moves, each looked at after those
+/// before it. The duty's changes are these with their steps from 1, and it stands where the last of them left it.
+pub fn moves_are_a_filter()
+    ensures moves { (w : Readings) (h : List Command) (q : ℕ) → reverse (moves w h q) ≡ moves_given w h q }
+    ensures changes { (w : Readings) (h : List Command) (q : ℕ) → changes w h q ≡ map (step_row q) (enumerate_from 1 (moves_given w h q)) }
+    ensures place { (w : Readings) (h : List Command) (q : ℕ) → place w h q ≡ left_by (last_or None (moves_given w h q)) }
+{}
+
+/// A duty was moved exactly where a command stands in the history that moves it so after the commands before it.
+pub fn moved_exactly()
+    ensures held { (w : Readings) (h : List Command) (q : ℕ) (m : Move) → IsMove w h q m → IsIn m (moves w h q) }
+    ensures only { (w : Readings) (h : List Command) (q : ℕ) (m : Move) → IsIn m (moves w h q) → IsMove w h q m }
+{}
+
+/// Written days compare as dates: by year, then by month, then by day, each as a number. So one day is before another exactly where
+/// its date is.
+pub fn days_compare_as_dates()
+    ensures order { (a b : List ℕ) → IsTrue (is_day a) → IsTrue (is_day b) → slice_cmp nat_cmp a b ≡ date_order a b }
+    ensures before { (a b : List ℕ) → IsTrue (is_day a) → IsTrue (is_day b) → is_before a b ≡ below_by date_order a b }
 {}
