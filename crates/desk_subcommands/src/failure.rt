@@ -21,8 +21,8 @@ pub enum Failure {
     /// So many requests of a script failed.
     #[error("requests that failed: {0}")]
     Failed(u64),
-    /// A desk failed at a command.
-    #[error("the request failed, and nothing was changed: {0}")]
+    /// A desk failed at a command. While the run goes on its rows are as they were; what the file keeps may be the rows after it.
+    #[error("the request failed: {0}; it was done whole or not at all, so look before you send it again")]
     Request(Fault),
     /// A file that is to be read can't be: its path, and why.
     #[error("cannot read {0:?}: {1}")]
