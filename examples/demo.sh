@@ -132,3 +132,12 @@ echo 'of it, with the package that ships.'
 echo
 echo '$ desk script < examples/findings/script.jsonl'
 show_script 7-findings
+
+if [ -n "$desk" ]; then
+    echo
+    echo 'This repository itself: what it lacks to be REUSE-compliant, and the SPDX document that is gathered of it, imported and asked'
+    echo 'for findings.'
+    echo
+    echo '$ desk lint . && desk gather . --name desk ... >document && desk import --db office.db document && desk script --db office.db'
+    sh "$here/../tests/lint.sh" "$desk"
+fi

@@ -28,13 +28,7 @@ mkdir "$scratch/tree"
 tar -c --null -T "$scratch/names" -f - | tar -x -C "$scratch/tree" -f -
 "$program" lint "$scratch/tree"
 "$program" gather "$scratch/tree" --name desk --namespace https://example.org/desk --created 2026-01-01T00:00:00Z >"$scratch/document"
-python3 - "$scratch/document" <<'END' >"$scratch/requests"
-import json, sys
-
-text = open(sys.argv[1], encoding="utf-8", newline="").read()
-for request in {"do": "import", "text": text}, {"ask": "findings", "document": 1}:
-    print(json.dumps(request))
-END
-"$program" script <"$scratch/requests" >"$scratch/replies"
+"$program" import --db "$scratch/office.db" "$scratch/document" >"$scratch/replies"
+printf '{"ask":"findings","document":1}\n' | "$program" script --db "$scratch/office.db" >>"$scratch/replies"
 printf '{"document":1,"new":true}\n{"rows":[]}\n' | cmp - "$scratch/replies"
 echo 'Its document is imported and has no findings.'
