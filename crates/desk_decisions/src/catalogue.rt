@@ -5,7 +5,7 @@ ghost use Rattle.desk_rows.specs.Readings.{Readings};
 ghost use Rattle.desk_rows.specs.Faults.{MayFail};
 ghost use Rattle.desk_rows.specs.History.{rule_row};
 ghost use Rattle.desk_rows.specs.Answers.{load_answer, refused_alone};
-ghost use Rattle.desk_history.specs.FromTables.{loaded_change};
+ghost use Rattle.desk_history.specs.FromTables.{loaded_change, loading_found};
 ghost use Rattle.desk_access.specs.Seen.{OfRows};
 ghost use Rattle.desk_access.specs.Plans.{IsPlan, IsPlanOf, Plans, SparesStore};
 ghost use Rattle.desk_rows.specs.declared.command.Command.TheVariants.{LoadCatalogue};
@@ -42,7 +42,7 @@ fn load_read<S: Store>(
     text: &Text,
     catalogue: Catalogue,
 ) -> Result<Plan, Fault>
-    ensures plan { IfOk result (λ plan. OfRows (λ t. IsPlan (load_answer (Ok catalogue) (length t.catalogue)) (loaded_change t text.now (Some catalogue)) plan) (S.seen store.old) (S.seen store.new)) }
+    ensures plan { IfOk result (λ plan. OfRows (λ t. IsPlan (load_answer (Ok catalogue) (loading_found t)) (loaded_change t text.now (Some catalogue)) plan) (S.seen store.old) (S.seen store.new)) }
     ensures kept { Plans (S.seen store.old) (S.seen store.new) result }
     ensures fault { IfErr result (MayFail S.tells) }
 {

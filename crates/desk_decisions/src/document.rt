@@ -5,7 +5,7 @@ ghost use Rattle.desk_rows.specs.Readings.{Readings};
 ghost use Rattle.desk_rows.specs.Faults.{MayFail};
 ghost use Rattle.desk_rows.specs.History.{package_row, extracted_row};
 ghost use Rattle.desk_rows.specs.Answers.{import_answer, refused_alone};
-ghost use Rattle.desk_history.specs.FromTables.{imported_as, imported_change};
+ghost use Rattle.desk_history.specs.FromTables.{imported_as, imported_change, importing_found};
 ghost use Rattle.desk_access.specs.Seen.{OfRows};
 ghost use Rattle.desk_access.specs.Plans.{IsPlan, IsPlanOf, Plans, SparesStore};
 ghost use Rattle.desk_rows.specs.declared.command.Command.TheVariants.{Import};
@@ -92,7 +92,7 @@ fn import_read<S: Store>(
     profile: Profile,
     document: Document,
 ) -> Result<Plan, Fault>
-    ensures plan { IfOk result (λ plan. OfRows (λ t. IsPlan (import_answer (Ok document) bytes t.document) (imported_change t bytes profile (Some document)) plan) (S.seen store.old) (S.seen store.new)) }
+    ensures plan { IfOk result (λ plan. OfRows (λ t. IsPlan (import_answer (Ok document) bytes (importing_found t)) (imported_change t bytes profile (Some document)) plan) (S.seen store.old) (S.seen store.new)) }
     ensures kept { Plans (S.seen store.old) (S.seen store.new) result }
     ensures fault { IfErr result (MayFail S.tells) }
 {

@@ -11,7 +11,7 @@ use Rattle.desk_rows.specs.Readings.{Readings}
 use Rattle.desk_rows.specs.Keys.{release_below}
 use Rattle.desk_rows.specs.History.{opened, names, form_of, state_given, state_of, revision_of}
 use Rattle.desk_rows.specs.Tables.{release_row}
-use Rattle.desk_rows.specs.Answers.{IsHistory, is_recorded, release_state, open_answer, Freezing, freeze_answer, freezing, unready, unless, withdraw_answer}
+use Rattle.desk_rows.specs.Answers.{IsHistory, is_recorded, release_state, Opening, open_answer, Freezing, freeze_answer, freezing, unready, unless, Withdrawing, withdrawing, withdraw_answer}
 use Rattle.desk_history.proofs.Recorded.{past, is_so, is_ready}
 use Rattle.desk_history.proofs.Rows.{map-put, map_others, texts_turned}
 use Rattle.desk_history.proofs.Lookups.{names-form, length-releases}
@@ -36,11 +36,11 @@ frozen_open day found e =
     is_ready found.state (is_so (is_some found.state) why.UnknownRelease two.0) three.0
 
 -- a withdrawal only of one that was opened
-withdrawn_known : (day text : List ℕ) (s : Option ReleaseState) → IsTrue (is_recorded (withdraw_answer day text s)) → is_some s ≡ true
-withdrawn_known day text s e =
+withdrawn_known : (day text : List ℕ) (found : Withdrawing) → IsTrue (is_recorded (withdraw_answer day text found)) → is_some found.state ≡ true
+withdrawn_known day text found e =
     let one = past (unless (is_day day) why.BadDay) _ e in
     let two = past (unless (is_note text) why.BadText) _ one.1 in
-    is_so (is_some s) why.UnknownRelease (past (unless (is_some s) why.UnknownRelease) _ two.1).0
+    is_so (is_some found.state) why.UnknownRelease (past (unless (is_some found.state) why.UnknownRelease) _ two.1).0
 
 or_else_rest : {B : Type 0} (o p : Option B) → is_some (or_else o p) ≡ false → is_some p ≡ false
 or_else_rest None p h = h
@@ -68,7 +68,7 @@ untouched w (Freeze r' day ∷ h) r ok none =
     record { state = rw e u.state; revision = rw e u.revision }
 untouched w (Withdraw r' day text ∷ h) r ok none =
     let u = untouched w h r ok.1 none in
-    let e : bytes_eq r' r ≡ false = another h r r' (withdrawn_known day text (release_state h r') ok.0) none in
+    let e : bytes_eq r' r ≡ false = another h r r' (withdrawn_known day text (withdrawing h r') ok.0) none in
     record { state = rw e u.state; revision = u.revision }
 untouched w (_ ∷ h) r ok none = let u = untouched w h r ok.1 none in record { state = u.state; revision = u.revision }
 
@@ -77,12 +77,12 @@ not_so false e = refl
 not_so true e = cc
 
 -- a release is opened only where its name is free
-pub open_free : (name form : List ℕ) (forms : List (List ℕ)) (taken : Bool) (n : ℕ) → IsTrue (is_recorded (open_answer name form forms taken n)) → taken ≡ false
-open_free name form forms taken n e =
+pub open_free : (name form : List ℕ) (found : Opening) → IsTrue (is_recorded (open_answer name form found)) → found.is_taken ≡ false
+open_free name form found e =
     let one = past (unless (is_release_name name) why.BadName) _ e in
-    let two = past (unless (list_any (bytes_eq form) forms) why.UnknownForm) _ one.1 in
-    let three = past (unless (not taken) why.NameTaken) _ two.1 in
-    not_so taken (is_so (not taken) why.NameTaken three.0)
+    let two = past (unless (list_any (bytes_eq form) found.forms) why.UnknownForm) _ one.1 in
+    let three = past (unless (not found.is_taken) why.NameTaken) _ two.1 in
+    not_so found.is_taken (is_so (not found.is_taken) why.NameTaken three.0)
 
 other_row : (h : List Command) (r f n : List ℕ) → bytes_eq n r ≡ false → release_row h n ≡ release_row (OpenRelease r f ∷ h) n
 other_row h r f n differ = let e : bytes_eq r n ≡ false = texts_turned r n ∙ differ in rw e refl

@@ -9,8 +9,8 @@ use Rattle.desk_rows.specs.declared.row.Move.{Move}
 use Rattle.desk_rows.specs.Moves.{duties, all_changes}
 use Rattle.desk_rows.specs.declared.state.Word.TheVariants as word
 use Rattle.desk_rows.specs.Tables.{Tables, tables, applied, standing, choice_row, is_other_choice, is_choice_elsewhere}
-use Rattle.desk_rows.specs.Answers.{answer, IsHistory, is_recorded, noted, open_answer, attach_answer, attaching, choose_answer, choosing, unchoose_answer, unchoosing, freeze_answer, withdraw_answer, close_answer, move_answer, moving}
-use Rattle.desk_history.specs.FromTables.{answer_from, change_for, rows_noted, raised_row, unchoosing_found}
+use Rattle.desk_rows.specs.Answers.{answer, IsHistory, is_recorded, noted, opening, open_answer, attach_answer, attaching, choose_answer, choosing, unchoose_answer, unchoosing, freeze_answer, withdraw_answer, close_answer, move_answer, moving}
+use Rattle.desk_history.specs.FromTables.{answer_from, change_for, rows_noted, raised_row, opening_found, unchoosing_found}
 use Rattle.desk_history.proofs.Same.{same_tables}
 use Rattle.desk_history.proofs.Rows.{in_order-append}
 use Rattle.desk_history.proofs.Orders.{filter-in_order, choice_is_order}
@@ -25,8 +25,8 @@ use Rattle.desk_rows.specs.declared.command.Command.TheVariants.{LoadCatalogue, 
 
 open-answer : (w : Readings) (h : List Command) (r f : List ℕ) → answer_from w (tables w h) (OpenRelease r f) ≡ answer w h (OpenRelease r f)
 open-answer w h r f =
-    ap (λ b. open_answer r f (forms_in (in_force w h)) b (length (tables w h).releases)) (is_found w h r)
-    ∙ ap (open_answer r f (forms_in (in_force w h)) (is_some (form_of h r))) (length-releases h)
+    ap (λ b. open_answer r f (record (opening_found (tables w h) r) { is_taken = b })) (is_found w h r)
+    ∙ ap (λ n. open_answer r f (record (opening w h r) { releases = n })) (length-releases h)
 
 pub step-answer : (w : Readings) (h : List Command) (c : Command) → answer_from w (tables w h) c ≡ answer w h c
 step-answer w h (LoadCatalogue text) = refl
@@ -41,14 +41,14 @@ step-answer w h (Unchoose r d p) =
 step-answer w h (Meet q day text) = move-answer w h word.Met q day text None
 step-answer w h (Waive q day text until) = move-answer w h word.Waived q day text until
 step-answer w h (Reopen q day text) = move-answer w h word.Reopened q day text None
-step-answer w h (Withdraw r day text) = ap (withdraw_answer day text) (state-found w h r)
-step-answer w h (CloseDay day) = ap (close_answer day) (ended-count w h day)
+step-answer w h (Withdraw r day text) = ap (λ s. withdraw_answer day text (record { state = s })) (state-found w h r)
+step-answer w h (CloseDay day) = ap (λ n. close_answer day (record { ended = n })) (ended-count w h day)
 step-answer w h (Conclude d p text) = refl
 step-answer w h (Adopt d reference licence) = refl
 
 open-rows : (w : Readings) (h : List Command) (r f : List ℕ) → IsHistory w h → IsTrue (is_recorded (answer w h (OpenRelease r f))) → tables w (OpenRelease r f ∷ h) ≡ applied (change_for w (tables w h) (OpenRelease r f)) (tables w h)
 open-rows w h r f ok recorded =
-    let free : is_some (form_of h r) ≡ false = open_free r f (forms_in (in_force w h)) (is_some (form_of h r)) (length (opened h)) recorded in
+    let free : is_some (form_of h r) ≡ false = open_free r f (opening w h r) recorded in
     same_tables _ _ refl refl refl refl refl refl refl refl (open-releases w h r f ok free) refl refl refl refl refl
 
 choose-rows : (w : Readings) (h : List Command) (r p : List ℕ) (d : ℕ) (texts : List (List ℕ)) → tables w (Choose r d p texts ∷ h) ≡ applied (change_for w (tables w h) (Choose r d p texts)) (tables w h)

@@ -15,7 +15,7 @@ use Rattle.desk_rows.specs.States.{is_met}
 use Rattle.desk_rows.specs.declared.row.Standing.{Standing}
 use Rattle.desk_rows.specs.declared.state.Word.{Word}
 use Rattle.desk_rows.specs.Tables.{Tables, applied, choice_row}
-use Rattle.desk_rows.specs.Answers.{load_answer, import_answer, open_answer, attach_answer, choose_answer, freeze_answer, unchoose_answer, Attaching, Choosing, Unchoosing, Freezing, Moving, Concluding, Adopting, move_answer, withdraw_answer, close_answer, conclude_answer, adopt_answer, walk, is_recorded}
+use Rattle.desk_rows.specs.Answers.{load_answer, import_answer, open_answer, attach_answer, choose_answer, freeze_answer, unchoose_answer, Loading, Importing, Opening, Attaching, Choosing, Unchoosing, Freezing, Withdrawing, Closing, Moving, Concluding, Adopting, move_answer, withdraw_answer, close_answer, conclude_answer, adopt_answer, walk, is_recorded}
 use Rattle.desk_rows.specs.Queries.{duty_line, package_line, totals_of}
 use Rattle.desk_rows.specs.Findings.{findings_answer}
 use Rattle.desk_rows.specs.Listings.{Listing, alternatives_answer, cheapest_answer, term_cost}
@@ -136,6 +136,15 @@ package_found t d p = find (is_package d p) t.packages
 
 -- What each command looks up in tables
 
+abbrev pub loading_found : Tables → Loading
+loading_found t = record { revisions = length t.catalogue }
+
+abbrev pub importing_found : Tables → Importing
+importing_found t = record { documents = t.document }
+
+abbrev pub opening_found : Tables → List ℕ → Opening
+opening_found t r = record { forms = t.forms; is_taken = is_some (release_found t r); releases = length t.releases }
+
 abbrev pub attaching_found : Tables → List ℕ → ℕ → Attaching
 attaching_found t r d = record {
   state = state_found t r;
@@ -199,11 +208,17 @@ adopting_found w t d reference licence =
       adoptions = adoption_count t d;
     }
 
+abbrev pub withdrawing_found : Tables → List ℕ → Withdrawing
+withdrawing_found t r = record { state = state_found t r }
+
+abbrev pub closing_found : Tables → List ℕ → Closing
+closing_found t day = record { ended = length (ended_found t day) }
+
 -- the answer
 abbrev pub answer_from : Readings → Tables → Command → Answer
-answer_from w t (LoadCatalogue text) = load_answer (w.catalogue text) (length t.catalogue)
-answer_from w t (Import bytes profile) = import_answer (w.document bytes) bytes t.document
-answer_from w t (OpenRelease r form) = open_answer r form t.forms (is_some (release_found t r)) (length t.releases)
+answer_from w t (LoadCatalogue text) = load_answer (w.catalogue text) (loading_found t)
+answer_from w t (Import bytes profile) = import_answer (w.document bytes) bytes (importing_found t)
+answer_from w t (OpenRelease r form) = open_answer r form (opening_found t r)
 answer_from w t (Attach r d) = attach_answer (attaching_found t r d)
 answer_from w t (Choose r d p texts) = choose_answer w texts (choosing_found w t r d p)
 answer_from w t (Unchoose r d p) = unchoose_answer d p (unchoosing_found t r d p)
@@ -213,8 +228,8 @@ answer_from w t (Adopt d reference licence) = adopt_answer (adopting_found w t d
 answer_from w t (Meet q day text) = moved_found t word.Met q day text None
 answer_from w t (Waive q day text until) = moved_found t word.Waived q day text until
 answer_from w t (Reopen q day text) = moved_found t word.Reopened q day text None
-answer_from w t (Withdraw r day text) = withdraw_answer day text (state_found t r)
-answer_from w t (CloseDay day) = close_answer day (length (ended_found t day))
+answer_from w t (Withdraw r day text) = withdraw_answer day text (withdrawing_found t r)
+answer_from w t (CloseDay day) = close_answer day (closing_found t day)
 
 abbrev pub new_duty : ℕ × Owed → DutyRow
 new_duty d = duty_row stands.IsOpen d

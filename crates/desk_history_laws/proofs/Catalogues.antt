@@ -8,7 +8,7 @@ use Rattle.desk_rows.specs.Lists.{latest}
 use Rattle.desk_rows.specs.Readings.{Readings}
 use Rattle.desk_rows.specs.History.{revisions, loaded, in_force, rules_in, rule_rows}
 use Rattle.desk_rows.specs.Keys.{is_rule_of}
-use Rattle.desk_rows.specs.Answers.{IsHistory, is_recorded, load_answer}
+use Rattle.desk_rows.specs.Answers.{IsHistory, is_recorded, Loading, load_answer, loading}
 use Rattle.desk_rows.specs.Tables.{tables}
 use Rattle.desk_rows.specs.declared.reading.Catalogue.{Catalogue}
 use Rattle.desk_rows.specs.declared.refusal.CatalogueFault.{CatalogueFault}
@@ -46,13 +46,13 @@ pub last-load : (w : Readings) (h : List Command) → in_force w h ≡ option_an
 last-load w h = ap (option_and_then (λ text. result_ok (w.catalogue text))) (latest-last loaded h)
 
 -- a text that was loaded is a catalogue
-was_read : (r : Result Catalogue CatalogueFault) (n : ℕ) → IsTrue (is_recorded (load_answer r n)) → is_some (result_ok r) ≡ true
-was_read (Ok c) n e = refl
-was_read (Err f) n e = cc
+was_read : (r : Result Catalogue CatalogueFault) (found : Loading) → IsTrue (is_recorded (load_answer r found)) → is_some (result_ok r) ≡ true
+was_read (Ok c) found e = refl
+was_read (Err f) found e = cc
 
 some-latest : (w : Readings) (h : List Command) → IsHistory w h → is_some (in_force w h) ≡ is_some (latest loaded h)
 some-latest w [] is = refl
-some-latest w (LoadCatalogue text ∷ h) is = was_read (w.catalogue text) (length (revisions h)) is.0
+some-latest w (LoadCatalogue text ∷ h) is = was_read (w.catalogue text) (loading h) is.0
 some-latest w (_ ∷ h) is = some-latest w h is.1
 
 pub some-load : (w : Readings) (h : List Command) → IsHistory w h → is_some (in_force w h) ≡ is_some (last_given loaded h)

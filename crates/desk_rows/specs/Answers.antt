@@ -62,12 +62,16 @@ abbrev pub first_refusal : List (Option Refusal) → Option Refusal
 first_refusal [] = None
 first_refusal (refusal ∷ refusals) = or_else refusal (first_refusal refusals)
 
--- LoadCatalogue, of a text that was read, after so many revisions
-abbrev pub load_answer : Result Catalogue CatalogueFault → ℕ → Answer
-load_answer catalogue count = refused_first (
+-- what a LoadCatalogue looks up: how many revisions there are
+pub record Loading : Type 0 where
+  pub revisions : ℕ
+
+-- LoadCatalogue, of a text that was read
+abbrev pub load_answer : Result Catalogue CatalogueFault → Loading → Answer
+load_answer catalogue found = refused_first (
     option_map (λ fault. why.BadCatalogue fault) (result_err catalogue)
-    ∷ unless (nat_lt count most.revisions) (why.Full limit.Revisions)
-    ∷ []) (answered.Revision (count + 1))
+    ∷ unless (nat_lt found.revisions most.revisions) (why.Full limit.Revisions)
+    ∷ []) (answered.Revision (found.revisions + 1))
 
 -- the document with the namespace of one that was read
 abbrev pub same_namespace : Result Document DocumentFault → List DocumentRow → Option DocumentRow
@@ -77,23 +81,32 @@ same_namespace document rows = option_and_then (λ d. find (has_namespace d.name
 abbrev pub taken : List ℕ → DocumentRow → Option Refusal
 taken bytes row = unless (bytes_eq row.bytes bytes) (why.NamespaceTaken row.number)
 
--- Import, of bytes that were read, after these documents; with the same bytes, one is told again
-abbrev pub import_answer : Result Document DocumentFault → List ℕ → List DocumentRow → Answer
-import_answer document bytes rows =
-    let old = same_namespace document rows in
+-- what an Import looks up: the documents
+pub record Importing : Type 0 where
+  pub documents : List DocumentRow
+
+-- Import, of bytes that were read; with the same bytes, a document is told again
+abbrev pub import_answer : Result Document DocumentFault → List ℕ → Importing → Answer
+import_answer document bytes found =
+    let old = same_namespace document found.documents in
     refused_first (
     option_map (λ fault. why.BadDocument fault) (result_err document)
     ∷ option_and_then (taken bytes) old
-    ∷ unless (is_some old || nat_lt (length rows) most.documents) (why.Full limit.Documents)
-    ∷ []) (option_map_or (λ row. answered.Again row.number) old (answered.Imported (length rows + 1)))
+    ∷ unless (is_some old || nat_lt (length found.documents) most.documents) (why.Full limit.Documents)
+    ∷ []) (option_map_or (λ row. answered.Again row.number) old (answered.Imported (length found.documents + 1)))
 
--- OpenRelease, with these forms in force, of a name that is taken or free, after so many releases
-abbrev pub open_answer : List ℕ → List ℕ → List (List ℕ) → Bool → ℕ → Answer
-open_answer name form forms is_taken count = refused_first (
+-- what an OpenRelease looks up: the forms in force, whether the name is taken, how many releases there are
+pub record Opening : Type 0 where
+  pub forms : List (List ℕ)
+  pub is_taken : Bool
+  pub releases : ℕ
+
+abbrev pub open_answer : List ℕ → List ℕ → Opening → Answer
+open_answer name form found = refused_first (
     unless (is_release_name name) why.BadName
-    ∷ unless (list_any (bytes_eq form) forms) why.UnknownForm
-    ∷ unless (not is_taken) why.NameTaken
-    ∷ unless (nat_lt count most.releases) (why.Full limit.Releases)
+    ∷ unless (list_any (bytes_eq form) found.forms) why.UnknownForm
+    ∷ unless (not found.is_taken) why.NameTaken
+    ∷ unless (nat_lt found.releases most.releases) (why.Full limit.Releases)
     ∷ []) answered.Done
 
 -- a release that isn't open
@@ -267,18 +280,26 @@ move_answer word day text until found = refused_first (
     ∷ unless (nat_lt found.steps most.changes) (why.Full limit.Changes)
     ∷ []) answered.Done
 
--- Withdraw, of a release in this state
-abbrev pub withdraw_answer : List ℕ → List ℕ → Option ReleaseState → Answer
-withdraw_answer day text state = refused_first (
+-- what a Withdraw looks up: the release's state
+pub record Withdrawing : Type 0 where
+  pub state : Option ReleaseState
+
+abbrev pub withdraw_answer : List ℕ → List ℕ → Withdrawing → Answer
+withdraw_answer day text found = refused_first (
     unless (is_day day) why.BadDay
     ∷ unless (is_note text) why.BadText
-    ∷ unless (is_some state) why.UnknownRelease
-    ∷ option_and_then gone state
+    ∷ unless (is_some found.state) why.UnknownRelease
+    ∷ option_and_then gone found.state
     ∷ []) answered.Done
 
--- CloseDay, where so many waivers end
-abbrev pub close_answer : List ℕ → ℕ → Answer
-close_answer day count = refused_first (unless (is_day day) why.BadDay ∷ []) (answered.Closed count)
+-- what a CloseDay looks up: how many waivers end
+pub record Closing : Type 0 where
+  pub ended : ℕ
+
+abbrev pub close_answer : List ℕ → Closing → Answer
+close_answer day found = refused_first (
+    unless (is_day day) why.BadDay
+    ∷ []) (answered.Closed found.ended)
 
 -- what a Conclude looks up: why the text is no expression, the document, the package, the release that holds a choice for it
 pub record Concluding : Type 0 where
@@ -334,6 +355,19 @@ abbrev pub package_at : Readings → List Command → ℕ → List ℕ → Optio
 package_at w h d p = find (is_package d p) (packages w h)
 
 -- What each command looks up in a history
+
+abbrev pub loading : List Command → Loading
+loading h = record { revisions = length (revisions h) }
+
+abbrev pub importing : Readings → List Command → Importing
+importing w h = record { documents = documents w h }
+
+abbrev pub opening : Readings → List Command → List ℕ → Opening
+opening w h r = record {
+  forms = forms_in (in_force w h);
+  is_taken = is_some (form_of h r);
+  releases = length (opened h);
+}
 
 abbrev pub attaching : Readings → List Command → List ℕ → ℕ → Attaching
 attaching w h r d = record {
@@ -397,11 +431,19 @@ adopting w h d reference licence =
       adoptions = length (filter (is_adoption_in d) (adoptions w h));
     }
 
+abbrev pub withdrawing : List Command → List ℕ → Withdrawing
+withdrawing h r = record { state = release_state h r }
+
+abbrev pub closing : Readings → List Command → List ℕ → Closing
+closing w h day = record {
+  ended = length (filter (λ d. has_ended day (place w h d.0) (end_after (moves w h d.0))) (numbered w h));
+}
+
 -- The answer to a command after a history
 abbrev pub answer : Readings → List Command → Command → Answer
-answer w h (LoadCatalogue text) = load_answer (w.catalogue text) (length (revisions h))
-answer w h (Import bytes profile) = import_answer (w.document bytes) bytes (documents w h)
-answer w h (OpenRelease r form) = open_answer r form (forms_in (in_force w h)) (is_some (form_of h r)) (length (opened h))
+answer w h (LoadCatalogue text) = load_answer (w.catalogue text) (loading h)
+answer w h (Import bytes profile) = import_answer (w.document bytes) bytes (importing w h)
+answer w h (OpenRelease r form) = open_answer r form (opening w h r)
 answer w h (Attach r d) = attach_answer (attaching w h r d)
 answer w h (Choose r d p texts) = choose_answer w texts (choosing w h r d p)
 answer w h (Unchoose r d p) = unchoose_answer d p (unchoosing w h r d p)
@@ -411,8 +453,8 @@ answer w h (Adopt d reference licence) = adopt_answer (adopting w h d reference 
 answer w h (Meet q day text) = move_answer word.Met day text None (moving w h q)
 answer w h (Waive q day text until) = move_answer word.Waived day text until (moving w h q)
 answer w h (Reopen q day text) = move_answer word.Reopened day text None (moving w h q)
-answer w h (Withdraw r day text) = withdraw_answer day text (release_state h r)
-answer w h (CloseDay day) = close_answer day (length (filter (λ d. has_ended day (place w h d.0) (end_after (moves w h d.0))) (numbered w h)))
+answer w h (Withdraw r day text) = withdraw_answer day text (withdrawing h r)
+answer w h (CloseDay day) = close_answer day (closing w h day)
 
 -- by its days and its text
 abbrev pub refused_by : List ℕ → List ℕ → Option (List ℕ) → Bool
