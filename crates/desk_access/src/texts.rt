@@ -2,7 +2,7 @@
 
 ghost use Rattle.std.specs.Prelude.{◌≡◌, ℕ, List, Option, IfOk, map};
 ghost use Rattle.desk_rows.specs.Listings.{IsCost};
-ghost use Rattle.desk_rows.specs.Readings.{Readings};
+ghost use Rattle.desk_rows.specs.Readings.{Readings, TellsVerdict};
 
 use desk_base::{Items, Text};
 use desk_rows::{
@@ -61,15 +61,15 @@ pub trait Texts {
     ) -> Result<Option<ExpressionFault>, AllocError>
         ensures { (w : Readings) → are_right w → IfOk result (λ fault. fault ≡ w.expression_fault profile text.now) };
 
-    /// What printed terms are to the expression that a text spells.
+    /// What printed terms are to the expression that a text spells, if it spells one.
     fn verdict(
         &self,
         alloc: Global,
         profile: Profile,
         text: &str,
         terms: &[Text],
-    ) -> Result<Verdict, AllocError>
-        ensures { (w : Readings) → are_right w → IfOk result (λ verdict. verdict ≡ w.verdict profile text.now terms.now) };
+    ) -> Result<Option<Verdict>, AllocError>
+        ensures { (w : Readings) → are_right w → IfOk result (TellsVerdict w profile text.now terms.now) };
 
     /// The minimal sets of terms that the expression of a text is true under, printed, or why they aren't listed.
     fn alternatives(

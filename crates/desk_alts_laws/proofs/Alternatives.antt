@@ -20,7 +20,8 @@ use Rattle.desk_expr_laws.proofs.Verdicts.{verdict}
 use Rattle.desk_alts.specs.Sets.{IsTermSet, set_order, AreAlternatives}
 use Rattle.desk_alts.specs.SetLaws.{set_total}
 use Rattle.desk_alts.proofs.Choosing.{holds_on_leaves, is_listed}
-use Rattle.desk_alts.proofs.SetLemmas.{same_sets, same_sorted}
+use Rattle.desk_base.proofs.SortedOnce.{same_sorted}
+use Rattle.desk_alts.proofs.SetLemmas.{same_sets}
 use Rattle.desk_alts_laws.proofs.Ordered.{in_order, having}
 use Rattle.desk_alts_laws.proofs.Subsets.{subsets}
 

@@ -15,7 +15,7 @@ use Rattle.desk_alts.specs.Sets.{IsTermSet, set_order, AreAlternatives}
 use Rattle.desk_alts.specs.SetLaws.{set_total}
 use Rattle.desk_alts.proofs.Antichains.{any_of}
 use Rattle.desk_alts.proofs.CostLemmas.{least_none, least_first, least_new, least_kept, none_cheapest, is_cheapest}
-use Rattle.desk_alts.proofs.SetLemmas.{head_or_later, not_both}
+use Rattle.desk_base.proofs.SortedOnce.{head_or_later, not_both}
 use Rattle.desk_alts_laws.proofs.Alternatives.{as_set, holds_or_not, alternatives_exist}
 
 -- ---- each set that satisfies a tree has a minimal subset

@@ -9,7 +9,7 @@ use Rattle.std.specs.declared.cmp.Ordering.{Ordering}
 use Rattle.std.specs.declared.cmp.Ordering.TheVariants.{Less, Equal, Greater}
 use Rattle.std.proofs.lemmas.Map.Keys.{sorted_tail}
 use Rattle.desk_expr_laws.proofs.Decide.{Decided}
-use Rattle.desk_alts.proofs.SetLemmas.{head_or_later, is_head, is_later, head_first, sorted_onto}
+use Rattle.desk_base.proofs.SortedOnce.{head_or_later, is_head, is_later, head_first, sorted_onto}
 
 none_listed : {K : Type 0} (q : K) → Contains [] q → ⊥
 none_listed q at = omega (arith, at.1)

@@ -8,7 +8,8 @@ use Rattle.desk_expr.specs.Meaning.{IsSubset}
 use Rattle.desk_expr.specs.Occurring.{term_order}
 use Rattle.desk_alts.specs.Sets.{IsTermSet}
 use Rattle.desk_alts.proofs.CostLemmas.{head_cases}
-use Rattle.desk_alts.proofs.SetLemmas.{head_or_later, is_head, is_later, head_below, sorted_none, sorted_consed}
+use Rattle.desk_base.proofs.SortedOnce.{head_or_later, is_head, is_later}
+use Rattle.desk_alts.proofs.SetLemmas.{head_below, sorted_none, sorted_consed}
 
 mapped : {X Y : Type 0} (f : X → Y) (xs : List X) (x : X) → Contains xs x → Contains (map f xs) (f x)
 mapped f [] x at = absurd (omega (arith, at.1))

@@ -12,7 +12,7 @@ use Rattle.desk_expr_laws.proofs.Decide.{Decided, decided_le, first_below}
 use Rattle.desk_alts.specs.Sets.{IsTermSet, set_order, AreAlternatives, HasMoreSets, HasMoreTerms, parts_count, first_parts, joined, HasWideFrontOf, HasWideFront, HasWidePart}
 use Rattle.desk_alts.specs.SetLaws.{set_total}
 use Rattle.desk_alts.proofs.Antichains.{at_most}
-use Rattle.desk_alts.proofs.SetLemmas.{not_below_own}
+use Rattle.desk_base.proofs.SortedOnce.{not_below_own}
 use Rattle.desk_alts.proofs.Widths.{one_place}
 use Rattle.desk_alts_laws.proofs.Alternatives.{terms_exist, one_list_of_terms, alternatives_exist}
 

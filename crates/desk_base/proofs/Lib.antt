@@ -4,3 +4,4 @@ pub mod Bools
 pub mod Numbers
 pub mod Texts
 pub mod Results
+pub mod SortedOnce

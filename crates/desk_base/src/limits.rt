@@ -70,5 +70,12 @@ pub const NUMBER: u64 = 9_223_372_036_854_775_807;
 /// The bytes of the longest line of a script that may be a request, without its end.
 pub const LINE_BYTES: usize = 8_388_608;
 
+/// How often a script reads.
+pub const SCRIPT_READS: u32 = 1_048_576;
+
+/// How many bytes of a file are read that is handed in. Documents and catalogues have far fewer, so what is longer is refused for its
+/// size by what was read of it.
+pub const INPUT_BYTES: usize = 67_108_864;
+
 /// How many files a source tree may have of which something is gathered.
 pub const TREE_FILES: usize = 10_000;

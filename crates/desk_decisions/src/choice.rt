@@ -1,14 +1,14 @@
 //! Terms are chosen for the packages of a release, and choices dropped.
 
 ghost use Rattle.std.specs.Prelude.{◌≡◌, ◌≤◌, ◌<◌, ◌+◌, ◌++◌, ◌∷◌, [], IfOk, IfErr, OnOk, false, MatchOption, insert, map, length, Ok, Some, None, Option, filter};
-ghost use Rattle.std.specs.Option.{option_copied};
-ghost use Rattle.desk_rows.specs.Readings.{Readings};
+ghost use Rattle.desk_rows.specs.Readings.{Readings, TellsVerdict};
 ghost use Rattle.desk_rows.specs.Faults.{MayFail};
 ghost use Rattle.desk_rows.specs.Texts.{put_new, sorted_set};
 ghost use Rattle.desk_rows.specs.Tables.{choice_row};
 ghost use Rattle.desk_rows.specs.Answers.{refused_or};
 ghost use Rattle.desk_history.specs.FromTables.{chosen_change};
 ghost use Rattle.desk_access.specs.Seen.{Looked, OfRows};
+ghost use Rattle.desk_packages.specs.Claims.{read_claim};
 ghost use Rattle.desk_access.specs.Plans.{IsPlan, IsPlanOf, IsSound, Plans, SparesStore};
 ghost use Rattle.desk_decisions.specs.Walks.{AreTermsOf, choose_for, choose_found, judged, IsFound, IsOpenPlace};
 ghost use Rattle.desk_decisions.specs.Dropping.{drop_answer, unchoose_in};
@@ -21,7 +21,7 @@ use crate::release::unready;
 use desk_access::store::Store;
 use desk_access::texts::Texts;
 use desk_base::{Items, Text};
-use desk_packages::conclusion_of;
+use desk_packages::{Claim, claim_of};
 use desk_rows::{
     Change, ChoiceRow, Conclusion, Fault, PackageRow, Plan, Refusal, ReleaseState, Verdict,
 };
@@ -104,24 +104,53 @@ fn refusal_of(
     }
 }
 
-/// What stands against the terms for a package with this conclusion.
+fn unconcluded(row: &PackageRow) -> Result<Option<Refusal>, AllocError>
+    ensures { IfOk result (λ refusal. refusal ≡ Some (Refusal.NoConclusion row.now.document row.now.id)) }
+{
+    Ok(Some(Refusal::NoConclusion {
+        document: row.document,
+        package_id: row.id.clone()?,
+    }))
+}
+
+/// What a reader tells of terms and the text of a conclusion.
+fn verdict_on<T: Texts>(
+    alloc: Global,
+    texts: &T,
+    conclusion: &Conclusion,
+    terms: &[Text],
+) -> Result<Option<Verdict>, AllocError>
+    ensures { (w : Readings) → T.are_right w → IfOk result (TellsVerdict w conclusion.now.profile conclusion.now.text terms.now) }
+{
+    texts.verdict(
+        alloc,
+        conclusion.profile,
+        conclusion.text.as_str(),
+        terms,
+    )
+}
+
+/// What stands against the terms for a package with this claim. Its text is read once.
 fn judge<T: Texts>(
     alloc: Global,
     texts: &T,
-    conclusion: Option<&Conclusion>,
+    claim: &Claim,
     row: &PackageRow,
     terms: &[Text],
 ) -> Result<Option<Refusal>, AllocError>
-    ensures { (w : Readings) → T.are_right w → IfOk result (λ refusal. refused_or refusal Done ≡ choose_for w terms.now (option_copied conclusion.entry) row.now) }
+    ensures { (w : Readings) → T.are_right w → IfOk result (λ refusal. refused_or refusal Done ≡ choose_for w terms.now (read_claim w claim.now) row.now) }
 {
-    let Some(found) = conclusion else {
-        return Ok(Some(Refusal::NoConclusion {
-            document: row.document,
-            package_id: row.id.clone()?,
-        }));
-    };
-    let verdict = texts.verdict(alloc, found.profile, found.text.as_str(), terms)?;
-    refusal_of(alloc, terms, verdict)
+    match claim {
+        Claim::Office(conclusion) => match verdict_on(alloc, texts, conclusion, terms)? {
+            Some(verdict) => refusal_of(alloc, terms, verdict),
+            None => Ok(Some(Refusal::NotEnough)),
+        },
+        Claim::Field(conclusion) => match verdict_on(alloc, texts, conclusion, terms)? {
+            Some(verdict) => refusal_of(alloc, terms, verdict),
+            None => unconcluded(row),
+        },
+        Claim::Nothing => unconcluded(row),
+    }
 }
 
 fn choice_rows(
@@ -223,20 +252,20 @@ fn find_place<S: Store>(
     Ok(open_place(found.state, is_attached, place))
 }
 
-/// Chooses terms that were read, at a place with this conclusion.
+/// Chooses terms that were read, at a place with this claim.
 fn choose_at<T: Texts>(
     alloc: Global,
     texts: &T,
     release: &Text,
     place: &Place,
-    conclusion: Option<&Conclusion>,
+    claim: &Claim,
     package_id: &Text,
     terms: Items<Text>,
 ) -> Result<Plan, AllocError>
-    ensures plan { (w : Readings) → T.are_right w → IfOk result (IsPlan (choose_for w terms (option_copied conclusion.entry) place.now.row) (chosen_change release.now place.now.document package_id.now (sorted_set terms))) }
+    ensures plan { (w : Readings) → T.are_right w → IfOk result (IsPlan (choose_for w terms (read_claim w claim.now) place.now.row) (chosen_change release.now place.now.document package_id.now (sorted_set terms))) }
     ensures sound { IfOk result IsSound }
 {
-    if let Some(refusal) = judge(alloc, texts, conclusion, &place.row, terms.as_slice())? {
+    if let Some(refusal) = judge(alloc, texts, claim, &place.row, terms.as_slice())? {
         return Ok(refused(refusal));
     }
     Ok(done(chosen(alloc, release, place.document, package_id, terms)?))
@@ -259,15 +288,9 @@ fn choose_terms<T: Texts, S: Store>(
     match find_place(store, release, document, package_id)? {
         Found::Nowhere(refusal) => Ok(refused(refusal)),
         Found::Here(place) => {
-            let conclusion = conclusion_of(alloc, texts, store, &place.row)?;
+            let claim = claim_of(store, &place.row)?;
             Ok(choose_at(
-                alloc,
-                texts,
-                release,
-                &place,
-                conclusion.as_ref(),
-                package_id,
-                terms,
+                alloc, texts, release, &place, &claim, package_id, terms,
             )?)
         }
     }

@@ -1,4 +1,3 @@
-pub mod SortedOnce
 pub mod UsedLemmas
 pub mod ListLemmas
 mod SetLemmas

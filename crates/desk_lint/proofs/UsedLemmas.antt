@@ -17,7 +17,7 @@ use Rattle.desk_lint.specs.declared.lists.Lint.{Lint}
 use Rattle.desk_lint.specs.Texts.{text_files}
 use Rattle.desk_lint.specs.Lists.{lists_of, IsLint}
 use Rattle.desk_lint.specs.Used.{term_keys, keys_in, Uses, SomeOf, AreUsed}
-use Rattle.desk_lint.proofs.SortedOnce.{same_sorted}
+use Rattle.desk_base.proofs.SortedOnce.{same_sorted}
 use Rattle.desk_base.specs.contracts.key.KeyOrd.TheImpl.Laws.{total-law}
 use Rattle.std.specs.Ordering.{nat_cmp}
 use Rattle.std.specs.Cmp.Lexicographic.{slice_cmp}

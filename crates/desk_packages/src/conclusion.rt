@@ -1,18 +1,28 @@
 //! The conclusion in force for a package.
 
 ghost use Rattle.std.specs.Prelude.{◌≡◌, IfOk, IfErr};
-ghost use Rattle.std.specs.Option.{option_map};
 ghost use Rattle.desk_rows.specs.Readings.{Readings};
 ghost use Rattle.desk_rows.specs.Faults.{MayFail};
-ghost use Rattle.desk_rows.specs.History.{expression_in};
-ghost use Rattle.desk_rows.specs.Conclusions.{concluded_as, profile_in};
+ghost use Rattle.desk_rows.specs.Conclusions.{profile_in};
 ghost use Rattle.desk_history.specs.FromTables.{conclusion_found};
 ghost use Rattle.desk_access.specs.Seen.{Looked, OfRows};
+ghost use Rattle.desk_packages.specs.Claims.{read_claim};
 
 use desk_access::store::Store;
 use desk_access::texts::Texts;
 use desk_rows::{Conclusion, Fault, PackageRow, Profile};
-use std::alloc::{AllocError, Global};
+use std::alloc::Global;
+
+/// What may be the conclusion in force for a package.
+#[derive(Drop)]
+pub enum Claim {
+    /// The office's, which was read when it was recorded.
+    Office(Conclusion),
+    /// The package's own field, which is a conclusion where it is an expression.
+    Field(Conclusion),
+    /// Neither stands.
+    Nothing,
+}
 
 /// The profile of a package's document.
 fn profile_of<S: Store>(store: &mut S, row: &PackageRow) -> Result<Profile, Fault>
@@ -26,24 +36,26 @@ fn profile_of<S: Store>(store: &mut S, row: &PackageRow) -> Result<Profile, Faul
     }
 }
 
-/// A package's own field, where it is an expression by this profile.
-fn own_conclusion<T: Texts>(
-    alloc: Global,
-    texts: &T,
-    profile: Profile,
-    row: &PackageRow,
-) -> Result<Option<Conclusion>, AllocError>
-    ensures { (w : Readings) → T.are_right w → IfOk result (λ found. found ≡ option_map (concluded_as profile) (expression_in w profile row.now.concluded)) }
+/// What may be the conclusion in force for a package, its text not read.
+pub fn claim_of<S: Store>(store: &mut S, row: &PackageRow) -> Result<Claim, Fault>
+    ensures found { (w : Readings) → IfOk result (λ claim. OfRows (λ t. read_claim w claim ≡ conclusion_found w t row.now) (S.seen store.old) (S.seen store.new)) }
+    ensures kept { Looked (S.seen store.old) (S.seen store.new) result }
+    ensures fault { IfErr result (MayFail S.tells) }
 {
-    if let Some(text) = &row.concluded {
-        if texts.is_expression(alloc, profile, text.as_str())? {
-            return Ok(Some(Conclusion {
-                profile,
-                text: text.clone()?,
-            }));
-        }
+    if let Some(text) = store.conclusion(row.document, row.id.as_str())? {
+        return Ok(Claim::Office(Conclusion {
+            profile: Profile::Capitals,
+            text,
+        }));
     }
-    Ok(None)
+    let profile = profile_of(store, row)?;
+    match &row.concluded {
+        Some(text) => Ok(Claim::Field(Conclusion {
+            profile,
+            text: text.clone()?,
+        })),
+        None => Ok(Claim::Nothing),
+    }
 }
 
 /// The conclusion in force for a package: the office's, else its own field, where that is an expression.
@@ -57,12 +69,14 @@ pub fn conclusion_of<T: Texts, S: Store>(
     ensures kept { Looked (S.seen store.old) (S.seen store.new) result }
     ensures fault { IfErr result (MayFail S.tells) }
 {
-    if let Some(text) = store.conclusion(row.document, row.id.as_str())? {
-        return Ok(Some(Conclusion {
-            profile: Profile::Capitals,
-            text,
-        }));
+    match claim_of(store, row)? {
+        Claim::Office(conclusion) => Ok(Some(conclusion)),
+        Claim::Field(conclusion) => {
+            if texts.is_expression(alloc, conclusion.profile, conclusion.text.as_str())? {
+                return Ok(Some(conclusion));
+            }
+            Ok(None)
+        }
+        Claim::Nothing => Ok(None),
     }
-    let profile = profile_of(store, row)?;
-    Ok(own_conclusion(alloc, texts, profile, row)?)
 }

@@ -6,6 +6,6 @@ mod conclusion;
 mod rule;
 mod shipped;
 
-pub use conclusion::conclusion_of;
+pub use conclusion::{Claim, claim_of, conclusion_of};
 pub use rule::rule_adopted;
 pub use shipped::shipped_packages;

@@ -1,14 +1,11 @@
 //! The files of documents and catalogues.
 
+use desk_base::limits::INPUT_BYTES;
 use desk_subcommands::Failure;
 use std::alloc::AllocError;
 use std::fs::File;
 use std::io::{self, Read};
 use std::rt::Files;
-
-/// How many bytes of a file are read. A document and a catalogue have at most 4 MiB, so what is longer than this is refused for its
-/// size by what was read of it.
-const MOST_BYTES: usize = 67_108_864;
 
 // Takes the last character of some bytes away, which may have been cut.
 fn drop_last_character(bytes: &mut Vec<u8>) {
@@ -23,9 +20,9 @@ fn drop_last_character(bytes: &mut Vec<u8>) {
 fn read_at<R: Files + AllocGlobal + Clone + Drop>(rt: &R, path: &str) -> io::Result<Vec<u8>> {
     let mut bytes = Vec::new(rt.alloc());
     File::open(rt, path)?
-        .take(MOST_BYTES as u64)
+        .take(INPUT_BYTES as u64)
         .read_to_end(&mut bytes)?;
-    if bytes.len() >= MOST_BYTES {
+    if bytes.len() >= INPUT_BYTES {
         drop_last_character(&mut bytes);
     }
     Ok(bytes)

@@ -8,13 +8,11 @@ ghost use Rattle.desk_script.specs.Gathered.{Shows};
 
 use crate::line::Line;
 use crate::serving::{ScriptEnd, ScriptFault, serve};
+use desk_base::limits::SCRIPT_READS;
 use desk_core::desk::Desk;
 use memchr::memchr;
 use std::alloc::Global;
 use std::io::{Read, Write};
-
-/// How often a script reads.
-const TURNS: u32 = 1_048_576;
 
 /// The bytes that are read at once.
 const PIECE_BYTES: usize = 65_536;
@@ -124,7 +122,7 @@ pub fn script<D: Desk, R: Read, W: Write>(
     };
     let mut line = Line::new(alloc);
     let mut piece = [0u8; PIECE_BYTES];
-    for turn in 0..TURNS {
+    for turn in 0..SCRIPT_READS {
         let Ok(taken) = reader.read(&mut piece) else {
             return Err(ScriptFault::Read);
         };

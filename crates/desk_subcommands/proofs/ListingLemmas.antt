@@ -13,7 +13,7 @@ use Rattle.desk_expr.specs.Printing.{printed_term}
 use Rattle.desk_expr.specs.Meaning.{IsMinimal}
 use Rattle.desk_alts.specs.Sets.{AreAlternatives, IsTermSet, set_order}
 use Rattle.desk_alts.specs.SetLaws.{set_total}
-use Rattle.desk_alts.proofs.SetLemmas.{same_sorted}
+use Rattle.desk_base.proofs.SortedOnce.{same_sorted}
 use Rattle.std.proofs.lemmas.List.Elements.{All-contains}
 use Rattle.desk_subcommands.specs.declared.report.Report.TheVariants.{Fault}
 use Rattle.desk_subcommands.specs.declared.listing.Listing.{Listing}

@@ -74,3 +74,8 @@ abbrev pub Judges : Profile → List ℕ → List (List ℕ) → Verdict → Typ
 Judges profile text words verdict =
     ((e : Tree) × (ts : List Term) × IsExpression profile text e × AreTerms words ts × IsVerdict e ts verdict)
     ⊎ (((e : Tree) (ts : List Term) → IsExpression profile text e → AreTerms words ts → ⊥) × (verdict ≡ NotEnough))
+
+-- the same, and none where the value is no expression, for which no terms are enough
+abbrev pub JudgesIfAny : Profile → List ℕ → List (List ℕ) → Option Verdict → Type 0
+JudgesIfAny profile text words (Some verdict) = Tells profile text true × Judges profile text words verdict
+JudgesIfAny profile text words None = Tells profile text false × Judges profile text words NotEnough

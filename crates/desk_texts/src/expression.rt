@@ -2,7 +2,7 @@
 
 ghost use Rattle.std.specs.Prelude.{◌≡◌, ◌<◌, IfOk, OnOk, IsTrue, Contains};
 ghost use Rattle.desk_expr.specs.Faults.{fault_number};
-ghost use Rattle.desk_texts.specs.Expressions.{word_place, IsRead, Tells, fault_of, IsFault, IsVerdict, Judges};
+ghost use Rattle.desk_texts.specs.Expressions.{word_place, IsRead, Tells, fault_of, IsFault, IsVerdict, JudgesIfAny};
 ghost use Rattle.desk_findings.specs.Fields.{is_no_licence};
 
 use crate::term::read_terms;
@@ -94,21 +94,20 @@ fn judged(expr: &Expr, terms: &[Term]) -> Verdict
     }
 }
 
-/// What texts that spell terms are to the expression of a value by a profile of operators.
+/// What texts that spell terms are to the expression of a value by a profile of operators, if it is one.
 pub(crate) fn verdict(
     alloc: Global,
     text: &str,
     profile: Profile,
     words: &[Text],
-) -> Result<Verdict, AllocError>
-    ensures { IfOk result (Judges profile text.now words.now) }
+) -> Result<Option<Verdict>, AllocError>
+    ensures { IfOk result (JudgesIfAny profile text.now words.now) }
 {
-    let expr = match read_expression(alloc, text, profile)? {
-        Some(expr) => expr,
-        None => return Ok(Verdict::NotEnough),
+    let Some(expr) = read_expression(alloc, text, profile)? else {
+        return Ok(None);
     };
     match read_terms(alloc, words)? {
-        Some(terms) => Ok(judged(&expr, terms.as_slice())),
-        None => Ok(Verdict::NotEnough),
+        Some(terms) => Ok(Some(judged(&expr, terms.as_slice()))),
+        None => Ok(Some(Verdict::NotEnough)),
     }
 }

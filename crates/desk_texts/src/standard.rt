@@ -79,7 +79,7 @@ impl Texts for Standard {
         profile: Profile,
         text: &str,
         terms: &[Text],
-    ) -> Result<Verdict, AllocError> {
+    ) -> Result<Option<Verdict>, AllocError> {
         verdict(alloc, text, profile, terms)
     }
 
