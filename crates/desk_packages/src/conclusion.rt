@@ -26,7 +26,8 @@ pub enum Claim {
 
 /// The profile of a package's document.
 fn profile_of<S: Store>(store: &mut S, row: &PackageRow) -> Result<Profile, Fault>
-    ensures found { IfOk result (λ profile. OfRows (λ t. profile ≡ profile_in t.document row.now) (S.seen store.old) (S.seen store.new)) }
+    ensures found { IfOk result (λ profile.
+        OfRows (λ t. profile ≡ profile_in t.document row.now) (S.seen store.old) (S.seen store.new)) }
     ensures kept { Looked (S.seen store.old) (S.seen store.new) result }
     ensures fault { IfErr result (MayFail S.tells) }
 {
@@ -38,7 +39,9 @@ fn profile_of<S: Store>(store: &mut S, row: &PackageRow) -> Result<Profile, Faul
 
 /// What may be the conclusion in force for a package, its text not read.
 pub fn claim_of<S: Store>(store: &mut S, row: &PackageRow) -> Result<Claim, Fault>
-    ensures found { (w : Readings) → IfOk result (λ claim. OfRows (λ t. read_claim w claim ≡ conclusion_found w t row.now) (S.seen store.old) (S.seen store.new)) }
+    ensures found { (w : Readings) → IfOk result (λ claim.
+        OfRows (λ t. read_claim w claim ≡ conclusion_found w t row.now)
+        (S.seen store.old) (S.seen store.new)) }
     ensures kept { Looked (S.seen store.old) (S.seen store.new) result }
     ensures fault { IfErr result (MayFail S.tells) }
 {
@@ -65,7 +68,8 @@ pub fn conclusion_of<T: Texts, S: Store>(
     store: &mut S,
     row: &PackageRow,
 ) -> Result<Option<Conclusion>, Fault>
-    ensures found { (w : Readings) → T.are_right w → IfOk result (λ found. OfRows (λ t. found ≡ conclusion_found w t row.now) (S.seen store.old) (S.seen store.new)) }
+    ensures found { (w : Readings) → T.are_right w → IfOk result (λ found.
+        OfRows (λ t. found ≡ conclusion_found w t row.now) (S.seen store.old) (S.seen store.new)) }
     ensures kept { Looked (S.seen store.old) (S.seen store.new) result }
     ensures fault { IfErr result (MayFail S.tells) }
 {

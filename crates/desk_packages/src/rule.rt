@@ -22,14 +22,13 @@ fn adopted<T: Texts, S: Store>(
     document: u32,
     term: &Text,
 ) -> Result<Option<Text>, Fault>
-    ensures found { (w : Readings) → T.are_right w → IfOk result (λ found. OfRows (λ t. found ≡ adopted w t.adoption document term.now) (S.seen store.old) (S.seen store.new)) }
+    ensures found { (w : Readings) → T.are_right w → IfOk result (λ found.
+        OfRows (λ t. found ≡ adopted w t.adoption document term.now)
+        (S.seen store.old) (S.seen store.new)) }
     ensures kept { Looked (S.seen store.old) (S.seen store.new) result }
     ensures fault { IfErr result (MayFail S.tells) }
 {
-    let Ok(reference) = texts.reference(alloc, term.as_str()) else {
-        return Err(Fault::Memory);
-    };
-    let Some(reference) = reference else {
+    let Some(reference) = texts.reference(alloc, term.as_str())? else {
         return Ok(Some(term.clone()?));
     };
     let Some(licence) = store.adoption(document, reference.as_str())? else {
@@ -47,7 +46,9 @@ pub fn rule_adopted<T: Texts, S: Store>(
     document: u32,
     term: &Text,
 ) -> Result<Option<Rule>, Fault>
-    ensures found { (w : Readings) → T.are_right w → IfOk result (λ found. OfRows (λ t. found ≡ rule_adopted w t.adoption (rules_found t) form.now document term.now) (S.seen store.old) (S.seen store.new)) }
+    ensures found { (w : Readings) → T.are_right w → IfOk result (λ found.
+        OfRows (λ t. found ≡ rule_adopted w t.adoption (rules_found t) form.now document term.now)
+        (S.seen store.old) (S.seen store.new)) }
     ensures kept { Looked (S.seen store.old) (S.seen store.new) result }
     ensures fault { IfErr result (MayFail S.tells) }
 {

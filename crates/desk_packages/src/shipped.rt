@@ -16,16 +16,16 @@ pub fn shipped_packages<S: Store>(
     store: &mut S,
     attached: &[AttachedRow],
 ) -> Result<Vec<PackageRow>, Fault>
-    ensures found { IfOk result (λ rows. OfRows (λ t. rows.items ≡ shipped_of attached.now t.packages) (S.seen store.old) (S.seen store.new)) }
+    ensures found { IfOk result (λ rows.
+        OfRows (λ t. rows.items ≡ shipped_of attached.now t.packages)
+        (S.seen store.old) (S.seen store.new)) }
     ensures kept { Looked (S.seen store.old) (S.seen store.new) result }
     ensures fault { IfErr result (MayFail S.tells) }
 {
     let mut all = Vec::new(alloc);
     for row in attached {
         let mut more = store.shipped(row.document)?;
-        let Ok(()) = all.append(&mut more) else {
-            return Err(Fault::Memory);
-        };
+        all.append(&mut more)?;
     }
     Ok(all)
 }
