@@ -79,6 +79,7 @@ LIMITS = [
     ("REFUSALS", r"has more than ([\d,]+) minimal sets", ["listed_sets"]),
     ("REFUSALS", r"has more than ([\d,]+) distinct terms", ["listed_terms"]),
     ("REFUSALS", r"the (\d+)th parenthesis", ["open_parentheses"]),
+    ("REQUESTS", r"reads of a script \| ([\d,]+), of", ["script_reads"]),
 ]
 
 

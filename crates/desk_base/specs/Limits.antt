@@ -89,6 +89,10 @@ note_bytes = 1024
 abbrev pub line_bytes : ℕ
 line_bytes = 8388608
 
+-- how often a script reads
+abbrev pub script_reads : ℕ
+script_reads = 1048576
+
 -- how many files a source tree may have of which something is gathered
 abbrev pub tree_files : ℕ
 tree_files = 10000

@@ -1,5 +1,6 @@
 -- Why a script stopped.
 use Rattle.std.specs.Prelude.{ℕ, ◌≤◌}
+use Rattle.desk_base.specs.Limits as most
 use Rattle.desk_script.specs.declared.serving.ScriptFault.{ScriptFault}
 use Rattle.desk_script.specs.declared.serving.ScriptFault.TheVariants.{Read, Write, Turns, Memory}
 
@@ -20,6 +21,6 @@ IsOfWriter Turns = ⊥
 -- a reader that gave so many bytes and failed, or was asked too often: each time it gave a byte at least
 abbrev pub IsOfReader : ScriptFault → ℕ → Type 0
 IsOfReader Read count = Unit {0}
-IsOfReader Turns count = 1048576 ≤ count
+IsOfReader Turns count = most.script_reads ≤ count
 IsOfReader Write count = ⊥
 IsOfReader Memory count = ⊥

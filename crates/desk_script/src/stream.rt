@@ -2,6 +2,7 @@
 
 ghost use Rattle.std.specs.Prelude.{◌≡◌, ◌≢◌, ◌∷◌, ◌++◌, ◌+◌, ◌*◌, ◌≤◌, ◌<◌, ◌^◌, [], List, ℕ, OnOk, IfOk, IfErr, Option, MatchOption, All, length, ◌⊎◌};
 ghost use Rattle.std.specs.Io.KnownBytes.{Consumes};
+ghost use Rattle.desk_base.specs.Limits.{script_reads};
 ghost use Rattle.desk_script.specs.Faults.{IsOfReader, IsOfReply};
 ghost use Rattle.desk_script.specs.Script.{AreLeft, HasServed, IsCutOff, IsFront, IsFrontAt, IsPart, IsScript};
 ghost use Rattle.desk_script.specs.Gathered.{Shows};
@@ -114,7 +115,7 @@ pub fn script<D: Desk, R: Read, W: Write>(
     ensures fault { IfErr result (λ fault. IsOfReply fault ⊎ ((bytes : List ℕ) × IsOfReader fault (length bytes)
         × Consumes (R.remaining reader.old) (R.remaining reader.new) bytes
         × IsCutOff D.are_right D.tells D.seen bytes desk.old desk.new (W.contents writer.old) (W.contents writer.new))) }
-    ensures taken { (bytes : List ℕ) × Consumes (R.remaining reader.old) (R.remaining reader.new) bytes × (length bytes ≤ 1048576 * 65536) }
+    ensures taken { (bytes : List ℕ) × Consumes (R.remaining reader.old) (R.remaining reader.new) bytes × (length bytes ≤ script_reads * 65536) }
 {
     let mut end = ScriptEnd {
         refused: 0,
