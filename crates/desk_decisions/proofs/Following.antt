@@ -1,13 +1,12 @@
 -- The change of each command goes on from the rows that it was made for.
 use Rattle.std.proofs.Common.{◌≡◌, ◌∙◌, ℕ, ◌+◌, ◌≤◌, Bool, true, false, cond, List, [], ◌∷◌, length, map, refl, sym, ap, subst, arith}
-use Rattle.std.specs.Prelude.{◌==◌, ◌&&◌, nat_lt, nat_le, not, filter, find, Option, Some, None, is_some, if◌then◌else◌}
+use Rattle.std.specs.Prelude.{◌==◌, ◌&&◌, nat_lt, nat_le, not, filter, find, Option, Some, None, is_some}
 use Rattle.std.specs.Option.{option_map, option_map_or, option_and_then}
 use Rattle.desk_base.specs.Day.{is_day}
 use Rattle.desk_rows.specs.Texts.{is_note}
 use Rattle.std.specs.List.{enumerate_from, filter_map, flat_map, list_all, list_any}
 use Rattle.std.specs.Str.{bytes_eq}
 use Rattle.std.proofs.lemmas.List.Folds.{list_all-append}
-use Rattle.std.proofs.lemmas.Slice.Eq.{bytes_eq-Decides}
 use Rattle.desk_base.specs.Limits as most
 use Rattle.std.proofs.lemmas.Bool.Decides.{nat_tests}
 use Rattle.desk_rows.specs.Readings.{Readings}
@@ -19,12 +18,11 @@ use Rattle.desk_rows.specs.declared.command.Command.TheVariants.{LoadCatalogue, 
 use Rattle.desk_rows.specs.Keys.{is_choice_of, is_document, is_duty, is_duty_of, is_package}
 use Rattle.desk_rows.specs.Raised.{owed_code, owed_for, owed_for_terms, owed_under, rule_adopted}
 use Rattle.desk_rows.specs.Texts.{is_release_name}
-use Rattle.desk_rows.specs.Answers.{is_recorded, Choosing, Freezing, refused_first, refused_or, unless, unready, unconcluded, not_enough, not_minimal, is_shipped, verdict_on, first_bad, is_over, gone, settled}
+use Rattle.desk_rows.specs.Answers.{is_recorded, Choosing, Freezing, refused_first, unless, unready, unconcluded, not_enough, not_minimal, is_shipped, verdict_on, first_bad, is_over, gone, settled}
 use Rattle.desk_rows.specs.declared.reading.Rule.{Rule}
 use Rattle.desk_rows.specs.declared.row.AdoptionRow.{AdoptionRow}
 use Rattle.desk_rows.specs.declared.row.PackageRow.{PackageRow}
 use Rattle.desk_rows.specs.declared.row.ReleaseRow.{ReleaseRow}
-use Rattle.desk_rows.specs.declared.state.ReleaseState.{ReleaseState}
 use Rattle.desk_rows.specs.declared.command.Answer.{Answer}
 use Rattle.desk_rows.specs.declared.refusal.Refusal.{Refusal}
 use Rattle.desk_rows.specs.declared.refusal.Refusal.TheVariants as why
@@ -37,10 +35,10 @@ use Rattle.desk_rows.specs.declared.row.ChangeRow.{ChangeRow}
 use Rattle.desk_rows.specs.declared.row.Standing.{Standing}
 use Rattle.desk_rows.specs.declared.state.Word.TheVariants as word
 use Rattle.desk_rows.specs.Tables.{choice_row}
-use Rattle.desk_rows.specs.History.{attached_to, term_set}
+use Rattle.desk_rows.specs.History.{term_set}
 use Rattle.desk_base.proofs.Bools.{and_left, and_right, both}
 use Rattle.desk_base.proofs.Numbers.{same_number}
-use Rattle.desk_history.specs.FromTables.{answer_from, choosing_found, freezing_found, change_for, moved_found, duty_found, new_duty, raised_row, owed_found, steps_found, release_found, release_state_found, state_found, form_found, rules_found, choice_found, shipped_found, conclusion_found, terms_found, standing_found, is_unmet, ends, next_row}
+use Rattle.desk_history.specs.FromTables.{answer_from, choosing_found, freezing_found, change_for, moved_found, duty_found, new_duty, raised_row, owed_found, steps_found, release_found, release_state_found, state_found, form_found, rules_found, choice_found, shipped_found, terms_found, standing_found, is_unmet, ends, next_row}
 use Rattle.desk_access.specs.Follows.{Follows, AreNext, are_numbered, are_first, are_next, are_of_duties, are_open_of, rise}
 use Rattle.desk_base.proofs.Texts.{same_text}
 

@@ -1,4 +1,5 @@
 pub mod Concluding
 pub mod Walks
 pub mod Moving
+pub mod Carrying
 pub mod Dropping

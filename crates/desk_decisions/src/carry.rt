@@ -3,11 +3,10 @@
 ghost use Rattle.std.specs.Prelude.{◌≡◌, IfOk, IfErr, false};
 ghost use Rattle.desk_rows.specs.Readings.{Readings};
 ghost use Rattle.desk_rows.specs.Faults.{MayFail};
-ghost use Rattle.desk_rows.specs.Tables.{applied};
 ghost use Rattle.desk_rows.specs.Answers.{refused_alone};
-ghost use Rattle.desk_access.specs.Seen.{OfRows, Minds, Decides};
+ghost use Rattle.desk_access.specs.Seen.{OfRows, Minds};
 ghost use Rattle.desk_access.specs.Plans.{IsPlanOf, Plans, Carries, SparesStore};
-ghost use Rattle.desk_history.specs.FromTables.{answer_from, change_for};
+ghost use Rattle.desk_decisions.specs.Carrying.{CarriesOutFrom};
 ghost use Rattle.desk_rows.specs.declared.command.Command.TheVariants.{Import};
 
 use crate::catalogue::load_catalogue;
@@ -31,7 +30,8 @@ pub fn plan<T: Texts, S: Store>(
     store: &mut S,
     command: &Command,
 ) -> Result<Plan, Fault>
-    ensures plan { (w : Readings) → T.are_right w → IfOk result (λ plan. OfRows (IsPlanOf w command.now plan) (S.seen store.old) (S.seen store.new)) }
+    ensures plan { (w : Readings) → T.are_right w → IfOk result (λ plan.
+        OfRows (IsPlanOf w command.now plan) (S.seen store.old) (S.seen store.new)) }
     ensures kept { Plans (S.seen store.old) (S.seen store.new) result }
     ensures alone { (w : Readings) → T.are_right w → SparesStore (refused_alone w command.now) result }
     ensures fault { IfErr result (MayFail S.tells) }
@@ -98,8 +98,10 @@ pub fn carry_out<T: Texts, S: Store>(
     command: &Command,
 ) -> Result<Answer, Fault>
     ensures minds { Minds (S.seen store.old) (S.seen store.new) result }
-    ensures decides { (w : Readings) → T.are_right w → Decides S.stands (λ _. Unit {0}) (λ t. t) (λ t. applied (change_for w t command.now) t) (λ t. answer_from w t command.now) (S.seen store.old) (S.seen store.new) result }
-    ensures alone { (w : Readings) → T.are_right w → IfErr result (MayFail (λ fault. refused_alone w command.now ≡ false)) }
+    ensures decides { (w : Readings) → T.are_right w
+        → CarriesOutFrom S.stands w command.now (S.seen store.old) (S.seen store.new) result }
+    ensures alone { (w : Readings) → T.are_right w
+        → IfErr result (MayFail (λ fault. refused_alone w command.now ≡ false)) }
     ensures fault { IfErr result (MayFail S.tells) }
 {
     let decided = plan(alloc, texts, store, command)?;
@@ -115,8 +117,10 @@ pub fn carry_import<T: Texts, S: Store>(
     profile: Profile,
 ) -> Result<Answer, Fault>
     ensures minds { Minds (S.seen store.old) (S.seen store.new) result }
-    ensures decides { (w : Readings) → T.are_right w → Decides S.stands (λ _. Unit {0}) (λ t. t) (λ t. applied (change_for w t (Import bytes profile)) t) (λ t. answer_from w t (Import bytes profile)) (S.seen store.old) (S.seen store.new) result }
-    ensures alone { (w : Readings) → T.are_right w → IfErr result (MayFail (λ fault. refused_alone w (Import bytes profile) ≡ false)) }
+    ensures decides { (w : Readings) → T.are_right w
+        → CarriesOutFrom S.stands w (Import bytes profile) (S.seen store.old) (S.seen store.new) result }
+    ensures alone { (w : Readings) → T.are_right w
+        → IfErr result (MayFail (λ fault. refused_alone w (Import bytes profile) ≡ false)) }
     ensures fault { IfErr result (MayFail S.tells) }
 {
     let decided = import(alloc, texts, store, bytes, profile)?;

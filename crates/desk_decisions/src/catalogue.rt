@@ -42,7 +42,10 @@ fn load_read<S: Store>(
     text: &Text,
     catalogue: Catalogue,
 ) -> Result<Plan, Fault>
-    ensures plan { IfOk result (λ plan. OfRows (λ t. IsPlan (load_answer (Ok catalogue) (loading_found t)) (loaded_change t text.now (Some catalogue)) plan) (S.seen store.old) (S.seen store.new)) }
+    ensures plan { IfOk result (λ plan.
+        OfRows (λ t. IsPlan (load_answer (Ok catalogue) (loading_found t))
+        (loaded_change t text.now (Some catalogue)) plan)
+        (S.seen store.old) (S.seen store.new)) }
     ensures kept { Plans (S.seen store.old) (S.seen store.new) result }
     ensures fault { IfErr result (MayFail S.tells) }
 {
@@ -51,12 +54,8 @@ fn load_read<S: Store>(
         return Ok(refused(Refusal::Full(Limit::Revisions)));
     }
     let revision = count as u32 + 1;
-    let Ok(body) = text.clone() else {
-        return Err(Fault::Memory);
-    };
-    let Ok(rules) = rule_rows(alloc, revision, catalogue.rules.into_vec()) else {
-        return Err(Fault::Memory);
-    };
+    let body = text.clone()?;
+    let rules = rule_rows(alloc, revision, catalogue.rules.into_vec())?;
     Ok(Plan::Make {
         answer: Answer::Revision(revision),
         change: Change::Loaded {
@@ -74,15 +73,14 @@ pub fn load_catalogue<T: Texts, S: Store>(
     store: &mut S,
     text: &Text,
 ) -> Result<Plan, Fault>
-    ensures plan { (w : Readings) → T.are_right w → IfOk result (λ plan. OfRows (IsPlanOf w (LoadCatalogue text.now) plan) (S.seen store.old) (S.seen store.new)) }
+    ensures plan { (w : Readings) → T.are_right w → IfOk result (λ plan.
+        OfRows (IsPlanOf w (LoadCatalogue text.now) plan) (S.seen store.old) (S.seen store.new)) }
     ensures kept { Plans (S.seen store.old) (S.seen store.new) result }
-    ensures alone { (w : Readings) → T.are_right w → SparesStore (refused_alone w (LoadCatalogue text.now)) result }
+    ensures alone { (w : Readings) → T.are_right w
+        → SparesStore (refused_alone w (LoadCatalogue text.now)) result }
     ensures fault { IfErr result (MayFail S.tells) }
 {
-    let Ok(read) = texts.catalogue(alloc, text.as_str()) else {
-        return Err(Fault::Memory);
-    };
-    match read {
+    match texts.catalogue(alloc, text.as_str())? {
         Err(fault) => Ok(refused(Refusal::BadCatalogue(fault))),
         Ok(catalogue) => load_read(alloc, store, text, catalogue),
     }

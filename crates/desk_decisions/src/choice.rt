@@ -49,7 +49,8 @@ fn read_terms<T: Texts>(alloc: Global, texts: &T, words: &[Text]) -> Result<Term
 
 /// Where a term goes among others that are sorted, if it isn't there.
 fn place_of(set: &[Text], term: &Text) -> Option<usize>
-    ensures { MatchOption result (put_new term.now set.now ≡ set.now) (λ place. (place ≤ length set.now) × (put_new term.now set.now ≡ insert set.now place term.now)) }
+    ensures { MatchOption result (put_new term.now set.now ≡ set.now) (λ place.
+        (place ≤ length set.now) × (put_new term.now set.now ≡ insert set.now place term.now)) }
 {
     for (place, other) in set.iter().enumerate() {
         if term.as_str() < other.as_str() {
@@ -138,7 +139,8 @@ fn judge<T: Texts>(
     row: &PackageRow,
     terms: &[Text],
 ) -> Result<Option<Refusal>, AllocError>
-    ensures { (w : Readings) → T.are_right w → IfOk result (λ refusal. refused_or refusal Done ≡ choose_for w terms.now (read_claim w claim.now) row.now) }
+    ensures { (w : Readings) → T.are_right w → IfOk result (λ refusal.
+        refused_or refusal Done ≡ choose_for w terms.now (read_claim w claim.now) row.now) }
 {
     match claim {
         Claim::Office(conclusion) => match verdict_on(alloc, texts, conclusion, terms)? {
@@ -182,7 +184,8 @@ fn chosen(
     package_id: &Text,
     terms: Items<Text>,
 ) -> Result<Change, AllocError>
-    ensures { IfOk result (λ change. change ≡ chosen_change release.now document package_id.now (sorted_set terms)) }
+    ensures { IfOk result
+        (λ change. change ≡ chosen_change release.now document package_id.now (sorted_set terms)) }
 {
     let set = sorted_set(alloc, terms)?;
     let rows = choice_rows(alloc, release, document, package_id, set)?;
@@ -231,7 +234,9 @@ fn find_place<S: Store>(
     document: u64,
     package_id: &Text,
 ) -> Result<Found, Fault>
-    ensures found { IfOk result (λ found. OfRows (λ t. IsFound t release.now document package_id.now found) (S.seen store.old) (S.seen store.new)) }
+    ensures found { IfOk result (λ found.
+        OfRows (λ t. IsFound t release.now document package_id.now found)
+        (S.seen store.old) (S.seen store.new)) }
     ensures kept { Looked (S.seen store.old) (S.seen store.new) result }
     ensures fault { IfErr result (MayFail S.tells) }
 {
@@ -262,7 +267,9 @@ fn choose_at<T: Texts>(
     package_id: &Text,
     terms: Items<Text>,
 ) -> Result<Plan, AllocError>
-    ensures plan { (w : Readings) → T.are_right w → IfOk result (IsPlan (choose_for w terms (read_claim w claim.now) place.now.row) (chosen_change release.now place.now.document package_id.now (sorted_set terms))) }
+    ensures plan { (w : Readings) → T.are_right w
+        → IfOk result (IsPlan (choose_for w terms (read_claim w claim.now) place.now.row)
+        (chosen_change release.now place.now.document package_id.now (sorted_set terms))) }
     ensures sound { IfOk result IsSound }
 {
     if let Some(refusal) = judge(alloc, texts, claim, &place.row, terms.as_slice())? {
@@ -281,7 +288,10 @@ fn choose_terms<T: Texts, S: Store>(
     package_id: &Text,
     terms: Items<Text>,
 ) -> Result<Plan, Fault>
-    ensures plan { (w : Readings) → T.are_right w → IfOk result (λ plan. OfRows (λ t. IsPlan (choose_found w t release.now document package_id.now terms) (chosen_change release.now document package_id.now (sorted_set terms)) plan) (S.seen store.old) (S.seen store.new)) }
+    ensures plan { (w : Readings) → T.are_right w → IfOk result (λ plan.
+        OfRows (λ t. IsPlan (choose_found w t release.now document package_id.now terms)
+        (chosen_change release.now document package_id.now (sorted_set terms)) plan)
+        (S.seen store.old) (S.seen store.new)) }
     ensures kept { Plans (S.seen store.old) (S.seen store.new) result }
     ensures fault { IfErr result (MayFail S.tells) }
 {
@@ -306,15 +316,15 @@ pub fn choose<T: Texts, S: Store>(
     package_id: &Text,
     words: &Items<Text>,
 ) -> Result<Plan, Fault>
-    ensures plan { (w : Readings) → T.are_right w → IfOk result (λ plan. OfRows (IsPlanOf w (Choose release.now document package_id.now words.now) plan) (S.seen store.old) (S.seen store.new)) }
+    ensures plan { (w : Readings) → T.are_right w → IfOk result (λ plan.
+        OfRows (IsPlanOf w (Choose release.now document package_id.now words.now) plan)
+        (S.seen store.old) (S.seen store.new)) }
     ensures kept { Plans (S.seen store.old) (S.seen store.new) result }
-    ensures alone { (w : Readings) → T.are_right w → SparesStore (refused_alone w (Choose release.now document package_id.now words.now)) result }
+    ensures alone { (w : Readings) → T.are_right w
+        → SparesStore (refused_alone w (Choose release.now document package_id.now words.now)) result }
     ensures fault { IfErr result (MayFail S.tells) }
 {
-    let Ok(read) = read_terms(alloc, texts, words.as_slice()) else {
-        return Err(Fault::Memory);
-    };
-    match read {
+    match read_terms(alloc, texts, words.as_slice())? {
         TermsRead::BadTerm(i) => Ok(refused(Refusal::BadTerm(i))),
         TermsRead::Terms(terms) => choose_terms(
             alloc, texts, store, release, document, package_id, terms,
@@ -347,7 +357,8 @@ fn unchoose_terms(
     package_id: &Text,
     terms: &[Text],
 ) -> Result<Plan, AllocError>
-    ensures plan { IfOk result (IsPlan (drop_answer document package_id.now terms.now) (chosen_change release.now document package_id.now [])) }
+    ensures plan { IfOk result (IsPlan (drop_answer document package_id.now terms.now)
+        (chosen_change release.now document package_id.now [])) }
     ensures sound { IfOk result IsSound }
 {
     if terms.is_empty() {
@@ -368,7 +379,10 @@ fn unchoose_in<S: Store>(
     document: u32,
     package_id: &Text,
 ) -> Result<Plan, Fault>
-    ensures plan { IfOk result (λ plan. OfRows (λ t. IsPlan (unchoose_in t state release.now document package_id.now) (chosen_change release.now document package_id.now []) plan) (S.seen store.old) (S.seen store.new)) }
+    ensures plan { IfOk result (λ plan.
+        OfRows (λ t. IsPlan (unchoose_in t state release.now document package_id.now)
+        (chosen_change release.now document package_id.now []) plan)
+        (S.seen store.old) (S.seen store.new)) }
     ensures kept { Plans (S.seen store.old) (S.seen store.new) result }
     ensures fault { IfErr result (MayFail S.tells) }
 {
@@ -393,9 +407,12 @@ pub fn unchoose<S: Store>(
     document: u64,
     package_id: &Text,
 ) -> Result<Plan, Fault>
-    ensures plan { (w : Readings) → IfOk result (λ plan. OfRows (IsPlanOf w (Unchoose release.now document package_id.now) plan) (S.seen store.old) (S.seen store.new)) }
+    ensures plan { (w : Readings) → IfOk result (λ plan.
+        OfRows (IsPlanOf w (Unchoose release.now document package_id.now) plan)
+        (S.seen store.old) (S.seen store.new)) }
     ensures kept { Plans (S.seen store.old) (S.seen store.new) result }
-    ensures alone { (w : Readings) → SparesStore (refused_alone w (Unchoose release.now document package_id.now)) result }
+    ensures alone { (w : Readings)
+        → SparesStore (refused_alone w (Unchoose release.now document package_id.now)) result }
     ensures fault { IfErr result (MayFail S.tells) }
 {
     let Some(row) = store.release(release.as_str())? else {

@@ -19,7 +19,8 @@ use desk_rows::{AdoptionRow, Change, ConclusionRow, Fault, Limit, Plan, Profile,
 use std::alloc::{AllocError, Global};
 
 fn concluded(document: u32, package_id: &Text, expression: &Text) -> Result<Plan, AllocError>
-    ensures { IfOk result (λ plan. plan ≡ Plan.Make Done (Change.Concluded (conclusion_row document package_id.now expression.now))) }
+    ensures { IfOk result (λ plan. plan
+        ≡ Plan.Make Done (Change.Concluded (conclusion_row document package_id.now expression.now))) }
 {
     Ok(done(Change::Concluded(ConclusionRow {
         document,
@@ -35,7 +36,10 @@ fn conclude_for<S: Store>(
     package_id: &Text,
     expression: &Text,
 ) -> Result<Plan, Fault>
-    ensures plan { IfOk result (λ plan. OfRows (λ t. IsPlan (conclude_known t document package_id.now) (Change.Concluded (conclusion_row document package_id.now expression.now)) plan) (S.seen store.old) (S.seen store.new)) }
+    ensures plan { IfOk result (λ plan.
+        OfRows (λ t. IsPlan (conclude_known t document package_id.now)
+        (Change.Concluded (conclusion_row document package_id.now expression.now)) plan)
+        (S.seen store.old) (S.seen store.new)) }
     ensures kept { Plans (S.seen store.old) (S.seen store.new) result }
     ensures fault { IfErr result (MayFail S.tells) }
 {
@@ -60,15 +64,15 @@ pub fn conclude<T: Texts, S: Store>(
     package_id: &Text,
     expression: &Text,
 ) -> Result<Plan, Fault>
-    ensures plan { (w : Readings) → T.are_right w → IfOk result (λ plan. OfRows (IsPlanOf w (Conclude document package_id.now expression.now) plan) (S.seen store.old) (S.seen store.new)) }
+    ensures plan { (w : Readings) → T.are_right w → IfOk result (λ plan.
+        OfRows (IsPlanOf w (Conclude document package_id.now expression.now) plan)
+        (S.seen store.old) (S.seen store.new)) }
     ensures kept { Plans (S.seen store.old) (S.seen store.new) result }
-    ensures alone { (w : Readings) → T.are_right w → SparesStore (refused_alone w (Conclude document package_id.now expression.now)) result }
+    ensures alone { (w : Readings) → T.are_right w
+        → SparesStore (refused_alone w (Conclude document package_id.now expression.now)) result }
     ensures fault { IfErr result (MayFail S.tells) }
 {
-    let Ok(fault) = texts.expression_fault(alloc, Profile::Capitals, expression.as_str()) else {
-        return Err(Fault::Memory);
-    };
-    if let Some(fault) = fault {
+    if let Some(fault) = texts.expression_fault(alloc, Profile::Capitals, expression.as_str())? {
         return Ok(refused(Refusal::BadExpression(fault)));
     }
     conclude_for(store, document, package_id, expression)
@@ -132,7 +136,10 @@ fn adopt_read<S: Store>(
     reference: Text,
     licence: Text,
 ) -> Result<Plan, Fault>
-    ensures plan { IfOk result (λ plan. OfRows (λ t. IsPlan (adopt_known t document reference) (Change.Adopted (adopted_row document reference licence)) plan) (S.seen store.old) (S.seen store.new)) }
+    ensures plan { IfOk result (λ plan.
+        OfRows (λ t. IsPlan (adopt_known t document reference)
+        (Change.Adopted (adopted_row document reference licence)) plan)
+        (S.seen store.old) (S.seen store.new)) }
     ensures kept { Plans (S.seen store.old) (S.seen store.new) result }
     ensures fault { IfErr result (MayFail S.tells) }
 {
@@ -160,15 +167,15 @@ pub fn adopt<T: Texts, S: Store>(
     reference: &Text,
     licence: &Text,
 ) -> Result<Plan, Fault>
-    ensures plan { (w : Readings) → T.are_right w → IfOk result (λ plan. OfRows (IsPlanOf w (Adopt document reference.now licence.now) plan) (S.seen store.old) (S.seen store.new)) }
+    ensures plan { (w : Readings) → T.are_right w → IfOk result (λ plan.
+        OfRows (IsPlanOf w (Adopt document reference.now licence.now) plan)
+        (S.seen store.old) (S.seen store.new)) }
     ensures kept { Plans (S.seen store.old) (S.seen store.new) result }
-    ensures alone { (w : Readings) → T.are_right w → SparesStore (refused_alone w (Adopt document reference.now licence.now)) result }
+    ensures alone { (w : Readings) → T.are_right w
+        → SparesStore (refused_alone w (Adopt document reference.now licence.now)) result }
     ensures fault { IfErr result (MayFail S.tells) }
 {
-    let Ok(read) = read_adoption(alloc, texts, reference, licence) else {
-        return Err(Fault::Memory);
-    };
-    match read {
+    match read_adoption(alloc, texts, reference, licence)? {
         AdoptionRead::BadTerm(i) => Ok(refused(Refusal::BadTerm(i))),
         AdoptionRead::Pair { reference, licence } => {
             adopt_read(store, document, reference, licence)

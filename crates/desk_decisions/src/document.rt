@@ -92,7 +92,10 @@ fn import_read<S: Store>(
     profile: Profile,
     document: Document,
 ) -> Result<Plan, Fault>
-    ensures plan { IfOk result (λ plan. OfRows (λ t. IsPlan (import_answer (Ok document) bytes (importing_found t)) (imported_change t bytes profile (Some document)) plan) (S.seen store.old) (S.seen store.new)) }
+    ensures plan { IfOk result (λ plan.
+        OfRows (λ t. IsPlan (import_answer (Ok document) bytes (importing_found t))
+        (imported_change t bytes profile (Some document)) plan)
+        (S.seen store.old) (S.seen store.new)) }
     ensures kept { Plans (S.seen store.old) (S.seen store.new) result }
     ensures fault { IfErr result (MayFail S.tells) }
 {
@@ -110,9 +113,7 @@ fn import_read<S: Store>(
         return Ok(refused(Refusal::Full(Limit::Documents)));
     }
     let number = count as u32 + 1;
-    let Ok(change) = imported(alloc, number, bytes, profile, document) else {
-        return Err(Fault::Memory);
-    };
+    let change = imported(alloc, number, bytes, profile, document)?;
     Ok(Plan::Make {
         answer: Answer::Imported(number),
         change,
@@ -127,15 +128,14 @@ pub fn import<T: Texts, S: Store>(
     bytes: Items<u8>,
     profile: Profile,
 ) -> Result<Plan, Fault>
-    ensures plan { (w : Readings) → T.are_right w → IfOk result (λ plan. OfRows (IsPlanOf w (Import bytes profile) plan) (S.seen store.old) (S.seen store.new)) }
+    ensures plan { (w : Readings) → T.are_right w → IfOk result (λ plan.
+        OfRows (IsPlanOf w (Import bytes profile) plan) (S.seen store.old) (S.seen store.new)) }
     ensures kept { Plans (S.seen store.old) (S.seen store.new) result }
-    ensures alone { (w : Readings) → T.are_right w → SparesStore (refused_alone w (Import bytes profile)) result }
+    ensures alone { (w : Readings) → T.are_right w
+        → SparesStore (refused_alone w (Import bytes profile)) result }
     ensures fault { IfErr result (MayFail S.tells) }
 {
-    let Ok(read) = texts.document(alloc, bytes.as_slice()) else {
-        return Err(Fault::Memory);
-    };
-    match read {
+    match texts.document(alloc, bytes.as_slice())? {
         Err(fault) => Ok(refused(Refusal::BadDocument(fault))),
         Ok(document) => import_read(alloc, store, bytes, profile, document),
     }
@@ -149,13 +149,13 @@ pub(crate) fn import_copy<T: Texts, S: Store>(
     bytes: &Items<u8>,
     profile: Profile,
 ) -> Result<Plan, Fault>
-    ensures plan { (w : Readings) → T.are_right w → IfOk result (λ plan. OfRows (IsPlanOf w (Import bytes.now profile) plan) (S.seen store.old) (S.seen store.new)) }
+    ensures plan { (w : Readings) → T.are_right w → IfOk result (λ plan.
+        OfRows (IsPlanOf w (Import bytes.now profile) plan) (S.seen store.old) (S.seen store.new)) }
     ensures kept { Plans (S.seen store.old) (S.seen store.new) result }
-    ensures alone { (w : Readings) → T.are_right w → SparesStore (refused_alone w (Import bytes.now profile)) result }
+    ensures alone { (w : Readings) → T.are_right w
+        → SparesStore (refused_alone w (Import bytes.now profile)) result }
     ensures fault { IfErr result (MayFail S.tells) }
 {
-    let Ok(copy) = Vec::from_slice(alloc, bytes.as_slice()) else {
-        return Err(Fault::Memory);
-    };
+    let copy = Vec::from_slice(alloc, bytes.as_slice())?;
     import(alloc, texts, store, Items::from_vec(copy), profile)
 }

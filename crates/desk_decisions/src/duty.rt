@@ -8,10 +8,10 @@ ghost use Rattle.desk_rows.specs.States.{goes_from};
 ghost use Rattle.desk_rows.specs.Texts.{is_before, is_note};
 ghost use Rattle.desk_rows.specs.Moves.{change_row};
 ghost use Rattle.desk_rows.specs.Answers.{gone, settled, is_over, refused_by, refused_alone};
-ghost use Rattle.desk_history.specs.FromTables.{moved_change, moved_found, state_found, steps_found};
+ghost use Rattle.desk_history.specs.FromTables.{moved_change, moved_found, state_found};
 ghost use Rattle.desk_access.specs.Seen.{Looked, OfRows};
 ghost use Rattle.desk_access.specs.Plans.{IsPlan, IsPlanOf, Plans, SparesStore};
-ghost use Rattle.desk_decisions.specs.Moving.{AreDays, IsRead, move_here, move_known};
+ghost use Rattle.desk_decisions.specs.Moving.{AreDays, IsRead, move_as, move_from, move_known};
 ghost use Rattle.desk_rows.specs.declared.command.Command.TheVariants.{Meet, Waive, Reopen};
 
 use crate::plan::{done, refused};
@@ -37,7 +37,8 @@ pub fn is_note(text: &str) -> bool
 
 /// The day that a text writes.
 pub(crate) fn read_day(text: &Text) -> Option<Day>
-    ensures { MatchOption result (is_day text.now ≡ false) (λ day. (is_day text.now ≡ true) × (day ≡ text.now)) }
+    ensures { MatchOption result
+        (is_day text.now ≡ false) (λ day. (is_day text.now ≡ true) × (day ≡ text.now)) }
 {
     Day::parse(text.as_str())
 }
@@ -141,7 +142,9 @@ fn read_move(word: Word, day: &Text, text: &Text, until: &Option<Text>) -> Resul
 
 /// The state of a release, open where there is none.
 fn release_state<S: Store>(store: &mut S, name: &Text) -> Result<ReleaseState, Fault>
-    ensures found { IfOk result (λ state. OfRows (λ t. state ≡ unwrap_or (state_found t name.now) ReleaseState.IsOpen) (S.seen store.old) (S.seen store.new)) }
+    ensures found { IfOk result (λ state.
+        OfRows (λ t. state ≡ unwrap_or (state_found t name.now) ReleaseState.IsOpen)
+        (S.seen store.old) (S.seen store.new)) }
     ensures kept { Looked (S.seen store.old) (S.seen store.new) result }
     ensures fault { IfErr result (MayFail S.tells) }
 {
@@ -174,7 +177,9 @@ fn move_found<S: Store>(
     row: &DutyRow,
     made: Move,
 ) -> Result<Plan, Fault>
-    ensures plan { IfOk result (λ plan. OfRows (λ t. IsPlan (move_here made.word (unwrap_or (state_found t row.now.release) ReleaseState.IsOpen) (steps_found t row.now.number) row.now.state) (moved_change t row.now.number made) plan) (S.seen store.old) (S.seen store.new)) }
+    ensures plan { IfOk result (λ plan.
+        OfRows (λ t. IsPlan (move_from t made.word row.now) (moved_change t row.now.number made) plan)
+        (S.seen store.old) (S.seen store.new)) }
     ensures kept { Plans (S.seen store.old) (S.seen store.new) result }
     ensures fault { IfErr result (MayFail S.tells) }
 {
@@ -188,10 +193,7 @@ fn move_found<S: Store>(
     if steps >= limits::CHANGES {
         return Ok(refused(Refusal::Full(Limit::Changes)));
     }
-    let Ok(change) = one_change(alloc, row.number, steps as u32 + 1, made) else {
-        return Err(Fault::Memory);
-    };
-    Ok(done(change))
+    Ok(done(one_change(alloc, row.number, steps as u32 + 1, made)?))
 }
 
 /// Moves the duty with a number.
@@ -201,7 +203,9 @@ fn move_numbered<S: Store>(
     duty: u64,
     made: Move,
 ) -> Result<Plan, Fault>
-    ensures plan { IfOk result (λ plan. OfRows (λ t. IsPlan (move_known t made.word duty) (moved_change t duty made) plan) (S.seen store.old) (S.seen store.new)) }
+    ensures plan { IfOk result (λ plan.
+        OfRows (λ t. IsPlan (move_known t made.word duty) (moved_change t duty made) plan)
+        (S.seen store.old) (S.seen store.new)) }
     ensures kept { Plans (S.seen store.old) (S.seen store.new) result }
     ensures fault { IfErr result (MayFail S.tells) }
 {
@@ -221,15 +225,15 @@ fn move_duty<S: Store>(
     text: &Text,
     until: &Option<Text>,
 ) -> Result<Plan, Fault>
-    ensures plan { IfOk result (λ plan. OfRows (λ t. IsPlan (moved_found t word duty day.now text.now until.now) (moved_change t duty (record { day = day.now; word = word; body = text.now; last_day = until.now })) plan) (S.seen store.old) (S.seen store.new)) }
+    ensures plan { IfOk result (λ plan.
+        OfRows (λ t. IsPlan (moved_found t word duty day.now text.now until.now)
+        (moved_change t duty (move_as word day.now text.now until.now)) plan)
+        (S.seen store.old) (S.seen store.new)) }
     ensures kept { Plans (S.seen store.old) (S.seen store.new) result }
     ensures alone { SparesStore (refused_by day.now text.now until.now) result }
     ensures fault { IfErr result (MayFail S.tells) }
 {
-    let Ok(read) = read_move(word, day, text, until) else {
-        return Err(Fault::Memory);
-    };
-    match read {
+    match read_move(word, day, text, until)? {
         Read::Refused(refusal) => Ok(refused(refusal)),
         Read::Move(made) => move_numbered(alloc, store, duty, made),
     }
@@ -243,7 +247,8 @@ pub fn meet<S: Store>(
     day: &Text,
     text: &Text,
 ) -> Result<Plan, Fault>
-    ensures plan { (w : Readings) → IfOk result (λ plan. OfRows (IsPlanOf w (Meet duty day.now text.now) plan) (S.seen store.old) (S.seen store.new)) }
+    ensures plan { (w : Readings) → IfOk result (λ plan.
+        OfRows (IsPlanOf w (Meet duty day.now text.now) plan) (S.seen store.old) (S.seen store.new)) }
     ensures kept { Plans (S.seen store.old) (S.seen store.new) result }
     ensures alone { (w : Readings) → SparesStore (refused_alone w (Meet duty day.now text.now)) result }
     ensures fault { IfErr result (MayFail S.tells) }
@@ -260,9 +265,12 @@ pub fn waive<S: Store>(
     text: &Text,
     until: &Option<Text>,
 ) -> Result<Plan, Fault>
-    ensures plan { (w : Readings) → IfOk result (λ plan. OfRows (IsPlanOf w (Waive duty day.now text.now until.now) plan) (S.seen store.old) (S.seen store.new)) }
+    ensures plan { (w : Readings) → IfOk result (λ plan.
+        OfRows (IsPlanOf w (Waive duty day.now text.now until.now) plan)
+        (S.seen store.old) (S.seen store.new)) }
     ensures kept { Plans (S.seen store.old) (S.seen store.new) result }
-    ensures alone { (w : Readings) → SparesStore (refused_alone w (Waive duty day.now text.now until.now)) result }
+    ensures alone { (w : Readings)
+        → SparesStore (refused_alone w (Waive duty day.now text.now until.now)) result }
     ensures fault { IfErr result (MayFail S.tells) }
 {
     move_duty(alloc, store, Word::Waived, duty, day, text, until)
@@ -276,7 +284,8 @@ pub fn reopen<S: Store>(
     day: &Text,
     text: &Text,
 ) -> Result<Plan, Fault>
-    ensures plan { (w : Readings) → IfOk result (λ plan. OfRows (IsPlanOf w (Reopen duty day.now text.now) plan) (S.seen store.old) (S.seen store.new)) }
+    ensures plan { (w : Readings) → IfOk result (λ plan.
+        OfRows (IsPlanOf w (Reopen duty day.now text.now) plan) (S.seen store.old) (S.seen store.new)) }
     ensures kept { Plans (S.seen store.old) (S.seen store.new) result }
     ensures alone { (w : Readings) → SparesStore (refused_alone w (Reopen duty day.now text.now)) result }
     ensures fault { IfErr result (MayFail S.tells) }

@@ -75,7 +75,9 @@ fn froze(
     gathered: Gathered,
 ) -> Result<Change, AllocError>
     requires { first + length gathered.owed.items < 2 ^ 32 }
-    ensures { IfOk result (λ change. change ≡ froze_rows release.now revision day gathered.frozen.items (map new_duty (enumerate_from first gathered.owed.items))) }
+    ensures { IfOk result (λ change. change
+        ≡ froze_rows release.now revision day gathered.frozen.items
+        (map new_duty (enumerate_from first gathered.owed.items))) }
 {
     let duties = duty_rows(alloc, first, gathered.owed)?;
     let changes = raised_rows(alloc, day, duties.as_slice())?;
@@ -96,7 +98,10 @@ fn freeze_gathered<S: Store>(
     day: Day,
     gathered: Gathered,
 ) -> Result<Plan, Fault>
-    ensures plan { IfOk result (λ plan. OfRows (λ t. IsPlan (freeze_fits (length t.duty) (length gathered.owed.items)) (froze_as t release.now day gathered.frozen.items gathered.owed.items) plan) (S.seen store.old) (S.seen store.new)) }
+    ensures plan { IfOk result (λ plan.
+        OfRows (λ t. IsPlan (freeze_fits (length t.duty) (length gathered.owed.items))
+        (froze_as t release.now day gathered.frozen.items gathered.owed.items) plan)
+        (S.seen store.old) (S.seen store.new)) }
     ensures kept { Plans (S.seen store.old) (S.seen store.new) result }
     ensures fault { IfErr result (MayFail S.tells) }
 {
@@ -107,9 +112,7 @@ fn freeze_gathered<S: Store>(
     }
     let first = old as u32 + 1;
     let revision = store.revision_count()?;
-    let Ok(change) = froze(alloc, release, revision, day, first, gathered) else {
-        return Err(Fault::Memory);
-    };
+    let change = froze(alloc, release, revision, day, first, gathered)?;
     Ok(Plan::Make {
         answer: Answer::Frozen {
             first,
@@ -128,7 +131,10 @@ fn freeze_open<T: Texts, S: Store>(
     form: &Text,
     day: Day,
 ) -> Result<Plan, Fault>
-    ensures plan { (w : Readings) → T.are_right w → IfOk result (λ plan. OfRows (λ t. IsPlan (freeze_open_found w t release.now form.now) (freeze_change_found w t release.now form.now day) plan) (S.seen store.old) (S.seen store.new)) }
+    ensures plan { (w : Readings) → T.are_right w → IfOk result (λ plan.
+        OfRows (λ t. IsPlan (freeze_open_found w t release.now form.now)
+        (freeze_change_found w t release.now form.now day) plan)
+        (S.seen store.old) (S.seen store.new)) }
     ensures kept { Plans (S.seen store.old) (S.seen store.new) result }
     ensures fault { IfErr result (MayFail S.tells) }
 {
@@ -163,9 +169,11 @@ pub fn freeze<T: Texts, S: Store>(
     release: &Text,
     day: &Text,
 ) -> Result<Plan, Fault>
-    ensures plan { (w : Readings) → T.are_right w → IfOk result (λ plan. OfRows (IsPlanOf w (Freeze release.now day.now) plan) (S.seen store.old) (S.seen store.new)) }
+    ensures plan { (w : Readings) → T.are_right w → IfOk result (λ plan.
+        OfRows (IsPlanOf w (Freeze release.now day.now) plan) (S.seen store.old) (S.seen store.new)) }
     ensures kept { Plans (S.seen store.old) (S.seen store.new) result }
-    ensures alone { (w : Readings) → T.are_right w → SparesStore (refused_alone w (Freeze release.now day.now)) result }
+    ensures alone { (w : Readings) → T.are_right w
+        → SparesStore (refused_alone w (Freeze release.now day.now)) result }
     ensures fault { IfErr result (MayFail S.tells) }
 {
     let Some(day) = read_day(day) else {

@@ -56,7 +56,8 @@ fn add_codes(
     term: &Text,
     rule: &Rule,
 ) -> Result<(), AllocError>
-    ensures { OnOk result (owed.new.items ≡ owed.old.items ++ map (owed_code release.now row.now term.now rule.now) rule.now.codes) }
+    ensures { OnOk result (owed.new.items
+        ≡ owed.old.items ++ map (owed_code release.now row.now term.now rule.now) rule.now.codes) }
 {
     let codes = rule.codes.as_slice();
     for code in codes {
@@ -90,8 +91,10 @@ fn add_term(
     term: &Text,
     rule: &Rule,
 ) -> Result<(), AllocError>
-    ensures frozen { OnOk result (gathered.new.frozen.items ≡ gathered.old.frozen.items ++ frozen_term release.now row.now term.now rule.now ∷ []) }
-    ensures owed { OnOk result (gathered.new.owed.items ≡ gathered.old.owed.items ++ map (owed_code release.now row.now term.now rule.now) rule.now.codes) }
+    ensures frozen { OnOk result (gathered.new.frozen.items
+        ≡ gathered.old.frozen.items ++ frozen_term release.now row.now term.now rule.now ∷ []) }
+    ensures owed { OnOk result (gathered.new.owed.items ≡ gathered.old.owed.items
+        ++ map (owed_code release.now row.now term.now rule.now) rule.now.codes) }
 {
     gathered.frozen.push(frozen_row(release, row, term, rule)?)?;
     add_codes(&mut gathered.owed, release, row, term, rule)?;
@@ -106,14 +109,13 @@ fn unadopted<T: Texts, S: Store>(
     document: u32,
     term: &Text,
 ) -> Result<Option<Refusal>, Fault>
-    ensures found { (w : Readings) → T.are_right w → IfOk result (λ refusal. OfRows (λ t. refusal ≡ unadopted w t.adoption document term.now) (S.seen store.old) (S.seen store.new)) }
+    ensures found { (w : Readings) → T.are_right w → IfOk result (λ refusal.
+        OfRows (λ t. refusal ≡ unadopted w t.adoption document term.now)
+        (S.seen store.old) (S.seen store.new)) }
     ensures kept { Looked (S.seen store.old) (S.seen store.new) result }
     ensures fault { IfErr result (MayFail S.tells) }
 {
-    let Ok(reference) = texts.reference(alloc, term.as_str()) else {
-        return Err(Fault::Memory);
-    };
-    let Some(reference) = reference else {
+    let Some(reference) = texts.reference(alloc, term.as_str())? else {
         return Ok(None);
     };
     if store.adoption(document, reference.as_str())?.is_some() {
@@ -133,7 +135,9 @@ fn first_unadopted<T: Texts, S: Store>(
     document: u32,
     terms: &[Text],
 ) -> Result<Option<Refusal>, Fault>
-    ensures found { (w : Readings) → T.are_right w → IfOk result (λ refusal. OfRows (λ t. refusal ≡ first_unadopted w t.adoption document terms.now) (S.seen store.old) (S.seen store.new)) }
+    ensures found { (w : Readings) → T.are_right w → IfOk result (λ refusal.
+        OfRows (λ t. refusal ≡ first_unadopted w t.adoption document terms.now)
+        (S.seen store.old) (S.seen store.new)) }
     ensures kept { Looked (S.seen store.old) (S.seen store.new) result }
     ensures fault { IfErr result (MayFail S.tells) }
 {
@@ -166,7 +170,10 @@ fn freeze_terms<T: Texts, S: Store>(
     terms: &[Text],
     gathered: &mut Gathered,
 ) -> Result<Option<Refusal>, Fault>
-    ensures gathered { (w : Readings) → T.are_right w → IfOk result (λ fault. OfRows (λ t. GathersTerms w t.adoption (rules_found t) freezing.now.form.now freezing.now.release.now row.now terms.now gathered.old gathered.new fault) (S.seen store.old) (S.seen store.new)) }
+    ensures gathered { (w : Readings) → T.are_right w → IfOk result (λ fault.
+        OfRows (λ t. GathersTerms w t.adoption (rules_found t) freezing.now.form.now freezing.now.release.now
+        row.now terms.now gathered.old gathered.new fault)
+        (S.seen store.old) (S.seen store.new)) }
     ensures kept { Looked (S.seen store.old) (S.seen store.new) result }
     ensures fault { IfErr result (MayFail S.tells) }
 {
@@ -175,9 +182,7 @@ fn freeze_terms<T: Texts, S: Store>(
         else {
             return Ok(Some(no_rule(row, term)?));
         };
-        let Ok(()) = add_term(gathered, freezing.release, row, term, &rule) else {
-            return Err(Fault::Memory);
-        };
+        add_term(gathered, freezing.release, row, term, &rule)?;
     }
     Ok(None)
 }
@@ -209,7 +214,9 @@ fn unready_package<T: Texts, S: Store>(
     row: &PackageRow,
     terms: &[Text],
 ) -> Result<Option<Refusal>, Fault>
-    ensures found { (w : Readings) → T.are_right w → IfOk result (λ refusal. OfRows (λ t. refusal ≡ unready_package w t.adoption conclusion.now terms.now row.now) (S.seen store.old) (S.seen store.new)) }
+    ensures found { (w : Readings) → T.are_right w → IfOk result (λ refusal.
+        OfRows (λ t. refusal ≡ unready_package w t.adoption conclusion.now terms.now row.now)
+        (S.seen store.old) (S.seen store.new)) }
     ensures kept { Looked (S.seen store.old) (S.seen store.new) result }
     ensures fault { IfErr result (MayFail S.tells) }
 {
@@ -231,7 +238,10 @@ fn freeze_package<T: Texts, S: Store>(
     row: &PackageRow,
     gathered: &mut Gathered,
 ) -> Result<Option<Refusal>, Fault>
-    ensures gathered { (w : Readings) → T.are_right w → IfOk result (λ fault. OfRows (λ t. GathersPackage w t freezing.now.form.now freezing.now.release.now row.now gathered.old gathered.new fault) (S.seen store.old) (S.seen store.new)) }
+    ensures gathered { (w : Readings) → T.are_right w → IfOk result (λ fault.
+        OfRows (λ t. GathersPackage w t freezing.now.form.now freezing.now.release.now row.now
+        gathered.old gathered.new fault)
+        (S.seen store.old) (S.seen store.new)) }
     ensures kept { Looked (S.seen store.old) (S.seen store.new) result }
     ensures fault { IfErr result (MayFail S.tells) }
 {
@@ -261,7 +271,10 @@ pub(crate) fn freeze_packages<T: Texts, S: Store>(
     packages: &[PackageRow],
     gathered: &mut Gathered,
 ) -> Result<Option<Refusal>, Fault>
-    ensures gathered { (w : Readings) → T.are_right w → IfOk result (λ fault. OfRows (λ t. GathersAll w t freezing.now.form.now freezing.now.release.now packages.now gathered.old gathered.new fault) (S.seen store.old) (S.seen store.new)) }
+    ensures gathered { (w : Readings) → T.are_right w → IfOk result (λ fault.
+        OfRows (λ t. GathersAll w t freezing.now.form.now freezing.now.release.now packages.now
+        gathered.old gathered.new fault)
+        (S.seen store.old) (S.seen store.new)) }
     ensures kept { Looked (S.seen store.old) (S.seen store.new) result }
     ensures fault { IfErr result (MayFail S.tells) }
 {

@@ -37,7 +37,9 @@ pub(crate) fn unready(state: ReleaseState) -> Option<Refusal>
 
 /// Opens a release.
 pub fn open_release<S: Store>(store: &mut S, release: &Text, form: &Text) -> Result<Plan, Fault>
-    ensures plan { (w : Readings) → IfOk result (λ plan. OfRows (IsPlanOf w (OpenRelease release.now form.now) plan) (S.seen store.old) (S.seen store.new)) }
+    ensures plan { (w : Readings) → IfOk result (λ plan.
+        OfRows (IsPlanOf w (OpenRelease release.now form.now) plan)
+        (S.seen store.old) (S.seen store.new)) }
     ensures kept { Plans (S.seen store.old) (S.seen store.new) result }
     ensures alone { (w : Readings) → SparesStore (refused_alone w (OpenRelease release.now form.now)) result }
     ensures fault { IfErr result (MayFail S.tells) }
@@ -55,16 +57,10 @@ pub fn open_release<S: Store>(store: &mut S, release: &Text, form: &Text) -> Res
     if count >= limits::RELEASES {
         return Ok(refused(Refusal::Full(Limit::Releases)));
     }
-    let Ok(name) = release.clone() else {
-        return Err(Fault::Memory);
-    };
-    let Ok(form) = form.clone() else {
-        return Err(Fault::Memory);
-    };
     Ok(done(Change::Opened(ReleaseRow {
-        name,
+        name: release.clone()?,
         place: count as u32 + 1,
-        form,
+        form: form.clone()?,
         state: ReleaseState::IsOpen,
         revision: 0,
     })))
@@ -72,7 +68,8 @@ pub fn open_release<S: Store>(store: &mut S, release: &Text, form: &Text) -> Res
 
 /// Attaches a document to a release.
 pub fn attach<S: Store>(store: &mut S, release: &Text, document: u64) -> Result<Plan, Fault>
-    ensures plan { (w : Readings) → IfOk result (λ plan. OfRows (IsPlanOf w (Attach release.now document) plan) (S.seen store.old) (S.seen store.new)) }
+    ensures plan { (w : Readings) → IfOk result (λ plan.
+        OfRows (IsPlanOf w (Attach release.now document) plan) (S.seen store.old) (S.seen store.new)) }
     ensures kept { Plans (S.seen store.old) (S.seen store.new) result }
     ensures alone { (w : Readings) → SparesStore (refused_alone w (Attach release.now document)) result }
     ensures fault { IfErr result (MayFail S.tells) }
@@ -92,11 +89,8 @@ pub fn attach<S: Store>(store: &mut S, release: &Text, document: u64) -> Result<
     if store.attached_count(release.as_str())? >= limits::ATTACHED {
         return Ok(refused(Refusal::Full(Limit::Attached)));
     }
-    let Ok(release) = release.clone() else {
-        return Err(Fault::Memory);
-    };
     Ok(done(Change::Attached(AttachedRow {
-        release,
+        release: release.clone()?,
         document: number,
     })))
 }

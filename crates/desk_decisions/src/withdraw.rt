@@ -77,7 +77,8 @@ fn withdrew(
     text: &Text,
     standings: Vec<Standing>,
 ) -> Result<Change, AllocError>
-    ensures { IfOk result (λ change. change ≡ Change.Withdrew release.now (withdrawn_rows day text.now standings.items)) }
+    ensures { IfOk result
+        (λ change. change ≡ Change.Withdrew release.now (withdrawn_rows day text.now standings.items)) }
 {
     let unmet = unmet_of(standings);
     let made = Move {
@@ -116,9 +117,12 @@ pub fn withdraw<S: Store>(
     day: &Text,
     text: &Text,
 ) -> Result<Plan, Fault>
-    ensures plan { (w : Readings) → IfOk result (λ plan. OfRows (IsPlanOf w (Withdraw release.now day.now text.now) plan) (S.seen store.old) (S.seen store.new)) }
+    ensures plan { (w : Readings) → IfOk result (λ plan.
+        OfRows (IsPlanOf w (Withdraw release.now day.now text.now) plan)
+        (S.seen store.old) (S.seen store.new)) }
     ensures kept { Plans (S.seen store.old) (S.seen store.new) result }
-    ensures alone { (w : Readings) → SparesStore (refused_alone w (Withdraw release.now day.now text.now)) result }
+    ensures alone { (w : Readings)
+        → SparesStore (refused_alone w (Withdraw release.now day.now text.now)) result }
     ensures fault { IfErr result (MayFail S.tells) }
 {
     let Some(day) = read_day(day) else {
@@ -134,10 +138,7 @@ pub fn withdraw<S: Store>(
         return Ok(refused(refusal));
     }
     let standings = store.standings_of(release.as_str())?;
-    let Ok(change) = withdrew(alloc, release, day, text, standings) else {
-        return Err(Fault::Memory);
-    };
-    Ok(done(change))
+    Ok(done(withdrew(alloc, release, day, text, standings)?))
 }
 
 fn closed(changes: Items<ChangeRow>) -> Plan
@@ -152,7 +153,8 @@ fn closed(changes: Items<ChangeRow>) -> Plan
 
 /// Ends the waivers whose last day is before this day.
 pub fn close_day<S: Store>(alloc: Global, store: &mut S, day: &Text) -> Result<Plan, Fault>
-    ensures plan { (w : Readings) → IfOk result (λ plan. OfRows (IsPlanOf w (CloseDay day.now) plan) (S.seen store.old) (S.seen store.new)) }
+    ensures plan { (w : Readings) → IfOk result (λ plan.
+        OfRows (IsPlanOf w (CloseDay day.now) plan) (S.seen store.old) (S.seen store.new)) }
     ensures kept { Plans (S.seen store.old) (S.seen store.new) result }
     ensures alone { (w : Readings) → SparesStore (refused_alone w (CloseDay day.now)) result }
     ensures fault { IfErr result (MayFail S.tells) }
@@ -161,8 +163,5 @@ pub fn close_day<S: Store>(alloc: Global, store: &mut S, day: &Text) -> Result<P
         return Ok(refused(Refusal::BadDay));
     };
     let standings = store.ended(day)?;
-    let Ok(changes) = ended_rows(alloc, day, standings.as_slice()) else {
-        return Err(Fault::Memory);
-    };
-    Ok(closed(changes))
+    Ok(closed(ended_rows(alloc, day, standings.as_slice())?))
 }

@@ -74,4 +74,4 @@ returns-clause-plan g c = λ w h t held.
     let few : length (attached_to t.attached r) < 64 = omega (arith, count, c.if-branch-ge-ATTACHED.false) in
     let number : c.in-Some-2.number ≡ c.args.document = same_number c.in_ok-number.field-0 c.in-Some-2.number c.args.document c.in-Some-2.field-0-1 c.in-Some-2.is two.same in
     subst (IsPlan (answer_from w t (Attach r c.args.document)) (change_for w t (Attach r c.args.document))) (sym c.done.ensures)
-    (done_answer w t r c.args.document c.in-Some.row _ up already few, attached_row c.in-Ok.release r c.in-Some-2.number c.args.document c.in-Ok.ensures.cases number)
+    (done_answer w t r c.args.document c.in-Some.row _ up already few, attached_row c.in_ok-clone.field-0 r c.in-Some-2.number c.args.document c.in_ok-clone.ensures.cases number)
