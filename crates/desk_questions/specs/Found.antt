@@ -1,5 +1,5 @@
 -- What is told of a package that was looked up.
-use Rattle.std.specs.Prelude.{ℕ, Bool, List, Option, Result, Ok, Err, not, if◌then◌else◌}
+use Rattle.std.specs.Prelude.{◌≡◌, ℕ, Bool, List, Option, Result, Ok, Err, not, if◌then◌else◌}
 use Rattle.std.specs.List.{list_any}
 use Rattle.std.specs.Option.{option_map_or}
 use Rattle.std.specs.Str.{bytes_eq}
@@ -14,7 +14,7 @@ use Rattle.desk_rows.specs.declared.refusal.Refusal.TheVariants as why
 use Rattle.desk_rows.specs.declared.row.PackageRow.{PackageRow}
 use Rattle.desk_rows.specs.declared.command.Answer.{Answer}
 use Rattle.desk_rows.specs.declared.command.Answer.TheVariants as answered
-use Rattle.desk_history.specs.FromTables.{conclusion_found, rules_found}
+use Rattle.desk_history.specs.FromTables.{conclusion_found, package_found, rules_found, stands_document}
 
 abbrev pub listed : Result (List (List (List ℕ))) ListFault → Answer
 listed (Ok sets) = answered.Alternatives sets
@@ -38,6 +38,10 @@ of_package tell known found =
 abbrev pub told_found : (PackageRow → Answer) → Result PackageRow Refusal → Answer
 told_found tell (Ok p) = tell p
 told_found tell (Err refusal) = answered.Refused refusal
+
+-- the package of a document of the tables, or why there is none: whatever is told of a package, it is the same
+abbrev pub IsFound : Tables → ℕ → List ℕ → Result PackageRow Refusal → Type 0
+IsFound t d p found = (tell : PackageRow → Answer) → told_found tell found ≡ of_package tell (stands_document t d) (package_found t d p)
 
 -- the sets of its conclusion
 abbrev pub listed_found : Readings → Tables → PackageRow → Answer

@@ -24,7 +24,8 @@ fn duty_lines<S: Store>(
     store: &mut S,
     rows: Vec<DutyRow>,
 ) -> Result<Items<DutyLine>, Fault>
-    ensures lines { IfOk result (λ lines. OfRows (λ t. lines ≡ map (line_found t) rows.items) (S.seen store.old) (S.seen store.new)) }
+    ensures lines { IfOk result (λ lines.
+        OfRows (λ t. lines ≡ map (line_found t) rows.items) (S.seen store.old) (S.seen store.new)) }
     ensures kept { Looked (S.seen store.old) (S.seen store.new) result }
     ensures fault { IfErr result (MayFail S.tells) }
 {
@@ -41,16 +42,16 @@ fn duty_lines<S: Store>(
             state: row.state,
             day,
         };
-        let Ok(()) = lines.push(line) else {
-            return Err(Fault::Memory);
-        };
+        lines.push(line)?;
     }
     Ok(lines)
 }
 
 /// The duties of a release, by number.
 pub fn duties<S: Store>(alloc: Global, store: &mut S, release: &Text) -> Result<Answer, Fault>
-    ensures answer { (w : Readings) → IfOk result (λ answer. OfRows (λ t. answer ≡ queried_from w t (Query.Duties release.now)) (S.seen store.old) (S.seen store.new)) }
+    ensures answer { (w : Readings) → IfOk result (λ answer.
+        OfRows (λ t. answer ≡ queried_from w t (Query.Duties release.now))
+        (S.seen store.old) (S.seen store.new)) }
     ensures kept { Looked (S.seen store.old) (S.seen store.new) result }
     ensures fault { IfErr result (MayFail S.tells) }
 {
@@ -63,7 +64,9 @@ pub fn duties<S: Store>(alloc: Global, store: &mut S, release: &Text) -> Result<
 
 /// How many duties of a release stand where.
 pub fn totals<S: Store>(store: &mut S, release: &Text) -> Result<Answer, Fault>
-    ensures answer { (w : Readings) → IfOk result (λ answer. OfRows (λ t. answer ≡ queried_from w t (Query.Totals release.now)) (S.seen store.old) (S.seen store.new)) }
+    ensures answer { (w : Readings) → IfOk result (λ answer.
+        OfRows (λ t. answer ≡ queried_from w t (Query.Totals release.now))
+        (S.seen store.old) (S.seen store.new)) }
     ensures kept { Looked (S.seen store.old) (S.seen store.new) result }
     ensures fault { IfErr result (MayFail S.tells) }
 {
@@ -75,7 +78,9 @@ pub fn totals<S: Store>(store: &mut S, release: &Text) -> Result<Answer, Fault>
 
 /// The changes of a duty, by step.
 pub fn changes<S: Store>(store: &mut S, duty: u64) -> Result<Answer, Fault>
-    ensures answer { (w : Readings) → IfOk result (λ answer. OfRows (λ t. answer ≡ queried_from w t (Query.Changes duty)) (S.seen store.old) (S.seen store.new)) }
+    ensures answer { (w : Readings) → IfOk result (λ answer.
+        OfRows (λ t. answer ≡ queried_from w t (Query.Changes duty))
+        (S.seen store.old) (S.seen store.new)) }
     ensures kept { Looked (S.seen store.old) (S.seen store.new) result }
     ensures fault { IfErr result (MayFail S.tells) }
 {
@@ -93,7 +98,8 @@ pub fn answer_to<T: Texts, S: Store>(
     store: &mut S,
     query: &Query,
 ) -> Result<Answer, Fault>
-    ensures answer { (w : Readings) → T.are_right w → IfOk result (λ answer. OfRows (λ t. answer ≡ queried_from w t query.now) (S.seen store.old) (S.seen store.new)) }
+    ensures answer { (w : Readings) → T.are_right w → IfOk result (λ answer.
+        OfRows (λ t. answer ≡ queried_from w t query.now) (S.seen store.old) (S.seen store.new)) }
     ensures kept { Looked (S.seen store.old) (S.seen store.new) result }
     ensures fault { IfErr result (MayFail S.tells) }
 {

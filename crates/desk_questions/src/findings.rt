@@ -18,15 +18,15 @@ pub fn findings<T: Texts, S: Store>(
     store: &mut S,
     document: u64,
 ) -> Result<Answer, Fault>
-    ensures answer { (w : Readings) → T.are_right w → IfOk result (λ answer. OfRows (λ t. answer ≡ queried_from w t (Query.Findings document)) (S.seen store.old) (S.seen store.new)) }
+    ensures answer { (w : Readings) → T.are_right w → IfOk result (λ answer.
+        OfRows (λ t. answer ≡ queried_from w t (Query.Findings document))
+        (S.seen store.old) (S.seen store.new)) }
     ensures kept { Looked (S.seen store.old) (S.seen store.new) result }
     ensures fault { IfErr result (MayFail S.tells) }
 {
     let Some((bytes, profile)) = store.document_source(document)? else {
         return Ok(Answer::Refused(Refusal::UnknownDocument));
     };
-    let Ok(rows) = texts.findings(alloc, profile, bytes.as_slice()) else {
-        return Err(Fault::Memory);
-    };
+    let rows = texts.findings(alloc, profile, bytes.as_slice())?;
     Ok(Answer::Findings(rows))
 }

@@ -1,15 +1,12 @@
 //! The sets of terms that a package's conclusion in force is true under.
 
-ghost use Rattle.std.specs.Prelude.{◌≡◌, IfOk, IfErr, find, is_some, map};
+ghost use Rattle.std.specs.Prelude.{◌≡◌, IfOk, IfErr, map};
 ghost use Rattle.desk_rows.specs.Readings.{Readings};
 ghost use Rattle.desk_rows.specs.Faults.{MayFail};
-ghost use Rattle.desk_rows.specs.Keys.{is_document, is_package};
 ghost use Rattle.desk_rows.specs.Listings.{list_refusal, rule_cost, term_cost};
 ghost use Rattle.desk_access.specs.Seen.{Looked, OfRows};
 ghost use Rattle.desk_history.specs.FromTables.{conclusion_found, queried_from, rules_found};
-ghost use Rattle.desk_questions.specs.Found.{listed, listed_found, of_package, priced, priced_found, told_found};
-ghost use Rattle.desk_rows.specs.declared.row.PackageRow.{PackageRow};
-ghost use Rattle.desk_rows.specs.declared.command.Answer.{Answer};
+ghost use Rattle.desk_questions.specs.Found.{IsFound, listed, listed_found, priced, priced_found};
 
 use desk_access::store::Store;
 use desk_access::texts::Texts;
@@ -37,7 +34,8 @@ fn unconcluded(row: PackageRow) -> Answer
 }
 
 fn listed<T: Texts>(alloc: Global, texts: &T, conclusion: &Conclusion) -> Result<Answer, Fault>
-    ensures answer { (w : Readings) → T.are_right w → IfOk result (λ answer. answer ≡ listed (w.alternatives conclusion.now.profile conclusion.now.text)) }
+    ensures answer { (w : Readings) → T.are_right w → IfOk result
+        (λ answer. answer ≡ listed (w.alternatives conclusion.now.profile conclusion.now.text)) }
     ensures fault { IfErr result (λ fault. fault ≡ Fault.Memory) }
 {
     match texts.alternatives(alloc, conclusion.profile, conclusion.text.as_str())? {
@@ -52,7 +50,8 @@ fn package_of<S: Store>(
     document: u64,
     package_id: &Text,
 ) -> Result<Result<PackageRow, Refusal>, Fault>
-    ensures found { IfOk result (λ found. OfRows (λ t. (tell : PackageRow → Answer) → told_found tell found ≡ of_package tell (is_some (find (is_document document) t.document)) (find (is_package document package_id.now) t.packages)) (S.seen store.old) (S.seen store.new)) }
+    ensures found { IfOk result (λ found.
+        OfRows (λ t. IsFound t document package_id.now found) (S.seen store.old) (S.seen store.new)) }
     ensures kept { Looked (S.seen store.old) (S.seen store.new) result }
     ensures fault { IfErr result (MayFail S.tells) }
 {
@@ -72,7 +71,8 @@ fn listed_for<T: Texts, S: Store>(
     store: &mut S,
     row: PackageRow,
 ) -> Result<Answer, Fault>
-    ensures answer { (w : Readings) → T.are_right w → IfOk result (λ answer. OfRows (λ t. answer ≡ listed_found w t row) (S.seen store.old) (S.seen store.new)) }
+    ensures answer { (w : Readings) → T.are_right w → IfOk result (λ answer.
+        OfRows (λ t. answer ≡ listed_found w t row) (S.seen store.old) (S.seen store.new)) }
     ensures kept { Looked (S.seen store.old) (S.seen store.new) result }
     ensures fault { IfErr result (MayFail S.tells) }
 {
@@ -90,7 +90,9 @@ pub fn alternatives<T: Texts, S: Store>(
     document: u64,
     package_id: &Text,
 ) -> Result<Answer, Fault>
-    ensures answer { (w : Readings) → T.are_right w → IfOk result (λ answer. OfRows (λ t. answer ≡ queried_from w t (Query.Alternatives document package_id.now)) (S.seen store.old) (S.seen store.new)) }
+    ensures answer { (w : Readings) → T.are_right w → IfOk result (λ answer.
+        OfRows (λ t. answer ≡ queried_from w t (Query.Alternatives document package_id.now))
+        (S.seen store.old) (S.seen store.new)) }
     ensures kept { Looked (S.seen store.old) (S.seen store.new) result }
     ensures fault { IfErr result (MayFail S.tells) }
 {
@@ -115,7 +117,9 @@ fn term_cost<T: Texts, S: Store>(
     document: u32,
     term: &Text,
 ) -> Result<Option<u64>, Fault>
-    ensures found { (w : Readings) → T.are_right w → IfOk result (λ cost. OfRows (λ t. cost ≡ term_cost w t.adoption (rules_found t) form.now document term.now) (S.seen store.old) (S.seen store.new)) }
+    ensures found { (w : Readings) → T.are_right w → IfOk result (λ cost.
+        OfRows (λ t. cost ≡ term_cost w t.adoption (rules_found t) form.now document term.now)
+        (S.seen store.old) (S.seen store.new)) }
     ensures kept { Looked (S.seen store.old) (S.seen store.new) result }
     ensures fault { IfErr result (MayFail S.tells) }
 {
@@ -135,16 +139,16 @@ fn term_costs<T: Texts, S: Store>(
     document: u32,
     terms: &[Text],
 ) -> Result<Vec<Option<u64>>, Fault>
-    ensures found { (w : Readings) → T.are_right w → IfOk result (λ costs. OfRows (λ t. costs.items ≡ map (term_cost w t.adoption (rules_found t) form.now document) terms.now) (S.seen store.old) (S.seen store.new)) }
+    ensures found { (w : Readings) → T.are_right w → IfOk result (λ costs.
+        OfRows (λ t. costs.items ≡ map (term_cost w t.adoption (rules_found t) form.now document) terms.now)
+        (S.seen store.old) (S.seen store.new)) }
     ensures kept { Looked (S.seen store.old) (S.seen store.new) result }
     ensures fault { IfErr result (MayFail S.tells) }
 {
     let mut costs = Vec::new(alloc);
     for term in terms {
         let cost = term_cost(alloc, texts, store, form, document, term)?;
-        let Ok(()) = costs.push(cost) else {
-            return Err(Fault::Memory);
-        };
+        costs.push(cost)?;
     }
     Ok(costs)
 }
@@ -158,7 +162,10 @@ fn priced<T: Texts, S: Store>(
     document: u32,
     conclusion: &Conclusion,
 ) -> Result<Answer, Fault>
-    ensures answer { (w : Readings) → T.are_right w → IfOk result (λ answer. OfRows (λ t. answer ≡ priced (w.cheapest conclusion.now.profile conclusion.now.text (term_cost w t.adoption (rules_found t) form.now document))) (S.seen store.old) (S.seen store.new)) }
+    ensures answer { (w : Readings) → T.are_right w → IfOk result (λ answer.
+        OfRows (λ t. answer ≡ priced (w.cheapest conclusion.now.profile conclusion.now.text
+        (term_cost w t.adoption (rules_found t) form.now document)))
+        (S.seen store.old) (S.seen store.new)) }
     ensures kept { Looked (S.seen store.old) (S.seen store.new) result }
     ensures fault { IfErr result (MayFail S.tells) }
 {
@@ -181,7 +188,8 @@ fn priced_for<T: Texts, S: Store>(
     form: &Text,
     row: PackageRow,
 ) -> Result<Answer, Fault>
-    ensures answer { (w : Readings) → T.are_right w → IfOk result (λ answer. OfRows (λ t. answer ≡ priced_found w t form.now row) (S.seen store.old) (S.seen store.new)) }
+    ensures answer { (w : Readings) → T.are_right w → IfOk result (λ answer.
+        OfRows (λ t. answer ≡ priced_found w t form.now row) (S.seen store.old) (S.seen store.new)) }
     ensures kept { Looked (S.seen store.old) (S.seen store.new) result }
     ensures fault { IfErr result (MayFail S.tells) }
 {
@@ -203,7 +211,9 @@ pub fn cheapest<T: Texts, S: Store>(
     package_id: &Text,
     form: &Text,
 ) -> Result<Answer, Fault>
-    ensures answer { (w : Readings) → T.are_right w → IfOk result (λ answer. OfRows (λ t. answer ≡ queried_from w t (Query.Cheapest document package_id.now form.now)) (S.seen store.old) (S.seen store.new)) }
+    ensures answer { (w : Readings) → T.are_right w → IfOk result (λ answer.
+        OfRows (λ t. answer ≡ queried_from w t (Query.Cheapest document package_id.now form.now))
+        (S.seen store.old) (S.seen store.new)) }
     ensures kept { Looked (S.seen store.old) (S.seen store.new) result }
     ensures fault { IfErr result (MayFail S.tells) }
 {

@@ -32,7 +32,9 @@ fn package_line<T: Texts, S: Store>(
     release: &Text,
     row: PackageRow,
 ) -> Result<PackageLine, Fault>
-    ensures line { (w : Readings) → T.are_right w → IfOk result (λ line. OfRows (λ t. line ≡ package_line (conclusion_found w t) (choice_found t release.now) row) (S.seen store.old) (S.seen store.new)) }
+    ensures line { (w : Readings) → T.are_right w → IfOk result (λ line.
+        OfRows (λ t. line ≡ package_line (conclusion_found w t) (choice_found t release.now) row)
+        (S.seen store.old) (S.seen store.new)) }
     ensures kept { Looked (S.seen store.old) (S.seen store.new) result }
     ensures fault { IfErr result (MayFail S.tells) }
 {
@@ -56,16 +58,17 @@ fn package_lines<T: Texts, S: Store>(
     release: &Text,
     rows: Vec<PackageRow>,
 ) -> Result<Items<PackageLine>, Fault>
-    ensures lines { (w : Readings) → T.are_right w → IfOk result (λ lines. OfRows (λ t. lines ≡ map (package_line (conclusion_found w t) (choice_found t release.now)) rows.items) (S.seen store.old) (S.seen store.new)) }
+    ensures lines { (w : Readings) → T.are_right w → IfOk result (λ lines.
+        OfRows (λ t.
+        lines ≡ map (package_line (conclusion_found w t) (choice_found t release.now)) rows.items)
+        (S.seen store.old) (S.seen store.new)) }
     ensures kept { Looked (S.seen store.old) (S.seen store.new) result }
     ensures fault { IfErr result (MayFail S.tells) }
 {
     let mut lines = Items::new(alloc);
     for row in rows {
         let line = package_line(alloc, texts, store, release, row)?;
-        let Ok(()) = lines.push(line) else {
-            return Err(Fault::Memory);
-        };
+        lines.push(line)?;
     }
     Ok(lines)
 }
@@ -77,7 +80,9 @@ pub fn release<T: Texts, S: Store>(
     store: &mut S,
     name: &Text,
 ) -> Result<Answer, Fault>
-    ensures answer { (w : Readings) → T.are_right w → IfOk result (λ answer. OfRows (λ t. answer ≡ queried_from w t (Query.Release name.now)) (S.seen store.old) (S.seen store.new)) }
+    ensures answer { (w : Readings) → T.are_right w → IfOk result (λ answer.
+        OfRows (λ t. answer ≡ queried_from w t (Query.Release name.now))
+        (S.seen store.old) (S.seen store.new)) }
     ensures kept { Looked (S.seen store.old) (S.seen store.new) result }
     ensures fault { IfErr result (MayFail S.tells) }
 {

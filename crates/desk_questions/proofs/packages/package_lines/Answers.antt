@@ -15,7 +15,7 @@ loop-row-preserved g c =
       lines = λ w right h t held.
           let told : PackageRow → PackageLine = package_line (conclusion_found w t) (choice_found t c.args.release.now) in
           let yielded : List PackageRow = c.loop-row.yielded in
-          c.in-Ok.ensures.ok
+          c.in_ok-push.ensures.ok
           ∙ (ap (λ (xs : List PackageLine). xs ++ c.in_ok-line.line ∷ []) (c.loop-row.invariant.lines w right (one.kept.kept.spared.honest h) t held)
           ∙ (ap (λ (line : PackageLine). map told yielded ++ line ∷ []) (one.line w right h t (c.loop-row.invariant.same.kept.spared.holds t held))
           ∙ sym (map-append told yielded (c.in-Some.row ∷ []))));
