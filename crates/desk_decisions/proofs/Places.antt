@@ -7,6 +7,9 @@ use Rattle.desk_rows.specs.Readings.{Readings}
 use Rattle.desk_rows.specs.Keys.{is_document, is_package, is_attachment}
 use Rattle.desk_rows.specs.Tables.{Tables}
 use Rattle.desk_history.specs.FromTables.{answer_from, change_for, chosen_change, release_found, conclusion_found, known_document}
+use Rattle.desk_rows.specs.declared.reading.Conclusion.{Conclusion}
+use Rattle.desk_packages.specs.Claims.{read_claim}
+use Rattle.desk_packages.specs.declared.conclusion.Claim.{Claim}
 use Rattle.desk_access.specs.Seen.{Seen, OfRows}
 use Rattle.desk_access.specs.Plans.{IsPlan, IsPlanOf}
 use Rattle.desk_rows.specs.Answers.{first_bad}
@@ -62,3 +65,13 @@ module _ {Left : Type 0} where
       subst (λ (a : Answer). IsPlan a (change_for w t (Choose r d p texts)) plan) (choice_known w t r d p texts terms are.0 are.1)
       (subst (λ (x : List (List ℕ)). IsPlan (choose_found w t r d p terms) (chosen_change r d p (sorted_set x)) plan) are.1 (is h t held))
   chosen_plan old new w r d p texts terms (Err fault) are is = tt
+
+-- what is chosen at a place that was found, under a claim that is the package's, is what is chosen there
+pub chosen_at : (w : Readings) (t : Tables) (r : List ℕ) (d : ℕ) (p : List ℕ) (terms : List (List ℕ)) (place : Place) (claim : Claim) (plan : Plan)
+    → IsFound t r d p (Here place) → read_claim w claim ≡ conclusion_found w t place.row
+    → IsPlan (choose_for w terms (read_claim w claim) place.row) (chosen_change r place.document p (sorted_set terms)) plan
+    → IsPlan (choose_found w t r d p terms) (chosen_change r d p (sorted_set terms)) plan
+chosen_at w t r d p terms place claim plan there same planned =
+    subst (λ (n : ℕ). IsPlan (choose_found w t r d p terms) (chosen_change r n p (sorted_set terms)) plan) there.0
+    (subst (λ (answer : Answer). IsPlan answer (chosen_change r place.document p (sorted_set terms)) plan)
+    (ap (λ (c : Option Conclusion). choose_for w terms c place.row) same ∙ there.1 w terms) planned)
