@@ -110,7 +110,8 @@ fn push_change(
 /// Takes the last change of a group out again.
 fn pop_change(alloc: Global, groups: &mut Vec<Items<ChangeRow>>, place: usize)
     requires { place < vec_len groups.old }
-    ensures undone { (before : List (List ChangeRow)) (change : ChangeRow) → groups.old.items ≡ more_at before place change → groups.new.items ≡ before }
+    ensures undone { (before : List (List ChangeRow)) (change : ChangeRow)
+        → groups.old.items ≡ more_at before place change → groups.new.items ≡ before }
     ensures len { vec_len groups.new ≡ vec_len groups.old }
 {
     let group = &mut groups[place];
@@ -160,7 +161,8 @@ fn standings_of(
     release: &str,
 ) -> Result<Vec<Standing>, AllocError>
     requires { grouped 1 groups.now ≡ true }
-    ensures { IfOk result (λ found. found.items ≡ map (standing_in (all_of groups.now)) (filter (is_duty_of release.now) rows.now)) }
+    ensures { IfOk result (λ found. found.items
+        ≡ map (standing_in (all_of groups.now)) (filter (is_duty_of release.now) rows.now)) }
 {
     let mut found = Vec::new(alloc);
     for row in rows {
@@ -192,7 +194,8 @@ fn ended(
     day: Day,
 ) -> Result<Vec<Standing>, AllocError>
     requires { grouped 1 groups.now ≡ true }
-    ensures { IfOk result (λ found. found.items ≡ map (standing_in (all_of groups.now)) (filter (ends_in (all_of groups.now) day) rows.now)) }
+    ensures { IfOk result (λ found. found.items
+        ≡ map (standing_in (all_of groups.now)) (filter (ends_in (all_of groups.now) day) rows.now)) }
 {
     let mut found = Vec::new(alloc);
     for row in rows {
@@ -257,9 +260,7 @@ fn push_next(groups: &mut Vec<Items<ChangeRow>>, change: ChangeRow) -> Result<()
     ensures fault { IfErr result (λ fault. fault ≡ Fault.Memory) }
 {
     let place = (change.duty - 1) as usize;
-    let Ok(()) = push_change(groups, place, change) else {
-        return Err(Fault::Memory);
-    };
+    push_change(groups, place, change)?;
     Ok(())
 }
 
@@ -287,7 +288,9 @@ fn places_of(alloc: Global, changes: &[ChangeRow]) -> Result<Vec<Place>, AllocEr
 /// Takes the last changes of these duties out again, one after the other.
 fn pop_all(alloc: Global, groups: &mut Vec<Items<ChangeRow>>, places: &[Place])
     requires { AreWithin (vec_len groups.old) places.now }
-    ensures undone { (before : List (List ChangeRow)) (changes : List ChangeRow) → map place_of changes ≡ places.now → groups.old.items ≡ pushed changes before → groups.new.items ≡ before }
+    ensures undone { (before : List (List ChangeRow)) (changes : List ChangeRow)
+        → map place_of changes ≡ places.now → groups.old.items ≡ pushed changes before
+        → groups.new.items ≡ before }
     ensures len { vec_len groups.new ≡ vec_len groups.old }
 {
     for place in places {
@@ -305,16 +308,17 @@ fn push_all(
     requires grouped { grouped 1 groups.old.items ≡ true }
     requires places { ArePlaces (vec_len groups.old) changes.items places.now }
     requires turn { are_in_turn 0 (vec_len groups.old) (all_of groups.old.items) changes.items ≡ true }
-    ensures put { OnOk result (all_of groups.new.items ≡ put_all change_below changes.items (all_of groups.old.items)) }
+    ensures put { OnOk result
+        (all_of groups.new.items ≡ put_all change_below changes.items (all_of groups.old.items)) }
     ensures grouped { grouped 1 groups.new.items ≡ true }
     ensures err { OnErr result (groups.new.items ≡ groups.old.items) }
     ensures len { vec_len groups.new ≡ vec_len groups.old }
     ensures fault { IfErr result (λ fault. fault ≡ Fault.Memory) }
 {
     while let Some(change) = changes.pop() {
-        if push_next(groups, change).is_err() {
+        if let Err(fault) = push_next(groups, change) {
             pop_all(alloc, groups, &places[changes.len() + 1..]);
-            return Err(Fault::Memory);
+            return Err(fault);
         }
     }
     Ok(())
@@ -335,7 +339,8 @@ fn set_states(rows: &mut Vec<DutyRow>, places: &[Place])
 
 /// The first changes of duties, each in a group of its own.
 fn singles(alloc: Global, changes: Vec<ChangeRow>) -> Result<Vec<Items<ChangeRow>>, AllocError>
-    ensures { (first : ℕ) → IfOk result (λ groups. are_first first changes.items ≡ true → AreSingles first changes.items groups.items) }
+    ensures { (first : ℕ) → IfOk result
+        (λ groups. are_first first changes.items ≡ true → AreSingles first changes.items groups.items) }
 {
     let mut groups = Vec::new(alloc);
     for change in changes {
@@ -387,7 +392,8 @@ impl Ledger {
 
     /// Where the duties of a release stand.
     pub fn standings_of(&self, release: &str) -> Result<Vec<Standing>, AllocError>
-        ensures { IfOk result (λ found. found.items ≡ map (standing_in (all_of self.now.groups.items)) (filter (is_duty_of release.now) self.now.duties.items)) }
+        ensures { IfOk result (λ found. found.items ≡ map (standing_in (all_of self.now.groups.items))
+            (filter (is_duty_of release.now) self.now.duties.items)) }
     {
         let groups = self.groups.as_slice();
         standings_of(self.alloc, self.duties.as_slice(), groups, release)
@@ -395,7 +401,8 @@ impl Ledger {
 
     /// Where the duties stand that are waived up to a day before this one.
     pub fn ended(&self, day: Day) -> Result<Vec<Standing>, AllocError>
-        ensures { IfOk result (λ found. found.items ≡ map (standing_in (all_of self.now.groups.items)) (filter (ends_in (all_of self.now.groups.items) day) self.now.duties.items)) }
+        ensures { IfOk result (λ found. found.items ≡ map (standing_in (all_of self.now.groups.items))
+            (filter (ends_in (all_of self.now.groups.items) day) self.now.duties.items)) }
     {
         let groups = self.groups.as_slice();
         ended(self.alloc, self.duties.as_slice(), groups, day)
@@ -436,7 +443,8 @@ impl Ledger {
 
     /// Whether each of some changes is the next one of its duty, by rising numbers.
     fn can_move(&self, changes: &[ChangeRow]) -> bool
-        ensures { result ≡ are_in_turn 0 (length self.now.groups.items) (all_of self.now.groups.items) changes.now }
+        ensures { result
+            ≡ are_in_turn 0 (length self.now.groups.items) (all_of self.now.groups.items) changes.now }
     {
         are_in_turn(self.groups.as_slice(), changes)
     }
@@ -444,7 +452,8 @@ impl Ledger {
     /// Whether the duties and changes of a change of the rows go on from those that stand.
     pub fn can_take(&self, change: &Change) -> bool
         ensures is { result ≡ can_take change.now self.now.duties.items self.now.groups.items }
-        ensures follows { (t : Tables) → t.duty ≡ self.now.duties.items → t.changes ≡ all_of self.now.groups.items → Follows change.now t → result ≡ true }
+        ensures follows { (t : Tables) → t.duty ≡ self.now.duties.items
+            → t.changes ≡ all_of self.now.groups.items → Follows change.now t → result ≡ true }
     {
         match change {
             Change::Froze {
@@ -460,16 +469,16 @@ impl Ledger {
 
     /// Moves each of some duties by a change that is the next of its own, or does nothing.
     pub fn move_all(&mut self, changes: Vec<ChangeRow>) -> Result<(), Fault>
-        requires { are_in_turn 0 (length self.old.groups.items) (all_of self.old.groups.items) changes.items ≡ true }
+        requires { are_in_turn 0 (length self.old.groups.items) (all_of self.old.groups.items) changes.items
+            ≡ true }
         ensures duties { OnOk result (self.new.duties.items ≡ moved_by changes.items self.old.duties.items) }
-        ensures changes { OnOk result (all_of self.new.groups.items ≡ put_all change_below changes.items (all_of self.old.groups.items)) }
+        ensures changes { OnOk result (all_of self.new.groups.items
+            ≡ put_all change_below changes.items (all_of self.old.groups.items)) }
         ensures duties_err { OnErr result (self.new.duties.items ≡ self.old.duties.items) }
         ensures changes_err { OnErr result (self.new.groups.items ≡ self.old.groups.items) }
         ensures fault { IfErr result (λ fault. fault ≡ Fault.Memory) }
     {
-        let Ok(places) = places_of(self.alloc, changes.as_slice()) else {
-            return Err(Fault::Memory);
-        };
+        let places = places_of(self.alloc, changes.as_slice())?;
         push_all(self.alloc, &mut self.groups, changes, places.as_slice())?;
         set_states(&mut self.duties, places.as_slice());
         Ok(())
@@ -479,20 +488,15 @@ impl Ledger {
     pub fn append(&mut self, mut duties: Vec<DutyRow>, changes: Vec<ChangeRow>) -> Result<(), Fault>
         requires { can_append (length self.old.duties.items) duties.items changes.items ≡ true }
         ensures duties { OnOk result (self.new.duties.items ≡ self.old.duties.items ++ duties.items) }
-        ensures changes { OnOk result (all_of self.new.groups.items ≡ all_of self.old.groups.items ++ changes.items) }
+        ensures changes { OnOk result
+            (all_of self.new.groups.items ≡ all_of self.old.groups.items ++ changes.items) }
         ensures duties_err { OnErr result (self.new.duties.items ≡ self.old.duties.items) }
         ensures changes_err { OnErr result (self.new.groups.items ≡ self.old.groups.items) }
         ensures fault { IfErr result (λ fault. fault ≡ Fault.Memory) }
     {
-        let Ok(mut groups) = singles(self.alloc, changes) else {
-            return Err(Fault::Memory);
-        };
-        let Ok(()) = self.duties.reserve(duties.len()) else {
-            return Err(Fault::Memory);
-        };
-        let Ok(()) = self.groups.append(&mut groups) else {
-            return Err(Fault::Memory);
-        };
+        let mut groups = singles(self.alloc, changes)?;
+        self.duties.reserve(duties.len())?;
+        self.groups.append(&mut groups)?;
         let Ok(()) = self.duties.append(&mut duties) else {
             unreachable!()
         };

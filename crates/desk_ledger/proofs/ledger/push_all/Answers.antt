@@ -1,5 +1,6 @@
 use Rattle.std.proofs.Common.{◌≡◌, ◌∙◌, ◌+◌, List, ap, sym, subst, drop, length, true, vec_len, ℕ, arith}
 use Rattle.std.specs.List.{list_all}
+use Rattle.std.specs.Result.{is_err}
 use Rattle.desk_rows.specs.declared.row.ChangeRow.{ChangeRow}
 use Rattle.desk_ledger.specs.declared.ledger.Place.{Place}
 use Rattle.desk_ledger.specs.Ledgers.{AreWithin, all_of, are_in_turn, grouped, is_within}
@@ -37,8 +38,8 @@ pub loop-change-preserved : goal.loop-change-preserved
 loop-change-preserved c =
     let groups = c.loop-change.groups in
     let later = c.push_next.new.groups in
-    let more = from_ok c.push_next.result c.if-is_err.ensures.value c.push_next.ensures.ok in
-    let put = from_ok c.push_next.result c.if-is_err.ensures.value c.push_next.ensures.put in
+    let more = from_ok c.push_next.result (sym (ap is_err c.in_default-push_next.is)) c.push_next.ensures.ok in
+    let put = from_ok c.push_next.result (sym (ap is_err c.in_default-push_next.is)) c.push_next.ensures.put in
     record {
       pushed = pushed_step c.args.changes.items c.loop-change.changes.items c.pop.new.self.items c.in-Some.change c.args.groups.now.items groups.items later.items c.loop-change.invariant.pushed c.in-Some.ensures.items more put c.push_next.ensures.grouped;
       len = c.push_next.ensures.len ∙ c.loop-change.invariant.len;
@@ -46,15 +47,15 @@ loop-change-preserved c =
           ∙ left_turn (vec_len groups) groups.items later.items c.pop.new.self.items c.loop-change.changes.items c.in-Some.change c.in-Some.ensures.items more c.loop-change.invariant.turn;
     }
 
-pub returns-then-is_err-clause-err : goal.returns-then-is_err-clause-err
-returns-then-is_err-clause-err c =
+pub returns-in-Err-clause-err : goal.returns-in-Err-clause-err
+returns-in-Err-clause-err c =
     let has = c.loop-change.invariant.pushed in
     let places : List Place = c.args.places.now in
     let count : length c.pop.new.self.items ≡ c.len.result = omega (arith, c.len.ensures, c.pop.new.self.ok.0) in
     let told = told_drop c.args.changes.items c.loop-change.changes.items c.pop.new.self.items c.in-Some.change c.args.groups.now.items c.loop-change.groups.items places has c.in-Some.ensures.items c.requires.places.0 in
     c.pop_all.ensures.undone c.args.groups.now.items has.done
     (told ∙ (ap (λ (k : ℕ). drop (k + 1) places) count ∙ sym (rest_of places (c.len.result + 1))))
-    (from_err c.push_next.result c.if-is_err.ensures.value c.push_next.ensures.err ∙ has.is)
+    (from_err c.push_next.result (sym (ap is_err c.in-Err.is)) c.push_next.ensures.err ∙ has.is)
 
-pub returns-then-is_err-clause-grouped : goal.returns-then-is_err-clause-grouped
-returns-then-is_err-clause-grouped c = ap (grouped 1) (returns-then-is_err-clause-err c) ∙ c.requires.grouped
+pub returns-in-Err-clause-grouped : goal.returns-in-Err-clause-grouped
+returns-in-Err-clause-grouped c = ap (grouped 1) (returns-in-Err-clause-err c) ∙ c.requires.grouped

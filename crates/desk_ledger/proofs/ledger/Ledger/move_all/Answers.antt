@@ -11,7 +11,7 @@ pub push_all-requires-clause-places : goal.push_all-requires-clause-places
 push_all-requires-clause-places c =
     let self = c.args.self.now in
     let changes = c.args.changes.items in
-    let told : map place_of changes ≡ c.as_slice-2.result.now = ap (map place_of) (sym c.as_slice.ensures.value) ∙ (c.in-Ok.ensures ∙ sym c.as_slice-2.ensures.value) in
+    let told : map place_of changes ≡ c.as_slice-2.result.now = ap (map place_of) (sym c.as_slice.ensures.value) ∙ (c.in_ok-places.ensures ∙ sym c.as_slice-2.ensures.value) in
     let count : length self.groups.items ≡ vec_len self.groups = omega (arith, self.groups.ok.0) in
     (told, within_places (vec_len self.groups) (length self.groups.items) (all_of self.groups.items) changes c.as_slice-2.result.now c.requires count told)
 
@@ -19,7 +19,7 @@ pub set_states-requires-clause-within : goal.set_states-requires-clause-within
 set_states-requires-clause-within c =
     let self = c.args.self.now in
     let changes = c.args.changes.items in
-    let told : map place_of changes ≡ c.as_slice-3.result.now = ap (map place_of) (sym c.as_slice.ensures.value) ∙ (c.in-Ok.ensures ∙ sym c.as_slice-3.ensures.value) in
+    let told : map place_of changes ≡ c.as_slice-3.result.now = ap (map place_of) (sym c.as_slice.ensures.value) ∙ (c.in_ok-places.ensures ∙ sym c.as_slice-3.ensures.value) in
     let count : length self.groups.items ≡ vec_len self.duties = omega (arith, self.paired, self.duties.ok.0) in
     within_places (vec_len self.duties) (length self.groups.items) (all_of self.groups.items) changes c.as_slice-3.result.now c.requires count told
 
@@ -27,7 +27,7 @@ pub returns-clause-duties : goal.returns-clause-duties
 returns-clause-duties c =
     let rows : List DutyRow = c.args.self.now.duties.items in
     c.set_states.ensures
-    ∙ (ap (λ (ps : List Place). standing_by ps rows) (c.as_slice-3.ensures.value ∙ sym c.in-Ok.ensures)
+    ∙ (ap (λ (ps : List Place). standing_by ps rows) (c.as_slice-3.ensures.value ∙ sym c.in_ok-places.ensures)
     ∙ (standing_moved c.as_slice.result.now rows ∙ ap (λ cs. moved_by cs rows) c.as_slice.ensures.value))
 
 pub invariant_of-self-2 : goal.invariant_of-self-2
