@@ -10,11 +10,11 @@ use Rattle.desk_rows.specs.declared.command.Fault.{Fault}
 use Rattle.desk_rows.specs.declared.command.Fault.TheVariants.{Memory, Store}
 use Rattle.desk_rows.specs.declared.command.Plan.{Plan}
 use Rattle.desk_rows.specs.declared.command.Plan.TheVariants.{Leave, Make}
-use Rattle.desk_history.specs.FromTables.{answer_from, change_for}
 use Rattle.desk_access.specs.Follows.{Follows}
 use Rattle.std.specs.Prelude.{IfOk, IfErr}
 use Rattle.desk_rows.specs.Faults.{MayFail}
-use Rattle.desk_access.specs.Seen.{Seen, Kept, Same, OfRows, Minds, Decides}
+use Rattle.desk_access.specs.Seen.{Seen, Kept, Same, OfRows, Minds}
+use Rattle.desk_decisions.specs.Carrying.{CarriesOutFrom}
 use Rattle.desk_access.specs.Plans.{IsPlan, IsPlanOf, IsSound, SparesStore, Plans, Carries}
 use Rattle.desk_access.proofs.Chains.{same_then_kept, same_then_same}
 use Rattle.desk_decisions.proofs.Following.{change_follows}
@@ -62,11 +62,11 @@ module _ {Left : Type 0} where
 
   module _ (stands : Left → Tables → Type 0) (w : Readings) (c : Command) where
     pub decides_undecided : (old new : Seen Left) (fault : Fault) → Kept old new
-        → Decides stands (λ _. Unit {0}) (λ t. t) (λ t. applied (change_for w t c) t) (λ t. answer_from w t c) old new (Err fault)
+        → CarriesOutFrom stands w c old new (Err fault)
     decides_undecided old new fault k = λ h o t u held x left. inl (k.leaves h o t held x left)
 
     pub decides_carried : (old mid new : Seen Left) (plan : Plan) (r : Result Answer Fault) → Same old mid → IsSound plan → OfRows (IsPlanOf w c plan) old mid → Carries stands plan mid new r
-        → Decides stands (λ _. Unit {0}) (λ t. t) (λ t. applied (change_for w t c) t) (λ t. answer_from w t c) old new r
+        → CarriesOutFrom stands w c old new r
     decides_carried old mid new (Leave x) (Ok y) s sound is did =
         let none : is_recorded y ≡ true → ⊥ = λ kept. contrary (is_recorded x) (ap is_recorded (sym did.0) ∙ kept) sound in
         let honest = did.1.kept.spared.honest in
