@@ -18,7 +18,7 @@ both_hex false b c h k l = absurd cc
 both_hex true false c h k l = absurd cc
 both_hex true true false h k l = absurd cc
 
-all_hex : (xs : List ℕ) → All (λ b. b < 256) xs → list_all is_hex (encode_lower xs) ≡ true
+pub all_hex : (xs : List ℕ) → All (λ b. b < 256) xs → list_all is_hex (encode_lower xs) ≡ true
 unfolding encode_with
 all_hex [] h = refl
 all_hex (x ∷ xs) h =

@@ -44,7 +44,7 @@ document_named : (d : Draft) (p : Places) (rest : List EntryText) → missing_of
 document_named d p rest = refl
 
 -- the files begin sections of their own
-head_of_files : (k : ℕ) (fs : List DraftFile) (es : List EntryText) → AreFileEntries k fs es → head_of es ≡ []
+pub head_of_files : (k : ℕ) (fs : List DraftFile) (es : List EntryText) → AreFileEntries k fs es → head_of es ≡ []
 head_of_files k [] es is = ap head_of is
 head_of_files k (f ∷ fs) es is = ap head_of is.6
 
@@ -88,7 +88,7 @@ files_given k (f ∷ fs) es is digests =
       files_given (k + 1) fs is.5 is.7 (All-tail IsDigestRead f fs digests),
     )
 
-package_head : (d : Draft) (p : Places) (rest : List EntryText) → head_of rest ≡ [] → head_of (package_entries d p rest) ≡ package_entries d p []
+pub package_head : (d : Draft) (p : Places) (rest : List EntryText) → head_of rest ≡ [] → head_of (package_entries d p rest) ≡ package_entries d p []
 package_head d p rest none =
     let e1 = entry p.i tags.Identifier (codes "SPDXRef-Package") in
     let e2 = entry p.j tags.DownloadLocation (codes "NOASSERTION") in
@@ -118,7 +118,7 @@ edge_given d p rest is =
     let x = edge_of (entry p.o tags.Relationship (codes "SPDXRef-DOCUMENT DESCRIBES SPDXRef-Package")) in
     subst (λ l. IsOnlyEdge (x ∷ l)) (sym (no_edges 1 d.files rest is)) (refl, refl, refl)
 
-draft_given : (d : Draft) (p : Places) (rest : List EntryText) → AreFileEntries 1 d.files rest → All IsDigestRead d.files → GivesDraft d (document_of (head_entries d p rest))
+pub draft_given : (d : Draft) (p : Places) (rest : List EntryText) → AreFileEntries 1 d.files rest → All IsDigestRead d.files → GivesDraft d (document_of (head_entries d p rest))
 draft_given d p rest is digests = record {
   name = refl;
   namespace = refl;
