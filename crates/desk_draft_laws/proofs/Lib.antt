@@ -1,0 +1,6 @@
+mod Digests
+mod Spelled
+mod Shipping
+mod Contents
+mod States
+pub mod Ships
