@@ -4,3 +4,4 @@ mod Shipping
 mod Contents
 mod States
 pub mod Ships
+pub mod Trees

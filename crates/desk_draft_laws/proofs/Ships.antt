@@ -1,15 +1,14 @@
 -- What a draft's text spells ships the draft's package, whose code agrees.
-use Rattle.std.proofs.Common.{◌≡◌, ◌∙◌, List, [], ◌∷◌, ℕ, ap, sym, subst, refl, get_or, Some, Ok}
+use Rattle.std.proofs.Common.{◌≡◌, ◌∙◌, List, [], ◌∷◌, ℕ, ap, sym, subst, refl, get_or, Some}
 use Rattle.std.specs.Prelude.{All, codes, slice_get}
 use Rattle.desk_draft_laws.proofs.Contents.{files_of_package}
 use Rattle.desk_draft_laws.proofs.Shipping.{only_edge, package_marked, package_ships}
 use Rattle.desk_draft_laws.proofs.Spelled.{document_spelled}
 use Rattle.desk_draft_laws.proofs.States.{code_agrees}
-use Rattle.desk_draft_laws.specs.Shipping.{IsDigest, IsTextOf, ShipsDraft}
+use Rattle.desk_draft_laws.specs.Shipping.{IsDigest, IsTextOf, ShipsWhenRead}
 use Rattle.desk_fields.specs.declared.tag.Tag.TheVariants as tags
 use Rattle.desk_tagvalue.specs.declared.drafts.Draft.{Draft}
 use Rattle.desk_tagvalue.specs.declared.drafts.DraftFile.{DraftFile}
-use Rattle.desk_tagvalue.specs.Documents.{Spells}
 use Rattle.desk_tagvalue.specs.Entries.{EntryText, value_of}
 use Rattle.desk_tagvalue.specs.Given.{GivesDraft, IsOnlyPackage, IsPackage}
 use Rattle.desk_tagvalue.specs.Parts.{DocumentText, PackageText, document_of, package_of, parts_of, section_at}
@@ -35,8 +34,8 @@ analyzed d x at rest p is files only =
 digests_read : (fs : List DraftFile) → All IsDigest fs → All IsDigestRead fs
 digests_read fs digests i f within = let is = digests i f within in digest_read (get_or fs i f).digest is.0 is.1
 
-pub ships_draft : (d : Draft) (text : List ℕ) (x : DocumentText) → All IsDigest d.files → IsTextOf d text → Spells text (Ok x) → ShipsDraft d x
-ships_draft d text x digests is spells =
+pub ships_draft : (d : Draft) (text : List ℕ) → All IsDigest d.files → IsTextOf d text → ShipsWhenRead d text
+ships_draft d text digests is x spells =
     let read = document_spelled d text x is.lines spells in
     let given = subst (GivesDraft d) (sym read.2) (draft_given d read.0 read.1 read.3 (digests_read d.files digests)) in
     let held = only_package d x.packages given.packages in

@@ -1,8 +1,9 @@
 -- What a document that is read from a draft's text says of the draft's package (SPDX 2.3, clauses 7.9 and 11.1).
-use Rattle.std.specs.Prelude.{◌≡◌, ◌<◌, ℕ, true, List, [], ◌∷◌, length, map, All}
+use Rattle.std.specs.Prelude.{◌≡◌, ◌<◌, ℕ, true, List, [], ◌∷◌, length, map, All, Ok}
 use Rattle.desk_bom.specs.Codes.{IsCode, IsState}
 use Rattle.desk_bom.specs.Shipping.{AreShipped, AreShippingMarks}
 use Rattle.desk_bom.specs.declared.state.CodeState.TheVariants as states
+use Rattle.desk_tagvalue.specs.Documents.{Spells}
 use Rattle.desk_tagvalue.specs.Drafts.{draft_lines}
 use Rattle.desk_tagvalue.specs.Given.{GivesDraft}
 use Rattle.desk_tagvalue.specs.Parts.{DocumentText}
@@ -28,3 +29,7 @@ pub record ShipsDraft (d : Draft) (x : DocumentText) : Type 0 where
   pub marks : AreShippingMarks x (true ∷ [])
   -- the package's verification code is that of its files
   pub agrees : IsState x 0 states.Agrees
+
+-- what a text spells ships a draft's package
+abbrev pub ShipsWhenRead : Draft → List ℕ → Type 0
+ShipsWhenRead d text = (x : DocumentText) → Spells text (Ok x) → ShipsDraft d x
