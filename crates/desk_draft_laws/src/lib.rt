@@ -18,7 +18,8 @@ pub fn drafts_ship()
     ensures { (d : Draft) (text : List ℕ) → All IsDigest d.files → IsTextOf d text → ShipsWhenRead d text }
 {}
 
-/// So does what is spelled by the text of a tree's draft, whose code is that of its files' digests.
+/// What the text of a tree's draft spells ships the draft's package, and the package's code agrees, where the draft's code is that
+/// of its files' digests.
 pub fn drafts_of_trees_ship()
     ensures { (r : Reader) (files : List SourceFile) (title : Named) (d : Draft) (text : List ℕ) → draft_of r files title d.code ≡ Ok d → IsTextOf d text → ShipsWhenRead d text }
 {}
