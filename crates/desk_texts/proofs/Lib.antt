@@ -3,3 +3,4 @@ mod Terms
 mod Costs
 pub mod Orders
 pub mod Halving
+mod Verdicts
