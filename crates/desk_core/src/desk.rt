@@ -46,15 +46,19 @@ pub trait Desk {
     /// Carries out a command, or refuses it.
     fn apply(&mut self, command: &Command) -> Result<Answer, Fault>
         ensures minds { Minds (seen self.old) (seen self.new) result }
-        ensures carries { (w : Readings) → are_right w → CarriesOut stands w command.now (seen self.old) (seen self.new) result }
-        ensures alone { (w : Readings) → are_right w → IfErr result (MayFail (λ fault. refused_alone w command.now ≡ false)) }
+        ensures carries { (w : Readings) → are_right w
+            → CarriesOut stands w command.now (seen self.old) (seen self.new) result }
+        ensures alone { (w : Readings) → are_right w
+            → IfErr result (MayFail (λ fault. refused_alone w command.now ≡ false)) }
         ensures fault { IfErr result (MayFail tells) };
 
     /// Carries out the import of these bytes as `apply` does; a desk may keep the bytes themselves, where `apply` keeps a copy.
     fn import(&mut self, bytes: Items<u8>, profile: Profile) -> Result<Answer, Fault>
         ensures minds { Minds (seen self.old) (seen self.new) result }
-        ensures carries { (w : Readings) → are_right w → CarriesOut stands w (Import bytes profile) (seen self.old) (seen self.new) result }
-        ensures alone { (w : Readings) → are_right w → IfErr result (MayFail (λ fault. refused_alone w (Import bytes profile) ≡ false)) }
+        ensures carries { (w : Readings) → are_right w
+            → CarriesOut stands w (Import bytes profile) (seen self.old) (seen self.new) result }
+        ensures alone { (w : Readings) → are_right w
+            → IfErr result (MayFail (λ fault. refused_alone w (Import bytes profile) ≡ false)) }
         ensures fault { IfErr result (MayFail tells) }
     {
         let command = Command::Import { bytes, profile };
@@ -63,7 +67,8 @@ pub trait Desk {
 
     /// Answers a question, and changes nothing.
     fn ask(&mut self, query: &Query) -> Result<Answer, Fault>
-        ensures answer { IfOk result (λ a. InHistory are_right (λ w h. a ≡ queried w h query.now) (seen self.old) (seen self.new)) }
+        ensures answer { IfOk result (λ a.
+            InHistory are_right (λ w h. a ≡ queried w h query.now) (seen self.old) (seen self.new)) }
         ensures kept { Looked (seen self.old) (seen self.new) result }
         ensures fault { IfErr result (MayFail tells) };
 }
@@ -143,8 +148,11 @@ impl<T: Texts, S: Store> Desk for TableDesk<T, S> {
 /// Applies one command.
 fn apply_one<D: Desk>(desk: &mut D, command: &Command) -> Outcome
     ensures honest { (D.seen desk.new).is_honest → (D.seen desk.old).is_honest }
-    ensures answer { InHistory D.are_right (λ w h. IsAnswer w h command.now result) (D.seen desk.old) (D.seen desk.new) }
-    ensures content { InHistory D.are_right (λ w h. (D.seen desk.new).holds (tables w (history_with h command.now result))) (D.seen desk.old) (D.seen desk.new) }
+    ensures answer { InHistory D.are_right (λ w h. IsAnswer w h command.now result)
+        (D.seen desk.old) (D.seen desk.new) }
+    ensures content { InHistory D.are_right
+        (λ w h. (D.seen desk.new).holds (tables w (history_with h command.now result)))
+        (D.seen desk.old) (D.seen desk.new) }
     ensures fault { MayBecome D.tells result }
 {
     Outcome::from(desk.apply(command))
@@ -161,9 +169,16 @@ pub fn run<D: Desk>(
     desk: &mut D,
     commands: &[Command],
 ) -> Result<Vec<Outcome>, AllocError>
-    ensures answers { IfOk result (λ outcomes. InHistory D.are_right (λ w h. AreAnswers w h commands.now outcomes.items) (D.seen desk.old) (D.seen desk.new)) }
-    ensures history { IfOk result (λ outcomes. InHistory D.are_right (λ w h. IsHistory w (history_after h commands.now outcomes.items)) (D.seen desk.old) (D.seen desk.new)) }
-    ensures content { IfOk result (λ outcomes. InHistory D.are_right (λ w h. (D.seen desk.new).holds (tables w (history_after h commands.now outcomes.items))) (D.seen desk.old) (D.seen desk.new)) }
+    ensures answers { IfOk result (λ outcomes.
+        InHistory D.are_right (λ w h. AreAnswers w h commands.now outcomes.items)
+        (D.seen desk.old) (D.seen desk.new)) }
+    ensures history { IfOk result (λ outcomes.
+        InHistory D.are_right (λ w h. IsHistory w (history_after h commands.now outcomes.items))
+        (D.seen desk.old) (D.seen desk.new)) }
+    ensures content { IfOk result (λ outcomes.
+        InHistory D.are_right
+        (λ w h. (D.seen desk.new).holds (tables w (history_after h commands.now outcomes.items)))
+        (D.seen desk.old) (D.seen desk.new)) }
     ensures honest { (D.seen desk.new).is_honest → (D.seen desk.old).is_honest }
     ensures faults { IfOk result (λ outcomes. MayAllBecome D.tells outcomes.items) }
     ensures count { IfOk result (λ outcomes. length outcomes.items ≡ length commands.now) }
@@ -185,9 +200,13 @@ pub fn run_in_memory<T: Texts + Drop>(
     texts: T,
     commands: &[Command],
 ) -> Result<(Vec<Outcome>, MemDesk<T>), AllocError>
-    ensures answers { (w : Readings) → T.are_right w → IfOk result (λ done. AreAnswers w [] commands.now done.0.items) }
-    ensures history { (w : Readings) → T.are_right w → IfOk result (λ done. IsHistory w (history_after [] commands.now done.0.items)) }
-    ensures content { (w : Readings) → T.are_right w → IfOk result (λ done. (⟦<TableDesk<T, MemStore> as Desk>⟧.seen done.1).holds (tables w (history_after [] commands.now done.0.items))) }
+    ensures answers { (w : Readings) → T.are_right w
+        → IfOk result (λ done. AreAnswers w [] commands.now done.0.items) }
+    ensures history { (w : Readings) → T.are_right w
+        → IfOk result (λ done. IsHistory w (history_after [] commands.now done.0.items)) }
+    ensures content { (w : Readings) → T.are_right w → IfOk result (λ done.
+        (⟦<TableDesk<T, MemStore> as Desk>⟧.seen done.1).holds
+        (tables w (history_after [] commands.now done.0.items))) }
     ensures faults { IfOk result (λ done. MayAllBecome (λ _. ⊥) done.0.items) }
     ensures count { IfOk result (λ done. length done.0.items ≡ length commands.now) }
 {

@@ -34,77 +34,102 @@ pub fn raised_exactly()
 /// The duties with their numbers are those of the freezes of the history, each freeze's numbered on, from 1, from all that the freezes
 /// before it raised. A number that was given stands, whatever is recorded later.
 pub fn duties_are_numbered_on()
-    ensures held { (w : Readings) (h : List Command) (d : ℕ × Owed) → IsNumbered w h d → IsIn d (numbered w h) }
-    ensures only { (w : Readings) (h : List Command) (d : ℕ × Owed) → IsIn d (numbered w h) → IsNumbered w h d }
-    ensures stays { (w : Readings) (later before : List Command) (d : ℕ × Owed) → IsIn d (numbered w before) → IsIn d (numbered w (later ++ before)) }
+    ensures held { (w : Readings) (h : List Command) (d : ℕ × Owed)
+        → IsNumbered w h d → IsIn d (numbered w h) }
+    ensures only { (w : Readings) (h : List Command) (d : ℕ × Owed)
+        → IsIn d (numbered w h) → IsNumbered w h d }
+    ensures stays { (w : Readings) (later before : List Command) (d : ℕ × Owed)
+        → IsIn d (numbered w before) → IsIn d (numbered w (later ++ before)) }
 {}
 
 /// What a freeze raises rises by document, package, term and code, no two at one key, where the reading of texts lists packages and
 /// codes in order (`order`). So of two duties of one release the one with the smaller number is before the other (`numbers`), and a
 /// duty's number is one more than the duties of earlier freezes and those of its own freeze that come before it (`counts`).
 pub fn freezes_raise_in_order()
-    ensures order { (w : Readings) (h : List Command) (r : List ℕ) → ListsInOrder w → IsHistory w h → Rises (below_by owed_order) (owed_at w h r) }
-    ensures numbers { (w : Readings) (h : List Command) → ListsInOrder w → IsHistory w h → let t = tables w h in AreNumberedInOrder t.duty }
-    ensures counts { (w : Readings) (h : List Command) (d : ℕ × Owed) → ListsInOrder w → IsHistory w h → IsIn d (numbered w h) → IsCounted w h d }
+    ensures order { (w : Readings) (h : List Command) (r : List ℕ)
+        → ListsInOrder w → IsHistory w h → Rises (below_by owed_order) (owed_at w h r) }
+    ensures numbers { (w : Readings) (h : List Command)
+        → ListsInOrder w → IsHistory w h → let t = tables w h in AreNumberedInOrder t.duty }
+    ensures counts { (w : Readings) (h : List Command) (d : ℕ × Owed)
+        → ListsInOrder w → IsHistory w h → IsIn d (numbered w h) → IsCounted w h d }
 {}
 
 /// Each choice that was recorded is a minimal set of its package's concluded expression.
 pub fn choices_are_minimal()
-    ensures { (w : Readings) (h later before : List Command) (r : List ℕ) (d : ℕ) (p : List ℕ) (texts : List (List ℕ)) → IsHistory w h → h ≡ later ++ Choose r d p texts ∷ before → IsMinimalChoice w before d p texts }
+    ensures { (w : Readings) (h later before : List Command) (r : List ℕ) (d : ℕ) (p : List ℕ)
+        (texts : List (List ℕ)) → IsHistory w h → h ≡ later ++ Choose r d p texts ∷ before
+        → IsMinimalChoice w before d p texts }
 {}
 
 /// A choice that is held for a package is a minimal set of terms for the expression that is concluded for the package now, and not
 /// only was one when it was made. Nothing is held where nothing was chosen.
 pub fn held_choices_are_minimal()
-    ensures { (w : Readings) (h : List Command) (r : List ℕ) (d : ℕ) (p : List ℕ) → IsHistory w h → (choice w h r d p ≡ [] → ⊥) → IsHeldMinimal w h d p (choice w h r d p) }
+    ensures { (w : Readings) (h : List Command) (r : List ℕ) (d : ℕ) (p : List ℕ)
+        → IsHistory w h → (choice w h r d p ≡ [] → ⊥) → IsHeldMinimal w h d p (choice w h r d p) }
 {}
 
 /// Each term that a release was frozen with was held for a package that it shipped then, and what was held for the package then was a
 /// minimal set of terms for its concluded expression.
 pub fn frozen_terms_were_held()
-    ensures held { (w : Readings) (h : List Command) (f : FrozenRow) → IsIn f (frozen w h) → IsFrozenTerm w h f }
-    ensures minimal { (w : Readings) (h : List Command) (f : FrozenRow) → IsHistory w h → (is : IsFrozenTerm w h f) → IsHeldMinimal w is.before is.row.document is.row.id (choice w is.before f.release is.row.document is.row.id) }
+    ensures held { (w : Readings) (h : List Command) (f : FrozenRow)
+        → IsIn f (frozen w h) → IsFrozenTerm w h f }
+    ensures minimal { (w : Readings) (h : List Command) (f : FrozenRow)
+        → IsHistory w h → (is : IsFrozenTerm w h f)
+        → IsHeldMinimal w is.before is.row.document is.row.id
+        (choice w is.before f.release is.row.document is.row.id) }
 {}
 
 /// The choice that stands for a package is the last one.
 pub fn last_choice_stands()
-    ensures { (w : Readings) (h : List Command) (r : List ℕ) (d : ℕ) (p : List ℕ) → filter (is_choice_of r d p) (standing w h) ≡ map (choice_row r d p) (choice w h r d p) }
+    ensures { (w : Readings) (h : List Command) (r : List ℕ) (d : ℕ) (p : List ℕ)
+        → filter (is_choice_of r d p) (standing w h) ≡ map (choice_row r d p) (choice w h r d p) }
 {}
 
 /// What the office concluded last for a package is its conclusion, and what a reference of a document was adopted as last its licence.
 pub fn last_conclusions_and_adoptions_stand()
-    ensures conclusions { (h : List Command) (d : ℕ) (p : List ℕ) → office_text (conclusions h) d p ≡ latest (text_given d p) h }
-    ensures adoptions { (w : Readings) (h : List Command) (d : ℕ) (reference : List ℕ) → licence_for (adoptions w h) d reference ≡ latest (licence_given w d reference) h }
+    ensures conclusions { (h : List Command) (d : ℕ) (p : List ℕ)
+        → office_text (conclusions h) d p ≡ latest (text_given d p) h }
+    ensures adoptions { (w : Readings) (h : List Command) (d : ℕ) (reference : List ℕ)
+        → licence_for (adoptions w h) d reference ≡ latest (licence_given w d reference) h }
 {}
 
 /// The duties of a release that are open, met, waived and withdrawn make all that it raised.
 pub fn totals_add_up()
-    ensures { (w : Readings) (h : List Command) (r : List ℕ) → let totals = totals_of (duties_of w h r) in totals.raised ≡ totals.still_open + totals.met + totals.waived + totals.withdrawn }
+    ensures { (w : Readings) (h : List Command) (r : List ℕ) → let totals = totals_of (duties_of w h r) in
+        totals.raised ≡ totals.still_open + totals.met + totals.waived + totals.withdrawn }
 {}
 
 /// No two duties of the table have the same key, where the reading of texts lists no package of a document and no code of a rule
 /// twice: a release is frozen once, a document attached once, and a choice is a set of terms.
 pub fn keys_are_distinct()
-    ensures { (w : Readings) (h : List Command) → ListsOnce w → IsHistory w h → let t = tables w h in AreDistinct (map key_of t.duty) }
+    ensures { (w : Readings) (h : List Command) → ListsOnce w → IsHistory w h → let t = tables w h in
+        AreDistinct (map key_of t.duty) }
 {}
 
 /// A duty of the table stands where the last of its changes in the table left it: open after it was raised, reopened or its waiver
 /// ended, met after a Meet, waived after a Waive, withdrawn after a withdrawal.
 pub fn each_place_is_told()
-    ensures { (w : Readings) (h : List Command) (duty : DutyRow) → let t = tables w h in IsIn duty t.duty → IsToldBy t.changes duty }
+    ensures { (w : Readings) (h : List Command) (duty : DutyRow) → let t = tables w h in
+        IsIn duty t.duty → IsToldBy t.changes duty }
 {}
 
 /// A withdrawal leaves a met duty as it is, withdraws each other duty of its release, and leaves the release without a choice.
 pub fn withdrawals_leave_met_duties()
-    ensures met { (w : Readings) (h : List Command) (r day text : List ℕ) (q : ℕ) → place w h q ≡ Met → moves w (Withdraw r day text ∷ h) q ≡ moves w h q }
-    ensures others { (w : Readings) (h : List Command) (r day text : List ℕ) (q : ℕ) → is_raised_for w h q r ≡ true → is_met (place w h q) ≡ false → place w (Withdraw r day text ∷ h) q ≡ Withdrawn }
-    ensures choices { (w : Readings) (h : List Command) (r day text : List ℕ) (d : ℕ) (p : List ℕ) → choice w (Withdraw r day text ∷ h) r d p ≡ [] }
+    ensures met { (w : Readings) (h : List Command) (r day text : List ℕ) (q : ℕ)
+        → place w h q ≡ Met → moves w (Withdraw r day text ∷ h) q ≡ moves w h q }
+    ensures others { (w : Readings) (h : List Command) (r day text : List ℕ) (q : ℕ)
+        → is_raised_for w h q r ≡ true → is_met (place w h q) ≡ false
+        → place w (Withdraw r day text ∷ h) q ≡ Withdrawn }
+    ensures choices { (w : Readings) (h : List Command) (r day text : List ℕ) (d : ℕ) (p : List ℕ)
+        → choice w (Withdraw r day text ∷ h) r d p ≡ [] }
 {}
 
 /// A CloseDay moves a duty only where its last move is a waiver whose last day is before that day, and opens it there.
 pub fn waivers_end_after_their_last_day()
-    ensures ends { (w : Readings) (h : List Command) (day : List ℕ) (q : ℕ) → IsOver w h day q → place w (CloseDay day ∷ h) q ≡ IsOpen }
-    ensures only { (w : Readings) (h : List Command) (day : List ℕ) (q : ℕ) → (moves w (CloseDay day ∷ h) q ≡ moves w h q) ⊎ IsOver w h day q }
+    ensures ends { (w : Readings) (h : List Command) (day : List ℕ) (q : ℕ)
+        → IsOver w h day q → place w (CloseDay day ∷ h) q ≡ IsOpen }
+    ensures only { (w : Readings) (h : List Command) (day : List ℕ) (q : ℕ)
+        → (moves w (CloseDay day ∷ h) q ≡ moves w h q) ⊎ IsOver w h day q }
 {}
 
 /// The tables of each list of commands, for each reading of texts, stand in the order of their keys: no row stands behind one that it
