@@ -40,76 +40,105 @@ ghost use Rattle.desk_history_laws.specs.Shipping.{IsShipped};
 /// each. The catalogue in force is that of the last text loaded: in a recorded history there is one as soon as a text was loaded, and
 /// its rules are those of the last revision.
 pub fn catalogues_are_the_loads()
-    ensures revisions { (h : List Command) → revisions h ≡ map revision_row (enumerate_from 1 (given loaded h)) }
+    ensures revisions { (h : List Command)
+        → revisions h ≡ map revision_row (enumerate_from 1 (given loaded h)) }
     ensures rules { (w : Readings) (h : List Command) → rule_rows w h ≡ flat_map (rules_of w) (revisions h) }
-    ensures last { (w : Readings) (h : List Command) → in_force w h ≡ option_and_then (λ text. result_ok (w.catalogue text)) (last_given loaded h) }
-    ensures some { (w : Readings) (h : List Command) → IsHistory w h → is_some (in_force w h) ≡ is_some (last_given loaded h) }
-    ensures listed { (w : Readings) (h : List Command) → rules_in (in_force w h) ≡ map rule_of (filter (is_rule_of (length (given loaded h))) (rule_rows w h)) }
+    ensures last { (w : Readings) (h : List Command)
+        → in_force w h ≡ option_and_then (λ text. result_ok (w.catalogue text)) (last_given loaded h) }
+    ensures some { (w : Readings) (h : List Command)
+        → IsHistory w h → is_some (in_force w h) ≡ is_some (last_given loaded h) }
+    ensures listed { (w : Readings) (h : List Command) → rules_in (in_force w h)
+        ≡ map rule_of (filter (is_rule_of (length (given loaded h))) (rule_rows w h)) }
 {}
 
 /// The documents are those that were imported, in order and numbered from 1, and the packages and references of all documents those of
 /// each.
 pub fn documents_are_the_imports()
-    ensures documents { (w : Readings) (h : List Command) → documents w h ≡ map (document_row w) (enumerate_from 1 (given imported h)) }
-    ensures packages { (w : Readings) (h : List Command) → packages w h ≡ flat_map (packages_of w) (documents w h) }
-    ensures references { (w : Readings) (h : List Command) → references w h ≡ flat_map (references_of w) (documents w h) }
+    ensures documents { (w : Readings) (h : List Command)
+        → documents w h ≡ map (document_row w) (enumerate_from 1 (given imported h)) }
+    ensures packages { (w : Readings) (h : List Command)
+        → packages w h ≡ flat_map (packages_of w) (documents w h) }
+    ensures references { (w : Readings) (h : List Command)
+        → references w h ≡ flat_map (references_of w) (documents w h) }
 {}
 
 /// A release has the form of its opening, and the state that the last Freeze or Withdraw of it gave, open before. Its place is one more
 /// than the releases opened before it, and its revision the number of catalogues loaded before its freeze, 0 where it wasn't frozen.
 pub fn releases_are_the_last_entries()
     ensures form { (h : List Command) (r : List ℕ) → form_of h r ≡ last_given (form_given r) h }
-    ensures state { (h : List Command) (r : List ℕ) → state_of h r ≡ unwrap_or (last_given (state_given r) h) IsOpen }
-    ensures place { (later before : List Command) (r form : List ℕ) → list_any (opens r) later ≡ false → place_in (opened (later ++ OpenRelease r form ∷ before)) r ≡ length (opened before) + 1 }
-    ensures revision { (later before : List Command) (r day : List ℕ) → list_any (freezes r) later ≡ false → revision_of (later ++ Freeze r day ∷ before) r ≡ length (revisions before) }
-    ensures unfrozen { (h : List Command) (r : List ℕ) → list_any (freezes r) h ≡ false → revision_of h r ≡ 0 }
+    ensures state { (h : List Command) (r : List ℕ)
+        → state_of h r ≡ unwrap_or (last_given (state_given r) h) IsOpen }
+    ensures place { (later before : List Command) (r form : List ℕ) → list_any (opens r) later ≡ false
+        → place_in (opened (later ++ OpenRelease r form ∷ before)) r ≡ length (opened before) + 1 }
+    ensures revision { (later before : List Command) (r day : List ℕ)
+        → list_any (freezes r) later ≡ false
+        → revision_of (later ++ Freeze r day ∷ before) r ≡ length (revisions before) }
+    ensures unfrozen { (h : List Command) (r : List ℕ)
+        → list_any (freezes r) h ≡ false → revision_of h r ≡ 0 }
 {}
 
 /// A release ships a package exactly where the package's document was attached to it and ships the package.
 pub fn shipped_exactly()
-    ensures held { (w : Readings) (h : List Command) (r : List ℕ) (p : PackageRow) → IsShipped w h r p → IsIn p (shipped w h r) }
-    ensures only { (w : Readings) (h : List Command) (r : List ℕ) (p : PackageRow) → IsIn p (shipped w h r) → IsShipped w h r p }
+    ensures held { (w : Readings) (h : List Command) (r : List ℕ) (p : PackageRow)
+        → IsShipped w h r p → IsIn p (shipped w h r) }
+    ensures only { (w : Readings) (h : List Command) (r : List ℕ) (p : PackageRow)
+        → IsIn p (shipped w h r) → IsShipped w h r p }
 {}
 
 /// What is chosen for a package in a release is what the last command left that decides it, a Choose or an Unchoose of the package or a
 /// withdrawal of the release: the terms of a Choose, and none else. The rows of the choices are these terms and no others.
 pub fn choices_are_the_last_decisions()
-    ensures last { (w : Readings) (h : List Command) (r : List ℕ) (d : ℕ) (p : List ℕ) → choice w h r d p ≡ terms_left w (last_decision r d p h) }
-    ensures held { (w : Readings) (h : List Command) (row : ChoiceRow) → IsIn row.term (choice w h row.release row.document row.package_id) → IsIn row (choices w h) }
-    ensures only { (w : Readings) (h : List Command) (row : ChoiceRow) → IsIn row (choices w h) → IsIn row.term (choice w h row.release row.document row.package_id) }
+    ensures last { (w : Readings) (h : List Command) (r : List ℕ) (d : ℕ) (p : List ℕ)
+        → choice w h r d p ≡ terms_left w (last_decision r d p h) }
+    ensures held { (w : Readings) (h : List Command) (row : ChoiceRow)
+        → IsIn row.term (choice w h row.release row.document row.package_id) → IsIn row (choices w h) }
+    ensures only { (w : Readings) (h : List Command) (row : ChoiceRow)
+        → IsIn row (choices w h) → IsIn row.term (choice w h row.release row.document row.package_id) }
 {
     desk_history::last_choice_stands();
 }
 
 /// The rows of the office's conclusions are, for each package, the text of the last Conclude of it, and no others.
 pub fn conclusions_are_the_last()
-    ensures held { (h : List Command) (row : ConclusionRow) → last_given (text_given row.document row.package_id) h ≡ Some row.expression → IsIn row (conclusions h) }
-    ensures only { (h : List Command) (row : ConclusionRow) → IsIn row (conclusions h) → last_given (text_given row.document row.package_id) h ≡ Some row.expression }
+    ensures held { (h : List Command) (row : ConclusionRow)
+        → last_given (text_given row.document row.package_id) h ≡ Some row.expression
+        → IsIn row (conclusions h) }
+    ensures only { (h : List Command) (row : ConclusionRow) → IsIn row (conclusions h)
+        → last_given (text_given row.document row.package_id) h ≡ Some row.expression }
 {}
 
 /// The rows of the adoptions are, for each reference of a document, the licence of the last Adopt of it, and no others.
 pub fn adoptions_are_the_last()
-    ensures held { (w : Readings) (h : List Command) (row : AdoptionRow) → last_given (licence_given w row.document row.reference) h ≡ Some row.licence → IsIn row (adoptions w h) }
-    ensures only { (w : Readings) (h : List Command) (row : AdoptionRow) → IsIn row (adoptions w h) → last_given (licence_given w row.document row.reference) h ≡ Some row.licence }
+    ensures held { (w : Readings) (h : List Command) (row : AdoptionRow)
+        → last_given (licence_given w row.document row.reference) h ≡ Some row.licence
+        → IsIn row (adoptions w h) }
+    ensures only { (w : Readings) (h : List Command) (row : AdoptionRow) → IsIn row (adoptions w h)
+        → last_given (licence_given w row.document row.reference) h ≡ Some row.licence }
 {}
 
 /// The moves of a duty, the first one first, are what the commands of the history give by the table of moves, each looked at after those
 /// before it. The duty's changes are these with their steps from 1, and it stands where the last of them left it.
 pub fn moves_are_a_filter()
     ensures moves { (w : Readings) (h : List Command) (q : ℕ) → reverse (moves w h q) ≡ moves_given w h q }
-    ensures changes { (w : Readings) (h : List Command) (q : ℕ) → changes w h q ≡ map (step_row q) (enumerate_from 1 (moves_given w h q)) }
-    ensures place { (w : Readings) (h : List Command) (q : ℕ) → place w h q ≡ left_by (last_or None (moves_given w h q)) }
+    ensures changes { (w : Readings) (h : List Command) (q : ℕ)
+        → changes w h q ≡ map (step_row q) (enumerate_from 1 (moves_given w h q)) }
+    ensures place { (w : Readings) (h : List Command) (q : ℕ)
+        → place w h q ≡ left_by (last_or None (moves_given w h q)) }
 {}
 
 /// A duty was moved exactly where a command stands in the history that moves it so after the commands before it.
 pub fn moved_exactly()
-    ensures held { (w : Readings) (h : List Command) (q : ℕ) (m : Move) → IsMove w h q m → IsIn m (moves w h q) }
-    ensures only { (w : Readings) (h : List Command) (q : ℕ) (m : Move) → IsIn m (moves w h q) → IsMove w h q m }
+    ensures held { (w : Readings) (h : List Command) (q : ℕ) (m : Move)
+        → IsMove w h q m → IsIn m (moves w h q) }
+    ensures only { (w : Readings) (h : List Command) (q : ℕ) (m : Move)
+        → IsIn m (moves w h q) → IsMove w h q m }
 {}
 
 /// Written days compare as dates: by year, then by month, then by day, each as a number. So one day is before another exactly where
 /// its date is.
 pub fn days_compare_as_dates()
-    ensures order { (a b : List ℕ) → IsTrue (is_day a) → IsTrue (is_day b) → slice_cmp nat_cmp a b ≡ date_order a b }
-    ensures before { (a b : List ℕ) → IsTrue (is_day a) → IsTrue (is_day b) → is_before a b ≡ below_by date_order a b }
+    ensures order { (a b : List ℕ)
+        → IsTrue (is_day a) → IsTrue (is_day b) → slice_cmp nat_cmp a b ≡ date_order a b }
+    ensures before { (a b : List ℕ)
+        → IsTrue (is_day a) → IsTrue (is_day b) → is_before a b ≡ below_by date_order a b }
 {}
