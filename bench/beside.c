@@ -1,7 +1,8 @@
 /* Writes and reads the rows of a desk's file by SQLite's own library: cc -O2 beside.c -lsqlite3
 
      beside commands FILE N   opens N releases, each in a transaction of its own
-     beside freeze FILE N     freezes a release with N duties in one transaction: a frozen row for each ten, a duty and its change each
+     beside freeze FILE N     freezes a release with N duties in one transaction: a frozen row for each ten, a duty and its change each, in
+                              the order in which a desk adds them
      beside totals FILE N     counts the duties of a release by their states, N times
      beside open FILE 1       opens the file and reads the number of each duty, its release and its state
 
@@ -67,17 +68,34 @@ static void commands(long count)
     }
 }
 
+static int by_bytes(const void *one, const void *other)
+{
+    return strcmp(*(char *const *)one, *(char *const *)other);
+}
+
+/* The ids of so many packages, in the order in which the desk has them. */
+static char **packages(long count)
+{
+    char **ids = malloc((count + 1) * sizeof *ids);
+
+    want(ids != NULL);
+    for (long place = 0; place < count; place++)
+        want((ids[place] = sqlite3_mprintf("SPDXRef-p%ld", place)) != NULL);
+    qsort(ids, count, sizeof *ids, by_bytes);
+    return ids;
+}
+
 static void freeze(long count)
 {
     sqlite3_stmt *frozen = prepared("INSERT INTO frozen VALUES ('r', 1, ?1, 'mit', 'MIT')");
     sqlite3_stmt *duty = prepared("INSERT INTO duty VALUES (?1, 'r', 1, ?2, 'mit', ?3, 'MIT', 'open')");
     sqlite3_stmt *change = prepared("INSERT INTO change VALUES (?1, 1, '2025-03-03', 'raised', '')");
-    char package[32], code[32];
+    char **ids = packages((count + 9) / 10), *package, code[32];
 
     run("BEGIN IMMEDIATE");
     run("UPDATE releases SET state = 'frozen', revision = 1 WHERE name = 'r'");
     for (long number = 1; number <= count; number++) {
-        snprintf(package, sizeof package, "SPDXRef-p%ld", (number - 1) / 10);
+        package = ids[(number - 1) / 10];
         snprintf(code, sizeof code, "duty-%ld", (number - 1) % 10);
         if ((number - 1) % 10 == 0) {
             text_at(frozen, 1, package);

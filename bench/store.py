@@ -1,11 +1,14 @@
 """Times a desk in a file beside SQLite's own library: python3 bench/store.py PROGRAM
 
 The library writes and reads the same rows (bench/beside.c), by the same tables, with a log as the journal and each commit flushed. Each
-time is the least of three runs, on a file in shared memory and on a file on the disk. It needs a C compiler and SQLite's library with its header.
+time is the least of three runs, on a file in shared memory and on a file on the disk. Commands on the disk are timed in pairs too, a desk's
+and then the library's, and the middle and the quartiles of both are printed, with those of a flush alone. It needs a C compiler and
+SQLite's library with its header.
 """
 
 import os
 import shutil
+import statistics
 import subprocess
 import sys
 import tempfile
@@ -18,6 +21,7 @@ sys.dont_write_bytecode = True
 import rows
 
 RUNS = 3
+PAIRS = 15
 COMMANDS = 1_000
 QUESTIONS = 10_000
 
@@ -59,6 +63,17 @@ def copied(kept, path):
     shutil.copy(kept, path)
 
 
+def commands(program, beside, kept, path):
+    """The seconds of the commands by a desk, and then by the library."""
+    copied(kept, path)
+    desk = Desk(program, path)
+    desk.step("totals", [rows.line(ask="totals", release="r")])
+    seconds = desk.step("open", [rows.line(do="open", release=f"s{n}", form="binary") for n in range(COMMANDS)])
+    desk.end()
+    copied(kept, path)
+    return seconds, library(beside, "commands", path, COMMANDS)
+
+
 def timed(program, beside, room, duties):
     """The least seconds of each step, by the desk and by the library."""
     kept, path = os.path.join(room, "kept.db"), os.path.join(room, "desk.db")
@@ -68,17 +83,12 @@ def timed(program, beside, room, duties):
     def note(step, by, seconds):
         found[step, by] = min(seconds, found.get((step, by), seconds))
 
-    opens = [rows.line(do="open", release=f"s{n}", form="binary") for n in range(COMMANDS)]
     freeze = [rows.line(do="freeze", release="r", day="2025-03-03")]
     totals = [rows.line(ask="totals", release="r")] * QUESTIONS
     for _ in range(RUNS):
-        copied(kept, path)
-        desk = Desk(program, path)
-        desk.step("totals", totals[:1])
-        note("commands", "desk", desk.step("open", opens))
-        desk.end()
-        copied(kept, path)
-        note("commands", "library", library(beside, "commands", path, COMMANDS))
+        seconds, other = commands(program, beside, kept, path)
+        note("commands", "desk", seconds)
+        note("commands", "library", other)
         copied(kept, path)
         desk = Desk(program, path)
         note("freeze", "desk", desk.step("freeze", freeze))
@@ -96,11 +106,46 @@ def timed(program, beside, room, duties):
     return found
 
 
+def flush(path, times):
+    """The seconds of so many flushes behind a write of four pages, on a file that doesn't grow."""
+    pages = b"x" * 4 * 4096
+    with open(path, "wb") as file:
+        file.write(b"\0" * len(pages) * 100)
+        file.flush()
+        os.fsync(file.fileno())
+        begun = time.perf_counter()
+        for turn in range(COMMANDS):
+            for part in range(times):
+                os.pwrite(file.fileno(), pages if part == 0 else pages[:1], turn % 100 * len(pages))
+                os.fdatasync(file.fileno())
+        return time.perf_counter() - begun
+
+
+def spread(values, form):
+    low, middle, high = (form(value) for value in statistics.quantiles(values, n=4))
+    return f"{middle} ({low} to {high})"
+
+
+def paired(program, beside, room):
+    """Prints the commands of a desk and of the library, timed in turn, and flushes alone."""
+    kept, path = os.path.join(room, "kept.db"), os.path.join(room, "desk.db")
+    prepared(program, kept, 10_000)
+    pairs = [commands(program, beside, kept, path) for _ in range(PAIRS)]
+    flushes = [(flush(path, 1), flush(path, 2)) for _ in range(PAIRS)]
+    print(f"the disk, {PAIRS} pairs of {COMMANDS:,} commands in turn: the middle one, and the quartiles")
+    for name, values in (("desk", [pair[0] for pair in pairs]), ("library", [pair[1] for pair in pairs]),
+                         ("one flush", [both[0] for both in flushes]), ("two flushes", [both[1] for both in flushes])):
+        print(f"  {name:12} {spread(values, lambda value: f'{1e6 * value / COMMANDS:.0f}')} microseconds each")
+    print(f"  {'times':12} {spread([desk / other for desk, other in pairs], lambda value: f'{value:.2f}')}")
+
+
 def main():
     program = os.path.abspath(sys.argv[1])
     with tempfile.TemporaryDirectory() as build:
         beside = os.path.join(build, "beside")
         subprocess.run(["cc", "-O2", "-o", beside, os.path.join(HERE, "beside.c"), "-lsqlite3"], check=True)
+        with tempfile.TemporaryDirectory(dir=os.path.abspath("build")) as room:
+            paired(program, beside, room)
         for where, top in (("shared memory", "/dev/shm"), ("the disk", os.path.abspath("build"))):
             for duties in (10_000, 100_000):
                 with tempfile.TemporaryDirectory(dir=top) as room:
