@@ -1,5 +1,6 @@
 -- What is told of each problem: where it is, what is wrong, and what to do.
-use Rattle.std.specs.Prelude.{◌≡◌, ◌<◌, ℕ, List, [], ◌∷◌, ◌++◌, map, codes, decimal, Option, Some, None}
+use Rattle.std.specs.Prelude.{◌≡◌, ◌<◌, ℕ, nat_eq, nat_lt, List, [], ◌∷◌, ◌++◌, map, codes, decimal, Option, Some, None, if◌then◌else◌}
+use Rattle.std.specs.List.{list_any, ends_with}
 use Rattle.desk_expr.specs.Faults.{fault_number, fault_name, fault_place}
 use Rattle.desk_expr.specs.Grammar.{SpellsTree}
 use Rattle.desk_expr.specs.Spelling.{SpellsWithin, IsStop}
@@ -53,10 +54,25 @@ stop_words (Some fault) = codes ", " ++ (fault_name fault ++ (codes " at " ++ de
 abbrev pub expression_words : Option ParseFault → List ℕ
 expression_words stop = codes "the licence is no expression" ++ (stop_words stop ++ codes ": mend it, or have the line ignored")
 
+-- what is wrong with a path that can't stand in a tree
+abbrev pub low_words : List ℕ
+low_words = codes "a byte below 32 in the path, as a line end or a tab: give the file another name"
+
+abbrev pub blank_words : List ℕ
+blank_words = codes "a blank at the end of the path: give the file another name"
+
+abbrev pub part_words : List ℕ
+part_words = codes "an empty part, . or .. in the path: give its parts from the root, each a name"
+
+abbrev pub path_words : List ℕ → List ℕ
+path_words path =
+    if list_any (λ b. nat_lt b 32) path then low_words
+    else (if ends_with nat_eq path (codes " ") then blank_words else part_words)
+
 -- the row of a flaw, where the text of a tag stops so
 abbrev pub flaw_row : Flaw → Option ParseFault → Row
 flaw_row TooManyFiles stop = plain_row kind.TooManyFiles (codes ".") (codes "more than 10,000 files: take away what isn't of the source")
-flaw_row (BadPath path) stop = plain_row kind.BadPath path (codes "a path with a control byte, a blank at its end, or an empty part, . or ..: give the file another")
+flaw_row (BadPath path) stop = plain_row kind.BadPath path (path_words path)
 flaw_row (TwicePath path) stop = plain_row kind.TwicePath path (codes "a path that stands twice: keep one of the files")
 flaw_row (BadToml path) stop = plain_row kind.BadToml path (codes "no TOML document of version 1: mend it, with version = 1 at its top")
 flaw_row (BadAnnotation path index fault) stop = plain_row kind.BadAnnotation path (codes "annotation " ++ (decimal index ++ (codes ", counted from 0, has " ++ annotation_words fault)))

@@ -1,10 +1,11 @@
 //! What is told of each problem.
 
-ghost use Rattle.std.specs.Prelude.{◌≡◌, ◌++◌, ◌<◌, None, IfOk, OnOk, map, codes};
+ghost use Rattle.std.specs.Prelude.{◌≡◌, ◌++◌, ◌<◌, nat_lt, None, IfOk, OnOk, map, codes};
+ghost use Rattle.std.specs.List.{list_any};
 ghost use Rattle.std.specs.String.{string_bytes};
 ghost use Rattle.desk_expr.specs.Faults.{fault_number};
 ghost use Rattle.desk_gather.specs.declared.flaw.Flaw.TheVariants.{BadAnnotation, BadExpression};
-ghost use Rattle.desk_problems.specs.Rows.{flaw_row, annotation_words, StopsAt, expression_words, stop_words, IsFlawRow, AreFlawRows, missing_row, unused_row, lacking_words, bare_row, list_rows, AreRows};
+ghost use Rattle.desk_problems.specs.Rows.{flaw_row, annotation_words, StopsAt, path_words, expression_words, stop_words, IsFlawRow, AreFlawRows, missing_row, unused_row, lacking_words, bare_row, list_rows, AreRows};
 
 use crate::bare::{Bare, Lacking};
 use crate::problems::Problems;
@@ -97,6 +98,26 @@ fn expression_row(alloc: Global, path: &str, line: u64, text: &str) -> Result<Ro
     })
 }
 
+// Whether some byte is below 32.
+fn has_low(bytes: &[u8]) -> bool
+    ensures { result ≡ list_any (λ b. nat_lt b 32) bytes.now }
+{
+    bytes.iter().any(|byte| *byte < 32)
+}
+
+// What is wrong with a path that can't stand in a tree.
+fn path_words(path: &str) -> &'static str
+    ensures { result.now ≡ path_words path.now }
+{
+    if has_low(path.as_bytes()) {
+        return "a byte below 32 in the path, as a line end or a tab: give the file another name";
+    }
+    if path.as_bytes().ends_with(b" ") {
+        return "a blank at the end of the path: give the file another name";
+    }
+    "an empty part, . or .. in the path: give its parts from the root, each a name"
+}
+
 // The row of a flaw.
 fn flaw_row(alloc: Global, flaw: &Flaw) -> Result<Row, AllocError>
     ensures { IfOk result (IsFlawRow flaw.now) }
@@ -108,12 +129,10 @@ fn flaw_row(alloc: Global, flaw: &Flaw) -> Result<Row, AllocError>
             ".",
             "more than 10,000 files: take away what isn't of the source",
         ),
-        Flaw::BadPath(path) => row_of(
-            alloc,
-            Kind::BadPath,
-            path.as_str(),
-            "a path with a control byte, a blank at its end, or an empty part, . or ..: give the file another",
-        ),
+        Flaw::BadPath(path) => {
+            let path = path.as_str();
+            row_of(alloc, Kind::BadPath, path, path_words(path))
+        }
         Flaw::TwicePath(path) => row_of(
             alloc,
             Kind::TwicePath,

@@ -17,8 +17,8 @@ problems: 2, covered files: 1
 ";
 
 const OUTSIDE: &str =
-    "../a: a path with a control byte, a blank at its end, or an empty part, . or ..: give the file another
-/a: a path with a control byte, a blank at its end, or an empty part, . or ..: give the file another
+    "../a: an empty part, . or .. in the path: give its parts from the root, each a name
+/a: an empty part, . or .. in the path: give its parts from the root, each a name
 problems: 2, covered files: 0
 ";
 
