@@ -66,6 +66,8 @@ test: needs
 	@python3 tests/allocations/sweep.py build/desk
 	@echo 'Looking for what this tree lacks to be REUSE-compliant.'
 	@sh tests/lint.sh build/desk
+	@echo 'Changing trees while they are read.'
+	@python3 tests/changing.py build/desk
 
 # The acceptance cases alone.
 acceptance: needs build

@@ -13,4 +13,7 @@ pub enum TreeFault {
     /// A file or folder can't be read, or a name in it isn't UTF-8: its path, and why.
     #[error("cannot read {0:?}: {1}")]
     Read(String, io::Error),
+    /// What was a file is none any more: its path.
+    #[error("cannot read {0:?}: it was a file and is none any more; try again when nothing changes the folder")]
+    Changed(String),
 }

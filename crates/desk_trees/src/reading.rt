@@ -29,9 +29,16 @@ fn read_some<F: Read>(file: &mut F, bytes: &mut [u8]) -> io::Result<usize>
     }
 }
 
-// What a file holds. Its room is taken by what the file's size is said to be, so that no more of it is taken than the file needs, and
-// so much is read at first: then most files are read by one call and seen to end by another.
-fn bytes_at<R: Files + AllocGlobal + Clone + Drop>(rt: &R, place: &str) -> io::Result<Vec<u8>> {
+// What a file holds, and nothing where a file isn't there any more but a pipe, a link or something else, which isn't opened: to open a
+// pipe would wait for a writer. Its room is taken by what the file's size is said to be, so that no more of it is taken than the file
+// needs, and so much is read at first: then most files are read by one call. What grows is read as far as it went when it was opened.
+fn bytes_at<R: Files + AllocGlobal + Clone + Drop>(
+    rt: &R,
+    place: &str,
+) -> io::Result<Option<Vec<u8>>> {
+    if !fs::symlink_metadata(rt, place)?.is_file() {
+        return Ok(None);
+    }
     let mut file = fs::open(rt, place)?;
     let size = file.metadata()?.len();
     let room = usize::try_from(size).unwrap_or(usize::MAX);
@@ -39,8 +46,9 @@ fn bytes_at<R: Files + AllocGlobal + Clone + Drop>(rt: &R, place: &str) -> io::R
     bytes.resize(room.min(FIRST_READ), 0)?;
     let count = read_some(&mut file, bytes.as_mut_slice())?;
     bytes.truncate(count);
-    file.read_to_end(&mut bytes)?;
-    Ok(bytes)
+    file.take(size.saturating_sub(count as u64))
+        .read_to_end(&mut bytes)?;
+    Ok(Some(bytes))
 }
 
 // The file at a path.
@@ -54,10 +62,11 @@ fn file_at<R: Files + AllocGlobal + Clone + Drop>(
     let alloc = rt.alloc();
     let place = place(alloc, root, path)?;
     match bytes_at(rt, place.as_str()) {
-        Ok(bytes) => Ok(SourceFile {
+        Ok(Some(bytes)) => Ok(SourceFile {
             path: Text::of(alloc, path)?,
             bytes: Items::from_vec(bytes),
         }),
+        Ok(None) => Err(TreeFault::Changed(place)),
         Err(error) => Err(TreeFault::Read(place, error)),
     }
 }
