@@ -1,7 +1,6 @@
 -- One look-up after another.
 use Rattle.std.specs.Prelude.{Result, Ok, Err}
 use Rattle.std.specs.Result.{IsErr}
-use Rattle.desk_rows.specs.Tables.{Tables}
 use Rattle.desk_rows.specs.declared.command.Fault.{Fault}
 use Rattle.desk_access.specs.Seen.{Seen, Kept, Same, Looked}
 

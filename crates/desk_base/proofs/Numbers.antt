@@ -1,5 +1,5 @@
 -- Facts of numbers.
-use Rattle.std.proofs.Common.{◌≡◌, ◌≢◌, ◌⊎◌, inl, inr, ℕ, ◌-◌, ◌<◌, ◌≤◌, List, ◌∷◌, arith, true, false, ⊎_elim}
+use Rattle.std.proofs.Common.{◌≡◌, ◌≢◌, ◌⊎◌, inl, inr, ℕ, ◌<◌, ◌≤◌, List, ◌∷◌, arith, true, false, ⊎_elim}
 use Rattle.std.specs.Prelude.{All, ◌==◌, nat_lt}
 use Rattle.std.proofs.str.Laws.{order}
 use Rattle.std.proofs.lemmas.List.Elements.{All-get_or}
