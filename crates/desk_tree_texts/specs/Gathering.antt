@@ -1,5 +1,5 @@
 -- What is told of the document of a tree of files.
-use Rattle.std.specs.Prelude.{◌≡◌, ◌≤◌, ◌<◌, ℕ, Bool, true, false, List, [], ◌∷◌, ◌++◌, length, map, codes, decimal, Ok, Err, All}
+use Rattle.std.specs.Prelude.{◌≡◌, ◌≤◌, ◌<◌, ℕ, Bool, true, false, List, [], ◌++◌, length, map, codes, decimal, Ok, Err, All}
 use Rattle.std.specs.String.{string_bytes}
 use Rattle.desk_annotations.specs.Numbers.{kind_number}
 use Rattle.desk_base.specs.Limits.{document_bytes, document_elements}
@@ -9,6 +9,7 @@ use Rattle.desk_gather.specs.declared.fault.GatherFault.TheVariants.{BadToml, Ba
 use Rattle.desk_gather.specs.declared.files.SourceFile.{SourceFile}
 use Rattle.desk_gather.specs.Readers.{Reader}
 use Rattle.desk_draft.specs.Drafts.{Named, draft_of}
+use Rattle.desk_draft_laws.specs.Shipping.{ShipsWhenRead}
 use Rattle.desk_tagvalue.specs.declared.drafts.Draft.{Draft}
 use Rattle.desk_tagvalue.specs.declared.drafts.DraftFile.{DraftFile}
 use Rattle.desk_tagvalue.specs.Documents.{Spells}
@@ -40,9 +41,11 @@ IsDraft r files title d = (draft_of r files title d.code ≡ Ok d) × IsCode (ma
 abbrev pub IsReadBack : Draft → List ℕ → Type 0
 IsReadBack d text = length text ≤ document_bytes → length d.files < document_elements → (x : DocumentText) × Spells text (Ok x) × GivesDraft d x
 
--- the answer for a tree: the text of its draft's lines, from which the draft is read back, or the fault for which it has no draft
+-- the answer for a tree: the text of its draft's lines, from which the draft is read back and which ships its package, whose code
+-- agrees; or the fault for which it has no draft
 abbrev pub IsGathering : Reader → List SourceFile → Named → Gathering → Type 0
-IsGathering r files title (Document text) = (d : Draft) × IsDraft r files title d × Adds [] (draft_lines d) (string_bytes text) × IsReadBack d (string_bytes text)
+IsGathering r files title (Document text) =
+    (d : Draft) × IsDraft r files title d × Adds [] (draft_lines d) (string_bytes text) × IsReadBack d (string_bytes text) × ShipsWhenRead d (string_bytes text)
 IsGathering r files title (Fault fault) = (code : List ℕ) → draft_of r files title code ≡ Err fault
 
 -- it has a draft of which some value can't stand in its field
