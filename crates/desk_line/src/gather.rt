@@ -29,7 +29,7 @@ their SHA1 digests, licences and notices, which the request import takes. Or it 
   fault: BadAnnotation FILE N K   its annotation N, from 0: K is 1 for no path, 2 for a value of another
                                   kind, 3 for an unknown precedence, 4 for a licence that is no expression
   fault: BadExpression FILE N     on line N a licence that is no expression
-  fault: BadPath                  a name with a control byte, or with a blank at its end
+  fault: BadPath                  a name with a byte below 32, or with a blank at its end
   fault: TooManyFiles             more than 10,000 files
   fault: ExpressionTooLong        licences that cannot be joined to one expression";
 
