@@ -42,21 +42,24 @@ pub trait Store {
     ghost may_miss: { Type 0 };
 
     fn revision_count(&mut self) -> Result<u64, Fault>
-        ensures found { IfOk result (λ n. OfRows (λ t. n ≡ length t.catalogue) (seen self.old) (seen self.new)) }
+        ensures found { IfOk result (λ n. OfRows (λ t.
+            n ≡ length t.catalogue) (seen self.old) (seen self.new)) }
         ensures kept { Looked (seen self.old) (seen self.new) result }
         ensures misses { OnErr result may_miss }
         ensures fault { IfErr result (MayFail tells) };
 
     /// Whether the catalogue in force has a form.
     fn has_form(&mut self, form: &str) -> Result<bool, Fault>
-        ensures found { IfOk result (λ has. OfRows (λ t. has ≡ list_any (bytes_eq form.now) t.forms) (seen self.old) (seen self.new)) }
+        ensures found { IfOk result (λ has. OfRows (λ t.
+            has ≡ list_any (bytes_eq form.now) t.forms) (seen self.old) (seen self.new)) }
         ensures kept { Looked (seen self.old) (seen self.new) result }
         ensures misses { OnErr result may_miss }
         ensures fault { IfErr result (MayFail tells) };
 
     /// The rule in force for a term and a form.
     fn rule(&mut self, term: &str, form: &str) -> Result<Option<Rule>, Fault>
-        ensures found { IfOk result (λ found. OfRows (λ t. found ≡ rule_for (rules_found t) term.now form.now) (seen self.old) (seen self.new)) }
+        ensures found { IfOk result (λ found. OfRows (λ t.
+            found ≡ rule_for (rules_found t) term.now form.now) (seen self.old) (seen self.new)) }
         ensures kept { Looked (seen self.old) (seen self.new) result }
         ensures fault { IfErr result (MayFail tells) };
 
@@ -68,14 +71,18 @@ pub trait Store {
 
     /// The document with a namespace: its number, and whether its bytes are these.
     fn import_of(&mut self, namespace: &str, bytes: &[u8]) -> Result<Option<(u32, bool)>, Fault>
-        ensures found { IfOk result (λ found. OfRows (λ t. found ≡ option_map (known_import bytes.now) (find (has_namespace namespace.now) t.document)) (seen self.old) (seen self.new)) }
+        ensures found { IfOk result (λ found. OfRows (λ t.
+            found ≡ option_map (known_import bytes.now)
+            (find (has_namespace namespace.now) t.document)) (seen self.old) (seen self.new)) }
         ensures kept { Looked (seen self.old) (seen self.new) result }
         ensures misses { OnErr result may_miss }
         ensures fault { IfErr result (MayFail tells) };
 
     /// A document by its number: the number, and its profile.
     fn document(&mut self, number: u64) -> Result<Option<(u32, Profile)>, Fault>
-        ensures found { IfOk result (λ found. OfRows (λ t. found ≡ option_map known_document (find (is_document number) t.document)) (seen self.old) (seen self.new)) }
+        ensures found { IfOk result (λ found. OfRows (λ t.
+            found ≡ option_map known_document (find (is_document number) t.document)) (seen self.old)
+            (seen self.new)) }
         ensures same { IfOk result (λ found. IfSome found (λ known. known.0 ≡ number)) }
         ensures kept { Looked (seen self.old) (seen self.new) result }
         ensures misses { OnErr result may_miss }
@@ -83,24 +90,29 @@ pub trait Store {
 
     /// The bytes of a document, and its profile.
     fn document_source(&mut self, number: u64) -> Result<Option<(Items<u8>, Profile)>, Fault>
-        ensures found { IfOk result (λ found. OfRows (λ t. found ≡ option_map source_of (find (is_document number) t.document)) (seen self.old) (seen self.new)) }
+        ensures found { IfOk result (λ found. OfRows (λ t.
+            found ≡ option_map source_of (find (is_document number) t.document)) (seen self.old)
+            (seen self.new)) }
         ensures kept { Looked (seen self.old) (seen self.new) result }
         ensures fault { IfErr result (MayFail tells) };
 
     /// A package of a document.
     fn package_row(&mut self, document: u64, id: &str) -> Result<Option<PackageRow>, Fault>
-        ensures found { IfOk result (λ found. OfRows (λ t. found ≡ find (is_package document id.now) t.packages) (seen self.old) (seen self.new)) }
+        ensures found { IfOk result (λ found. OfRows (λ t.
+            found ≡ find (is_package document id.now) t.packages) (seen self.old) (seen self.new)) }
         ensures kept { Looked (seen self.old) (seen self.new) result }
         ensures fault { IfErr result (MayFail tells) };
 
     /// The shipped packages of a document, by id.
     fn shipped(&mut self, document: u32) -> Result<Vec<PackageRow>, Fault>
-        ensures found { IfOk result (λ found. OfRows (λ t. found.items ≡ filter (is_shipped_by document) t.packages) (seen self.old) (seen self.new)) }
+        ensures found { IfOk result (λ found. OfRows (λ t.
+            found.items ≡ filter (is_shipped_by document) t.packages) (seen self.old) (seen self.new)) }
         ensures kept { Looked (seen self.old) (seen self.new) result }
         ensures fault { IfErr result (MayFail tells) };
 
     fn release(&mut self, name: &str) -> Result<Option<ReleaseRow>, Fault>
-        ensures found { IfOk result (λ found. OfRows (λ t. found ≡ release_found t name.now) (seen self.old) (seen self.new)) }
+        ensures found { IfOk result (λ found. OfRows (λ t.
+            found ≡ release_found t name.now) (seen self.old) (seen self.new)) }
         ensures kept { Looked (seen self.old) (seen self.new) result }
         ensures fault { IfErr result (MayFail tells) };
 
@@ -112,55 +124,67 @@ pub trait Store {
 
     /// The documents attached to a release, by number.
     fn attached(&mut self, release: &str) -> Result<Vec<AttachedRow>, Fault>
-        ensures found { IfOk result (λ found. OfRows (λ t. found.items ≡ attached_to t.attached release.now) (seen self.old) (seen self.new)) }
+        ensures found { IfOk result (λ found. OfRows (λ t.
+            found.items ≡ attached_to t.attached release.now) (seen self.old) (seen self.new)) }
         ensures kept { Looked (seen self.old) (seen self.new) result }
         ensures fault { IfErr result (MayFail tells) };
 
     fn is_attached(&mut self, release: &str, document: u64) -> Result<bool, Fault>
-        ensures found { IfOk result (λ is. OfRows (λ t. is ≡ list_any (is_attachment release.now document) t.attached) (seen self.old) (seen self.new)) }
+        ensures found { IfOk result (λ is. OfRows (λ t.
+            is ≡ list_any (is_attachment release.now document) t.attached) (seen self.old)
+            (seen self.new)) }
         ensures kept { Looked (seen self.old) (seen self.new) result }
         ensures misses { OnErr result may_miss }
         ensures fault { IfErr result (MayFail tells) };
 
     fn attached_count(&mut self, release: &str) -> Result<u64, Fault>
-        ensures found { IfOk result (λ n. OfRows (λ t. n ≡ length (attached_to t.attached release.now)) (seen self.old) (seen self.new)) }
+        ensures found { IfOk result (λ n. OfRows (λ t.
+            n ≡ length (attached_to t.attached release.now)) (seen self.old) (seen self.new)) }
         ensures kept { Looked (seen self.old) (seen self.new) result }
         ensures misses { OnErr result may_miss }
         ensures fault { IfErr result (MayFail tells) };
 
     /// The terms chosen for a package in a release, in order.
     fn chosen(&mut self, release: &str, document: u32, id: &str) -> Result<Vec<Text>, Fault>
-        ensures found { IfOk result (λ found. OfRows (λ t. found.items ≡ map (λ row. row.term) (filter (is_choice_of release.now document id.now) t.choice)) (seen self.old) (seen self.new)) }
+        ensures found { IfOk result (λ found. OfRows (λ t.
+            found.items ≡ map (λ row. row.term)
+            (filter (is_choice_of release.now document id.now) t.choice)) (seen self.old)
+            (seen self.new)) }
         ensures kept { Looked (seen self.old) (seen self.new) result }
         ensures fault { IfErr result (MayFail tells) };
 
     /// What the office concluded for a package of a document.
     fn conclusion(&mut self, document: u32, id: &str) -> Result<Option<Text>, Fault>
-        ensures found { IfOk result (λ found. OfRows (λ t. found ≡ office_text t.conclusion document id.now) (seen self.old) (seen self.new)) }
+        ensures found { IfOk result (λ found. OfRows (λ t.
+            found ≡ office_text t.conclusion document id.now) (seen self.old) (seen self.new)) }
         ensures kept { Looked (seen self.old) (seen self.new) result }
         ensures fault { IfErr result (MayFail tells) };
 
     /// The first opened release that holds a choice for a package of a document.
     fn holder(&mut self, document: u32, id: &str) -> Result<Option<Text>, Fault>
-        ensures found { IfOk result (λ found. OfRows (λ t. found ≡ holder_found t document id.now) (seen self.old) (seen self.new)) }
+        ensures found { IfOk result (λ found. OfRows (λ t.
+            found ≡ holder_found t document id.now) (seen self.old) (seen self.new)) }
         ensures kept { Looked (seen self.old) (seen self.new) result }
         ensures fault { IfErr result (MayFail tells) };
 
     /// The licence that a reference of a document is adopted as.
     fn adoption(&mut self, document: u32, reference: &str) -> Result<Option<Text>, Fault>
-        ensures found { IfOk result (λ found. OfRows (λ t. found ≡ licence_for t.adoption document reference.now) (seen self.old) (seen self.new)) }
+        ensures found { IfOk result (λ found. OfRows (λ t.
+            found ≡ licence_for t.adoption document reference.now) (seen self.old) (seen self.new)) }
         ensures kept { Looked (seen self.old) (seen self.new) result }
         ensures fault { IfErr result (MayFail tells) };
 
     /// How many references of a document are adopted.
     fn adoption_count(&mut self, document: u32) -> Result<u64, Fault>
-        ensures found { IfOk result (λ n. OfRows (λ t. n ≡ adoption_count t document) (seen self.old) (seen self.new)) }
+        ensures found { IfOk result (λ n. OfRows (λ t.
+            n ≡ adoption_count t document) (seen self.old) (seen self.new)) }
         ensures kept { Looked (seen self.old) (seen self.new) result }
         ensures misses { OnErr result may_miss }
         ensures fault { IfErr result (MayFail tells) };
 
     fn duty(&mut self, number: u64) -> Result<Option<DutyRow>, Fault>
-        ensures found { IfOk result (λ found. OfRows (λ t. found ≡ duty_found t number) (seen self.old) (seen self.new)) }
+        ensures found { IfOk result (λ found. OfRows (λ t.
+            found ≡ duty_found t number) (seen self.old) (seen self.new)) }
         ensures same { IfOk result (λ found. IfSome found (λ row. row.number ≡ number)) }
         ensures kept { Looked (seen self.old) (seen self.new) result }
         ensures fault { IfErr result (MayFail tells) };
@@ -173,45 +197,53 @@ pub trait Store {
 
     /// The duties of a release, by number.
     fn duties_of(&mut self, release: &str) -> Result<Vec<DutyRow>, Fault>
-        ensures found { IfOk result (λ found. OfRows (λ t. found.items ≡ filter (is_duty_of release.now) t.duty) (seen self.old) (seen self.new)) }
+        ensures found { IfOk result (λ found. OfRows (λ t.
+            found.items ≡ filter (is_duty_of release.now) t.duty) (seen self.old) (seen self.new)) }
         ensures kept { Looked (seen self.old) (seen self.new) result }
         ensures fault { IfErr result (MayFail tells) };
 
     /// How many duties of a release were raised and stand where, if there is such a release.
     fn tally(&mut self, release: &str) -> Result<Option<Totals>, Fault>
-        ensures found { IfOk result (λ found. OfRows (λ t. found ≡ option_map (λ row. totals_of (filter (is_duty_of release.now) t.duty)) (release_found t release.now)) (seen self.old) (seen self.new)) }
+        ensures found { IfOk result (λ found. OfRows (λ t.
+            found ≡ option_map (λ row. totals_of (filter (is_duty_of release.now) t.duty))
+            (release_found t release.now)) (seen self.old) (seen self.new)) }
         ensures kept { Looked (seen self.old) (seen self.new) result }
         ensures misses { OnErr result may_miss }
         ensures fault { IfErr result (MayFail tells) };
 
     /// Where the duties of a release stand, by number.
     fn standings_of(&mut self, release: &str) -> Result<Vec<Standing>, Fault>
-        ensures found { IfOk result (λ found. OfRows (λ t. found.items ≡ standings_found t release.now) (seen self.old) (seen self.new)) }
+        ensures found { IfOk result (λ found. OfRows (λ t.
+            found.items ≡ standings_found t release.now) (seen self.old) (seen self.new)) }
         ensures kept { Looked (seen self.old) (seen self.new) result }
         ensures fault { IfErr result (MayFail tells) };
 
     /// Where the duties stand that are waived up to a day before this one, by number.
     fn ended(&mut self, day: Day) -> Result<Vec<Standing>, Fault>
-        ensures found { IfOk result (λ found. OfRows (λ t. found.items ≡ ended_found t day) (seen self.old) (seen self.new)) }
+        ensures found { IfOk result (λ found. OfRows (λ t.
+            found.items ≡ ended_found t day) (seen self.old) (seen self.new)) }
         ensures kept { Looked (seen self.old) (seen self.new) result }
         ensures fault { IfErr result (MayFail tells) };
 
     /// How many changes a duty has.
     fn steps(&mut self, duty: u64) -> Result<u64, Fault>
-        ensures found { IfOk result (λ n. OfRows (λ t. n ≡ steps_found t duty) (seen self.old) (seen self.new)) }
+        ensures found { IfOk result (λ n. OfRows (λ t.
+            n ≡ steps_found t duty) (seen self.old) (seen self.new)) }
         ensures kept { Looked (seen self.old) (seen self.new) result }
         ensures misses { OnErr result may_miss }
         ensures fault { IfErr result (MayFail tells) };
 
     /// The changes of a duty, by step.
     fn changes_of(&mut self, duty: u64) -> Result<Vec<ChangeRow>, Fault>
-        ensures found { IfOk result (λ found. OfRows (λ t. found.items ≡ filter (is_change_of duty) t.changes) (seen self.old) (seen self.new)) }
+        ensures found { IfOk result (λ found. OfRows (λ t.
+            found.items ≡ filter (is_change_of duty) t.changes) (seen self.old) (seen self.new)) }
         ensures kept { Looked (seen self.old) (seen self.new) result }
         ensures fault { IfErr result (MayFail tells) };
 
     /// The day of a duty's last change, if it has one.
     fn last_day(&mut self, duty: u32) -> Result<Option<Day>, Fault>
-        ensures found { IfOk result (λ day. OfRows (λ t. day ≡ last_day (filter (is_change_of duty) t.changes)) (seen self.old) (seen self.new)) }
+        ensures found { IfOk result (λ day. OfRows (λ t.
+            day ≡ last_day (filter (is_change_of duty) t.changes)) (seen self.old) (seen self.new)) }
         ensures kept { Looked (seen self.old) (seen self.new) result }
         ensures misses { OnErr result may_miss }
         ensures fault { IfErr result (MayFail tells) };

@@ -46,7 +46,8 @@ pub trait Texts {
 
     /// A licence, with the exception of a printed term.
     fn adopted_as(&self, alloc: Global, licence: &str, term: &str) -> Result<Text, AllocError>
-        ensures { (w : Readings) → are_right w → IfOk result (λ adopted. adopted ≡ w.adopted_as licence.now term.now) };
+        ensures { (w : Readings) → are_right w → IfOk result (λ adopted.
+            adopted ≡ w.adopted_as licence.now term.now) };
 
     /// Whether a text is a licence expression.
     fn is_expression(&self, alloc: Global, profile: Profile, text: &str) -> Result<bool, AllocError>
@@ -59,7 +60,8 @@ pub trait Texts {
         profile: Profile,
         text: &str,
     ) -> Result<Option<ExpressionFault>, AllocError>
-        ensures { (w : Readings) → are_right w → IfOk result (λ fault. fault ≡ w.expression_fault profile text.now) };
+        ensures { (w : Readings) → are_right w → IfOk result (λ fault.
+            fault ≡ w.expression_fault profile text.now) };
 
     /// What printed terms are to the expression that a text spells, if it spells one.
     fn verdict(
@@ -93,7 +95,9 @@ pub trait Texts {
         text: &str,
         costs: &[Option<u64>],
     ) -> Result<Result<Option<Cheapest>, ListFault>, AllocError>
-        ensures { (w : Readings) → are_right w → (cost : List ℕ → Option ℕ) → IsCost cost → costs.now ≡ map cost (w.terms profile text.now) → IfOk result (λ found. found ≡ w.cheapest profile text.now cost) };
+        ensures { (w : Readings) → are_right w → (cost : List ℕ → Option ℕ) → IsCost cost
+            → costs.now ≡ map cost (w.terms profile text.now)
+            → IfOk result (λ found. found ≡ w.cheapest profile text.now cost) };
 
     /// The findings of the document that bytes spell.
     fn findings(

@@ -29,7 +29,8 @@ fn str_of(row: &Row) -> Option<&str>
 
 /// The text in the first row, if there is a row.
 fn first_text(alloc: Global, rows: &[Row]) -> Result<Option<Text>, Fault>
-    ensures { IfOk result (λ found. (texts : List (List ℕ)) → rows.now ≡ map text_cells texts → found ≡ slice_get texts 0) }
+    ensures { IfOk result (λ found. (texts : List (List ℕ)) → rows.now ≡ map text_cells texts
+        → found ≡ slice_get texts 0) }
 {
     let Some(row) = rows.first() else {
         return Ok(None);
@@ -47,7 +48,9 @@ pub fn body_of<S: Alter>(
     revision: u32,
 ) -> Result<Option<Text>, Fault>
     requires { conn.old.in_transaction ≡ false }
-    ensures found { IfOk result (λ body. OfRows (λ t. body ≡ body_of t revision) (seen_of (state S.Store conn.old)) (seen_of (state S.Store conn.new))) }
+    ensures found { IfOk result (λ body. OfRows (λ t.
+        body ≡ body_of t revision) (seen_of (state S.Store conn.old))
+        (seen_of (state S.Store conn.new))) }
     ensures read { HasRead (state S.Store conn.old) (state S.Store conn.new) result }
     ensures mode { conn.new.in_transaction ≡ false }
 {

@@ -15,7 +15,9 @@ use sqlite::{Alter, Connection};
 /// How many rows a query shows.
 fn row_count<S: Alter>(conn: &mut Connection<S>, sql: &str) -> Result<u32, Fault>
     requires { conn.old.in_transaction ≡ false }
-    ensures shown { HasCleanDisk (state S.Store conn.new) → IfOk result (λ count. ShowsCount sql.now count (state S.Store conn.old) (state S.Store conn.new)) }
+    ensures shown { HasCleanDisk (state S.Store conn.new)
+        → IfOk result (λ count.
+        ShowsCount sql.now count (state S.Store conn.old) (state S.Store conn.new)) }
     ensures read { Asks sql.now → HasRead (state S.Store conn.old) (state S.Store conn.new) result }
     ensures mode { conn.new.in_transaction ≡ false }
 {
@@ -29,7 +31,9 @@ fn row_count<S: Alter>(conn: &mut Connection<S>, sql: &str) -> Result<u32, Fault
 /// How many revisions of the catalogue there are.
 pub fn revision_count<S: Alter>(conn: &mut Connection<S>) -> Result<u32, Fault>
     requires { conn.old.in_transaction ≡ false }
-    ensures found { IfOk result (λ count. OfRows (λ t. length t.catalogue ≡ count) (seen_of (state S.Store conn.old)) (seen_of (state S.Store conn.new))) }
+    ensures found { IfOk result (λ count. OfRows (λ t.
+        length t.catalogue ≡ count) (seen_of (state S.Store conn.old))
+        (seen_of (state S.Store conn.new))) }
     ensures read { HasRead (state S.Store conn.old) (state S.Store conn.new) result }
     ensures mode { conn.new.in_transaction ≡ false }
 {
@@ -39,7 +43,9 @@ pub fn revision_count<S: Alter>(conn: &mut Connection<S>) -> Result<u32, Fault>
 /// How many documents there are.
 pub fn document_count<S: Alter>(conn: &mut Connection<S>) -> Result<u32, Fault>
     requires { conn.old.in_transaction ≡ false }
-    ensures found { IfOk result (λ count. OfRows (λ t. length t.document ≡ count) (seen_of (state S.Store conn.old)) (seen_of (state S.Store conn.new))) }
+    ensures found { IfOk result (λ count. OfRows (λ t.
+        length t.document ≡ count) (seen_of (state S.Store conn.old))
+        (seen_of (state S.Store conn.new))) }
     ensures read { HasRead (state S.Store conn.old) (state S.Store conn.new) result }
     ensures mode { conn.new.in_transaction ≡ false }
 {
@@ -49,7 +55,9 @@ pub fn document_count<S: Alter>(conn: &mut Connection<S>) -> Result<u32, Fault>
 /// How many releases there are.
 pub fn release_count<S: Alter>(conn: &mut Connection<S>) -> Result<u32, Fault>
     requires { conn.old.in_transaction ≡ false }
-    ensures found { IfOk result (λ count. OfRows (λ t. length t.releases ≡ count) (seen_of (state S.Store conn.old)) (seen_of (state S.Store conn.new))) }
+    ensures found { IfOk result (λ count. OfRows (λ t.
+        length t.releases ≡ count) (seen_of (state S.Store conn.old))
+        (seen_of (state S.Store conn.new))) }
     ensures read { HasRead (state S.Store conn.old) (state S.Store conn.new) result }
     ensures mode { conn.new.in_transaction ≡ false }
 {
@@ -59,7 +67,8 @@ pub fn release_count<S: Alter>(conn: &mut Connection<S>) -> Result<u32, Fault>
 /// How many duties there are.
 pub fn duty_count<S: Alter>(conn: &mut Connection<S>) -> Result<u32, Fault>
     requires { conn.old.in_transaction ≡ false }
-    ensures found { IfOk result (λ count. OfRows (λ t. length t.duty ≡ count) (seen_of (state S.Store conn.old)) (seen_of (state S.Store conn.new))) }
+    ensures found { IfOk result (λ count. OfRows (λ t.
+        length t.duty ≡ count) (seen_of (state S.Store conn.old)) (seen_of (state S.Store conn.new))) }
     ensures read { HasRead (state S.Store conn.old) (state S.Store conn.new) result }
     ensures mode { conn.new.in_transaction ≡ false }
 {

@@ -18,7 +18,9 @@ pub(crate) fn query<S: Alter>(
     params: &[ValueRef<'_>],
 ) -> Result<Vec<Row>, Fault>
     requires { conn.old.in_transaction ≡ false }
-    ensures shown { HasCleanDisk (state S.Store conn.new) → IfOk result (λ rows. Shown sql.now (bound params.now) (state S.Store conn.old) (state S.Store conn.new) rows.items) }
+    ensures shown { HasCleanDisk (state S.Store conn.new)
+        → IfOk result (λ rows. Shown sql.now (bound params.now) (state S.Store conn.old)
+        (state S.Store conn.new) rows.items) }
     ensures read { Asks sql.now → HasRead (state S.Store conn.old) (state S.Store conn.new) result }
     ensures mode { conn.new.in_transaction ≡ false }
 {

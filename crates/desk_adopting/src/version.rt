@@ -76,8 +76,10 @@ fn version_in(rows: &[Row]) -> Option<i64>
 /// The version that the table `meta` tells: the whole number in its only row.
 fn version<S: Alter>(conn: &mut Connection<S>) -> Result<Option<i64>, Fault>
     requires { conn.old.in_transaction ≡ false }
-    ensures told { HasCleanDisk (state S.Store conn.new) → IfOk result (λ version. TellsVersion version (state S.Store conn.old)) }
-    ensures held { IfOk result (λ version. OfRows (λ t. version ≡ Some (pos 3)) (seen_of (state S.Store conn.old)) (seen_of (state S.Store conn.new))) }
+    ensures told { HasCleanDisk (state S.Store conn.new)
+        → IfOk result (λ version. TellsVersion version (state S.Store conn.old)) }
+    ensures held { IfOk result (λ version. OfRows (λ t.
+        version ≡ Some (pos 3)) (seen_of (state S.Store conn.old)) (seen_of (state S.Store conn.new))) }
     ensures read { HasRead (state S.Store conn.old) (state S.Store conn.new) result }
     ensures mode { conn.new.in_transaction ≡ false }
 {
@@ -106,7 +108,8 @@ fn content_by(version: Option<i64>, is_declared: bool) -> Content
 pub fn examine<S: Alter>(conn: &mut Connection<S>) -> Result<Content, Fault>
     requires { conn.old.in_transaction ≡ false }
     ensures found { HasCleanDisk (state S.Store conn.new) → IfOk result (IsContent (state S.Store conn.old)) }
-    ensures held { IfOk result (λ content. IsTrue (state S.Store conn.old).is_open → OfRows (λ t. content ≡ Content.Desk) (seen_of (state S.Store conn.old)) (seen_of (state S.Store conn.new))) }
+    ensures held { IfOk result (λ content. IsTrue (state S.Store conn.old).is_open → OfRows (λ t.
+        content ≡ Content.Desk) (seen_of (state S.Store conn.old)) (seen_of (state S.Store conn.new))) }
     ensures read { HasRead (state S.Store conn.old) (state S.Store conn.new) result }
     ensures mode { conn.new.in_transaction ≡ false }
 {

@@ -32,7 +32,8 @@ pub struct Choice {
 
 // The sum of the costs of a set's terms, if each has one.
 fn price<C: Cost>(set: &TermSet, cost: &C) -> Option<u64>
-    ensures some { IfSome result (λ sum. HasCosts (C.cost_of cost.now) set.now × (sum ≡ set_cost (C.cost_of cost.now) set.now)) }
+    ensures some { IfSome result (λ sum. HasCosts (C.cost_of cost.now) set.now
+        × (sum ≡ set_cost (C.cost_of cost.now) set.now)) }
     ensures none { IfNone result (HasCosts (C.cost_of cost.now) set.now → ⊥) }
 {
     let terms = set.terms();
@@ -64,7 +65,8 @@ fn least<C: Cost>(sets: &[TermSet], cost: &C) -> Option<(usize, u64)>
 ///
 /// An expression is refused as `alternatives` refuses it.
 pub fn cheapest<C: Cost>(alloc: Global, expr: &Expr, cost: &C) -> Result<Option<Choice>, AltFault>
-    ensures choice { IfOk result (λ found. IfSome found (λ c. IsCheapest (C.cost_of cost.now) expr.now c.cost c.set)) }
+    ensures choice { IfOk result (λ found. IfSome found (λ c.
+        IsCheapest (C.cost_of cost.now) expr.now c.cost c.set)) }
     ensures none { IfOk result (λ found. IfNone found (HasNoCosts (C.cost_of cost.now) expr.now)) }
     ensures listable { OnOk result (IsListable expr.now) }
     ensures fault { IfErr result (IsFaultOf expr.now) }

@@ -119,7 +119,8 @@ impl Kept {
 
     // Adds the unions of the set and each of these.
     fn add_unions(&self, mask: Mask, unions: &mut Vec<Union>) -> Result<(), AllocError>
-        ensures { OnOk result (Adds (union_masks unions.old.items) (union_masks unions.new.items) (λ m. IsSubset mask m × IsAbove self.now m)) }
+        ensures { OnOk result (Adds (union_masks unions.old.items) (union_masks unions.new.items) (λ m.
+            IsSubset mask m × IsAbove self.now m)) }
     {
         for at in 0..self.len() {
             unions.push(Union::of(mask, self.get(at)))?;
@@ -129,7 +130,8 @@ impl Kept {
 
     // The unions of one of these sets and one of the others.
     fn unions(&self, alloc: Global, other: &Kept) -> Result<Vec<Union>, AllocError>
-        ensures { IfOk result (λ v. (m : Mask) → IsAbove (union_masks v.items) m ↔ (IsAbove self.now m × IsAbove other.now m)) }
+        ensures { IfOk result (λ v. (m : Mask) → IsAbove (union_masks v.items) m
+            ↔ (IsAbove self.now m × IsAbove other.now m)) }
     {
         let mut unions = Vec::new(alloc);
         for at in 0..self.len() {
@@ -155,7 +157,8 @@ impl Kept {
     /// The small unions come first, so none is kept that a later one is a subset of: there are never more kept than in the end.
     pub(crate) fn product(&self, alloc: Global, other: &Kept) -> Result<Kept, AllocError>
         ensures apart { IfOk result (λ k. AreApart k) }
-        ensures exact { IfOk result (λ k. (m : Mask) → IsAbove k m ↔ (IsAbove self.now m × IsAbove other.now m)) }
+        ensures exact { IfOk result (λ k. (m : Mask) → IsAbove k m
+            ↔ (IsAbove self.now m × IsAbove other.now m)) }
     {
         let mut unions = self.unions(alloc, other)?;
         unions.sort_unstable();

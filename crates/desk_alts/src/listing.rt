@@ -34,7 +34,8 @@ fn sets_of(alloc: Global, table: &TermTable, kept: &Kept) -> Result<Vec<TermSet>
 /// of some node has more than 64 minimal sets: a front of an All or Any is its first parts under the same operator, at least one.
 pub fn alternatives(alloc: Global, expr: &Expr) -> Result<Vec<TermSet>, AltFault>
     ensures sets { IfOk result (λ v. AreAlternatives expr.now v.items) }
-    ensures contained { IfOk result (λ v. (s : List Term) → Holds (Contains s) expr.now → Any (λ m. IsSubset m s) v.items) }
+    ensures contained { IfOk result (λ v. (s : List Term) → Holds (Contains s) expr.now
+        → Any (λ m. IsSubset m s) v.items) }
     ensures listable { OnOk result (IsListable expr.now) }
     ensures fault { IfErr result (IsFaultOf expr.now) }
 {

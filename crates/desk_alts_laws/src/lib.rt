@@ -29,8 +29,10 @@ pub fn one_list_of_terms()
 /// Each tree can be listed, and has a list of its minimal sets; or it has more than 128 terms; or it has no more, and a wide front.
 /// What can be listed has neither fault.
 pub fn listing_exists()
-    ensures some { (e : Tree) → (IsListable e × (sets : List (List Term)) × AreAlternatives e sets) ⊎ (HasMoreTerms 128 e ⊎ ((HasMoreTerms 128 e → ⊥) × HasWideFront e)) }
-    ensures no_fault { (e : Tree) → IsListable e → HasMoreTerms 128 e ⊎ ((HasMoreTerms 128 e → ⊥) × HasWideFront e) → ⊥ }
+    ensures some { (e : Tree) → (IsListable e × (sets : List (List Term)) × AreAlternatives e sets)
+        ⊎ (HasMoreTerms 128 e ⊎ ((HasMoreTerms 128 e → ⊥) × HasWideFront e)) }
+    ensures no_fault { (e : Tree) → IsListable e → HasMoreTerms 128 e
+        ⊎ ((HasMoreTerms 128 e → ⊥) × HasWideFront e) → ⊥ }
 {}
 
 /// Each tree has a list of its minimal sets, whether the limits let it be listed or not, and only one.
@@ -41,11 +43,14 @@ pub fn one_listing()
 
 /// Each tree has a cheapest set, or no set that satisfies it has costs for all its terms.
 pub fn cheapest_exists()
-    ensures some { (cost : Term → Option ℕ) (e : Tree) → ((price : ℕ) × (set : List Term) × IsCheapest cost e price set) ⊎ HasNoCosts cost e }
-    ensures not_both { (cost : Term → Option ℕ) (e : Tree) (price : ℕ) (set : List Term) → IsCheapest cost e price set → HasNoCosts cost e → ⊥ }
+    ensures some { (cost : Term → Option ℕ) (e : Tree)
+        → ((price : ℕ) × (set : List Term) × IsCheapest cost e price set) ⊎ HasNoCosts cost e }
+    ensures not_both { (cost : Term → Option ℕ) (e : Tree) (price : ℕ) (set : List Term)
+        → IsCheapest cost e price set → HasNoCosts cost e → ⊥ }
 {}
 
 /// It has only one.
 pub fn one_cheapest()
-    ensures { (cost : Term → Option ℕ) (e : Tree) (p q : ℕ) (s r : List Term) → IsCheapest cost e p s → IsCheapest cost e q r → (p ≡ q) × (s ≡ r) }
+    ensures { (cost : Term → Option ℕ) (e : Tree) (p q : ℕ) (s r : List Term) → IsCheapest cost e p s
+        → IsCheapest cost e q r → (p ≡ q) × (s ≡ r) }
 {}

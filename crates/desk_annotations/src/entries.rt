@@ -31,7 +31,11 @@ fn written_by<'a>(
     path: &'a Value,
     index: usize,
 ) -> Result<Result<Written<'a>, AnnotationsFault>, AllocError>
-    ensures { let ms = table_view table.now in IfOk result (Gives (written_by index (texts_of (view path.now)) (precedence_text (get_member (codes "precedence") ms)) (texts_at (get_member (codes "SPDX-FileCopyrightText") ms)) (texts_at (get_member (codes "SPDX-License-Identifier") ms))) written_in) }
+    ensures { let ms = table_view table.now in IfOk result
+        (Gives (written_by index (texts_of (view path.now))
+        (precedence_text (get_member (codes "precedence") ms))
+        (texts_at (get_member (codes "SPDX-FileCopyrightText") ms))
+        (texts_at (get_member (codes "SPDX-License-Identifier") ms))) written_in) }
 {
     let fault = AnnotationsFault::BadAnnotation(index, AnnotationFault::BadKind);
     let Some(paths) = texts_of(alloc, path)? else {
@@ -77,7 +81,8 @@ fn annotation_of(
     written: &Written<'_>,
     index: usize,
 ) -> Result<Result<Annotation, AnnotationsFault>, AllocError>
-    ensures { (r : Reading) → IsRight r → IfOk result (λ a. a ≡ annotation_of r index (written_in written.now)) }
+    ensures { (r : Reading) → IsRight r → IfOk result (λ a.
+        a ≡ annotation_of r index (written_in written.now)) }
 {
     let Some(precedence) = precedence_of(written.precedence) else {
         return Ok(Err(AnnotationsFault::BadAnnotation(index, AnnotationFault::BadPrecedence)));
@@ -115,7 +120,8 @@ pub(crate) fn each_annotation(
     alloc: Global,
     values: &[Value],
 ) -> Result<Result<Vec<Annotation>, AnnotationsFault>, AllocError>
-    ensures { (r : Reading) → IsRight r → IfOk result (Gives (each (annotation_at r) 0 (items_view values.now)) (λ list. list.items)) }
+    ensures { (r : Reading) → IsRight r → IfOk result
+        (Gives (each (annotation_at r) 0 (items_view values.now)) (λ list. list.items)) }
 {
     let mut list = Vec::new(alloc);
     for (i, value) in values.iter().enumerate() {

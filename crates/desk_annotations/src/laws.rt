@@ -8,10 +8,12 @@ ghost use Rattle.desk_annotations.specs.Sifting.{good_annotations, annotation_fa
 /// Right readings agree, so a text has one answer.
 pub fn one_reading()
     ensures same { (r s : Reading) → IsRight r → IsRight s → r ≡ s }
-    ensures answer { (r s : Reading) → IsRight r → IsRight s → (text : List ℕ) → annotations_of r text ≡ annotations_of s text }
+    ensures answer { (r s : Reading) → IsRight r → IsRight s → (text : List ℕ)
+        → annotations_of r text ≡ annotations_of s text }
 {}
 
 /// The annotations that are read are all that can be, and then there are no faults; or the fault is the first one.
 pub fn reading_is_sifting()
-    ensures { (r : Reading) (text : List ℕ) → Agrees (annotations_of r text) (annotation_faults r text) (good_annotations r text) }
+    ensures { (r : Reading) (text : List ℕ) → Agrees (annotations_of r text) (annotation_faults r text)
+        (good_annotations r text) }
 {}

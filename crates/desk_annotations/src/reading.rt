@@ -19,7 +19,8 @@ use toml::{Table, Value};
 
 // The entries that are listed in a table.
 fn listed(table: &Table) -> Result<&[Value], AnnotationsFault>
-    ensures { Gives (listed (get_member (codes "annotations") (table_view table.now))) (λ values. items_view values.now) result }
+    ensures { Gives (listed (get_member (codes "annotations") (table_view table.now))) (λ values.
+        items_view values.now) result }
 {
     let Some(value) = member(table, "annotations") else {
         return Ok(&[]);
@@ -83,7 +84,8 @@ impl Annotations {
     /// For each right reading the answer is that of `annotations_of`; `Memory` is want of memory and nothing else.
     pub fn read(alloc: Global, text: &str) -> Result<Annotations, AnnotationsFault>
         ensures ok { (r : Reading) → IsRight r → IfOk result (λ a. annotations_of r text.now ≡ Ok a.list) }
-        ensures err { (r : Reading) → IsRight r → IfErr result (λ f. (f ≡ AnnotationsFault.Memory alloc_error) ⊎ (annotations_of r text.now ≡ Err f)) }
+        ensures err { (r : Reading) → IsRight r → IfErr result (λ f.
+            (f ≡ AnnotationsFault.Memory alloc_error) ⊎ (annotations_of r text.now ≡ Err f)) }
     {
         match of_text(alloc, text) {
             Ok(Ok(list)) => Ok(Annotations {

@@ -36,8 +36,10 @@ fn put(sifted: &mut Sifted, read: Result<Annotation, AnnotationsFault>) -> Resul
 
 // What can be read of some entries.
 fn each_sifted(alloc: Global, values: &[Value]) -> Result<Sifted, AllocError>
-    ensures annotations { (r : Reading) → IsRight r → IfOk result (λ s. s.annotations ≡ each_good (annotation_at r) 0 (items_view values.now)) }
-    ensures faults { (r : Reading) → IsRight r → IfOk result (λ s. s.faults ≡ each_bad (annotation_at r) 0 (items_view values.now)) }
+    ensures annotations { (r : Reading) → IsRight r → IfOk result (λ s.
+        s.annotations ≡ each_good (annotation_at r) 0 (items_view values.now)) }
+    ensures faults { (r : Reading) → IsRight r → IfOk result (λ s.
+        s.faults ≡ each_bad (annotation_at r) 0 (items_view values.now)) }
 {
     let mut sifted = Sifted {
         annotations: Items::new(alloc),
@@ -67,8 +69,10 @@ impl Annotations {
     /// The annotations of a REUSE.toml that can be read, and the faults of the others, or the one of the whole document. The only
     /// error is want of memory.
     pub fn sift(alloc: Global, text: &str) -> Result<Sifted, AllocError>
-        ensures annotations { (r : Reading) → IsRight r → IfOk result (λ s. s.annotations ≡ good_annotations r text.now) }
-        ensures faults { (r : Reading) → IsRight r → IfOk result (λ s. s.faults ≡ annotation_faults r text.now) }
+        ensures annotations { (r : Reading) → IsRight r
+            → IfOk result (λ s. s.annotations ≡ good_annotations r text.now) }
+        ensures faults { (r : Reading) → IsRight r → IfOk result (λ s.
+            s.faults ≡ annotation_faults r text.now) }
     {
         let table = match table_of(alloc, text)? {
             Ok(table) => table,

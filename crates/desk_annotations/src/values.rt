@@ -75,7 +75,8 @@ pub(crate) fn texts_at<'a>(
 
 /// The text of a precedence, which is `closest` where there is none.
 pub(crate) fn precedence_text(table: &Table) -> Option<&str>
-    ensures { option_map (λ text. text.now) result ≡ precedence_text (get_member (codes "precedence") (table_view table.now)) }
+    ensures { option_map (λ text. text.now) result
+        ≡ precedence_text (get_member (codes "precedence") (table_view table.now)) }
 {
     match member(table, "precedence") {
         Some(value) => value.as_str(),

@@ -71,7 +71,8 @@ impl Reached {
     // Reaches what arrows lead to.
     fn add_all(&mut self, arrows: &[Arrow]) -> Result<(), AllocError>
         requires { All (λ x. x.to < length self.old.marks.items) arrows.now }
-        ensures order { OnOk result (self.new.order.items ≡ added_all (map (λ x. x.to) arrows.now) self.old.order.items) }
+        ensures order { OnOk result (self.new.order.items
+            ≡ added_all (map (λ x. x.to) arrows.now) self.old.order.items) }
         ensures count { length self.new.marks.items ≡ length self.old.marks.items }
     {
         for arrow in arrows {
@@ -84,7 +85,8 @@ impl Reached {
     pub(crate) fn walk(&mut self, arrows: &[Arrow]) -> Result<(), AllocError>
         requires sorted { IsNonDecreasingBy (λ x. x.from) arrows.now }
         requires within { All (λ x. x.to < length self.old.marks.items) arrows.now }
-        ensures { OnOk result (IsLeastFrom (among self.old.order.items) arrows.now (among self.new.order.items)) }
+        ensures { OnOk result (IsLeastFrom (among self.old.order.items) arrows.now
+            (among self.new.order.items)) }
     {
         for done in 0..self.marks.len() {
             if done < self.order.len() {

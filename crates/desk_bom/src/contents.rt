@@ -33,7 +33,8 @@ fn tie(elements: &Elements, edge: &Edge) -> Option<Arrow>
 
 // Adds a file to the last of so many packages.
 fn onto_package(found: &mut Vec<Arrow>, packages: usize, file: usize) -> Result<(), AllocError>
-    ensures { OnOk result ((more : List Arrow) → found.new.items ++ more ≡ found.old.items ++ onto_package packages file more) }
+    ensures { OnOk result ((more : List Arrow)
+        → found.new.items ++ more ≡ found.old.items ++ onto_package packages file more) }
 {
     if packages > 0 {
         found.push(Arrow {
@@ -68,7 +69,8 @@ fn add_tied(
     elements: &Elements,
 ) -> Result<(), AllocError>
     requires { Notes (document_text document.now) elements.now }
-    ensures { OnOk result (found.new.items ≡ found.old.items ++ filter_map (tie (document_text document.now)) (document_text document.now).edges) }
+    ensures { OnOk result (found.new.items ≡ found.old.items ++ filter_map
+        (tie (document_text document.now)) (document_text document.now).edges) }
 {
     let edges = document.edges.as_slice();
     for edge in edges {
@@ -110,7 +112,8 @@ impl Contents {
     /// The arrows to a package's files, each once, in the order of the files.
     pub(crate) fn files(&self, owner: usize) -> &[Arrow]
         ensures once { IsStrictlyIncreasing (map (λ x. x.to) result.now) }
-        ensures members { (j : ℕ) → Contains (map (λ x. x.to) result.now) j ↔ Contains self.now.arrows.items (record { from = owner; to = j }) }
+        ensures members { (j : ℕ) → Contains (map (λ x. x.to) result.now) j
+            ↔ Contains self.now.arrows.items (record { from = owner; to = j }) }
     {
         targets(&self.arrows, owner)
     }

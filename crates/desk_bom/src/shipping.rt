@@ -101,7 +101,8 @@ fn is_described(document: &Document, elements: &Elements) -> bool
 // Reaches so many packages.
 fn add_packages(reached: &mut Reached, count: usize) -> Result<(), AllocError>
     requires { count < length reached.old.marks.items }
-    ensures order { OnOk result ((a : ℕ) → among reached.new.order.items a ≡ (among reached.old.order.items a || nat_le 1 a && nat_le a count)) }
+    ensures order { OnOk result ((a : ℕ) → among reached.new.order.items a
+        ≡ (among reached.old.order.items a || nat_le 1 a && nat_le a count)) }
     ensures count { length reached.new.marks.items ≡ length reached.old.marks.items }
 {
     for package in 0..count {
@@ -113,7 +114,8 @@ fn add_packages(reached: &mut Reached, count: usize) -> Result<(), AllocError>
 // The elements at which shipping starts.
 fn starts(alloc: Global, document: &Document, elements: &Elements) -> Result<Reached, AllocError>
     requires { Notes (document_text document.now) elements.now }
-    ensures order { IfOk result (λ r. (a : ℕ) → among r.order.items a ≡ is_start (document_text document.now) a) }
+    ensures order { IfOk result (λ r. (a : ℕ) → among r.order.items a ≡ is_start
+        (document_text document.now) a) }
     ensures count { IfOk result (λ r. length r.marks.items ≡ element_count elements.now) }
 {
     let mut reached = Reached::new(alloc, elements.count())?;
@@ -126,7 +128,8 @@ fn starts(alloc: Global, document: &Document, elements: &Elements) -> Result<Rea
 
 // The elements that ship.
 fn shipping(alloc: Global, document: &Document) -> Result<Reached, AllocError>
-    ensures { IfOk result (λ r. IsLeastFrom (is_start (document_text document.now)) (shipping_arrows (document_text document.now)) (among r.order.items)) }
+    ensures { IfOk result (λ r. IsLeastFrom (is_start (document_text document.now))
+        (shipping_arrows (document_text document.now)) (among r.order.items)) }
 {
     let elements = Elements::of(alloc, document)?;
     let mut arrows = shipping_arrows(alloc, document, &elements)?;
@@ -149,8 +152,10 @@ fn packages_in<'a>(
     packages: &[Package<'a>],
     reached: &Reached,
 ) -> Result<Vec<Named<'a>>, AllocError>
-    ensures places { IfOk result (λ v. map (λ n. n.place) v.items ≡ filter (λ k. among reached.now.order.items (k + 1)) (range_with_len 0 (length packages.now))) }
-    ensures ids { IfOk result (λ v. All (λ n. n.id.now ≡ slice_index_or (map (λ p. p.id.now) packages.now) n.place []) v.items) }
+    ensures places { IfOk result (λ v. map (λ n. n.place) v.items ≡ filter (λ k.
+        among reached.now.order.items (k + 1)) (range_with_len 0 (length packages.now))) }
+    ensures ids { IfOk result (λ v. All (λ n. n.id.now
+        ≡ slice_index_or (map (λ p. p.id.now) packages.now) n.place []) v.items) }
 {
     let mut found = Vec::new(alloc);
     for (place, package) in packages.iter().enumerate() {
@@ -173,7 +178,8 @@ fn places_of(alloc: Global, named: &[Named]) -> Result<Vec<usize>, AllocError>
 // Of each of so many packages, whether it was reached.
 fn marks_of(alloc: Global, count: usize, reached: &Reached) -> Result<Vec<bool>, AllocError>
     requires { count < 2 ^ 63 }
-    ensures { IfOk result (λ v. v.items ≡ map (λ k. among reached.now.order.items (k + 1)) (range_with_len 0 count)) }
+    ensures { IfOk result (λ v. v.items ≡ map (λ k.
+        among reached.now.order.items (k + 1)) (range_with_len 0 count)) }
 {
     let mut marks = Vec::new(alloc);
     for package in 0..count {

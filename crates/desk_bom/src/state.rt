@@ -148,7 +148,8 @@ impl Excluded<'_> {
 
 // The names that a code excludes.
 fn excluded_names<'a>(alloc: Global, text: Option<&'a str>) -> Result<Excluded<'a>, AllocError>
-    ensures { IfOk result (λ e. (q : List ℕ) → has_name e q ≡ list_any (λ name. bytes_eq name q) (excluded_names (value_text text.entry))) }
+    ensures { IfOk result (λ e. (q : List ℕ) → has_name e q ≡ list_any (λ name. bytes_eq name q)
+        (excluded_names (value_text text.entry))) }
 {
     match text {
         Some(text) => {
@@ -188,7 +189,10 @@ fn digests_of(
     files: &[FileEntry],
     arrows: &[Arrow],
 ) -> Result<Option<Vec<[u8; 20]>>, AllocError>
-    ensures { (names : List (List ℕ)) → ((q : List ℕ) → has_name excluded.now q ≡ list_any (λ name. bytes_eq name q) names) → IfOk result (λ ds. items_of ds ≡ digests_of names (files_at (map file_text files.now) arrows.now)) }
+    ensures { (names : List (List ℕ)) → ((q : List ℕ)
+        → has_name excluded.now q ≡ list_any (λ name. bytes_eq name q) names)
+        → IfOk result (λ ds. items_of ds
+        ≡ digests_of names (files_at (map file_text files.now) arrows.now)) }
 {
     let mut digests = Vec::new(alloc);
     for arrow in arrows {
@@ -225,8 +229,10 @@ fn is_same(digits: &str, code: &[u8; 40]) -> bool
 
 // The parts of a code that can be checked.
 fn checked_field<'a>(package: &Package, value: &'a str) -> Option<CodeField<'a>>
-    ensures none { IfNone result (is_unanalyzed (value_text «package».now.files_analyzed) || not (is_code value.now) ≡ true) }
-    ensures some { IfSome result (λ f. is_unanalyzed (value_text «package».now.files_analyzed) || not (is_code value.now) ≡ false) }
+    ensures none { IfNone result (is_unanalyzed (value_text «package».now.files_analyzed) || not
+        (is_code value.now) ≡ true) }
+    ensures some { IfSome result (λ f. is_unanalyzed (value_text «package».now.files_analyzed) || not
+        (is_code value.now) ≡ false) }
     ensures digits { IfSome result (λ f. f.digits.now ≡ code_digits value.now) }
     ensures names { IfSome result (λ f. excluded_names (value_text f.names) ≡ excluded_by value.now) }
 {
@@ -243,7 +249,8 @@ fn checked_digests(
     files: &[FileEntry],
     arrows: &[Arrow],
 ) -> Result<Option<Vec<[u8; 20]>>, AllocError>
-    ensures { IfOk result (λ ds. items_of ds ≡ digests_of (excluded_names (value_text names.entry)) (files_at (map file_text files.now) arrows.now)) }
+    ensures { IfOk result (λ ds. items_of ds ≡ digests_of (excluded_names (value_text names.entry))
+        (files_at (map file_text files.now) arrows.now)) }
 {
     let excluded = excluded_names(alloc, names)?;
     let digests = digests_of(alloc, &excluded, files, arrows)?;
@@ -259,7 +266,8 @@ fn state_of_code(
     arrows: &[Arrow],
 ) -> Result<CodeState, AllocError>
     requires { value_text «package».now.verification_code ≡ Some value.now }
-    ensures { IfOk result (IsStateOf (package_text «package».now) (files_at (map file_text files.now) arrows.now)) }
+    ensures { IfOk result (IsStateOf (package_text «package».now)
+        (files_at (map file_text files.now) arrows.now)) }
 {
     let Some(field) = checked_field(package, value) else {
         return Ok(CodeState::Unchecked);

@@ -16,7 +16,8 @@ pub(crate) fn tables_of<'a>(
     key: &str,
     part: CataloguePart,
 ) -> Result<&'a [Value], CatalogueFault>
-    ensures { Gives (tables_of part (get_member key.now (table_view table.now))) (λ values. items_view values.now) result }
+    ensures { Gives (tables_of part (get_member key.now (table_view table.now))) (λ values.
+        items_view values.now) result }
 {
     match member(table, key) {
         None => Ok(&[]),

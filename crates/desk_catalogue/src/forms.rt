@@ -76,7 +76,8 @@ pub(crate) fn forms_of(
     alloc: Global,
     table: &Table,
 ) -> Result<Result<Items<Text>, CatalogueFault>, AllocError>
-    ensures { IfOk result (Gives (forms_of (get_member (codes "forms") (table_view table.now))) (λ forms. forms)) }
+    ensures { IfOk result (Gives (forms_of (get_member (codes "forms") (table_view table.now)))
+        (λ forms. forms)) }
 {
     let Some(value) = member(table, "forms") else {
         return Ok(Err(CatalogueFault::Missing(CataloguePart::Forms, 0)));

@@ -17,16 +17,20 @@ pub fn terms_are_read()
 
 /// A text has one answer: whichever such function is taken, `catalogue_of` says the same.
 pub fn one_catalogue()
-    ensures { (terms others : List ℕ → Option (List ℕ)) → ReadsTerms terms → ReadsTerms others → (text : List ℕ) → catalogue_of terms text ≡ catalogue_of others text }
+    ensures { (terms others : List ℕ → Option (List ℕ)) → ReadsTerms terms → ReadsTerms others
+        → (text : List ℕ) → catalogue_of terms text ≡ catalogue_of others text }
 {}
 
 /// The rules of a catalogue are sorted by term and form, each pair once, and each of them is found
 /// by its term and form.
 pub fn rules_stand_once()
-    ensures { (terms : List ℕ → Option (List ℕ)) (text : List ℕ) (catalogue : Catalogue) → catalogue_of terms text ≡ Ok catalogue → IsStrictlySortedBy rule_order catalogue.rules }
+    ensures { (terms : List ℕ → Option (List ℕ)) (text : List ℕ) (catalogue : Catalogue)
+        → catalogue_of terms text ≡ Ok catalogue → IsStrictlySortedBy rule_order catalogue.rules }
 {}
 
 /// No form of a catalogue stands twice, and no licence or exception has two texts.
 pub fn forms_and_texts_stand_once()
-    ensures { (terms : List ℕ → Option (List ℕ)) (text : List ℕ) (catalogue : Catalogue) → catalogue_of terms text ≡ Ok catalogue → IsDistinct bytes_eq catalogue.forms × IsDistinct same_licence catalogue.texts }
+    ensures { (terms : List ℕ → Option (List ℕ)) (text : List ℕ) (catalogue : Catalogue)
+        → catalogue_of terms text ≡ Ok catalogue → IsDistinct bytes_eq catalogue.forms
+        × IsDistinct same_licence catalogue.texts }
 {}

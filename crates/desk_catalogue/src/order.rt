@@ -137,7 +137,9 @@ pub(crate) fn codes_once(
     alloc: Global,
     listed: Vec<&str>,
 ) -> Result<Option<Items<Text>>, AllocError>
-    ensures { IfOk result (λ read. read ≡ (if stand_once (texts_in listed.entry) then Some (sorted_set (texts_in listed.entry)) else None)) }
+    ensures { IfOk result (λ read. read ≡
+        (if stand_once (texts_in listed.entry) then Some
+        (sorted_set (texts_in listed.entry)) else None)) }
 {
     let number = listed.len();
     let sorted = sorted_set(alloc, listed)?;

@@ -17,7 +17,8 @@ use std::marker::Model;
 // What follows a front with which the bytes begin; or, where they don't, how they compare with it, whatever follows it.
 fn behind<'a>(bytes: &'a [u8], front: &[u8]) -> Result<&'a [u8], Ordering>
     ensures ok { IfOk result (λ rest. bytes.now ≡ front.now ++ rest.now) }
-    ensures err { IfErr result (λ side. (more : List ℕ) → side ≡ slice_cmp nat_cmp bytes.now (front.now ++ more)) }
+    ensures err { IfErr result (λ side. (more : List ℕ)
+        → side ≡ slice_cmp nat_cmp bytes.now (front.now ++ more)) }
 {
     match bytes.strip_prefix(front) {
         Some(rest) => Ok(rest),
@@ -40,7 +41,8 @@ fn side_of_exception(bytes: &[u8], exception: &Option<Key>) -> Ordering
 
 // How bytes compare with what is printed behind the term's key.
 fn side_behind_key(bytes: &[u8], term: &Term) -> Ordering
-    ensures { result ≡ slice_cmp nat_cmp bytes.now ((if term.now.plus then codes "+" else []) ++ printed_exception term.now.exception) }
+    ensures { result ≡ slice_cmp nat_cmp bytes.now
+        ((if term.now.plus then codes "+" else []) ++ printed_exception term.now.exception) }
 {
     if term.plus {
         match behind(bytes, b"+") {
@@ -114,7 +116,8 @@ impl OrderedRules {
 
     /// The rule for a term in a form.
     pub(crate) fn find(&self, term: &Term, form: &str) -> Option<&Rule>
-        ensures { option_map (λ rule. rule.now) result ≡ find (is_rule (printed_term term.now) form.now) self.now }
+        ensures { option_map (λ rule. rule.now) result
+            ≡ find (is_rule (printed_term term.now) form.now) self.now }
     {
         let rules = self.rules.as_slice();
         match rules.binary_search_by(|rule| side_of(rule, term, form)) {

@@ -23,7 +23,8 @@ fn catalogue_of_table(
     alloc: Global,
     table: &Table,
 ) -> Result<Result<Catalogue, CatalogueFault>, AllocError>
-    ensures { (terms : List ℕ → Option (List ℕ)) → ReadsTerms terms → IfOk result (λ read. read ≡ catalogue_of_table terms (table_view table.now)) }
+    ensures { (terms : List ℕ → Option (List ℕ)) → ReadsTerms terms
+        → IfOk result (λ read. read ≡ catalogue_of_table terms (table_view table.now)) }
 {
     let forms = match forms_of(alloc, table)? {
         Ok(forms) => forms,
@@ -57,7 +58,8 @@ impl Catalogue {
     /// For each function that gives the terms that texts spell, the answer is that of
     /// `catalogue_of`; `CatFault::Memory` is want of memory and nothing else.
     pub fn read(alloc: Global, text: &str) -> Result<Catalogue, CatFault>
-        ensures { (terms : List ℕ → Option (List ℕ)) → ReadsTerms terms → IsRead (catalogue_of terms text.now) result }
+        ensures { (terms : List ℕ → Option (List ℕ)) → ReadsTerms terms
+            → IsRead (catalogue_of terms text.now) result }
     {
         if text.len() > limits::CATALOGUE_BYTES {
             return Err(CatFault::Refused(CatalogueFault::TooLarge));

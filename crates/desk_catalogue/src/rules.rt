@@ -66,7 +66,8 @@ fn rule_texts<'a>(
     duties: &'a Value,
     index: usize,
 ) -> Result<Result<Written<'a>, CatalogueFault>, AllocError>
-    ensures { IfOk result (Gives (rule_texts index (as_str (view term.now)) (as_str (view form.now)) (texts_of (view duties.now))) rule_texts_in) }
+    ensures { IfOk result (Gives (rule_texts index (as_str (view term.now)) (as_str (view form.now))
+        (texts_of (view duties.now))) rule_texts_in) }
 {
     let Some(term) = term.as_str() else {
         return Ok(Err(CatalogueFault::BadKind(CataloguePart::Rule, index)));
@@ -82,7 +83,8 @@ fn rule_texts<'a>(
 
 // The printed term of a text that spells one that is no reference.
 fn licence_of(alloc: Global, text: &str) -> Result<Option<Text>, AllocError>
-    ensures { (terms : List ℕ → Option (List ℕ)) → ReadsTerms terms → IfOk result (λ term. term ≡ licence_of terms text.now) }
+    ensures { (terms : List ℕ → Option (List ℕ)) → ReadsTerms terms
+        → IfOk result (λ term. term ≡ licence_of terms text.now) }
 {
     match parse_term(alloc, text) {
         Ok(term) => {
@@ -120,7 +122,8 @@ fn rule_of(
     written: Written<'_>,
     term: Text,
 ) -> Result<Result<Rule, CatalogueFault>, AllocError>
-    ensures { IfOk result (λ rule. rule ≡ rule_of known.now.forms (codes_in known.now.duties) index (rule_texts_in written.entry) term) }
+    ensures { IfOk result (λ rule. rule ≡ rule_of known.now.forms (codes_in known.now.duties) index
+        (rule_texts_in written.entry) term) }
 {
     if !is_kept(known.forms.as_slice(), written.form) {
         return Ok(Err(CatalogueFault::UnknownForm(CataloguePart::Rule, index)));
@@ -148,7 +151,9 @@ fn rule_at(
     index: usize,
     value: &Value,
 ) -> Result<Result<Rule, CatalogueFault>, AllocError>
-    ensures { (terms : List ℕ → Option (List ℕ)) → ReadsTerms terms → IfOk result (λ rule. rule ≡ rule_at terms known.now.forms (codes_in known.now.duties) index (view value.now)) }
+    ensures { (terms : List ℕ → Option (List ℕ)) → ReadsTerms terms
+        → IfOk result (λ rule. rule ≡ rule_at terms known.now.forms (codes_in known.now.duties) index
+        (view value.now)) }
 {
     let written = match rule_written(alloc, value, index)? {
         Ok(written) => written,
@@ -166,7 +171,9 @@ fn each_rule(
     known: &Known<'_>,
     values: &[Value],
 ) -> Result<Result<BTreeMap<Subject, Said>, CatalogueFault>, AllocError>
-    ensures { (terms : List ℕ → Option (List ℕ)) → ReadsTerms terms → IfOk result (Gives (each (with_rule terms known.now.forms (codes_in known.now.duties)) [] 0 (items_view values.now)) rules_in) }
+    ensures { (terms : List ℕ → Option (List ℕ)) → ReadsTerms terms
+        → IfOk result (Gives (each (with_rule terms known.now.forms (codes_in known.now.duties)) [] 0
+        (items_view values.now)) rules_in) }
 {
     let mut rules = BTreeMap::new(alloc);
     for (i, value) in values.iter().enumerate() {
@@ -188,7 +195,9 @@ pub(crate) fn rules_of(
     known: &Known<'_>,
     table: &Table,
 ) -> Result<Result<BTreeMap<Subject, Said>, CatalogueFault>, AllocError>
-    ensures { (terms : List ℕ → Option (List ℕ)) → ReadsTerms terms → IfOk result (Gives (rules_of terms known.now.forms (codes_in known.now.duties) (get_member (codes "rule") (table_view table.now))) rules_in) }
+    ensures { (terms : List ℕ → Option (List ℕ)) → ReadsTerms terms
+        → IfOk result (Gives (rules_of terms known.now.forms (codes_in known.now.duties)
+        (get_member (codes "rule") (table_view table.now))) rules_in) }
 {
     match tables_of(table, "rule", CataloguePart::Rule) {
         Ok(values) => each_rule(alloc, known, values),

@@ -86,7 +86,8 @@ pub(crate) fn texts_of(
     alloc: Global,
     table: &Table,
 ) -> Result<Result<Items<LicenceText>, CatalogueFault>, AllocError>
-    ensures { IfOk result (Gives (licence_texts_of (get_member (codes "text") (table_view table.now))) (λ texts. texts)) }
+    ensures { IfOk result (Gives (licence_texts_of (get_member (codes "text") (table_view table.now)))
+        (λ texts. texts)) }
 {
     match tables_of(table, "text", CataloguePart::Text) {
         Ok(values) => each_text(alloc, values),

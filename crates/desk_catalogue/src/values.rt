@@ -65,7 +65,8 @@ pub(crate) fn title_of(value: &Value) -> Option<&str>
 }
 
 fn strings<'a>(alloc: Global, values: &'a [Value]) -> Result<Option<Vec<&'a str>>, AllocError>
-    ensures { IfOk result (λ r. option_map (λ v. map (λ text. text.now) v.items) r ≡ strings (items_view values.now)) }
+    ensures { IfOk result (λ r. option_map (λ v. map (λ text. text.now) v.items) r
+        ≡ strings (items_view values.now)) }
 {
     let mut texts = Vec::new(alloc);
     for value in values {
@@ -79,7 +80,8 @@ fn strings<'a>(alloc: Global, values: &'a [Value]) -> Result<Option<Vec<&'a str>
 
 /// The texts of a list that holds nothing else.
 pub(crate) fn texts_of(alloc: Global, value: &Value) -> Result<Option<Vec<&str>>, AllocError>
-    ensures { IfOk result (λ r. option_map (λ v. map (λ text. text.now) v.items) r ≡ texts_of (view value.now)) }
+    ensures { IfOk result (λ r. option_map (λ v. map (λ text. text.now) v.items) r
+        ≡ texts_of (view value.now)) }
 {
     match value.as_array() {
         Some(values) => strings(alloc, values.as_slice()),

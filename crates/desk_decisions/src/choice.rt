@@ -121,14 +121,10 @@ fn verdict_on<T: Texts>(
     conclusion: &Conclusion,
     terms: &[Text],
 ) -> Result<Option<Verdict>, AllocError>
-    ensures { (w : Readings) → T.are_right w → IfOk result (TellsVerdict w conclusion.now.profile conclusion.now.text terms.now) }
+    ensures { (w : Readings) → T.are_right w → IfOk result
+        (TellsVerdict w conclusion.now.profile conclusion.now.text terms.now) }
 {
-    texts.verdict(
-        alloc,
-        conclusion.profile,
-        conclusion.text.as_str(),
-        terms,
-    )
+    texts.verdict(alloc, conclusion.profile, conclusion.text.as_str(), terms)
 }
 
 /// What stands against the terms for a package with this claim. Its text is read once.
@@ -299,9 +295,7 @@ fn choose_terms<T: Texts, S: Store>(
         Found::Nowhere(refusal) => Ok(refused(refusal)),
         Found::Here(place) => {
             let claim = claim_of(store, &place.row)?;
-            Ok(choose_at(
-                alloc, texts, release, &place, &claim, package_id, terms,
-            )?)
+            Ok(choose_at(alloc, texts, release, &place, &claim, package_id, terms)?)
         }
     }
 }

@@ -25,17 +25,21 @@ pub fn each_text_is_read()
 
 /// A text from a line on is cut into pieces in some way, up to its end or to a fault.
 pub fn each_text_is_cut()
-    ensures { (line : ℕ) (text : List ℕ) → (cuts : List Cut) × (fault : Option DocFault) × IsCutting line text cuts fault }
+    ensures { (line : ℕ) (text : List ℕ) → (cuts : List Cut) × (fault : Option DocFault)
+        × IsCutting line text cuts fault }
 {}
 
 /// It is cut in one way.
 pub fn one_cutting_of_a_text()
-    ensures { (line : ℕ) (text : List ℕ) (a b : List Cut) (f g : Option DocFault) → IsCutting line text a f → IsCutting line text b g → (a ≡ b) × (f ≡ g) }
+    ensures { (line : ℕ) (text : List ℕ) (a b : List Cut) (f g : Option DocFault)
+        → IsCutting line text a f → IsCutting line text b g → (a ≡ b) × (f ≡ g) }
 {}
 
 /// What is read of a text is what its cutting says.
 pub fn reading_is_cutting()
-    ensures { (line : ℕ) (text : List ℕ) (r : Result (List FieldText) DocFault) → Reads line text r ↔ ((cuts : List Cut) × (fault : Option DocFault) × IsCutting line text cuts fault × (r ≡ said_by line cuts fault)) }
+    ensures { (line : ℕ) (text : List ℕ) (r : Result (List FieldText) DocFault) → Reads line text r
+        ↔ ((cuts : List Cut) × (fault : Option DocFault) × IsCutting line text cuts fault
+        × (r ≡ said_by line cuts fault)) }
 {}
 
 /// Bytes spell a document, or have a fault.

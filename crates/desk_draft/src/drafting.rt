@@ -41,9 +41,13 @@ fn draft_with(
     infos: &[FileInfo],
     files: Vec<DraftFile>,
 ) -> Result<Result<Draft, GatherFault>, AllocError>
-    ensures ok { (r : Reader) → IsRightReader r → IfOk result (λ x. IfOk x (λ d. draft_with r (named title.entry) infos.now files.items d.code ≡ Ok d)) }
+    ensures ok { (r : Reader) → IsRightReader r
+        → IfOk result (λ x. IfOk x (λ d.
+        draft_with r (named title.entry) infos.now files.items d.code ≡ Ok d)) }
     ensures code { IfOk result (λ x. IfOk x (λ d. IsCode (map (λ f. f.digest) d.files) d.code)) }
-    ensures err { (r : Reader) → IsRightReader r → IfOk result (λ x. IfErr x (λ f. (code : List ℕ) → draft_with r (named title.entry) infos.now files.items code ≡ Err f)) }
+    ensures err { (r : Reader) → IsRightReader r
+        → IfOk result (λ x. IfErr x (λ f.
+        (code : List ℕ) → draft_with r (named title.entry) infos.now files.items code ≡ Err f)) }
 {
     let licences = package_licences(alloc, infos)?;
     let concluded = match expression_read(alloc, licences.as_slice())? {
@@ -70,9 +74,12 @@ fn drafted(
     files: &[SourceFile],
     title: Title<'_>,
 ) -> Result<Result<Draft, GatherFault>, AllocError>
-    ensures ok { (r : Reader) → IsRightReader r → IfOk result (λ x. IfOk x (λ d. draft_of r files.now (named title.entry) d.code ≡ Ok d)) }
+    ensures ok { (r : Reader) → IsRightReader r
+        → IfOk result (λ x. IfOk x (λ d. draft_of r files.now (named title.entry) d.code ≡ Ok d)) }
     ensures code { IfOk result (λ x. IfOk x (λ d. IsCode (map (λ f. f.digest) d.files) d.code)) }
-    ensures err { (r : Reader) → IsRightReader r → IfOk result (λ x. IfErr x (λ f. (code : List ℕ) → draft_of r files.now (named title.entry) code ≡ Err f)) }
+    ensures err { (r : Reader) → IsRightReader r
+        → IfOk result (λ x. IfErr x (λ f.
+        (code : List ℕ) → draft_of r files.now (named title.entry) code ≡ Err f)) }
 {
     let infos = match gathered(alloc, files)? {
         Ok(infos) => infos,
@@ -101,9 +108,14 @@ pub fn draft(
     namespace: &str,
     created: &str,
 ) -> Result<Draft, GatherFault>
-    ensures ok { (r : Reader) → IsRightReader r → IfOk result (λ d. draft_of r files.now (record { name = name.now; namespace = namespace.now; created = created.now }) d.code ≡ Ok d) }
+    ensures ok { (r : Reader) → IsRightReader r
+        → IfOk result (λ d. draft_of r files.now
+        (record { name = name.now; namespace = namespace.now; created = created.now }) d.code ≡ Ok d) }
     ensures code { IfOk result (λ d. IsCode (map (λ f. f.digest) d.files) d.code) }
-    ensures err { (r : Reader) → IsRightReader r → IfErr result (λ f. (f ≡ GatherFault.Memory alloc_error) ⊎ ((code : List ℕ) → draft_of r files.now (record { name = name.now; namespace = namespace.now; created = created.now }) code ≡ Err f)) }
+    ensures err { (r : Reader) → IsRightReader r
+        → IfErr result (λ f. (f ≡ GatherFault.Memory alloc_error)
+        ⊎ ((code : List ℕ) → draft_of r files.now
+        (record { name = name.now; namespace = namespace.now; created = created.now }) code ≡ Err f)) }
 {
     let title = Title {
         name,

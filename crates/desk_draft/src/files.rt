@@ -53,7 +53,8 @@ pub(crate) fn files_of<'a>(
     tree: &BTreeMap<&'a str, &'a [u8]>,
     infos: &[FileInfo],
 ) -> Result<Result<Vec<DraftFile>, GatherFault>, AllocError>
-    ensures { (r : Reader) → IsRightReader r → IfOk result (Gives (files_of r (tree_in tree.now) infos.now) (λ v. v.items)) }
+    ensures { (r : Reader) → IsRightReader r → IfOk result
+        (Gives (files_of r (tree_in tree.now) infos.now) (λ v. v.items)) }
 {
     let mut files = Vec::new(alloc);
     for info in infos {

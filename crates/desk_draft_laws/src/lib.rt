@@ -21,5 +21,6 @@ pub fn drafts_ship()
 /// What the text of a tree's draft spells ships the draft's package, and the package's code agrees, where the draft's code is that
 /// of its files' digests.
 pub fn drafts_of_trees_ship()
-    ensures { (r : Reader) (files : List SourceFile) (title : Named) (d : Draft) (text : List ℕ) → draft_of r files title d.code ≡ Ok d → IsTextOf d text → ShipsWhenRead d text }
+    ensures { (r : Reader) (files : List SourceFile) (title : Named) (d : Draft) (text : List ℕ)
+        → draft_of r files title d.code ≡ Ok d → IsTextOf d text → ShipsWhenRead d text }
 {}

@@ -95,7 +95,8 @@ impl Counts {
 
     // The place of the last parenthesis that is still open.
     pub(crate) fn last_open(&self) -> usize
-        ensures { (p : ℕ) → slice_get self.now.open_places.items (length self.now.open_places.items - 1) ≡ Some p → result ≡ p }
+        ensures { (p : ℕ) → slice_get self.now.open_places.items
+            (length self.now.open_places.items - 1) ≡ Some p → result ≡ p }
     {
         self.open_places.last().copied().unwrap_or(0)
     }

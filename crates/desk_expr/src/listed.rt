@@ -25,8 +25,10 @@ impl Listed<'_> {
     // The place that is noted for a term, if it is one of the own terms.
     fn noted(self, term: &Term) -> Option<usize>
         requires { IsNoted self.chosen.now self.own.now self.places.now }
-        ensures there { IfSome result (λ place. place < length self.entry.chosen.now → slice_get self.entry.chosen.now place ≡ Some term.now) }
-        ensures told { IfSome result (λ place. Contains self.entry.chosen.now term.now → place < length self.entry.chosen.now) }
+        ensures there { IfSome result (λ place. place < length self.entry.chosen.now
+            → slice_get self.entry.chosen.now place ≡ Some term.now) }
+        ensures told { IfSome result (λ place. Contains self.entry.chosen.now term.now
+            → place < length self.entry.chosen.now) }
     {
         let slot = find(self.own, term)?;
         Some(self.places[slot])
@@ -148,7 +150,8 @@ fn lower(own: &[Option<&Term>], term: &Term) -> usize
 
 // The place of a term among the sorted ones.
 fn find(own: &[Option<&Term>], term: &Term) -> Option<usize>
-    ensures some { IfSome result (λ slot. (slot ≡ lower_in own.now term.now) × (slot < length own.now) × IsOwn own.now term.now) }
+    ensures some { IfSome result (λ slot. (slot ≡ lower_in own.now term.now) × (slot < length own.now)
+        × IsOwn own.now term.now) }
     ensures none { IfNone result (IsOwn own.now term.now → ⊥) }
 {
     let slot = lower(own, term);

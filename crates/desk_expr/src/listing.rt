@@ -12,7 +12,8 @@ impl Expr {
     // Adds the terms, from the left, each time that one stands there.
     fn collect_terms(&self, terms: &mut Vec<Term>) -> Result<(), AllocError>
         ensures added { OnOk result (terms.new.items ≡ terms.old.items ++ leaves self.now) }
-        ensures well_formed { OnOk result (All (λ t. IsTrue (is_term t)) terms.old.items → All (λ t. IsTrue (is_term t)) terms.new.items) }
+        ensures well_formed { OnOk result (All (λ t. IsTrue (is_term t)) terms.old.items
+            → All (λ t. IsTrue (is_term t)) terms.new.items) }
     {
         match &self.node {
             Node::One(leaf) => {

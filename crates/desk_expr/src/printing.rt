@@ -47,7 +47,8 @@ fn add_term(text: &mut String, term: &Term) -> Result<(), AllocError>
 
 // Adds a piece where it is wanted.
 fn add_if(text: &mut String, wanted: bool, piece: &str) -> Result<(), AllocError>
-    ensures { OnOk result (string_bytes text.new ≡ string_bytes text.old ++ (if wanted then piece.now else [])) }
+    ensures { OnOk result (string_bytes text.new
+        ≡ string_bytes text.old ++ (if wanted then piece.now else [])) }
 {
     if wanted {
         text.push_str(piece)?;
@@ -66,7 +67,8 @@ fn first_and_others(parts: &[Expr]) -> (&Expr, &[Expr])
 impl Expr {
     // Adds the printed tree to a text.
     fn add_to(&self, text: &mut String, place: Place) -> Result<(), AllocError>
-        ensures text { OnOk result (string_bytes text.new ≡ string_bytes text.old ++ printed_in place self.now) }
+        ensures text { OnOk result (string_bytes text.new
+            ≡ string_bytes text.old ++ printed_in place self.now) }
         ensures well_formed { OnOk result (IsWellFormed self.now) }
     {
         match &self.node {

@@ -40,8 +40,10 @@ impl Progress {
     // Reads one token.
     fn step(self, alloc: Global, token: &Token<'_>) -> Result<Progress, ParseFault>
         requires { IsWordOf token.now.kind token.now.text.now }
-        ensures ok { IfOk result (λ n. (front : List Lexeme) → HasRead front self → HasRead (front ++ lexeme token.now ∷ []) n) }
-        ensures err { IfErr result (λ f. (front : List Lexeme) → HasRead front self → StopsAfter front (lexeme token.now) f) }
+        ensures ok { IfOk result (λ n. (front : List Lexeme) → HasRead front self
+            → HasRead (front ++ lexeme token.now ∷ []) n) }
+        ensures err { IfErr result (λ f. (front : List Lexeme) → HasRead front self
+            → StopsAfter front (lexeme token.now) f) }
     {
         if is_bad(token.kind) {
             return Err(ParseFault::BadToken(token.start));
@@ -67,8 +69,10 @@ impl Progress {
 
     // The tree, where a text of this length ends here.
     fn finish(self, length: usize) -> Result<Expr, ParseFault>
-        ensures ok { IfOk result (λ e. (front : List Lexeme) → HasRead front self → SpellsTree (symbols front) e) }
-        ensures err { IfErr result (λ f. (front : List Lexeme) → HasRead front self → EndsAfter front length f) }
+        ensures ok { IfOk result (λ e. (front : List Lexeme) → HasRead front self
+            → SpellsTree (symbols front) e) }
+        ensures err { IfErr result (λ f. (front : List Lexeme) → HasRead front self
+            → EndsAfter front length f) }
     {
         let Progress {
             reader,
@@ -92,7 +96,8 @@ impl Progress {
 pub fn parse(alloc: Global, text: &str) -> Result<Expr, ParseFault>
     ensures spelled { IfOk result (SpellsWithin text.now) }
     ensures stop { IfErr result (IsStop SpellsTree text.now) }
-    ensures complete { IfErr result (λ f. f ≡ ParseFault.Memory alloc_error ⊎ ((e : Tree) → SpellsWithin text.now e → ⊥)) }
+    ensures complete { IfErr result (λ f. f ≡ ParseFault.Memory alloc_error
+        ⊎ ((e : Tree) → SpellsWithin text.now e → ⊥)) }
     ensures only { (a b : Tree) → Spells text.now a → Spells text.now b → a ≡ b }
 {
     parse_in(alloc, text, Profile::Capitals)
@@ -103,7 +108,8 @@ pub fn parse(alloc: Global, text: &str) -> Result<Expr, ParseFault>
 pub fn parse_in(alloc: Global, text: &str, profile: Profile) -> Result<Expr, ParseFault>
     ensures spelled { IfOk result (SpellsWithinBy profile text.now) }
     ensures stop { IfErr result (IsStopBy SpellsTree profile text.now) }
-    ensures complete { IfErr result (λ f. f ≡ ParseFault.Memory alloc_error ⊎ ((e : Tree) → SpellsWithinBy profile text.now e → ⊥)) }
+    ensures complete { IfErr result (λ f. f ≡ ParseFault.Memory alloc_error
+        ⊎ ((e : Tree) → SpellsWithinBy profile text.now e → ⊥)) }
     ensures only { (a b : Tree) → SpellsBy profile text.now a → SpellsBy profile text.now b → a ≡ b }
 {
     if text.len() > limits::EXPRESSION_BYTES {

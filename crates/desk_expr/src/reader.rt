@@ -67,7 +67,8 @@ fn any_of(mut parts: Vec<Expr>, last: Expr) -> Result<Expr, Halt>
 
 // The tree of a whole group, whose last operand is known.
 fn tree_of(inner: Group, operand: Expr) -> Result<Expr, Halt>
-    ensures ok { IfOk result (λ e. e ≡ any_of (inner.lists.items ++ all_of (inner.operands.items ++ operand ∷ []) ∷ [])) }
+    ensures ok { IfOk result (λ e. e ≡ any_of (inner.lists.items ++ all_of
+        (inner.operands.items ++ operand ∷ []) ∷ [])) }
     ensures err { IfErr result (λ h. h ≡ Halt.Memory alloc_error) }
 {
     let Group { lists, operands } = inner;
@@ -95,8 +96,11 @@ fn operand(
     token: &Token<'_>,
 ) -> Result<Reader, Halt>
     requires { IsWordOf token.now.kind token.now.text.now }
-    ensures ok { IfOk result (λ n. Steps (record { outer = outer; inner = inner; state = State.Operand }) (symbol token.now.kind token.now.text.now) n) }
-    ensures err { IfErr result (Stops (record { outer = outer; inner = inner; state = State.Operand }) (symbol token.now.kind token.now.text.now)) }
+    ensures ok { IfOk result (λ n. Steps
+        (record { outer = outer; inner = inner; state = State.Operand })
+        (symbol token.now.kind token.now.text.now) n) }
+    ensures err { IfErr result (Stops (record { outer = outer; inner = inner; state = State.Operand })
+        (symbol token.now.kind token.now.text.now)) }
 {
     match token.kind {
         Kind::Opening => {
@@ -126,8 +130,12 @@ fn word(
     leaf: Leaf,
     token: &Token<'_>,
 ) -> Result<Reader, Halt>
-    ensures ok { IfOk result (λ n. Steps (record { outer = outer; inner = inner; state = State.Word leaf }) (symbol token.now.kind token.now.text.now) n) }
-    ensures err { IfErr result (Stops (record { outer = outer; inner = inner; state = State.Word leaf }) (symbol token.now.kind token.now.text.now)) }
+    ensures ok { IfOk result (λ n. Steps
+        (record { outer = outer; inner = inner; state = State.Word leaf })
+        (symbol token.now.kind token.now.text.now) n) }
+    ensures err { IfErr result (Stops
+        (record { outer = outer; inner = inner; state = State.Word leaf })
+        (symbol token.now.kind token.now.text.now)) }
 {
     match token.kind {
         Kind::With => Ok(Reader {
@@ -148,8 +156,12 @@ fn exception(
     token: &Token<'_>,
 ) -> Result<Reader, Halt>
     requires { IsWordOf token.now.kind token.now.text.now }
-    ensures ok { IfOk result (λ n. Steps (record { outer = outer; inner = inner; state = State.Exception leaf }) (symbol token.now.kind token.now.text.now) n) }
-    ensures err { IfErr result (Stops (record { outer = outer; inner = inner; state = State.Exception leaf }) (symbol token.now.kind token.now.text.now)) }
+    ensures ok { IfOk result (λ n. Steps
+        (record { outer = outer; inner = inner; state = State.Exception leaf })
+        (symbol token.now.kind token.now.text.now) n) }
+    ensures err { IfErr result (Stops
+        (record { outer = outer; inner = inner; state = State.Exception leaf })
+        (symbol token.now.kind token.now.text.now)) }
 {
     let key = exception_of(alloc, token.kind, token.text)?;
     Ok(Reader {
@@ -167,8 +179,12 @@ fn after(
     operand: Expr,
     token: &Token<'_>,
 ) -> Result<Reader, Halt>
-    ensures ok { IfOk result (λ n. Steps (record { outer = outer; inner = inner; state = State.Done operand }) (symbol token.now.kind token.now.text.now) n) }
-    ensures err { IfErr result (Stops (record { outer = outer; inner = inner; state = State.Done operand }) (symbol token.now.kind token.now.text.now)) }
+    ensures ok { IfOk result (λ n. Steps
+        (record { outer = outer; inner = inner; state = State.Done operand })
+        (symbol token.now.kind token.now.text.now) n) }
+    ensures err { IfErr result (Stops
+        (record { outer = outer; inner = inner; state = State.Done operand })
+        (symbol token.now.kind token.now.text.now)) }
 {
     match token.kind {
         Kind::And => {
@@ -212,8 +228,11 @@ fn after(
 
 // The tree at the end, where the last operand is known.
 fn whole(mut outer: Vec<Group>, inner: Group, operand: Expr) -> Result<Expr, Halt>
-    ensures ok { IfOk result (λ e. (other : Tree) → Rest (record { outer = outer; inner = inner; state = State.Done operand }) [] other ↔ (e ≡ other)) }
-    ensures err { IfErr result (EndsWith (record { outer = outer; inner = inner; state = State.Done operand })) }
+    ensures ok { IfOk result (λ e. (other : Tree)
+        → Rest (record { outer = outer; inner = inner; state = State.Done operand }) [] other
+        ↔ (e ≡ other)) }
+    ensures err { IfErr result (EndsWith
+        (record { outer = outer; inner = inner; state = State.Done operand })) }
 {
     match outer.pop() {
         Some(_) => Err(Halt::Unclosed),

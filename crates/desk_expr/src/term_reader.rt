@@ -72,7 +72,8 @@ impl TermState {
 pub fn parse_term(alloc: Global, text: &str) -> Result<Term, ParseFault>
     ensures spelled { IfOk result (SpellsTermWithin text.now) }
     ensures stop { IfErr result (IsStop SpellsTerm text.now) }
-    ensures complete { IfErr result (λ f. f ≡ ParseFault.Memory alloc_error ⊎ ((t : Term) → SpellsTermWithin text.now t → ⊥)) }
+    ensures complete { IfErr result (λ f. f ≡ ParseFault.Memory alloc_error
+        ⊎ ((t : Term) → SpellsTermWithin text.now t → ⊥)) }
     ensures only { (a b : Term) → SpellsTermAlone text.now a → SpellsTermAlone text.now b → a ≡ b }
 {
     parse_term_in(alloc, text, Profile::Capitals)
@@ -83,8 +84,10 @@ pub fn parse_term(alloc: Global, text: &str) -> Result<Term, ParseFault>
 pub fn parse_term_in(alloc: Global, text: &str, profile: Profile) -> Result<Term, ParseFault>
     ensures spelled { IfOk result (SpellsTermWithinBy profile text.now) }
     ensures stop { IfErr result (IsStopBy SpellsTerm profile text.now) }
-    ensures complete { IfErr result (λ f. f ≡ ParseFault.Memory alloc_error ⊎ ((t : Term) → SpellsTermWithinBy profile text.now t → ⊥)) }
-    ensures only { (a b : Term) → SpellsTermAloneBy profile text.now a → SpellsTermAloneBy profile text.now b → a ≡ b }
+    ensures complete { IfErr result (λ f. f ≡ ParseFault.Memory alloc_error
+        ⊎ ((t : Term) → SpellsTermWithinBy profile text.now t → ⊥)) }
+    ensures only { (a b : Term) → SpellsTermAloneBy profile text.now a
+        → SpellsTermAloneBy profile text.now b → a ≡ b }
 {
     if text.len() > limits::EXPRESSION_BYTES {
         return Err(ParseFault::TooLong(0));

@@ -50,7 +50,8 @@ pub struct Token<'a> {
 pub fn tokens<'a>(text: &'a str) -> TokenCuts<'a>
     ensures rest { result.rest.now ≡ text.now }
     ensures place { result.place ≡ 0 }
-    ensures tokens { (given : List Token) → Drains TokenGiven result given → AreTokens 0 text.now (map lexeme given) }
+    ensures tokens { (given : List Token) → Drains TokenGiven result given
+        → AreTokens 0 text.now (map lexeme given) }
 {
     tokens_in(text, Profile::Capitals)
 }
@@ -60,7 +61,8 @@ pub fn tokens_in<'a>(text: &'a str, profile: Profile) -> TokenCuts<'a>
     ensures rest { result.rest.now ≡ text.now }
     ensures place { result.place ≡ 0 }
     ensures profile { result.profile ≡ profile }
-    ensures tokens { (given : List Token) → Drains TokenGiven result given → AreTokensBy profile 0 text.now (map lexeme given) }
+    ensures tokens { (given : List Token) → Drains TokenGiven result given
+        → AreTokensBy profile 0 text.now (map lexeme given) }
 {
     TokenCuts {
         rest: text,

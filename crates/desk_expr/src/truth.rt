@@ -59,7 +59,8 @@ impl Expr {
         requires noted { IsNoted listed.chosen.now listed.own.now listed.places.now }
         requires few { length candidates.now ≤ 64 }
         requires within { AreWithin listed.chosen.now candidates.now }
-        ensures { Marks result listed.entry.chosen.now candidates.now (λ gone. Holds (Without listed.entry.chosen.now gone) self.now) }
+        ensures { Marks result listed.entry.chosen.now candidates.now (λ gone.
+            Holds (Without listed.entry.chosen.now gone) self.now) }
     {
         match &self.node {
             Node::One(leaf) => {
@@ -131,7 +132,8 @@ fn first_to_go(expr: &Expr, listed: Listed<'_>, candidates: &[usize]) -> Option<
     requires few { length candidates.now ≤ 64 }
     requires within { AreWithin listed.chosen.now candidates.now }
     ensures found { IfSome result (IsFirstToGo listed.entry.chosen.now expr.now candidates.now) }
-    ensures none { IfNone result ((j place : ℕ) → slice_get candidates.now j ≡ Some place → CanGo listed.entry.chosen.now expr.now place → ⊥) }
+    ensures none { IfNone result ((j place : ℕ) → slice_get candidates.now j ≡ Some place
+        → CanGo listed.entry.chosen.now expr.now place → ⊥) }
 {
     let marks = expr.holds_without(listed, candidates);
     let first = first_mark(marks, candidates.len())?;

@@ -123,7 +123,8 @@ fn reference(alloc: Global, text: &str) -> Result<Leaf, Halt>
 pub(crate) fn leaf_of(alloc: Global, kind: Kind, text: &str) -> Result<Leaf, Halt>
     requires { IsWordOf kind text.now }
     ensures ok { IfOk result (λ t. (o : Option (List ℕ)) × (symbol kind text.now ≡ word t o)) }
-    ensures err { IfErr result (λ h. h ≡ Halt.Unexpected → (t : Term) (o : Option (List ℕ)) → symbol kind text.now ≡ word t o → ⊥) }
+    ensures err { IfErr result (λ h. h ≡ Halt.Unexpected → (t : Term) (o : Option (List ℕ))
+        → symbol kind text.now ≡ word t o → ⊥) }
     ensures closed { IfErr result (λ h. h ≡ Halt.Unclosed → ⊥) }
 {
     match kind {
@@ -139,7 +140,8 @@ pub(crate) fn exception_of(alloc: Global, kind: Kind, text: &str) -> Result<Key,
     requires { IsWordOf kind text.now }
     ensures ok { IfOk result (λ x. (u : Term) × (symbol kind text.now ≡ word u (Some x))) }
     ensures well_formed { IfOk result (λ x. IsTrue (is_folded_id x)) }
-    ensures err { IfErr result (λ h. h ≡ Halt.Unexpected → (u : Term) (x : List ℕ) → symbol kind text.now ≡ word u (Some x) → ⊥) }
+    ensures err { IfErr result (λ h. h ≡ Halt.Unexpected → (u : Term) (x : List ℕ)
+        → symbol kind text.now ≡ word u (Some x) → ⊥) }
     ensures closed { IfErr result (λ h. h ≡ Halt.Unclosed → ⊥) }
 {
     match kind {

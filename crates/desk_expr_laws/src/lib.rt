@@ -27,42 +27,53 @@ ghost use Rattle.desk_base.specs.declared.profile.Profile.{Profile};
 
 /// Each text spells a tree within the limits, or spells none, by each profile of operators.
 pub fn tree_or_none()
-    ensures { (profile : Profile) (text : List ℕ) → ((e : Tree) × SpellsWithinBy profile text e) ⊎ ((e : Tree) → SpellsWithinBy profile text e → ⊥) }
+    ensures { (profile : Profile) (text : List ℕ) → ((e : Tree) × SpellsWithinBy profile text e)
+        ⊎ ((e : Tree) → SpellsWithinBy profile text e → ⊥) }
 {}
 
 /// A list of terms doesn't satisfy a tree; or it does, and there is a first place whose term can go; or it is minimal.
 pub fn verdict_exists()
-    ensures { (e : Tree) (chosen : List Term) → (¬ Holds (Contains chosen) e) ⊎ ((Holds (Contains chosen) e × (i : ℕ) × IsFirst (CanGo chosen e) i) ⊎ IsMinimal chosen e) }
+    ensures { (e : Tree) (chosen : List Term) → (¬ Holds (Contains chosen) e)
+        ⊎ ((Holds (Contains chosen) e × (i : ℕ) × IsFirst (CanGo chosen e) i) ⊎ IsMinimal chosen e) }
 {}
 
 /// It has one such verdict: where a term can go, the list satisfies the tree and isn't minimal, and there is one first place.
 pub fn one_verdict()
     ensures enough { (e : Tree) (chosen : List Term) (i : ℕ) → CanGo chosen e i → Holds (Contains chosen) e }
     ensures needless { (e : Tree) (chosen : List Term) (i : ℕ) → CanGo chosen e i → ¬ IsMinimal chosen e }
-    ensures first { (e : Tree) (chosen : List Term) (i j : ℕ) → IsFirst (CanGo chosen e) i → IsFirst (CanGo chosen e) j → i ≡ j }
+    ensures first { (e : Tree) (chosen : List Term) (i j : ℕ) → IsFirst (CanGo chosen e) i
+        → IsFirst (CanGo chosen e) j → i ≡ j }
 {}
 
 /// No tree that a text spells is true under no terms.
 pub fn some_term_is_needed()
-    ensures { (profile : Profile) (text : List ℕ) (e : Tree) → SpellsWithinBy profile text e → Holds (λ _. ⊥) e → ⊥ }
+    ensures { (profile : Profile) (text : List ℕ) (e : Tree) → SpellsWithinBy profile text e
+        → Holds (λ _. ⊥) e → ⊥ }
 {}
 
 /// A text that spells no tree within the limits has a stop other than want of memory, which has the number 0.
 pub fn some_stop()
-    ensures { (profile : Profile) (text : List ℕ) → ((e : Tree) → SpellsWithinBy profile text e → ⊥) → (f : ParseFault) × (0 < fault_number f) × IsStopBy SpellsTree profile text f }
+    ensures { (profile : Profile) (text : List ℕ) → ((e : Tree) → SpellsWithinBy profile text e → ⊥)
+        → (f : ParseFault) × (0 < fault_number f) × IsStopBy SpellsTree profile text f }
 {}
 
 /// It has only one.
 pub fn one_stop()
-    ensures { (profile : Profile) (text : List ℕ) (f g : ParseFault) → 0 < fault_number f → 0 < fault_number g → IsStopBy SpellsTree profile text f → IsStopBy SpellsTree profile text g → f ≡ g }
+    ensures { (profile : Profile) (text : List ℕ) (f g : ParseFault) → 0 < fault_number f
+        → 0 < fault_number g → IsStopBy SpellsTree profile text f
+        → IsStopBy SpellsTree profile text g → f ≡ g }
 {}
 
 /// A text that spells no term has such a stop, too.
 pub fn some_term_stop()
-    ensures { (profile : Profile) (text : List ℕ) → ((t : Term) → SpellsTermWithinBy profile text t → ⊥) → (f : ParseFault) × (0 < fault_number f) × IsStopBy SpellsTerm profile text f }
+    ensures { (profile : Profile) (text : List ℕ)
+        → ((t : Term) → SpellsTermWithinBy profile text t → ⊥) → (f : ParseFault)
+        × (0 < fault_number f) × IsStopBy SpellsTerm profile text f }
 {}
 
 /// It has only one.
 pub fn one_term_stop()
-    ensures { (profile : Profile) (text : List ℕ) (f g : ParseFault) → 0 < fault_number f → 0 < fault_number g → IsStopBy SpellsTerm profile text f → IsStopBy SpellsTerm profile text g → f ≡ g }
+    ensures { (profile : Profile) (text : List ℕ) (f g : ParseFault) → 0 < fault_number f
+        → 0 < fault_number g → IsStopBy SpellsTerm profile text f
+        → IsStopBy SpellsTerm profile text g → f ≡ g }
 {}

@@ -42,9 +42,11 @@ fn is_bare(line: &str) -> bool
 // What stands before and after the first colon of a line that has a tag.
 fn around_colon(line: &str) -> Option<(&str, &str)>
     requires { is_bare line.now ≡ false }
-    ensures none { IfNone result ((before after : List ℕ) → All (λ b. b ≢ 58) before → line.now ≡ before ++ (58 ∷ after) → length (trimmed before) ≡ 0) }
+    ensures none { IfNone result ((before after : List ℕ) → All (λ b. b ≢ 58) before
+        → line.now ≡ before ++ (58 ∷ after) → length (trimmed before) ≡ 0) }
     ensures cut { IfSome result (λ r. line.now ≡ r.0.now ++ (58 ∷ r.1.now)) }
-    ensures tagged { IfSome result (λ r. All (λ b. b ≢ 58) r.0.now × (0 < length (trimmed r.0.now)) × (slice_index (trimmed r.0.now) 0 ≢ 35)) }
+    ensures tagged { IfSome result (λ r. All (λ b. b ≢ 58) r.0.now × (0 < length (trimmed r.0.now))
+        × (slice_index (trimmed r.0.now) 0 ≢ 35)) }
 {
     let Some((front, after)) = line.split_once(':') else {
         return None;
@@ -76,7 +78,8 @@ fn text_behind<'a>(text: &'a str, line: &str, inner: &str) -> &'a str
 fn around_closing(inner: &str) -> Option<(&str, &str)>
     ensures none { IfNone result ((xs ys : List ℕ) → inner.now ≢ xs ++ (codes "</text>" ++ ys)) }
     ensures utf8 { IfSome result (λ r. IsUtf8 r.1.now) }
-    ensures some { IfSome result (λ r. (inner.now ≡ r.0.now ++ (codes "</text>" ++ r.1.now)) × IsFirstEnd r.0.now) }
+    ensures some { IfSome result (λ r. (inner.now ≡ r.0.now ++ (codes "</text>" ++ r.1.now))
+        × IsFirstEnd r.0.now) }
 {
     inner.split_once("</text>")
 }
@@ -99,7 +102,8 @@ fn text_piece<'a>(
     requires tagged { IsTagged front.now }
     requires room { line + length text.now < 2 ^ 64 }
     ensures ok { IfOk result (λ f. IsFound line text.now f) }
-    ensures room { IfOk result (λ f. (f.line + length f.rest.now ≤ line + length text.now) × (length f.rest.now < length text.now)) }
+    ensures room { IfOk result (λ f. (f.line + length f.rest.now ≤ line + length text.now)
+        × (length f.rest.now < length text.now)) }
     ensures utf8 { IfOk result (λ f. IsUtf8 f.rest.now) }
     ensures err { IfErr result (λ e. Fails line text.now e) }
 {
@@ -135,7 +139,8 @@ fn first_piece<'a>(text: &'a str, line: u64) -> Result<Found<'a>, DocFault>
     requires some { 0 < length text.now }
     requires room { line + length text.now < 2 ^ 64 }
     ensures ok { IfOk result (λ f. IsFound line text.now f) }
-    ensures room { IfOk result (λ f. (f.line + length f.rest.now ≤ line + length text.now) × (length f.rest.now < length text.now)) }
+    ensures room { IfOk result (λ f. (f.line + length f.rest.now ≤ line + length text.now)
+        × (length f.rest.now < length text.now)) }
     ensures utf8 { IfOk result (λ f. IsUtf8 f.rest.now) }
     ensures err { IfErr result (λ e. Fails line text.now e) }
 {

@@ -41,8 +41,10 @@ impl<'a> Scanner<'a> {
     pub fn of(text: &'a str) -> Scanner<'a>
         ensures rest { result.rest.now ≡ behind_mark text.now }
         ensures line { result.line ≡ 1 }
-        ensures fields { (given : List (Result Field DocFault)) → Drains FieldGiven result given → Reads 1 (behind_mark text.now) (reading given) }
-        ensures last { (given : List (Result Field DocFault)) → Drains FieldGiven result given → EndsAtFault given }
+        ensures fields { (given : List (Result Field DocFault)) → Drains FieldGiven result given
+            → Reads 1 (behind_mark text.now) (reading given) }
+        ensures last { (given : List (Result Field DocFault)) → Drains FieldGiven result given
+            → EndsAtFault given }
     {
         Scanner {
             rest: behind_mark(text),
@@ -95,5 +97,6 @@ pub fn fields<'a>(alloc: Global, text: &'a str) -> Result<Vec<Field<'a>>, DocFau
 
 /// A text is read in one way, whatever line it begins on: as one list of fields, or with one fault.
 pub fn one_reading()
-    ensures { (line : ℕ) (text : List ℕ) (a b : Result (List FieldText) DocFault) → Reads line text a → Reads line text b → a ≡ b }
+    ensures { (line : ℕ) (text : List ℕ) (a b : Result (List FieldText) DocFault) → Reads line text a
+        → Reads line text b → a ≡ b }
 {}

@@ -70,7 +70,8 @@ fn add_defined<'a>(
     defined: &mut BTreeSet<&'a str>,
     licence: &Extracted<'a>,
 ) -> Result<(), AllocError>
-    ensures { OnOk result ((q : List ℕ) → has_key q defined.new ≡ (bytes_eq licence.now.id.now q || has_key q defined.old)) }
+    ensures { OnOk result ((q : List ℕ) → has_key q defined.new ≡
+        (bytes_eq licence.now.id.now q || has_key q defined.old)) }
 {
     defined.insert(licence.id)?;
     Ok(())
@@ -81,7 +82,8 @@ fn defined_in<'a>(
     alloc: Global,
     extracted: &[Extracted<'a>],
 ) -> Result<BTreeSet<&'a str>, AllocError>
-    ensures { IfOk result (λ s. (q : List ℕ) → has_key q s ≡ list_any (λ x. bytes_eq x.id q) (map extracted_text extracted.now)) }
+    ensures { IfOk result (λ s. (q : List ℕ) → has_key q s ≡ list_any (λ x. bytes_eq x.id q)
+        (map extracted_text extracted.now)) }
 {
     let mut defined = BTreeSet::new(alloc);
     for licence in extracted {
@@ -114,7 +116,10 @@ fn uses_undefined_in(
     tag: Tag,
     expr: &Expr,
 ) -> Result<bool, AllocError>
-    ensures { (d : DocumentText) → ((q : List ℕ) → has_key q defined.now ≡ list_any (λ x. bytes_eq x.id q) d.extracted) → IfOk result (λ b. b ≡ (same_tag tag tags.PackageConcluded && uses_undefined d (Some expr.now))) }
+    ensures { (d : DocumentText) → ((q : List ℕ)
+        → has_key q defined.now ≡ list_any (λ x. bytes_eq x.id q) d.extracted)
+        → IfOk result (λ b. b ≡ (same_tag tag tags.PackageConcluded && uses_undefined d
+        (Some expr.now))) }
 {
     if !tag.is(Tag::PackageConcluded) {
         return Ok(false);
@@ -140,7 +145,8 @@ fn licence_read(alloc: Global, known: &Known, tag: Tag, value: &str) -> Result<L
 
 // What was told last, where it was of the same tag and value.
 fn told_again(last: Option<Told<'_>>, tag: Tag, value: &str) -> Option<Licence>
-    ensures { IfSome result (λ l. (t : Told) × (last.entry ≡ Some t) × (t.tag ≡ tag) × (t.value.now ≡ value.now) × (t.licence ≡ l)) }
+    ensures { IfSome result (λ l. (t : Told) × (last.entry ≡ Some t) × (t.tag ≡ tag)
+        × (t.value.now ≡ value.now) × (t.licence ≡ l)) }
 {
     match last {
         Some(told) if told.tag == tag && told.value == value => Some(told.licence),
@@ -180,8 +186,11 @@ fn licence_of<'a>(
     field: &Placed<'a>,
 ) -> Result<Licence, AllocError>
     requires { IfSome last.old (IsTold known.now.profile known.now.defined) }
-    ensures bad { (reads : List ℕ → Option Tree) → IsReading known.now.profile reads → IfOk result (λ l. l.is_bad ≡ is_bad_expression reads (placed_text field.now)) }
-    ensures undefined { (reads : List ℕ → Option Tree) → IsReading known.now.profile reads → (d : DocumentText) → Defines d known.now.defined → IfOk result (λ l. l.is_undefined ≡ is_undefined_use reads d (placed_text field.now)) }
+    ensures bad { (reads : List ℕ → Option Tree) → IsReading known.now.profile reads
+        → IfOk result (λ l. l.is_bad ≡ is_bad_expression reads (placed_text field.now)) }
+    ensures undefined { (reads : List ℕ → Option Tree) → IsReading known.now.profile reads
+        → (d : DocumentText) → Defines d known.now.defined
+        → IfOk result (λ l. l.is_undefined ≡ is_undefined_use reads d (placed_text field.now)) }
     ensures told { OnOk result (IfSome last.new (IsTold known.now.profile known.now.defined)) }
 {
     let tag = field.entry.tag;
@@ -205,7 +214,10 @@ fn add_of_field<'a>(
 ) -> Result<(), AllocError>
     requires { IfSome last.old (IsTold known.now.profile known.now.defined) }
     ensures told { OnOk result (IfSome last.new (IsTold known.now.profile known.now.defined)) }
-    ensures found { (reads : List ℕ → Option Tree) → IsReading known.now.profile reads → Defines (document_text document.now) known.now.defined → OnOk result (found.new.items ≡ found.old.items ++ field_findings reads (state_in known.now.states.items) (document_text document.now) (placed_text field.now)) }
+    ensures found { (reads : List ℕ → Option Tree) → IsReading known.now.profile reads
+        → Defines (document_text document.now) known.now.defined
+        → OnOk result (found.new.items ≡ found.old.items ++ field_findings reads
+        (state_in known.now.states.items) (document_text document.now) (placed_text field.now)) }
 {
     let line = u64::from(field.entry.line);
     let licence = licence_of(alloc, known, last, field)?;
@@ -248,7 +260,10 @@ fn add_of_fields(
     document: &Document,
 ) -> Result<(), AllocError>
     requires { Defines (document_text document.now) known.now.defined }
-    ensures { (reads : List ℕ → Option Tree) → IsReading known.now.profile reads → OnOk result (found.new.items ≡ found.old.items ++ flat_map (field_findings reads (state_in known.now.states.items) (document_text document.now)) (fields_in sections.Document 0 (document_text document.now).entries)) }
+    ensures { (reads : List ℕ → Option Tree) → IsReading known.now.profile reads
+        → OnOk result (found.new.items ≡ found.old.items ++ flat_map
+        (field_findings reads (state_in known.now.states.items) (document_text document.now))
+        (fields_in sections.Document 0 (document_text document.now).entries)) }
 {
     let entries = document.entries.as_slice();
     let mut section = SectionKind::Document;
@@ -300,7 +315,9 @@ fn gathered(
 ) -> Result<Vec<Finding>, AllocError>
     requires defined { Defines (document_text document.now) known.now.defined }
     requires elements { Notes (document_text document.now) elements.now }
-    ensures { (reads : List ℕ → Option Tree) → IsReading known.now.profile reads → IfOk result (λ v. v.items ≡ all_findings reads (state_in known.now.states.items) (document_text document.now)) }
+    ensures { (reads : List ℕ → Option Tree) → IsReading known.now.profile reads
+        → IfOk result (λ v. v.items ≡ all_findings reads (state_in known.now.states.items)
+        (document_text document.now)) }
 {
     let mut found = Vec::new(alloc);
     add_of_fields(alloc, &mut found, known, document)?;
@@ -319,7 +336,8 @@ pub fn findings_in(
     document: &Document,
     profile: Profile,
 ) -> Result<Vec<Finding>, AllocError>
-    ensures { (reads : List ℕ → Option Tree) → IsReading profile reads → IfOk result (λ v. AreFindings reads (document_text document.now) v.items) }
+    ensures { (reads : List ℕ → Option Tree) → IsReading profile reads
+        → IfOk result (λ v. AreFindings reads (document_text document.now) v.items) }
 {
     let elements = Elements::of(alloc, document)?;
     let known = known_of(alloc, document, &elements, profile)?;
@@ -330,7 +348,8 @@ pub fn findings_in(
 
 /// The same where operators are in capitals.
 pub fn findings(alloc: Global, document: &Document) -> Result<Vec<Finding>, AllocError>
-    ensures { (reads : List ℕ → Option Tree) → IsReading Capitals reads → IfOk result (λ v. AreFindings reads (document_text document.now) v.items) }
+    ensures { (reads : List ℕ → Option Tree) → IsReading Capitals reads
+        → IfOk result (λ v. AreFindings reads (document_text document.now) v.items) }
 {
     findings_in(alloc, document, Profile::Capitals)
 }

@@ -59,7 +59,9 @@ pub(crate) fn read_value(
 
 // Whether a term is a reference that no extracted licence defines.
 fn is_undefined(defined: &BTreeSet<&str>, term: &Term) -> bool
-    ensures { (d : DocumentText) → ((q : List ℕ) → has_key q defined.now ≡ list_any (λ x. bytes_eq x.id q) d.extracted) → result ≡ is_undefined d term.now }
+    ensures { (d : DocumentText) → ((q : List ℕ)
+        → has_key q defined.now ≡ list_any (λ x. bytes_eq x.id q) d.extracted)
+        → result ≡ is_undefined d term.now }
 {
     let key = term.key.as_str();
     match behind(key, "LicenseRef-") {
@@ -69,7 +71,9 @@ fn is_undefined(defined: &BTreeSet<&str>, term: &Term) -> bool
 }
 
 fn any_undefined(defined: &BTreeSet<&str>, terms: &[Term]) -> bool
-    ensures { (d : DocumentText) → ((q : List ℕ) → has_key q defined.now ≡ list_any (λ x. bytes_eq x.id q) d.extracted) → result ≡ list_any (is_undefined d) terms.now }
+    ensures { (d : DocumentText) → ((q : List ℕ)
+        → has_key q defined.now ≡ list_any (λ x. bytes_eq x.id q) d.extracted)
+        → result ≡ list_any (is_undefined d) terms.now }
 {
     for term in terms {
         if is_undefined(defined, term) {
@@ -85,7 +89,9 @@ pub(crate) fn uses_undefined(
     defined: &BTreeSet<&str>,
     expr: &Expr,
 ) -> Result<bool, AllocError>
-    ensures { (d : DocumentText) → ((q : List ℕ) → has_key q defined.now ≡ list_any (λ x. bytes_eq x.id q) d.extracted) → IfOk result (λ b. b ≡ uses_undefined d (Some expr.now)) }
+    ensures { (d : DocumentText) → ((q : List ℕ)
+        → has_key q defined.now ≡ list_any (λ x. bytes_eq x.id q) d.extracted)
+        → IfOk result (λ b. b ≡ uses_undefined d (Some expr.now)) }
 {
     let used = terms(alloc, expr)?;
     Ok(any_undefined(defined, used.as_slice()))

@@ -24,7 +24,8 @@ fn is_lost(elements: &Elements, id: &str) -> bool
 }
 
 fn is_dangling(elements: &Elements, edge: &Edge) -> bool
-    ensures { (d : DocumentText) → Notes d elements.now → result ≡ (is_lost d edge.now.left.now || is_lost d edge.now.right.now) }
+    ensures { (d : DocumentText) → Notes d elements.now
+        → result ≡ (is_lost d edge.now.left.now || is_lost d edge.now.right.now) }
 {
     is_lost(elements, edge.left) || is_lost(elements, edge.right)
 }
@@ -35,7 +36,9 @@ pub(crate) fn add_dangling(
     elements: &Elements,
     edges: &[Edge],
 ) -> Result<(), AllocError>
-    ensures { (d : DocumentText) → Notes d elements.now → OnOk result (found.new.items ≡ found.old.items ++ flat_map (edge_findings d) (map edge_text edges.now)) }
+    ensures { (d : DocumentText) → Notes d elements.now
+        → OnOk result (found.new.items ≡ found.old.items ++ flat_map (edge_findings d)
+        (map edge_text edges.now)) }
 {
     for edge in edges {
         note(
@@ -67,7 +70,8 @@ fn add_absent(
     tag: Tag,
     field: MissingField,
 ) -> Result<(), AllocError>
-    ensures { OnOk result (found.new.items ≡ found.old.items ++ noted (is_none (value_of tag (map entry_text entries.now))) 1 (FindingKind.MissingField field)) }
+    ensures { OnOk result (found.new.items ≡ found.old.items ++ noted
+        (is_none (value_of tag (map entry_text entries.now))) 1 (FindingKind.MissingField field)) }
 {
     note(
         found,
@@ -82,7 +86,8 @@ pub(crate) fn add_of_document(
     found: &mut Vec<Finding>,
     document: &Document,
 ) -> Result<(), AllocError>
-    ensures { OnOk result (found.new.items ≡ found.old.items ++ missing_of_document (document_text document.now)) }
+    ensures { OnOk result (found.new.items ≡ found.old.items ++ missing_of_document
+        (document_text document.now)) }
 {
     let entries = document.entries.as_slice();
     add_absent(found, entries, Tag::DataLicense, MissingField::DataLicense)?;
@@ -96,7 +101,8 @@ pub(crate) fn add_of_packages(
     found: &mut Vec<Finding>,
     packages: &[Package],
 ) -> Result<(), AllocError>
-    ensures { OnOk result (found.new.items ≡ found.old.items ++ flat_map missing_of_package (map package_text packages.now)) }
+    ensures { OnOk result (found.new.items ≡ found.old.items ++ flat_map missing_of_package
+        (map package_text packages.now)) }
 {
     for package in packages {
         let kind = FindingKind::MissingField(MissingField::DownloadLocation);
@@ -112,7 +118,8 @@ pub(crate) fn add_of_packages(
 
 /// Adds the findings of files.
 pub(crate) fn add_of_files(found: &mut Vec<Finding>, files: &[FileEntry]) -> Result<(), AllocError>
-    ensures { OnOk result (found.new.items ≡ found.old.items ++ flat_map missing_of_file (map file_text files.now)) }
+    ensures { OnOk result (found.new.items ≡ found.old.items ++ flat_map missing_of_file
+        (map file_text files.now)) }
 {
     for file in files {
         let kind = FindingKind::MissingField(MissingField::Checksum);
@@ -126,7 +133,8 @@ pub(crate) fn add_of_extracted(
     found: &mut Vec<Finding>,
     extracted: &[Extracted],
 ) -> Result<(), AllocError>
-    ensures { OnOk result (found.new.items ≡ found.old.items ++ flat_map missing_of_extracted (map extracted_text extracted.now)) }
+    ensures { OnOk result (found.new.items ≡ found.old.items ++ flat_map missing_of_extracted
+        (map extracted_text extracted.now)) }
 {
     for licence in extracted {
         let kind = FindingKind::MissingField(MissingField::ExtractedText);

@@ -26,7 +26,8 @@ fn covers(annotation: &Annotation, path: &str) -> bool
 
 // The last annotation that covers a path.
 fn last_covering<'m>(annotations: &'m [Annotation], path: &str) -> Option<&'m Annotation>
-    ensures { (r : Reader) → IsRightReader r → option_map (λ a. a.now) result ≡ last_covering r path.now annotations.now }
+    ensures { (r : Reader) → IsRightReader r → option_map (λ a. a.now) result
+        ≡ last_covering r path.now annotations.now }
 {
     let mut last = None;
     for annotation in annotations {
@@ -44,7 +45,8 @@ fn counting_in<'m>(
     rest: &str,
 ) -> Option<&'m Annotation>
     requires { length rest.now ≤ length path.now }
-    ensures { (r : Reader) → IsRightReader r → (tomls : List TomlText) → Holds tomls folders.now → option_map (λ a. a.now) result ≡ counting_in r tomls path.now rest.now }
+    ensures { (r : Reader) → IsRightReader r → (tomls : List TomlText) → Holds tomls folders.now
+        → option_map (λ a. a.now) result ≡ counting_in r tomls path.now rest.now }
 {
     let (folder, _) = path.as_bytes().split_at(path.len() - rest.len());
     last_covering(annotations_in(folders, folder), rest)
@@ -52,7 +54,8 @@ fn counting_in<'m>(
 
 // Adds the annotation that counts in a folder, if there is one.
 fn add<'m>(list: &mut Vec<&'m Annotation>, found: Option<&'m Annotation>) -> Result<(), AllocError>
-    ensures { OnOk result (annotations_of list.new.items ≡ annotations_of list.old.items ++ option_to_list (option_map (λ a. a.now) found.entry)) }
+    ensures { OnOk result (annotations_of list.new.items
+        ≡ annotations_of list.old.items ++ option_to_list (option_map (λ a. a.now) found.entry)) }
 {
     if let Some(annotation) = found {
         list.push(annotation)?;
@@ -79,7 +82,8 @@ pub(crate) fn counting<'m>(
     folders: &'m BTreeMap<&[u8], Annotations>,
     path: &str,
 ) -> Result<Vec<&'m Annotation>, AllocError>
-    ensures { (r : Reader) → IsRightReader r → (tomls : List TomlText) → Holds tomls folders.now → IfOk result (λ v. annotations_of v.items ≡ counting r tomls path.now) }
+    ensures { (r : Reader) → IsRightReader r → (tomls : List TomlText) → Holds tomls folders.now
+        → IfOk result (λ v. annotations_of v.items ≡ counting r tomls path.now) }
 {
     let mut list = Vec::new(alloc);
     add(&mut list, counting_in(folders, path, path))?;

@@ -69,7 +69,8 @@ fn stated_in<'a>(
     path: &str,
     bytes: &'a [u8],
 ) -> Result<Result<Info<'a>, GatherFault>, AllocError>
-    ensures { (r : Reader) → IsRightReader r → IfOk result (Gives (stated_in r (record { path = path.now; bytes = bytes.now })) stated_of) }
+    ensures { (r : Reader) → IsRightReader r → IfOk result
+        (Gives (stated_in r (record { path = path.now; bytes = bytes.now })) stated_of) }
 {
     let info = header(alloc, bytes)?;
     match bad_line(alloc, info.licences.as_slice())? {
@@ -106,7 +107,8 @@ fn own_of<'a>(
     tree: &BTreeMap<&'a str, &'a [u8]>,
     file: File<'a>,
 ) -> Result<Result<Info<'a>, GatherFault>, AllocError>
-    ensures { (r : Reader) → IsRightReader r → IfOk result (Gives (stated_in r (holder (tree_in tree.now) (file_of file.entry))) stated_of) }
+    ensures { (r : Reader) → IsRightReader r → IfOk result
+        (Gives (stated_in r (holder (tree_in tree.now) (file_of file.entry))) stated_of) }
 {
     let held = holder(alloc, tree, file)?;
     stated_in(alloc, held.path.as_str(), held.bytes)
@@ -148,7 +150,8 @@ fn info_of<'a>(
     known: &Known<'a>,
     file: File<'a>,
 ) -> Result<Result<FileInfo, GatherFault>, AllocError>
-    ensures { (r : Reader) → IsRightReader r → (tomls : List TomlText) → Holds tomls known.now.folders → IfOk result (λ i. i ≡ info_of r tomls (tree_in known.now.tree) (file_of file.entry)) }
+    ensures { (r : Reader) → IsRightReader r → (tomls : List TomlText) → Holds tomls known.now.folders
+        → IfOk result (λ i. i ≡ info_of r tomls (tree_in known.now.tree) (file_of file.entry)) }
 {
     let own = match own_of(alloc, &known.tree, file)? {
         Ok(own) => own,
@@ -165,7 +168,9 @@ fn infos_of<'a>(
     known: &Known<'a>,
     files: &[File<'a>],
 ) -> Result<Result<Vec<FileInfo>, GatherFault>, AllocError>
-    ensures { (r : Reader) → IsRightReader r → (tomls : List TomlText) → Holds tomls known.now.folders → IfOk result (Gives (each is_covered (info_of r tomls (tree_in known.now.tree)) (files_of files.now)) (λ v. v.items)) }
+    ensures { (r : Reader) → IsRightReader r → (tomls : List TomlText) → Holds tomls known.now.folders
+        → IfOk result (Gives (each is_covered (info_of r tomls (tree_in known.now.tree))
+        (files_of files.now)) (λ v. v.items)) }
 {
     let mut infos = Vec::new(alloc);
     for file in files {
@@ -207,7 +212,8 @@ pub fn gathered(
 /// For each right reader the answer is that of `gathered`; `Memory` is want of memory and nothing else.
 pub fn gather(alloc: Global, files: &[SourceFile]) -> Result<Vec<FileInfo>, GatherFault>
     ensures ok { (r : Reader) → IsRightReader r → IfOk result (λ v. gathered r files.now ≡ Ok v.items) }
-    ensures err { (r : Reader) → IsRightReader r → IfErr result (λ f. (f ≡ GatherFault.Memory alloc_error) ⊎ (gathered r files.now ≡ Err f)) }
+    ensures err { (r : Reader) → IsRightReader r
+        → IfErr result (λ f. (f ≡ GatherFault.Memory alloc_error) ⊎ (gathered r files.now ≡ Err f)) }
 {
     match gathered(alloc, files) {
         Ok(Ok(infos)) => Ok(infos),

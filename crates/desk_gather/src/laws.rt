@@ -14,6 +14,7 @@ pub fn one_reader()
 
 /// What is gathered is what a survey gives where nothing is wrong, and else the fault is the first flaw.
 pub fn gathered_is_surveyed()
-    ensures answer { (r : Reader) (files : List SourceFile) → Agrees (gathered r files) (flaws_of r files) (infos_sifted r (kept files)) }
+    ensures answer { (r : Reader) (files : List SourceFile)
+        → Agrees (gathered r files) (flaws_of r files) (infos_sifted r (kept files)) }
     ensures tree { (files tree : List SourceFile) → tree_of files ≡ Ok tree → kept files ≡ tree }
 {}

@@ -63,7 +63,8 @@ fn put<'a>(
     flaws: &mut Items<Flaw>,
 ) -> Result<(), AllocError>
     ensures tree { OnOk result (tree_in tree.new ≡ with_file file.now (tree_in tree.old)) }
-    ensures flaws { OnOk result (flaws.new ≡ flaws.old ++ option_to_list (path_flaw (tree_in tree.old) file.now.path)) }
+    ensures flaws { OnOk result (flaws.new ≡ flaws.old ++ option_to_list
+        (path_flaw (tree_in tree.old) file.now.path)) }
 {
     let path = file.path.as_str();
     match path_flaw(alloc, tree, path)? {
@@ -150,8 +151,10 @@ fn toml_sifted<'a>(
     file: File<'a>,
     flaws: &mut Items<Flaw>,
 ) -> Result<Toml<'a>, AllocError>
-    ensures toml { (r : Reader) → IsRightReader r → IfOk result (λ t. toml_in t ≡ toml_sifted r (file_of file.entry)) }
-    ensures flaws { (r : Reader) → IsRightReader r → OnOk result (flaws.new ≡ flaws.old ++ toml_flaws r (file_of file.entry)) }
+    ensures toml { (r : Reader) → IsRightReader r
+        → IfOk result (λ t. toml_in t ≡ toml_sifted r (file_of file.entry)) }
+    ensures flaws { (r : Reader) → IsRightReader r
+        → OnOk result (flaws.new ≡ flaws.old ++ toml_flaws r (file_of file.entry)) }
 {
     let folder = folder_of(file.path.as_bytes());
     let Ok(text) = str::from_utf8(file.bytes) else {
@@ -180,8 +183,10 @@ fn tomls_sifted<'a>(
     files: &[File<'a>],
     flaws: &mut Items<Flaw>,
 ) -> Result<Vec<Toml<'a>>, AllocError>
-    ensures tomls { (r : Reader) → IsRightReader r → IfOk result (λ v. tomls_in v.items ≡ map (toml_sifted r) (files_of files.now)) }
-    ensures flaws { (r : Reader) → IsRightReader r → OnOk result (flaws.new ≡ flaws.old ++ flat_map (toml_flaws r) (files_of files.now)) }
+    ensures tomls { (r : Reader) → IsRightReader r
+        → IfOk result (λ v. tomls_in v.items ≡ map (toml_sifted r) (files_of files.now)) }
+    ensures flaws { (r : Reader) → IsRightReader r
+        → OnOk result (flaws.new ≡ flaws.old ++ flat_map (toml_flaws r) (files_of files.now)) }
 {
     let mut tomls = Vec::new(alloc);
     for file in files {
@@ -201,7 +206,8 @@ fn add_tag<'a>(
 ) -> Result<Option<&'a str>, AllocError>
     requires { IfSome known (λ text. Tells text.now true) }
     ensures known { IfOk result (λ told. IfSome told (λ text. Tells text.now true)) }
-    ensures flaws { (r : Reader) → IsRightReader r → OnOk result (flaws.new ≡ flaws.old ++ tag_flaws r path.now (tag_text tag.entry)) }
+    ensures flaws { (r : Reader) → IsRightReader r
+        → OnOk result (flaws.new ≡ flaws.old ++ tag_flaws r path.now (tag_text tag.entry)) }
 {
     let told = is_expression_beside(alloc, tag.value, known)?;
     if told {
@@ -220,7 +226,8 @@ fn add_tags(
     tags: &[Tagged<'_>],
     flaws: &mut Items<Flaw>,
 ) -> Result<(), AllocError>
-    ensures { (r : Reader) → IsRightReader r → OnOk result (flaws.new ≡ flaws.old ++ flat_map (tag_flaws r path.now) (map tag_text tags.now)) }
+    ensures { (r : Reader) → IsRightReader r → OnOk result
+        (flaws.new ≡ flaws.old ++ flat_map (tag_flaws r path.now) (map tag_text tags.now)) }
 {
     let mut known = None;
     for tag in tags {
@@ -236,8 +243,12 @@ fn own_sifted<'a>(
     file: File<'a>,
     flaws: &mut Items<Flaw>,
 ) -> Result<Info<'a>, AllocError>
-    ensures info { (r : Reader) → IsRightReader r → IfOk result (λ i. stated_of i ≡ r.stated (holder (tree_in tree.now) (file_of file.entry)).bytes) }
-    ensures flaws { (r : Reader) → IsRightReader r → OnOk result (flaws.new ≡ flaws.old ++ stated_flaws r (holder (tree_in tree.now) (file_of file.entry))) }
+    ensures info { (r : Reader) → IsRightReader r
+        → IfOk result (λ i. stated_of i ≡ r.stated
+        (holder (tree_in tree.now) (file_of file.entry)).bytes) }
+    ensures flaws { (r : Reader) → IsRightReader r
+        → OnOk result (flaws.new ≡ flaws.old ++ stated_flaws r
+        (holder (tree_in tree.now) (file_of file.entry))) }
 {
     let held = holder(alloc, tree, file)?;
     let info = header(alloc, held.bytes)?;
@@ -252,8 +263,12 @@ fn info_sifted<'a>(
     file: File<'a>,
     flaws: &mut Items<Flaw>,
 ) -> Result<FileInfo, AllocError>
-    ensures info { (r : Reader) → IsRightReader r → (tomls : List TomlText) → Holds tomls known.now.folders → IfOk result (λ i. i ≡ info_sifted r tomls (tree_in known.now.tree) (file_of file.entry)) }
-    ensures flaws { (r : Reader) → IsRightReader r → OnOk result (flaws.new ≡ flaws.old ++ stated_flaws r (holder (tree_in known.now.tree) (file_of file.entry))) }
+    ensures info { (r : Reader) → IsRightReader r → (tomls : List TomlText)
+        → Holds tomls known.now.folders → IfOk result (λ i.
+        i ≡ info_sifted r tomls (tree_in known.now.tree) (file_of file.entry)) }
+    ensures flaws { (r : Reader) → IsRightReader r
+        → OnOk result (flaws.new ≡ flaws.old ++ stated_flaws r
+        (holder (tree_in known.now.tree) (file_of file.entry))) }
 {
     let own = own_sifted(alloc, &known.tree, file, flaws)?;
     let counting = counting(alloc, &known.folders, file.path)?;
@@ -267,8 +282,12 @@ fn each_sifted<'a>(
     files: &[File<'a>],
     flaws: &mut Items<Flaw>,
 ) -> Result<Vec<FileInfo>, AllocError>
-    ensures infos { (r : Reader) → IsRightReader r → (tomls : List TomlText) → Holds tomls known.now.folders → IfOk result (λ v. v.items ≡ map (info_sifted r tomls (tree_in known.now.tree)) (files_of files.now)) }
-    ensures flaws { (r : Reader) → IsRightReader r → OnOk result (flaws.new ≡ flaws.old ++ flat_map (λ f. stated_flaws r (holder (tree_in known.now.tree) f)) (files_of files.now)) }
+    ensures infos { (r : Reader) → IsRightReader r → (tomls : List TomlText)
+        → Holds tomls known.now.folders → IfOk result (λ v.
+        v.items ≡ map (info_sifted r tomls (tree_in known.now.tree)) (files_of files.now)) }
+    ensures flaws { (r : Reader) → IsRightReader r
+        → OnOk result (flaws.new ≡ flaws.old ++ flat_map (λ f.
+        stated_flaws r (holder (tree_in known.now.tree) f)) (files_of files.now)) }
 {
     let mut infos = Vec::new(alloc);
     for file in files {
@@ -285,8 +304,10 @@ fn survey_of<'a>(
     flaws: Items<Flaw>,
 ) -> Result<Surveyed<'a>, AllocError>
     ensures tree { IfOk result (λ s. s.tree ≡ tree.entry) }
-    ensures flaws { (r : Reader) → IsRightReader r → IfOk result (λ s. s.flaws ≡ flaws ++ tree_flaws r (tree_in tree.entry)) }
-    ensures infos { (r : Reader) → IsRightReader r → IfOk result (λ s. s.infos.items ≡ infos_sifted r (tree_in tree.entry)) }
+    ensures flaws { (r : Reader) → IsRightReader r
+        → IfOk result (λ s. s.flaws ≡ flaws ++ tree_flaws r (tree_in tree.entry)) }
+    ensures infos { (r : Reader) → IsRightReader r
+        → IfOk result (λ s. s.infos.items ≡ infos_sifted r (tree_in tree.entry)) }
 {
     let mut flaws = flaws;
     let files = files_of(alloc, &tree)?;
@@ -307,7 +328,8 @@ fn survey_of<'a>(
 pub fn survey<'a>(alloc: Global, files: &'a [SourceFile]) -> Result<Surveyed<'a>, AllocError>
     ensures tree { IfOk result (λ s. tree_in s.tree ≡ kept files.now) }
     ensures flaws { (r : Reader) → IsRightReader r → IfOk result (λ s. s.flaws ≡ flaws_of r files.now) }
-    ensures infos { (r : Reader) → IsRightReader r → IfOk result (λ s. s.infos.items ≡ infos_sifted r (kept files.now)) }
+    ensures infos { (r : Reader) → IsRightReader r
+        → IfOk result (λ s. s.infos.items ≡ infos_sifted r (kept files.now)) }
 {
     let mut flaws = Items::new(alloc);
     if files.len() > limits::TREE_FILES {

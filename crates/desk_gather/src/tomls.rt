@@ -60,7 +60,8 @@ pub(crate) fn tomls_of<'a>(
     alloc: Global,
     files: &[File<'a>],
 ) -> Result<Result<Vec<Toml<'a>>, GatherFault>, AllocError>
-    ensures { (r : Reader) → IsRightReader r → IfOk result (Gives (tomls_of r (files_of files.now)) (λ v. tomls_in v.items)) }
+    ensures { (r : Reader) → IsRightReader r → IfOk result
+        (Gives (tomls_of r (files_of files.now)) (λ v. tomls_in v.items)) }
 {
     let mut tomls = Vec::new(alloc);
     for file in files {

@@ -420,7 +420,8 @@ fn read_cheapest(alloc: Global, value: &Value) -> Result<Request, AllocError>
 }
 
 fn read_ask(alloc: Global, value: &Value) -> Result<Request, AllocError>
-    ensures { IfOk result (λ r. r ≡ with_text (codes "ask") (view value.now) (λ word. query_request word (view value.now))) }
+    ensures { IfOk result (λ r. r ≡ with_text (codes "ask") (view value.now) (λ word.
+        query_request word (view value.now))) }
 {
     match text_at(value, "ask") {
         Some("duties") => read_duties(alloc, value),
@@ -436,7 +437,8 @@ fn read_ask(alloc: Global, value: &Value) -> Result<Request, AllocError>
 
 /// A command of the ledger.
 fn read_ledger(alloc: Global, value: &Value) -> Result<Request, AllocError>
-    ensures { IfOk result (λ r. r ≡ with_text (codes "do") (view value.now) (λ word. ledger_request word (view value.now))) }
+    ensures { IfOk result (λ r. r ≡ with_text (codes "do") (view value.now) (λ word.
+        ledger_request word (view value.now))) }
 {
     match text_at(value, "do") {
         Some("meet") => read_meet(alloc, value),

@@ -58,7 +58,8 @@ fn place_of(fault: &ExpressionFault) -> usize
 }
 
 fn expression_fault(alloc: Global, fault: &ExpressionFault) -> Result<Value, AllocError>
-    ensures { IfOk result (λ v. view v ≡ list (whole (expression_fault_number fault.now) ∷ whole (expression_fault_place fault.now) ∷ [])) }
+    ensures { IfOk result (λ v. view v ≡ list
+        (whole (expression_fault_number fault.now) ∷ whole (expression_fault_place fault.now) ∷ [])) }
 {
     numbers(alloc, fault.number(), place_of(fault) as u64)
 }
@@ -70,7 +71,8 @@ fn number_line_and_tag(alloc: Global, number: u8, line: u64, tag: &str) -> Resul
 }
 
 fn document_fault(alloc: Global, fault: &DocumentFault) -> Result<Value, AllocError>
-    ensures { IfOk result (λ v. view v ≡ list (whole (document_fault_number fault.now) ∷ document_fault_values fault.now)) }
+    ensures { IfOk result (λ v. view v ≡ list
+        (whole (document_fault_number fault.now) ∷ document_fault_values fault.now)) }
 {
     let number = fault.number();
     match fault {
@@ -103,7 +105,8 @@ fn number_part_and_index(
 }
 
 fn catalogue_fault(alloc: Global, fault: &CatalogueFault) -> Result<Value, AllocError>
-    ensures { IfOk result (λ v. view v ≡ list (whole (catalogue_fault_number fault.now) ∷ catalogue_fault_values fault.now)) }
+    ensures { IfOk result (λ v. view v ≡ list
+        (whole (catalogue_fault_number fault.now) ∷ catalogue_fault_values fault.now)) }
 {
     let kind = fault.number();
     match fault {

@@ -47,7 +47,8 @@ fn closed(alloc: Global, count: u64) -> Result<Value, AllocError>
 }
 
 fn rows(alloc: Global, rows: Vec<Value>) -> Result<Value, AllocError>
-    ensures { IfOk result (λ v. view v ≡ object (member (codes "rows") (array (items_view rows.items)) no_members)) }
+    ensures { IfOk result (λ v. view v ≡ object
+        (member (codes "rows") (array (items_view rows.items)) no_members)) }
 {
     let rows = Value::Array(rows);
     json!(in alloc; {"rows": rows})

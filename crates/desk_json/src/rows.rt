@@ -152,7 +152,8 @@ pub(crate) fn release_rows(
     release: &ReleaseRow,
     packages: &[PackageLine],
 ) -> Result<Vec<Value>, AllocError>
-    ensures { IfOk result (λ rows. items_view rows.items ≡ items_of (release_line release.now ∷ map package_values packages.now)) }
+    ensures { IfOk result (λ rows. items_view rows.items
+        ≡ items_of (release_line release.now ∷ map package_values packages.now)) }
 {
     let mut rows = Vec::new(alloc);
     rows.push(release_row(alloc, release)?)?;

@@ -23,7 +23,8 @@ pub fn lists_of<'a>(
     tree: &BTreeMap<&'a str, &'a [u8]>,
     infos: &[FileInfo],
 ) -> Result<Lint, AllocError>
-    ensures { IfOk result (λ l. (keys : List (List ℕ)) × AreUsed infos.now keys × (l ≡ lists_of infos.now keys (text_files (tree_in tree.now)))) }
+    ensures { IfOk result (λ l. (keys : List (List ℕ)) × AreUsed infos.now keys
+        × (l ≡ lists_of infos.now keys (text_files (tree_in tree.now)))) }
 {
     let keys = used(alloc, infos)?;
     let texts = text_files(alloc, tree)?;
@@ -37,7 +38,8 @@ pub fn lists_of<'a>(
 // The lists of a tree, with want of memory told apart from its faults.
 fn linted(alloc: Global, files: &[SourceFile]) -> Result<Result<Lint, GatherFault>, AllocError>
     ensures ok { (r : Reader) → IsRightReader r → IfOk result (λ x. IfOk x (IsLint r files.now)) }
-    ensures err { (r : Reader) → IsRightReader r → IfOk result (λ x. IfErr x (λ f. gathered r files.now ≡ Err f)) }
+    ensures err { (r : Reader) → IsRightReader r
+        → IfOk result (λ x. IfErr x (λ f. gathered r files.now ≡ Err f)) }
 {
     let infos = match gathered(alloc, files)? {
         Ok(infos) => infos,
@@ -55,7 +57,8 @@ fn linted(alloc: Global, files: &[SourceFile]) -> Result<Result<Lint, GatherFaul
 /// else.
 pub fn lint(alloc: Global, files: &[SourceFile]) -> Result<Lint, GatherFault>
     ensures ok { (r : Reader) → IsRightReader r → IfOk result (IsLint r files.now) }
-    ensures err { (r : Reader) → IsRightReader r → IfErr result (λ f. (f ≡ GatherFault.Memory alloc_error) ⊎ (gathered r files.now ≡ Err f)) }
+    ensures err { (r : Reader) → IsRightReader r
+        → IfErr result (λ f. (f ≡ GatherFault.Memory alloc_error) ⊎ (gathered r files.now ≡ Err f)) }
 {
     match linted(alloc, files) {
         Ok(Ok(lists)) => Ok(lists),

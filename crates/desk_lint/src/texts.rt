@@ -62,7 +62,8 @@ fn key_of(alloc: Global, id: &str) -> Result<Key, AllocError>
 
 // The licence's text at a path, where there is one.
 fn text_file<'a>(alloc: Global, path: &'a str) -> Result<Option<LicenceText<'a>>, AllocError>
-    ensures { IfOk result (λ t. option_map text_in t ≡ option_map (λ name. record { path = path.now; key = key_of (stem name) }) (text_name path.now)) }
+    ensures { IfOk result (λ t. option_map text_in t ≡ option_map (λ name.
+        record { path = path.now; key = key_of (stem name) }) (text_name path.now)) }
 {
     match text_name(path) {
         Some(name) => {

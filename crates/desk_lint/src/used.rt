@@ -23,7 +23,8 @@ fn add_keys(keys: &mut Vec<Key>, terms: &[Term]) -> Result<(), AllocError>
 
 // Adds the keys that a licence uses.
 fn add_used(alloc: Global, keys: &mut Vec<Key>, licence: &str) -> Result<(), AllocError>
-    ensures { OnOk result ((key : List ℕ) → Contains keys.new.items key ↔ (Contains keys.old.items key ⊎ Uses licence.now key)) }
+    ensures { OnOk result ((key : List ℕ) → Contains keys.new.items key
+        ↔ (Contains keys.old.items key ⊎ Uses licence.now key)) }
 {
     match parse(alloc, licence) {
         Ok(expression) => {
@@ -36,7 +37,8 @@ fn add_used(alloc: Global, keys: &mut Vec<Key>, licence: &str) -> Result<(), All
 
 // Adds the keys that licences use.
 fn add_each(alloc: Global, keys: &mut Vec<Key>, licences: &[Text]) -> Result<(), AllocError>
-    ensures { OnOk result ((key : List ℕ) → Contains keys.new.items key ↔ (Contains keys.old.items key ⊎ IsUsedIn licences.now key)) }
+    ensures { OnOk result ((key : List ℕ) → Contains keys.new.items key
+        ↔ (Contains keys.old.items key ⊎ IsUsedIn licences.now key)) }
 {
     for licence in licences {
         add_used(alloc, keys, licence.as_str())?;

@@ -26,7 +26,9 @@ fn select_steps<S: Alter>(
     duties: u32,
     duty: u64,
 ) -> Result<Vec<Row>, Fault>
-    ensures found { IfOk result (λ rows. OfRows (λ t. length t.duty ≡ duties → length rows.items ≡ steps_found t duty) (seen_of (state S.Store conn.old)) (seen_of (state S.Store conn.new))) }
+    ensures found { IfOk result (λ rows. OfRows (λ t.
+        length t.duty ≡ duties → length rows.items ≡ steps_found t duty)
+        (seen_of (state S.Store conn.old)) (seen_of (state S.Store conn.new))) }
     ensures kept { Looked (seen_of (state S.Store conn.old)) (seen_of (state S.Store conn.new)) result }
     ensures mode { conn.old.in_transaction ≡ false → conn.new.in_transaction ≡ false }
 {
@@ -39,7 +41,9 @@ fn select_steps<S: Alter>(
 
 /// How many changes a duty has, of so many duties.
 pub fn steps<S: Alter>(conn: &mut Connection<S>, duties: u32, duty: u64) -> Result<u64, Fault>
-    ensures found { IfOk result (λ found. OfRows (λ t. length t.duty ≡ duties → found ≡ steps_found t duty) (seen_of (state S.Store conn.old)) (seen_of (state S.Store conn.new))) }
+    ensures found { IfOk result (λ found. OfRows (λ t.
+        length t.duty ≡ duties → found ≡ steps_found t duty) (seen_of (state S.Store conn.old))
+        (seen_of (state S.Store conn.new))) }
     ensures kept { Looked (seen_of (state S.Store conn.old)) (seen_of (state S.Store conn.new)) result }
     ensures mode { conn.old.in_transaction ≡ false → conn.new.in_transaction ≡ false }
 {
@@ -52,7 +56,10 @@ fn select_changes_of<S: Alter>(
     duties: u32,
     duty: u64,
 ) -> Result<Vec<Row>, Fault>
-    ensures found { IfOk result (λ rows. OfRows (λ t. length t.duty ≡ duties → (rows.items ≡ map change_cells (filter (is_change_of duty) t.changes)) × AreSteps (filter (is_change_of duty) t.changes)) (seen_of (state S.Store conn.old)) (seen_of (state S.Store conn.new))) }
+    ensures found { IfOk result (λ rows. OfRows (λ t.
+        length t.duty ≡ duties → (rows.items ≡ map change_cells
+        (filter (is_change_of duty) t.changes)) × AreSteps (filter (is_change_of duty) t.changes))
+        (seen_of (state S.Store conn.old)) (seen_of (state S.Store conn.new))) }
     ensures kept { Looked (seen_of (state S.Store conn.old)) (seen_of (state S.Store conn.new)) result }
     ensures mode { conn.old.in_transaction ≡ false → conn.new.in_transaction ≡ false }
 {
@@ -68,7 +75,10 @@ fn select_waivers_of<S: Alter>(
     duties: u32,
     duty: u64,
 ) -> Result<Vec<Row>, Fault>
-    ensures found { IfOk result (λ rows. OfRows (λ t. length t.duty ≡ duties → rows.items ≡ map ending_cells (waivers_in (filter (is_change_of duty) t.changes))) (seen_of (state S.Store conn.old)) (seen_of (state S.Store conn.new))) }
+    ensures found { IfOk result (λ rows. OfRows (λ t.
+        length t.duty ≡ duties → rows.items
+        ≡ map ending_cells (waivers_in (filter (is_change_of duty) t.changes)))
+        (seen_of (state S.Store conn.old)) (seen_of (state S.Store conn.new))) }
     ensures kept { Looked (seen_of (state S.Store conn.old)) (seen_of (state S.Store conn.new)) result }
     ensures mode { conn.old.in_transaction ≡ false → conn.new.in_transaction ≡ false }
 {
@@ -88,8 +98,14 @@ fn select_both<S: Alter>(
     duties: u32,
     duty: u64,
 ) -> Result<RowsOfTwo, Fault>
-    ensures changes { IfOk result (λ both. OfRows (λ t. length t.duty ≡ duties → (both.0.items ≡ map change_cells (filter (is_change_of duty) t.changes)) × AreSteps (filter (is_change_of duty) t.changes)) (seen_of (state S.Store conn.old)) (seen_of (state S.Store conn.new))) }
-    ensures waivers { IfOk result (λ both. OfRows (λ t. length t.duty ≡ duties → both.1.items ≡ map ending_cells (waivers_in (filter (is_change_of duty) t.changes))) (seen_of (state S.Store conn.old)) (seen_of (state S.Store conn.new))) }
+    ensures changes { IfOk result (λ both. OfRows (λ t.
+        length t.duty ≡ duties → (both.0.items ≡ map change_cells
+        (filter (is_change_of duty) t.changes)) × AreSteps (filter (is_change_of duty) t.changes))
+        (seen_of (state S.Store conn.old)) (seen_of (state S.Store conn.new))) }
+    ensures waivers { IfOk result (λ both. OfRows (λ t.
+        length t.duty ≡ duties → both.1.items
+        ≡ map ending_cells (waivers_in (filter (is_change_of duty) t.changes)))
+        (seen_of (state S.Store conn.old)) (seen_of (state S.Store conn.new))) }
     ensures kept { Looked (seen_of (state S.Store conn.old)) (seen_of (state S.Store conn.new)) result }
     ensures mode { conn.old.in_transaction ≡ false → conn.new.in_transaction ≡ false }
 {
@@ -110,7 +126,8 @@ fn take_waiver(waivers: &[Waiver], step: u32) -> (Option<Day>, &[Waiver])
 
 /// Changes, whose last days stand in waivers in the order of their steps.
 fn with_waivers(alloc: Global, rows: &[Row], waivers: &[Waiver]) -> Result<Vec<ChangeRow>, Fault>
-    ensures { IfOk result (λ found. (xs : List Change) → AreSteps xs → rows.now ≡ map change_cells xs → waivers.now ≡ waivers_in xs → found.items ≡ xs) }
+    ensures { IfOk result (λ found. (xs : List Change) → AreSteps xs → rows.now ≡ map change_cells xs
+        → waivers.now ≡ waivers_in xs → found.items ≡ xs) }
 {
     let mut found = Vec::new(alloc);
     let mut left = waivers;
@@ -124,7 +141,8 @@ fn with_waivers(alloc: Global, rows: &[Row], waivers: &[Waiver]) -> Result<Vec<C
 
 /// Changes, from the rows of two tables.
 fn read_changes(alloc: Global, rows: &[Row], ends: &[Row]) -> Result<Vec<ChangeRow>, Fault>
-    ensures { IfOk result (λ found. (xs : List Change) → AreSteps xs → rows.now ≡ map change_cells xs → ends.now ≡ map ending_cells (waivers_in xs) → found.items ≡ xs) }
+    ensures { IfOk result (λ found. (xs : List Change) → AreSteps xs → rows.now ≡ map change_cells xs
+        → ends.now ≡ map ending_cells (waivers_in xs) → found.items ≡ xs) }
 {
     let waivers: Vec<Waiver> = read_all(alloc, ends)?;
     with_waivers(alloc, rows, &waivers)
@@ -137,7 +155,9 @@ pub fn changes_of<S: Alter>(
     duties: u32,
     duty: u64,
 ) -> Result<Vec<ChangeRow>, Fault>
-    ensures found { IfOk result (λ found. OfRows (λ t. length t.duty ≡ duties → found.items ≡ filter (is_change_of duty) t.changes) (seen_of (state S.Store conn.old)) (seen_of (state S.Store conn.new))) }
+    ensures found { IfOk result (λ found. OfRows (λ t.
+        length t.duty ≡ duties → found.items ≡ filter (is_change_of duty) t.changes)
+        (seen_of (state S.Store conn.old)) (seen_of (state S.Store conn.new))) }
     ensures kept { Looked (seen_of (state S.Store conn.old)) (seen_of (state S.Store conn.new)) result }
     ensures mode { conn.old.in_transaction ≡ false → conn.new.in_transaction ≡ false }
 {
@@ -146,7 +166,9 @@ pub fn changes_of<S: Alter>(
 }
 
 fn select_days_of<S: Alter>(conn: &mut Connection<S>, duty: u32) -> Result<Vec<Row>, Fault>
-    ensures found { IfOk result (λ rows. OfRows (λ t. rows.items ≡ map day_cells (filter (is_change_of duty) t.changes)) (seen_of (state S.Store conn.old)) (seen_of (state S.Store conn.new))) }
+    ensures found { IfOk result (λ rows. OfRows (λ t.
+        rows.items ≡ map day_cells (filter (is_change_of duty) t.changes))
+        (seen_of (state S.Store conn.old)) (seen_of (state S.Store conn.new))) }
     ensures kept { Looked (seen_of (state S.Store conn.old)) (seen_of (state S.Store conn.new)) result }
     ensures mode { conn.old.in_transaction ≡ false → conn.new.in_transaction ≡ false }
 {
@@ -170,7 +192,9 @@ fn last_of(rows: &[Row]) -> Result<Option<Day>, Fault>
 
 /// The day of a duty's last change, if it has one.
 pub fn last_day<S: Alter>(conn: &mut Connection<S>, duty: u32) -> Result<Option<Day>, Fault>
-    ensures found { IfOk result (λ found. OfRows (λ t. found ≡ last_day (filter (is_change_of duty) t.changes)) (seen_of (state S.Store conn.old)) (seen_of (state S.Store conn.new))) }
+    ensures found { IfOk result (λ found. OfRows (λ t.
+        found ≡ last_day (filter (is_change_of duty) t.changes)) (seen_of (state S.Store conn.old))
+        (seen_of (state S.Store conn.new))) }
     ensures kept { Looked (seen_of (state S.Store conn.old)) (seen_of (state S.Store conn.new)) result }
     ensures mode { conn.old.in_transaction ≡ false → conn.new.in_transaction ≡ false }
 {

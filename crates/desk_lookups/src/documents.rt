@@ -27,7 +27,10 @@ fn select_document<S: Alter>(
     documents: u32,
     n: u64,
 ) -> Result<Vec<Row>, Fault>
-    ensures found { IfOk result (λ rows. OfRows (λ t. length t.document ≡ documents → rows.items ≡ map known_cells (map known_document (filter (is_document n) t.document))) (seen_of (state S.Store conn.old)) (seen_of (state S.Store conn.new))) }
+    ensures found { IfOk result (λ rows. OfRows (λ t.
+        length t.document ≡ documents → rows.items ≡ map known_cells
+        (map known_document (filter (is_document n) t.document))) (seen_of (state S.Store conn.old))
+        (seen_of (state S.Store conn.new))) }
     ensures kept { Looked (seen_of (state S.Store conn.old)) (seen_of (state S.Store conn.new)) result }
     ensures mode { conn.old.in_transaction ≡ false → conn.new.in_transaction ≡ false }
 {
@@ -57,7 +60,10 @@ pub fn document<S: Alter>(
     documents: u32,
     number: u64,
 ) -> Result<Option<(u32, Profile)>, Fault>
-    ensures found { IfOk result (λ found. OfRows (λ t. length t.document ≡ documents → found ≡ option_map known_document (find (is_document number) t.document)) (seen_of (state S.Store conn.old)) (seen_of (state S.Store conn.new))) }
+    ensures found { IfOk result (λ found. OfRows (λ t.
+        length t.document ≡ documents → found ≡ option_map known_document
+        (find (is_document number) t.document)) (seen_of (state S.Store conn.old))
+        (seen_of (state S.Store conn.new))) }
     ensures same { IfOk result (λ found. IfSome found (λ known. known.0 ≡ number)) }
     ensures kept { Looked (seen_of (state S.Store conn.old)) (seen_of (state S.Store conn.new)) result }
     ensures mode { conn.old.in_transaction ≡ false → conn.new.in_transaction ≡ false }
@@ -72,7 +78,10 @@ fn select_document_bytes<S: Alter>(
     documents: u32,
     n: u64,
 ) -> Result<Vec<Row>, Fault>
-    ensures found { IfOk result (λ rows. OfRows (λ t. length t.document ≡ documents → rows.items ≡ map bytes_cells (map (λ row. row.bytes) (filter (is_document n) t.document))) (seen_of (state S.Store conn.old)) (seen_of (state S.Store conn.new))) }
+    ensures found { IfOk result (λ rows. OfRows (λ t.
+        length t.document ≡ documents → rows.items ≡ map bytes_cells
+        (map (λ row. row.bytes) (filter (is_document n) t.document)))
+        (seen_of (state S.Store conn.old)) (seen_of (state S.Store conn.new))) }
     ensures kept { Looked (seen_of (state S.Store conn.old)) (seen_of (state S.Store conn.new)) result }
     ensures mode { conn.old.in_transaction ≡ false → conn.new.in_transaction ≡ false }
 {
@@ -91,7 +100,10 @@ fn document_bytes<S: Alter>(
     documents: u32,
     number: u64,
 ) -> Result<Option<Items<u8>>, Fault>
-    ensures found { IfOk result (λ found. OfRows (λ t. length t.document ≡ documents → found ≡ option_map (λ row. row.bytes) (find (is_document number) t.document)) (seen_of (state S.Store conn.old)) (seen_of (state S.Store conn.new))) }
+    ensures found { IfOk result (λ found. OfRows (λ t.
+        length t.document ≡ documents → found ≡ option_map (λ row. row.bytes)
+        (find (is_document number) t.document)) (seen_of (state S.Store conn.old))
+        (seen_of (state S.Store conn.new))) }
     ensures kept { Looked (seen_of (state S.Store conn.old)) (seen_of (state S.Store conn.new)) result }
     ensures mode { conn.old.in_transaction ≡ false → conn.new.in_transaction ≡ false }
 {
@@ -104,7 +116,8 @@ fn source_from(
     bytes: Option<Items<u8>>,
     known: Option<(u32, Profile)>,
 ) -> Option<(Items<u8>, Profile)>
-    ensures { (x : Option Document) → bytes ≡ option_map (λ row. row.bytes) x → known ≡ option_map known_document x → result ≡ option_map source_of x }
+    ensures { (x : Option Document) → bytes ≡ option_map (λ row. row.bytes) x
+        → known ≡ option_map known_document x → result ≡ option_map source_of x }
 {
     match (bytes, known) {
         (Some(bytes), Some((_, profile))) => Some((bytes, profile)),
@@ -119,7 +132,10 @@ pub fn document_source<S: Alter>(
     documents: u32,
     number: u64,
 ) -> Result<Option<(Items<u8>, Profile)>, Fault>
-    ensures found { IfOk result (λ found. OfRows (λ t. length t.document ≡ documents → found ≡ option_map source_of (find (is_document number) t.document)) (seen_of (state S.Store conn.old)) (seen_of (state S.Store conn.new))) }
+    ensures found { IfOk result (λ found. OfRows (λ t.
+        length t.document ≡ documents → found ≡ option_map source_of
+        (find (is_document number) t.document)) (seen_of (state S.Store conn.old))
+        (seen_of (state S.Store conn.new))) }
     ensures kept { Looked (seen_of (state S.Store conn.old)) (seen_of (state S.Store conn.new)) result }
     ensures mode { conn.old.in_transaction ≡ false → conn.new.in_transaction ≡ false }
 {
@@ -129,7 +145,9 @@ pub fn document_source<S: Alter>(
 }
 
 fn select_import<S: Alter>(conn: &mut Connection<S>, namespace: &str) -> Result<Vec<Row>, Fault>
-    ensures found { IfOk result (λ rows. OfRows (λ t. rows.items ≡ map import_cells (filter (has_namespace namespace.now) t.document)) (seen_of (state S.Store conn.old)) (seen_of (state S.Store conn.new))) }
+    ensures found { IfOk result (λ rows. OfRows (λ t.
+        rows.items ≡ map import_cells (filter (has_namespace namespace.now) t.document))
+        (seen_of (state S.Store conn.old)) (seen_of (state S.Store conn.new))) }
     ensures kept { Looked (seen_of (state S.Store conn.old)) (seen_of (state S.Store conn.new)) result }
     ensures mode { conn.old.in_transaction ≡ false → conn.new.in_transaction ≡ false }
 {
@@ -142,7 +160,8 @@ fn select_import<S: Alter>(conn: &mut Connection<S>, namespace: &str) -> Result<
 
 /// The number of a document, and whether its bytes are these.
 fn read_import(row: &Row, bytes: &[u8]) -> Result<(u32, bool), Fault>
-    ensures { IfOk result (λ found. (x : Document) → row.now ≡ import_cells x → found ≡ known_import bytes.now x) }
+    ensures { IfOk result (λ found. (x : Document) → row.now ≡ import_cells x
+        → found ≡ known_import bytes.now x) }
 {
     match row.get_ref(1) {
         Ok(ValueRef::Blob(blob)) => Ok((number_at(row, 0)?, blob == bytes)),
@@ -151,7 +170,8 @@ fn read_import(row: &Row, bytes: &[u8]) -> Result<(u32, bool), Fault>
 }
 
 fn first_import(rows: &[Row], bytes: &[u8]) -> Result<Option<(u32, bool)>, Fault>
-    ensures { IfOk result (λ found. (xs : List Document) → rows.now ≡ map import_cells xs → found ≡ option_map (known_import bytes.now) (slice_get xs 0)) }
+    ensures { IfOk result (λ found. (xs : List Document) → rows.now ≡ map import_cells xs
+        → found ≡ option_map (known_import bytes.now) (slice_get xs 0)) }
 {
     match rows.first() {
         Some(row) => Ok(Some(read_import(row, bytes)?)),
@@ -165,7 +185,9 @@ pub fn import_of<S: Alter>(
     namespace: &str,
     bytes: &[u8],
 ) -> Result<Option<(u32, bool)>, Fault>
-    ensures found { IfOk result (λ found. OfRows (λ t. found ≡ option_map (known_import bytes.now) (find (has_namespace namespace.now) t.document)) (seen_of (state S.Store conn.old)) (seen_of (state S.Store conn.new))) }
+    ensures found { IfOk result (λ found. OfRows (λ t.
+        found ≡ option_map (known_import bytes.now) (find (has_namespace namespace.now) t.document))
+        (seen_of (state S.Store conn.old)) (seen_of (state S.Store conn.new))) }
     ensures kept { Looked (seen_of (state S.Store conn.old)) (seen_of (state S.Store conn.new)) result }
     ensures mode { conn.old.in_transaction ≡ false → conn.new.in_transaction ≡ false }
 {
@@ -179,7 +201,10 @@ fn select_package<S: Alter>(
     document: u64,
     id: &str,
 ) -> Result<Vec<Row>, Fault>
-    ensures found { IfOk result (λ rows. OfRows (λ t. length t.document ≡ documents → rows.items ≡ map package_cells (filter (is_package document id.now) t.packages)) (seen_of (state S.Store conn.old)) (seen_of (state S.Store conn.new))) }
+    ensures found { IfOk result (λ rows. OfRows (λ t.
+        length t.document ≡ documents → rows.items ≡ map package_cells
+        (filter (is_package document id.now) t.packages)) (seen_of (state S.Store conn.old))
+        (seen_of (state S.Store conn.new))) }
     ensures kept { Looked (seen_of (state S.Store conn.old)) (seen_of (state S.Store conn.new)) result }
     ensures mode { conn.old.in_transaction ≡ false → conn.new.in_transaction ≡ false }
 {
@@ -199,7 +224,9 @@ pub fn package_row<S: Alter>(
     document: u64,
     id: &str,
 ) -> Result<Option<PackageRow>, Fault>
-    ensures found { IfOk result (λ found. OfRows (λ t. length t.document ≡ documents → found ≡ find (is_package document id.now) t.packages) (seen_of (state S.Store conn.old)) (seen_of (state S.Store conn.new))) }
+    ensures found { IfOk result (λ found. OfRows (λ t.
+        length t.document ≡ documents → found ≡ find (is_package document id.now) t.packages)
+        (seen_of (state S.Store conn.old)) (seen_of (state S.Store conn.new))) }
     ensures kept { Looked (seen_of (state S.Store conn.old)) (seen_of (state S.Store conn.new)) result }
     ensures mode { conn.old.in_transaction ≡ false → conn.new.in_transaction ≡ false }
 {
@@ -208,7 +235,9 @@ pub fn package_row<S: Alter>(
 }
 
 fn select_shipped<S: Alter>(conn: &mut Connection<S>, document: u32) -> Result<Vec<Row>, Fault>
-    ensures found { IfOk result (λ rows. OfRows (λ t. rows.items ≡ map package_cells (filter (is_shipped_by document) t.packages)) (seen_of (state S.Store conn.old)) (seen_of (state S.Store conn.new))) }
+    ensures found { IfOk result (λ rows. OfRows (λ t.
+        rows.items ≡ map package_cells (filter (is_shipped_by document) t.packages))
+        (seen_of (state S.Store conn.old)) (seen_of (state S.Store conn.new))) }
     ensures kept { Looked (seen_of (state S.Store conn.old)) (seen_of (state S.Store conn.new)) result }
     ensures mode { conn.old.in_transaction ≡ false → conn.new.in_transaction ≡ false }
 {
@@ -225,7 +254,9 @@ pub fn shipped<S: Alter>(
     conn: &mut Connection<S>,
     document: u32,
 ) -> Result<Vec<PackageRow>, Fault>
-    ensures found { IfOk result (λ found. OfRows (λ t. found.items ≡ filter (is_shipped_by document) t.packages) (seen_of (state S.Store conn.old)) (seen_of (state S.Store conn.new))) }
+    ensures found { IfOk result (λ found. OfRows (λ t.
+        found.items ≡ filter (is_shipped_by document) t.packages) (seen_of (state S.Store conn.old))
+        (seen_of (state S.Store conn.new))) }
     ensures kept { Looked (seen_of (state S.Store conn.old)) (seen_of (state S.Store conn.new)) result }
     ensures mode { conn.old.in_transaction ≡ false → conn.new.in_transaction ≡ false }
 {

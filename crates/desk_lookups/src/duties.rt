@@ -20,7 +20,9 @@ fn select_duty<S: Alter>(
     duties: u32,
     number: u64,
 ) -> Result<Vec<Row>, Fault>
-    ensures found { IfOk result (λ rows. OfRows (λ t. length t.duty ≡ duties → rows.items ≡ map duty_cells (filter (is_duty number) t.duty)) (seen_of (state S.Store conn.old)) (seen_of (state S.Store conn.new))) }
+    ensures found { IfOk result (λ rows. OfRows (λ t.
+        length t.duty ≡ duties → rows.items ≡ map duty_cells (filter (is_duty number) t.duty))
+        (seen_of (state S.Store conn.old)) (seen_of (state S.Store conn.new))) }
     ensures kept { Looked (seen_of (state S.Store conn.old)) (seen_of (state S.Store conn.new)) result }
     ensures mode { conn.old.in_transaction ≡ false → conn.new.in_transaction ≡ false }
 {
@@ -50,7 +52,9 @@ pub fn duty<S: Alter>(
     duties: u32,
     number: u64,
 ) -> Result<Option<DutyRow>, Fault>
-    ensures found { IfOk result (λ found. OfRows (λ t. length t.duty ≡ duties → found ≡ duty_found t number) (seen_of (state S.Store conn.old)) (seen_of (state S.Store conn.new))) }
+    ensures found { IfOk result (λ found. OfRows (λ t.
+        length t.duty ≡ duties → found ≡ duty_found t number) (seen_of (state S.Store conn.old))
+        (seen_of (state S.Store conn.new))) }
     ensures same { IfOk result (λ found. IfSome found (λ row. row.number ≡ number)) }
     ensures kept { Looked (seen_of (state S.Store conn.old)) (seen_of (state S.Store conn.new)) result }
     ensures mode { conn.old.in_transaction ≡ false → conn.new.in_transaction ≡ false }
@@ -61,7 +65,9 @@ pub fn duty<S: Alter>(
 }
 
 fn select_duties_of<S: Alter>(conn: &mut Connection<S>, release: &str) -> Result<Vec<Row>, Fault>
-    ensures found { IfOk result (λ rows. OfRows (λ t. rows.items ≡ map duty_cells (filter (is_duty_of release.now) t.duty)) (seen_of (state S.Store conn.old)) (seen_of (state S.Store conn.new))) }
+    ensures found { IfOk result (λ rows. OfRows (λ t.
+        rows.items ≡ map duty_cells (filter (is_duty_of release.now) t.duty))
+        (seen_of (state S.Store conn.old)) (seen_of (state S.Store conn.new))) }
     ensures kept { Looked (seen_of (state S.Store conn.old)) (seen_of (state S.Store conn.new)) result }
     ensures mode { conn.old.in_transaction ≡ false → conn.new.in_transaction ≡ false }
 {
@@ -78,7 +84,9 @@ pub fn duties_of<S: Alter>(
     conn: &mut Connection<S>,
     release: &str,
 ) -> Result<Vec<DutyRow>, Fault>
-    ensures found { IfOk result (λ found. OfRows (λ t. found.items ≡ filter (is_duty_of release.now) t.duty) (seen_of (state S.Store conn.old)) (seen_of (state S.Store conn.new))) }
+    ensures found { IfOk result (λ found. OfRows (λ t.
+        found.items ≡ filter (is_duty_of release.now) t.duty) (seen_of (state S.Store conn.old))
+        (seen_of (state S.Store conn.new))) }
     ensures kept { Looked (seen_of (state S.Store conn.old)) (seen_of (state S.Store conn.new)) result }
     ensures mode { conn.old.in_transaction ≡ false → conn.new.in_transaction ≡ false }
 {

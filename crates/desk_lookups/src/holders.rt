@@ -21,7 +21,9 @@ use sqlite::{Alter, Connection, Row};
 use std::alloc::{AllocError, Global};
 
 fn select_releases<S: Alter>(conn: &mut Connection<S>) -> Result<Vec<Row>, Fault>
-    ensures found { IfOk result (λ rows. OfRows (λ t. rows.items ≡ map release_cells t.releases) (seen_of (state S.Store conn.old)) (seen_of (state S.Store conn.new))) }
+    ensures found { IfOk result (λ rows. OfRows (λ t.
+        rows.items ≡ map release_cells t.releases) (seen_of (state S.Store conn.old))
+        (seen_of (state S.Store conn.new))) }
     ensures kept { Looked (seen_of (state S.Store conn.old)) (seen_of (state S.Store conn.new)) result }
     ensures mode { conn.old.in_transaction ≡ false → conn.new.in_transaction ≡ false }
 {
@@ -34,7 +36,9 @@ fn select_releases<S: Alter>(conn: &mut Connection<S>) -> Result<Vec<Row>, Fault
 
 /// All releases, by name.
 fn releases<S: Alter>(alloc: Global, conn: &mut Connection<S>) -> Result<Vec<ReleaseRow>, Fault>
-    ensures found { IfOk result (λ found. OfRows (λ t. found.items ≡ t.releases) (seen_of (state S.Store conn.old)) (seen_of (state S.Store conn.new))) }
+    ensures found { IfOk result (λ found. OfRows (λ t.
+        found.items ≡ t.releases) (seen_of (state S.Store conn.old))
+        (seen_of (state S.Store conn.new))) }
     ensures kept { Looked (seen_of (state S.Store conn.old)) (seen_of (state S.Store conn.new)) result }
     ensures mode { conn.old.in_transaction ≡ false → conn.new.in_transaction ≡ false }
 {
@@ -49,7 +53,9 @@ fn is_holding<S: Alter>(
     document: u32,
     id: &str,
 ) -> Result<bool, Fault>
-    ensures found { IfOk result (λ found. OfRows (λ t. found ≡ holds t.choice document id.now release.now) (seen_of (state S.Store conn.old)) (seen_of (state S.Store conn.new))) }
+    ensures found { IfOk result (λ found. OfRows (λ t.
+        found ≡ holds t.choice document id.now release.now) (seen_of (state S.Store conn.old))
+        (seen_of (state S.Store conn.new))) }
     ensures kept { Looked (seen_of (state S.Store conn.old)) (seen_of (state S.Store conn.new)) result }
     ensures mode { conn.old.in_transaction ≡ false → conn.new.in_transaction ≡ false }
 {
@@ -63,7 +69,8 @@ fn opened_first<'a>(
     release: &'a ReleaseRow,
     is_holding: bool,
 ) -> Option<&'a ReleaseRow>
-    ensures { option_copied result ≡ (if is_holding then and_then_opened (option_copied first.entry) release.now else option_copied first.entry) }
+    ensures { option_copied result ≡ (if is_holding then and_then_opened
+        (option_copied first.entry) release.now else option_copied first.entry) }
 {
     if !is_holding {
         return first;
@@ -81,7 +88,9 @@ fn first_holding<'a, S: Alter>(
     document: u32,
     id: &str,
 ) -> Result<Option<&'a ReleaseRow>, Fault>
-    ensures found { IfOk result (λ found. OfRows (λ t. option_copied found ≡ first_opened (filter (holds t.choice document id.now) rows.now)) (seen_of (state S.Store conn.old)) (seen_of (state S.Store conn.new))) }
+    ensures found { IfOk result (λ found. OfRows (λ t.
+        option_copied found ≡ first_opened (filter (holds t.choice document id.now) rows.now))
+        (seen_of (state S.Store conn.old)) (seen_of (state S.Store conn.new))) }
     ensures kept { Looked (seen_of (state S.Store conn.old)) (seen_of (state S.Store conn.new)) result }
     ensures mode { conn.old.in_transaction ≡ false → conn.new.in_transaction ≡ false }
 {
@@ -109,7 +118,9 @@ pub fn holder<S: Alter>(
     document: u32,
     id: &str,
 ) -> Result<Option<Text>, Fault>
-    ensures found { IfOk result (λ found. OfRows (λ t. found ≡ holder_found t document id.now) (seen_of (state S.Store conn.old)) (seen_of (state S.Store conn.new))) }
+    ensures found { IfOk result (λ found. OfRows (λ t.
+        found ≡ holder_found t document id.now) (seen_of (state S.Store conn.old))
+        (seen_of (state S.Store conn.new))) }
     ensures kept { Looked (seen_of (state S.Store conn.old)) (seen_of (state S.Store conn.new)) result }
     ensures mode { conn.old.in_transaction ≡ false → conn.new.in_transaction ≡ false }
 {

@@ -22,7 +22,10 @@ fn select_conclusion<S: Alter>(
     document: u32,
     id: &str,
 ) -> Result<Vec<Row>, Fault>
-    ensures found { IfOk result (λ rows. OfRows (λ t. rows.items ≡ map text_cells (map (λ row. row.expression) (filter (is_conclusion document id.now) t.conclusion))) (seen_of (state S.Store conn.old)) (seen_of (state S.Store conn.new))) }
+    ensures found { IfOk result (λ rows. OfRows (λ t.
+        rows.items ≡ map text_cells (map (λ row. row.expression)
+        (filter (is_conclusion document id.now) t.conclusion))) (seen_of (state S.Store conn.old))
+        (seen_of (state S.Store conn.new))) }
     ensures kept { Looked (seen_of (state S.Store conn.old)) (seen_of (state S.Store conn.new)) result }
     ensures mode { conn.old.in_transaction ≡ false → conn.new.in_transaction ≡ false }
 {
@@ -40,7 +43,9 @@ pub fn conclusion<S: Alter>(
     document: u32,
     id: &str,
 ) -> Result<Option<Text>, Fault>
-    ensures found { IfOk result (λ found. OfRows (λ t. found ≡ office_text t.conclusion document id.now) (seen_of (state S.Store conn.old)) (seen_of (state S.Store conn.new))) }
+    ensures found { IfOk result (λ found. OfRows (λ t.
+        found ≡ office_text t.conclusion document id.now) (seen_of (state S.Store conn.old))
+        (seen_of (state S.Store conn.new))) }
     ensures kept { Looked (seen_of (state S.Store conn.old)) (seen_of (state S.Store conn.new)) result }
     ensures mode { conn.old.in_transaction ≡ false → conn.new.in_transaction ≡ false }
 {
@@ -53,7 +58,10 @@ fn select_adoption<S: Alter>(
     document: u32,
     reference: &str,
 ) -> Result<Vec<Row>, Fault>
-    ensures found { IfOk result (λ rows. OfRows (λ t. rows.items ≡ map text_cells (map (λ row. row.licence) (filter (is_adoption document reference.now) t.adoption))) (seen_of (state S.Store conn.old)) (seen_of (state S.Store conn.new))) }
+    ensures found { IfOk result (λ rows. OfRows (λ t.
+        rows.items ≡ map text_cells (map (λ row. row.licence)
+        (filter (is_adoption document reference.now) t.adoption))) (seen_of (state S.Store conn.old))
+        (seen_of (state S.Store conn.new))) }
     ensures kept { Looked (seen_of (state S.Store conn.old)) (seen_of (state S.Store conn.new)) result }
     ensures mode { conn.old.in_transaction ≡ false → conn.new.in_transaction ≡ false }
 {
@@ -71,7 +79,9 @@ pub fn adoption<S: Alter>(
     document: u32,
     reference: &str,
 ) -> Result<Option<Text>, Fault>
-    ensures found { IfOk result (λ found. OfRows (λ t. found ≡ licence_for t.adoption document reference.now) (seen_of (state S.Store conn.old)) (seen_of (state S.Store conn.new))) }
+    ensures found { IfOk result (λ found. OfRows (λ t.
+        found ≡ licence_for t.adoption document reference.now) (seen_of (state S.Store conn.old))
+        (seen_of (state S.Store conn.new))) }
     ensures kept { Looked (seen_of (state S.Store conn.old)) (seen_of (state S.Store conn.new)) result }
     ensures mode { conn.old.in_transaction ≡ false → conn.new.in_transaction ≡ false }
 {
@@ -83,7 +93,9 @@ fn select_adoption_count<S: Alter>(
     conn: &mut Connection<S>,
     document: u32,
 ) -> Result<Vec<Row>, Fault>
-    ensures found { IfOk result (λ rows. OfRows (λ t. length rows.items ≡ adoption_count t document) (seen_of (state S.Store conn.old)) (seen_of (state S.Store conn.new))) }
+    ensures found { IfOk result (λ rows. OfRows (λ t.
+        length rows.items ≡ adoption_count t document) (seen_of (state S.Store conn.old))
+        (seen_of (state S.Store conn.new))) }
     ensures kept { Looked (seen_of (state S.Store conn.old)) (seen_of (state S.Store conn.new)) result }
     ensures mode { conn.old.in_transaction ≡ false → conn.new.in_transaction ≡ false }
 {
@@ -96,7 +108,9 @@ fn select_adoption_count<S: Alter>(
 
 /// How many references of a document are adopted.
 pub fn adoption_count<S: Alter>(conn: &mut Connection<S>, document: u32) -> Result<u64, Fault>
-    ensures found { IfOk result (λ found. OfRows (λ t. found ≡ adoption_count t document) (seen_of (state S.Store conn.old)) (seen_of (state S.Store conn.new))) }
+    ensures found { IfOk result (λ found. OfRows (λ t.
+        found ≡ adoption_count t document) (seen_of (state S.Store conn.old))
+        (seen_of (state S.Store conn.new))) }
     ensures kept { Looked (seen_of (state S.Store conn.old)) (seen_of (state S.Store conn.new)) result }
     ensures mode { conn.old.in_transaction ≡ false → conn.new.in_transaction ≡ false }
 {

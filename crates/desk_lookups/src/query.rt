@@ -24,8 +24,14 @@ pub(crate) fn query<S: Alter>(
     sql: &str,
     params: &[ValueRef<'_>],
 ) -> Result<Vec<Row>, Fault>
-    ensures ok { IsPlain (understood desk_schema sql.now) → IfOk result (λ rows. Same (seen_of (state S.Store conn.old)) (seen_of (state S.Store conn.new)) × (HasCleanDisk (state S.Store conn.new) → Shown sql.now (bound params.now) (state S.Store conn.old) (state S.Store conn.new) rows.items)) }
-    ensures err { IsPlain (understood desk_schema sql.now) → OnErr result (Kept (seen_of (state S.Store conn.old)) (seen_of (state S.Store conn.new))) }
+    ensures ok { IsPlain (understood desk_schema sql.now)
+        → IfOk result (λ rows. Same (seen_of (state S.Store conn.old))
+        (seen_of (state S.Store conn.new))
+        × (HasCleanDisk (state S.Store conn.new)
+        → Shown sql.now (bound params.now) (state S.Store conn.old)
+        (state S.Store conn.new) rows.items)) }
+    ensures err { IsPlain (understood desk_schema sql.now)
+        → OnErr result (Kept (seen_of (state S.Store conn.old)) (seen_of (state S.Store conn.new))) }
     ensures mode { conn.old.in_transaction ≡ false → conn.new.in_transaction ≡ false }
 {
     match conn.query_all(sql, params) {

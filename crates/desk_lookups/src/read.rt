@@ -30,7 +30,8 @@ pub(crate) fn read_all<T: ReadRow + Drop>(alloc: Global, rows: &[Row]) -> Result
 
 /// The first row.
 pub(crate) fn read_first<T: ReadRow + Drop>(alloc: Global, rows: &[Row]) -> Result<Option<T>, Fault>
-    ensures { IfOk result (λ found. (xs : List T) → rows.now ≡ map T.ReadRow.cells xs → found ≡ slice_get xs 0) }
+    ensures { IfOk result (λ found. (xs : List T) → rows.now ≡ map T.ReadRow.cells xs
+        → found ≡ slice_get xs 0) }
 {
     match rows.first() {
         Some(row) => Ok(Some(T::read(alloc, row)?)),

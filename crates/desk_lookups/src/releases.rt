@@ -20,7 +20,9 @@ use sqlite::{Alter, Connection, Row};
 use std::alloc::Global;
 
 fn select_release<S: Alter>(conn: &mut Connection<S>, name: &str) -> Result<Vec<Row>, Fault>
-    ensures found { IfOk result (λ rows. OfRows (λ t. rows.items ≡ map release_cells (filter (is_release name.now) t.releases)) (seen_of (state S.Store conn.old)) (seen_of (state S.Store conn.new))) }
+    ensures found { IfOk result (λ rows. OfRows (λ t.
+        rows.items ≡ map release_cells (filter (is_release name.now) t.releases))
+        (seen_of (state S.Store conn.old)) (seen_of (state S.Store conn.new))) }
     ensures kept { Looked (seen_of (state S.Store conn.old)) (seen_of (state S.Store conn.new)) result }
     ensures mode { conn.old.in_transaction ≡ false → conn.new.in_transaction ≡ false }
 {
@@ -37,7 +39,9 @@ pub fn release<S: Alter>(
     conn: &mut Connection<S>,
     name: &str,
 ) -> Result<Option<ReleaseRow>, Fault>
-    ensures found { IfOk result (λ found. OfRows (λ t. found ≡ release_found t name.now) (seen_of (state S.Store conn.old)) (seen_of (state S.Store conn.new))) }
+    ensures found { IfOk result (λ found. OfRows (λ t.
+        found ≡ release_found t name.now) (seen_of (state S.Store conn.old))
+        (seen_of (state S.Store conn.new))) }
     ensures kept { Looked (seen_of (state S.Store conn.old)) (seen_of (state S.Store conn.new)) result }
     ensures mode { conn.old.in_transaction ≡ false → conn.new.in_transaction ≡ false }
 {
@@ -46,7 +50,9 @@ pub fn release<S: Alter>(
 }
 
 fn select_attached<S: Alter>(conn: &mut Connection<S>, release: &str) -> Result<Vec<Row>, Fault>
-    ensures found { IfOk result (λ rows. OfRows (λ t. rows.items ≡ map attached_cells (attached_to t.attached release.now)) (seen_of (state S.Store conn.old)) (seen_of (state S.Store conn.new))) }
+    ensures found { IfOk result (λ rows. OfRows (λ t.
+        rows.items ≡ map attached_cells (attached_to t.attached release.now))
+        (seen_of (state S.Store conn.old)) (seen_of (state S.Store conn.new))) }
     ensures kept { Looked (seen_of (state S.Store conn.old)) (seen_of (state S.Store conn.new)) result }
     ensures mode { conn.old.in_transaction ≡ false → conn.new.in_transaction ≡ false }
 {
@@ -63,7 +69,9 @@ pub fn attached<S: Alter>(
     conn: &mut Connection<S>,
     release: &str,
 ) -> Result<Vec<AttachedRow>, Fault>
-    ensures found { IfOk result (λ found. OfRows (λ t. found.items ≡ attached_to t.attached release.now) (seen_of (state S.Store conn.old)) (seen_of (state S.Store conn.new))) }
+    ensures found { IfOk result (λ found. OfRows (λ t.
+        found.items ≡ attached_to t.attached release.now) (seen_of (state S.Store conn.old))
+        (seen_of (state S.Store conn.new))) }
     ensures kept { Looked (seen_of (state S.Store conn.old)) (seen_of (state S.Store conn.new)) result }
     ensures mode { conn.old.in_transaction ≡ false → conn.new.in_transaction ≡ false }
 {
@@ -85,7 +93,9 @@ pub fn is_attached<S: Alter>(
     release: &str,
     document: u64,
 ) -> Result<bool, Fault>
-    ensures found { IfOk result (λ found. OfRows (λ t. found ≡ list_any (is_attachment release.now document) t.attached) (seen_of (state S.Store conn.old)) (seen_of (state S.Store conn.new))) }
+    ensures found { IfOk result (λ found. OfRows (λ t.
+        found ≡ list_any (is_attachment release.now document) t.attached)
+        (seen_of (state S.Store conn.old)) (seen_of (state S.Store conn.new))) }
     ensures kept { Looked (seen_of (state S.Store conn.old)) (seen_of (state S.Store conn.new)) result }
     ensures mode { conn.old.in_transaction ≡ false → conn.new.in_transaction ≡ false }
 {
@@ -97,7 +107,9 @@ fn select_attached_count<S: Alter>(
     conn: &mut Connection<S>,
     release: &str,
 ) -> Result<Vec<Row>, Fault>
-    ensures found { IfOk result (λ rows. OfRows (λ t. length rows.items ≡ length (attached_to t.attached release.now)) (seen_of (state S.Store conn.old)) (seen_of (state S.Store conn.new))) }
+    ensures found { IfOk result (λ rows. OfRows (λ t.
+        length rows.items ≡ length (attached_to t.attached release.now))
+        (seen_of (state S.Store conn.old)) (seen_of (state S.Store conn.new))) }
     ensures kept { Looked (seen_of (state S.Store conn.old)) (seen_of (state S.Store conn.new)) result }
     ensures mode { conn.old.in_transaction ≡ false → conn.new.in_transaction ≡ false }
 {
@@ -110,7 +122,9 @@ fn select_attached_count<S: Alter>(
 
 /// How many documents are attached to a release.
 pub fn attached_count<S: Alter>(conn: &mut Connection<S>, release: &str) -> Result<u64, Fault>
-    ensures found { IfOk result (λ found. OfRows (λ t. found ≡ length (attached_to t.attached release.now)) (seen_of (state S.Store conn.old)) (seen_of (state S.Store conn.new))) }
+    ensures found { IfOk result (λ found. OfRows (λ t.
+        found ≡ length (attached_to t.attached release.now)) (seen_of (state S.Store conn.old))
+        (seen_of (state S.Store conn.new))) }
     ensures kept { Looked (seen_of (state S.Store conn.old)) (seen_of (state S.Store conn.new)) result }
     ensures mode { conn.old.in_transaction ≡ false → conn.new.in_transaction ≡ false }
 {
@@ -124,7 +138,10 @@ pub(crate) fn select_chosen<S: Alter>(
     document: u32,
     id: &str,
 ) -> Result<Vec<Row>, Fault>
-    ensures found { IfOk result (λ rows. OfRows (λ t. rows.items ≡ map text_cells (map (λ row. row.term) (filter (is_choice_of release.now document id.now) t.choice))) (seen_of (state S.Store conn.old)) (seen_of (state S.Store conn.new))) }
+    ensures found { IfOk result (λ rows. OfRows (λ t.
+        rows.items ≡ map text_cells (map (λ row. row.term)
+        (filter (is_choice_of release.now document id.now) t.choice)))
+        (seen_of (state S.Store conn.old)) (seen_of (state S.Store conn.new))) }
     ensures kept { Looked (seen_of (state S.Store conn.old)) (seen_of (state S.Store conn.new)) result }
     ensures mode { conn.old.in_transaction ≡ false → conn.new.in_transaction ≡ false }
 {
@@ -143,7 +160,10 @@ pub fn chosen<S: Alter>(
     document: u32,
     id: &str,
 ) -> Result<Vec<Text>, Fault>
-    ensures found { IfOk result (λ found. OfRows (λ t. found.items ≡ map (λ row. row.term) (filter (is_choice_of release.now document id.now) t.choice)) (seen_of (state S.Store conn.old)) (seen_of (state S.Store conn.new))) }
+    ensures found { IfOk result (λ found. OfRows (λ t.
+        found.items ≡ map (λ row. row.term)
+        (filter (is_choice_of release.now document id.now) t.choice))
+        (seen_of (state S.Store conn.old)) (seen_of (state S.Store conn.new))) }
     ensures kept { Looked (seen_of (state S.Store conn.old)) (seen_of (state S.Store conn.new)) result }
     ensures mode { conn.old.in_transaction ≡ false → conn.new.in_transaction ≡ false }
 {

@@ -102,14 +102,16 @@ impl ReadRow for DutyRow {
 
 /// The releases whose cells these rows are, in the order of the columns of their table.
 pub fn read_releases(alloc: Global, rows: &[Row]) -> Result<Vec<ReleaseRow>, Fault>
-    ensures { IfOk result (λ found. (releases : List Release) → rows.now ≡ map release_cells releases → found.items ≡ releases) }
+    ensures { IfOk result (λ found. (releases : List Release) → rows.now ≡ map release_cells releases
+        → found.items ≡ releases) }
 {
     read_all(alloc, rows)
 }
 
 /// The duties whose cells these rows are, in the order of the columns of their table.
 pub fn read_duties(alloc: Global, rows: &[Row]) -> Result<Vec<DutyRow>, Fault>
-    ensures { IfOk result (λ found. (duties : List Duty) → rows.now ≡ map duty_cells duties → found.items ≡ duties) }
+    ensures { IfOk result (λ found. (duties : List Duty) → rows.now ≡ map duty_cells duties
+        → found.items ≡ duties) }
 {
     read_all(alloc, rows)
 }
@@ -138,7 +140,8 @@ pub(crate) fn read_change(
     row: &Row,
     last_day: Option<Day>,
 ) -> Result<ChangeRow, Fault>
-    ensures { IfOk result (λ found. (x : Change) → row.now ≡ change_cells x → found ≡ record x { last_day = last_day }) }
+    ensures { IfOk result (λ found. (x : Change) → row.now ≡ change_cells x
+        → found ≡ record x { last_day = last_day }) }
 {
     Ok(ChangeRow {
         duty: number_at(row, 0)?,

@@ -40,7 +40,8 @@ fn copies(alloc: Global, parts: &[&str]) -> Result<Vec<Text>, AllocError>
 
 /// The words that a text joins by one blank.
 fn words_of(alloc: Global, text: &str) -> Result<Items<Text>, AllocError>
-    ensures { IfOk result (λ words. (xs : List (List ℕ)) → list_all is_word xs ≡ true → text.now ≡ joined xs → words ≡ xs) }
+    ensures { IfOk result (λ words. (xs : List (List ℕ)) → list_all is_word xs ≡ true
+        → text.now ≡ joined xs → words ≡ xs) }
 {
     if text.is_empty() {
         return Ok(Items::new(alloc));
@@ -50,7 +51,8 @@ fn words_of(alloc: Global, text: &str) -> Result<Items<Text>, AllocError>
 }
 
 fn read_rule(alloc: Global, row: &Row) -> Result<Rule, Fault>
-    ensures { IfOk result (λ found. (x : RuleRow) → list_all is_word x.codes ≡ true → row.now ≡ rule_cells x → found ≡ rule_of x) }
+    ensures { IfOk result (λ found. (x : RuleRow) → list_all is_word x.codes ≡ true
+        → row.now ≡ rule_cells x → found ≡ rule_of x) }
 {
     Ok(Rule {
         term: text_at(alloc, row, 1)?,
@@ -61,7 +63,8 @@ fn read_rule(alloc: Global, row: &Row) -> Result<Rule, Fault>
 }
 
 fn first_rule(alloc: Global, rows: &[Row]) -> Result<Option<Rule>, Fault>
-    ensures { IfOk result (λ found. (xs : List RuleRow) → are_words xs ≡ true → rows.now ≡ map rule_cells xs → found ≡ option_map rule_of (slice_get xs 0)) }
+    ensures { IfOk result (λ found. (xs : List RuleRow) → are_words xs ≡ true
+        → rows.now ≡ map rule_cells xs → found ≡ option_map rule_of (slice_get xs 0)) }
 {
     match rows.first() {
         Some(row) => Ok(Some(read_rule(alloc, row)?)),
@@ -75,7 +78,10 @@ fn select_rule<S: Alter>(
     term: &str,
     form: &str,
 ) -> Result<Vec<Row>, Fault>
-    ensures found { IfOk result (λ rows. OfRows (λ t. (rows.items ≡ map rule_cells (filter (is_rule_at revision term.now form.now) t.rule)) × (are_words (filter (is_rule_at revision term.now form.now) t.rule) ≡ true)) (seen_of (state S.Store conn.old)) (seen_of (state S.Store conn.new))) }
+    ensures found { IfOk result (λ rows. OfRows (λ t.
+        (rows.items ≡ map rule_cells (filter (is_rule_at revision term.now form.now) t.rule))
+        × (are_words (filter (is_rule_at revision term.now form.now) t.rule) ≡ true))
+        (seen_of (state S.Store conn.old)) (seen_of (state S.Store conn.new))) }
     ensures kept { Looked (seen_of (state S.Store conn.old)) (seen_of (state S.Store conn.new)) result }
     ensures mode { conn.old.in_transaction ≡ false → conn.new.in_transaction ≡ false }
 {
@@ -94,7 +100,9 @@ pub fn rule<S: Alter>(
     term: &str,
     form: &str,
 ) -> Result<Option<Rule>, Fault>
-    ensures found { IfOk result (λ found. OfRows (λ t. length t.catalogue ≡ revisions → found ≡ rule_for (rules_found t) term.now form.now) (seen_of (state S.Store conn.old)) (seen_of (state S.Store conn.new))) }
+    ensures found { IfOk result (λ found. OfRows (λ t.
+        length t.catalogue ≡ revisions → found ≡ rule_for (rules_found t) term.now form.now)
+        (seen_of (state S.Store conn.old)) (seen_of (state S.Store conn.new))) }
     ensures kept { Looked (seen_of (state S.Store conn.old)) (seen_of (state S.Store conn.new)) result }
     ensures mode { conn.old.in_transaction ≡ false → conn.new.in_transaction ≡ false }
 {

@@ -29,7 +29,9 @@ fn standing<S: Alter>(
     duties: u32,
     row: &DutyRow,
 ) -> Result<Standing, Fault>
-    ensures found { IfOk result (λ found. OfRows (λ t. length t.duty ≡ duties → found ≡ standing_found t row.now) (seen_of (state S.Store conn.old)) (seen_of (state S.Store conn.new))) }
+    ensures found { IfOk result (λ found. OfRows (λ t.
+        length t.duty ≡ duties → found ≡ standing_found t row.now) (seen_of (state S.Store conn.old))
+        (seen_of (state S.Store conn.new))) }
     ensures kept { Looked (seen_of (state S.Store conn.old)) (seen_of (state S.Store conn.new)) result }
     ensures mode { conn.old.in_transaction ≡ false → conn.new.in_transaction ≡ false }
 {
@@ -48,7 +50,9 @@ fn standings<S: Alter>(
     duties: u32,
     rows: &[DutyRow],
 ) -> Result<Vec<Standing>, Fault>
-    ensures found { IfOk result (λ found. OfRows (λ t. length t.duty ≡ duties → found.items ≡ map (standing_found t) rows.now) (seen_of (state S.Store conn.old)) (seen_of (state S.Store conn.new))) }
+    ensures found { IfOk result (λ found. OfRows (λ t.
+        length t.duty ≡ duties → found.items ≡ map (standing_found t) rows.now)
+        (seen_of (state S.Store conn.old)) (seen_of (state S.Store conn.new))) }
     ensures kept { Looked (seen_of (state S.Store conn.old)) (seen_of (state S.Store conn.new)) result }
     ensures mode { conn.old.in_transaction ≡ false → conn.new.in_transaction ≡ false }
 {
@@ -66,7 +70,9 @@ pub fn standings_of<S: Alter>(
     duties: u32,
     release: &str,
 ) -> Result<Vec<Standing>, Fault>
-    ensures found { IfOk result (λ found. OfRows (λ t. length t.duty ≡ duties → found.items ≡ standings_found t release.now) (seen_of (state S.Store conn.old)) (seen_of (state S.Store conn.new))) }
+    ensures found { IfOk result (λ found. OfRows (λ t.
+        length t.duty ≡ duties → found.items ≡ standings_found t release.now)
+        (seen_of (state S.Store conn.old)) (seen_of (state S.Store conn.new))) }
     ensures kept { Looked (seen_of (state S.Store conn.old)) (seen_of (state S.Store conn.new)) result }
     ensures mode { conn.old.in_transaction ≡ false → conn.new.in_transaction ≡ false }
 {
@@ -75,7 +81,9 @@ pub fn standings_of<S: Alter>(
 }
 
 fn select_duties_at<S: Alter>(conn: &mut Connection<S>, place: DutyState) -> Result<Vec<Row>, Fault>
-    ensures found { IfOk result (λ rows. OfRows (λ t. rows.items ≡ map duty_cells (filter (stands_at (duty_state_name place)) t.duty)) (seen_of (state S.Store conn.old)) (seen_of (state S.Store conn.new))) }
+    ensures found { IfOk result (λ rows. OfRows (λ t.
+        rows.items ≡ map duty_cells (filter (stands_at (duty_state_name place)) t.duty))
+        (seen_of (state S.Store conn.old)) (seen_of (state S.Store conn.new))) }
     ensures kept { Looked (seen_of (state S.Store conn.old)) (seen_of (state S.Store conn.new)) result }
     ensures mode { conn.old.in_transaction ≡ false → conn.new.in_transaction ≡ false }
 {
@@ -88,7 +96,9 @@ fn select_duties_at<S: Alter>(conn: &mut Connection<S>, place: DutyState) -> Res
 
 /// The duties that are waived, by number.
 fn waived<S: Alter>(alloc: Global, conn: &mut Connection<S>) -> Result<Vec<DutyRow>, Fault>
-    ensures found { IfOk result (λ found. OfRows (λ t. found.items ≡ filter (stands_at (duty_state_name DutyState.Waived)) t.duty) (seen_of (state S.Store conn.old)) (seen_of (state S.Store conn.new))) }
+    ensures found { IfOk result (λ found. OfRows (λ t.
+        found.items ≡ filter (stands_at (duty_state_name DutyState.Waived)) t.duty)
+        (seen_of (state S.Store conn.old)) (seen_of (state S.Store conn.new))) }
     ensures kept { Looked (seen_of (state S.Store conn.old)) (seen_of (state S.Store conn.new)) result }
     ensures mode { conn.old.in_transaction ≡ false → conn.new.in_transaction ≡ false }
 {
@@ -124,7 +134,9 @@ fn standing_if_ended<S: Alter>(
     row: &DutyRow,
     day: Day,
 ) -> Result<Option<Standing>, Fault>
-    ensures found { IfOk result (λ found. OfRows (λ t. length t.duty ≡ duties → found ≡ ended_standing t day row.now) (seen_of (state S.Store conn.old)) (seen_of (state S.Store conn.new))) }
+    ensures found { IfOk result (λ found. OfRows (λ t.
+        length t.duty ≡ duties → found ≡ ended_standing t day row.now)
+        (seen_of (state S.Store conn.old)) (seen_of (state S.Store conn.new))) }
     ensures kept { Looked (seen_of (state S.Store conn.old)) (seen_of (state S.Store conn.new)) result }
     ensures mode { conn.old.in_transaction ≡ false → conn.new.in_transaction ≡ false }
 {
@@ -157,7 +169,9 @@ fn ended_among<S: Alter>(
     rows: &[DutyRow],
     day: Day,
 ) -> Result<Vec<Standing>, Fault>
-    ensures found { IfOk result (λ found. OfRows (λ t. length t.duty ≡ duties → found.items ≡ filter_map (ended_standing t day) rows.now) (seen_of (state S.Store conn.old)) (seen_of (state S.Store conn.new))) }
+    ensures found { IfOk result (λ found. OfRows (λ t.
+        length t.duty ≡ duties → found.items ≡ filter_map (ended_standing t day) rows.now)
+        (seen_of (state S.Store conn.old)) (seen_of (state S.Store conn.new))) }
     ensures kept { Looked (seen_of (state S.Store conn.old)) (seen_of (state S.Store conn.new)) result }
     ensures mode { conn.old.in_transaction ≡ false → conn.new.in_transaction ≡ false }
 {
@@ -176,7 +190,9 @@ pub fn ended<S: Alter>(
     duties: u32,
     day: Day,
 ) -> Result<Vec<Standing>, Fault>
-    ensures found { IfOk result (λ found. OfRows (λ t. length t.duty ≡ duties → found.items ≡ ended_found t day) (seen_of (state S.Store conn.old)) (seen_of (state S.Store conn.new))) }
+    ensures found { IfOk result (λ found. OfRows (λ t.
+        length t.duty ≡ duties → found.items ≡ ended_found t day) (seen_of (state S.Store conn.old))
+        (seen_of (state S.Store conn.new))) }
     ensures kept { Looked (seen_of (state S.Store conn.old)) (seen_of (state S.Store conn.new)) result }
     ensures mode { conn.old.in_transaction ≡ false → conn.new.in_transaction ≡ false }
 {

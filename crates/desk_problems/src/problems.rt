@@ -55,8 +55,11 @@ fn surveyed(alloc: Global, files: &[SourceFile]) -> Result<Problems, AllocError>
 /// lists (`lint`); where nothing is gathered of the tree, the fault is the first flaw (`first`).
 pub fn problems_of(alloc: Global, files: &[SourceFile]) -> Result<Problems, AllocError>
     ensures problems { (r : Reader) → IsRightReader r → IfOk result (AreProblems r files.now) }
-    ensures lint { (r : Reader) → IsRightReader r → IfOk result (λ p. (l : Lint) → IsLint r files.now l → (p.flaws ≡ []) × (lists_in p ≡ l)) }
-    ensures first { (r : Reader) → IsRightReader r → IfOk result (λ p. (fault : GatherFault) → gathered r files.now ≡ Err fault → BeginsWith p.flaws fault) }
+    ensures lint { (r : Reader) → IsRightReader r
+        → IfOk result (λ p. (l : Lint) → IsLint r files.now l → (p.flaws ≡ []) × (lists_in p ≡ l)) }
+    ensures first { (r : Reader) → IsRightReader r
+        → IfOk result (λ p. (fault : GatherFault) → gathered r files.now ≡ Err fault
+        → BeginsWith p.flaws fault) }
 {
     surveyed(alloc, files)
 }

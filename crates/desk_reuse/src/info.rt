@@ -33,7 +33,8 @@ fn tagged<'a>(
     requires mark { mark.now ≡ codes "SPDX-" }
     requires clear { IsClear (codes "SPDX-") known file.now }
     requires within { known < length file.now }
-    ensures { IfOk result (λ i. IsInfo file.now (map tag_text i.notices.items) (map tag_text i.licences.items)) }
+    ensures { IfOk result (λ i. IsInfo file.now (map tag_text i.notices.items)
+        (map tag_text i.licences.items)) }
 {
     let notice = Finder::new(NOTICE);
     let licence = Finder::new(LICENCE);
@@ -67,7 +68,8 @@ fn tagged<'a>(
 /// runs to the line's end or the next ignored stretch, without blanks at its ends and without one trailing `*/`, `-->`, `*)`
 /// or `-}` and the blanks before it. An empty value, or one that isn't UTF-8, is read over.
 pub fn header<'a>(alloc: Global, file: &'a [u8]) -> Result<Info<'a>, AllocError>
-    ensures { IfOk result (λ i. IsInfo file.now (map tag_text i.notices.items) (map tag_text i.licences.items)) }
+    ensures { IfOk result (λ i. IsInfo file.now (map tag_text i.notices.items)
+        (map tag_text i.licences.items)) }
 {
     let mark = Finder::new(MARK);
     let Some(known) = clear_of(file, &mark, 0) else {

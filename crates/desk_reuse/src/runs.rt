@@ -73,7 +73,8 @@ fn behind<'a>(bytes: &'a [u8], front: &[u8]) -> Option<&'a [u8]>
 // What stands before the first ignored stretch that begins on the first line, and behind the word with which it begins. Nothing
 // further right is looked at, so that a line of many stretches is read once.
 fn around_start(bytes: &[u8]) -> Option<(&[u8], &[u8])>
-    ensures none { IfNone result ((text more : List ℕ) → bytes.now ≡ text ++ more → All (λ b. b ≢ 10) text → Lacks start text) }
+    ensures none { IfNone result ((text more : List ℕ) → bytes.now ≡ text ++ more
+        → All (λ b. b ≢ 10) text → Lacks start text) }
     ensures cut { IfSome result (λ r. bytes.now ≡ r.0.now ++ (start ++ r.1.now)) }
     ensures first { IfSome result (λ r. IsUpTo start r.0.now) }
     ensures no_lf { IfSome result (λ r. All (λ b. b ≢ 10) r.0.now) }

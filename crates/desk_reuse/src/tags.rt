@@ -88,7 +88,8 @@ pub(crate) fn add<'a>(
     seen: u64,
 ) -> Result<u64, AllocError>
     requires { 0 < length tag.now }
-    ensures { IfOk result (λ n. Adds tag.now seen (run_text run.entry) (map tag_text list.old.items) (map tag_text list.new.items) n) }
+    ensures { IfOk result (λ n. Adds tag.now seen (run_text run.entry) (map tag_text list.old.items)
+        (map tag_text list.new.items) n) }
 {
     let Some(found) = counted(run, tag, seen) else {
         return Ok(seen);

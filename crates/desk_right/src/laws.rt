@@ -21,29 +21,48 @@ pub fn right_reading_exists()
 /// All right readings tell the same of each text.
 pub fn one_right_reading()
     ensures terms { (v w : Readings) → AreRight v → AreRight w → (text : List ℕ) → v.term text ≡ w.term text }
-    ensures references { (v w : Readings) → AreRight v → AreRight w → (term : List ℕ) → v.reference term ≡ w.reference term }
-    ensures catalogues { (v w : Readings) → AreRight v → AreRight w → (text : List ℕ) → v.catalogue text ≡ w.catalogue text }
-    ensures documents { (v w : Readings) → AreRight v → AreRight w → (bytes : List ℕ) → v.document bytes ≡ w.document bytes }
-    ensures licences { (v w : Readings) → AreRight v → AreRight w → (term : List ℕ) → v.is_licence term ≡ w.is_licence term }
-    ensures adopted { (v w : Readings) → AreRight v → AreRight w → (licence term : List ℕ) → v.adopted_as licence term ≡ w.adopted_as licence term }
-    ensures faults { (v w : Readings) → AreRight v → AreRight w → (profile : Profile) (text : List ℕ) → v.expression_fault profile text ≡ w.expression_fault profile text }
-    ensures expressions { (v w : Readings) → AreRight v → AreRight w → (profile : Profile) (text : List ℕ) → v.is_expression profile text ≡ w.is_expression profile text }
-    ensures verdicts { (v w : Readings) → AreRight v → AreRight w → (profile : Profile) (text : List ℕ) (words : List (List ℕ)) → v.verdict profile text words ≡ w.verdict profile text words }
-    ensures alternatives { (v w : Readings) → AreRight v → AreRight w → (profile : Profile) (text : List ℕ) → v.alternatives profile text ≡ w.alternatives profile text }
-    ensures listed_terms { (v w : Readings) → AreRight v → AreRight w → (profile : Profile) (text : List ℕ) → v.terms profile text ≡ w.terms profile text }
-    ensures cheapest { (v w : Readings) → AreRight v → AreRight w → (profile : Profile) (text : List ℕ) (cost : List ℕ → Option ℕ) → v.cheapest profile text cost ≡ w.cheapest profile text cost }
-    ensures findings { (v w : Readings) → AreRight v → AreRight w → (profile : Profile) (bytes : List ℕ) → v.findings profile bytes ≡ w.findings profile bytes }
+    ensures references { (v w : Readings) → AreRight v → AreRight w → (term : List ℕ)
+        → v.reference term ≡ w.reference term }
+    ensures catalogues { (v w : Readings) → AreRight v → AreRight w → (text : List ℕ)
+        → v.catalogue text ≡ w.catalogue text }
+    ensures documents { (v w : Readings) → AreRight v → AreRight w → (bytes : List ℕ)
+        → v.document bytes ≡ w.document bytes }
+    ensures licences { (v w : Readings) → AreRight v → AreRight w → (term : List ℕ)
+        → v.is_licence term ≡ w.is_licence term }
+    ensures adopted { (v w : Readings) → AreRight v → AreRight w → (licence term : List ℕ)
+        → v.adopted_as licence term ≡ w.adopted_as licence term }
+    ensures faults { (v w : Readings) → AreRight v → AreRight w → (profile : Profile) (text : List ℕ)
+        → v.expression_fault profile text ≡ w.expression_fault profile text }
+    ensures expressions { (v w : Readings) → AreRight v → AreRight w
+        → (profile : Profile) (text : List ℕ)
+        → v.is_expression profile text ≡ w.is_expression profile text }
+    ensures verdicts { (v w : Readings) → AreRight v → AreRight w
+        → (profile : Profile) (text : List ℕ) (words : List (List ℕ))
+        → v.verdict profile text words ≡ w.verdict profile text words }
+    ensures alternatives { (v w : Readings) → AreRight v → AreRight w
+        → (profile : Profile) (text : List ℕ)
+        → v.alternatives profile text ≡ w.alternatives profile text }
+    ensures listed_terms { (v w : Readings) → AreRight v → AreRight w
+        → (profile : Profile) (text : List ℕ) → v.terms profile text ≡ w.terms profile text }
+    ensures cheapest { (v w : Readings) → AreRight v → AreRight w
+        → (profile : Profile) (text : List ℕ) (cost : List ℕ → Option ℕ)
+        → v.cheapest profile text cost ≡ w.cheapest profile text cost }
+    ensures findings { (v w : Readings) → AreRight v → AreRight w
+        → (profile : Profile) (bytes : List ℕ) → v.findings profile bytes ≡ w.findings profile bytes }
 {}
 
 /// What a right reading calls minimal is a minimal set of terms for the expression that the value spells
 /// by the same profile of operators.
 pub fn choices_are_minimal_sets()
-    ensures { (w : Readings) → AreRight w → (profile : Profile) (text : List ℕ) (words : List (List ℕ)) → w.verdict profile text words ≡ Minimal → (e : Tree) × (ts : List Term) × IsExpression profile text e × AreTerms words ts × IsMinimal ts e }
+    ensures { (w : Readings) → AreRight w → (profile : Profile) (text : List ℕ) (words : List (List ℕ))
+        → w.verdict profile text words ≡ Minimal → (e : Tree) × (ts : List Term)
+        × IsExpression profile text e × AreTerms words ts × IsMinimal ts e }
 {}
 
 /// A right reading calls no empty list of terms minimal: no spelled expression is true under no terms, so a choice that is held has a term.
 pub fn choices_have_terms()
-    ensures { (w : Readings) → AreRight w → (profile : Profile) (text : List ℕ) → w.verdict profile text [] ≡ Minimal → ⊥ }
+    ensures { (w : Readings) → AreRight w → (profile : Profile) (text : List ℕ)
+        → w.verdict profile text [] ≡ Minimal → ⊥ }
 {}
 
 /// A right reading lists no package of a document and no code of a rule twice, so no two duties of a desk have the same key
@@ -61,17 +80,20 @@ pub fn right_readings_list_in_order()
 
 /// By a right reading a text is an expression exactly where it has no fault.
 pub fn expressions_have_no_fault()
-    ensures { (w : Readings) → AreRight w → (profile : Profile) (text : List ℕ) → w.is_expression profile text ≡ is_none (w.expression_fault profile text) }
+    ensures { (w : Readings) → AreRight w → (profile : Profile) (text : List ℕ)
+        → w.is_expression profile text ≡ is_none (w.expression_fault profile text) }
 {}
 
 /// What a right reading lists of an expression are all its minimal sets, each once and in the order of sets, and nothing else; or it
 /// tells that the expression has more than 128 terms, or else a front with more than 64 minimal sets.
 pub fn listings_are_all_minimal_sets()
-    ensures { (w : Readings) → AreRight w → (profile : Profile) (text : List ℕ) → Lists profile text (w.alternatives profile text) }
+    ensures { (w : Readings) → AreRight w → (profile : Profile) (text : List ℕ)
+        → Lists profile text (w.alternatives profile text) }
 {}
 
 /// The cheapest set of a right reading is the least of all sets that the expression is true under and whose terms have costs, minimal
 /// or not; it tells none where there is no such set.
 pub fn cheapest_sets_are_least()
-    ensures { (w : Readings) → AreRight w → (profile : Profile) (text : List ℕ) (cost : List ℕ → Option ℕ) → Prices profile text cost (w.cheapest profile text cost) }
+    ensures { (w : Readings) → AreRight w → (profile : Profile) (text : List ℕ) (cost : List ℕ
+        → Option ℕ) → Prices profile text cost (w.cheapest profile text cost) }
 {}

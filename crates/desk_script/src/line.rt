@@ -64,7 +64,8 @@ impl Line {
 
     /// Adds bytes as far as there is room for them.
     fn put(&mut self, run: &[u8]) -> Result<(), AllocError>
-        ensures came { (text : List ℕ) → HasCome self.old text → OnOk result (HasCome self.new (text ++ run.now)) }
+        ensures came { (text : List ℕ) → HasCome self.old text
+            → OnOk result (HasCome self.new (text ++ run.now)) }
         ensures cr { self.new.ends_by_cr ≡ self.old.ends_by_cr }
     {
         self.is_blank = stays_blank(self.is_blank, run);

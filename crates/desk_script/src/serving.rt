@@ -72,7 +72,8 @@ impl ScriptEnd {
 
 /// Writes some front of the bytes, which is empty where the writer was interrupted.
 fn write_some<W: Write>(writer: &mut W, bytes: &[u8]) -> Result<usize, ScriptFault>
-    ensures ok { IfOk result (λ taken. (taken ≤ length bytes.now) × Appends (W.contents writer.old) (W.contents writer.new) (take taken bytes.now)) }
+    ensures ok { IfOk result (λ taken. (taken ≤ length bytes.now)
+        × Appends (W.contents writer.old) (W.contents writer.new) (take taken bytes.now)) }
     ensures err { OnErr result (Keeps (W.contents writer.old) (W.contents writer.new)) }
     ensures fault { IfErr result IsOfWriter }
 {
@@ -104,7 +105,8 @@ fn write_bytes<W: Write>(writer: &mut W, bytes: &[u8]) -> Result<(), ScriptFault
 /// Writes a text as a line.
 fn write_line<W: Write>(writer: &mut W, text: &str) -> Result<(), ScriptFault>
     ensures ok { OnOk result (Appends (W.contents writer.old) (W.contents writer.new) (text.now ++ 10 ∷ [])) }
-    ensures err { OnErr result (AppendsFront (W.contents writer.old) (W.contents writer.new) (text.now ++ 10 ∷ [])) }
+    ensures err { OnErr result (AppendsFront (W.contents writer.old) (W.contents writer.new)
+        (text.now ++ 10 ∷ [])) }
     ensures fault { IfErr result IsOfWriter }
 {
     write_bytes(writer, text.as_bytes())?;
@@ -118,7 +120,8 @@ fn write_line<W: Write>(writer: &mut W, text: &str) -> Result<(), ScriptFault>
 /// Writes a reply as a line. That memory was wanting, and that there was no request, is told without taking memory.
 fn write_reply<W: Write>(alloc: Global, writer: &mut W, reply: &Reply) -> Result<(), ScriptFault>
     ensures ok { OnOk result (Appends (W.contents writer.old) (W.contents writer.new) (line_of reply.now)) }
-    ensures err { IfErr result (λ fault. Loses fault reply.now (W.contents writer.old) (W.contents writer.new)) }
+    ensures err { IfErr result (λ fault. Loses fault reply.now (W.contents writer.old)
+        (W.contents writer.new)) }
 {
     match reply {
         Reply::NoRequest => write_line(writer, bad_command_line()),
@@ -132,7 +135,8 @@ fn write_reply<W: Write>(alloc: Global, writer: &mut W, reply: &Reply) -> Result
 
 /// The reply to a line that isn't blank. Its bytes are taken out of it.
 fn answer_kept<D: Desk>(alloc: Global, desk: &mut D, line: &mut Line) -> Reply
-    ensures { (text : List ℕ) → HasCome line.old text → Replies D.are_right D.tells (D.seen desk.old) (request_of text) result (D.seen desk.new) }
+    ensures { (text : List ℕ) → HasCome line.old text
+        → Replies D.are_right D.tells (D.seen desk.old) (request_of text) result (D.seen desk.new) }
 {
     if line.is_long {
         return Reply::NoRequest;

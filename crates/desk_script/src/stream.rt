@@ -57,12 +57,14 @@ fn feed<D: Desk, W: Write>(
     line: &mut Line,
     piece: &[u8],
 ) -> Result<(), ScriptFault>
-    requires room { (end.old.refused + length piece.now < 2 ^ 64) × (end.old.failed + length piece.now < 2 ^ 64) }
+    requires room { (end.old.refused + length piece.now < 2 ^ 64)
+        × (end.old.failed + length piece.now < 2 ^ 64) }
     ensures ok { (number : ℕ) (came : List ℕ) → Shows line.old came → All (λ b. b ≢ 10) came
         → OnOk result (HasServed D.are_right D.tells D.seen number (came ++ piece.now) desk.old desk.new (W.contents writer.old) (W.contents writer.new) end.old end.new line.new) }
     ensures err { (number : ℕ) (came more : List ℕ) → Shows line.old came → All (λ b. b ≢ 10) came
         → IfErr result (λ fault. IsFrontAt D.are_right D.tells D.seen number fault (came ++ (piece.now ++ more)) desk.old desk.new (W.contents writer.old) (W.contents writer.new)) }
-    ensures few { (end.new.refused ≤ end.old.refused + length piece.now) × (end.new.failed ≤ end.old.failed + length piece.now) }
+    ensures few { (end.new.refused ≤ end.old.refused + length piece.now)
+        × (end.new.failed ≤ end.old.failed + length piece.now) }
     ensures fault { IfErr result IsOfReply }
 {
     let mut rest = piece;
@@ -115,7 +117,8 @@ pub fn script<D: Desk, R: Read, W: Write>(
     ensures fault { IfErr result (λ fault. IsOfReply fault ⊎ ((bytes : List ℕ) × IsOfReader fault (length bytes)
         × Consumes (R.remaining reader.old) (R.remaining reader.new) bytes
         × IsCutOff D.are_right D.tells D.seen bytes desk.old desk.new (W.contents writer.old) (W.contents writer.new))) }
-    ensures taken { (bytes : List ℕ) × Consumes (R.remaining reader.old) (R.remaining reader.new) bytes × (length bytes ≤ script_reads * 65536) }
+    ensures taken { (bytes : List ℕ) × Consumes (R.remaining reader.old) (R.remaining reader.new) bytes
+        × (length bytes ≤ script_reads * 65536) }
 {
     let mut end = ScriptEnd {
         refused: 0,

@@ -29,9 +29,13 @@ pub fn run_commands(
     alloc: Global,
     commands: &[Command],
 ) -> Result<(Vec<Outcome>, StandardDesk), AllocError>
-    ensures answers { (w : Readings) → AreRight w → IfOk result (λ done. AreAnswers w [] commands.now done.0.items) }
-    ensures history { (w : Readings) → AreRight w → IfOk result (λ done. IsHistory w (history_after [] commands.now done.0.items)) }
-    ensures rows { (w : Readings) → AreRight w → IfOk result (λ done. (⟦<TableDesk<Standard, MemStore> as Desk>⟧.seen done.1).holds (tables w (history_after [] commands.now done.0.items))) }
+    ensures answers { (w : Readings) → AreRight w → IfOk result (λ done.
+        AreAnswers w [] commands.now done.0.items) }
+    ensures history { (w : Readings) → AreRight w → IfOk result (λ done.
+        IsHistory w (history_after [] commands.now done.0.items)) }
+    ensures rows { (w : Readings) → AreRight w → IfOk result (λ done.
+        (⟦<TableDesk<Standard, MemStore> as Desk>⟧.seen done.1).holds
+        (tables w (history_after [] commands.now done.0.items))) }
     ensures faults { IfOk result (λ done. MayAllBecome (λ _. ⊥) done.0.items) }
     ensures count { IfOk result (λ done. length done.0.items ≡ length commands.now) }
 {

@@ -35,7 +35,8 @@ use std::alloc::Global;
 /// How many revisions, documents, releases and duties a database has.
 fn read_counts<S: Alter>(conn: &mut Connection<S>) -> Result<Counts, Fault>
     requires { conn.old.in_transaction ≡ false }
-    ensures found { IfOk result (λ counts. OfRows (HasCounts counts) (seen_of (state S.Store conn.old)) (seen_of (state S.Store conn.new))) }
+    ensures found { IfOk result (λ counts. OfRows (HasCounts counts) (seen_of (state S.Store conn.old))
+        (seen_of (state S.Store conn.new))) }
     ensures read { HasRead (state S.Store conn.old) (state S.Store conn.new) result }
     ensures mode { conn.new.in_transaction ≡ false }
 {
@@ -49,7 +50,8 @@ fn read_counts<S: Alter>(conn: &mut Connection<S>) -> Result<Counts, Fault>
 
 /// The forms of the catalogue that a body is; none where there is no body.
 fn forms_of_body(alloc: Global, body: Option<Text>) -> Result<Items<Text>, Fault>
-    ensures { (w : Readings) → AreRight w → IfOk result (λ forms. forms ≡ forms_in (option_and_then (λ text. result_ok (w.catalogue text)) body)) }
+    ensures { (w : Readings) → AreRight w → IfOk result (λ forms.
+        forms ≡ forms_in (option_and_then (λ text. result_ok (w.catalogue text)) body)) }
 {
     let Some(body) = body else {
         return Ok(Items::new(alloc));
@@ -66,7 +68,9 @@ fn read_known<S: Alter>(
     conn: &mut Connection<S>,
 ) -> Result<(Counts, Items<Text>), Fault>
     requires { conn.old.in_transaction ≡ false }
-    ensures known { IfOk result (λ known. InHistory AreRight (λ w h. known_of (tables w h) ≡ known_by known.0 known.1) (seen_of (state S.Store conn.old)) (seen_of (state S.Store conn.new))) }
+    ensures known { IfOk result (λ known. InHistory AreRight (λ w h.
+        known_of (tables w h) ≡ known_by known.0 known.1) (seen_of (state S.Store conn.old))
+        (seen_of (state S.Store conn.new))) }
     ensures read { HasRead (state S.Store conn.old) (state S.Store conn.new) result }
     ensures mode { conn.new.in_transaction ≡ false }
 {
@@ -79,8 +83,11 @@ fn read_known<S: Alter>(
 /// The tallies of the releases, counted once from the rows of releases and duties, if these can be counted.
 fn read_tallies<S: Alter>(alloc: Global, conn: &mut Connection<S>) -> Result<Option<Tallies>, Fault>
     requires { conn.old.in_transaction ≡ false }
-    ensures kept { IfOk result (λ found. IfSome found (λ tallies. OfRows (AreKept tallies) (seen_of (state S.Store conn.old)) (seen_of (state S.Store conn.new)))) }
-    ensures none { IfOk result (λ found. IfNone found (OfRows IsUncountable (seen_of (state S.Store conn.old)) (seen_of (state S.Store conn.new)))) }
+    ensures kept { IfOk result (λ found. IfSome found (λ tallies.
+        OfRows (AreKept tallies) (seen_of (state S.Store conn.old))
+        (seen_of (state S.Store conn.new)))) }
+    ensures none { IfOk result (λ found. IfNone found
+        (OfRows IsUncountable (seen_of (state S.Store conn.old)) (seen_of (state S.Store conn.new)))) }
     ensures read { HasRead (state S.Store conn.old) (state S.Store conn.new) result }
     ensures mode { conn.new.in_transaction ≡ false }
 {
@@ -96,9 +103,14 @@ fn read_beside<S: Alter>(
     conn: &mut Connection<S>,
 ) -> Result<Option<(Counts, Items<Text>, Tallies)>, Fault>
     requires { conn.old.in_transaction ≡ false }
-    ensures known { IfOk result (λ found. IfSome found (λ beside. InHistory AreRight (λ w h. known_of (tables w h) ≡ known_by beside.0 beside.1) (seen_of (state S.Store conn.old)) (seen_of (state S.Store conn.new)))) }
-    ensures kept { IfOk result (λ found. IfSome found (λ beside. OfRows (AreKept beside.2) (seen_of (state S.Store conn.old)) (seen_of (state S.Store conn.new)))) }
-    ensures none { IfOk result (λ found. IfNone found (OfRows IsUncountable (seen_of (state S.Store conn.old)) (seen_of (state S.Store conn.new)))) }
+    ensures known { IfOk result (λ found. IfSome found (λ beside.
+        InHistory AreRight (λ w h. known_of (tables w h) ≡ known_by beside.0 beside.1)
+        (seen_of (state S.Store conn.old)) (seen_of (state S.Store conn.new)))) }
+    ensures kept { IfOk result (λ found. IfSome found (λ beside.
+        OfRows (AreKept beside.2) (seen_of (state S.Store conn.old))
+        (seen_of (state S.Store conn.new)))) }
+    ensures none { IfOk result (λ found. IfNone found
+        (OfRows IsUncountable (seen_of (state S.Store conn.old)) (seen_of (state S.Store conn.new)))) }
     ensures read { HasRead (state S.Store conn.old) (state S.Store conn.new) result }
     ensures mode { conn.new.in_transaction ≡ false }
 {
@@ -115,10 +127,16 @@ pub(crate) fn examine_desk<S: Alter>(
     conn: &mut Connection<S>,
 ) -> Result<(Counts, Items<Text>, Tallies), AdoptFault>
     requires { conn.old.in_transaction ≡ false }
-    ensures kept { IfOk result (λ beside. OfRows (AreKept beside.2) (seen_of (state S.Store conn.old)) (seen_of (state S.Store conn.new))) }
-    ensures known { IfOk result (λ known. InHistory AreRight (λ w h. known_of (tables w h) ≡ known_by known.0 known.1) (seen_of (state S.Store conn.old)) (seen_of (state S.Store conn.new))) }
-    ensures countable { IfErr result (λ fault. IsTrue (state S.Store conn.old).is_open → OfRows (λ t. IsCountable t → IsFault fault) (seen_of (state S.Store conn.old)) (seen_of (state S.Store conn.new))) }
-    ensures desk { HasCleanDisk (state S.Store conn.new) → OnOk result (IsContent (state S.Store conn.old) Content.Desk) }
+    ensures kept { IfOk result (λ beside. OfRows (AreKept beside.2) (seen_of (state S.Store conn.old))
+        (seen_of (state S.Store conn.new))) }
+    ensures known { IfOk result (λ known. InHistory AreRight (λ w h.
+        known_of (tables w h) ≡ known_by known.0 known.1) (seen_of (state S.Store conn.old))
+        (seen_of (state S.Store conn.new))) }
+    ensures countable { IfErr result (λ fault. IsTrue (state S.Store conn.old).is_open
+        → OfRows (λ t. IsCountable t → IsFault fault) (seen_of (state S.Store conn.old))
+        (seen_of (state S.Store conn.new))) }
+    ensures desk { HasCleanDisk (state S.Store conn.new)
+        → OnOk result (IsContent (state S.Store conn.old) Content.Desk) }
     ensures reason { HasCleanDisk (state S.Store conn.new) → IfErr result (IsReason (state S.Store conn.old)) }
     ensures stayed { OnOk result (HasStayed (state S.Store conn.old) (state S.Store conn.new)) }
     ensures left { IfErr result (IsLeft (state S.Store conn.old) (state S.Store conn.new)) }

@@ -55,7 +55,8 @@ impl<S: Alter> SqlDesk<S> {
     ) -> SqlDesk<S>
         requires { conn.in_transaction ≡ false }
         ensures same { result.desk.store.conn ≡ conn }
-        ensures holds { (t : Tables) → known_of t ≡ known_by counts forms → AreKept tallies t → (seen_of (state S.Store conn)).holds t → (⟦<SqlDesk<S> as Desk>⟧.seen result).holds t }
+        ensures holds { (t : Tables) → known_of t ≡ known_by counts forms → AreKept tallies t
+            → (seen_of (state S.Store conn)).holds t → (⟦<SqlDesk<S> as Desk>⟧.seen result).holds t }
     {
         let store = SqlStore::over(alloc, conn, counts, forms, tallies);
         SqlDesk {
@@ -73,10 +74,14 @@ impl<S: Alter> SqlDesk<S> {
     ) -> Result<SqlDesk<S>, (CreateFault, Connection<S>)>
         requires { conn.in_transaction ≡ false }
         ensures empty { IfOk result (λ desk. IsEmpty (⟦<SqlDesk<S> as Desk>⟧.seen desk)) }
-        ensures honest { IfOk result (λ desk. (⟦<SqlDesk<S> as Desk>⟧.seen desk).is_honest → HasCleanDisk (state S.Store conn)) }
-        ensures meta { has_meta (state S.Store conn).now.schema ≡ true → result ≡ Err (CreateFault.NotEmpty, conn) }
-        ensures not_empty { IfErr result (λ e. e.0 ≡ CreateFault.NotEmpty → has_meta (state S.Store conn).now.schema ≡ true) }
-        ensures undone { IfErr result (λ e. HasCleanDisk (state S.Store e.1) → Undone (state S.Store conn) (state S.Store e.1)) }
+        ensures honest { IfOk result (λ desk. (⟦<SqlDesk<S> as Desk>⟧.seen desk).is_honest
+            → HasCleanDisk (state S.Store conn)) }
+        ensures meta { has_meta (state S.Store conn).now.schema ≡ true
+            → result ≡ Err (CreateFault.NotEmpty, conn) }
+        ensures not_empty { IfErr result (λ e. e.0 ≡ CreateFault.NotEmpty
+            → has_meta (state S.Store conn).now.schema ≡ true) }
+        ensures undone { IfErr result (λ e. HasCleanDisk (state S.Store e.1)
+            → Undone (state S.Store conn) (state S.Store e.1)) }
         ensures survives { IfErr result (λ e. Survives (state S.Store conn) (state S.Store e.1) StandsEmpty) }
         ensures idle { IfErr result (λ e. e.1.in_transaction ≡ false) }
     {
@@ -107,12 +112,21 @@ impl<S: Alter> SqlDesk<S> {
         conn: Connection<S>,
     ) -> Result<SqlDesk<S>, (AdoptFault, Connection<S>)>
         requires { conn.in_transaction ≡ false }
-        ensures holds { IfOk result (λ desk. InHistory AreRight (λ w h. (⟦<SqlDesk<S> as Desk>⟧.seen desk).holds (tables w h)) (seen_of (state S.Store conn)) (⟦<SqlDesk<S> as Desk>⟧.seen desk)) }
-        ensures adopts { IfErr result (λ e. IsTrue (state S.Store conn).is_open → InHistory (λ w. Unit {0}) (λ w h. IsFault e.0) (seen_of (state S.Store conn)) (seen_of (state S.Store e.1))) }
-        ensures countable { IfErr result (λ e. IsTrue (state S.Store conn).is_open → OfRows (λ t. IsCountable t → IsFault e.0) (seen_of (state S.Store conn)) (seen_of (state S.Store e.1))) }
-        ensures desk { IfOk result (λ desk. HasCleanDisk (state S.Store desk.desk.store.conn) → IsContent (state S.Store conn) Content.Desk) }
-        ensures reason { IfErr result (λ e. HasCleanDisk (state S.Store e.1) → IsReason (state S.Store conn) e.0) }
-        ensures stayed { IfOk result (λ desk. HasStayed (state S.Store conn) (state S.Store desk.desk.store.conn)) }
+        ensures holds { IfOk result (λ desk. InHistory AreRight (λ w h.
+            (⟦<SqlDesk<S> as Desk>⟧.seen desk).holds (tables w h)) (seen_of (state S.Store conn))
+            (⟦<SqlDesk<S> as Desk>⟧.seen desk)) }
+        ensures adopts { IfErr result (λ e. IsTrue (state S.Store conn).is_open
+            → InHistory (λ w. Unit {0}) (λ w h.
+            IsFault e.0) (seen_of (state S.Store conn)) (seen_of (state S.Store e.1))) }
+        ensures countable { IfErr result (λ e. IsTrue (state S.Store conn).is_open
+            → OfRows (λ t. IsCountable t → IsFault e.0) (seen_of (state S.Store conn))
+            (seen_of (state S.Store e.1))) }
+        ensures desk { IfOk result (λ desk. HasCleanDisk (state S.Store desk.desk.store.conn)
+            → IsContent (state S.Store conn) Content.Desk) }
+        ensures reason { IfErr result (λ e. HasCleanDisk (state S.Store e.1)
+            → IsReason (state S.Store conn) e.0) }
+        ensures stayed { IfOk result (λ desk. HasStayed (state S.Store conn)
+            (state S.Store desk.desk.store.conn)) }
         ensures left { IfErr result (λ e. IsLeft (state S.Store conn) (state S.Store e.1) e.0) }
         ensures idle { IfErr result (λ e. e.1.in_transaction ≡ false) }
     {

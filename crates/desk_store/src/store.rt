@@ -46,7 +46,8 @@ impl<S: Alter> SqlStore<S> {
         tallies: Tallies,
     ) -> SqlStore<S>
         requires { conn.in_transaction ≡ false }
-        ensures holds { (t : Tables) → known_of t ≡ known_by counts forms → AreKept tallies t → (seen_of (state S.Store conn)).holds t → (⟦<SqlStore<S> as Store>⟧.seen result).holds t }
+        ensures holds { (t : Tables) → known_of t ≡ known_by counts forms → AreKept tallies t
+            → (seen_of (state S.Store conn)).holds t → (⟦<SqlStore<S> as Store>⟧.seen result).holds t }
         ensures same { result.conn ≡ conn }
     {
         SqlStore {
@@ -62,7 +63,8 @@ impl<S: Alter> SqlStore<S> {
     pub fn into_connection(self) -> Connection<S>
         ensures same { result ≡ self.conn }
         ensures idle { result.in_transaction ≡ false }
-        ensures holds { (t : Tables) → (⟦<SqlStore<S> as Store>⟧.seen self).holds t → (seen_of (state S.Store result)).holds t }
+        ensures holds { (t : Tables) → (⟦<SqlStore<S> as Store>⟧.seen self).holds t
+            → (seen_of (state S.Store result)).holds t }
     {
         let SqlStore {
             alloc: _,
@@ -96,7 +98,8 @@ fn place_for<S: Alter>(
     conn: &mut Connection<S>,
     change: &Change,
 ) -> Result<Option<u32>, Fault>
-    ensures found { IfOk result (λ place. OfRows (IsPlaceFor change.now place) (seen_of (state S.Store conn.old)) (seen_of (state S.Store conn.new))) }
+    ensures found { IfOk result (λ place. OfRows (IsPlaceFor change.now place)
+        (seen_of (state S.Store conn.old)) (seen_of (state S.Store conn.new))) }
     ensures kept { Looked (seen_of (state S.Store conn.old)) (seen_of (state S.Store conn.new)) result }
     ensures mode { conn.old.in_transaction ≡ false → conn.new.in_transaction ≡ false }
 {
@@ -112,9 +115,13 @@ fn place_for<S: Alter>(
 impl<S: Alter> SqlStore<S> {
     /// What a change comes to for the tallies, with room made for it.
     fn plan(&mut self, change: &Change) -> Result<Step, Fault>
-        ensures leads { IfOk result (λ step. OfRows (λ t. Ascends release_below (applied change.now t).releases → AreKept self.old.tallies t → LeadsTo step self.new.tallies (applied change.now t)) (seen_of (state S.Store self.old.conn)) (seen_of (state S.Store self.new.conn))) }
+        ensures leads { IfOk result (λ step. OfRows (λ t.
+            Ascends release_below (applied change.now t).releases → AreKept self.old.tallies t
+            → LeadsTo step self.new.tallies (applied change.now t))
+            (seen_of (state S.Store self.old.conn)) (seen_of (state S.Store self.new.conn))) }
         ensures fits { IfOk result (λ step. Fits step self.new.tallies) }
-        ensures kept { Looked (seen_of (state S.Store self.old.conn)) (seen_of (state S.Store self.new.conn)) result }
+        ensures kept { Looked (seen_of (state S.Store self.old.conn))
+            (seen_of (state S.Store self.new.conn)) result }
         ensures tallies { (t : Tables) → AreKept self.old.tallies t → AreKept self.new.tallies t }
         ensures counts { self.new.counts ≡ self.old.counts }
         ensures forms { self.new.forms ≡ self.old.forms }

@@ -35,7 +35,8 @@ const ROWS: [&str; 16] = [
 
 /// Files that are empty, and pass so many calls on.
 pub fn new_files(alloc: Global, log_calls: u64, file_calls: u64) -> Files<Failing>
-    ensures { IsTrue (⟦<Fuse<Memory> as Disk>⟧.is_usable result.log) × IsTrue (⟦<Fuse<Memory> as Disk>⟧.is_usable result.db) }
+    ensures { IsTrue (⟦<Fuse<Memory> as Disk>⟧.is_usable result.log)
+        × IsTrue (⟦<Fuse<Memory> as Disk>⟧.is_usable result.db) }
 {
     Files {
         log: Fuse::new(Memory::new(alloc), log_calls),
@@ -45,7 +46,8 @@ pub fn new_files(alloc: Global, log_calls: u64, file_calls: u64) -> Files<Failin
 
 /// The files after a crash, which refuse nothing any more.
 pub fn crashed(files: Files<Failing>) -> Files<Failing>
-    ensures { IsTrue (⟦<Fuse<Memory> as Disk>⟧.is_usable result.log) × IsTrue (⟦<Fuse<Memory> as Disk>⟧.is_usable result.db) }
+    ensures { IsTrue (⟦<Fuse<Memory> as Disk>⟧.is_usable result.log)
+        × IsTrue (⟦<Fuse<Memory> as Disk>⟧.is_usable result.db) }
 {
     let Files { mut log, mut db } = files;
     log.crash();

@@ -58,7 +58,8 @@ fn write_line<W: Write>(writer: &mut W, text: &str) -> Result<(), Failure>
 
 // Writes the reply to an outcome as a line. That memory was wanting is told without taking memory.
 fn write_reply<W: Write>(alloc: Global, outcome: &Outcome, writer: &mut W) -> Result<(), Failure>
-    ensures ok { OnOk result (Appends (W.contents writer.old) (W.contents writer.new) (outcome_line outcome.now)) }
+    ensures ok { OnOk result (Appends (W.contents writer.old) (W.contents writer.new)
+        (outcome_line outcome.now)) }
     ensures err { IfErr result IsOfOutput }
     ensures memory { IfErr result (IfMemory (Keeps (W.contents writer.old) (W.contents writer.new))) }
 {
@@ -142,7 +143,8 @@ pub fn catalogue<D: Desk, W: Write>(
 
 /// The text that bytes are, or none where they are no UTF-8.
 pub fn text_of(alloc: Global, bytes: &[u8]) -> Result<Option<Text>, AllocError>
-    ensures { IfOk result (λ found. MatchOption found (¬ (IsUtf8 bytes.now)) (λ text. (text ≡ bytes.now) × IsUtf8 bytes.now)) }
+    ensures { IfOk result (λ found. MatchOption found (¬ (IsUtf8 bytes.now)) (λ text.
+        (text ≡ bytes.now) × IsUtf8 bytes.now)) }
 {
     match str::from_utf8(bytes) {
         Ok(text) => Ok(Some(Text::of(alloc, text)?)),
@@ -152,7 +154,8 @@ pub fn text_of(alloc: Global, bytes: &[u8]) -> Result<Option<Text>, AllocError>
 
 /// Writes the reply to the loading of a catalogue that is no text: it is refused as no TOML document. It answers the program's status.
 pub fn refuse_catalogue<W: Write>(alloc: Global, writer: &mut W) -> Result<u8, Failure>
-    ensures told { IfOk result (λ status. (status ≡ 1) × Appends (W.contents writer.old) (W.contents writer.new) (outcome_line no_text)) }
+    ensures told { IfOk result (λ status. (status ≡ 1)
+        × Appends (W.contents writer.old) (W.contents writer.new) (outcome_line no_text)) }
     ensures memory { IfErr result (IfMemory (Keeps (W.contents writer.old) (W.contents writer.new))) }
 {
     let refusal = Refusal::BadCatalogue(CatalogueFault::NotToml);
@@ -161,7 +164,8 @@ pub fn refuse_catalogue<W: Write>(alloc: Global, writer: &mut W) -> Result<u8, F
 
 /// Writes why a file keeps no desk, as a line, and answers the program's status.
 pub fn refuse_database<W: Write>(reason: NoDesk, writer: &mut W) -> Result<u8, Failure>
-    ensures told { IfOk result (λ status. (status ≡ 1) × Appends (W.contents writer.old) (W.contents writer.new) (no_desk_line reason ++ 10 ∷ [])) }
+    ensures told { IfOk result (λ status. (status ≡ 1)
+        × Appends (W.contents writer.old) (W.contents writer.new) (no_desk_line reason ++ 10 ∷ [])) }
     ensures memory { IfErr result (IfMemory (Keeps (W.contents writer.old) (W.contents writer.new))) }
 {
     write_line(writer, no_desk_line(reason))?;

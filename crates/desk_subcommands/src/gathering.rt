@@ -26,8 +26,12 @@ fn gathered(
     namespace: &str,
     created: &str,
 ) -> Result<Gathering, Failure>
-    ensures ok { (r : Reader) → IsRightReader r → IfOk result (IsGathering r files.now (record { name = name.now; namespace = namespace.now; created = created.now })) }
-    ensures err { (r : Reader) → IsRightReader r → IfErr result (IfBadValue (IsUnwritable r files.now (record { name = name.now; namespace = namespace.now; created = created.now }))) }
+    ensures ok { (r : Reader) → IsRightReader r
+        → IfOk result (IsGathering r files.now
+        (record { name = name.now; namespace = namespace.now; created = created.now })) }
+    ensures err { (r : Reader) → IsRightReader r
+        → IfErr result (IfBadValue (IsUnwritable r files.now
+        (record { name = name.now; namespace = namespace.now; created = created.now }))) }
 {
     match document_of(alloc, files, name, namespace, created) {
         Ok(answer) => Ok(answer),

@@ -127,8 +127,10 @@ fn value_fault(entry: &Entry) -> Option<DocFault>
 // Adds an identifier that isn't there.
 fn add<'a>(ids: &mut BTreeSet<&'a str>, entry: &Entry<'a>) -> Result<(), DocFault>
     ensures fresh { OnOk result (has_key entry.now.value.now ids.old ≡ false) }
-    ensures added { OnOk result ((q : List ℕ) → has_key q ids.new ≡ (bytes_eq entry.now.value.now q || has_key q ids.old)) }
-    ensures err { IfErr result (λ e. (e ≡ DocFault.Memory) ⊎ ((has_key entry.now.value.now ids.old ≡ true) × (e ≡ DocFault.DuplicateId entry.now.line))) }
+    ensures added { OnOk result ((q : List ℕ) → has_key q ids.new ≡
+        (bytes_eq entry.now.value.now q || has_key q ids.old)) }
+    ensures err { IfErr result (λ e. (e ≡ DocFault.Memory)
+        ⊎ ((has_key entry.now.value.now ids.old ≡ true) × (e ≡ DocFault.DuplicateId entry.now.line))) }
 {
     match ids.insert(entry.value) {
         Ok(true) => Ok(()),
@@ -139,9 +141,13 @@ fn add<'a>(ids: &mut BTreeSet<&'a str>, entry: &Entry<'a>) -> Result<(), DocFaul
 
 // Notes what a field names.
 fn note<'a>(ids: &mut Ids<'a>, form: Option<IdForm>, entry: &Entry<'a>) -> Result<(), DocFault>
-    ensures ok { (before : List EntryText) → form ≡ names before (entry_text entry.now) → HoldsIds before ids.old → OnOk result (double_fault before (entry_text entry.now) ≡ None) }
-    ensures holds { (before : List EntryText) → form ≡ names before (entry_text entry.now) → HoldsIds before ids.old → OnOk result (HoldsIds (entry_text entry.now ∷ before) ids.new) }
-    ensures err { (before : List EntryText) → form ≡ names before (entry_text entry.now) → HoldsIds before ids.old → IfErr result (λ e. (e ≡ DocFault.Memory) ⊎ (double_fault before (entry_text entry.now) ≡ Some e)) }
+    ensures ok { (before : List EntryText) → form ≡ names before (entry_text entry.now)
+        → HoldsIds before ids.old → OnOk result (double_fault before (entry_text entry.now) ≡ None) }
+    ensures holds { (before : List EntryText) → form ≡ names before (entry_text entry.now)
+        → HoldsIds before ids.old → OnOk result (HoldsIds (entry_text entry.now ∷ before) ids.new) }
+    ensures err { (before : List EntryText) → form ≡ names before (entry_text entry.now)
+        → HoldsIds before ids.old → IfErr result (λ e. (e ≡ DocFault.Memory)
+        ⊎ (double_fault before (entry_text entry.now) ≡ Some e)) }
 {
     match form {
         None => Ok(()),
@@ -165,7 +171,8 @@ fn step<'a>(seen: &mut Seen<'a>, before: &[Entry<'a>], entry: &Entry<'a>) -> Res
     requires { Knows before.now seen.old }
     ensures ok { OnOk result (field_fault (newest before.now) (entry_text entry.now) ≡ None) }
     ensures knows { OnOk result (Knows (before.now ++ entry.now ∷ []) seen.new) }
-    ensures err { IfErr result (λ e. (e ≡ DocFault.Memory) ⊎ (field_fault (newest before.now) (entry_text entry.now) ≡ Some e)) }
+    ensures err { IfErr result (λ e. (e ≡ DocFault.Memory)
+        ⊎ (field_fault (newest before.now) (entry_text entry.now) ≡ Some e)) }
 {
     if let Some(fault) = place_fault(seen, before, entry) {
         return Err(fault);
@@ -190,7 +197,8 @@ fn step<'a>(seen: &mut Seen<'a>, before: &[Entry<'a>], entry: &Entry<'a>) -> Res
 /// Finds the first field that fails.
 pub(crate) fn check(alloc: Global, entries: &[Entry]) -> Result<(), DocFault>
     ensures ok { OnOk result (first_fault [] (map entry_text entries.now) ≡ None) }
-    ensures err { IfErr result (λ e. (e ≡ DocFault.Memory) ⊎ (first_fault [] (map entry_text entries.now) ≡ Some e)) }
+    ensures err { IfErr result (λ e. (e ≡ DocFault.Memory)
+        ⊎ (first_fault [] (map entry_text entries.now) ≡ Some e)) }
 {
     let mut seen = Seen {
         kind: SectionKind::Document,

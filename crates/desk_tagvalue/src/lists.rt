@@ -26,7 +26,8 @@ pub(crate) fn packages<'a>(
     alloc: Global,
     entries: &[Entry<'a>],
 ) -> Result<Vec<Package<'a>>, AllocError>
-    ensures { IfOk result (λ v. map package_text v.items ≡ parts_of tags.PackageName package_of (map entry_text entries.now)) }
+    ensures { IfOk result (λ v. map package_text v.items
+        ≡ parts_of tags.PackageName package_of (map entry_text entries.now)) }
 {
     let mut found = Vec::with_capacity(alloc, count_of(entries, Tag::PackageName))?;
     for (i, entry) in entries.iter().enumerate() {
@@ -42,7 +43,8 @@ pub(crate) fn files<'a>(
     alloc: Global,
     entries: &[Entry<'a>],
 ) -> Result<Vec<FileEntry<'a>>, AllocError>
-    ensures { IfOk result (λ v. map file_text v.items ≡ parts_of tags.FileName file_of (map entry_text entries.now)) }
+    ensures { IfOk result (λ v. map file_text v.items
+        ≡ parts_of tags.FileName file_of (map entry_text entries.now)) }
 {
     let mut found = Vec::with_capacity(alloc, count_of(entries, Tag::FileName))?;
     for (i, entry) in entries.iter().enumerate() {
@@ -58,7 +60,8 @@ pub(crate) fn extracted_licences<'a>(
     alloc: Global,
     entries: &[Entry<'a>],
 ) -> Result<Vec<Extracted<'a>>, AllocError>
-    ensures { IfOk result (λ v. map extracted_text v.items ≡ parts_of tags.LicenseIdentifier extracted_of (map entry_text entries.now)) }
+    ensures { IfOk result (λ v. map extracted_text v.items
+        ≡ parts_of tags.LicenseIdentifier extracted_of (map entry_text entries.now)) }
 {
     let mut found = Vec::with_capacity(alloc, count_of(entries, Tag::LicenseIdentifier))?;
     for (i, entry) in entries.iter().enumerate() {
@@ -74,7 +77,8 @@ pub(crate) fn snippets<'a>(
     alloc: Global,
     entries: &[Entry<'a>],
 ) -> Result<Vec<Snippet<'a>>, AllocError>
-    ensures { IfOk result (λ v. map snippet_text v.items ≡ parts_of tags.SnippetIdentifier snippet_of (map entry_text entries.now)) }
+    ensures { IfOk result (λ v. map snippet_text v.items
+        ≡ parts_of tags.SnippetIdentifier snippet_of (map entry_text entries.now)) }
 {
     let mut found = Vec::with_capacity(alloc, count_of(entries, Tag::SnippetIdentifier))?;
     for entry in entries {

@@ -194,7 +194,8 @@ pub(crate) fn file_of<'a>(start: &Entry<'a>, rest: &[Entry<'a>]) -> FileEntry<'a
 
 /// An extracted licence, from the field that begins it and the fields behind that.
 pub(crate) fn extracted_of<'a>(start: &Entry<'a>, rest: &[Entry<'a>]) -> Extracted<'a>
-    ensures { extracted_text result ≡ extracted_of (section_at (entry_text start.now) (map entry_text rest.now)) }
+    ensures { extracted_text result ≡ extracted_of
+        (section_at (entry_text start.now) (map entry_text rest.now)) }
 {
     Extracted {
         line: u64::from(start.line),

@@ -65,7 +65,8 @@ fn document_of<'a>(alloc: Global, entries: Vec<Entry<'a>>) -> Result<Document<'a
 // The document of these fields, or the fault for which they are none.
 fn judged<'a>(alloc: Global, entries: Vec<Entry<'a>>) -> Result<Document<'a>, DocFault>
     ensures ok { IfOk result (λ d. judged (map entry_text entries.entry.items) ≡ Ok (document_text d)) }
-    ensures err { IfErr result (λ e. (e ≡ DocFault.Memory) ⊎ (judged (map entry_text entries.entry.items) ≡ Err e)) }
+    ensures err { IfErr result (λ e. (e ≡ DocFault.Memory)
+        ⊎ (judged (map entry_text entries.entry.items) ≡ Err e)) }
 {
     match check(alloc, &entries) {
         Ok(()) => {}
@@ -99,6 +100,7 @@ pub fn read<'a>(alloc: Global, bytes: &'a [u8]) -> Result<Document<'a>, DocFault
 
 /// Bytes spell one document, or have one fault, which is never want of memory.
 pub fn one_document()
-    ensures once { (bytes : List ℕ) (a b : Result DocumentText DocFault) → Spells bytes a → Spells bytes b → a ≡ b }
+    ensures once { (bytes : List ℕ) (a b : Result DocumentText DocFault) → Spells bytes a
+        → Spells bytes b → a ≡ b }
     ensures memory { (bytes : List ℕ) → Spells bytes (Err DocFault.Memory) → ⊥ }
 {}

@@ -56,7 +56,8 @@ fn is_only(found: &[Field], tag: &str, value: &str) -> bool
 
 // Whether the text of a field is read as this one field.
 fn is_read_back(alloc: Global, spelled: &str, tag: &str, value: &str) -> Result<bool, AllocError>
-    ensures { IfOk result (λ b. IsTrue b ↔ Reads 1 (behind_mark spelled.now) (Ok (field_at 1 tag.now value.now ∷ []))) }
+    ensures { IfOk result (λ b. IsTrue b ↔ Reads 1 (behind_mark spelled.now)
+        (Ok (field_at 1 tag.now value.now ∷ []))) }
 {
     match fields(alloc, spelled) {
         Ok(found) => Ok(is_only(&found, tag, value)),
@@ -76,8 +77,11 @@ fn put_field(
     value: &str,
 ) -> Result<(), WriteFault>
     ensures ok { OnOk result (string_bytes out.new ≡ string_bytes out.old ++ spelled.now) }
-    ensures stands { OnOk result (Reads 1 (behind_mark spelled.now) (Ok (field_at 1 (tag_name tag) value.now ∷ []))) }
-    ensures err { IfErr result (λ e. (e ≡ WriteFault.Memory) ⊎ ((e ≡ WriteFault.BadValue) × (Reads 1 (behind_mark spelled.now) (Ok (field_at 1 (tag_name tag) value.now ∷ [])) → ⊥))) }
+    ensures stands { OnOk result (Reads 1 (behind_mark spelled.now)
+        (Ok (field_at 1 (tag_name tag) value.now ∷ []))) }
+    ensures err { IfErr result (λ e. (e ≡ WriteFault.Memory)
+        ⊎ ((e ≡ WriteFault.BadValue) ×
+        (Reads 1 (behind_mark spelled.now) (Ok (field_at 1 (tag_name tag) value.now ∷ [])) → ⊥))) }
 {
     match is_read_back(alloc, spelled, tag.name(), value) {
         Ok(true) => {}
@@ -94,7 +98,8 @@ fn put_field(
 fn put_one_line(alloc: Global, out: &mut String, tag: Tag, value: &str) -> Result<(), WriteFault>
     ensures ok { OnOk result (string_bytes out.new ≡ string_bytes out.old ++ spelled (one_line tag value.now)) }
     ensures stands { OnOk result (Stands (one_line tag value.now)) }
-    ensures err { IfErr result (λ e. (e ≡ WriteFault.Memory) ⊎ ((e ≡ WriteFault.BadValue) × (Stands (one_line tag value.now) → ⊥))) }
+    ensures err { IfErr result (λ e. (e ≡ WriteFault.Memory)
+        ⊎ ((e ≡ WriteFault.BadValue) × (Stands (one_line tag value.now) → ⊥))) }
 {
     let name = tag.name();
     match format!(in alloc; "{name}: {value}\n") {
@@ -107,7 +112,8 @@ fn put_one_line(alloc: Global, out: &mut String, tag: Tag, value: &str) -> Resul
 fn put_in_text(alloc: Global, out: &mut String, tag: Tag, value: &str) -> Result<(), WriteFault>
     ensures ok { OnOk result (string_bytes out.new ≡ string_bytes out.old ++ spelled (in_text tag value.now)) }
     ensures stands { OnOk result (Stands (in_text tag value.now)) }
-    ensures err { IfErr result (λ e. (e ≡ WriteFault.Memory) ⊎ ((e ≡ WriteFault.BadValue) × (Stands (in_text tag value.now) → ⊥))) }
+    ensures err { IfErr result (λ e. (e ≡ WriteFault.Memory)
+        ⊎ ((e ≡ WriteFault.BadValue) × (Stands (in_text tag value.now) → ⊥))) }
 {
     let name = tag.name();
     match format!(in alloc; "{name}: <text>{value}</text>\n") {
@@ -120,7 +126,8 @@ fn put_in_text(alloc: Global, out: &mut String, tag: Tag, value: &str) -> Result
 fn put(alloc: Global, out: &mut String, line: DraftLine) -> Result<(), WriteFault>
     ensures ok { OnOk result (string_bytes out.new ≡ string_bytes out.old ++ spelled (line_text line.entry)) }
     ensures stands { OnOk result (Stands (line_text line.entry)) }
-    ensures err { IfErr result (λ e. (e ≡ WriteFault.Memory) ⊎ ((e ≡ WriteFault.BadValue) × (Stands (line_text line.entry) → ⊥))) }
+    ensures err { IfErr result (λ e. (e ≡ WriteFault.Memory)
+        ⊎ ((e ≡ WriteFault.BadValue) × (Stands (line_text line.entry) → ⊥))) }
 {
     match line {
         DraftLine::Blank => match out.push_str("\n") {
@@ -214,9 +221,11 @@ pub fn write(alloc: Global, draft: &Draft) -> Result<String, WriteFault>
     // The text is that of the draft's lines, each of which is read back.
     ensures ok { IfOk result (λ t. Adds [] (draft_lines draft.now) (string_bytes t)) }
     // The text has the draft's fields, and no others.
-    ensures fields { IfOk result (λ t. Reads 1 (behind_mark (string_bytes t)) (Ok (fields_of_lines 1 (draft_lines draft.now)))) }
+    ensures fields { IfOk result (λ t. Reads 1 (behind_mark (string_bytes t))
+        (Ok (fields_of_lines 1 (draft_lines draft.now)))) }
     // What is read from it says what the draft says.
-    ensures read { IfOk result (λ t. length (string_bytes t) ≤ 4194304 → length draft.now.files ≤ 9999 → (x : DocumentText) × Spells (string_bytes t) (Ok x) × GivesDraft draft.now x) }
+    ensures read { IfOk result (λ t. length (string_bytes t) ≤ 4194304 → length draft.now.files ≤ 9999
+        → (x : DocumentText) × Spells (string_bytes t) (Ok x) × GivesDraft draft.now x) }
     // Memory ran out, or some value can't be read back from its field.
     ensures err { IfErr result (λ e. IsStopped (draft_lines draft.now) e) }
 {
@@ -233,5 +242,6 @@ pub fn write(alloc: Global, draft: &Draft) -> Result<String, WriteFault>
 
 /// The checksum that is written of a digest is read as its 40 digits.
 pub fn one_digest()
-    ensures { (digest : List ℕ) → length digest ≡ 20 → All (λ b. b < 256) digest → sha1_digits (codes "SHA1: " ++ encode_lower digest) ≡ Some (encode_lower digest) }
+    ensures { (digest : List ℕ) → length digest ≡ 20 → All (λ b. b < 256) digest
+        → sha1_digits (codes "SHA1: " ++ encode_lower digest) ≡ Some (encode_lower digest) }
 {}

@@ -47,7 +47,8 @@ pub(crate) fn shifts_of(
 ) -> Result<Option<Items<Shift>>, AllocError>
     ensures is { IfOk result (λ found. IfSome found (λ shifts. shifts ≡ map shift_of changes.now)) }
     ensures within { IfOk result (λ found. IfSome found (λ shifts. are_duties count shifts ≡ true)) }
-    ensures none { IfOk result (λ found. IfNone found (are_duties count (map shift_of changes.now) ≡ true → ⊥)) }
+    ensures none { IfOk result (λ found. IfNone found
+        (are_duties count (map shift_of changes.now) ≡ true → ⊥)) }
 {
     let mut shifts = Vec::with_capacity(alloc, changes.len())?;
     for change in changes {

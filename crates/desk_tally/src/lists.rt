@@ -21,9 +21,11 @@ pub(crate) fn tally_at(tallies: &[Tally], index: usize) -> Option<&Tally>
 /// Duties of the release at an index are raised.
 pub(crate) fn raise_at(tallies: &mut Vec<Tally>, index: usize, count: usize)
     requires within { index < vec_len tallies.old }
-    requires room { (tally : Tally) → slice_get tallies.old.items index ≡ Some tally → tally.raised + count ≤ 100000 }
+    requires room { (tally : Tally) → slice_get tallies.old.items index ≡ Some tally
+        → tally.raised + count ≤ 100000 }
     ensures len { vec_len tallies.new ≡ vec_len tallies.old }
-    ensures tallied { (all : List Stand) → AreTallied all tallies.old.items → AreTallied (all ++ replicate count (open_at (index + 1))) tallies.new.items }
+    ensures tallied { (all : List Stand) → AreTallied all tallies.old.items
+        → AreTallied (all ++ replicate count (open_at (index + 1))) tallies.new.items }
 {
     tallies[index].raise(count as u64);
 }
@@ -31,9 +33,12 @@ pub(crate) fn raise_at(tallies: &mut Vec<Tally>, index: usize, count: usize)
 /// A duty of the release at an index goes from one state to another.
 pub(crate) fn move_at(tallies: &mut Vec<Tally>, index: usize, from: DutyState, to: DutyState)
     requires within { index < vec_len tallies.old }
-    requires some { (tally : Tally) → slice_get tallies.old.items index ≡ Some tally → 1 ≤ number_of from (totals_in tally) }
+    requires some { (tally : Tally) → slice_get tallies.old.items index ≡ Some tally
+        → 1 ≤ number_of from (totals_in tally) }
     ensures len { vec_len tallies.new ≡ vec_len tallies.old }
-    ensures tallied { (all : List Stand) (i : ℕ) (stand : Stand) → slice_get all i ≡ Some stand → stand.place ≡ index + 1 → stand.state ≡ from → AreTallied all tallies.old.items → AreTallied (at_state i to all) tallies.new.items }
+    ensures tallied { (all : List Stand) (i : ℕ) (stand : Stand) → slice_get all i ≡ Some stand
+        → stand.place ≡ index + 1 → stand.state ≡ from → AreTallied all tallies.old.items
+        → AreTallied (at_state i to all) tallies.new.items }
 {
     tallies[index].move_one(from, to);
 }

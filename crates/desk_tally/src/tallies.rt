@@ -48,7 +48,8 @@ impl Tallies {
         places: &[u32],
         stands: Vec<Stand>,
     ) -> Result<Option<Tallies>, AllocError>
-        ensures kept { IfOk result (λ found. IfSome found (λ tallies. (t : Tables) → AreCounted places.now stands.items t → AreKept tallies t)) }
+        ensures kept { IfOk result (λ found. IfSome found (λ tallies.
+            (t : Tables) → AreCounted places.now stands.items t → AreKept tallies t)) }
         ensures none { IfOk result (λ found. IfNone found (can_count places.now stands.items ≡ false)) }
     {
         let releases = places.len();
@@ -73,7 +74,8 @@ impl Tallies {
         releases: &[ReleaseRow],
         duties: &[DutyRow],
     ) -> Result<Option<Tallies>, AllocError>
-        ensures kept { IfOk result (λ found. IfSome found (λ tallies. (t : Tables) → releases.now ≡ t.releases → duties.now ≡ t.duty → AreKept tallies t)) }
+        ensures kept { IfOk result (λ found. IfSome found (λ tallies.
+            (t : Tables) → releases.now ≡ t.releases → duties.now ≡ t.duty → AreKept tallies t)) }
         ensures none { IfOk result (λ found. IfNone found (are_countable releases.now duties.now ≡ false)) }
     {
         if !are_numbered(duties) {
@@ -86,7 +88,9 @@ impl Tallies {
 
     /// How many duties of the release at a place stand where, if there is one.
     pub fn totals(&self, place: u32) -> Option<Totals>
-        ensures { (t : Tables) (name : List ℕ) → AreKept self.now t → place_found t.releases name ≡ Some place → result ≡ Some (totals_of (filter (is_duty_of name) t.duty)) }
+        ensures { (t : Tables) (name : List ℕ) → AreKept self.now t
+            → place_found t.releases name ≡ Some place
+            → result ≡ Some (totals_of (filter (is_duty_of name) t.duty)) }
     {
         if place == 0 {
             return None;
@@ -112,8 +116,11 @@ impl Tallies {
         ensures stands { self.new.stands.items ≡ self.old.stands.items }
         ensures tallies { self.new.tallies.items ≡ self.old.tallies.items }
         ensures fits { IfOk result (λ found. IfSome found (λ step. Fits step self.new)) }
-        ensures step { IfOk result (λ found. IfSome found (λ step. IsStep (Change.Opened row.now) None (length self.old.tallies.items) self.old.stands.items step)) }
-        ensures none { IfOk result (λ found. IfNone found (row.now.place ≡ length self.old.tallies.items + 1 → ⊥)) }
+        ensures step { IfOk result (λ found. IfSome found (λ step.
+            IsStep (Change.Opened row.now) None
+            (length self.old.tallies.items) self.old.stands.items step)) }
+        ensures none { IfOk result (λ found. IfNone found
+            (row.now.place ≡ length self.old.tallies.items + 1 → ⊥)) }
     {
         if row.place as usize != self.tallies.len() + 1 {
             return Ok(None);
@@ -132,8 +139,11 @@ impl Tallies {
         ensures stands { self.new.stands.items ≡ self.old.stands.items }
         ensures tallies { self.new.tallies.items ≡ self.old.tallies.items }
         ensures fits { IfOk result (λ found. IfSome found (λ step. Fits step self.new)) }
-        ensures step { IfOk result (λ found. IfSome found (λ step. IsRaise release.now duties.now place self.old.stands.items step)) }
-        ensures none { IfOk result (λ found. IfNone found (CanRaise release.now duties.now place (length self.old.tallies.items) self.old.stands.items → ⊥)) }
+        ensures step { IfOk result (λ found. IfSome found (λ step.
+            IsRaise release.now duties.now place self.old.stands.items step)) }
+        ensures none { IfOk result (λ found. IfNone found
+            (CanRaise release.now duties.now place
+            (length self.old.tallies.items) self.old.stands.items → ⊥)) }
     {
         let Some(place) = place else {
             return Ok(None);
@@ -157,8 +167,10 @@ impl Tallies {
     /// The step of duties that move.
     fn plan_move(&self, changes: &[ChangeRow]) -> Result<Option<Step>, AllocError>
         ensures fits { IfOk result (λ found. IfSome found (λ step. Fits step self.now)) }
-        ensures step { IfOk result (λ found. IfSome found (λ step. IsMove changes.now self.now.stands.items step)) }
-        ensures none { IfOk result (λ found. IfNone found (are_duties (length self.now.stands.items) (map shift_of changes.now) ≡ true → ⊥)) }
+        ensures step { IfOk result (λ found. IfSome found (λ step.
+            IsMove changes.now self.now.stands.items step)) }
+        ensures none { IfOk result (λ found. IfNone found
+            (are_duties (length self.now.stands.items) (map shift_of changes.now) ≡ true → ⊥)) }
     {
         match shifts_of(self.alloc, self.stands.len(), changes)? {
             Some(shifts) => Ok(Some(Step::Move(shifts))),
@@ -171,8 +183,10 @@ impl Tallies {
         ensures stands { self.new.stands.items ≡ self.old.stands.items }
         ensures tallies { self.new.tallies.items ≡ self.old.tallies.items }
         ensures fits { IfOk result (λ found. IfSome found (λ step. Fits step self.new)) }
-        ensures step { IfOk result (λ found. IfSome found (λ step. IsStep change.now place (length self.old.tallies.items) self.old.stands.items step)) }
-        ensures none { IfOk result (λ found. IfNone found (HasStep change.now place (length self.old.tallies.items) self.old.stands.items → ⊥)) }
+        ensures step { IfOk result (λ found. IfSome found (λ step.
+            IsStep change.now place (length self.old.tallies.items) self.old.stands.items step)) }
+        ensures none { IfOk result (λ found. IfNone found
+            (HasStep change.now place (length self.old.tallies.items) self.old.stands.items → ⊥)) }
     {
         match change {
             Change::Opened(row) => self.plan_open(row),
@@ -194,7 +208,10 @@ impl Tallies {
     pub fn plan(&mut self, change: &Change, place: Option<u32>) -> Result<Option<Step>, AllocError>
         ensures kept { (t : Tables) → AreKept self.old t → AreKept self.new t }
         ensures fits { IfOk result (λ found. IfSome found (λ step. Fits step self.new)) }
-        ensures leads { IfOk result (λ found. IfSome found (λ step. (t : Tables) → Ascends release_below (applied change.now t).releases → IsPlaceFor change.now place t → AreKept self.old t → LeadsTo step self.new (applied change.now t))) }
+        ensures leads { IfOk result (λ found. IfSome found (λ step.
+            (t : Tables) → Ascends release_below (applied change.now t).releases
+            → IsPlaceFor change.now place t → AreKept self.old t
+            → LeadsTo step self.new (applied change.now t))) }
         ensures none { IfOk result (λ found. IfNone found (IsAstray change.now place self.old)) }
     {
         self.step_of(change, place)

@@ -51,10 +51,12 @@ impl Tally {
     pub fn move_one(&mut self, from: DutyState, to: DutyState)
         requires { 1 ≤ number_of from (totals_in self.old) }
         ensures raised { self.new.raised ≡ self.old.raised }
-        ensures still_open { self.new.still_open + one_if (is_open from) ≡ self.old.still_open + one_if (is_open to) }
+        ensures still_open { self.new.still_open + one_if (is_open from)
+            ≡ self.old.still_open + one_if (is_open to) }
         ensures met { self.new.met + one_if (is_met from) ≡ self.old.met + one_if (is_met to) }
         ensures waived { self.new.waived + one_if (is_waived from) ≡ self.old.waived + one_if (is_waived to) }
-        ensures withdrawn { self.new.withdrawn + one_if (is_withdrawn from) ≡ self.old.withdrawn + one_if (is_withdrawn to) }
+        ensures withdrawn { self.new.withdrawn + one_if (is_withdrawn from)
+            ≡ self.old.withdrawn + one_if (is_withdrawn to) }
     {
         match from {
             DutyState::IsOpen => self.still_open -= 1,

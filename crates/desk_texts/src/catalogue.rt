@@ -14,7 +14,8 @@ pub(crate) fn read_catalogue(
     alloc: Global,
     text: &str,
 ) -> Result<Result<Catalogue, CatalogueFault>, AllocError>
-    ensures { (terms : List ℕ → Option (List ℕ)) → ReadsTerms terms → IfOk result (λ read. read ≡ kept_catalogue (catalogue_of terms text.now)) }
+    ensures { (terms : List ℕ → Option (List ℕ)) → ReadsTerms terms
+        → IfOk result (λ read. read ≡ kept_catalogue (catalogue_of terms text.now)) }
 {
     match desk_catalogue::Catalogue::read(alloc, text) {
         Ok(read) => {

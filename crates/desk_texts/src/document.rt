@@ -104,7 +104,8 @@ fn shipments<'s, 'a>(
     packages: &'s [desk_tagvalue::Package<'a>],
     marks: &[bool],
 ) -> Result<Vec<Shipment<'s, 'a>>, AllocError>
-    ensures { IfOk result (λ found. map shipment_text found.items ≡ marked (map package_text packages.now) marks.now) }
+    ensures { IfOk result (λ found. map shipment_text found.items
+        ≡ marked (map package_text packages.now) marks.now) }
 {
     let mut found = Vec::with_capacity(alloc, packages.len())?;
     let mut rest = marks;
@@ -117,7 +118,8 @@ fn shipments<'s, 'a>(
 }
 
 fn packages_of(alloc: Global, shipments: &[Shipment<'_, '_>]) -> Result<Items<Package>, AllocError>
-    ensures { IfOk result (λ kept. kept ≡ map package_of (sorted_by (λ m. m.0.id) (map shipment_text shipments.now))) }
+    ensures { IfOk result (λ kept. kept ≡ map package_of (sorted_by (λ m.
+        m.0.id) (map shipment_text shipments.now))) }
 {
     let sorted = sorted_by(alloc, shipments)?;
     let kept = package_copies(alloc, sorted)?;
@@ -128,7 +130,8 @@ fn reference_copies(
     alloc: Global,
     extracted: VecDeque<&Extracted<'_>>,
 ) -> Result<Items<Reference>, AllocError>
-    ensures { IfOk result (λ kept. kept ≡ map (λ x. reference_of (extracted_text x.now)) extracted.entry.items) }
+    ensures { IfOk result (λ kept. kept ≡ map (λ x.
+        reference_of (extracted_text x.now)) extracted.entry.items) }
 {
     let mut kept = Vec::with_capacity(alloc, extracted.len())?;
     for one in extracted {
@@ -138,7 +141,8 @@ fn reference_copies(
 }
 
 fn references_of(alloc: Global, extracted: &[Extracted<'_>]) -> Result<Items<Reference>, AllocError>
-    ensures { IfOk result (λ kept. kept ≡ map reference_of (sorted_by (λ x. x.id) (map extracted_text extracted.now))) }
+    ensures { IfOk result (λ kept. kept ≡ map reference_of (sorted_by (λ x.
+        x.id) (map extracted_text extracted.now))) }
 {
     let sorted = sorted_by(alloc, extracted)?;
     let kept = reference_copies(alloc, sorted)?;
@@ -149,7 +153,9 @@ fn document_of(
     alloc: Global,
     document: &desk_tagvalue::Document<'_>,
 ) -> Result<Document, AllocError>
-    ensures { IfOk result (λ kept. (marks : List Bool) × AreShippingMarks (document_text document.now) marks × (kept ≡ document_of marks (document_text document.now))) }
+    ensures { IfOk result (λ kept. (marks : List Bool)
+        × AreShippingMarks (document_text document.now) marks
+        × (kept ≡ document_of marks (document_text document.now))) }
 {
     let marks = ships(alloc, document)?;
     let shipments = shipments(alloc, document.packages.as_slice(), marks.as_slice())?;
@@ -199,7 +205,8 @@ pub(crate) fn read_document(
     alloc: Global,
     bytes: &[u8],
 ) -> Result<Result<Document, DocumentFault>, AllocError>
-    ensures { IfOk result (λ answer. (read : Result DocumentText DocFault) × Spells bytes.now read × Keeps read answer) }
+    ensures { IfOk result (λ answer. (read : Result DocumentText DocFault) × Spells bytes.now read
+        × Keeps read answer) }
 {
     match read(alloc, bytes) {
         Ok(document) => Ok(Ok(document_of(alloc, &document)?)),

@@ -38,7 +38,8 @@ pub(crate) fn read_findings(
     bytes: &[u8],
     profile: Profile,
 ) -> Result<Items<FindingRow>, AllocError>
-    ensures { IfOk result (λ rows. (read : Result DocumentText DocFault) × Spells bytes.now read × Finds profile read rows) }
+    ensures { IfOk result (λ rows. (read : Result DocumentText DocFault) × Spells bytes.now read
+        × Finds profile read rows) }
 {
     match read(alloc, bytes) {
         Ok(document) => {

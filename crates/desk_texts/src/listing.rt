@@ -123,7 +123,9 @@ pub(crate) fn cheapest(
     profile: Profile,
     costs: &[Option<u64>],
 ) -> Result<Result<Option<Cheapest>, ListFault>, AllocError>
-    ensures { (cost : List ℕ → Option ℕ) → IsCost cost → ((terms : List (List ℕ)) → HasTerms profile text.now terms → costs.now ≡ map cost terms) → IfOk result (Prices profile text.now cost) }
+    ensures { (cost : List ℕ → Option ℕ) → IsCost cost
+        → ((terms : List (List ℕ)) → HasTerms profile text.now terms → costs.now ≡ map cost terms)
+        → IfOk result (Prices profile text.now cost) }
 {
     let Some(expr) = read_expression(alloc, text, profile)? else {
         return Ok(Ok(None));

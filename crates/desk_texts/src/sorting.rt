@@ -54,7 +54,8 @@ fn is_new<P: Identified>(sorted: &VecDeque<&P>, place: usize, id: &str) -> bool
 
 fn put_by<'s, P: Identified>(sorted: &mut VecDeque<&'s P>, part: &'s P) -> Result<(), AllocError>
     requires { Rises (map (λ p. P.id_of p.now) sorted.old.items) }
-    ensures items { OnOk result (map (λ p. p.now) sorted.new.items ≡ put_by P.id_of part.now (map (λ p. p.now) sorted.old.items)) }
+    ensures items { OnOk result (map (λ p. p.now) sorted.new.items
+        ≡ put_by P.id_of part.now (map (λ p. p.now) sorted.old.items)) }
     ensures rises { OnOk result (Rises (map (λ p. P.id_of p.now) sorted.new.items)) }
 {
     let id = part.id();

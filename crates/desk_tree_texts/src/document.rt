@@ -35,14 +35,17 @@ pub enum Gathering {
 
 // The line of a bad annotation.
 fn annotation_line(alloc: Global, file: &str, index: usize, kind: u8) -> Result<String, AllocError>
-    ensures { IfOk result (λ text. string_bytes text ≡ codes "fault: BadAnnotation " ++ (file.now ++ (codes " " ++ (decimal index ++ (codes " " ++ (decimal kind ++ codes "\n")))))) }
+    ensures { IfOk result (λ text. string_bytes text
+        ≡ codes "fault: BadAnnotation " ++
+        (file.now ++ (codes " " ++ (decimal index ++ (codes " " ++ (decimal kind ++ codes "\n")))))) }
 {
     format!(in alloc; "fault: BadAnnotation {file} {index} {kind}\n")
 }
 
 // The line of a bad expression.
 fn expression_line(alloc: Global, file: &str, line: u64) -> Result<String, AllocError>
-    ensures { IfOk result (λ text. string_bytes text ≡ codes "fault: BadExpression " ++ (file.now ++ (codes " " ++ (decimal line ++ codes "\n")))) }
+    ensures { IfOk result (λ text. string_bytes text
+        ≡ codes "fault: BadExpression " ++ (file.now ++ (codes " " ++ (decimal line ++ codes "\n")))) }
 {
     format!(in alloc; "fault: BadExpression {file} {line}\n")
 }
@@ -94,7 +97,8 @@ impl Gathering {
 fn text_of(alloc: Global, draft: &Draft) -> Result<String, TextFault>
     ensures ok { IfOk result (λ text. Adds [] (draft_lines draft.now) (string_bytes text)) }
     ensures read { IfOk result (λ text. IsReadBack draft.now (string_bytes text)) }
-    ensures err { IfErr result (λ fault. (fault ≡ TextFault.BadValue) → All Stands (draft_lines draft.now) → ⊥) }
+    ensures err { IfErr result (λ fault. (fault ≡ TextFault.BadValue)
+        → All Stands (draft_lines draft.now) → ⊥) }
 {
     match write(alloc, draft) {
         Ok(text) => Ok(text),
@@ -113,8 +117,12 @@ pub fn document_of(
     namespace: &str,
     created: &str,
 ) -> Result<Gathering, TextFault>
-    ensures ok { (r : Reader) → IsRightReader r → IfOk result (IsGathering r files.now (record { name = name.now; namespace = namespace.now; created = created.now })) }
-    ensures err { (r : Reader) → IsRightReader r → IfErr result (MayFail r files.now (record { name = name.now; namespace = namespace.now; created = created.now })) }
+    ensures ok { (r : Reader) → IsRightReader r
+        → IfOk result (IsGathering r files.now
+        (record { name = name.now; namespace = namespace.now; created = created.now })) }
+    ensures err { (r : Reader) → IsRightReader r
+        → IfErr result (MayFail r files.now
+        (record { name = name.now; namespace = namespace.now; created = created.now })) }
 {
     match draft(alloc, files, name, namespace, created) {
         Ok(draft) => Ok(Gathering::Document(text_of(alloc, &draft)?)),

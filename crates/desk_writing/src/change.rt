@@ -35,7 +35,9 @@ pub(crate) fn load<S: Alter>(
     rules: &[RuleRow],
 ) -> Result<(), Fault>
     ensures same_reference { tx.new.conn.ghost_name ≡ tx.old.conn.ghost_name }
-    ensures wrote { Writes cells_of (with_tables (λ t. record t { catalogue = t.catalogue ++ row.now ∷ []; rule = t.rule ++ rules.now })) (state S.Store tx.old.conn.now) (state S.Store tx.new.conn.now) result }
+    ensures wrote { Writes cells_of (with_tables (λ t.
+        record t { catalogue = t.catalogue ++ row.now ∷ []; rule = t.rule ++ rules.now }))
+        (state S.Store tx.old.conn.now) (state S.Store tx.new.conn.now) result }
     ensures survives { Survives (state S.Store tx.old.conn.now) (state S.Store tx.new.conn.now) (λ _. ⊥) }
 {
     add_revision(tx, row)?;
@@ -48,7 +50,8 @@ pub(crate) fn add_read_document<S: Alter>(
     row: &DocumentRow,
 ) -> Result<(), Fault>
     ensures same_reference { tx.new.conn.ghost_name ≡ tx.old.conn.ghost_name }
-    ensures wrote { Writes cells_of (with_document row.now) (state S.Store tx.old.conn.now) (state S.Store tx.new.conn.now) result }
+    ensures wrote { Writes cells_of (with_document row.now) (state S.Store tx.old.conn.now)
+        (state S.Store tx.new.conn.now) result }
     ensures survives { Survives (state S.Store tx.old.conn.now) (state S.Store tx.new.conn.now) (λ _. ⊥) }
 {
     add_document(tx, row)?;
@@ -62,7 +65,9 @@ pub(crate) fn add_parts<S: Alter>(
     references: &[ExtractedRow],
 ) -> Result<(), Fault>
     ensures same_reference { tx.new.conn.ghost_name ≡ tx.old.conn.ghost_name }
-    ensures wrote { Writes cells_of (with_tables (λ t. record t { packages = t.packages ++ packages.now; extracted = t.extracted ++ references.now })) (state S.Store tx.old.conn.now) (state S.Store tx.new.conn.now) result }
+    ensures wrote { Writes cells_of (with_tables (λ t.
+        record t { packages = t.packages ++ packages.now; extracted = t.extracted ++ references.now }))
+        (state S.Store tx.old.conn.now) (state S.Store tx.new.conn.now) result }
     ensures survives { Survives (state S.Store tx.old.conn.now) (state S.Store tx.new.conn.now) (λ _. ⊥) }
 {
     add_packages(tx, packages)?;
@@ -77,7 +82,10 @@ pub(crate) fn import<S: Alter>(
     references: &[ExtractedRow],
 ) -> Result<(), Fault>
     ensures same_reference { tx.new.conn.ghost_name ≡ tx.old.conn.ghost_name }
-    ensures wrote { Writes cells_of (λ it. with_tables (λ t. record t { packages = t.packages ++ packages.now; extracted = t.extracted ++ references.now }) (with_document row.now it)) (state S.Store tx.old.conn.now) (state S.Store tx.new.conn.now) result }
+    ensures wrote { Writes cells_of (λ it. with_tables (λ t.
+        record t { packages = t.packages ++ packages.now; extracted = t.extracted ++ references.now })
+        (with_document row.now it))
+        (state S.Store tx.old.conn.now) (state S.Store tx.new.conn.now) result }
     ensures survives { Survives (state S.Store tx.old.conn.now) (state S.Store tx.new.conn.now) (λ _. ⊥) }
 {
     add_read_document(tx, row)?;
@@ -93,7 +101,12 @@ pub(crate) fn choose<S: Alter>(
     rows: &[ChoiceRow],
 ) -> Result<(), Fault>
     ensures same_reference { tx.new.conn.ghost_name ≡ tx.old.conn.ghost_name }
-    ensures wrote { Writes cells_of (with_tables (λ t. record t { choice = filter (is_other_choice release.now document package_id.now) t.choice ++ rows.now })) (state S.Store tx.old.conn.now) (state S.Store tx.new.conn.now) result }
+    ensures wrote { Writes cells_of (with_tables (λ t.
+        record t {
+          choice =
+              filter (is_other_choice release.now document package_id.now) t.choice ++ rows.now;
+        }))
+        (state S.Store tx.old.conn.now) (state S.Store tx.new.conn.now) result }
     ensures survives { Survives (state S.Store tx.old.conn.now) (state S.Store tx.new.conn.now) (λ _. ⊥) }
 {
     drop_choices(tx, release, document, package_id)?;
@@ -106,7 +119,13 @@ pub(crate) fn conclude<S: Alter>(
     row: &ConclusionRow,
 ) -> Result<(), Fault>
     ensures same_reference { tx.new.conn.ghost_name ≡ tx.old.conn.ghost_name }
-    ensures wrote { Writes cells_of (with_tables (λ t. record t { conclusion = filter (λ other. not (is_conclusion row.now.document row.now.package_id other)) t.conclusion ++ row.now ∷ [] })) (state S.Store tx.old.conn.now) (state S.Store tx.new.conn.now) result }
+    ensures wrote { Writes cells_of (with_tables (λ t.
+        record t {
+          conclusion =
+              filter (λ other. not (is_conclusion row.now.document row.now.package_id other)) t.conclusion
+              ++ row.now ∷ [];
+        }))
+        (state S.Store tx.old.conn.now) (state S.Store tx.new.conn.now) result }
     ensures survives { Survives (state S.Store tx.old.conn.now) (state S.Store tx.new.conn.now) (λ _. ⊥) }
 {
     drop_conclusion(tx, row.document, &row.package_id)?;
@@ -116,7 +135,13 @@ pub(crate) fn conclude<S: Alter>(
 /// A licence takes the place of an earlier one.
 pub(crate) fn adopt<S: Alter>(tx: &mut Transaction<'_, S>, row: &AdoptionRow) -> Result<(), Fault>
     ensures same_reference { tx.new.conn.ghost_name ≡ tx.old.conn.ghost_name }
-    ensures wrote { Writes cells_of (with_tables (λ t. record t { adoption = filter (λ other. not (is_adoption row.now.document row.now.reference other)) t.adoption ++ row.now ∷ [] })) (state S.Store tx.old.conn.now) (state S.Store tx.new.conn.now) result }
+    ensures wrote { Writes cells_of (with_tables (λ t.
+        record t {
+          adoption =
+              filter (λ other. not (is_adoption row.now.document row.now.reference other)) t.adoption
+              ++ row.now ∷ [];
+        }))
+        (state S.Store tx.old.conn.now) (state S.Store tx.new.conn.now) result }
     ensures survives { Survives (state S.Store tx.old.conn.now) (state S.Store tx.new.conn.now) (λ _. ⊥) }
 {
     drop_adoption(tx, row.document, &row.reference)?;
@@ -131,7 +156,9 @@ pub(crate) fn raise<S: Alter>(
     changes: &[ChangeRow],
 ) -> Result<(), Fault>
     ensures same_reference { tx.new.conn.ghost_name ≡ tx.old.conn.ghost_name }
-    ensures wrote { Writes cells_of (λ it. with_steps changes.now (with_tables (λ t. record t { duty = t.duty ++ duties.now }) it)) (state S.Store tx.old.conn.now) (state S.Store tx.new.conn.now) result }
+    ensures wrote { Writes cells_of (λ it. with_steps changes.now
+        (with_tables (λ t. record t { duty = t.duty ++ duties.now }) it))
+        (state S.Store tx.old.conn.now) (state S.Store tx.new.conn.now) result }
     ensures survives { Survives (state S.Store tx.old.conn.now) (state S.Store tx.new.conn.now) (λ _. ⊥) }
 {
     add_duties(alloc, tx, duties)?;
@@ -147,7 +174,10 @@ pub(crate) fn add_terms<S: Alter>(
     changes: &[ChangeRow],
 ) -> Result<(), Fault>
     ensures same_reference { tx.new.conn.ghost_name ≡ tx.old.conn.ghost_name }
-    ensures wrote { Writes cells_of (λ it. with_steps changes.now (with_tables (λ t. record t { frozen = t.frozen ++ frozen.now; duty = t.duty ++ duties.now }) it)) (state S.Store tx.old.conn.now) (state S.Store tx.new.conn.now) result }
+    ensures wrote { Writes cells_of (λ it. with_steps changes.now
+        (with_tables (λ t.
+        record t { frozen = t.frozen ++ frozen.now; duty = t.duty ++ duties.now }) it))
+        (state S.Store tx.old.conn.now) (state S.Store tx.new.conn.now) result }
     ensures survives { Survives (state S.Store tx.old.conn.now) (state S.Store tx.new.conn.now) (λ _. ⊥) }
 {
     add_frozen_terms(tx, frozen)?;
@@ -165,7 +195,13 @@ pub(crate) fn freeze<S: Alter>(
     changes: &[ChangeRow],
 ) -> Result<(), Fault>
     ensures same_reference { tx.new.conn.ghost_name ≡ tx.old.conn.ghost_name }
-    ensures wrote { Writes cells_of (λ it. with_steps changes.now (with_tables (λ t. record t { releases = updated (is_release release.now) (with_release_state Frozen revision) t.releases; frozen = t.frozen ++ frozen.now; duty = t.duty ++ duties.now }) it)) (state S.Store tx.old.conn.now) (state S.Store tx.new.conn.now) result }
+    ensures wrote { Writes cells_of (λ it. with_steps changes.now
+        (with_tables (λ t. record t {
+          releases = updated (is_release release.now) (with_release_state Frozen revision) t.releases;
+          frozen = t.frozen ++ frozen.now;
+          duty = t.duty ++ duties.now;
+        }) it))
+        (state S.Store tx.old.conn.now) (state S.Store tx.new.conn.now) result }
     ensures survives { Survives (state S.Store tx.old.conn.now) (state S.Store tx.new.conn.now) (λ _. ⊥) }
 {
     freeze_release(tx, release, revision)?;
@@ -179,7 +215,9 @@ pub(crate) fn move_duties<S: Alter>(
     changes: &[ChangeRow],
 ) -> Result<(), Fault>
     ensures same_reference { tx.new.conn.ghost_name ≡ tx.old.conn.ghost_name }
-    ensures wrote { Writes cells_of (λ it. with_steps changes.now (with_tables (λ t. record t { duty = moved_by changes.now t.duty }) it)) (state S.Store tx.old.conn.now) (state S.Store tx.new.conn.now) result }
+    ensures wrote { Writes cells_of (λ it. with_steps changes.now
+        (with_tables (λ t. record t { duty = moved_by changes.now t.duty }) it))
+        (state S.Store tx.old.conn.now) (state S.Store tx.new.conn.now) result }
     ensures survives { Survives (state S.Store tx.old.conn.now) (state S.Store tx.new.conn.now) (λ _. ⊥) }
 {
     set_duties(tx, changes)?;
@@ -194,7 +232,13 @@ pub(crate) fn clear<S: Alter>(
     changes: &[ChangeRow],
 ) -> Result<(), Fault>
     ensures same_reference { tx.new.conn.ghost_name ≡ tx.old.conn.ghost_name }
-    ensures wrote { Writes cells_of (λ it. with_steps changes.now (with_tables (λ t. record t { choice = filter (is_choice_elsewhere release.now) t.choice; duty = moved_by changes.now t.duty }) it)) (state S.Store tx.old.conn.now) (state S.Store tx.new.conn.now) result }
+    ensures wrote { Writes cells_of (λ it. with_steps changes.now
+        (with_tables (λ t. record t {
+          choice = filter
+              (is_choice_elsewhere release.now) t.choice;
+          duty = moved_by changes.now t.duty;
+        }) it))
+        (state S.Store tx.old.conn.now) (state S.Store tx.new.conn.now) result }
     ensures survives { Survives (state S.Store tx.old.conn.now) (state S.Store tx.new.conn.now) (λ _. ⊥) }
 {
     drop_choices_in(tx, release)?;
@@ -209,7 +253,15 @@ pub(crate) fn withdraw<S: Alter>(
     changes: &[ChangeRow],
 ) -> Result<(), Fault>
     ensures same_reference { tx.new.conn.ghost_name ≡ tx.old.conn.ghost_name }
-    ensures wrote { Writes cells_of (λ it. with_steps changes.now (with_tables (λ t. record t { releases = updated (is_release release.now) withdrawn_release t.releases; choice = filter (is_choice_elsewhere release.now) t.choice; duty = moved_by changes.now t.duty }) it)) (state S.Store tx.old.conn.now) (state S.Store tx.new.conn.now) result }
+    ensures wrote { Writes cells_of (λ it. with_steps changes.now
+        (with_tables (λ t. record t {
+          releases = updated
+              (is_release release.now) withdrawn_release t.releases;
+          choice = filter
+              (is_choice_elsewhere release.now) t.choice;
+          duty = moved_by changes.now t.duty;
+        }) it))
+        (state S.Store tx.old.conn.now) (state S.Store tx.new.conn.now) result }
     ensures survives { Survives (state S.Store tx.old.conn.now) (state S.Store tx.new.conn.now) (λ _. ⊥) }
 {
     withdraw_release(tx, release)?;
@@ -223,7 +275,8 @@ pub(crate) fn make<S: Alter>(
     change: &Change,
 ) -> Result<(), Fault>
     ensures same_reference { tx.new.conn.ghost_name ≡ tx.old.conn.ghost_name }
-    ensures wrote { Writes rows_of (applied change.now) (state S.Store tx.old.conn.now) (state S.Store tx.new.conn.now) result }
+    ensures wrote { Writes rows_of (applied change.now) (state S.Store tx.old.conn.now)
+        (state S.Store tx.new.conn.now) result }
     ensures survives { Survives (state S.Store tx.old.conn.now) (state S.Store tx.new.conn.now) (λ _. ⊥) }
 {
     match change {

@@ -55,7 +55,8 @@ fn text_at<'t>(texts: &[&'t str], place: usize) -> &'t str
 /// Declares tables, one after another.
 fn declare<S: Alter>(tx: &mut Transaction<'_, S>, texts: &[&str]) -> Result<(), Fault>
     ensures same_reference { tx.new.conn.ghost_name ≡ tx.old.conn.ghost_name }
-    ensures declared { HasDeclared (map (λ text. text.now) texts.now) (state S.Store tx.old.conn.now) (state S.Store tx.new.conn.now) result }
+    ensures declared { HasDeclared (map (λ text. text.now) texts.now) (state S.Store tx.old.conn.now)
+        (state S.Store tx.new.conn.now) result }
     ensures survives { Survives (state S.Store tx.old.conn.now) (state S.Store tx.new.conn.now) (λ _. ⊥) }
 {
     for place in 0..texts.len() {
@@ -77,11 +78,15 @@ fn found<S: Alter>(tx: &mut Transaction<'_, S>) -> Result<(), Fault>
 /// Creates the tables in one transaction.
 fn write<S: Alter>(conn: &mut Connection<S>) -> Result<(), Fault>
     requires { conn.old.in_transaction ≡ false }
-    ensures ok { HasCleanDisk (state S.Store conn.new) → OnOk result (Created (state S.Store conn.old) (state S.Store conn.new)) }
-    ensures err { HasCleanDisk (state S.Store conn.new) → OnErr result (Undone (state S.Store conn.old) (state S.Store conn.new)) }
+    ensures ok { HasCleanDisk (state S.Store conn.new)
+        → OnOk result (Created (state S.Store conn.old) (state S.Store conn.new)) }
+    ensures err { HasCleanDisk (state S.Store conn.new)
+        → OnErr result (Undone (state S.Store conn.old) (state S.Store conn.new)) }
     ensures mode { conn.new.in_transaction ≡ false }
-    ensures crash { Survives (state S.Store conn.old) (state S.Store conn.new) (LeavesTables (state S.Store conn.old)) }
-    ensures stop { IsTrue (state S.Store conn.new).is_open → (trees : _) → (state S.Store conn.new).may_leave trees → trees ≡ (state S.Store conn.new).committed.trees }
+    ensures crash { Survives (state S.Store conn.old) (state S.Store conn.new)
+        (LeavesTables (state S.Store conn.old)) }
+    ensures stop { IsTrue (state S.Store conn.new).is_open → (trees : _)
+        → (state S.Store conn.new).may_leave trees → trees ≡ (state S.Store conn.new).committed.trees }
 {
     let mut tx = conn.transaction();
     found(&mut tx)?;
@@ -114,13 +119,19 @@ fn is_blank(schema: &Schema) -> bool
 /// fault the tables are as they were.
 pub fn create_tables<S: Alter>(conn: &mut Connection<S>) -> Result<(), Refused>
     requires { conn.old.in_transaction ≡ false }
-    ensures ok { HasCleanDisk (state S.Store conn.new) → OnOk result (Founded (state S.Store conn.old) (state S.Store conn.new)) }
-    ensures not_empty { IfErr result (λ refused. refused ≡ Refused.NotEmpty → has_meta (state S.Store conn.old).now.schema ≡ true) }
-    ensures meta { has_meta (state S.Store conn.old).now.schema ≡ true → (result ≡ Err Refused.NotEmpty) × (conn.new ≡ conn.old) }
-    ensures err { HasCleanDisk (state S.Store conn.new) → OnErr result (Undone (state S.Store conn.old) (state S.Store conn.new)) }
+    ensures ok { HasCleanDisk (state S.Store conn.new)
+        → OnOk result (Founded (state S.Store conn.old) (state S.Store conn.new)) }
+    ensures not_empty { IfErr result (λ refused. refused ≡ Refused.NotEmpty
+        → has_meta (state S.Store conn.old).now.schema ≡ true) }
+    ensures meta { has_meta (state S.Store conn.old).now.schema ≡ true
+        → (result ≡ Err Refused.NotEmpty) × (conn.new ≡ conn.old) }
+    ensures err { HasCleanDisk (state S.Store conn.new)
+        → OnErr result (Undone (state S.Store conn.old) (state S.Store conn.new)) }
     ensures mode { conn.new.in_transaction ≡ false }
-    ensures crash { Survives (state S.Store conn.old) (state S.Store conn.new) (λ trees. Stands trees no_tables) }
-    ensures stop { OnOk result (IsTrue (state S.Store conn.new).is_open → (trees : _) → (state S.Store conn.new).may_leave trees → trees ≡ (state S.Store conn.new).committed.trees) }
+    ensures crash { Survives (state S.Store conn.old) (state S.Store conn.new) (λ trees.
+        Stands trees no_tables) }
+    ensures stop { OnOk result (IsTrue (state S.Store conn.new).is_open → (trees : _)
+        → (state S.Store conn.new).may_leave trees → trees ≡ (state S.Store conn.new).committed.trees) }
 {
     let _settled = conn.is_autocommit();
     let schema = conn.schema();

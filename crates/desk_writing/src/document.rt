@@ -30,7 +30,9 @@ pub(crate) fn add_document<S: Alter>(
     row: &DocumentRow,
 ) -> Result<(), Fault>
     ensures same_reference { tx.new.conn.ghost_name ≡ tx.old.conn.ghost_name }
-    ensures wrote { Writes cells_of (with_tables (λ t. record t { document = t.document ++ row.now ∷ [] })) (state S.Store tx.old.conn.now) (state S.Store tx.new.conn.now) result }
+    ensures wrote { Writes cells_of (with_tables (λ t.
+        record t { document = t.document ++ row.now ∷ [] })) (state S.Store tx.old.conn.now)
+        (state S.Store tx.new.conn.now) result }
     ensures survives { Survives (state S.Store tx.old.conn.now) (state S.Store tx.new.conn.now) (λ _. ⊥) }
 {
     execute(
@@ -52,7 +54,8 @@ pub(crate) fn add_reading<S: Alter>(
     row: &DocumentRow,
 ) -> Result<(), Fault>
     ensures same_reference { tx.new.conn.ghost_name ≡ tx.old.conn.ghost_name }
-    ensures wrote { Writes cells_of (λ it. record it { reading = it.reading ++ row.now ∷ [] }) (state S.Store tx.old.conn.now) (state S.Store tx.new.conn.now) result }
+    ensures wrote { Writes cells_of (λ it. record it { reading = it.reading ++ row.now ∷ [] })
+        (state S.Store tx.old.conn.now) (state S.Store tx.new.conn.now) result }
     ensures survives { Survives (state S.Store tx.old.conn.now) (state S.Store tx.new.conn.now) (λ _. ⊥) }
 {
     execute(
@@ -82,7 +85,9 @@ pub(crate) fn add_package<S: Alter>(
     row: &PackageRow,
 ) -> Result<(), Fault>
     ensures same_reference { tx.new.conn.ghost_name ≡ tx.old.conn.ghost_name }
-    ensures wrote { Writes cells_of (with_tables (λ t. record t { packages = t.packages ++ row.now ∷ [] })) (state S.Store tx.old.conn.now) (state S.Store tx.new.conn.now) result }
+    ensures wrote { Writes cells_of (with_tables (λ t.
+        record t { packages = t.packages ++ row.now ∷ [] })) (state S.Store tx.old.conn.now)
+        (state S.Store tx.new.conn.now) result }
     ensures survives { Survives (state S.Store tx.old.conn.now) (state S.Store tx.new.conn.now) (λ _. ⊥) }
 {
     execute(
@@ -108,7 +113,9 @@ pub(crate) fn add_reference<S: Alter>(
     row: &ExtractedRow,
 ) -> Result<(), Fault>
     ensures same_reference { tx.new.conn.ghost_name ≡ tx.old.conn.ghost_name }
-    ensures wrote { Writes cells_of (with_tables (λ t. record t { extracted = t.extracted ++ row.now ∷ [] })) (state S.Store tx.old.conn.now) (state S.Store tx.new.conn.now) result }
+    ensures wrote { Writes cells_of (with_tables (λ t.
+        record t { extracted = t.extracted ++ row.now ∷ [] })) (state S.Store tx.old.conn.now)
+        (state S.Store tx.new.conn.now) result }
     ensures survives { Survives (state S.Store tx.old.conn.now) (state S.Store tx.new.conn.now) (λ _. ⊥) }
 {
     execute(
@@ -124,7 +131,8 @@ pub(crate) fn add_packages<S: Alter>(
     rows: &[PackageRow],
 ) -> Result<(), Fault>
     ensures same_reference { tx.new.conn.ghost_name ≡ tx.old.conn.ghost_name }
-    ensures wrote { Writes cells_of (with_tables (λ t. record t { packages = t.packages ++ rows.now })) (state S.Store tx.old.conn.now) (state S.Store tx.new.conn.now) result }
+    ensures wrote { Writes cells_of (with_tables (λ t. record t { packages = t.packages ++ rows.now }))
+        (state S.Store tx.old.conn.now) (state S.Store tx.new.conn.now) result }
     ensures survives { Survives (state S.Store tx.old.conn.now) (state S.Store tx.new.conn.now) (λ _. ⊥) }
 {
     for row in rows {
@@ -139,7 +147,9 @@ pub(crate) fn add_references<S: Alter>(
     rows: &[ExtractedRow],
 ) -> Result<(), Fault>
     ensures same_reference { tx.new.conn.ghost_name ≡ tx.old.conn.ghost_name }
-    ensures wrote { Writes cells_of (with_tables (λ t. record t { extracted = t.extracted ++ rows.now })) (state S.Store tx.old.conn.now) (state S.Store tx.new.conn.now) result }
+    ensures wrote { Writes cells_of (with_tables (λ t.
+        record t { extracted = t.extracted ++ rows.now })) (state S.Store tx.old.conn.now)
+        (state S.Store tx.new.conn.now) result }
     ensures survives { Survives (state S.Store tx.old.conn.now) (state S.Store tx.new.conn.now) (λ _. ⊥) }
 {
     for row in rows {

@@ -40,7 +40,8 @@ fn duty_values<'a>(row: &'a DutyRow) -> [ValueRef<'a>; 8]
 /// Adds a duty.
 pub(crate) fn add_duty<S: Alter>(tx: &mut Transaction<'_, S>, row: &DutyRow) -> Result<(), Fault>
     ensures same_reference { tx.new.conn.ghost_name ≡ tx.old.conn.ghost_name }
-    ensures wrote { Writes cells_of (with_tables (λ t. record t { duty = t.duty ++ row.now ∷ [] })) (state S.Store tx.old.conn.now) (state S.Store tx.new.conn.now) result }
+    ensures wrote { Writes cells_of (with_tables (λ t. record t { duty = t.duty ++ row.now ∷ [] }))
+        (state S.Store tx.old.conn.now) (state S.Store tx.new.conn.now) result }
     ensures survives { Survives (state S.Store tx.old.conn.now) (state S.Store tx.new.conn.now) (λ _. ⊥) }
 {
     execute(
@@ -68,7 +69,9 @@ pub(crate) fn add_change<S: Alter>(
     row: &ChangeRow,
 ) -> Result<(), Fault>
     ensures same_reference { tx.new.conn.ghost_name ≡ tx.old.conn.ghost_name }
-    ensures wrote { Writes cells_of (with_tables (λ t. record t { changes = t.changes ++ row.now ∷ [] })) (state S.Store tx.old.conn.now) (state S.Store tx.new.conn.now) result }
+    ensures wrote { Writes cells_of (with_tables (λ t.
+        record t { changes = t.changes ++ row.now ∷ [] })) (state S.Store tx.old.conn.now)
+        (state S.Store tx.new.conn.now) result }
     ensures survives { Survives (state S.Store tx.old.conn.now) (state S.Store tx.new.conn.now) (λ _. ⊥) }
 {
     execute(
@@ -94,7 +97,8 @@ pub(crate) fn add_waiver<S: Alter>(
     row: &ChangeRow,
 ) -> Result<(), Fault>
     ensures same_reference { tx.new.conn.ghost_name ≡ tx.old.conn.ghost_name }
-    ensures wrote { Writes cells_of (λ it. record it { waiver = it.waiver ++ row.now ∷ [] }) (state S.Store tx.old.conn.now) (state S.Store tx.new.conn.now) result }
+    ensures wrote { Writes cells_of (λ it. record it { waiver = it.waiver ++ row.now ∷ [] })
+        (state S.Store tx.old.conn.now) (state S.Store tx.new.conn.now) result }
     ensures survives { Survives (state S.Store tx.old.conn.now) (state S.Store tx.new.conn.now) (λ _. ⊥) }
 {
     execute(
@@ -111,7 +115,9 @@ pub(crate) fn set_duty<S: Alter>(
     to: DutyState,
 ) -> Result<(), Fault>
     ensures same_reference { tx.new.conn.ghost_name ≡ tx.old.conn.ghost_name }
-    ensures wrote { Writes cells_of (with_tables (λ t. record t { duty = updated (is_duty duty) (with_duty_state to) t.duty })) (state S.Store tx.old.conn.now) (state S.Store tx.new.conn.now) result }
+    ensures wrote { Writes cells_of (with_tables (λ t.
+        record t { duty = updated (is_duty duty) (with_duty_state to) t.duty }))
+        (state S.Store tx.old.conn.now) (state S.Store tx.new.conn.now) result }
     ensures survives { Survives (state S.Store tx.old.conn.now) (state S.Store tx.new.conn.now) (λ _. ⊥) }
 {
     execute(
@@ -140,7 +146,8 @@ fn add_eight_duties<S: Alter>(
 ) -> Result<(), Fault>
     requires { length rows.now ≡ 8 }
     ensures same_reference { tx.new.conn.ghost_name ≡ tx.old.conn.ghost_name }
-    ensures wrote { Writes cells_of (with_tables (λ t. record t { duty = t.duty ++ rows.now })) (state S.Store tx.old.conn.now) (state S.Store tx.new.conn.now) result }
+    ensures wrote { Writes cells_of (with_tables (λ t. record t { duty = t.duty ++ rows.now }))
+        (state S.Store tx.old.conn.now) (state S.Store tx.new.conn.now) result }
     ensures survives { Survives (state S.Store tx.old.conn.now) (state S.Store tx.new.conn.now) (λ _. ⊥) }
 {
     let Ok(values) = values_of_duties(alloc, rows) else {
@@ -160,7 +167,8 @@ pub(crate) fn add_duties<S: Alter>(
     rows: &[DutyRow],
 ) -> Result<(), Fault>
     ensures same_reference { tx.new.conn.ghost_name ≡ tx.old.conn.ghost_name }
-    ensures wrote { Writes cells_of (with_tables (λ t. record t { duty = t.duty ++ rows.now })) (state S.Store tx.old.conn.now) (state S.Store tx.new.conn.now) result }
+    ensures wrote { Writes cells_of (with_tables (λ t. record t { duty = t.duty ++ rows.now }))
+        (state S.Store tx.old.conn.now) (state S.Store tx.new.conn.now) result }
     ensures survives { Survives (state S.Store tx.old.conn.now) (state S.Store tx.new.conn.now) (λ _. ⊥) }
 {
     let mut left = rows;
@@ -185,7 +193,8 @@ pub(crate) fn set_duties<S: Alter>(
     rows: &[ChangeRow],
 ) -> Result<(), Fault>
     ensures same_reference { tx.new.conn.ghost_name ≡ tx.old.conn.ghost_name }
-    ensures wrote { Writes cells_of (with_tables (λ t. record t { duty = moved_by rows.now t.duty })) (state S.Store tx.old.conn.now) (state S.Store tx.new.conn.now) result }
+    ensures wrote { Writes cells_of (with_tables (λ t. record t { duty = moved_by rows.now t.duty }))
+        (state S.Store tx.old.conn.now) (state S.Store tx.new.conn.now) result }
     ensures survives { Survives (state S.Store tx.old.conn.now) (state S.Store tx.new.conn.now) (λ _. ⊥) }
 {
     let mut left = rows.len();
@@ -218,7 +227,8 @@ fn add_eight_changes<S: Alter>(
 ) -> Result<(), Fault>
     requires { length rows.now ≡ 8 }
     ensures same_reference { tx.new.conn.ghost_name ≡ tx.old.conn.ghost_name }
-    ensures wrote { Writes cells_of (with_tables (λ t. record t { changes = t.changes ++ rows.now })) (state S.Store tx.old.conn.now) (state S.Store tx.new.conn.now) result }
+    ensures wrote { Writes cells_of (with_tables (λ t. record t { changes = t.changes ++ rows.now }))
+        (state S.Store tx.old.conn.now) (state S.Store tx.new.conn.now) result }
     ensures survives { Survives (state S.Store tx.old.conn.now) (state S.Store tx.new.conn.now) (λ _. ⊥) }
 {
     let Ok(values) = values_of_changes(alloc, rows) else {
@@ -238,7 +248,8 @@ fn add_changes<S: Alter>(
     rows: &[ChangeRow],
 ) -> Result<(), Fault>
     ensures same_reference { tx.new.conn.ghost_name ≡ tx.old.conn.ghost_name }
-    ensures wrote { Writes cells_of (with_tables (λ t. record t { changes = t.changes ++ rows.now })) (state S.Store tx.old.conn.now) (state S.Store tx.new.conn.now) result }
+    ensures wrote { Writes cells_of (with_tables (λ t. record t { changes = t.changes ++ rows.now }))
+        (state S.Store tx.old.conn.now) (state S.Store tx.new.conn.now) result }
     ensures survives { Survives (state S.Store tx.old.conn.now) (state S.Store tx.new.conn.now) (λ _. ⊥) }
 {
     let mut left = rows;
@@ -260,7 +271,10 @@ fn add_changes<S: Alter>(
 /// Adds the last day of a change, where it is a waiver that ends.
 fn add_last_day<S: Alter>(tx: &mut Transaction<'_, S>, row: &ChangeRow) -> Result<(), Fault>
     ensures same_reference { tx.new.conn.ghost_name ≡ tx.old.conn.ghost_name }
-    ensures wrote { Writes cells_of (λ it. record it { waiver = it.waiver ++ filter is_waiver (row.now ∷ []) }) (state S.Store tx.old.conn.now) (state S.Store tx.new.conn.now) result }
+    ensures wrote { Writes cells_of (λ it. record it {
+      waiver = it.waiver ++ filter is_waiver
+          (row.now ∷ []);
+    }) (state S.Store tx.old.conn.now) (state S.Store tx.new.conn.now) result }
     ensures survives { Survives (state S.Store tx.old.conn.now) (state S.Store tx.new.conn.now) (λ _. ⊥) }
 {
     match row.last_day {
@@ -272,7 +286,9 @@ fn add_last_day<S: Alter>(tx: &mut Transaction<'_, S>, row: &ChangeRow) -> Resul
 /// Adds the last days of the waivers that end.
 fn add_waivers<S: Alter>(tx: &mut Transaction<'_, S>, rows: &[ChangeRow]) -> Result<(), Fault>
     ensures same_reference { tx.new.conn.ghost_name ≡ tx.old.conn.ghost_name }
-    ensures wrote { Writes cells_of (λ it. record it { waiver = it.waiver ++ filter is_waiver rows.now }) (state S.Store tx.old.conn.now) (state S.Store tx.new.conn.now) result }
+    ensures wrote { Writes cells_of (λ it.
+        record it { waiver = it.waiver ++ filter is_waiver rows.now })
+        (state S.Store tx.old.conn.now) (state S.Store tx.new.conn.now) result }
     ensures survives { Survives (state S.Store tx.old.conn.now) (state S.Store tx.new.conn.now) (λ _. ⊥) }
 {
     for row in rows {
@@ -288,7 +304,8 @@ pub(crate) fn add_steps<S: Alter>(
     rows: &[ChangeRow],
 ) -> Result<(), Fault>
     ensures same_reference { tx.new.conn.ghost_name ≡ tx.old.conn.ghost_name }
-    ensures wrote { Writes cells_of (with_steps rows.now) (state S.Store tx.old.conn.now) (state S.Store tx.new.conn.now) result }
+    ensures wrote { Writes cells_of (with_steps rows.now) (state S.Store tx.old.conn.now)
+        (state S.Store tx.new.conn.now) result }
     ensures survives { Survives (state S.Store tx.old.conn.now) (state S.Store tx.new.conn.now) (λ _. ⊥) }
 {
     add_changes(alloc, tx, rows)?;

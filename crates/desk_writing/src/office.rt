@@ -32,7 +32,9 @@ pub(crate) fn add_conclusion<S: Alter>(
     row: &ConclusionRow,
 ) -> Result<(), Fault>
     ensures same_reference { tx.new.conn.ghost_name ≡ tx.old.conn.ghost_name }
-    ensures wrote { Writes cells_of (with_tables (λ t. record t { conclusion = t.conclusion ++ row.now ∷ [] })) (state S.Store tx.old.conn.now) (state S.Store tx.new.conn.now) result }
+    ensures wrote { Writes cells_of (with_tables (λ t.
+        record t { conclusion = t.conclusion ++ row.now ∷ [] })) (state S.Store tx.old.conn.now)
+        (state S.Store tx.new.conn.now) result }
     ensures survives { Survives (state S.Store tx.old.conn.now) (state S.Store tx.new.conn.now) (λ _. ⊥) }
 {
     execute(
@@ -58,7 +60,9 @@ pub(crate) fn add_adoption<S: Alter>(
     row: &AdoptionRow,
 ) -> Result<(), Fault>
     ensures same_reference { tx.new.conn.ghost_name ≡ tx.old.conn.ghost_name }
-    ensures wrote { Writes cells_of (with_tables (λ t. record t { adoption = t.adoption ++ row.now ∷ [] })) (state S.Store tx.old.conn.now) (state S.Store tx.new.conn.now) result }
+    ensures wrote { Writes cells_of (with_tables (λ t.
+        record t { adoption = t.adoption ++ row.now ∷ [] })) (state S.Store tx.old.conn.now)
+        (state S.Store tx.new.conn.now) result }
     ensures survives { Survives (state S.Store tx.old.conn.now) (state S.Store tx.new.conn.now) (λ _. ⊥) }
 {
     execute(
@@ -75,7 +79,12 @@ pub(crate) fn drop_conclusion<S: Alter>(
     package_id: &Text,
 ) -> Result<(), Fault>
     ensures same_reference { tx.new.conn.ghost_name ≡ tx.old.conn.ghost_name }
-    ensures wrote { Writes cells_of (with_tables (λ t. record t { conclusion = filter (λ row. not (is_conclusion document package_id.now row)) t.conclusion })) (state S.Store tx.old.conn.now) (state S.Store tx.new.conn.now) result }
+    ensures wrote { Writes cells_of (with_tables (λ t.
+        record t {
+          conclusion = filter (λ row.
+              not (is_conclusion document package_id.now row)) t.conclusion;
+        }))
+        (state S.Store tx.old.conn.now) (state S.Store tx.new.conn.now) result }
     ensures survives { Survives (state S.Store tx.old.conn.now) (state S.Store tx.new.conn.now) (λ _. ⊥) }
 {
     execute(
@@ -92,7 +101,12 @@ pub(crate) fn drop_adoption<S: Alter>(
     reference: &Text,
 ) -> Result<(), Fault>
     ensures same_reference { tx.new.conn.ghost_name ≡ tx.old.conn.ghost_name }
-    ensures wrote { Writes cells_of (with_tables (λ t. record t { adoption = filter (λ row. not (is_adoption document reference.now row)) t.adoption })) (state S.Store tx.old.conn.now) (state S.Store tx.new.conn.now) result }
+    ensures wrote { Writes cells_of (with_tables (λ t.
+        record t {
+          adoption = filter (λ row.
+              not (is_adoption document reference.now row)) t.adoption;
+        })) (state S.Store tx.old.conn.now)
+        (state S.Store tx.new.conn.now) result }
     ensures survives { Survives (state S.Store tx.old.conn.now) (state S.Store tx.new.conn.now) (λ _. ⊥) }
 {
     execute(

@@ -31,7 +31,9 @@ pub(crate) fn add_attached<S: Alter>(
     row: &AttachedRow,
 ) -> Result<(), Fault>
     ensures same_reference { tx.new.conn.ghost_name ≡ tx.old.conn.ghost_name }
-    ensures wrote { Writes cells_of (with_tables (λ t. record t { attached = t.attached ++ row.now ∷ [] })) (state S.Store tx.old.conn.now) (state S.Store tx.new.conn.now) result }
+    ensures wrote { Writes cells_of (with_tables (λ t.
+        record t { attached = t.attached ++ row.now ∷ [] })) (state S.Store tx.old.conn.now)
+        (state S.Store tx.new.conn.now) result }
     ensures survives { Survives (state S.Store tx.old.conn.now) (state S.Store tx.new.conn.now) (λ _. ⊥) }
 {
     execute(
@@ -58,7 +60,8 @@ pub(crate) fn add_choice<S: Alter>(
     row: &ChoiceRow,
 ) -> Result<(), Fault>
     ensures same_reference { tx.new.conn.ghost_name ≡ tx.old.conn.ghost_name }
-    ensures wrote { Writes cells_of (with_tables (λ t. record t { choice = t.choice ++ row.now ∷ [] })) (state S.Store tx.old.conn.now) (state S.Store tx.new.conn.now) result }
+    ensures wrote { Writes cells_of (with_tables (λ t. record t { choice = t.choice ++ row.now ∷ [] }))
+        (state S.Store tx.old.conn.now) (state S.Store tx.new.conn.now) result }
     ensures survives { Survives (state S.Store tx.old.conn.now) (state S.Store tx.new.conn.now) (λ _. ⊥) }
 {
     execute(
@@ -86,7 +89,8 @@ pub(crate) fn add_frozen<S: Alter>(
     row: &FrozenRow,
 ) -> Result<(), Fault>
     ensures same_reference { tx.new.conn.ghost_name ≡ tx.old.conn.ghost_name }
-    ensures wrote { Writes cells_of (with_tables (λ t. record t { frozen = t.frozen ++ row.now ∷ [] })) (state S.Store tx.old.conn.now) (state S.Store tx.new.conn.now) result }
+    ensures wrote { Writes cells_of (with_tables (λ t. record t { frozen = t.frozen ++ row.now ∷ [] }))
+        (state S.Store tx.old.conn.now) (state S.Store tx.new.conn.now) result }
     ensures survives { Survives (state S.Store tx.old.conn.now) (state S.Store tx.new.conn.now) (λ _. ⊥) }
 {
     execute(
@@ -115,7 +119,9 @@ pub(crate) fn add_release<S: Alter>(
     row: &ReleaseRow,
 ) -> Result<(), Fault>
     ensures same_reference { tx.new.conn.ghost_name ≡ tx.old.conn.ghost_name }
-    ensures wrote { Writes cells_of (with_tables (λ t. record t { releases = t.releases ++ row.now ∷ [] })) (state S.Store tx.old.conn.now) (state S.Store tx.new.conn.now) result }
+    ensures wrote { Writes cells_of (with_tables (λ t.
+        record t { releases = t.releases ++ row.now ∷ [] })) (state S.Store tx.old.conn.now)
+        (state S.Store tx.new.conn.now) result }
     ensures survives { Survives (state S.Store tx.old.conn.now) (state S.Store tx.new.conn.now) (λ _. ⊥) }
 {
     let Ok(revision) = u32::try_from(row.revision) else {
@@ -135,7 +141,12 @@ pub(crate) fn freeze_release<S: Alter>(
     revision: u64,
 ) -> Result<(), Fault>
     ensures same_reference { tx.new.conn.ghost_name ≡ tx.old.conn.ghost_name }
-    ensures wrote { Writes cells_of (with_tables (λ t. record t { releases = updated (is_release name.now) (with_release_state Frozen revision) t.releases })) (state S.Store tx.old.conn.now) (state S.Store tx.new.conn.now) result }
+    ensures wrote { Writes cells_of (with_tables (λ t.
+        record t {
+          releases = updated (is_release name.now)
+              (with_release_state Frozen revision) t.releases;
+        })) (state S.Store tx.old.conn.now)
+        (state S.Store tx.new.conn.now) result }
     ensures survives { Survives (state S.Store tx.old.conn.now) (state S.Store tx.new.conn.now) (λ _. ⊥) }
 {
     let Ok(told) = u32::try_from(revision) else {
@@ -158,7 +169,9 @@ pub(crate) fn withdraw_release<S: Alter>(
     name: &Text,
 ) -> Result<(), Fault>
     ensures same_reference { tx.new.conn.ghost_name ≡ tx.old.conn.ghost_name }
-    ensures wrote { Writes cells_of (with_tables (λ t. record t { releases = updated (is_release name.now) withdrawn_release t.releases })) (state S.Store tx.old.conn.now) (state S.Store tx.new.conn.now) result }
+    ensures wrote { Writes cells_of (with_tables (λ t.
+        record t { releases = updated (is_release name.now) withdrawn_release t.releases }))
+        (state S.Store tx.old.conn.now) (state S.Store tx.new.conn.now) result }
     ensures survives { Survives (state S.Store tx.old.conn.now) (state S.Store tx.new.conn.now) (λ _. ⊥) }
 {
     execute(
@@ -176,7 +189,9 @@ pub(crate) fn drop_choices<S: Alter>(
     package_id: &Text,
 ) -> Result<(), Fault>
     ensures same_reference { tx.new.conn.ghost_name ≡ tx.old.conn.ghost_name }
-    ensures wrote { Writes cells_of (with_tables (λ t. record t { choice = filter (is_other_choice release.now document package_id.now) t.choice })) (state S.Store tx.old.conn.now) (state S.Store tx.new.conn.now) result }
+    ensures wrote { Writes cells_of (with_tables (λ t.
+        record t { choice = filter (is_other_choice release.now document package_id.now) t.choice }))
+        (state S.Store tx.old.conn.now) (state S.Store tx.new.conn.now) result }
     ensures survives { Survives (state S.Store tx.old.conn.now) (state S.Store tx.new.conn.now) (λ _. ⊥) }
 {
     execute(
@@ -192,7 +207,9 @@ pub(crate) fn drop_choices_in<S: Alter>(
     release: &Text,
 ) -> Result<(), Fault>
     ensures same_reference { tx.new.conn.ghost_name ≡ tx.old.conn.ghost_name }
-    ensures wrote { Writes cells_of (with_tables (λ t. record t { choice = filter (is_choice_elsewhere release.now) t.choice })) (state S.Store tx.old.conn.now) (state S.Store tx.new.conn.now) result }
+    ensures wrote { Writes cells_of (with_tables (λ t.
+        record t { choice = filter (is_choice_elsewhere release.now) t.choice }))
+        (state S.Store tx.old.conn.now) (state S.Store tx.new.conn.now) result }
     ensures survives { Survives (state S.Store tx.old.conn.now) (state S.Store tx.new.conn.now) (λ _. ⊥) }
 {
     execute(
@@ -208,7 +225,8 @@ pub(crate) fn add_choices<S: Alter>(
     rows: &[ChoiceRow],
 ) -> Result<(), Fault>
     ensures same_reference { tx.new.conn.ghost_name ≡ tx.old.conn.ghost_name }
-    ensures wrote { Writes cells_of (with_tables (λ t. record t { choice = t.choice ++ rows.now })) (state S.Store tx.old.conn.now) (state S.Store tx.new.conn.now) result }
+    ensures wrote { Writes cells_of (with_tables (λ t. record t { choice = t.choice ++ rows.now }))
+        (state S.Store tx.old.conn.now) (state S.Store tx.new.conn.now) result }
     ensures survives { Survives (state S.Store tx.old.conn.now) (state S.Store tx.new.conn.now) (λ _. ⊥) }
 {
     for row in rows {
@@ -223,7 +241,8 @@ pub(crate) fn add_frozen_terms<S: Alter>(
     rows: &[FrozenRow],
 ) -> Result<(), Fault>
     ensures same_reference { tx.new.conn.ghost_name ≡ tx.old.conn.ghost_name }
-    ensures wrote { Writes cells_of (with_tables (λ t. record t { frozen = t.frozen ++ rows.now })) (state S.Store tx.old.conn.now) (state S.Store tx.new.conn.now) result }
+    ensures wrote { Writes cells_of (with_tables (λ t. record t { frozen = t.frozen ++ rows.now }))
+        (state S.Store tx.old.conn.now) (state S.Store tx.new.conn.now) result }
     ensures survives { Survives (state S.Store tx.old.conn.now) (state S.Store tx.new.conn.now) (λ _. ⊥) }
 {
     for row in rows {

@@ -17,11 +17,15 @@ use std::alloc::Global;
 /// Writes a change in one transaction.
 fn write<S: Alter>(alloc: Global, conn: &mut Connection<S>, change: &Change) -> Result<(), Fault>
     requires { conn.old.in_transaction ≡ false }
-    ensures ok { HasCleanDisk (state S.Store conn.new) → OnOk result (Done change.now (state S.Store conn.old) (state S.Store conn.new)) }
-    ensures err { HasCleanDisk (state S.Store conn.new) → OnErr result (Undone (state S.Store conn.old) (state S.Store conn.new)) }
+    ensures ok { HasCleanDisk (state S.Store conn.new)
+        → OnOk result (Done change.now (state S.Store conn.old) (state S.Store conn.new)) }
+    ensures err { HasCleanDisk (state S.Store conn.new)
+        → OnErr result (Undone (state S.Store conn.old) (state S.Store conn.new)) }
     ensures mode { conn.new.in_transaction ≡ false }
-    ensures crash { Survives (state S.Store conn.old) (state S.Store conn.new) (Leaves change.now (state S.Store conn.old)) }
-    ensures stop { IsTrue (state S.Store conn.new).is_open → (trees : _) → (state S.Store conn.new).may_leave trees → trees ≡ (state S.Store conn.new).committed.trees }
+    ensures crash { Survives (state S.Store conn.old) (state S.Store conn.new)
+        (Leaves change.now (state S.Store conn.old)) }
+    ensures stop { IsTrue (state S.Store conn.new).is_open → (trees : _)
+        → (state S.Store conn.new).may_leave trees → trees ≡ (state S.Store conn.new).committed.trees }
 {
     let mut tx = conn.transaction();
     make(alloc, &mut tx, change)?;
@@ -42,7 +46,8 @@ pub fn commit<S: Alter>(
     change: &Change,
 ) -> Result<(), Fault>
     requires { conn.old.in_transaction ≡ false }
-    ensures wrote { Wrote Stands change.now (seen_of (state S.Store conn.old)) (seen_of (state S.Store conn.new)) result }
+    ensures wrote { Wrote Stands change.now (seen_of (state S.Store conn.old))
+        (seen_of (state S.Store conn.new)) result }
     ensures mode { conn.new.in_transaction ≡ false }
 {
     if is_writable(change) {
