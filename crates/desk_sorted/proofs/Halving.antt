@@ -11,13 +11,14 @@ use Rattle.std.proofs.lemmas.Bool.Decides.{nat_tests}
 use Rattle.std.proofs.lemmas.List.{take-append-drop}
 use Rattle.desk_rows.specs.Lists.{put, put_all, updated, ascends}
 use Rattle.desk_rows.specs.Keys.{below_by}
+use Rattle.desk_sorted.specs.Blocks.{last_of}
 use Rattle.desk_sorted.specs.Sorted.{Rises, Climbs, IsRun, IsPlace}
 use Rattle.desk_base.proofs.Bools.{and_left, both, or_left, or_right}
 use Rattle.desk_rows.proofs.Orders.{IsOrder, ascends-put}
 
 -- sides that do not fall
 
-lt_by : (o p : Ordering) → ordering_index o ≤ ordering_index p → is_lt p ≡ true → is_lt o ≡ true
+pub lt_by : (o p : Ordering) → ordering_index o ≤ ordering_index p → is_lt p ≡ true → is_lt o ≡ true
 lt_by Less p h e = refl
 lt_by Equal Less h e = absurd (omega (arith, h))
 lt_by Equal Equal h e = e
@@ -26,7 +27,7 @@ lt_by Greater Less h e = absurd (omega (arith, h))
 lt_by Greater Equal h e = e
 lt_by Greater Greater h e = e
 
-le_by : (o p : Ordering) → ordering_index o ≤ ordering_index p → is_le p ≡ true → is_le o ≡ true
+pub le_by : (o p : Ordering) → ordering_index o ≤ ordering_index p → is_le p ≡ true → is_le o ≡ true
 le_by Less p h e = refl
 le_by Equal p h e = refl
 le_by Greater Less h e = absurd (omega (arith, h))
@@ -184,7 +185,7 @@ pub first_found : {A : Type 0} (test : A → Bool) (xs : List A) → slice_get (
 first_found test [] = refl
 first_found test (x ∷ xs) = elim (test x) as (λ b. slice_get (cond b (x ∷ filter test xs) (filter test xs)) 0 ≡ cond b (Some x) (find test xs)) [ true ↦ refl | false ↦ first_found test xs ]
 
-some_left : (n : ℕ) → not (suc n == 0) ≡ true
+pub some_left : (n : ℕ) → not (suc n == 0) ≡ true
 some_left n = let none : (suc n == 0) ≡ false = grind (arith, nat_tests) in ap not none
 
 pub any_found : {A : Type 0} (test : A → Bool) (xs : List A) → not (length (filter test xs) == 0) ≡ list_any test xs
@@ -212,7 +213,7 @@ turned_le o Less e f = ap is_lt e
 turned_le o Equal e f = ap is_lt e
 turned_le o Greater e f = cc
 
-turned_gt : (o p : Ordering) → o ≡ ordering_reverse p → is_le p ≡ false → is_lt o ≡ true
+pub turned_gt : (o p : Ordering) → o ≡ ordering_reverse p → is_le p ≡ false → is_lt o ≡ true
 turned_gt o Less e f = cc
 turned_gt o Equal e f = cc
 turned_gt o Greater e f = ap is_lt e
@@ -224,11 +225,11 @@ is_place {A} {order} t x xs n within p = record {
   back = all_drop (below_by order x) xs n (λ k d a b. turned_gt (order x (get_or xs k d)) (order (get_or xs k d) x) (t.antisymm x (get_or xs k d)) (p.1 k d a b));
 }
 
-put_first : {A : Type 0} (below : A → A → Bool) (x : A) (ys : List A) → list_all (below x) ys ≡ true → put below x ys ≡ x ∷ ys
+pub put_first : {A : Type 0} (below : A → A → Bool) (x : A) (ys : List A) → list_all (below x) ys ≡ true → put below x ys ≡ x ∷ ys
 put_first below x [] all = refl
 put_first below x (y ∷ ys) all = rw (and_left (below x y) (list_all (below x) ys) all) refl
 
-put_past : {A : Type 0} (below : A → A → Bool) (x : A) (ys zs : List A) → list_any (below x) ys ≡ false → put below x (ys ++ zs) ≡ ys ++ put below x zs
+pub put_past : {A : Type 0} (below : A → A → Bool) (x : A) (ys zs : List A) → list_any (below x) ys ≡ false → put below x (ys ++ zs) ≡ ys ++ put below x zs
 put_past below x [] zs none = refl
 put_past below x (y ∷ ys) zs none =
     rw (or_left (below x y) (list_any (below x) ys) none) (ap (λ l. y ∷ l) (put_past below x ys zs (or_right (below x y) (list_any (below x) ys) none)))
@@ -239,10 +240,6 @@ put_at below x xs n p =
     ∙ (put_past below x (take n xs) (drop n xs) p.front ∙ ap (λ l. take n xs ++ l) (put_first below x (drop n xs) p.back))
 
 -- rows that climb and all go to one place
-
-abbrev pub last_of : {A : Type 0} → A → List A → A
-last_of m [] = m
-last_of m (x ∷ xs) = last_of x xs
 
 pub last_at : {A : Type 0} (m : A) (ms : List A) → slice_get (m ∷ ms) (length ms) ≡ Some (last_of m ms)
 last_at m [] = refl

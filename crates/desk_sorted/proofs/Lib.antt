@@ -2,3 +2,7 @@ pub mod Ascending
 pub mod Halving
 pub mod Placing
 mod PutAll
+mod Blocking
+mod Searching
+mod Changing
+mod Walking

@@ -5,7 +5,8 @@ use Rattle.std.specs.List.{position_from}
 use Rattle.std.specs.Option.{option_map}
 use Rattle.desk_rows.specs.Lists.{put, or_else, over, ascends}
 use Rattle.std.proofs.lemmas.List.Elements.{filter_agree}
-use Rattle.desk_sorted.proofs.Halving.{first_found}
+use Rattle.desk_sorted.specs.Blocks.{last_of}
+use Rattle.desk_sorted.proofs.Halving.{first_found, last_at}
 use Rattle.desk_rows.proofs.Orders.{IsOrder}
 use Rattle.desk_base.proofs.Bools.{and_left, and_right, both, not_true}
 
@@ -24,14 +25,6 @@ over_later below o y z (w ∷ ws) e all =
     not_below : (b : Bool) → below w y ≡ b → b ≡ false
     not_below true f = sym (o.between w y z f e) ∙ here
     not_below false f = refl
-
-abbrev last_of : {A : Type 0} → A → List A → A
-last_of m [] = m
-last_of m (x ∷ xs) = last_of x xs
-
-last_at : {A : Type 0} (m : A) (ms : List A) → slice_get (m ∷ ms) (length ms) ≡ Some (last_of m ms)
-last_at m [] = refl
-last_at m (x ∷ xs) = last_at x xs
 
 push_on : {A : Type 0} (below : A → A → Bool) → IsOrder below → (y : A) (ys : List A) (x : A) → below x (last_of y ys) ≡ false → ascends below (y ∷ ys) ≡ true → ascends below (y ∷ (ys ++ x ∷ [])) ≡ true
 push_on below o y [] x e up = rw e refl

@@ -1,3 +1,4 @@
 pub mod Sorted
 pub mod Sides
 pub mod Orders
+pub mod Blocks

@@ -5,8 +5,10 @@
 #![tactic(auto)]
 
 mod appended;
+mod blocks;
 mod sorted;
 mod tables;
 
 pub use appended::Appended;
+pub use blocks::{Blocks, Test};
 pub use sorted::{Keyed, Run, Sorted, Sought, item_at, reserve, run_of};

@@ -104,6 +104,42 @@ fn insert_all<R>(rows: &mut Vec<R>, place: usize, mut more: Vec<R>)
     more.destroy_empty();
 }
 
+/// Puts a row in its place. There is room.
+pub(crate) fn put_row<R: Keyed + Drop>(rows: &mut Vec<R>, row: R)
+    requires ascending { ascends (below_by R.order) rows.old.items ≡ true }
+    requires room { vec_len rows.old < vec_capacity rows.old }
+    ensures items { rows.new.items ≡ put (below_by R.order) row rows.old.items }
+    ensures len { vec_len rows.new ≡ vec_len rows.old + 1 }
+    ensures capacity { vec_capacity rows.old ≤ vec_capacity rows.new }
+{
+    let place = place_of(rows.as_slice(), &row);
+    let Ok(()) = rows.insert(place, row) else {
+        unreachable!()
+    };
+}
+
+fn put_each<R: Keyed + Drop>(rows: &mut Vec<R>, mut more: Vec<R>)
+    requires ascending { ascends (below_by R.order) rows.old.items ≡ true }
+    requires room { vec_len rows.old + vec_len more ≤ vec_capacity rows.old }
+    ensures { rows.new.items ≡ put_all (below_by R.order) more.items rows.old.items }
+{
+    while let Some(row) = more.pop() {
+        put_row(rows, row);
+    }
+}
+
+/// Puts rows in their places. There is room.
+pub(crate) fn put_rows<R: Keyed + Drop>(rows: &mut Vec<R>, more: Vec<R>)
+    requires ascending { ascends (below_by R.order) rows.old.items ≡ true }
+    requires room { vec_len rows.old + vec_len more ≤ vec_capacity rows.old }
+    ensures { rows.new.items ≡ put_all (below_by R.order) more.items rows.old.items }
+{
+    match place_of_all(rows.as_slice(), more.as_slice()) {
+        Some(place) => insert_all(rows, place, more),
+        None => put_each(rows, more),
+    }
+}
+
 pub fn reserve<R>(rows: &mut Vec<R>, count: usize) -> Result<(), Fault>
     ensures items { rows.new.items ≡ rows.old.items }
     ensures len { vec_len rows.new ≡ vec_len rows.old }
@@ -193,19 +229,7 @@ impl<R: Keyed + Drop> Sorted<R> {
         ensures len { vec_len self.new.rows ≡ vec_len self.old.rows + 1 }
         ensures capacity { vec_capacity self.old.rows ≤ vec_capacity self.new.rows }
     {
-        let place = place_of(self.rows.as_slice(), &row);
-        let Ok(()) = self.rows.insert(place, row) else {
-            unreachable!()
-        };
-    }
-
-    fn put_each(&mut self, mut more: Vec<R>)
-        requires { vec_len self.old.rows + vec_len more ≤ vec_capacity self.old.rows }
-        ensures { self.new.rows.items ≡ put_all (below_by R.order) more.items self.old.rows.items }
-    {
-        while let Some(row) = more.pop() {
-            self.put(row);
-        }
+        put_row(&mut self.rows, row);
     }
 
     /// Puts rows in their places. There is room.
@@ -213,10 +237,7 @@ impl<R: Keyed + Drop> Sorted<R> {
         requires { vec_len self.old.rows + vec_len more ≤ vec_capacity self.old.rows }
         ensures { self.new.rows.items ≡ put_all (below_by R.order) more.items self.old.rows.items }
     {
-        match place_of_all(self.rows.as_slice(), more.as_slice()) {
-            Some(place) => insert_all(&mut self.rows, place, more),
-            None => self.put_each(more),
-        }
+        put_rows(&mut self.rows, more);
     }
 
     /// Puts rows in their places, one after another: alike ones stay in their order. There is room.

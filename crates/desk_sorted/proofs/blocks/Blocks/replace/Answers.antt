@@ -1,0 +1,31 @@
+use Rattle.std.proofs.Common.{◌≡◌, ◌∙◌, ap, length, sym, List}
+use Rattle.std.specs.Prelude.{filter, not, Vec}
+use Rattle.std.specs.declared.alloc.Global.{Global}
+use Rattle.std.proofs.lemmas.List.{with_items_is}
+use Rattle.desk_rows.specs.Keys.{below_by}
+use Rattle.desk_rows.specs.Lists.{ascends, put_all}
+use Rattle.desk_sorted.specs.Blocks.{rows_in}
+use Rattle.desk_rows.proofs.Orders.{order_of}
+use Rattle.desk_sorted.proofs.Ascending.{ascends-filter, ascends-put_all}
+use Rattle.desk_sorted.proofs.blocks.Blocks.replace.Goals as goal
+
+pub invariant_of-self : goal.invariant_of-self
+invariant_of-self g c =
+    let below = below_by g.R.Keyed.order in
+    let rows : rows_in c.drop_empty.new.blocks.items ≡ put_all below c.args.more.items (filter (λ row. not (g.K.Sought.is_at c.args.key.now row)) (rows_in c.args.self.now.blocks.items)) =
+    c.drop_empty.ensures.rows
+    ∙ (ap (λ (bs : List (Vec g.row.R.Denot Global)). rows_in bs) (with_items_is c.args.self.now.blocks c.replace_within.new.blocks (c.replace_within.ensures.length ∙ (ap length c.deref_mut.ensures.value ∙ sym c.args.self.now.blocks.ok.0)))
+    ∙ (c.replace_within.ensures.rows ∙ ap (λ (bs : List (Vec g.row.R.Denot Global)). put_all below c.args.more.items (filter (λ row. not (g.K.Sought.is_at c.args.key.now row)) (rows_in bs))) c.deref_mut.ensures.value)) in
+    record {
+      ascending = ap (ascends below) rows ∙ ascends-put_all below (order_of g.met.R.Keyed.total) c.args.more.items (filter (λ row. not (g.K.Sought.is_at c.args.key.now row)) (rows_in c.args.self.now.blocks.items)) (ascends-filter below (λ row. not (g.K.Sought.is_at c.args.key.now row)) (rows_in c.args.self.now.blocks.items) c.args.self.now.ascending);
+      filled = c.drop_empty.ensures.filled;
+    }
+
+pub returns : goal.returns
+returns g c =
+    let below = below_by g.R.Keyed.order in
+    let rows : rows_in c.drop_empty.new.blocks.items ≡ put_all below c.args.more.items (filter (λ row. not (g.K.Sought.is_at c.args.key.now row)) (rows_in c.args.self.now.blocks.items)) =
+    c.drop_empty.ensures.rows
+    ∙ (ap (λ (bs : List (Vec g.row.R.Denot Global)). rows_in bs) (with_items_is c.args.self.now.blocks c.replace_within.new.blocks (c.replace_within.ensures.length ∙ (ap length c.deref_mut.ensures.value ∙ sym c.args.self.now.blocks.ok.0)))
+    ∙ (c.replace_within.ensures.rows ∙ ap (λ (bs : List (Vec g.row.R.Denot Global)). put_all below c.args.more.items (filter (λ row. not (g.K.Sought.is_at c.args.key.now row)) (rows_in bs))) c.deref_mut.ensures.value)) in
+    rows

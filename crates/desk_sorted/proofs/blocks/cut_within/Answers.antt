@@ -1,0 +1,28 @@
+use Rattle.std.proofs.Common.{◌-◌, ◌++◌, ◌+◌, ◌≡◌, ◌∙◌, ap, arith, drop, take, List}
+use Rattle.std.specs.Prelude.{Vec}
+use Rattle.std.specs.declared.alloc.Global.{Global}
+use Rattle.desk_rows.specs.Keys.{below_by}
+use Rattle.desk_sorted.specs.Blocks.{rows_in}
+use Rattle.desk_sorted.proofs.Blocking.{ascends_drop, ascends_take}
+use Rattle.desk_sorted.proofs.Searching.{cut_in_run, drop_further}
+use Rattle.desk_sorted.proofs.Walking.{rows_put}
+use Rattle.desk_sorted.proofs.blocks.cut_within.Goals as goal
+
+pub cut_each-requires : goal.cut_each-requires
+cut_each-requires g c =
+    let below = below_by g.R.Keyed.order in
+    let low = c.blocks_of-run.result.start in
+    let high = c.blocks_of-run.result.end in
+    ascends_take below (high - low) (drop low c.args.blocks.now) (ascends_drop below low c.args.blocks.now c.requires.ascending)
+
+pub returns-clause-rows : goal.returns-clause-rows
+returns-clause-rows g c =
+    let key = c.args.key.now in
+    let blocks = c.args.blocks.now in
+    let low = c.blocks_of-run.result.start in
+    let high = c.blocks_of-run.result.end in
+    let cut = c.cut_each.new.blocks in
+    let far : low + (high - low) ≡ high = omega (arith, c.blocks_of-run.ensures.ordered) in
+    rows_put (take low blocks) cut (drop (high - low) (drop low blocks))
+    ∙ (ap (λ (l : List (Vec g.row.R.Denot Global)). rows_in (take low blocks) ++ (rows_in cut ++ rows_in l)) (drop_further low (high - low) high blocks far)
+    ∙ cut_in_run (g.K.Sought.is_at key) (g.K.Sought.side key) (g.met.K.Sought.meets key) blocks low high (rows_in cut) c.blocks_of-run.ensures c.cut_each.ensures.rows)
