@@ -7,6 +7,7 @@ ghost use Rattle.desk_rows.specs.Keys.{below_by, choice_order, is_choice_in, is_
 ghost use Rattle.desk_rows.specs.Tables.{Tables, is_choice_elsewhere, is_other_choice};
 ghost use Rattle.desk_history.specs.FromTables.{holder_found};
 ghost use Rattle.desk_tally.specs.Kept.{ArePlaces};
+ghost use Rattle.desk_sorted.specs.Blocks.{rows_in};
 ghost use Rattle.desk_sorted.specs.Sides.{texts_meet};
 ghost use Rattle.desk_office.specs.Holders.{AreHolders, choosing, withdrawing};
 ghost use Rattle.desk_office.specs.Sides.{choice_side, holder_side};
@@ -15,7 +16,7 @@ ghost use Rattle.desk_office.specs.Splitting.{choice_meets, choice_splits, holde
 use crate::holders::{ByHeld, Holder, drop_choice, drop_release, note};
 use desk_base::{Items, Text};
 use desk_rows::{ChoiceRow, Fault};
-use desk_sorted::{Sorted, Sought};
+use desk_sorted::{Blocks, Sought};
 use std::alloc::Global;
 use std::cmp::Ordering;
 
@@ -68,18 +69,18 @@ impl Sought<ChoiceRow> for ByHolder<'_> {
 /// The choices by their key, and beside them the releases that hold one, by package and place.
 #[derive(Drop)]
 pub struct Choices {
-    pub rows: Sorted<ChoiceRow>,
-    pub holders: Sorted<Holder>,
+    pub rows: Blocks<ChoiceRow>,
+    pub holders: Blocks<Holder>,
 }
 
 impl Choices {
     pub fn new(alloc: Global) -> Choices
-        ensures rows { result.rows.rows.items ≡ [] }
-        ensures holders { result.holders.rows.items ≡ [] }
+        ensures rows { rows_in result.rows.blocks.items ≡ [] }
+        ensures holders { rows_in result.holders.blocks.items ≡ [] }
     {
         Choices {
-            rows: Sorted::new(alloc),
-            holders: Sorted::new(alloc),
+            rows: Blocks::new(alloc),
+            holders: Blocks::new(alloc),
         }
     }
 
@@ -92,14 +93,19 @@ impl Choices {
         package_id: &Text,
         rows: Items<ChoiceRow>,
     ) -> Result<(), Fault>
-        ensures ok { OnOk result (self.new.rows.rows.items ≡ put_all (below_by choice_order) rows (filter (is_other_choice release.now document package_id.now) self.old.rows.rows.items)) }
-        ensures held { OnOk result (self.new.holders.rows.items ≡ choosing release.now place document package_id.now rows self.old.holders.rows.items) }
-        ensures err { OnErr result (self.new.rows.rows.items ≡ self.old.rows.rows.items) }
-        ensures held_err { OnErr result (self.new.holders.rows.items ≡ self.old.holders.rows.items) }
+        ensures ok { OnOk result (rows_in self.new.rows.blocks.items ≡ put_all (below_by choice_order) rows (filter (is_other_choice release.now document package_id.now) (rows_in self.old.rows.blocks.items))) }
+        ensures held { OnOk result (rows_in self.new.holders.blocks.items ≡ choosing release.now place document package_id.now rows (rows_in self.old.holders.blocks.items)) }
+        ensures err { OnErr result (rows_in self.new.rows.blocks.items ≡ rows_in self.old.rows.blocks.items) }
+        ensures held_err { OnErr result (rows_in self.new.holders.blocks.items ≡ rows_in self.old.holders.blocks.items) }
         ensures fault { IfErr result (λ fault. fault ≡ Fault.Memory) }
     {
         let rows = rows.into_vec();
-        self.rows.reserve(rows.len())?;
+        let key = ByPackage {
+            release: release.as_str(),
+            document,
+            id: package_id.as_str(),
+        };
+        let at = self.rows.make_room(&key, rows.as_slice())?;
         if let Some(place) = place {
             if rows.is_empty() {
                 drop_choice(&mut self.holders, release, place, document, package_id);
@@ -107,19 +113,14 @@ impl Choices {
                 note(&mut self.holders, release, place, document, package_id)?;
             }
         }
-        self.rows.cut(&ByPackage {
-            release: release.as_str(),
-            document,
-            id: package_id.as_str(),
-        });
-        self.rows.put_all(rows);
+        self.rows.replace(&key, at, rows);
         Ok(())
     }
 
     /// Drops all choices of the release at a place.
     pub fn withdraw(&mut self, release: &Text, place: Option<u32>)
-        ensures rows { self.new.rows.rows.items ≡ filter (is_choice_elsewhere release.now) self.old.rows.rows.items }
-        ensures held { self.new.holders.rows.items ≡ withdrawing release.now place self.old.holders.rows.items }
+        ensures rows { rows_in self.new.rows.blocks.items ≡ filter (is_choice_elsewhere release.now) (rows_in self.old.rows.blocks.items) }
+        ensures held { rows_in self.new.holders.blocks.items ≡ withdrawing release.now place (rows_in self.old.holders.blocks.items) }
     {
         self.rows.cut(&ByHolder {
             release: release.as_str(),
@@ -131,7 +132,7 @@ impl Choices {
 
     /// The first opened release that holds a choice for a package.
     pub fn holder(&self, document: u32, id: &str) -> Option<&Holder>
-        ensures { (t : Tables) → ArePlaces t.releases → AreHolders self.now.holders.rows.items t → option_map (λ holder. holder.release) (option_copied result) ≡ holder_found t document id.now }
+        ensures { (t : Tables) → ArePlaces t.releases → AreHolders (rows_in self.now.holders.blocks.items) t → option_map (λ holder. holder.release) (option_copied result) ≡ holder_found t document id.now }
     {
         self.holders.find(&ByHeld { document, id })
     }

@@ -4,12 +4,13 @@ ghost use Rattle.std.specs.Prelude.{◌≡◌, ℕ, ◌==◌, ◌&&◌, not, fil
 ghost use Rattle.std.specs.Str.{bytes_eq};
 ghost use Rattle.desk_rows.specs.Lists.{replaced};
 ghost use Rattle.desk_rows.specs.Keys.{below_by};
+ghost use Rattle.desk_sorted.specs.Blocks.{rows_in};
 ghost use Rattle.desk_office.specs.Holders.{held_side, holder_of, holder_order, holding_side, is_held, is_holding, is_of};
 ghost use Rattle.desk_office.specs.HolderLaws.{held_meets, held_splits, holder_total, holding_meets, holding_splits};
 
 use desk_base::Text;
 use desk_rows::Fault;
-use desk_sorted::{Keyed, Sorted, Sought};
+use desk_sorted::{Blocks, Keyed, Sought, Test};
 use std::alloc::AllocError;
 use std::cmp::Ordering;
 
@@ -86,6 +87,21 @@ impl Sought<Holder> for ByHolding<'_> {
     }
 }
 
+/// Whether a holder is the release at a place.
+#[derive(Clone, Copy)]
+struct OfRelease<'a> {
+    place: u32,
+    name: &'a str,
+}
+
+impl Test<Holder> for OfRelease<'_> {
+    ghost passes = { λ test. is_of test.place test.name.now };
+
+    fn passes(&self, holder: &Holder) -> bool {
+        holder.place == self.place && holder.release.as_str() == self.name
+    }
+}
+
 fn holder_of(
     release: &Text,
     place: u32,
@@ -104,13 +120,13 @@ fn holder_of(
 
 /// The release holds a choice for the package no more.
 pub(crate) fn drop_choice(
-    holders: &mut Sorted<Holder>,
+    holders: &mut Blocks<Holder>,
     release: &Text,
     place: u32,
     document: u32,
     package_id: &Text,
 )
-    ensures { holders.new.rows.items ≡ filter (λ holder. not (is_holding document package_id.now place release.now holder)) holders.old.rows.items }
+    ensures { rows_in holders.new.blocks.items ≡ filter (λ holder. not (is_holding document package_id.now place release.now holder)) (rows_in holders.old.blocks.items) }
 {
     holders.cut(&ByHolding {
         document,
@@ -122,34 +138,33 @@ pub(crate) fn drop_choice(
 
 /// The release holds a choice for the package, whether it held one before or not.
 pub(crate) fn note(
-    holders: &mut Sorted<Holder>,
+    holders: &mut Blocks<Holder>,
     release: &Text,
     place: u32,
     document: u32,
     package_id: &Text,
 ) -> Result<(), Fault>
-    ensures ok { OnOk result (holders.new.rows.items ≡ replaced (below_by holder_order) (is_holding document package_id.now place release.now) (holder_of release.now place document package_id.now) holders.old.rows.items) }
-    ensures err { OnErr result (holders.new.rows.items ≡ holders.old.rows.items) }
+    ensures ok { OnOk result (rows_in holders.new.blocks.items ≡ replaced (below_by holder_order) (is_holding document package_id.now place release.now) (holder_of release.now place document package_id.now) (rows_in holders.old.blocks.items)) }
+    ensures err { OnErr result (rows_in holders.new.blocks.items ≡ rows_in holders.old.blocks.items) }
     ensures fault { IfErr result (λ fault. fault ≡ Fault.Memory) }
 {
-    let Ok(holder) = holder_of(release, place, document, package_id) else {
-        return Err(Fault::Memory);
-    };
-    holders.reserve(1)?;
-    holders.cut(&ByHolding {
+    let holder = holder_of(release, place, document, package_id)?;
+    let key = ByHolding {
         document,
         id: package_id.as_str(),
         place,
         release: release.as_str(),
-    });
-    holders.put(holder);
+    };
+    holders.exchange(&key, holder)?;
     Ok(())
 }
 
 /// The release holds no choice any more.
-pub(crate) fn drop_release(holders: &mut Sorted<Holder>, release: &Text, place: u32)
-    ensures { holders.new.rows.items ≡ filter (λ holder. not (is_of place release.now holder)) holders.old.rows.items }
+pub(crate) fn drop_release(holders: &mut Blocks<Holder>, release: &Text, place: u32)
+    ensures { rows_in holders.new.blocks.items ≡ filter (λ holder. not (is_of place release.now holder)) (rows_in holders.old.blocks.items) }
 {
-    let name = release.as_str();
-    holders.rows.retain(|holder| !(holder.place == place && holder.release.as_str() == name));
+    holders.discard(&OfRelease {
+        place,
+        name: release.as_str(),
+    });
 }

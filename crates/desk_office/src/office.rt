@@ -5,10 +5,11 @@ ghost use Rattle.desk_rows.specs.Lists.{replaced};
 ghost use Rattle.desk_rows.specs.Keys.{below_by, adoption_order, conclusion_order, is_adoption, is_adoption_in, is_conclusion};
 ghost use Rattle.desk_office.specs.Sides.{adoption_side, adoptions_side, conclusion_side};
 ghost use Rattle.desk_office.specs.Splitting.{adoption_meets, adoption_splits, adoptions_splits, conclusion_meets, conclusion_splits};
+ghost use Rattle.desk_sorted.specs.Blocks.{rows_in};
 ghost use Rattle.desk_sorted.specs.Sides.{numbers_meet};
 
 use desk_rows::{AdoptionRow, ConclusionRow, Fault};
-use desk_sorted::{Sorted, Sought};
+use desk_sorted::{Blocks, Sorted, Sought};
 use std::alloc::Global;
 use std::cmp::Ordering;
 
@@ -81,34 +82,34 @@ impl Sought<AdoptionRow> for ByAdopting {
 /// The office's conclusions and adoptions, each by its key.
 #[derive(Drop)]
 pub struct Office {
-    pub conclusions: Sorted<ConclusionRow>,
+    pub conclusions: Blocks<ConclusionRow>,
     pub adoptions: Sorted<AdoptionRow>,
 }
 
 impl Office {
     pub fn new(alloc: Global) -> Office
-        ensures conclusions { result.conclusions.rows.items ≡ [] }
+        ensures conclusions { rows_in result.conclusions.blocks.items ≡ [] }
         ensures adoptions { result.adoptions.rows.items ≡ [] }
     {
         Office {
-            conclusions: Sorted::new(alloc),
+            conclusions: Blocks::new(alloc),
             adoptions: Sorted::new(alloc),
         }
     }
 
     /// Puts a conclusion in place of an earlier one for its package.
     pub fn conclude(&mut self, row: ConclusionRow) -> Result<(), Fault>
-        ensures ok { OnOk result (self.new.conclusions.rows.items ≡ replaced (below_by conclusion_order) (is_conclusion row.document row.package_id) row self.old.conclusions.rows.items) }
-        ensures err { OnErr result (self.new.conclusions.rows.items ≡ self.old.conclusions.rows.items) }
+        ensures ok { OnOk result (rows_in self.new.conclusions.blocks.items ≡ replaced (below_by conclusion_order) (is_conclusion row.document row.package_id) row (rows_in self.old.conclusions.blocks.items)) }
+        ensures err { OnErr result (rows_in self.new.conclusions.blocks.items ≡ rows_in self.old.conclusions.blocks.items) }
         ensures adoptions { self.new.adoptions.rows.items ≡ self.old.adoptions.rows.items }
         ensures fault { IfErr result (λ fault. fault ≡ Fault.Memory) }
     {
-        self.conclusions.reserve(1)?;
-        self.conclusions.cut(&ByConcluded {
+        let id = row.package_id.clone()?;
+        let key = ByConcluded {
             document: row.document,
-            id: row.package_id.as_str(),
-        });
-        self.conclusions.put(row);
+            id: id.as_str(),
+        };
+        self.conclusions.exchange(&key, row)?;
         Ok(())
     }
 
@@ -116,7 +117,7 @@ impl Office {
     pub fn adopt(&mut self, row: AdoptionRow) -> Result<(), Fault>
         ensures ok { OnOk result (self.new.adoptions.rows.items ≡ replaced (below_by adoption_order) (is_adoption row.document row.reference) row self.old.adoptions.rows.items) }
         ensures err { OnErr result (self.new.adoptions.rows.items ≡ self.old.adoptions.rows.items) }
-        ensures conclusions { self.new.conclusions.rows.items ≡ self.old.conclusions.rows.items }
+        ensures conclusions { rows_in self.new.conclusions.blocks.items ≡ rows_in self.old.conclusions.blocks.items }
         ensures fault { IfErr result (λ fault. fault ≡ Fault.Memory) }
     {
         self.adoptions.reserve(1)?;
