@@ -2,3 +2,4 @@ mod Founds
 mod Naming
 mod Ruling
 mod Committing
+mod Terms

@@ -5,6 +5,7 @@ use Rattle.desk_access.specs.Seen.{Seen}
 use Rattle.desk_tally.specs.Kept.{AreKept}
 use Rattle.desk_ledger.specs.Books.{changes_in, duties_in}
 use Rattle.desk_office.specs.Holders.{AreHolders}
+use Rattle.desk_sorted.specs.Blocks.{rows_in}
 use Rattle.desk_memory.specs.declared.store.MemStore.{MemStore}
 
 abbrev pub rows_of : MemStore → Tables
@@ -15,15 +16,15 @@ rows_of s = record {
   document = s.documents.rows.rows.items;
   packages = s.packages.rows.items;
   extracted = s.extracted.items;
-  conclusion = s.office.conclusions.rows.items;
+  conclusion = rows_in s.office.conclusions.blocks.items;
   adoption = s.office.adoptions.rows.items;
   releases = s.releases.rows.items;
   attached = s.attached.rows.items;
-  choice = s.choices.rows.rows.items;
+  choice = rows_in s.choices.rows.blocks.items;
   frozen = s.frozen.rows.items;
   duty = duties_in s.ledger;
   changes = changes_in s.ledger;
 }
 
 abbrev pub memory_seen : MemStore → Seen (Unit {0})
-memory_seen s = record { holds = λ t. (rows_of s ≡ t) × AreKept s.tallies t × AreHolders s.choices.holders.rows.items t; is_honest = Unit {0}; is_open = Unit {0}; leaves = λ x. ⊥ }
+memory_seen s = record { holds = λ t. (rows_of s ≡ t) × AreKept s.tallies t × AreHolders (rows_in s.choices.holders.blocks.items) t; is_honest = Unit {0}; is_open = Unit {0}; leaves = λ x. ⊥ }

@@ -12,6 +12,7 @@ ghost use Rattle.desk_rows.specs.declared.state.ReleaseState.TheVariants.{Frozen
 ghost use Rattle.desk_tally.specs.Kept.{place_found, AreKept, IsPlaceFor};
 ghost use Rattle.desk_ledger.specs.Books.{takes};
 ghost use Rattle.desk_office.specs.Holders.{holders_after};
+ghost use Rattle.desk_sorted.specs.Blocks.{rows_in};
 ghost use Rattle.desk_memory.specs.Memory.{rows_of, memory_seen};
 ghost use Rattle.desk_history.specs.FromTables.{rule_of};
 
@@ -137,8 +138,8 @@ fn attached_copies(alloc: Global, rows: &[AttachedRow]) -> Result<Vec<AttachedRo
     Ok(copies)
 }
 
-fn terms_of(alloc: Global, rows: &[ChoiceRow]) -> Result<Vec<Text>, AllocError>
-    ensures { IfOk result (λ terms. terms.items ≡ map (λ row. row.term) rows.now) }
+fn terms_of(alloc: Global, rows: &[&ChoiceRow]) -> Result<Vec<Text>, AllocError>
+    ensures { IfOk result (λ terms. terms.items ≡ map (λ row. row.now.term) rows.now) }
 {
     let mut terms = Vec::new(alloc);
     for row in rows {
@@ -248,7 +249,7 @@ impl MemStore {
     pub fn new(alloc: Global) -> MemStore
         ensures rows { (w : Readings) → rows_of result ≡ tables w [] }
         ensures kept { (w : Readings) → AreKept result.tallies (tables w []) }
-        ensures holders { result.choices.holders.rows.items ≡ [] }
+        ensures holders { rows_in result.choices.holders.blocks.items ≡ [] }
     {
         MemStore {
             alloc,
@@ -277,7 +278,7 @@ impl MemStore {
         ensures ok { OnOk result (rows_of self.new ≡ applied (Change.Loaded row rules forms) (rows_of self.old)) }
         ensures err { OnErr result (rows_of self.new ≡ rows_of self.old) }
         ensures tallies { self.new.tallies ≡ self.old.tallies }
-        ensures holders { self.new.choices.holders.rows.items ≡ self.old.choices.holders.rows.items }
+        ensures holders { rows_in self.new.choices.holders.blocks.items ≡ rows_in self.old.choices.holders.blocks.items }
         ensures fault { IfErr result (λ fault. fault ≡ Fault.Memory) }
     {
         reserve(&mut self.catalogue, 1)?;
@@ -296,7 +297,7 @@ impl MemStore {
         ensures ok { OnOk result (rows_of self.new ≡ applied (Change.Imported row packages references) (rows_of self.old)) }
         ensures err { OnErr result (rows_of self.new ≡ rows_of self.old) }
         ensures tallies { self.new.tallies ≡ self.old.tallies }
-        ensures holders { self.new.choices.holders.rows.items ≡ self.old.choices.holders.rows.items }
+        ensures holders { rows_in self.new.choices.holders.blocks.items ≡ rows_in self.old.choices.holders.blocks.items }
         ensures fault { IfErr result (λ fault. fault ≡ Fault.Memory) }
     {
         let packages = packages.into_vec();
@@ -323,7 +324,7 @@ impl MemStore {
         ensures ok { OnOk result (rows_of self.new ≡ applied (Change.Froze release.now revision frozen duties changes) (rows_of self.old)) }
         ensures err { OnErr result (rows_of self.new ≡ rows_of self.old) }
         ensures tallies { self.new.tallies ≡ self.old.tallies }
-        ensures holders { self.new.choices.holders.rows.items ≡ self.old.choices.holders.rows.items }
+        ensures holders { rows_in self.new.choices.holders.blocks.items ≡ rows_in self.old.choices.holders.blocks.items }
         ensures fault { IfErr result (λ fault. fault ≡ Fault.Memory) }
     {
         let frozen = frozen.into_vec();
@@ -339,7 +340,7 @@ impl MemStore {
         ensures ok { OnOk result (rows_of self.new ≡ applied (Change.Moved changes) (rows_of self.old)) }
         ensures err { OnErr result (rows_of self.new ≡ rows_of self.old) }
         ensures tallies { self.new.tallies ≡ self.old.tallies }
-        ensures holders { self.new.choices.holders.rows.items ≡ self.old.choices.holders.rows.items }
+        ensures holders { rows_in self.new.choices.holders.blocks.items ≡ rows_in self.old.choices.holders.blocks.items }
         ensures fault { IfErr result (λ fault. fault ≡ Fault.Memory) }
     {
         self.ledger.move_all(changes.into_vec())?;
@@ -351,8 +352,8 @@ impl MemStore {
         ensures ok { OnOk result (rows_of self.new ≡ applied (Change.Withdrew release.now changes) (rows_of self.old)) }
         ensures err { OnErr result (rows_of self.new ≡ rows_of self.old) }
         ensures tallies { self.new.tallies ≡ self.old.tallies }
-        ensures holders { OnOk result (self.new.choices.holders.rows.items ≡ holders_after (Change.Withdrew release.now changes) (rows_of self.old).releases self.old.choices.holders.rows.items) }
-        ensures holders_err { OnErr result (self.new.choices.holders.rows.items ≡ self.old.choices.holders.rows.items) }
+        ensures holders { OnOk result (rows_in self.new.choices.holders.blocks.items ≡ holders_after (Change.Withdrew release.now changes) (rows_of self.old).releases (rows_in self.old.choices.holders.blocks.items)) }
+        ensures holders_err { OnErr result (rows_in self.new.choices.holders.blocks.items ≡ rows_in self.old.choices.holders.blocks.items) }
         ensures fault { IfErr result (λ fault. fault ≡ Fault.Memory) }
     {
         self.ledger.move_all(changes.into_vec())?;
@@ -368,8 +369,8 @@ impl MemStore {
         ensures ok { OnOk result (rows_of self.new ≡ applied change (rows_of self.old)) }
         ensures err { OnErr result (rows_of self.new ≡ rows_of self.old) }
         ensures tallies { self.new.tallies ≡ self.old.tallies }
-        ensures holders { OnOk result (self.new.choices.holders.rows.items ≡ holders_after change (rows_of self.old).releases self.old.choices.holders.rows.items) }
-        ensures holders_err { OnErr result (self.new.choices.holders.rows.items ≡ self.old.choices.holders.rows.items) }
+        ensures holders { OnOk result (rows_in self.new.choices.holders.blocks.items ≡ holders_after change (rows_of self.old).releases (rows_in self.old.choices.holders.blocks.items)) }
+        ensures holders_err { OnErr result (rows_in self.new.choices.holders.blocks.items ≡ rows_in self.old.choices.holders.blocks.items) }
         ensures fault { IfErr result (λ fault. fault ≡ Fault.Memory) }
     {
         match change {
@@ -548,11 +549,8 @@ impl Store for MemStore {
             release,
             document,
             id,
-        });
-        match terms_of(self.alloc, rows) {
-            Ok(terms) => Ok(terms),
-            Err(_) => Err(Fault::Memory),
-        }
+        })?;
+        Ok(terms_of(self.alloc, rows.as_slice())?)
     }
 
     fn conclusion(&mut self, document: u32, id: &str) -> Result<Option<Text>, Fault> {

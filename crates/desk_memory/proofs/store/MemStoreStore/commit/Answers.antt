@@ -7,6 +7,7 @@ use Rattle.desk_tally.specs.Kept.{IsPlaceFor, LeadsTo}
 use Rattle.desk_tally.specs.declared.tallies.Tallies.{Tallies}
 use Rattle.desk_office.specs.Holders.{AreHolders, holders_after}
 use Rattle.desk_office.proofs.Holding.{holders_kept}
+use Rattle.desk_sorted.specs.Blocks.{rows_in}
 use Rattle.desk_memory.proofs.Committing.{ascends_from}
 use Rattle.desk_memory.proofs.store.MemStoreStore.commit.Goals as goal
 
@@ -26,8 +27,8 @@ returns-clause-wrote c =
             (subst (λ (u : Tables). Ascends release_below u.releases) (c.in_ok-write.ensures.ok ∙ ap (applied c.args.change) held.0) (ascends_from written.releases.rows.items written.releases.ascending))
             (subst (λ (u : Tables). IsPlaceFor c.args.change c.place_for-place.result u) held.0 c.place_for-place.ensures)
             held.1)),
-        subst (λ all. AreHolders all (applied c.args.change t)) (sym (c.in_ok-write.ensures.holders ∙ ap (λ (u : Tables). holders_after c.args.change u.releases before.choices.holders.rows.items) held.0))
-            (holders_kept c.args.change t before.choices.holders.rows.items (subst (λ (u : Tables). Ascends release_below u.releases) held.0 (ascends_from before.releases.rows.items before.releases.ascending)) follows held.2),
+        subst (λ all. AreHolders all (applied c.args.change t)) (sym (c.in_ok-write.ensures.holders ∙ ap (λ (u : Tables). holders_after c.args.change u.releases (rows_in before.choices.holders.blocks.items)) held.0))
+            (holders_kept c.args.change t (rows_in before.choices.holders.blocks.items) (subst (λ (u : Tables). Ascends release_below u.releases) held.0 (ascends_from before.releases.rows.items before.releases.ascending)) follows held.2),
       );
       leaves = λ h t held follows x left. absurd left;
     }
