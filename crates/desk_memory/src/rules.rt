@@ -51,7 +51,9 @@ impl Rules {
 
     /// The first rule of a revision for a term and a form.
     pub(crate) fn find(&self, revision: u64, term: &str, form: &str) -> Option<&RuleRow>
-        ensures { option_map rule_of (option_copied result) ≡ find (is_rule term.now form.now) (map rule_of (filter (is_rule_of revision) self.now.rows.items)) }
+        ensures { option_map rule_of (option_copied result)
+            ≡ find (is_rule term.now form.now)
+            (map rule_of (filter (is_rule_of revision) self.now.rows.items)) }
     {
         match self.places.find(&ByRule {
             revision,

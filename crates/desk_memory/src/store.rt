@@ -200,7 +200,8 @@ fn freeze_rows(rows: &mut [ReleaseRow], revision: u64)
 
 /// Freezes the release with a name.
 fn freeze_release(releases: &mut Sorted<ReleaseRow>, name: &str, revision: u64)
-    ensures { releases.new.rows.items ≡ updated (is_release name.now) (with_release_state Frozen revision) releases.old.rows.items }
+    ensures { releases.new.rows.items ≡ updated (is_release name.now)
+        (with_release_state Frozen revision) releases.old.rows.items }
 {
     let run = run_of(releases.rows.as_slice(), &ByName { name });
     freeze_rows(&mut releases.rows[run.start..run.end], revision);
@@ -216,7 +217,8 @@ fn withdraw_rows(rows: &mut [ReleaseRow])
 
 /// Withdraws the release with a name.
 fn withdraw_release(releases: &mut Sorted<ReleaseRow>, name: &str)
-    ensures { releases.new.rows.items ≡ updated (is_release name.now) withdrawn_release releases.old.rows.items }
+    ensures { releases.new.rows.items ≡ updated
+        (is_release name.now) withdrawn_release releases.old.rows.items }
 {
     let run = run_of(releases.rows.as_slice(), &ByName { name });
     withdraw_rows(&mut releases.rows[run.start..run.end]);
@@ -275,10 +277,12 @@ impl MemStore {
         rules: Items<RuleRow>,
         forms: Items<Text>,
     ) -> Result<(), Fault>
-        ensures ok { OnOk result (rows_of self.new ≡ applied (Change.Loaded row rules forms) (rows_of self.old)) }
+        ensures ok { OnOk result (rows_of self.new
+            ≡ applied (Change.Loaded row rules forms) (rows_of self.old)) }
         ensures err { OnErr result (rows_of self.new ≡ rows_of self.old) }
         ensures tallies { self.new.tallies ≡ self.old.tallies }
-        ensures holders { rows_in self.new.choices.holders.blocks.items ≡ rows_in self.old.choices.holders.blocks.items }
+        ensures holders { rows_in self.new.choices.holders.blocks.items
+            ≡ rows_in self.old.choices.holders.blocks.items }
         ensures fault { IfErr result (λ fault. fault ≡ Fault.Memory) }
     {
         reserve(&mut self.catalogue, 1)?;
@@ -294,10 +298,12 @@ impl MemStore {
         packages: Items<PackageRow>,
         references: Items<ExtractedRow>,
     ) -> Result<(), Fault>
-        ensures ok { OnOk result (rows_of self.new ≡ applied (Change.Imported row packages references) (rows_of self.old)) }
+        ensures ok { OnOk result (rows_of self.new
+            ≡ applied (Change.Imported row packages references) (rows_of self.old)) }
         ensures err { OnErr result (rows_of self.new ≡ rows_of self.old) }
         ensures tallies { self.new.tallies ≡ self.old.tallies }
-        ensures holders { rows_in self.new.choices.holders.blocks.items ≡ rows_in self.old.choices.holders.blocks.items }
+        ensures holders { rows_in self.new.choices.holders.blocks.items
+            ≡ rows_in self.old.choices.holders.blocks.items }
         ensures fault { IfErr result (λ fault. fault ≡ Fault.Memory) }
     {
         let packages = packages.into_vec();
@@ -321,10 +327,12 @@ impl MemStore {
         changes: Items<ChangeRow>,
     ) -> Result<(), Fault>
         requires { takes (Change.Froze release.now revision frozen duties changes) self.old.ledger ≡ true }
-        ensures ok { OnOk result (rows_of self.new ≡ applied (Change.Froze release.now revision frozen duties changes) (rows_of self.old)) }
+        ensures ok { OnOk result (rows_of self.new
+            ≡ applied (Change.Froze release.now revision frozen duties changes) (rows_of self.old)) }
         ensures err { OnErr result (rows_of self.new ≡ rows_of self.old) }
         ensures tallies { self.new.tallies ≡ self.old.tallies }
-        ensures holders { rows_in self.new.choices.holders.blocks.items ≡ rows_in self.old.choices.holders.blocks.items }
+        ensures holders { rows_in self.new.choices.holders.blocks.items
+            ≡ rows_in self.old.choices.holders.blocks.items }
         ensures fault { IfErr result (λ fault. fault ≡ Fault.Memory) }
     {
         let frozen = frozen.into_vec();
@@ -340,7 +348,8 @@ impl MemStore {
         ensures ok { OnOk result (rows_of self.new ≡ applied (Change.Moved changes) (rows_of self.old)) }
         ensures err { OnErr result (rows_of self.new ≡ rows_of self.old) }
         ensures tallies { self.new.tallies ≡ self.old.tallies }
-        ensures holders { rows_in self.new.choices.holders.blocks.items ≡ rows_in self.old.choices.holders.blocks.items }
+        ensures holders { rows_in self.new.choices.holders.blocks.items
+            ≡ rows_in self.old.choices.holders.blocks.items }
         ensures fault { IfErr result (λ fault. fault ≡ Fault.Memory) }
     {
         self.ledger.move_all(changes.into_vec())?;
@@ -349,11 +358,15 @@ impl MemStore {
 
     fn withdraw(&mut self, release: &Text, changes: Items<ChangeRow>) -> Result<(), Fault>
         requires { takes (Change.Withdrew release.now changes) self.old.ledger ≡ true }
-        ensures ok { OnOk result (rows_of self.new ≡ applied (Change.Withdrew release.now changes) (rows_of self.old)) }
+        ensures ok { OnOk result (rows_of self.new
+            ≡ applied (Change.Withdrew release.now changes) (rows_of self.old)) }
         ensures err { OnErr result (rows_of self.new ≡ rows_of self.old) }
         ensures tallies { self.new.tallies ≡ self.old.tallies }
-        ensures holders { OnOk result (rows_in self.new.choices.holders.blocks.items ≡ holders_after (Change.Withdrew release.now changes) (rows_of self.old).releases (rows_in self.old.choices.holders.blocks.items)) }
-        ensures holders_err { OnErr result (rows_in self.new.choices.holders.blocks.items ≡ rows_in self.old.choices.holders.blocks.items) }
+        ensures holders { OnOk result (rows_in self.new.choices.holders.blocks.items
+            ≡ holders_after (Change.Withdrew release.now changes) (rows_of self.old).releases
+            (rows_in self.old.choices.holders.blocks.items)) }
+        ensures holders_err { OnErr result (rows_in self.new.choices.holders.blocks.items
+            ≡ rows_in self.old.choices.holders.blocks.items) }
         ensures fault { IfErr result (λ fault. fault ≡ Fault.Memory) }
     {
         self.ledger.move_all(changes.into_vec())?;
@@ -369,8 +382,11 @@ impl MemStore {
         ensures ok { OnOk result (rows_of self.new ≡ applied change (rows_of self.old)) }
         ensures err { OnErr result (rows_of self.new ≡ rows_of self.old) }
         ensures tallies { self.new.tallies ≡ self.old.tallies }
-        ensures holders { OnOk result (rows_in self.new.choices.holders.blocks.items ≡ holders_after change (rows_of self.old).releases (rows_in self.old.choices.holders.blocks.items)) }
-        ensures holders_err { OnErr result (rows_in self.new.choices.holders.blocks.items ≡ rows_in self.old.choices.holders.blocks.items) }
+        ensures holders { OnOk result (rows_in self.new.choices.holders.blocks.items
+            ≡ holders_after change (rows_of self.old).releases
+            (rows_in self.old.choices.holders.blocks.items)) }
+        ensures holders_err { OnErr result (rows_in self.new.choices.holders.blocks.items
+            ≡ rows_in self.old.choices.holders.blocks.items) }
         ensures fault { IfErr result (λ fault. fault ≡ Fault.Memory) }
     {
         match change {

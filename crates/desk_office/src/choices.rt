@@ -93,10 +93,16 @@ impl Choices {
         package_id: &Text,
         rows: Items<ChoiceRow>,
     ) -> Result<(), Fault>
-        ensures ok { OnOk result (rows_in self.new.rows.blocks.items ≡ put_all (below_by choice_order) rows (filter (is_other_choice release.now document package_id.now) (rows_in self.old.rows.blocks.items))) }
-        ensures held { OnOk result (rows_in self.new.holders.blocks.items ≡ choosing release.now place document package_id.now rows (rows_in self.old.holders.blocks.items)) }
+        ensures ok { OnOk result (rows_in self.new.rows.blocks.items
+            ≡ put_all (below_by choice_order) rows
+            (filter (is_other_choice release.now document package_id.now)
+            (rows_in self.old.rows.blocks.items))) }
+        ensures held { OnOk result (rows_in self.new.holders.blocks.items
+            ≡ choosing release.now place document package_id.now rows
+            (rows_in self.old.holders.blocks.items)) }
         ensures err { OnErr result (rows_in self.new.rows.blocks.items ≡ rows_in self.old.rows.blocks.items) }
-        ensures held_err { OnErr result (rows_in self.new.holders.blocks.items ≡ rows_in self.old.holders.blocks.items) }
+        ensures held_err { OnErr result (rows_in self.new.holders.blocks.items
+            ≡ rows_in self.old.holders.blocks.items) }
         ensures fault { IfErr result (λ fault. fault ≡ Fault.Memory) }
     {
         let rows = rows.into_vec();
@@ -119,8 +125,10 @@ impl Choices {
 
     /// Drops all choices of the release at a place.
     pub fn withdraw(&mut self, release: &Text, place: Option<u32>)
-        ensures rows { rows_in self.new.rows.blocks.items ≡ filter (is_choice_elsewhere release.now) (rows_in self.old.rows.blocks.items) }
-        ensures held { rows_in self.new.holders.blocks.items ≡ withdrawing release.now place (rows_in self.old.holders.blocks.items) }
+        ensures rows { rows_in self.new.rows.blocks.items
+            ≡ filter (is_choice_elsewhere release.now) (rows_in self.old.rows.blocks.items) }
+        ensures held { rows_in self.new.holders.blocks.items
+            ≡ withdrawing release.now place (rows_in self.old.holders.blocks.items) }
     {
         self.rows.cut(&ByHolder {
             release: release.as_str(),
@@ -132,7 +140,10 @@ impl Choices {
 
     /// The first opened release that holds a choice for a package.
     pub fn holder(&self, document: u32, id: &str) -> Option<&Holder>
-        ensures { (t : Tables) → ArePlaces t.releases → AreHolders (rows_in self.now.holders.blocks.items) t → option_map (λ holder. holder.release) (option_copied result) ≡ holder_found t document id.now }
+        ensures { (t : Tables) → ArePlaces t.releases
+            → AreHolders (rows_in self.now.holders.blocks.items) t
+            → option_map (λ holder. holder.release) (option_copied result)
+            ≡ holder_found t document id.now }
     {
         self.holders.find(&ByHeld { document, id })
     }

@@ -126,7 +126,9 @@ pub(crate) fn drop_choice(
     document: u32,
     package_id: &Text,
 )
-    ensures { rows_in holders.new.blocks.items ≡ filter (λ holder. not (is_holding document package_id.now place release.now holder)) (rows_in holders.old.blocks.items) }
+    ensures { rows_in holders.new.blocks.items ≡ filter (λ holder.
+        not (is_holding document package_id.now place release.now holder))
+        (rows_in holders.old.blocks.items) }
 {
     holders.cut(&ByHolding {
         document,
@@ -144,7 +146,9 @@ pub(crate) fn note(
     document: u32,
     package_id: &Text,
 ) -> Result<(), Fault>
-    ensures ok { OnOk result (rows_in holders.new.blocks.items ≡ replaced (below_by holder_order) (is_holding document package_id.now place release.now) (holder_of release.now place document package_id.now) (rows_in holders.old.blocks.items)) }
+    ensures ok { OnOk result (rows_in holders.new.blocks.items
+        ≡ replaced (below_by holder_order) (is_holding document package_id.now place release.now)
+        (holder_of release.now place document package_id.now) (rows_in holders.old.blocks.items)) }
     ensures err { OnErr result (rows_in holders.new.blocks.items ≡ rows_in holders.old.blocks.items) }
     ensures fault { IfErr result (λ fault. fault ≡ Fault.Memory) }
 {
@@ -161,7 +165,8 @@ pub(crate) fn note(
 
 /// The release holds no choice any more.
 pub(crate) fn drop_release(holders: &mut Blocks<Holder>, release: &Text, place: u32)
-    ensures { rows_in holders.new.blocks.items ≡ filter (λ holder. not (is_of place release.now holder)) (rows_in holders.old.blocks.items) }
+    ensures { rows_in holders.new.blocks.items ≡ filter (λ holder.
+        not (is_of place release.now holder)) (rows_in holders.old.blocks.items) }
 {
     holders.discard(&OfRelease {
         place,

@@ -99,8 +99,11 @@ impl Office {
 
     /// Puts a conclusion in place of an earlier one for its package.
     pub fn conclude(&mut self, row: ConclusionRow) -> Result<(), Fault>
-        ensures ok { OnOk result (rows_in self.new.conclusions.blocks.items ≡ replaced (below_by conclusion_order) (is_conclusion row.document row.package_id) row (rows_in self.old.conclusions.blocks.items)) }
-        ensures err { OnErr result (rows_in self.new.conclusions.blocks.items ≡ rows_in self.old.conclusions.blocks.items) }
+        ensures ok { OnOk result (rows_in self.new.conclusions.blocks.items
+            ≡ replaced (below_by conclusion_order) (is_conclusion row.document row.package_id) row
+            (rows_in self.old.conclusions.blocks.items)) }
+        ensures err { OnErr result (rows_in self.new.conclusions.blocks.items
+            ≡ rows_in self.old.conclusions.blocks.items) }
         ensures adoptions { self.new.adoptions.rows.items ≡ self.old.adoptions.rows.items }
         ensures fault { IfErr result (λ fault. fault ≡ Fault.Memory) }
     {
@@ -115,9 +118,12 @@ impl Office {
 
     /// Puts an adoption in place of an earlier one of its reference.
     pub fn adopt(&mut self, row: AdoptionRow) -> Result<(), Fault>
-        ensures ok { OnOk result (self.new.adoptions.rows.items ≡ replaced (below_by adoption_order) (is_adoption row.document row.reference) row self.old.adoptions.rows.items) }
+        ensures ok { OnOk result (self.new.adoptions.rows.items
+            ≡ replaced (below_by adoption_order)
+            (is_adoption row.document row.reference) row self.old.adoptions.rows.items) }
         ensures err { OnErr result (self.new.adoptions.rows.items ≡ self.old.adoptions.rows.items) }
-        ensures conclusions { rows_in self.new.conclusions.blocks.items ≡ rows_in self.old.conclusions.blocks.items }
+        ensures conclusions { rows_in self.new.conclusions.blocks.items
+            ≡ rows_in self.old.conclusions.blocks.items }
         ensures fault { IfErr result (λ fault. fault ≡ Fault.Memory) }
     {
         self.adoptions.reserve(1)?;

@@ -13,7 +13,8 @@ use std::alloc::Global;
 
 /// Whether a row goes on behind rows that ascend.
 fn goes_on<R: Keyed>(rows: &[R], row: &R) -> bool
-    ensures { result ≡ true → ascends (below_by R.order) rows.now ≡ true → ascends (below_by R.order) (rows.now ++ row.now ∷ []) ≡ true }
+    ensures { result ≡ true → ascends (below_by R.order) rows.now ≡ true
+        → ascends (below_by R.order) (rows.now ++ row.now ∷ []) ≡ true }
 {
     match rows.last() {
         Some(last) => last.compare(row).is_le(),

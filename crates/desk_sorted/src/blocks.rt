@@ -89,7 +89,8 @@ fn block_for<R: Keyed>(blocks: &[Vec<R>], row: &R) -> usize
     requires ascending { ascends (below_by R.order) (rows_in blocks.now) ≡ true }
     requires filled { are_filled blocks.now ≡ true }
     ensures within { result < length blocks.now }
-    ensures place { is_between (below_by R.order) (rows_in (take result blocks.now)) (rows_in (drop (suc result) blocks.now)) row.now ≡ true }
+    ensures place { is_between (below_by R.order) (rows_in (take result blocks.now))
+        (rows_in (drop (suc result) blocks.now)) row.now ≡ true }
 {
     let place = blocks.partition_point(|block| ends_under(block.as_slice(), row));
     if place < blocks.len() {
@@ -111,7 +112,8 @@ fn run_in<'a, R: Keyed, K: Sought<R>>(block: &'a [R], key: &K) -> &'a [R]
 /// Turns so many rows from a place on to the end.
 fn turn_out<R>(rows: &mut Vec<R>, start: usize, count: usize)
     requires within { start + count ≤ length rows.old.items }
-    ensures items { rows.new.items ≡ take start rows.old.items ++ (drop count (drop start rows.old.items) ++ take count (drop start rows.old.items)) }
+    ensures items { rows.new.items ≡ take start rows.old.items ++
+        (drop count (drop start rows.old.items) ++ take count (drop start rows.old.items)) }
     ensures len { vec_len rows.new ≡ vec_len rows.old }
     ensures capacity { vec_capacity rows.new ≡ vec_capacity rows.old }
 {
@@ -193,7 +195,8 @@ fn replace_within<R: Keyed + Drop, K: Sought<R>>(
     requires ascending { ascends (below_by R.order) (rows_in blocks.old) ≡ true }
     requires filled { are_filled blocks.old ≡ true }
     requires room { HasRoom (below_by R.order) (λ row. not (K.is_at key.now row)) more.items blocks.old at }
-    ensures rows { rows_in blocks.new ≡ put_all (below_by R.order) more.items (filter (λ row. not (K.is_at key.now row)) (rows_in blocks.old)) }
+    ensures rows { rows_in blocks.new ≡ put_all (below_by R.order) more.items
+        (filter (λ row. not (K.is_at key.now row)) (rows_in blocks.old)) }
     ensures length { length blocks.new ≡ length blocks.old }
 {
     let (front, rest) = blocks.split_at_mut(at);
@@ -213,7 +216,9 @@ fn reserve_at<R: Drop>(blocks: &mut Vec<Vec<R>>, at: usize, count: usize) -> Res
     ensures rows { rows_in blocks.new.items ≡ rows_in blocks.old.items }
     ensures filled { are_filled blocks.new.items ≡ are_filled blocks.old.items }
     ensures len { vec_len blocks.new ≡ vec_len blocks.old }
-    ensures room { OnOk result ((d : Vec R Global) → vec_len (get_or blocks.new.items at d) + count ≤ vec_capacity (get_or blocks.new.items at d)) }
+    ensures room { OnOk result ((d : Vec R Global)
+        → vec_len (get_or blocks.new.items at d) + count
+        ≤ vec_capacity (get_or blocks.new.items at d)) }
 {
     blocks[at].reserve(count)?;
     Ok(())
@@ -224,8 +229,10 @@ fn put_at<R: Keyed + Drop>(blocks: &mut Vec<Vec<R>>, at: usize, row: R)
     requires within { at < vec_len blocks.old }
     requires ascending { ascends (below_by R.order) (rows_in blocks.old.items) ≡ true }
     requires filled { are_filled blocks.old.items ≡ true }
-    requires room { (d : Vec R Global) → vec_len (get_or blocks.old.items at d) + 1 ≤ vec_capacity (get_or blocks.old.items at d) }
-    requires place { is_between (below_by R.order) (rows_in (take at blocks.old.items)) (rows_in (drop (suc at) blocks.old.items)) row ≡ true }
+    requires room { (d : Vec R Global) → vec_len (get_or blocks.old.items at d) + 1
+        ≤ vec_capacity (get_or blocks.old.items at d) }
+    requires place { is_between (below_by R.order) (rows_in (take at blocks.old.items))
+        (rows_in (drop (suc at) blocks.old.items)) row ≡ true }
     ensures rows { rows_in blocks.new.items ≡ put (below_by R.order) row (rows_in blocks.old.items) }
     ensures filled { are_filled blocks.new.items ≡ true }
 {
@@ -274,7 +281,8 @@ fn join<R: Drop>(blocks: &mut Vec<Vec<R>>) -> Result<(), AllocError>
 
 /// Adds the rows to those that are found.
 fn add_each<'a, R>(found: &mut Vec<&'a R>, rows: &'a [R]) -> Result<(), AllocError>
-    ensures { OnOk result (map (λ row. row.now) found.new.items ≡ map (λ row. row.now) found.old.items ++ rows.now) }
+    ensures { OnOk result (map (λ row. row.now) found.new.items ≡ map (λ row.
+        row.now) found.old.items ++ rows.now) }
 {
     for row in rows {
         found.push(row)?;
@@ -328,7 +336,8 @@ impl<R: Keyed + Drop> Blocks<R> {
 
     /// The blocks where the rows stand that are sought.
     fn among<K: Sought<R>>(&self, key: &K) -> &[Vec<R>]
-        ensures found { filter (K.is_at key.now) (rows_in result.now) ≡ filter (K.is_at key.now) (rows_in self.now.blocks.items) }
+        ensures found { filter (K.is_at key.now) (rows_in result.now)
+            ≡ filter (K.is_at key.now) (rows_in self.now.blocks.items) }
         ensures ascending { ascends (below_by R.order) (rows_in result.now) ≡ true }
     {
         let run = blocks_of(self.blocks.as_slice(), key);
@@ -356,7 +365,8 @@ impl<R: Keyed + Drop> Blocks<R> {
 
     /// The rows that are sought.
     pub fn run<K: Sought<R>>(&self, key: &K) -> Result<Vec<&R>, AllocError>
-        ensures { IfOk result (λ run. map (λ row. row.now) run.items ≡ filter (K.is_at key.now) (rows_in self.now.blocks.items)) }
+        ensures { IfOk result (λ run. map (λ row. row.now) run.items
+            ≡ filter (K.is_at key.now) (rows_in self.now.blocks.items)) }
     {
         let mut found = Vec::new(self.alloc);
         for block in self.among(key) {
@@ -367,7 +377,8 @@ impl<R: Keyed + Drop> Blocks<R> {
 
     /// Cuts out the rows that are sought.
     pub fn cut<K: Sought<R>>(&mut self, key: &K)
-        ensures { rows_in self.new.blocks.items ≡ filter (λ row. not (K.is_at key.now row)) (rows_in self.old.blocks.items) }
+        ensures { rows_in self.new.blocks.items ≡ filter (λ row.
+            not (K.is_at key.now row)) (rows_in self.old.blocks.items) }
     {
         cut_within(&mut *self.blocks, key);
         drop_empty(&mut self.blocks);
@@ -375,7 +386,8 @@ impl<R: Keyed + Drop> Blocks<R> {
 
     /// Drops the rows that pass a test.
     pub fn discard<T: Test<R>>(&mut self, test: &T)
-        ensures { rows_in self.new.blocks.items ≡ filter (λ row. not (T.passes test.now row)) (rows_in self.old.blocks.items) }
+        ensures { rows_in self.new.blocks.items ≡ filter (λ row.
+            not (T.passes test.now row)) (rows_in self.old.blocks.items) }
     {
         discard_each(&mut *self.blocks, test);
         drop_empty(&mut self.blocks);
@@ -397,7 +409,9 @@ impl<R: Keyed + Drop> Blocks<R> {
         requires { 0 < vec_len self.old.blocks }
         ensures rows { rows_in self.new.blocks.items ≡ rows_in self.old.blocks.items }
         ensures within { IfOk result (λ at. at < length self.new.blocks.items) }
-        ensures place { IfOk result (λ at. is_between (below_by R.order) (rows_in (take at self.new.blocks.items)) (rows_in (drop (suc at) self.new.blocks.items)) row.now ≡ true) }
+        ensures place { IfOk result (λ at. is_between (below_by R.order)
+            (rows_in (take at self.new.blocks.items))
+            (rows_in (drop (suc at) self.new.blocks.items)) row.now ≡ true) }
     {
         let at = block_for(self.blocks.as_slice(), row);
         if self.blocks[at].len() < FULL {
@@ -412,7 +426,11 @@ impl<R: Keyed + Drop> Blocks<R> {
         requires { 0 < vec_len self.old.blocks }
         ensures rows { rows_in self.new.blocks.items ≡ rows_in self.old.blocks.items }
         ensures within { IfOk result (λ at. at < length self.new.blocks.items) }
-        ensures place { IfOk result (λ at. list_all (is_between (below_by R.order) (filter (λ row. not (K.is_at key.now row)) (rows_in (take at self.new.blocks.items))) (filter (λ row. not (K.is_at key.now row)) (rows_in (drop (suc at) self.new.blocks.items)))) more.now ≡ true) }
+        ensures place { IfOk result (λ at. list_all
+            (is_between (below_by R.order) (filter (λ row. not (K.is_at key.now row))
+            (rows_in (take at self.new.blocks.items)))
+            (filter (λ row. not (K.is_at key.now row))
+            (rows_in (drop (suc at) self.new.blocks.items)))) more.now ≡ true) }
     {
         match more.first() {
             Some(first) if are_at(more, key) => self.open(first),
@@ -427,7 +445,8 @@ impl<R: Keyed + Drop> Blocks<R> {
     /// Makes room for rows in place of those that are sought: all in one block, whose place is the answer.
     pub fn make_room<K: Sought<R>>(&mut self, key: &K, more: &[R]) -> Result<usize, AllocError>
         ensures rows { rows_in self.new.blocks.items ≡ rows_in self.old.blocks.items }
-        ensures room { IfOk result (λ at. HasRoom (below_by R.order) (λ row. not (K.is_at key.now row)) more.now self.new.blocks.items at) }
+        ensures room { IfOk result (λ at. HasRoom (below_by R.order) (λ row.
+            not (K.is_at key.now row)) more.now self.new.blocks.items at) }
     {
         self.start()?;
         let at = self.place_for(key, more)?;
@@ -437,8 +456,10 @@ impl<R: Keyed + Drop> Blocks<R> {
 
     /// Puts rows in place of those that are sought, where there is room for them.
     pub fn replace<K: Sought<R>>(&mut self, key: &K, at: usize, more: Vec<R>)
-        requires { HasRoom (below_by R.order) (λ row. not (K.is_at key.now row)) more.items self.old.blocks.items at }
-        ensures { rows_in self.new.blocks.items ≡ put_all (below_by R.order) more.items (filter (λ row. not (K.is_at key.now row)) (rows_in self.old.blocks.items)) }
+        requires { HasRoom (below_by R.order) (λ row.
+            not (K.is_at key.now row)) more.items self.old.blocks.items at }
+        ensures { rows_in self.new.blocks.items ≡ put_all (below_by R.order) more.items (filter (λ row.
+            not (K.is_at key.now row)) (rows_in self.old.blocks.items)) }
     {
         replace_within(&mut *self.blocks, at, key, more);
         drop_empty(&mut self.blocks);
@@ -446,7 +467,8 @@ impl<R: Keyed + Drop> Blocks<R> {
 
     /// Puts a row in place of those that are sought.
     pub fn exchange<K: Sought<R>>(&mut self, key: &K, row: R) -> Result<(), AllocError>
-        ensures ok { OnOk result (rows_in self.new.blocks.items ≡ replaced (below_by R.order) (K.is_at key.now) row (rows_in self.old.blocks.items)) }
+        ensures ok { OnOk result (rows_in self.new.blocks.items
+            ≡ replaced (below_by R.order) (K.is_at key.now) row (rows_in self.old.blocks.items)) }
         ensures err { OnErr result (rows_in self.new.blocks.items ≡ rows_in self.old.blocks.items) }
     {
         let mut rows = Vec::new(self.alloc);
@@ -458,7 +480,8 @@ impl<R: Keyed + Drop> Blocks<R> {
 
     /// Puts a row in its place.
     pub fn put(&mut self, row: R) -> Result<(), AllocError>
-        ensures ok { OnOk result (rows_in self.new.blocks.items ≡ put (below_by R.order) row (rows_in self.old.blocks.items)) }
+        ensures ok { OnOk result (rows_in self.new.blocks.items
+            ≡ put (below_by R.order) row (rows_in self.old.blocks.items)) }
         ensures err { OnErr result (rows_in self.new.blocks.items ≡ rows_in self.old.blocks.items) }
     {
         self.start()?;

@@ -77,7 +77,8 @@ fn climbs<R: Keyed>(rows: &[R]) -> bool
 fn place_of_all<R: Keyed>(rows: &[R], more: &[R]) -> Option<usize>
     requires { ascends (below_by R.order) rows.now ≡ true }
     ensures within { IfSome result (λ place. place ≤ length rows.now) }
-    ensures place { IfSome result (λ place. put_all (below_by R.order) more.now rows.now ≡ take place rows.now ++ (more.now ++ drop place rows.now)) }
+    ensures place { IfSome result (λ place. put_all (below_by R.order) more.now rows.now
+        ≡ take place rows.now ++ (more.now ++ drop place rows.now)) }
 {
     let (Some(first), Some(last)) = (more.first(), more.last()) else {
         return None;
