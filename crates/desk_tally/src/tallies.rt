@@ -88,9 +88,10 @@ impl Tallies {
 
     /// How many duties of the release at a place stand where, if there is one.
     pub fn totals(&self, place: u32) -> Option<Totals>
-        ensures { (t : Tables) (name : List ℕ) → AreKept self.now t
+        ensures kept { (t : Tables) (name : List ℕ) → AreKept self.now t
             → place_found t.releases name ≡ Some place
             → result ≡ Some (totals_of (filter (is_duty_of name) t.duty)) }
+        ensures within { IfSome result (λ found. (1 ≤ place) × (place ≤ length self.now.tallies.items)) }
     {
         if place == 0 {
             return None;

@@ -5,8 +5,8 @@ use Rattle.desk_tally.proofs.Counts.{get_none}
 use Rattle.desk_tally.proofs.Found.{totals-found}
 use Rattle.desk_tally.proofs.tallies.Tallies.totals.Goals as goal
 
-pub returns-in-Some : goal.returns-in-Some
-returns-in-Some c = λ t name kept found.
+pub returns-in-Some-clause-kept : goal.returns-in-Some-clause-kept
+returns-in-Some-clause-kept c = λ t name kept found.
     let self = c.args.self.now in
     let index = c.args.place - 1 in
     let at : slice_get self.tallies.items index ≡ Some c.in-Some.tally.now = ap (λ xs. slice_get xs index) (sym c.as_slice.ensures.value) ∙ sym c.in-Some.ensures in
@@ -15,8 +15,8 @@ returns-in-Some c = λ t name kept found.
     ∙ (ap (λ n. totals_at n self.stands.items) same
     ∙ totals-found (length self.tallies.items) self.stands.items t name c.args.place kept found)))
 
-pub returns-in-None : goal.returns-in-None
-returns-in-None c = λ t name kept found.
+pub returns-in-None-clause-kept : goal.returns-in-None-clause-kept
+returns-in-None-clause-kept c = λ t name kept found.
     let self = c.args.self.now in
     let index = c.args.place - 1 in
     let within = kept.places.within name c.args.place found in
