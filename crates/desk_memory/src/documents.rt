@@ -45,9 +45,7 @@ impl Documents {
         ensures err { OnErr result (self.new.rows.rows.items ≡ self.old.rows.rows.items) }
         ensures fault { IfErr result (λ fault. fault ≡ Fault.Memory) }
     {
-        let Ok(namespace) = row.namespace.clone() else {
-            return Err(Fault::Memory);
-        };
+        let namespace = row.namespace.clone()?;
         self.rows.reserve(1)?;
         self.by_namespace.reserve(1)?;
         let place = self.rows.len();

@@ -71,13 +71,9 @@ impl Rules {
         ensures err { OnErr result (self.new.rows.items ≡ self.old.rows.items) }
         ensures fault { IfErr result (λ fault. fault ≡ Fault.Memory) }
     {
-        let Ok(places) = places_of(self.alloc, rules.as_slice(), self.rows.len()) else {
-            return Err(Fault::Memory);
-        };
+        let places = places_of(self.alloc, rules.as_slice(), self.rows.len())?;
         self.places.reserve(places.len())?;
-        let Ok(()) = self.rows.append(&mut rules) else {
-            return Err(Fault::Memory);
-        };
+        self.rows.append(&mut rules)?;
         self.places.put_in_turn(places);
         Ok(())
     }

@@ -477,10 +477,7 @@ impl Store for MemStore {
     fn rule(&mut self, term: &str, form: &str) -> Result<Option<Rule>, Fault> {
         let revision = self.catalogue.len() as u64;
         match self.rules.find(revision, term, form) {
-            Some(row) => match rule_copy(self.alloc, row) {
-                Ok(rule) => Ok(Some(rule)),
-                Err(_) => Err(Fault::Memory),
-            },
+            Some(row) => Ok(Some(rule_copy(self.alloc, row)?)),
             None => Ok(None),
         }
     }
@@ -507,36 +504,25 @@ impl Store for MemStore {
         let Some(row) = self.documents.rows.find(&ByNumber { number }) else {
             return Ok(None);
         };
-        let Ok(bytes) = Vec::from_slice(self.alloc, row.bytes.as_slice()) else {
-            return Err(Fault::Memory);
-        };
+        let bytes = Vec::from_slice(self.alloc, row.bytes.as_slice())?;
         Ok(Some((Items::from_vec(bytes), row.profile)))
     }
 
     fn package_row(&mut self, document: u64, id: &str) -> Result<Option<PackageRow>, Fault> {
         match self.packages.find(&ById { document, id }) {
-            Some(row) => match package_copy(row) {
-                Ok(row) => Ok(Some(row)),
-                Err(_) => Err(Fault::Memory),
-            },
+            Some(row) => Ok(Some(package_copy(row)?)),
             None => Ok(None),
         }
     }
 
     fn shipped(&mut self, document: u32) -> Result<Vec<PackageRow>, Fault> {
         let rows = self.packages.among(&ByDocument { document });
-        match shipped_rows(self.alloc, rows, document) {
-            Ok(rows) => Ok(rows),
-            Err(_) => Err(Fault::Memory),
-        }
+        Ok(shipped_rows(self.alloc, rows, document)?)
     }
 
     fn release(&mut self, name: &str) -> Result<Option<ReleaseRow>, Fault> {
         match self.releases.find(&ByName { name }) {
-            Some(row) => match release_copy(row) {
-                Ok(row) => Ok(Some(row)),
-                Err(_) => Err(Fault::Memory),
-            },
+            Some(row) => Ok(Some(release_copy(row)?)),
             None => Ok(None),
         }
     }
@@ -546,10 +532,8 @@ impl Store for MemStore {
     }
 
     fn attached(&mut self, release: &str) -> Result<Vec<AttachedRow>, Fault> {
-        match attached_copies(self.alloc, self.attached.run(&ByRelease { release })) {
-            Ok(rows) => Ok(rows),
-            Err(_) => Err(Fault::Memory),
-        }
+        let rows = self.attached.run(&ByRelease { release });
+        Ok(attached_copies(self.alloc, rows)?)
     }
 
     fn is_attached(&mut self, release: &str, document: u64) -> Result<bool, Fault> {
@@ -599,10 +583,7 @@ impl Store for MemStore {
 
     fn duty(&mut self, number: u64) -> Result<Option<DutyRow>, Fault> {
         match self.ledger.find(number) {
-            Some(row) => match duty_copy(row) {
-                Ok(row) => Ok(Some(row)),
-                Err(_) => Err(Fault::Memory),
-            },
+            Some(row) => Ok(Some(duty_copy(row)?)),
             None => Ok(None),
         }
     }
@@ -612,10 +593,7 @@ impl Store for MemStore {
     }
 
     fn duties_of(&mut self, release: &str) -> Result<Vec<DutyRow>, Fault> {
-        match duties_of(self.alloc, self.ledger.duties(), release) {
-            Ok(rows) => Ok(rows),
-            Err(_) => Err(Fault::Memory),
-        }
+        Ok(duties_of(self.alloc, self.ledger.duties(), release)?)
     }
 
     fn tally(&mut self, release: &str) -> Result<Option<Totals>, Fault> {
@@ -626,17 +604,11 @@ impl Store for MemStore {
     }
 
     fn standings_of(&mut self, release: &str) -> Result<Vec<Standing>, Fault> {
-        match self.ledger.standings_of(release) {
-            Ok(found) => Ok(found),
-            Err(_) => Err(Fault::Memory),
-        }
+        Ok(self.ledger.standings_of(release)?)
     }
 
     fn ended(&mut self, day: Day) -> Result<Vec<Standing>, Fault> {
-        match self.ledger.ended(day) {
-            Ok(found) => Ok(found),
-            Err(_) => Err(Fault::Memory),
-        }
+        Ok(self.ledger.ended(day)?)
     }
 
     fn steps(&mut self, duty: u64) -> Result<u64, Fault> {
@@ -644,10 +616,7 @@ impl Store for MemStore {
     }
 
     fn changes_of(&mut self, duty: u64) -> Result<Vec<ChangeRow>, Fault> {
-        match change_copies(self.alloc, self.ledger.changes(duty)) {
-            Ok(rows) => Ok(rows),
-            Err(_) => Err(Fault::Memory),
-        }
+        Ok(change_copies(self.alloc, self.ledger.changes(duty))?)
     }
 
     fn last_day(&mut self, duty: u32) -> Result<Option<Day>, Fault> {

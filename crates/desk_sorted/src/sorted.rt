@@ -147,10 +147,8 @@ pub fn reserve<R>(rows: &mut Vec<R>, count: usize) -> Result<(), Fault>
     ensures room { OnOk result (vec_len rows.new + count ≤ vec_capacity rows.new) }
     ensures fault { IfErr result (λ fault. fault ≡ Fault.Memory) }
 {
-    match rows.reserve(count) {
-        Ok(()) => Ok(()),
-        Err(_) => Err(Fault::Memory),
-    }
+    rows.reserve(count)?;
+    Ok(())
 }
 
 /// The item at a place, if there is one.

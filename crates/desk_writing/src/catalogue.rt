@@ -81,9 +81,7 @@ pub(crate) fn add_rule<S: Alter>(
         (state S.Store tx.old.conn.now) (state S.Store tx.new.conn.now) result }
     ensures survives { Survives (state S.Store tx.old.conn.now) (state S.Store tx.new.conn.now) (λ _. ⊥) }
 {
-    let Ok(codes) = joined(alloc, row.codes.as_slice()) else {
-        return Err(Fault::Memory);
-    };
+    let codes = joined(alloc, row.codes.as_slice())?;
     execute(
         tx,
         "INSERT INTO rule VALUES (?1, ?2, ?3, ?4, ?5)",
