@@ -11,4 +11,4 @@ returns-clause-wrote g c =
     let old = state g.S.Store c.args.tx.now.conn.now in
     let new = state g.S.Store c.execute.new.tx.conn.now in
     wrote_by cells_of (with_tables (λ t. record t { duty = t.duty ++ c.args.rows.now })) add_eight_duties_text (flat_map duty_cells c.args.rows.now) old new c.execute.result
-    (rw (c.as_slice.ensures.value, c.in-Ok.ensures) at c.execute.ensures.ran) (duties_added c.args.rows.now c.requires old new)
+    (rw (c.as_slice.ensures.value, c.in_ok-values.ensures) at c.execute.ensures.ran) (duties_added c.args.rows.now c.requires old new)
