@@ -105,13 +105,14 @@ fn refusal_of(
     }
 }
 
-fn unconcluded(row: &PackageRow) -> Result<Option<Refusal>, AllocError>
-    ensures { IfOk result (λ refusal. refusal ≡ Some (Refusal.NoConclusion row.now.document row.now.id)) }
+/// What is refused of a package without a conclusion.
+fn unconcluded(row: &PackageRow) -> Result<Refusal, AllocError>
+    ensures { IfOk result (λ refusal. refusal ≡ Refusal.NoConclusion row.now.document row.now.id) }
 {
-    Ok(Some(Refusal::NoConclusion {
+    Ok(Refusal::NoConclusion {
         document: row.document,
         package_id: row.id.clone()?,
-    }))
+    })
 }
 
 /// What a reader tells of terms and the text of a conclusion.
@@ -145,9 +146,9 @@ fn judge<T: Texts>(
         },
         Claim::Field(conclusion) => match verdict_on(alloc, texts, conclusion, terms)? {
             Some(verdict) => refusal_of(alloc, terms, verdict),
-            None => unconcluded(row),
+            None => Ok(Some(unconcluded(row)?)),
         },
-        Claim::Nothing => unconcluded(row),
+        Claim::Nothing => Ok(Some(unconcluded(row)?)),
     }
 }
 

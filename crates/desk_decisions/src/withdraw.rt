@@ -17,7 +17,7 @@ use desk_rows::{Answer, Change, ChangeRow, DutyState, Fault, Move, Plan, Refusal
 use std::alloc::{AllocError, Global};
 
 /// The number of the step after so many. A duty of a recorded history has at most 1,000 changes; where rows that no command made have
-/// as many as a step's number can tell, no room is had for one more.
+/// as many as a step's number can tell, want of memory is answered.
 fn step_after(steps: u64) -> Result<u32, AllocError>
     ensures { IfOk result (λ step. step ≡ steps + 1) }
 {

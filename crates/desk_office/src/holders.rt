@@ -10,7 +10,7 @@ ghost use Rattle.desk_office.specs.HolderLaws.{held_meets, held_splits, holder_t
 
 use desk_base::Text;
 use desk_rows::Fault;
-use desk_sorted::{Blocks, Keyed, Sought, Test};
+use desk_sorted::{Blocks, Keyed, RowTest, Sought};
 use std::alloc::AllocError;
 use std::cmp::Ordering;
 
@@ -94,7 +94,7 @@ struct OfRelease<'a> {
     name: &'a str,
 }
 
-impl Test<Holder> for OfRelease<'_> {
+impl RowTest<Holder> for OfRelease<'_> {
     ghost passes = { λ test. is_of test.place test.name.now };
 
     fn passes(&self, holder: &Holder) -> bool {

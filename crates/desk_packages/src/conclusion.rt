@@ -76,10 +76,12 @@ pub fn conclusion_of<T: Texts, S: Store>(
     match claim_of(store, row)? {
         Claim::Office(conclusion) => Ok(Some(conclusion)),
         Claim::Field(conclusion) => {
-            if texts.is_expression(alloc, conclusion.profile, conclusion.text.as_str())? {
-                return Ok(Some(conclusion));
+            let text = conclusion.text.as_str();
+            if texts.is_expression(alloc, conclusion.profile, text)? {
+                Ok(Some(conclusion))
+            } else {
+                Ok(None)
             }
-            Ok(None)
         }
         Claim::Nothing => Ok(None),
     }

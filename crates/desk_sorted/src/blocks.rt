@@ -298,7 +298,7 @@ fn are_at<R: Keyed, K: Sought<R>>(rows: &[R], key: &K) -> bool
 }
 
 /// Drops the rows of each block that pass a test.
-fn discard_each<R: Drop, T: Test<R>>(blocks: &mut [Vec<R>], test: &T)
+fn discard_each<R: Drop, T: RowTest<R>>(blocks: &mut [Vec<R>], test: &T)
     ensures rows { rows_in blocks.new ≡ filter (λ row. not (T.passes test.now row)) (rows_in blocks.old) }
     ensures length { length blocks.new ≡ length blocks.old }
 {
@@ -308,9 +308,10 @@ fn discard_each<R: Drop, T: Test<R>>(blocks: &mut [Vec<R>], test: &T)
 }
 
 /// A test of rows.
-pub trait Test<R> {
+pub trait RowTest<R> {
     ghost passes: { Self → R → Bool };
 
+    /// Whether a row passes.
     fn passes(&self, row: &R) -> bool
         ensures { result ≡ passes self.now row.now };
 }
@@ -319,12 +320,14 @@ pub trait Test<R> {
 #[derive(Drop)]
 pub struct Blocks<R: Keyed> {
     alloc: Global,
+    /// Each but the first has a row.
     pub blocks: Vec<Vec<R>>,
     pub ghost ascending: { ascends (below_by R.order) (rows_in blocks.items) ≡ true },
     pub ghost filled: { are_filled blocks.items ≡ true },
 }
 
 impl<R: Keyed + Drop> Blocks<R> {
+    /// No rows.
     pub fn new(alloc: Global) -> Blocks<R>
         ensures { rows_in result.blocks.items ≡ [] }
     {
@@ -385,7 +388,7 @@ impl<R: Keyed + Drop> Blocks<R> {
     }
 
     /// Drops the rows that pass a test.
-    pub fn discard<T: Test<R>>(&mut self, test: &T)
+    pub fn discard<T: RowTest<R>>(&mut self, test: &T)
         ensures { rows_in self.new.blocks.items ≡ filter (λ row.
             not (T.passes test.now row)) (rows_in self.old.blocks.items) }
     {

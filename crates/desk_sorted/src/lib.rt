@@ -1,7 +1,7 @@
 //! Lists of rows that are found by halving.
 //!
-//! `Sorted` keeps rows in the order of their keys, and `Appended` in the order in which they came, which mostly is that of their
-//! keys. Either is looked up by a key, or by what a key begins with.
+//! `Sorted` keeps rows in the order of their keys, `Blocks` does so in blocks, of which a change moves one, and `Appended` keeps them in
+//! the order in which they came, which mostly is that of their keys. Each is looked up by a key, or by what a key begins with.
 #![tactic(auto)]
 
 mod appended;
@@ -10,5 +10,5 @@ mod sorted;
 mod tables;
 
 pub use appended::Appended;
-pub use blocks::{Blocks, Test};
+pub use blocks::{Blocks, RowTest};
 pub use sorted::{Keyed, Run, Sorted, Sought, item_at, reserve, run_of};

@@ -14,6 +14,6 @@ pub enum TreeFault {
     #[error("cannot read {0:?}: {1}")]
     Read(String, io::Error),
     /// What was a file is none any more: its path.
-    #[error("cannot read {0:?}: it was a file and is none any more; try again when nothing changes the folder")]
+    #[error("cannot read {0:?}: it is no file any more; try again when nothing changes the folder")]
     Changed(String),
 }

@@ -40,7 +40,11 @@ fn bytes_at<R: Files + AllocGlobal + Clone + Drop>(
         return Ok(None);
     }
     let mut file = fs::open(rt, place)?;
-    let size = file.metadata()?.len();
+    let found = file.metadata()?;
+    if !found.is_file() {
+        return Ok(None);
+    }
+    let size = found.len();
     let room = usize::try_from(size).unwrap_or(usize::MAX);
     let mut bytes = Vec::with_capacity(rt.alloc(), room.saturating_add(1))?;
     bytes.resize(room.min(FIRST_READ), 0)?;

@@ -11,20 +11,20 @@ use Rattle.desk_sorted.proofs.blocks.Blocks.discard.Goals as goal
 pub invariant_of-self : goal.invariant_of-self
 invariant_of-self g c =
     let below = below_by g.R.Keyed.order in
-    let rows : rows_in c.drop_empty.new.blocks.items ≡ filter (λ row. not (g.T.Test.passes c.args.test.now row)) (rows_in c.args.self.now.blocks.items) =
+    let rows : rows_in c.drop_empty.new.blocks.items ≡ filter (λ row. not (g.T.RowTest.passes c.args.test.now row)) (rows_in c.args.self.now.blocks.items) =
     c.drop_empty.ensures.rows
     ∙ (ap (λ (bs : List (Vec g.row.R.Denot Global)). rows_in bs) (with_items_is c.args.self.now.blocks c.discard_each.new.blocks (c.discard_each.ensures.length ∙ (ap length c.deref_mut.ensures.value ∙ sym c.args.self.now.blocks.ok.0)))
-    ∙ (c.discard_each.ensures.rows ∙ ap (λ (bs : List (Vec g.row.R.Denot Global)). filter (λ row. not (g.T.Test.passes c.args.test.now row)) (rows_in bs)) c.deref_mut.ensures.value)) in
+    ∙ (c.discard_each.ensures.rows ∙ ap (λ (bs : List (Vec g.row.R.Denot Global)). filter (λ row. not (g.T.RowTest.passes c.args.test.now row)) (rows_in bs)) c.deref_mut.ensures.value)) in
     record {
-      ascending = ap (ascends below) rows ∙ ascends-filter below (λ row. not (g.T.Test.passes c.args.test.now row)) (rows_in c.args.self.now.blocks.items) c.args.self.now.ascending;
+      ascending = ap (ascends below) rows ∙ ascends-filter below (λ row. not (g.T.RowTest.passes c.args.test.now row)) (rows_in c.args.self.now.blocks.items) c.args.self.now.ascending;
       filled = c.drop_empty.ensures.filled;
     }
 
 pub returns : goal.returns
 returns g c =
     let below = below_by g.R.Keyed.order in
-    let rows : rows_in c.drop_empty.new.blocks.items ≡ filter (λ row. not (g.T.Test.passes c.args.test.now row)) (rows_in c.args.self.now.blocks.items) =
+    let rows : rows_in c.drop_empty.new.blocks.items ≡ filter (λ row. not (g.T.RowTest.passes c.args.test.now row)) (rows_in c.args.self.now.blocks.items) =
     c.drop_empty.ensures.rows
     ∙ (ap (λ (bs : List (Vec g.row.R.Denot Global)). rows_in bs) (with_items_is c.args.self.now.blocks c.discard_each.new.blocks (c.discard_each.ensures.length ∙ (ap length c.deref_mut.ensures.value ∙ sym c.args.self.now.blocks.ok.0)))
-    ∙ (c.discard_each.ensures.rows ∙ ap (λ (bs : List (Vec g.row.R.Denot Global)). filter (λ row. not (g.T.Test.passes c.args.test.now row)) (rows_in bs)) c.deref_mut.ensures.value)) in
+    ∙ (c.discard_each.ensures.rows ∙ ap (λ (bs : List (Vec g.row.R.Denot Global)). filter (λ row. not (g.T.RowTest.passes c.args.test.now row)) (rows_in bs)) c.deref_mut.ensures.value)) in
     rows
