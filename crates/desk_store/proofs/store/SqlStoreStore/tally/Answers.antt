@@ -1,3 +1,9 @@
+use Rattle.std.proofs.Common.{◌≡◌, ◌∙◌, ap, sym, Some, filter}
+use Rattle.std.specs.Option.{option_map}
+use Rattle.desk_history.specs.FromTables.{release_found}
+use Rattle.desk_rows.specs.Keys.{is_duty_of}
+use Rattle.desk_rows.specs.Queries.{totals_of}
+use Rattle.desk_rows.specs.declared.row.ReleaseRow.{ReleaseRow}
 use Rattle.sqlite.specs.Held.{state}
 use Rattle.desk_access.proofs.Chains.{looked_err}
 use Rattle.desk_layout.specs.Held.{seen_of}
@@ -21,3 +27,10 @@ pub returns-in-None-clause-kept : goal.returns-in-None-clause-kept
 returns-in-None-clause-kept g c =
     let self = c.args.self.now in
     same self.tallies (known_by self.counts self.forms) (seen_of (state g.S.Store self.conn)) (seen_of (state g.S.Store c.release.new.conn)) c.in_ok-row.ensures.kept
+
+pub returns-in-Some-clause-found : goal.returns-in-Some-clause-found
+returns-in-Some-clause-found g c = λ h t held.
+    let release = c.args.release.now in
+    let found : release_found t release ≡ Some c.in-Some.row = sym (c.in_ok-row.ensures.found h t held.2) ∙ c.in-Some.is in
+    c.totals.ensures.kept t release held.1 (ap (option_map (λ (row : ReleaseRow). row.place)) found)
+    ∙ sym (ap (option_map (λ (row : ReleaseRow). totals_of (filter (is_duty_of release) t.duty))) found)
