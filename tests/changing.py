@@ -8,6 +8,7 @@ good: a pipe, which nobody writes, must not be waited for, and a file that grows
 import json
 import os
 import random
+import re
 import subprocess
 import sys
 import tempfile
@@ -132,7 +133,10 @@ def judge(program, root, scratch, command, done):
     if done.returncode not in (0, 1) or err:
         return f"status {done.returncode} with {err[:400]!r}"
     if command == "lint":
-        json.loads(out)
+        try:
+            json.loads(out)
+        except ValueError:
+            return f"a report that is no JSON: {out[:200]!r}"
         return None
     if done.returncode == 1:
         return None if out.startswith("fault: ") and out.count("\n") == 1 else f"status 1 with {out[:200]!r}"
@@ -150,14 +154,21 @@ def commands(program, root):
     return [("gather", [program, "gather", root, *GATHER]), ("lint", [program, "lint", "--json", root])]
 
 
+def are_all(ended):
+    """Whether each command answered, and told of a change."""
+    return all((name, 3) in ended and ((name, 0) in ended or (name, 1) in ended) for name in ("gather", "lint"))
+
+
 def change_all(program, root, scratch, seconds):
-    """Runs both commands while files change, and counts how they ended."""
+    """Runs both commands while files change, and counts how they ended: each has to answer once at least, and to meet a change once."""
     for folder in range(4):
         for n in range(FILES):
             write(os.path.join(root, f"src/{folder}/file{n}.c"), TAGS + LINE * 100)
-    ended, until = {}, time.monotonic() + seconds
+    ended, begun = {}, time.monotonic()
     with Writer(root) as writer:
-        while time.monotonic() < until:
+        while time.monotonic() < begun + seconds or not are_all(ended):
+            if time.monotonic() > begun + LIMIT:
+                sys.exit(f"Of many runs on a tree that changes some never ended so: {ended}")
             for name, command in commands(program, root):
                 done = run(command)
                 wrong = judge(program, root, scratch, name, done)
@@ -173,12 +184,23 @@ def grow_one(program, root, scratch):
     """Runs both commands while one file grows as fast as it can."""
     path = os.path.join(root, "log")
     write(path, TAGS)
-    with Grower(path):
+    with Grower(path) as grower:
         for _ in range(2):
             for name, command in commands(program, root):
                 wrong = judge(program, root, scratch, name, run(command))
                 if wrong:
                     sys.exit(f"{name} on a file that grows: {wrong}")
+        if not grower.is_alive():
+            sys.exit("What grows ended.")
+
+
+def open_pipe(path):
+    """Opens a pipe for a moment, so that who waits for a writer goes on."""
+    os.close(os.open(path, os.O_RDWR | os.O_NONBLOCK))
+
+
+def names_below(root):
+    return {name for _, folders, files in os.walk(root) for name in folders + files}
 
 
 def put_a_pipe(program, root, scratch):
@@ -193,7 +215,11 @@ def put_a_pipe(program, root, scratch):
             os.mkfifo(pipe)
             timer = threading.Timer(0.001 * turn, os.rename, (pipe, path))
             timer.start()
+            # A pipe that comes in the moment before the file is opened would be waited for.
+            waker = threading.Timer(LIMIT / 2, open_pipe, (path,))
+            waker.start()
             done = run(command)
+            waker.cancel()
             timer.join()
             wrong = judge(program, root, scratch, name, done)
             if wrong:
@@ -211,9 +237,11 @@ def main():
         ended = change_all(program, roots[0], scratch, seconds)
         grow_one(program, roots[1], scratch)
         put_a_pipe(program, roots[2], scratch)
-        held = [sorted(os.listdir(root)) for root in roots]
-        if held != [["LICENSES", "src"], ["LICENSES", "log"], ["LICENSES", "src", "turn"]]:
-            sys.exit(f"Something was written in a tree: {held}")
+        made = re.compile(r"LICENSES|MIT\.txt|src|[0-3]|file\d+\.c|inner\.c|log|turn")
+        for root in roots:
+            others = [name for name in names_below(root) if not made.fullmatch(name)]
+            if others:
+                sys.exit(f"Something was written in a tree: {others}")
     told = ", ".join(f"{name} {count} times with status {status}" for (name, status), count in sorted(ended.items()))
     print(f"On a tree that changes each run ended well: {told}.")
 
