@@ -2,7 +2,8 @@
 
 The requests of each case go to `script --db FILE`, once in one run, and once cut into three runs on one file, one after the other. Both
 ways the replies have to be those of the case, and each run's status the one that its replies ask for. The cases are the dialogues of the
-acceptance cases and of the pages of docs/, and the folders whose words are `script` alone. Ends with the line 'N passed, M failed'.
+acceptance cases, of tests/dialogues and of the pages of docs/, and the folders whose words are `script` alone. Ends with the line
+'N passed, M failed'.
 """
 
 import glob
@@ -14,7 +15,7 @@ import tempfile
 
 HERE = os.path.dirname(os.path.abspath(__file__))
 CASES = os.path.join(HERE, "acceptance")
-PAGES = os.path.join(HERE, "../docs")
+DIALOGUES = [os.path.join(CASES, "*.dialogue"), os.path.join(HERE, "dialogues/*.dialogue"), os.path.join(HERE, "../docs/*.md")]
 sys.path.insert(0, CASES)
 sys.dont_write_bytecode = True
 
@@ -35,7 +36,7 @@ def bytes_at(path, otherwise=b""):
 
 def cases():
     """The name, the requests, the replies and the status of each case."""
-    for path in sorted(glob.glob(os.path.join(CASES, "*.dialogue")) + glob.glob(os.path.join(PAGES, "*.md"))):
+    for path in sorted(path for pattern in DIALOGUES for path in glob.glob(pattern)):
         if not path.endswith(".md") or b"```dialogue\n" in bytes_at(path):
             yield (os.path.basename(path), *dialogue.read(path))
     for path in sorted(glob.glob(os.path.join(CASES, "*", ""))):

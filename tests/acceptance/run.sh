@@ -11,11 +11,12 @@
 #   stderr      what standard error must be (none: empty)
 #   status      the exit status that is wanted (none: 0)
 #   data/       files that lie in the folder where the program runs
-# or a text NAME.dialogue of requests and the replies to them, on which `script` runs: dialogue.py says how it is written. The pages of
-# docs/ that show a dialogue are cases too, by the name of their file.
+# or a text NAME.dialogue of requests and the replies to them, beside this script or in tests/dialogues, on which `script` runs:
+# dialogue.py says how it is written. The pages of docs/ that show a dialogue are cases too, by the name of their file.
 set -eu
 
 here=$(unset CDPATH; cd -- "$(dirname -- "$0")" && pwd)
+dialogues=$here/../dialogues
 pages=$here/../../docs
 case ${1:?the program to run} in
     /*) program=$1 ;;
@@ -89,8 +90,24 @@ run_folder() {
     compare "$folder/stderr" "$scratch/err" 'standard error'
 }
 
+# Runs the case $1, and says what is wrong, if anything.
+run_case() {
+    case $1 in
+        *.md) run_dialogue "$pages/$1" ;;
+        *)
+            if [ -d "$here/$1" ]; then
+                run_folder "$1"
+            elif [ -f "$dialogues/$1.dialogue" ]; then
+                run_dialogue "$dialogues/$1.dialogue"
+            else
+                run_dialogue "$here/$1.dialogue"
+            fi
+            ;;
+    esac
+}
+
 if [ "$#" -eq 0 ]; then
-    for case in "$here"/*/ "$here"/*.dialogue $(grep -l '^```dialogue$' "$pages"/*.md); do
+    for case in "$here"/*/ "$here"/*.dialogue "$dialogues"/*.dialogue $(grep -l '^```dialogue$' "$pages"/*.md); do
         set -- "$@" "$(basename "$case" .dialogue)"
     done
 fi
@@ -98,10 +115,7 @@ fi
 passed=0
 failed=0
 for name in "$@"; do
-    case $name in
-        *.md) wrong=$(run_dialogue "$pages/$name") ;;
-        *) if [ -d "$here/$name" ]; then wrong=$(run_folder "$name"); else wrong=$(run_dialogue "$here/$name.dialogue"); fi ;;
-    esac
+    wrong=$(run_case "$name")
     if [ -z "$wrong" ]; then
         passed=$((passed + 1))
     else

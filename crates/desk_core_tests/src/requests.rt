@@ -1,342 +1,459 @@
 //! Requests as clients write them, and texts that are none.
 
-use crate::support::follow;
 use crate::words::in_words;
+use std::alloc::{AllocError, Global};
+use std::process::Abort;
 use std::test::Fail;
 
-const FORMS: &str = r#"read {"do":"catalogue","text":"forms = [\"binary\"]\n"}
+/// The text with each part `«COUNT:TEXT»` of it written out.
+fn written_out(alloc: Global, text: &str) -> Result<String, AllocError> {
+    let mut all = String::new(alloc);
+    for piece in text.split('«') {
+        let (part, rest) = piece.split_once('»').unwrap_or(("0:", piece));
+        let (count, copied) = part.split_once(':').unwrap_or(("", part));
+        for _ in 0..count.parse::<u32>().unwrap_or(1) {
+            all.push_str(copied)?;
+        }
+        all.push_str(rest)?;
+    }
+    Ok(all)
+}
+
+/// The first request that is read as something else than the line behind it says, with what it is read as; else nothing. `␊` stands for
+/// a line end on both sides.
+fn difference(alloc: Global, requests: &str) -> Result<String, AllocError> {
+    let requests = written_out(alloc, requests)?;
+    let mut asked = None;
+    for line in requests.lines() {
+        let Some(request) = asked.take() else {
+            asked = Some(line);
+            continue;
+        };
+        let request = request.replace(alloc, "␊", "\n")?;
+        let words = in_words(alloc, request.as_bytes())?.replace(alloc, "\n", "␊")?;
+        if words.as_str() != line {
+            return format!(in alloc; "{request}: {words}");
+        }
+    }
+    String::from_str(alloc, asked.unwrap_or_default())
+}
+
+/// Reads the requests of texts, each with what it is read as behind it.
+fn read_each(rt: &impl Abort, alloc: Global, texts: &[&str]) -> Result<(), Fail> {
+    for text in texts {
+        let wrong = difference(alloc, text)?;
+        assert!(rt; wrong.is_empty(), "{wrong}");
+    }
+    Ok(())
+}
+
+const FORMS: &str = r#"{"do":"catalogue","text":"forms = [\"binary\"]\n"}
 catalogue <forms = ["binary"]␊>
-read {"do":"import","text":"SPDXVersion: SPDX-2.3\nSPDXID"}
+{"do":"import","text":"SPDXVersion: SPDX-2.3\nSPDXID"}
 import <SPDXVersion: SPDX-2.3␊SPDXID> in capitals
-read {"do":"import","text":"x","profile":1}
+{"do":"import","text":"x","profile":1}
 import <x> in capitals
-read {"do":"import","text":"x","profile":2}
+{"do":"import","text":"x","profile":2}
 import <x> in either
-read {"do":"open","release":"r1","form":"binary"}
+{"do":"open","release":"r1","form":"binary"}
 open <r1> for <binary>
-read {"do":"attach","release":"r1","document":1}
+{"do":"attach","release":"r1","document":1}
 attach 1 to <r1>
-read {"do":"choose","release":"r1","document":1,"package":"SPDXRef-p","terms":["MIT","Zlib"]}
+{"do":"choose","release":"r1","document":1,"package":"SPDXRef-p","terms":["MIT","Zlib"]}
 choose <MIT><Zlib> for 1 <SPDXRef-p> in <r1>
-read {"do":"freeze","release":"r1","day":"2025-03-03"}
+{"do":"freeze","release":"r1","day":"2025-03-03"}
 freeze <r1> on <2025-03-03>
-read {"do":"meet","duty":1,"day":"2025-03-04","text":"notices.txt"}
+{"do":"meet","duty":1,"day":"2025-03-04","text":"notices.txt"}
 meet 1 on <2025-03-04> by <notices.txt>
-read {"ask":"duties","release":"r1"}
+{"ask":"duties","release":"r1"}
 duties of <r1>
-read {"ask":"totals","release":"r1"}
+{"ask":"totals","release":"r1"}
 totals of <r1>
-read {"do":"conclude","document":1,"package":"SPDXRef-p","expression":"MIT OR Zlib"}
+{"do":"conclude","document":1,"package":"SPDXRef-p","expression":"MIT OR Zlib"}
 conclude <MIT OR Zlib> for <SPDXRef-p> of 1
-read {"do":"adopt","document":2,"reference":"LicenseRef-1","licence":"MIT"}
+{"do":"adopt","document":2,"reference":"LicenseRef-1","licence":"MIT"}
 adopt <LicenseRef-1> of 2 as <MIT>
-read {"ask":"release","release":"r1"}
+{"ask":"release","release":"r1"}
 release <r1>
 "#;
 
 /// Blanks, the order of members, escapes, the ends of the numbers, and a text that is long.
 const ALLOWED: &str =
-    "read  \t{ \"form\" : \"source\" ,\r␊ \"release\" : \"r\\u002d1\", \"do\":\"open\" }\u{20}
+    " \t{ \"form\" : \"source\" ,\r␊ \"release\" : \"r\\u002d1\", \"do\":\"open\" }\u{20}
 open <r-1> for <source>
-read {\"do\":\"meet\",\"duty\":0,\"day\":\"\",\"text\":\"\\u00e9 é \\ud83d\\ude00 \\\"\\\\\\/\\u0000\"}
+{\"do\":\"meet\",\"duty\":0,\"day\":\"\",\"text\":\"\\u00e9 é \\ud83d\\ude00 \\\"\\\\\\/\\u0000\"}
 meet 0 on <> by <é é 😀 \"\\/\0>
-read {\"do\":\"attach\",\"release\":\"\",\"document\":9223372036854775807}
+{\"do\":\"attach\",\"release\":\"\",\"document\":9223372036854775807}
 attach 9223372036854775807 to <>
-read {\"do\":\"choose\",\"release\":\"r1\",\"document\":1,\"package\":\"p\",\"terms\":[]}
+{\"do\":\"choose\",\"release\":\"r1\",\"document\":1,\"package\":\"p\",\"terms\":[]}
 choose  for 1 <p> in <r1>
-read {\"ask\":\"totals\",\"release\":\"first\",\"release\":\"last\"}
+{\"ask\":\"totals\",\"release\":\"first\",\"release\":\"last\"}
 totals of <last>
-read {\"do\":\"open\",\"release\":\"r1\",\"do\":\"freeze\",\"day\":\"2025-03-03\"}
+{\"do\":\"open\",\"release\":\"r1\",\"do\":\"freeze\",\"day\":\"2025-03-03\"}
 freeze <r1> on <2025-03-03>
-read {\"ask\":\"totals\",\"release\":1,\"release\":\"r1\"}
+{\"ask\":\"totals\",\"release\":1,\"release\":\"r1\"}
 totals of <r1>
-read {\"profile\":1,\"text\":\"\",\"do\":\"import\",\"profile\":2}
+{\"profile\":1,\"text\":\"\",\"do\":\"import\",\"profile\":2}
 import <> in either
-read {\"do\":\"import\",\"text\":\"«65536:0123456789abcdef»\"}
+{\"do\":\"import\",\"text\":\"«65536:0123456789abcdef»\"}
 import <«65536:0123456789abcdef»> in capitals
 ";
 
-/// A member that is missing, a member too many, and members of another kind.
-const OTHER_MEMBERS: &str = r#"read {"do":"catalogue"}
+const MOVES: &str = r#"{"do":"waive","duty":7,"day":"d","text":"t"}
+waive 7 on <d> by <t>
+{"until":"u","text":"t","duty":7,"day":"d","do":"waive"}
+waive 7 on <d> by <t> until <u>
+{"do":"reopen","duty":7,"day":"d","text":"t"}
+reopen 7 on <d> by <t>
+{"do":"withdraw","release":"r","day":"d","text":"t"}
+withdraw <r> on <d> by <t>
+{"do":"close","day":"d"}
+close <d>
+{"do":"unchoose","release":"r","document":3,"package":"p"}
+unchoose for 3 <p> in <r>
+{"do":"unchoose","release":"r","document":3,"package":"p","terms":[]}
 no request
-read {"do":"conclude","document":1,"package":"SPDXRef-p"}
-no request
-read {"do":"conclude","document":1,"package":"SPDXRef-p","expression":"MIT","profile":1}
-no request
-read {"do":"conclude","document":"1","package":"SPDXRef-p","expression":"MIT"}
-no request
-read {"do":"adopt","document":1,"reference":"LicenseRef-1"}
-no request
-read {"do":"adopt","document":1,"reference":"LicenseRef-1","licence":"MIT","release":"r1"}
-no request
-read {"do":"adopt","document":1,"reference":"LicenseRef-1","licence":["MIT"]}
-no request
-read {"ask":"release"}
-no request
-read {"ask":"release","release":"r1","document":1}
-no request
-read {"do":"catalogue","text":"","release":"r1"}
-no request
-read {"do":"catalogue","Text":""}
-no request
-read {"do":"import"}
-no request
-read {"do":"import","text":"","profile":"either"}
-no request
-read {"do":"import","text":"","profile":"2"}
-no request
-read {"do":"import","text":"","profile":0}
-no request
-read {"do":"import","text":"","profile":3}
-no request
-read {"do":"import","text":"","profile":-2}
-no request
-read {"do":"import","text":"","profile":2.0}
-no request
-read {"do":"import","text":"","profile":9223372036854775809}
-no request
-read {"do":"import","text":"","profile":null}
-no request
-read {"do":"import","text":"","profile":[2]}
-no request
-read {"do":"import","profile":2}
-no request
-read {"do":"import","text":"","Profile":2}
-no request
-read {"do":"import","text":"","profile":2,"release":"r1"}
-no request
-read {"do":"catalogue","text":"","profile":2}
-no request
-read {"do":"import","text":null}
-no request
-read {"do":"open","release":"r1"}
-no request
-read {"do":"open","form":"binary"}
-no request
-read {"do":"open","release":"r1","form":"binary","day":"2025-03-03"}
-no request
-read {"do":"open","release":"r1","form":["binary"]}
-no request
-read {"do":"attach","release":"r1"}
-no request
-read {"do":"attach","document":1}
-no request
-read {"do":"attach","release":"r1","document":"1"}
-no request
-read {"do":"attach","release":"r1","document":true}
-no request
-read {"do":"attach","release":"r1","document":1,"package":"p"}
-no request
-read {"do":"choose","release":"r1","document":1,"package":"p"}
-no request
-read {"do":"choose","release":"r1","document":1,"terms":[]}
-no request
-read {"do":"choose","release":"r1","package":"p","terms":[]}
-no request
-read {"do":"choose","document":1,"package":"p","terms":[]}
-no request
-read {"do":"choose","release":"r1","document":1,"package":"p","terms":"MIT"}
-no request
-read {"do":"choose","release":"r1","document":1,"package":"p","terms":["MIT",1]}
-no request
-read {"do":"choose","release":"r1","document":1,"package":"p","terms":[["MIT"]]}
-no request
-read {"do":"choose","release":"r1","document":1,"package":"p","terms":["MIT"],"day":""}
-no request
-read {"do":"freeze","release":"r1"}
-no request
-read {"do":"freeze","day":"2025-03-03"}
-no request
-read {"do":"freeze","release":"r1","day":20250303}
-no request
-read {"do":"freeze","release":"r1","day":"2025-03-03","text":""}
-no request
-read {"do":"meet","duty":1,"day":"2025-03-04"}
-no request
-read {"do":"meet","duty":1,"text":"x"}
-no request
-read {"do":"meet","day":"2025-03-04","text":"x"}
-no request
-read {"do":"meet","duty":"1","day":"2025-03-04","text":"x"}
-no request
-read {"do":"meet","duty":1,"day":"2025-03-04","text":"x","until":"2025-03-05"}
-no request
-read {"ask":"duties"}
-no request
-read {"ask":"duties","release":1}
-no request
-read {"ask":"duties","release":"r1","document":1}
-no request
-read {"ask":"totals"}
-no request
-read {"ask":"totals","release":null}
-no request
-read {"ask":"totals","release":"r1","form":"binary"}
+{"do":"waive","duty":7,"day":"d","text":"t","until":1}
 no request
 "#;
 
-const OTHER_NUMBERS: &str = r#"read {"do":"attach","release":"r1","document":9223372036854775808}
+const CHANGES: &str = r#"{"ask":"changes","duty":1}
+changes of 1
+{"duty":9223372036854775807,"ask":"changes"}
+changes of 9223372036854775807
+{"ask":"changes"}
 no request
-read {"do":"meet","duty":9223372036854775808,"day":"","text":""}
+{"ask":"changes","duty":"1"}
 no request
-read {"do":"attach","release":"r1","document":18446744073709551615}
+{"ask":"changes","duty":-1}
 no request
-read {"do":"meet","duty":18446744073709551615,"day":"","text":""}
+{"ask":"changes","duty":1,"release":"r1"}
 no request
-read {"do":"attach","release":"r1","document":18446744073709551616}
+{"do":"changes","duty":1}
 no request
-read {"do":"meet","duty":18446744073709551616,"day":"","text":""}
+"#;
+
+/// What a request of findings has besides its document.
+const FINDINGS: &str = r#"{"ask":"findings","document":1}
+findings of 1
+{"document":9223372036854775807,"ask":"findings"}
+findings of 9223372036854775807
+{"ask":"findings"}
 no request
-read {"do":"attach","release":"r1","document":-1}
+{"ask":"findings","document":"1"}
 no request
-read {"do":"meet","duty":-1,"day":"","text":""}
+{"ask":"findings","document":9223372036854775808}
 no request
-read {"do":"attach","release":"r1","document":-0}
+{"ask":"findings","document":1,"profile":2}
 no request
-read {"do":"meet","duty":-0,"day":"","text":""}
+{"do":"findings","document":1}
 no request
-read {"do":"attach","release":"r1","document":1.0}
+"#;
+
+/// What each of the two requests has.
+const LISTINGS: &str = r#"{"ask":"alternatives","document":1,"package":"SPDXRef-p"}
+alternatives of <SPDXRef-p> in 1
+{"package":"","ask":"alternatives","document":9223372036854775807}
+alternatives of <> in 9223372036854775807
+{"ask":"alternatives","document":1}
 no request
-read {"do":"meet","duty":1.0,"day":"","text":""}
+{"ask":"alternatives","document":"1","package":"SPDXRef-p"}
 no request
-read {"do":"attach","release":"r1","document":1e0}
+{"ask":"alternatives","document":1,"package":"SPDXRef-p","form":"binary"}
 no request
-read {"do":"meet","duty":1e0,"day":"","text":""}
+{"do":"alternatives","document":1,"package":"SPDXRef-p"}
 no request
-read {"do":"attach","release":"r1","document":1E2}
+{"ask":"cheapest","document":1,"package":"SPDXRef-p","form":"binary"}
+cheapest of <SPDXRef-p> in 1 for <binary>
+{"ask":"cheapest","document":1,"package":"SPDXRef-p"}
 no request
-read {"do":"meet","duty":1E2,"day":"","text":""}
+{"ask":"cheapest","document":1,"package":"SPDXRef-p","form":1}
 no request
-read {"do":"attach","release":"r1","document":0.5}
+{"ask":"cheapest","document":1,"package":"SPDXRef-p","form":"binary","day":"x"}
 no request
-read {"do":"meet","duty":0.5,"day":"","text":""}
+"#;
+
+/// A member that is missing, a member too many, and members of another kind.
+const OTHER_MEMBERS: &str = r#"{"do":"catalogue"}
 no request
-read {"do":"attach","release":"r1","document":01}
+{"do":"conclude","document":1,"package":"SPDXRef-p"}
 no request
-read {"do":"meet","duty":01,"day":"","text":""}
+{"do":"conclude","document":1,"package":"SPDXRef-p","expression":"MIT","profile":1}
 no request
-read {"do":"attach","release":"r1","document":+1}
+{"do":"conclude","document":"1","package":"SPDXRef-p","expression":"MIT"}
 no request
-read {"do":"meet","duty":+1,"day":"","text":""}
+{"do":"adopt","document":1,"reference":"LicenseRef-1"}
 no request
-read {"do":"attach","release":"r1","document":0x1}
+{"do":"adopt","document":1,"reference":"LicenseRef-1","licence":"MIT","release":"r1"}
 no request
-read {"do":"meet","duty":0x1,"day":"","text":""}
+{"do":"adopt","document":1,"reference":"LicenseRef-1","licence":["MIT"]}
 no request
-read {"do":"attach","release":"r1","document":1_000}
+{"ask":"release"}
 no request
-read {"do":"meet","duty":1_000,"day":"","text":""}
+{"ask":"release","release":"r1","document":1}
 no request
-read {"do":"attach","release":"r1","document":}
+{"do":"catalogue","text":"","release":"r1"}
 no request
-read {"do":"meet","duty":,"day":"","text":""}
+{"do":"catalogue","Text":""}
 no request
-read {"do":"attach","release":"r1","document":NaN}
+{"do":"import"}
 no request
-read {"do":"meet","duty":NaN,"day":"","text":""}
+{"do":"import","text":"","profile":"either"}
 no request
-read {"do":"attach","release":"r1","document":1e999}
+{"do":"import","text":"","profile":"2"}
 no request
-read {"do":"meet","duty":1e999,"day":"","text":""}
+{"do":"import","text":"","profile":0}
+no request
+{"do":"import","text":"","profile":3}
+no request
+{"do":"import","text":"","profile":-2}
+no request
+{"do":"import","text":"","profile":2.0}
+no request
+{"do":"import","text":"","profile":9223372036854775809}
+no request
+{"do":"import","text":"","profile":null}
+no request
+{"do":"import","text":"","profile":[2]}
+no request
+{"do":"import","profile":2}
+no request
+{"do":"import","text":"","Profile":2}
+no request
+{"do":"import","text":"","profile":2,"release":"r1"}
+no request
+{"do":"catalogue","text":"","profile":2}
+no request
+{"do":"import","text":null}
+no request
+{"do":"open","release":"r1"}
+no request
+{"do":"open","form":"binary"}
+no request
+{"do":"open","release":"r1","form":"binary","day":"2025-03-03"}
+no request
+{"do":"open","release":"r1","form":["binary"]}
+no request
+{"do":"attach","release":"r1"}
+no request
+{"do":"attach","document":1}
+no request
+{"do":"attach","release":"r1","document":"1"}
+no request
+{"do":"attach","release":"r1","document":true}
+no request
+{"do":"attach","release":"r1","document":1,"package":"p"}
+no request
+{"do":"choose","release":"r1","document":1,"package":"p"}
+no request
+{"do":"choose","release":"r1","document":1,"terms":[]}
+no request
+{"do":"choose","release":"r1","package":"p","terms":[]}
+no request
+{"do":"choose","document":1,"package":"p","terms":[]}
+no request
+{"do":"choose","release":"r1","document":1,"package":"p","terms":"MIT"}
+no request
+{"do":"choose","release":"r1","document":1,"package":"p","terms":["MIT",1]}
+no request
+{"do":"choose","release":"r1","document":1,"package":"p","terms":[["MIT"]]}
+no request
+{"do":"choose","release":"r1","document":1,"package":"p","terms":["MIT"],"day":""}
+no request
+{"do":"freeze","release":"r1"}
+no request
+{"do":"freeze","day":"2025-03-03"}
+no request
+{"do":"freeze","release":"r1","day":20250303}
+no request
+{"do":"freeze","release":"r1","day":"2025-03-03","text":""}
+no request
+{"do":"meet","duty":1,"day":"2025-03-04"}
+no request
+{"do":"meet","duty":1,"text":"x"}
+no request
+{"do":"meet","day":"2025-03-04","text":"x"}
+no request
+{"do":"meet","duty":"1","day":"2025-03-04","text":"x"}
+no request
+{"do":"meet","duty":1,"day":"2025-03-04","text":"x","until":"2025-03-05"}
+no request
+{"ask":"duties"}
+no request
+{"ask":"duties","release":1}
+no request
+{"ask":"duties","release":"r1","document":1}
+no request
+{"ask":"totals"}
+no request
+{"ask":"totals","release":null}
+no request
+{"ask":"totals","release":"r1","form":"binary"}
+no request
+"#;
+
+const OTHER_NUMBERS: &str = r#"{"do":"attach","release":"r1","document":9223372036854775808}
+no request
+{"do":"meet","duty":9223372036854775808,"day":"","text":""}
+no request
+{"do":"attach","release":"r1","document":18446744073709551615}
+no request
+{"do":"meet","duty":18446744073709551615,"day":"","text":""}
+no request
+{"do":"attach","release":"r1","document":18446744073709551616}
+no request
+{"do":"meet","duty":18446744073709551616,"day":"","text":""}
+no request
+{"do":"attach","release":"r1","document":-1}
+no request
+{"do":"meet","duty":-1,"day":"","text":""}
+no request
+{"do":"attach","release":"r1","document":-0}
+no request
+{"do":"meet","duty":-0,"day":"","text":""}
+no request
+{"do":"attach","release":"r1","document":1.0}
+no request
+{"do":"meet","duty":1.0,"day":"","text":""}
+no request
+{"do":"attach","release":"r1","document":1e0}
+no request
+{"do":"meet","duty":1e0,"day":"","text":""}
+no request
+{"do":"attach","release":"r1","document":1E2}
+no request
+{"do":"meet","duty":1E2,"day":"","text":""}
+no request
+{"do":"attach","release":"r1","document":0.5}
+no request
+{"do":"meet","duty":0.5,"day":"","text":""}
+no request
+{"do":"attach","release":"r1","document":01}
+no request
+{"do":"meet","duty":01,"day":"","text":""}
+no request
+{"do":"attach","release":"r1","document":+1}
+no request
+{"do":"meet","duty":+1,"day":"","text":""}
+no request
+{"do":"attach","release":"r1","document":0x1}
+no request
+{"do":"meet","duty":0x1,"day":"","text":""}
+no request
+{"do":"attach","release":"r1","document":1_000}
+no request
+{"do":"meet","duty":1_000,"day":"","text":""}
+no request
+{"do":"attach","release":"r1","document":}
+no request
+{"do":"meet","duty":,"day":"","text":""}
+no request
+{"do":"attach","release":"r1","document":NaN}
+no request
+{"do":"meet","duty":NaN,"day":"","text":""}
+no request
+{"do":"attach","release":"r1","document":1e999}
+no request
+{"do":"meet","duty":1e999,"day":"","text":""}
 no request
 "#;
 
 /// Words that name no form, and both `do` and `ask`.
-const OTHER_WORDS: &str = r#"read {}
+const OTHER_WORDS: &str = r#"{}
 no request
-read {"release":"r1"}
+{"release":"r1"}
 no request
-read {"do":"totals","release":"r1"}
+{"do":"totals","release":"r1"}
 no request
-read {"ask":"catalogue","text":""}
+{"ask":"catalogue","text":""}
 no request
-read {"do":"Open","release":"r1","form":"binary"}
+{"do":"Open","release":"r1","form":"binary"}
 no request
-read {"do":"open ","release":"r1","form":"binary"}
+{"do":"open ","release":"r1","form":"binary"}
 no request
-read {"DO":"open","release":"r1","form":"binary"}
+{"DO":"open","release":"r1","form":"binary"}
 no request
-read {"do":"","release":"r1","form":"binary"}
+{"do":"","release":"r1","form":"binary"}
 no request
-read {"do":null,"ask":"totals","release":"r1"}
+{"do":null,"ask":"totals","release":"r1"}
 no request
-read {"do":"open","ask":"totals","release":"r1"}
+{"do":"open","ask":"totals","release":"r1"}
 no request
-read {"ask":"totals","do":"open","release":"r1","form":"binary"}
+{"ask":"totals","do":"open","release":"r1","form":"binary"}
 no request
-read {"do":["open"],"release":"r1","form":"binary"}
+{"do":["open"],"release":"r1","form":"binary"}
 no request
-read {"do":{"open":"r1"},"form":"binary"}
+{"do":{"open":"r1"},"form":"binary"}
 no request
-read {"ask":1,"release":"r1"}
+{"ask":1,"release":"r1"}
 no request
 "#;
 
-const NO_JSON_OBJECTS: &str = r#"read null
+const NO_JSON_OBJECTS: &str = r#"null
 no request
-read true
+true
 no request
-read 1
+1
 no request
-read "totals"
+"totals"
 no request
-read []
+[]
 no request
-read ["totals","r1"]
+["totals","r1"]
 no request
-read [{"ask":"totals","release":"r1"}]
+[{"ask":"totals","release":"r1"}]
 no request
-read {"ask":"totals","release":"r1"
+{"ask":"totals","release":"r1"
 no request
-read {"ask":"totals","release":"r1"}}
+{"ask":"totals","release":"r1"}}
 no request
-read {"ask":"totals","release":"r1"} {}
+{"ask":"totals","release":"r1"} {}
 no request
-read {"ask":"totals","release":"r1"}x
+{"ask":"totals","release":"r1"}x
 no request
-read {"ask":"totals","release":"r1",}
+{"ask":"totals","release":"r1",}
 no request
-read {"ask":"totals" "release":"r1"}
+{"ask":"totals" "release":"r1"}
 no request
-read {ask:"totals",release:"r1"}
+{ask:"totals",release:"r1"}
 no request
-read {'ask':'totals','release':'r1'}
+{'ask':'totals','release':'r1'}
 no request
-read {"ask":"totals","release":"r\q1"}
+{"ask":"totals","release":"r\q1"}
 no request
-read {"ask":"totals","release":"\ud800"}
+{"ask":"totals","release":"\ud800"}
 no request
-read {"ask":"totals","release":"r␊1"}
+{"ask":"totals","release":"r␊1"}
 no request
-read // totals␊{"ask":"totals","release":"r1"}
+// totals␊{"ask":"totals","release":"r1"}
 no request
 # lists in lists
-read «200:[»
+«200:[»
 no request
-read «200:[»«200:]»
+«200:[»«200:]»
 no request
-read {"ask":"totals","release":«200:[»«200:]»}
+{"ask":"totals","release":«200:[»«200:]»}
 no request
-read «100000:[»
+«100000:[»
 no request
-read «100000:[»«100000:]»
+«100000:[»«100000:]»
 no request
-read {"ask":"totals","release":«100000:[»«100000:]»}
+{"ask":"totals","release":«100000:[»«100000:]»}
 no request
 "#;
 
 /// The empty text, a blank, and a byte order mark before a request.
 const NOTHING_AND_MARK: &str =
-    "read \nno request\nread  \nno request\nread \u{feff}{\"ask\":\"totals\",\"release\":\"r1\"}\nno request\n";
+    "\nno request\n \nno request\n\u{feff}{\"ask\":\"totals\",\"release\":\"r1\"}\nno request\n";
 
 #[test]
 fn reads_each_form(rt: HostRuntime) -> Result<(), Fail> {
-    follow(&rt, rt.alloc(), &[FORMS, ALLOWED])
+    read_each(&rt, rt.alloc(), &[FORMS, ALLOWED, MOVES, CHANGES, FINDINGS, LISTINGS])
 }
 
 #[test]
 fn refuses_what_is_no_request(rt: HostRuntime) -> Result<(), Fail> {
-    follow(
+    read_each(
         &rt,
         rt.alloc(),
         &[
