@@ -17,11 +17,11 @@ rows_of s = record {
   packages = s.packages.rows.items;
   extracted = s.extracted.items;
   conclusion = rows_in s.office.conclusions.blocks.items;
-  adoption = s.office.adoptions.rows.items;
+  adoption = rows_in s.office.adoptions.blocks.items;
   releases = s.releases.rows.items;
-  attached = s.attached.rows.items;
+  attached = rows_in s.attached.blocks.items;
   choice = rows_in s.choices.rows.blocks.items;
-  frozen = s.frozen.rows.items;
+  frozen = rows_in s.frozen.blocks.items;
   duty = duties_in s.ledger;
   changes = changes_in s.ledger;
 }

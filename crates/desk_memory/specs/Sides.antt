@@ -2,11 +2,13 @@
 use Rattle.std.specs.Prelude.{ℕ, ◌==◌, Bool, List}
 use Rattle.std.specs.Ordering.{nat_cmp, ordering_then}
 use Rattle.std.specs.Cmp.Lexicographic.{slice_cmp}
+use Rattle.std.specs.Str.{bytes_eq}
 use Rattle.std.specs.declared.cmp.Ordering.{Ordering}
 use Rattle.desk_rows.specs.declared.row.DocumentRow.{DocumentRow}
 use Rattle.desk_rows.specs.declared.row.PackageRow.{PackageRow}
 use Rattle.desk_rows.specs.declared.row.ReleaseRow.{ReleaseRow}
 use Rattle.desk_rows.specs.declared.row.AttachedRow.{AttachedRow}
+use Rattle.desk_rows.specs.declared.row.FrozenRow.{FrozenRow}
 
 abbrev pub document_side : ℕ → DocumentRow → Ordering
 document_side number row = nat_cmp row.number number
@@ -28,3 +30,9 @@ attached_side release row = slice_cmp nat_cmp row.release release
 
 abbrev pub attachment_side : List ℕ → ℕ → AttachedRow → Ordering
 attachment_side release document row = ordering_then (slice_cmp nat_cmp row.release release) (nat_cmp row.document document)
+
+abbrev pub is_frozen_in : List ℕ → FrozenRow → Bool
+is_frozen_in release row = bytes_eq row.release release
+
+abbrev pub frozen_side : List ℕ → FrozenRow → Ordering
+frozen_side release row = slice_cmp nat_cmp row.release release

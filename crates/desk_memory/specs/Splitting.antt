@@ -6,13 +6,13 @@ use Rattle.std.specs.Cmp.Lexicographic.{slice_cmp}
 use Rattle.std.specs.Str.{bytes_eq}
 use Rattle.std.specs.declared.cmp.Ordering.{Ordering}
 use Rattle.std.proofs.lemmas.Cmp.{on_total, then_total, nat_list_cmp_total, nat_cmp_total}
-use Rattle.desk_rows.specs.Keys.{attached_order, is_package, is_attachment, package_order}
+use Rattle.desk_rows.specs.Keys.{attached_order, frozen_order, is_package, is_attachment, package_order}
 use Rattle.desk_rows.specs.declared.row.PackageRow.{PackageRow}
 use Rattle.desk_rows.specs.declared.row.AttachedRow.{AttachedRow}
 use Rattle.desk_sorted.specs.Sorted.{IsSideOf}
 use Rattle.desk_sorted.specs.Sides.{side_by, first_less, texts_meet, numbers_meet, then_meets, number_cmp, number_total}
 use Rattle.desk_sorted.specs.Orders.{document_order, release_order}
-use Rattle.desk_memory.specs.Sides.{document_side, packages_side, package_side, release_side, attached_side, attachment_side}
+use Rattle.desk_memory.specs.Sides.{document_side, packages_side, package_side, release_side, attached_side, attachment_side, frozen_side}
 
 -- What keys begin with
 
@@ -40,6 +40,10 @@ attached_splits release =
 pub attachment_splits : (release : List ℕ) (document : ℕ) → IsSideOf attached_order (attachment_side release document)
 attachment_splits release document =
     side_by attached_order (λ row. (row.release, row.document)) pair_cmp (then_total (on_total (λ p. p.0) nat_list_cmp_total) (on_total (λ p. p.1) nat_cmp_total)) (λ x y e. e) (release, document)
+
+pub frozen_splits : (release : List ℕ) → IsSideOf frozen_order (frozen_side release)
+frozen_splits release =
+    side_by frozen_order (λ row. row.release) (slice_cmp nat_cmp) nat_list_cmp_total (λ x y e. first_less (slice_cmp nat_cmp y.release x.release) _ e) release
 
 -- The rows at a key are those on neither side of it
 

@@ -1,8 +1,8 @@
 //! What rows are looked up by.
 
 ghost use Rattle.desk_rows.specs.Keys.{is_document, is_package, is_release, is_attached_to, is_attachment};
-ghost use Rattle.desk_memory.specs.Sides.{document_side, is_package_of, packages_side, package_side, release_side, attached_side, attachment_side};
-ghost use Rattle.desk_memory.specs.Splitting.{document_splits, packages_splits, package_splits, package_meets, release_splits, attached_splits, attachment_splits, attachment_meets};
+ghost use Rattle.desk_memory.specs.Sides.{document_side, is_package_of, packages_side, package_side, release_side, attached_side, attachment_side, frozen_side, is_frozen_in};
+ghost use Rattle.desk_memory.specs.Splitting.{document_splits, packages_splits, package_splits, package_meets, release_splits, attached_splits, attachment_splits, attachment_meets, frozen_splits};
 ghost use Rattle.desk_sorted.specs.Sides.{texts_meet, numbers_meet};
 ghost use Rattle.desk_memory.specs.Namespaces.{is_named, namespace_order, namespace_side};
 ghost use Rattle.desk_memory.specs.NamespaceLaws.{namespace_total, namespace_splits};
@@ -10,7 +10,7 @@ ghost use Rattle.desk_memory.specs.RulePlaces.{is_placed, rule_order, rule_side}
 ghost use Rattle.desk_memory.specs.RuleLaws.{rule_total, rule_splits, rule_meets};
 
 use desk_base::Text;
-use desk_rows::{AttachedRow, DocumentRow, PackageRow, ReleaseRow};
+use desk_rows::{AttachedRow, DocumentRow, FrozenRow, PackageRow, ReleaseRow};
 use desk_sorted::{Keyed, Sought};
 use std::cmp::Ordering;
 
@@ -222,5 +222,25 @@ impl Sought<AttachedRow> for ByAttachment<'_> {
             .as_str()
             .cmp(self.release)
             .then(u64::from(row.document).cmp(&self.document))
+    }
+}
+
+/// The frozen terms of a release.
+#[derive(Clone, Copy)]
+pub(crate) struct ByFrozen<'a> {
+    pub(crate) release: &'a str,
+}
+
+impl Sought<FrozenRow> for ByFrozen<'_> {
+    ghost side = { λ key. frozen_side key.release.now };
+
+    ghost is_at = { λ key. is_frozen_in key.release.now };
+
+    ghost splits = { λ key. frozen_splits key.release.now };
+
+    ghost meets = { λ key row. texts_meet row.release key.release.now };
+
+    fn side_of(&self, row: &FrozenRow) -> Ordering {
+        row.release.as_str().cmp(self.release)
     }
 }

@@ -17,7 +17,7 @@ ghost use Rattle.desk_memory.specs.Memory.{rows_of, memory_seen};
 ghost use Rattle.desk_history.specs.FromTables.{rule_of};
 
 use crate::documents::Documents;
-use crate::keys::{ByAttachment, ByDocument, ById, ByName, ByNumber, ByRelease};
+use crate::keys::{ByAttachment, ByDocument, ByFrozen, ById, ByName, ByNumber, ByRelease};
 use crate::rules::Rules;
 use desk_access::store::Store;
 use desk_base::{Day, Items, Text};
@@ -28,7 +28,7 @@ use desk_rows::{
     Fault, FrozenRow, PackageRow, Profile, ReleaseRow, ReleaseState, Rule, RuleRow, Standing,
     Totals,
 };
-use desk_sorted::{Appended, Sorted, reserve, run_of};
+use desk_sorted::{Appended, Blocks, Sorted, reserve, run_of};
 use desk_tally::Tallies;
 use std::alloc::{AllocError, Global};
 
@@ -128,8 +128,8 @@ fn shipped_rows(
     Ok(found)
 }
 
-fn attached_copies(alloc: Global, rows: &[AttachedRow]) -> Result<Vec<AttachedRow>, AllocError>
-    ensures { IfOk result (λ copies. copies.items ≡ rows.now) }
+fn attached_copies(alloc: Global, rows: &[&AttachedRow]) -> Result<Vec<AttachedRow>, AllocError>
+    ensures { IfOk result (λ copies. copies.items ≡ map (λ row. row.now) rows.now) }
 {
     let mut copies = Vec::new(alloc);
     for row in rows {
@@ -236,9 +236,9 @@ pub struct MemStore {
     extracted: Vec<ExtractedRow>,
     office: Office,
     releases: Sorted<ReleaseRow>,
-    attached: Sorted<AttachedRow>,
+    attached: Blocks<AttachedRow>,
     choices: Choices,
-    frozen: Sorted<FrozenRow>,
+    frozen: Blocks<FrozenRow>,
     ledger: Ledger,
     tallies: Tallies,
 }
@@ -263,9 +263,9 @@ impl MemStore {
             extracted: Vec::new(alloc),
             office: Office::new(alloc),
             releases: Sorted::new(alloc),
-            attached: Sorted::new(alloc),
+            attached: Blocks::new(alloc),
             choices: Choices::new(alloc),
-            frozen: Sorted::new(alloc),
+            frozen: Blocks::new(alloc),
             ledger: Ledger::new(alloc),
             tallies: Tallies::new(alloc),
         }
@@ -336,9 +336,12 @@ impl MemStore {
         ensures fault { IfErr result (λ fault. fault ≡ Fault.Memory) }
     {
         let frozen = frozen.into_vec();
-        self.frozen.reserve(frozen.len())?;
+        let key = ByFrozen {
+            release: release.as_str(),
+        };
+        let at = self.frozen.make_room_beside(&key, frozen.as_slice())?;
         self.ledger.append(duties.into_vec(), changes.into_vec())?;
-        self.frozen.put_all(frozen);
+        self.frozen.put_all(at, frozen);
         freeze_release(&mut self.releases, release.as_str(), revision);
         Ok(())
     }
@@ -406,8 +409,7 @@ impl MemStore {
                 Ok(())
             }
             Change::Attached(row) => {
-                self.attached.reserve(1)?;
-                self.attached.put(row);
+                self.attached.put(row)?;
                 Ok(())
             }
             Change::Chosen {
@@ -532,8 +534,8 @@ impl Store for MemStore {
     }
 
     fn attached(&mut self, release: &str) -> Result<Vec<AttachedRow>, Fault> {
-        let rows = self.attached.run(&ByRelease { release });
-        Ok(attached_copies(self.alloc, rows)?)
+        let rows = self.attached.run(&ByRelease { release })?;
+        Ok(attached_copies(self.alloc, rows.as_slice())?)
     }
 
     fn is_attached(&mut self, release: &str, document: u64) -> Result<bool, Fault> {
@@ -541,7 +543,7 @@ impl Store for MemStore {
     }
 
     fn attached_count(&mut self, release: &str) -> Result<u64, Fault> {
-        Ok(self.attached.run(&ByRelease { release }).len() as u64)
+        Ok(self.attached.count_of(&ByRelease { release }) as u64)
     }
 
     fn chosen(&mut self, release: &str, document: u32, id: &str) -> Result<Vec<Text>, Fault> {
@@ -578,7 +580,7 @@ impl Store for MemStore {
     }
 
     fn adoption_count(&mut self, document: u32) -> Result<u64, Fault> {
-        Ok(self.office.adoptions.run(&ByAdopting { document }).len() as u64)
+        Ok(self.office.adoptions.count_of(&ByAdopting { document }) as u64)
     }
 
     fn duty(&mut self, number: u64) -> Result<Option<DutyRow>, Fault> {

@@ -9,7 +9,7 @@ ghost use Rattle.desk_sorted.specs.Blocks.{rows_in};
 ghost use Rattle.desk_sorted.specs.Sides.{numbers_meet};
 
 use desk_rows::{AdoptionRow, ConclusionRow, Fault};
-use desk_sorted::{Blocks, Sorted, Sought};
+use desk_sorted::{Blocks, Sought};
 use std::alloc::Global;
 use std::cmp::Ordering;
 
@@ -83,17 +83,17 @@ impl Sought<AdoptionRow> for ByAdopting {
 #[derive(Drop)]
 pub struct Office {
     pub conclusions: Blocks<ConclusionRow>,
-    pub adoptions: Sorted<AdoptionRow>,
+    pub adoptions: Blocks<AdoptionRow>,
 }
 
 impl Office {
     pub fn new(alloc: Global) -> Office
         ensures conclusions { rows_in result.conclusions.blocks.items ≡ [] }
-        ensures adoptions { result.adoptions.rows.items ≡ [] }
+        ensures adoptions { rows_in result.adoptions.blocks.items ≡ [] }
     {
         Office {
             conclusions: Blocks::new(alloc),
-            adoptions: Sorted::new(alloc),
+            adoptions: Blocks::new(alloc),
         }
     }
 
@@ -104,7 +104,8 @@ impl Office {
             (rows_in self.old.conclusions.blocks.items)) }
         ensures err { OnErr result (rows_in self.new.conclusions.blocks.items
             ≡ rows_in self.old.conclusions.blocks.items) }
-        ensures adoptions { self.new.adoptions.rows.items ≡ self.old.adoptions.rows.items }
+        ensures adoptions { rows_in self.new.adoptions.blocks.items
+            ≡ rows_in self.old.adoptions.blocks.items }
         ensures fault { IfErr result (λ fault. fault ≡ Fault.Memory) }
     {
         let id = row.package_id.clone()?;
@@ -118,20 +119,21 @@ impl Office {
 
     /// Puts an adoption in place of an earlier one of its reference.
     pub fn adopt(&mut self, row: AdoptionRow) -> Result<(), Fault>
-        ensures ok { OnOk result (self.new.adoptions.rows.items
-            ≡ replaced (below_by adoption_order)
-            (is_adoption row.document row.reference) row self.old.adoptions.rows.items) }
-        ensures err { OnErr result (self.new.adoptions.rows.items ≡ self.old.adoptions.rows.items) }
+        ensures ok { OnOk result (rows_in self.new.adoptions.blocks.items
+            ≡ replaced (below_by adoption_order) (is_adoption row.document row.reference) row
+            (rows_in self.old.adoptions.blocks.items)) }
+        ensures err { OnErr result (rows_in self.new.adoptions.blocks.items
+            ≡ rows_in self.old.adoptions.blocks.items) }
         ensures conclusions { rows_in self.new.conclusions.blocks.items
             ≡ rows_in self.old.conclusions.blocks.items }
         ensures fault { IfErr result (λ fault. fault ≡ Fault.Memory) }
     {
-        self.adoptions.reserve(1)?;
-        self.adoptions.cut(&ByReference {
+        let reference = row.reference.clone()?;
+        let key = ByReference {
             document: row.document,
-            reference: row.reference.as_str(),
-        });
-        self.adoptions.put(row);
+            reference: reference.as_str(),
+        };
+        self.adoptions.exchange(&key, row)?;
         Ok(())
     }
 }

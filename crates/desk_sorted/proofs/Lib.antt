@@ -6,3 +6,5 @@ mod Blocking
 mod Searching
 mod Changing
 mod Walking
+mod Counting
+mod Beside

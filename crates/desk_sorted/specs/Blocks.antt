@@ -1,5 +1,5 @@
 -- Rows in order, cut into blocks.
-use Rattle.std.specs.Prelude.{◌≡◌, ℕ, suc, ◌+◌, ◌<◌, ◌≤◌, Bool, true, false, List, [], ◌∷◌, length, take, drop, filter, flat_map, get_or, Vec, vec_len, not, ◌&&◌}
+use Rattle.std.specs.Prelude.{◌≡◌, ℕ, suc, ◌+◌, ◌^◌, ◌<◌, ◌≤◌, Bool, true, false, List, [], ◌∷◌, length, take, drop, filter, flat_map, get_or, Vec, vec_len, not, ◌&&◌}
 use Rattle.std.specs.Vec.{vec_capacity}
 use Rattle.std.specs.declared.alloc.Global.{Global}
 use Rattle.std.specs.List.{list_all, list_any}
@@ -45,8 +45,9 @@ pub record IsBlockRun {R : Type 0} (side : R → Ordering) (blocks : List (Vec R
 abbrev pub is_between : {A : Type 0} → (A → A → Bool) → List A → List A → A → Bool
 is_between below front back row = not (list_any (below row) front) && list_all (below row) back
 
--- among the rows that are left, some more go into the block at a place, which has room for them
+-- among the rows that are left, some more go into the block at a place, which has room for them, and all can be counted
 pub record HasRoom {R : Type 0} (below : R → R → Bool) (left : R → Bool) (more : List R) (blocks : List (Vec R Global)) (at : ℕ) : Type 0 where
   pub within : at < length blocks
   pub room : (d : Vec R Global) → vec_len (get_or blocks at d) + length more ≤ vec_capacity (get_or blocks at d)
+  pub fits : length (rows_in blocks) + length more < 2 ^ 64
   pub place : list_all (is_between below (filter left (rows_in (take at blocks))) (filter left (rows_in (drop (suc at) blocks)))) more ≡ true

@@ -75,3 +75,8 @@ pub alike : {A K : Type 0} (key : A → K) (R : K → K → Ordering) → IsTota
 alike key R t k x y e f =
     let turned : R k (key y) ≡ Equal = t.antisymm k (key y) ∙ ap ordering_reverse (equal_of (R (key y) k) f) in
     ap is_lt (t.congr (key x) k (key y) (equal_of (R (key x) k) e) ∙ turned)
+
+-- No row is sought
+
+pub none_splits : {A : Type 0} (order : A → A → Ordering) → IsSideOf order (λ row. Less)
+none_splits order x y h = omega arith

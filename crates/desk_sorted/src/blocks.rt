@@ -1,17 +1,20 @@
 //! Rows in the order of their keys, cut into blocks: a row that is put in or taken out moves those of its block alone.
 
-ghost use Rattle.std.specs.Prelude.{◌≡◌, ℕ, suc, Bool, true, not, ◌+◌, ◌<◌, ◌≤◌, ◌++◌, [], ◌∷◌, filter, find, map, OnOk, OnErr, IfOk, IfErr, length, vec_len, List, Vec, get_or, take, drop};
+ghost use Rattle.std.specs.Prelude.{◌≡◌, refl, ℕ, suc, Bool, true, false, not, ◌+◌, ◌^◌, ◌<◌, ◌≤◌, ◌++◌, [], ◌∷◌, filter, find, map, OnOk, OnErr, IfOk, IfErr, length, vec_len, List, Vec, get_or, take, drop};
 ghost use Rattle.std.specs.Vec.{vec_capacity};
 ghost use Rattle.std.specs.declared.alloc.Global.{Global};
 ghost use Rattle.std.specs.List.{list_any, list_all};
 ghost use Rattle.std.specs.Option.{option_copied};
 ghost use Rattle.std.specs.Ordering.{is_lt, is_le};
+ghost use Rattle.std.specs.declared.cmp.Ordering.TheVariants.{Less};
 ghost use Rattle.desk_rows.specs.Lists.{put, put_all, replaced, ascends};
 ghost use Rattle.desk_rows.specs.Keys.{below_by};
 ghost use Rattle.desk_sorted.specs.Blocks.{are_filled, ends_in, is_between, rows_in, HasRoom, IsBlockRun, IsSplit};
+ghost use Rattle.desk_sorted.specs.Sides.{none_splits};
 
 use crate::sorted::{Keyed, Run, Sought, put_row, put_rows, run_of};
 use std::alloc::{AllocError, Global};
+use std::cmp::Ordering;
 
 /// A block of so many rows is cut in two before another is put in.
 const FULL: usize = 256;
@@ -164,6 +167,18 @@ fn drop_empty<R: Drop>(blocks: &mut Vec<Vec<R>>)
     blocks.retain(|block| !block.is_empty());
 }
 
+/// The rows of all blocks, counted.
+fn row_count<R>(blocks: &[Vec<R>]) -> usize
+    requires { length (rows_in blocks.now) < 2 ^ 64 }
+    ensures { result ≡ length (rows_in blocks.now) }
+{
+    let mut count: usize = 0;
+    for block in blocks {
+        count += block.len();
+    }
+    count
+}
+
 /// Cuts the block at a place in two.
 fn halve<R: Drop>(blocks: &mut Vec<Vec<R>>, at: usize) -> Result<(), AllocError>
     requires within { at < length blocks.old.items }
@@ -307,6 +322,23 @@ fn discard_each<R: Drop, T: RowTest<R>>(blocks: &mut [Vec<R>], test: &T)
     }
 }
 
+/// No row is sought.
+struct NoRow;
+
+impl<R: Keyed> Sought<R> for NoRow {
+    ghost side = { λ key row. Less };
+
+    ghost is_at = { λ key row. false };
+
+    ghost splits = { λ key. none_splits R.order };
+
+    ghost meets = { λ key row. refl };
+
+    fn side_of(&self, row: &R) -> Ordering {
+        Ordering::Less
+    }
+}
+
 /// A test of rows.
 pub trait RowTest<R> {
     ghost passes: { Self → R → Bool };
@@ -322,8 +354,12 @@ pub struct Blocks<R: Keyed> {
     alloc: Global,
     /// Each but the first has a row.
     pub blocks: Vec<Vec<R>>,
+    /// Of the rows of all blocks.
+    count: usize,
     pub ghost ascending: { ascends (below_by R.order) (rows_in blocks.items) ≡ true },
     pub ghost filled: { are_filled blocks.items ≡ true },
+    pub ghost counted: { count ≡ length (rows_in blocks.items) },
+    pub ghost fits: { length (rows_in blocks.items) < 2 ^ 64 },
 }
 
 impl<R: Keyed + Drop> Blocks<R> {
@@ -334,6 +370,7 @@ impl<R: Keyed + Drop> Blocks<R> {
         Blocks {
             alloc,
             blocks: Vec::new(alloc),
+            count: 0,
         }
     }
 
@@ -378,6 +415,17 @@ impl<R: Keyed + Drop> Blocks<R> {
         Ok(found)
     }
 
+    /// How many rows are sought. It takes no memory.
+    pub fn count_of<K: Sought<R>>(&self, key: &K) -> usize
+        ensures { result ≡ length (filter (K.is_at key.now) (rows_in self.now.blocks.items)) }
+    {
+        let mut count: usize = 0;
+        for block in self.among(key) {
+            count += run_in(block.as_slice(), key).len();
+        }
+        count
+    }
+
     /// Cuts out the rows that are sought.
     pub fn cut<K: Sought<R>>(&mut self, key: &K)
         ensures { rows_in self.new.blocks.items ≡ filter (λ row.
@@ -385,6 +433,7 @@ impl<R: Keyed + Drop> Blocks<R> {
     {
         cut_within(&mut *self.blocks, key);
         drop_empty(&mut self.blocks);
+        self.count = row_count(self.blocks.as_slice());
     }
 
     /// Drops the rows that pass a test.
@@ -394,6 +443,7 @@ impl<R: Keyed + Drop> Blocks<R> {
     {
         discard_each(&mut *self.blocks, test);
         drop_empty(&mut self.blocks);
+        self.count = row_count(self.blocks.as_slice());
     }
 
     /// Begins the first block.
@@ -451,6 +501,9 @@ impl<R: Keyed + Drop> Blocks<R> {
         ensures room { IfOk result (λ at. HasRoom (below_by R.order) (λ row.
             not (K.is_at key.now row)) more.now self.new.blocks.items at) }
     {
+        if more.len() > usize::MAX - self.count {
+            return Err(AllocError);
+        }
         self.start()?;
         let at = self.place_for(key, more)?;
         reserve_at(&mut self.blocks, at, more.len())?;
@@ -466,6 +519,33 @@ impl<R: Keyed + Drop> Blocks<R> {
     {
         replace_within(&mut *self.blocks, at, key, more);
         drop_empty(&mut self.blocks);
+        self.count = row_count(self.blocks.as_slice());
+    }
+
+    /// Makes room for rows beside those that are there: all in one block, whose place is the answer. Where none of those is sought,
+    /// and all that come are, it is the block into which they go; else all blocks are joined.
+    pub fn make_room_beside<K: Sought<R>>(
+        &mut self,
+        key: &K,
+        more: &[R],
+    ) -> Result<usize, AllocError>
+        ensures rows { rows_in self.new.blocks.items ≡ rows_in self.old.blocks.items }
+        ensures room { IfOk result (λ at. HasRoom (below_by R.order) (λ row. true) more.now
+            self.new.blocks.items at) }
+    {
+        if self.contains(key) {
+            return self.make_room(&NoRow, more);
+        }
+        self.make_room(key, more)
+    }
+
+    /// Puts rows in their places, where there is room for them.
+    pub fn put_all(&mut self, at: usize, more: Vec<R>)
+        requires { HasRoom (below_by R.order) (λ row. true) more.items self.old.blocks.items at }
+        ensures { rows_in self.new.blocks.items
+            ≡ put_all (below_by R.order) more.items (rows_in self.old.blocks.items) }
+    {
+        self.replace(&NoRow, at, more);
     }
 
     /// Puts a row in place of those that are sought.
@@ -487,10 +567,14 @@ impl<R: Keyed + Drop> Blocks<R> {
             ≡ put (below_by R.order) row (rows_in self.old.blocks.items)) }
         ensures err { OnErr result (rows_in self.new.blocks.items ≡ rows_in self.old.blocks.items) }
     {
+        let Some(count) = self.count.checked_add(1) else {
+            return Err(AllocError);
+        };
         self.start()?;
         let at = self.open(&row)?;
         reserve_at(&mut self.blocks, at, 1)?;
         put_at(&mut self.blocks, at, row);
+        self.count = count;
         Ok(())
     }
 }

@@ -6,8 +6,19 @@ use Rattle.desk_rows.specs.Keys.{below_by}
 use Rattle.desk_rows.specs.Lists.{ascends, put_all}
 use Rattle.desk_sorted.specs.Blocks.{rows_in}
 use Rattle.desk_rows.proofs.Orders.{order_of}
+use Rattle.desk_sorted.proofs.Counting.{put_fits}
 use Rattle.desk_sorted.proofs.Ascending.{ascends-filter, ascends-put_all}
 use Rattle.desk_sorted.proofs.blocks.Blocks.replace.Goals as goal
+
+pub row_count-self-requires : goal.row_count-self-requires
+row_count-self-requires g c =
+    let below = below_by g.R.Keyed.order in
+    let rows : rows_in c.drop_empty.new.blocks.items ≡ put_all below c.args.more.items (filter (λ row. not (g.K.Sought.is_at c.args.key.now row)) (rows_in c.args.self.now.blocks.items)) =
+    c.drop_empty.ensures.rows
+    ∙ (ap (λ (bs : List (Vec g.row.R.Denot Global)). rows_in bs) (with_items_is c.args.self.now.blocks c.replace_within.new.blocks (c.replace_within.ensures.length ∙ (ap length c.deref_mut.ensures.value ∙ sym c.args.self.now.blocks.ok.0)))
+    ∙ (c.replace_within.ensures.rows ∙ ap (λ (bs : List (Vec g.row.R.Denot Global)). put_all below c.args.more.items (filter (λ row. not (g.K.Sought.is_at c.args.key.now row)) (rows_in bs))) c.deref_mut.ensures.value)) in
+    put_fits below (λ row. not (g.K.Sought.is_at c.args.key.now row)) c.args.more.items (rows_in c.args.self.now.blocks.items) (rows_in c.as_slice.result.now)
+    (ap (λ (bs : List (Vec g.row.R.Denot Global)). rows_in bs) c.as_slice.ensures.value ∙ rows) c.requires.fits
 
 pub invariant_of-self : goal.invariant_of-self
 invariant_of-self g c =
@@ -19,6 +30,8 @@ invariant_of-self g c =
     record {
       ascending = ap (ascends below) rows ∙ ascends-put_all below (order_of g.met.R.Keyed.total) c.args.more.items (filter (λ row. not (g.K.Sought.is_at c.args.key.now row)) (rows_in c.args.self.now.blocks.items)) (ascends-filter below (λ row. not (g.K.Sought.is_at c.args.key.now row)) (rows_in c.args.self.now.blocks.items) c.args.self.now.ascending);
       filled = c.drop_empty.ensures.filled;
+      counted = c.row_count-self.ensures ∙ ap (λ (bs : List (Vec g.row.R.Denot Global)). length (rows_in bs)) c.as_slice.ensures.value;
+      fits = put_fits below (λ row. not (g.K.Sought.is_at c.args.key.now row)) c.args.more.items (rows_in c.args.self.now.blocks.items) (rows_in c.drop_empty.new.blocks.items) rows c.requires.fits;
     }
 
 pub returns : goal.returns
