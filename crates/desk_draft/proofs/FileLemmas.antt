@@ -3,20 +3,19 @@ use Rattle.std.proofs.Common.{◌≡◌, ◌∙◌, ℕ, ◌+◌, ◌<◌, List,
 use Rattle.std.specs.Prelude.{Ok, Err}
 use Rattle.std.proofs.lemmas.List.{drop_more}
 use Rattle.desk_gather.specs.declared.fault.GatherFault.{GatherFault}
-use Rattle.desk_gather.specs.declared.files.SourceFile.{SourceFile}
-use Rattle.desk_gather.specs.declared.gathering.FileInfo.{FileInfo}
+use Rattle.desk_gather.specs.declared.telling.ToldFile.{ToldFile}
 use Rattle.desk_gather.specs.Readers.{Reader}
 use Rattle.desk_tagvalue.specs.declared.drafts.DraftFile.{DraftFile}
-use Rattle.desk_draft.specs.Drafts.{file_of, files_of}
+use Rattle.desk_draft.specs.Told.{file_told, files_told}
 use Rattle.desk_base.specs.Results.{followed}
 use Rattle.desk_base.proofs.Results.{onto, onto-followed}
 
-module _ (r : Reader) (tree : List SourceFile) (done : List DraftFile) (infos : List FileInfo) (i : ℕ) (info : FileInfo) (within : i < length infos) where
-  stepped : onto done (files_of r tree (drop i infos)) ≡ onto done (followed (file_of r tree (get_or infos i info)) (files_of r tree (drop (i + 1) infos)))
-  stepped = ap (λ l. onto done (files_of r tree l)) (drop_more infos i info within)
+module _ (r : Reader) (done : List DraftFile) (ts : List ToldFile) (i : ℕ) (t : ToldFile) (within : i < length ts) where
+  stepped : onto done (files_told r (drop i ts)) ≡ onto done (followed (file_told r (get_or ts i t)) (files_told r (drop (i + 1) ts)))
+  stepped = ap (λ l. onto done (files_told r l)) (drop_more ts i t within)
 
-  pub onto-file : (f : DraftFile) → file_of r tree (get_or infos i info) ≡ Ok f → onto done (files_of r tree (drop i infos)) ≡ onto (done ++ f ∷ []) (files_of r tree (drop (i + 1) infos))
-  onto-file f is = stepped ∙ ap (λ x. onto done (followed x (files_of r tree (drop (i + 1) infos)))) is ∙ onto-followed done f (files_of r tree (drop (i + 1) infos))
+  pub onto-file : (f : DraftFile) → file_told r (get_or ts i t) ≡ Ok f → onto done (files_told r (drop i ts)) ≡ onto (done ++ f ∷ []) (files_told r (drop (i + 1) ts))
+  onto-file f is = stepped ∙ ap (λ x. onto done (followed x (files_told r (drop (i + 1) ts)))) is ∙ onto-followed done f (files_told r (drop (i + 1) ts))
 
-  pub onto-fault : (fault : GatherFault) → file_of r tree (get_or infos i info) ≡ Err fault → onto done (files_of r tree (drop i infos)) ≡ Err fault
-  onto-fault fault is = stepped ∙ ap (λ x. onto done (followed x (files_of r tree (drop (i + 1) infos)))) is
+  pub onto-fault : (fault : GatherFault) → file_told r (get_or ts i t) ≡ Err fault → onto done (files_told r (drop i ts)) ≡ Err fault
+  onto-fault fault is = stepped ∙ ap (λ x. onto done (followed x (files_told r (drop (i + 1) ts)))) is

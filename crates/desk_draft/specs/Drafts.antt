@@ -1,5 +1,5 @@
 -- The draft of a tree (SPDX 2.3, clauses 6 to 8).
-use Rattle.std.specs.Prelude.{ℕ, Bool, true, false, List, [], ◌∷◌, Option, Some, None, Ok, if◌then◌else◌}
+use Rattle.std.specs.Prelude.{ℕ, Bool, true, false, List, [], ◌∷◌, Ok, if◌then◌else◌}
 use Rattle.std.specs.List.{list_any, flat_map}
 use Rattle.sha1.specs.Sha1.{sha1}
 use Rattle.desk_rows.specs.Texts.{sorted_set}
@@ -8,7 +8,7 @@ use Rattle.desk_tagvalue.specs.declared.drafts.DraftFile.{DraftFile}
 use Rattle.desk_gather.specs.declared.files.SourceFile.{SourceFile}
 use Rattle.desk_gather.specs.declared.gathering.FileInfo.{FileInfo}
 use Rattle.desk_gather.specs.Readers.{Reader}
-use Rattle.desk_gather.specs.Trees.{Read, bytes_at, tree_of}
+use Rattle.desk_gather.specs.Trees.{Read, bytes_of, tree_of}
 use Rattle.desk_gather.specs.Gathering.{gathered}
 use Rattle.desk_draft.specs.Texts.{expression_read, copyright_of}
 use Rattle.desk_base.specs.Results.{then_read, followed}
@@ -20,13 +20,6 @@ pub record Named : Type 0 where
   pub created : List ℕ
 
 -- ---- files
-
-abbrev pub some_bytes : Option (List ℕ) → List ℕ
-some_bytes (Some bytes) = bytes
-some_bytes None = []
-
-abbrev pub bytes_of : List SourceFile → List ℕ → List ℕ
-bytes_of tree path = some_bytes (bytes_at tree path)
 
 abbrev pub file_of : Reader → List SourceFile → FileInfo → Read DraftFile
 file_of r tree info =

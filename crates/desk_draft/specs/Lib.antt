@@ -1,3 +1,4 @@
 pub mod Texts
 pub mod Drafts
+pub mod Told
 pub mod Shown

@@ -6,11 +6,11 @@ ghost use Rattle.desk_gather.specs.Readers.{Reader, IsRightReader};
 ghost use Rattle.desk_draft.specs.Drafts.{Named, draft_with, draft_of};
 ghost use Rattle.desk_draft.specs.Shown.{named};
 
-use crate::files::{digests_of, files_of, package_licences, package_notices};
+use crate::files::{digests_of, files_of, infos_of, package_licences, package_notices};
 use crate::texts::{copyright_of, expression_read};
 use desk_base::{Items, Text};
 use desk_bom::verification_code;
-use desk_gather::{FileInfo, GatherFault, SourceFile, gathered, tree_of};
+use desk_gather::{FileInfo, GatherFault, SourceFile, told};
 use desk_tagvalue::{Draft, DraftFile};
 use std::alloc::{AllocError, Global};
 
@@ -71,50 +71,48 @@ fn draft_with(
 // The draft of a tree.
 fn drafted(
     alloc: Global,
-    files: &[SourceFile],
+    files: Vec<SourceFile>,
     title: Title<'_>,
 ) -> Result<Result<Draft, GatherFault>, AllocError>
     ensures ok { (r : Reader) → IsRightReader r
-        → IfOk result (λ x. IfOk x (λ d. draft_of r files.now (named title.entry) d.code ≡ Ok d)) }
+        → IfOk result (λ x. IfOk x (λ d. draft_of r files.items (named title.entry) d.code ≡ Ok d)) }
     ensures code { IfOk result (λ x. IfOk x (λ d. IsCode (map (λ f. f.digest) d.files) d.code)) }
     ensures err { (r : Reader) → IsRightReader r
         → IfOk result (λ x. IfErr x (λ f.
-        (code : List ℕ) → draft_of r files.now (named title.entry) code ≡ Err f)) }
+        (code : List ℕ) → draft_of r files.items (named title.entry) code ≡ Err f)) }
 {
-    let infos = match gathered(alloc, files)? {
-        Ok(infos) => infos,
+    let told = match told(alloc, files)? {
+        Ok(told) => told,
         Err(fault) => return Ok(Err(fault)),
     };
-    let tree = match tree_of(alloc, files)? {
-        Ok(tree) => tree,
-        Err(fault) => return Ok(Err(fault)),
-    };
-    let files = match files_of(alloc, &tree, infos.as_slice())? {
+    let files = match files_of(alloc, told.as_slice())? {
         Ok(files) => files,
         Err(fault) => return Ok(Err(fault)),
     };
+    let infos = infos_of(alloc, told)?;
     draft_with(alloc, title, infos.as_slice(), files)
 }
 
 /// The draft of a tree: of the document, its package and each covered file by path. The first fault is that of what is gathered;
-/// then comes `ExpressionTooLong`, where joined licences aren't one expression.
+/// then comes `ExpressionTooLong`, where joined licences aren't one expression. The bytes of each file are let go once its digest is
+/// known, so that the draft is made without them.
 ///
 /// For each right reader the answer is that of `draft_of`, with the verification code of the files' digests; `Memory` is want of
 /// memory and nothing else.
 pub fn draft(
     alloc: Global,
-    files: &[SourceFile],
+    files: Vec<SourceFile>,
     name: &str,
     namespace: &str,
     created: &str,
 ) -> Result<Draft, GatherFault>
     ensures ok { (r : Reader) → IsRightReader r
-        → IfOk result (λ d. draft_of r files.now
+        → IfOk result (λ d. draft_of r files.items
         (record { name = name.now; namespace = namespace.now; created = created.now }) d.code ≡ Ok d) }
     ensures code { IfOk result (λ d. IsCode (map (λ f. f.digest) d.files) d.code) }
     ensures err { (r : Reader) → IsRightReader r
         → IfErr result (λ f. (f ≡ GatherFault.Memory alloc_error)
-        ⊎ ((code : List ℕ) → draft_of r files.now
+        ⊎ ((code : List ℕ) → draft_of r files.items
         (record { name = name.now; namespace = namespace.now; created = created.now }) code ≡ Err f)) }
 {
     let title = Title {

@@ -1,69 +1,64 @@
 //! The files of a draft.
 
-ghost use Rattle.std.specs.Prelude.{◌≡◌, [], IfOk, OnOk, map, unwrap_or, ◌++◌};
+ghost use Rattle.std.specs.Prelude.{◌≡◌, IfOk, OnOk, map, ◌++◌};
 ghost use Rattle.std.specs.List.{list_any, flat_map};
 ghost use Rattle.desk_gather.specs.Readers.{Reader, IsRightReader};
-ghost use Rattle.desk_gather.specs.Shown.{tree_in};
-ghost use Rattle.desk_draft.specs.Drafts.{bytes_of, file_of, files_of, is_bare, package_licences, package_notices};
+ghost use Rattle.desk_draft.specs.Drafts.{is_bare, package_licences, package_notices};
+ghost use Rattle.desk_draft.specs.Told.{infos_in, file_told, files_told};
 ghost use Rattle.desk_draft.specs.Shown.{Gives};
 ghost use Rattle.desk_base.specs.Borrowed.{texts_in};
 
 use crate::texts::{copyright_of, expression_read};
 use desk_base::{Items, Text};
 use desk_catalogue::sorted_set;
-use desk_gather::{FileInfo, GatherFault, bytes_at};
+use desk_gather::{FileInfo, GatherFault, ToldFile};
 use desk_tagvalue::DraftFile;
-use sha1::Sha1;
 use std::alloc::{AllocError, Global};
-use std::collections::BTreeMap;
-
-// The bytes of a file.
-fn bytes_of<'a>(tree: &BTreeMap<&'a str, &'a [u8]>, path: &str) -> &'a [u8]
-    ensures { result.now ≡ bytes_of (tree_in tree.now) path.now }
-{
-    match bytes_at(tree, path) {
-        Some(bytes) => bytes,
-        None => &[],
-    }
-}
 
 // What the draft says of a file.
-fn file_of<'a>(
-    alloc: Global,
-    tree: &BTreeMap<&'a str, &'a [u8]>,
-    info: &FileInfo,
-) -> Result<Result<DraftFile, GatherFault>, AllocError>
-    ensures { (r : Reader) → IsRightReader r → IfOk result (λ f. f ≡ file_of r (tree_in tree.now) info.now) }
+fn file_of(alloc: Global, told: &ToldFile) -> Result<Result<DraftFile, GatherFault>, AllocError>
+    ensures { (r : Reader) → IsRightReader r → IfOk result (λ f. f ≡ file_told r told.now) }
 {
+    let info = &told.info;
     let concluded = match expression_read(alloc, info.licences.as_slice())? {
         Ok(concluded) => concluded,
         Err(fault) => return Ok(Err(fault)),
     };
     Ok(Ok(DraftFile {
         path: info.path.clone()?,
-        digest: Sha1::digest(bytes_of(tree, info.path.as_str())),
+        digest: told.digest,
         concluded,
         copyright: copyright_of(alloc, info.notices.as_slice())?,
     }))
 }
 
 /// What the draft says of the files, in their order.
-pub(crate) fn files_of<'a>(
+pub(crate) fn files_of(
     alloc: Global,
-    tree: &BTreeMap<&'a str, &'a [u8]>,
-    infos: &[FileInfo],
+    told: &[ToldFile],
 ) -> Result<Result<Vec<DraftFile>, GatherFault>, AllocError>
-    ensures { (r : Reader) → IsRightReader r → IfOk result
-        (Gives (files_of r (tree_in tree.now) infos.now) (λ v. v.items)) }
+    ensures { (r : Reader) → IsRightReader r → IfOk result (Gives (files_told r told.now) (λ v. v.items)) }
 {
     let mut files = Vec::new(alloc);
-    for info in infos {
-        match file_of(alloc, tree, info)? {
+    for one in told {
+        match file_of(alloc, one)? {
             Ok(file) => files.push(file)?,
             Err(fault) => return Ok(Err(fault)),
         }
     }
     Ok(Ok(files))
+}
+
+/// The information of the files, in their order.
+pub(crate) fn infos_of(alloc: Global, told: Vec<ToldFile>) -> Result<Vec<FileInfo>, AllocError>
+    ensures { IfOk result (λ v. v.items ≡ infos_in told.items) }
+{
+    let mut infos = Vec::new(alloc);
+    for one in told {
+        let ToldFile { info, .. } = one;
+        infos.push(info)?;
+    }
+    Ok(infos)
 }
 
 /// The digests of files.

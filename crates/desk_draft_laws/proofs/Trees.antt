@@ -4,14 +4,14 @@ use Rattle.std.specs.Prelude.{All}
 use Rattle.std.proofs.lemmas.List.Elements.{All-nil, All-cons}
 use Rattle.sha1.specs.Sha1.{sha1}
 use Rattle.desk_base.specs.Results.{then_read, followed}
-use Rattle.desk_draft.specs.Drafts.{Named, bytes_of, draft_of, draft_with, file_of, files_of, package_licences, package_notices}
+use Rattle.desk_draft.specs.Drafts.{Named, draft_of, draft_with, file_of, files_of, package_licences, package_notices}
 use Rattle.desk_draft.specs.Texts.{copyright_of, expression_read}
 use Rattle.desk_draft_laws.proofs.Digests.{length-sha1, sha1_bytes}
 use Rattle.desk_draft_laws.proofs.Ships.{ships_draft}
 use Rattle.desk_draft_laws.specs.Shipping.{IsDigest, IsTextOf, ShipsWhenRead}
 use Rattle.desk_gather.specs.Gathering.{gathered}
 use Rattle.desk_gather.specs.Readers.{Reader}
-use Rattle.desk_gather.specs.Trees.{tree_of}
+use Rattle.desk_gather.specs.Trees.{bytes_of, tree_of}
 use Rattle.desk_gather.specs.declared.files.SourceFile.{SourceFile}
 use Rattle.desk_gather.specs.declared.gathering.FileInfo.{FileInfo}
 use Rattle.desk_tagvalue.specs.declared.drafts.Draft.{Draft}

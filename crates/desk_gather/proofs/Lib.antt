@@ -10,3 +10,5 @@ pub mod RestLemmas
 pub mod GatheredLemmas
 pub mod SurveyLaws
 pub mod SurveyLemmas
+pub mod OwnedLemmas
+pub mod TellingLemmas

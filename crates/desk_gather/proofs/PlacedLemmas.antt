@@ -1,5 +1,5 @@
 -- Files put one after the other into a map.
-use Rattle.std.proofs.Common.{◌≡◌, ◌∙◌, ℕ, ◌+◌, ◌<◌, true, false, cond, List, length, get_or, drop, Option, Some, None, option_map, ap, refl}
+use Rattle.std.proofs.Common.{◌≡◌, ◌∙◌, ℕ, ◌+◌, ◌<◌, true, false, cond, List, ◌∷◌, length, get_or, drop, Option, Some, None, option_map, ap, refl}
 use Rattle.std.specs.Prelude.{not, Err}
 use Rattle.std.specs.Option.{is_some}
 use Rattle.std.proofs.lemmas.List.{drop_more}
@@ -27,3 +27,14 @@ module _ (sorted files : List SourceFile) (i : ℕ) (f : SourceFile) (within : i
   -- one that stands there
   pub placed_twice : is_some (bytes_at sorted (get_or files i f).path) ≡ true → placed sorted (drop i files) ≡ Err TwicePath
   placed_twice old = stepped ∙ ap (λ b. cond b (Err TwicePath) (placed (put_file (get_or files i f) sorted) (drop (i + 1) files))) old
+
+-- files that are given one by one
+module _ (sorted fs : List SourceFile) (f : SourceFile) (good : is_path f.path ≡ true) where
+  opened : placed sorted (f ∷ fs) ≡ cond (is_some (bytes_at sorted f.path)) (Err TwicePath) (placed (put_file f sorted) fs)
+  opened = ap (λ b. cond (not b) (Err BadPath) (cond (is_some (bytes_at sorted f.path)) (Err TwicePath) (placed (put_file f sorted) fs))) good
+
+  pub placed_first : is_some (bytes_at sorted f.path) ≡ false → placed sorted (f ∷ fs) ≡ placed (put_file f sorted) fs
+  placed_first new = opened ∙ ap (λ b. cond b (Err TwicePath) (placed (put_file f sorted) fs)) new
+
+  pub placed_again : is_some (bytes_at sorted f.path) ≡ true → placed sorted (f ∷ fs) ≡ Err TwicePath
+  placed_again old = opened ∙ ap (λ b. cond b (Err TwicePath) (placed (put_file f sorted) fs)) old

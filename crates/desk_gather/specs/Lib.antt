@@ -5,5 +5,6 @@ pub mod Tomls
 pub mod Folders
 pub mod Information
 pub mod Gathering
+pub mod Telling
 pub mod Survey
 pub mod Shown

@@ -44,6 +44,16 @@ held_in h = record { path = string_bytes h.path; bytes = h.bytes.now }
 abbrev pub tree_in : Tree → List SourceFile
 tree_in m = entries_of m.entries
 
+-- files that are owned, by path
+abbrev pub OwnedTree : Type 0
+OwnedTree = BTreeMap (List ℕ) (List ℕ)
+
+abbrev pub owned_at : List ℕ × List ℕ → SourceFile
+owned_at e = record { path = e.0; bytes = e.1 }
+
+abbrev pub left_in : OwnedTree → List SourceFile
+left_in m = map owned_at m.entries
+
 abbrev pub toml_in : Toml → TomlText
 toml_in t = record { folder = t.folder.now; annotations = t.annotations.list }
 

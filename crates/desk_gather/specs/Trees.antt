@@ -29,6 +29,14 @@ abbrev pub bytes_at : List SourceFile → List ℕ → Option (List ℕ)
 bytes_at [] path = None
 bytes_at (f ∷ fs) path = if bytes_eq path f.path then Some f.bytes else bytes_at fs path
 
+-- the bytes at a path, and none where no file is there
+abbrev pub some_bytes : Option (List ℕ) → List ℕ
+some_bytes (Some bytes) = bytes
+some_bytes None = []
+
+abbrev pub bytes_of : List SourceFile → List ℕ → List ℕ
+bytes_of tree path = some_bytes (bytes_at tree path)
+
 -- files put one after the other to others that are sorted, up to the first whose path can't stand there, or stands there
 abbrev pub placed : List SourceFile → List SourceFile → Read (List SourceFile)
 placed sorted [] = Ok sorted

@@ -40,7 +40,7 @@ fn last_covering<'m>(annotations: &'m [Annotation], path: &str) -> Option<&'m An
 
 // The annotation that counts in the folder from which the rest of a path is seen.
 fn counting_in<'m>(
-    folders: &'m BTreeMap<&[u8], Annotations>,
+    folders: &'m BTreeMap<Vec<u8>, Annotations>,
     path: &str,
     rest: &str,
 ) -> Option<&'m Annotation>
@@ -79,7 +79,7 @@ fn behind_slash(path: &str) -> Option<&str>
 /// The annotations that count for a path, from the root to its folder.
 pub(crate) fn counting<'m>(
     alloc: Global,
-    folders: &'m BTreeMap<&[u8], Annotations>,
+    folders: &'m BTreeMap<Vec<u8>, Annotations>,
     path: &str,
 ) -> Result<Vec<&'m Annotation>, AllocError>
     ensures { (r : Reader) → IsRightReader r → (tomls : List TomlText) → Holds tomls folders.now

@@ -38,7 +38,7 @@ pub struct FileInfo {
 #[derive(Drop)]
 pub(crate) struct Known<'a> {
     pub(crate) tree: BTreeMap<&'a str, &'a [u8]>,
-    pub(crate) folders: BTreeMap<&'a [u8], Annotations>,
+    pub(crate) folders: BTreeMap<Vec<u8>, Annotations>,
 }
 
 /// The file that holds what is stated of another, or of itself.
@@ -63,8 +63,8 @@ fn bad_line(alloc: Global, tags: &[Tagged<'_>]) -> Result<Option<u64>, AllocErro
     Ok(None)
 }
 
-// What a file states itself.
-fn stated_in<'a>(
+/// What a file states itself.
+pub(crate) fn stated_in<'a>(
     alloc: Global,
     path: &str,
     bytes: &'a [u8],

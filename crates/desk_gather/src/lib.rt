@@ -8,6 +8,8 @@
 //!   `closest` annotation. The code goes down the folders once.
 //! - `survey` goes on past faults: it gives all that is wrong in a tree, and the information of the files by what can be read
 //!   (`specs/Survey.antt`). `gathered` stops at the first of these flaws (`gathered_is_surveyed`).
+//! - `told` takes the files by value: it gives what is gathered with the digest of each file (`specs/Telling.antt`), and lets the
+//!   bytes of each file go once it is told of.
 //! - The definitions are over a `Reader`: the pieces of patterns, the licence expressions, the matches of paths and what files
 //!   state themselves. `gather` answers as they say for each reader that is right by the definitions of `desk_reuse` and
 //!   `desk_expr` (`IsRightReader`), and all right readers are one (`one_reader`).
@@ -22,6 +24,7 @@ mod information;
 mod laws;
 mod paths;
 mod surveying;
+mod telling;
 mod tomls;
 
 pub use fault::GatherFault;
@@ -30,3 +33,4 @@ pub use flaw::Flaw;
 pub use gathering::{FileInfo, gather, gathered};
 pub use laws::{gathered_is_surveyed, one_reader};
 pub use surveying::{Surveyed, survey};
+pub use telling::{ToldFile, told};

@@ -77,10 +77,10 @@ pub(crate) fn tomls_of<'a>(
 }
 
 /// The annotations by folder.
-pub(crate) fn by_folder<'a>(
+pub(crate) fn by_folder(
     alloc: Global,
-    tomls: Vec<Toml<'a>>,
-) -> Result<BTreeMap<&'a [u8], Annotations>, AllocError>
+    tomls: Vec<Toml<'_>>,
+) -> Result<BTreeMap<Vec<u8>, Annotations>, AllocError>
     ensures { IfOk result (Holds (tomls_in tomls.entry.items)) }
 {
     let mut tomls = tomls;
@@ -90,14 +90,14 @@ pub(crate) fn by_folder<'a>(
             folder,
             annotations,
         } = toml;
-        folders.insert(folder, annotations)?;
+        folders.insert(Vec::from_slice(alloc, folder)?, annotations)?;
     }
     Ok(folders)
 }
 
 /// The annotations of a folder.
 pub(crate) fn annotations_in<'m>(
-    folders: &'m BTreeMap<&[u8], Annotations>,
+    folders: &'m BTreeMap<Vec<u8>, Annotations>,
     folder: &[u8],
 ) -> &'m [Annotation]
     ensures { (tomls : List TomlText) → Holds tomls folders.now → result.now ≡ annotations_in tomls folder.now }

@@ -107,7 +107,7 @@ fn gather(
     let files = files_of(rt, folder, is_watched)?;
     desk_subcommands::gather(
         rt.alloc(),
-        files.as_slice(),
+        files,
         name,
         namespace,
         created,

@@ -32,7 +32,7 @@ fn reads_drafts_back(rt: HostRuntime) -> Result<(), AllocError> {
     let alloc = rt.alloc();
     for tree in ["", LAYERED, BARE, MIXED] {
         let files = files(alloc, tree)?;
-        let text = told(alloc, files.as_slice())?;
+        let text = told(alloc, files)?;
         assert!(rt; reads_soundly(alloc, text.as_str())?);
     }
     Ok(())

@@ -7,7 +7,7 @@ use desk_tagvalue::{WriteFault, write};
 use std::alloc::{AllocError, Global};
 
 /// The text of a draft, or its fault.
-pub fn told(alloc: Global, files: &[SourceFile]) -> Result<String, AllocError> {
+pub fn told(alloc: Global, files: Vec<SourceFile>) -> Result<String, AllocError> {
     let made = draft(
         alloc,
         files,
@@ -161,7 +161,7 @@ fn drafts_trees(rt: HostRuntime) -> Result<(), AllocError> {
         (MIXED, MIXED_TEXT),
     ] {
         let files = files(alloc, tree)?;
-        assert_eq!(rt; told(alloc, files.as_slice())?.as_str(), text);
+        assert_eq!(rt; told(alloc, files)?.as_str(), text);
     }
     Ok(())
 }
@@ -180,19 +180,19 @@ fn joins_as_many_terms_as_an_expression_may_have(rt: HostRuntime) -> Result<(), 
     let alloc = rt.alloc();
     let most = of_licences(alloc, 1_024)?;
     assert!(rt;
-        told(alloc, most.as_slice())?
+        told(alloc, most)?
             .as_str()
             .starts_with("SPDXVersion: SPDX-2.3\n")
     );
     let more = of_licences(alloc, 1_025)?;
-    assert_eq!(rt; told(alloc, more.as_slice())?.as_str(), "ExpressionTooLong");
+    assert_eq!(rt; told(alloc, more)?.as_str(), "ExpressionTooLong");
     Ok(())
 }
 
 #[test]
 fn drafts_or_tells_want_of_memory(rt: HostRuntime) {
     if let Ok(files) = files(rt.alloc(), LAYERED) {
-        if let Ok(text) = told(rt.alloc(), files.as_slice()) {
+        if let Ok(text) = told(rt.alloc(), files) {
             assert_eq!(rt; text.as_str(), LAYERED_TEXT);
         }
     }

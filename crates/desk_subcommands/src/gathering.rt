@@ -21,16 +21,16 @@ fn status_of(answer: &Gathering) -> u8
 
 fn gathered(
     alloc: Global,
-    files: &[SourceFile],
+    files: Vec<SourceFile>,
     name: &str,
     namespace: &str,
     created: &str,
 ) -> Result<Gathering, Failure>
     ensures ok { (r : Reader) → IsRightReader r
-        → IfOk result (IsGathering r files.now
+        → IfOk result (IsGathering r files.items
         (record { name = name.now; namespace = namespace.now; created = created.now })) }
     ensures err { (r : Reader) → IsRightReader r
-        → IfErr result (IfBadValue (IsUnwritable r files.now
+        → IfErr result (IfBadValue (IsUnwritable r files.items
         (record { name = name.now; namespace = namespace.now; created = created.now }))) }
 {
     match document_of(alloc, files, name, namespace, created) {
@@ -44,17 +44,17 @@ fn gathered(
 /// Where memory is wanting, or some value can't stand in its field, nothing is written.
 pub fn gather<W: Write>(
     alloc: Global,
-    files: &[SourceFile],
+    files: Vec<SourceFile>,
     name: &str,
     namespace: &str,
     created: &str,
     writer: &mut W,
 ) -> Result<u8, Failure>
     ensures told { (r : Reader) → IsRightReader r → IfOk result (λ status. (text : List ℕ)
-        × Gathers r files.now (record { name = name.now; namespace = namespace.now; created = created.now }) text status
+        × Gathers r files.items (record { name = name.now; namespace = namespace.now; created = created.now }) text status
         × Appends (W.contents writer.old) (W.contents writer.new) text) }
     ensures bad_value { (r : Reader) → IsRightReader r → IfErr result
-        (IfBadValue (IsUnwritable r files.now (record { name = name.now; namespace = namespace.now; created = created.now }))) }
+        (IfBadValue (IsUnwritable r files.items (record { name = name.now; namespace = namespace.now; created = created.now }))) }
     ensures untold { IfErr result (IfUntold (Keeps (W.contents writer.old) (W.contents writer.new))) }
 {
     let answer = gathered(alloc, files, name, namespace, created)?;

@@ -112,16 +112,16 @@ fn text_of(alloc: Global, draft: &Draft) -> Result<String, TextFault>
 /// For each right reader it is that of `IsGathering`. A value can't stand only where the draft has such a value.
 pub fn document_of(
     alloc: Global,
-    files: &[SourceFile],
+    files: Vec<SourceFile>,
     name: &str,
     namespace: &str,
     created: &str,
 ) -> Result<Gathering, TextFault>
     ensures ok { (r : Reader) → IsRightReader r
-        → IfOk result (IsGathering r files.now
+        → IfOk result (IsGathering r files.items
         (record { name = name.now; namespace = namespace.now; created = created.now })) }
     ensures err { (r : Reader) → IsRightReader r
-        → IfErr result (MayFail r files.now
+        → IfErr result (MayFail r files.items
         (record { name = name.now; namespace = namespace.now; created = created.now })) }
 {
     match draft(alloc, files, name, namespace, created) {

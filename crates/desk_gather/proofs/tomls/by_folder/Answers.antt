@@ -6,13 +6,13 @@ use Rattle.desk_gather.proofs.tomls.by_folder.Goals as goal
 
 pub loop-toml-preserved-in_ok-insert : goal.loop-toml-preserved-in_ok-insert
 loop-toml-preserved-in_ok-insert c = λ folder.
-    ap (annotations_or (tomls_in c.pop.new.self.items) folder) (kept_for-insert c.in-Some.toml.folder c.in-Some.toml.annotations c.loop-toml.folders c.insert.new.self c.in_ok-insert.ensures.updates folder)
+    ap (annotations_or (tomls_in c.pop.new.self.items) folder) (kept_for-insert c.in_ok-from_slice.field-0 c.in-Some.toml.folder.now c.in-Some.toml.annotations c.loop-toml.folders c.insert.new.self c.in_ok-from_slice.ensures.items c.in_ok-insert.ensures.updates folder)
     ∙ (sym (annotations_or-last c.pop.new.self.items c.in-Some.toml folder (kept_for c.loop-toml.folders folder))
     ∙ (ap (λ ts. annotations_or (tomls_in ts) folder (kept_for c.loop-toml.folders folder)) (sym c.in-Some.ensures.items) ∙ c.loop-toml.invariant folder))
 
 pub loop-toml-preserved : goal.loop-toml-preserved
 loop-toml-preserved c = λ folder.
-    ap (annotations_or (tomls_in c.pop.new.self.items) folder) (kept_for-insert c.in-Some.toml.folder c.in-Some.toml.annotations c.loop-toml.folders c.insert.new.self c.in_ok-insert.ensures.updates folder)
+    ap (annotations_or (tomls_in c.pop.new.self.items) folder) (kept_for-insert c.in_ok-from_slice.field-0 c.in-Some.toml.folder.now c.in-Some.toml.annotations c.loop-toml.folders c.insert.new.self c.in_ok-from_slice.ensures.items c.in_ok-insert.ensures.updates folder)
     ∙ (sym (annotations_or-last c.pop.new.self.items c.in-Some.toml folder (kept_for c.loop-toml.folders folder))
     ∙ (ap (λ ts. annotations_or (tomls_in ts) folder (kept_for c.loop-toml.folders folder)) (sym c.in-Some.ensures.items) ∙ c.loop-toml.invariant folder))
 

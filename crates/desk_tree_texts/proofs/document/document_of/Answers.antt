@@ -12,4 +12,4 @@ returns-in_ok-text_of-in-Ok-clause-ok c = λ r right.
     let made = c.in-Ok.ensures.ok r right in
     let lines = c.in_ok-text_of-in-Ok.ensures.ok in
     let whole : IsTextOf d text = record { code = c.in-Ok.ensures.code; lines = lines } in
-    (d, (made, c.in-Ok.ensures.code), lines, c.in_ok-text_of-in-Ok.ensures.read, ships_tree r c.args.files.now title d text made whole)
+    (d, (made, c.in-Ok.ensures.code), lines, c.in_ok-text_of-in-Ok.ensures.read, ships_tree r c.args.files.items title d text made whole)
