@@ -1,6 +1,6 @@
 -- Runs of rows and places of rows, found by halving.
 use Rattle.std.proofs.Common.{◌≡◌, ℕ, zero, suc, ◌+◌, ◌-◌, ◌<◌, ◌≤◌, Bool, true, false, cond, List, [], ◌∷◌, ◌++◌, length, map, take, drop, get_or, Some, sym, refl, ap, subst, ◌∙◌, arith}
-use Rattle.std.specs.Prelude.{if◌then◌else◌, filter, find, ◌||◌, ◌==◌, not, slice_get, nat_lt, insert}
+use Rattle.std.specs.Prelude.{if◌then◌else◌, filter, find, ◌==◌, not, slice_get, nat_lt, insert}
 use Rattle.std.specs.List.{list_all, list_any, AllWithin, IsAllAdjacentAnswer}
 use Rattle.std.specs.List.Sorted.{IsPartitionPoint, IsPartitionedBy}
 use Rattle.std.specs.Ordering.{is_lt, is_le, is_eq, ordering_index, ordering_reverse}
@@ -187,10 +187,6 @@ first_found test (x ∷ xs) = elim (test x) as (λ b. slice_get (cond b (x ∷ f
 
 pub some_left : (n : ℕ) → not (suc n == 0) ≡ true
 some_left n = let none : (suc n == 0) ≡ false = grind (arith, nat_tests) in ap not none
-
-pub any_found : {A : Type 0} (test : A → Bool) (xs : List A) → not (length (filter test xs) == 0) ≡ list_any test xs
-any_found test [] = refl
-any_found test (x ∷ xs) = elim (test x) as (λ b. not (length (cond b (x ∷ filter test xs) (filter test xs)) == 0) ≡ (b || list_any test xs)) [ true ↦ some_left (length (filter test xs)) | false ↦ any_found test xs ]
 
 -- places
 

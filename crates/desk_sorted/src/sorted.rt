@@ -1,9 +1,8 @@
 //! Rows in the order of their keys, found by halving.
 
-ghost use Rattle.std.specs.Prelude.{◌≡◌, ℕ, Bool, true, not, ◌+◌, ◌<◌, ◌≤◌, ◌++◌, [], ◌∷◌, filter, find, OnOk, OnErr, IfSome, IfErr, length, vec_len, slice_get, List, take, drop};
+ghost use Rattle.std.specs.Prelude.{◌≡◌, ℕ, Bool, true, ◌+◌, ◌<◌, ◌≤◌, ◌++◌, [], ◌∷◌, filter, find, OnOk, OnErr, IfSome, IfErr, length, vec_len, slice_get, List, take, drop};
 ghost use Rattle.std.specs.Vec.{vec_capacity};
 ghost use Rattle.std.specs.Cmp.{IsTotalOrder};
-ghost use Rattle.std.specs.List.{list_any};
 ghost use Rattle.std.specs.Option.{option_copied};
 ghost use Rattle.std.specs.Ordering.{is_eq, is_lt};
 ghost use Rattle.std.specs.declared.cmp.Ordering.{Ordering};
@@ -195,13 +194,6 @@ impl<R: Keyed + Drop> Sorted<R> {
         self.run(key).first()
     }
 
-    /// Whether a row that is sought is there.
-    pub fn contains<K: Sought<R>>(&self, key: &K) -> bool
-        ensures { result ≡ list_any (K.is_at key.now) self.now.rows.items }
-    {
-        !self.run(key).is_empty()
-    }
-
     pub fn reserve(&mut self, count: usize) -> Result<(), Fault>
         ensures items { self.new.rows.items ≡ self.old.rows.items }
         ensures len { vec_len self.new.rows ≡ vec_len self.old.rows }
@@ -209,16 +201,6 @@ impl<R: Keyed + Drop> Sorted<R> {
         ensures fault { IfErr result (λ fault. fault ≡ Fault.Memory) }
     {
         reserve(&mut self.rows, count)
-    }
-
-    /// Cuts out the rows that are sought.
-    pub fn cut<K: Sought<R>>(&mut self, key: &K)
-        ensures items { self.new.rows.items ≡ filter (λ row. not (K.is_at key.now row)) self.old.rows.items }
-        ensures len { vec_len self.new.rows ≤ vec_len self.old.rows }
-        ensures capacity { vec_capacity self.new.rows ≡ vec_capacity self.old.rows }
-    {
-        let run = run_of(self.rows.as_slice(), key);
-        drop(self.rows.drain(run.start..run.end));
     }
 
     /// Puts a row in its place. There is room.
@@ -229,14 +211,6 @@ impl<R: Keyed + Drop> Sorted<R> {
         ensures capacity { vec_capacity self.old.rows ≤ vec_capacity self.new.rows }
     {
         put_row(&mut self.rows, row);
-    }
-
-    /// Puts rows in their places. There is room.
-    pub fn put_all(&mut self, more: Vec<R>)
-        requires { vec_len self.old.rows + vec_len more ≤ vec_capacity self.old.rows }
-        ensures { self.new.rows.items ≡ put_all (below_by R.order) more.items self.old.rows.items }
-    {
-        put_rows(&mut self.rows, more);
     }
 
     /// Puts rows in their places, one after another: alike ones stay in their order. There is room.
