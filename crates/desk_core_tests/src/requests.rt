@@ -448,7 +448,11 @@ const NOTHING_AND_MARK: &str =
 
 #[test]
 fn reads_each_form(rt: HostRuntime) -> Result<(), Fail> {
-    read_each(&rt, rt.alloc(), &[FORMS, ALLOWED, MOVES, CHANGES, FINDINGS, LISTINGS])
+    read_each(
+        &rt,
+        rt.alloc(),
+        &[FORMS, ALLOWED, MOVES, CHANGES, FINDINGS, LISTINGS],
+    )
 }
 
 #[test]
