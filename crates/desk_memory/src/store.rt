@@ -366,7 +366,7 @@ impl MemStore {
         ensures err { OnErr result (rows_of self.new ≡ rows_of self.old) }
         ensures tallies { self.new.tallies ≡ self.old.tallies }
         ensures holders { OnOk result (rows_in self.new.choices.holders.blocks.items
-            ≡ holders_after (Change.Withdrew release.now changes) (rows_of self.old).releases
+            ≡ holders_after (Change.Withdrew release.now changes) (rows_of self.old)
             (rows_in self.old.choices.holders.blocks.items)) }
         ensures holders_err { OnErr result (rows_in self.new.choices.holders.blocks.items
             ≡ rows_in self.old.choices.holders.blocks.items) }
@@ -386,7 +386,7 @@ impl MemStore {
         ensures err { OnErr result (rows_of self.new ≡ rows_of self.old) }
         ensures tallies { self.new.tallies ≡ self.old.tallies }
         ensures holders { OnOk result (rows_in self.new.choices.holders.blocks.items
-            ≡ holders_after change (rows_of self.old).releases
+            ≡ holders_after change (rows_of self.old)
             (rows_in self.old.choices.holders.blocks.items)) }
         ensures holders_err { OnErr result (rows_in self.new.choices.holders.blocks.items
             ≡ rows_in self.old.choices.holders.blocks.items) }

@@ -1,5 +1,5 @@
 -- The releases that hold a choice for a package: the first of them, and what a change of the rows leaves.
-use Rattle.std.proofs.Common.{◌≡◌, ◌≢◌, ◌∙◌, ℕ, ◌≤◌, Bool, true, false, cond, List, [], ◌∷◌, Option, Some, None, refl, sym, ap, subst, arith, inl, inr}
+use Rattle.std.proofs.Common.{◌≡◌, ◌≢◌, ◌∙◌, ℕ, zero, suc, ◌+◌, ◌<◌, ◌≤◌, length, drop, get_or, add-one, Bool, true, false, cond, List, [], ◌∷◌, ◌++◌, Option, Some, None, refl, sym, ap, subst, arith, inl, inr}
 use Rattle.std.specs.Prelude.{if◌then◌else◌, find, filter, not, is_some, nat_lt, ◌==◌, ◌&&◌, ◌||◌, ◌⊎◌}
 use Rattle.std.specs.List.{list_any, list_all}
 use Rattle.std.specs.Option.{option_map}
@@ -24,7 +24,7 @@ use Rattle.desk_access.specs.Follows.{Follows}
 use Rattle.desk_tally.specs.Kept.{ArePlaces, place_found}
 use Rattle.desk_tally.proofs.Names.{found-put, found-updated, kept-put}
 use Rattle.desk_sorted.specs.Sides.{numbers_meet, texts_meet}
-use Rattle.desk_office.specs.Holders.{AreHolders, choosing, holder_of, holder_order, holders_after, is_held, is_holder, is_holding, is_of, withdrawing}
+use Rattle.desk_office.specs.Holders.{AreHolders, choosing, holder_of, holder_order, holders_after, is_among, is_held, is_holder, is_holding, is_of, leaving, letting_go, withdrawing}
 use Rattle.desk_office.specs.HolderLaws.{holder_total}
 use Rattle.desk_office.specs.declared.holders.Holder.{Holder}
 use Rattle.desk_base.proofs.Bools.{and_left, and_right, both, contrary}
@@ -444,6 +444,116 @@ withdrew r all t later is same held = record {
   apart = λ y there. ap (λ rows. place_found rows y.name) is ∙ apart_updated (is_release r) withdrawn_release (λ row. refl) (λ row. refl) t.releases held.apart y (subst (IsIn y) is there);
 }
 
+-- those that are let go of, one choice after another
+
+filter_alike : {A : Type 0} (p q : A → Bool) (xs : List A) → ((x : A) → IsIn x xs → p x ≡ q x) → filter p xs ≡ filter q xs
+filter_alike p q [] same = refl
+filter_alike p q (x ∷ xs) same =
+    ap (λ b. cond b (x ∷ filter p xs) (filter p xs)) (same x (inl refl))
+    ∙ ap (λ l. cond (q x) (x ∷ l) l) (filter_alike p q xs (λ y is. same y (inr is)))
+
+filter_twice : {A : Type 0} (p q : A → Bool) (xs : List A) → filter (λ x. not (q x)) (filter (λ x. not (p x)) xs) ≡ filter (λ x. not (p x || q x)) xs
+filter_twice p q [] = refl
+filter_twice p q (x ∷ xs) = either (p x) refl (filter_twice p q xs)
+  where
+    either : (b : Bool) → p x ≡ b → filter (λ y. not (q y)) (filter (λ y. not (p y)) xs) ≡ filter (λ y. not (p y || q y)) xs
+        → filter (λ y. not (q y)) (cond (not b) (x ∷ filter (λ y. not (p y)) xs) (filter (λ y. not (p y)) xs)) ≡ cond (not (b || q x)) (x ∷ filter (λ y. not (p y || q y)) xs) (filter (λ y. not (p y || q y)) xs)
+    either true e rest = rest
+    either false e rest = ap (λ l. cond (not (q x)) (x ∷ l) l) rest
+
+any_append : {A : Type 0} (test : A → Bool) (xs ys : List A) → list_any test (xs ++ ys) ≡ (list_any test xs || list_any test ys)
+any_append test [] ys = refl
+any_append test (x ∷ xs) ys = elim (test x) as (λ b. (b || list_any test (xs ++ ys)) ≡ ((b || list_any test xs) || list_any test ys)) [ true ↦ refl | false ↦ any_append test xs ys ]
+
+-- first those of some choices, then those of others
+pub let_go_both : (place : ℕ) (xs ys : List ChoiceRow) (all : List Holder) → letting_go place ys (letting_go place xs all) ≡ letting_go place (xs ++ ys) all
+let_go_both place xs ys all =
+    filter_twice (is_among place xs) (is_among place ys) all
+    ∙ filter_alike (λ x. not (is_among place xs x || is_among place ys x)) (λ x. not (is_among place (xs ++ ys) x)) all
+    (λ x is. ap not (sym (any_append (λ (row : ChoiceRow). is_holding row.document row.package_id place row.release x) xs ys)))
+
+alone_or_none : (b : Bool) → (b || false) ≡ b
+alone_or_none true = refl
+alone_or_none false = refl
+
+-- that of one choice
+pub let_go_one : (place : ℕ) (row : ChoiceRow) (all : List Holder) → filter (λ holder. not (is_holding row.document row.package_id place row.release holder)) all ≡ letting_go place (row ∷ []) all
+let_go_one place row all =
+    filter_alike (λ holder. not (is_holding row.document row.package_id place row.release holder)) (λ holder. not (is_among place (row ∷ []) holder)) all
+    (λ x is. ap not (sym (alone_or_none (is_holding row.document row.package_id place row.release x))))
+
+-- that of no choice
+pub let_go_none : (place : ℕ) (all : List Holder) → letting_go place [] all ≡ all
+let_go_none place [] = refl
+let_go_none place (x ∷ all) = ap (λ l. x ∷ l) (let_go_none place all)
+
+-- a row and those behind it
+drop_next : {A : Type 0} (xs : List A) (i : ℕ) (d : A) → i < length xs → get_or xs i d ∷ drop (suc i) xs ≡ drop i xs
+drop_next [] i d lt = absurd (omega (arith, lt))
+drop_next (x ∷ xs) zero d lt = refl
+drop_next (x ∷ xs) (suc i) d lt = drop_next xs i d (omega (arith, lt))
+
+pub row_at : {A : Type 0} (rows : List A) (i : ℕ) (row : A) → i < length rows → row ≡ get_or rows i row → row ∷ drop (i + 1) rows ≡ drop i rows
+row_at rows i row lt e =
+    ap (λ x. x ∷ drop (i + 1) rows) e ∙ (ap (λ k. get_or rows i row ∷ drop k rows) (add-one i) ∙ drop_next rows i row lt)
+
+pub drop_rest : {A : Type 0} (n : ℕ) (xs : List A) → length xs ≤ n → drop n xs ≡ []
+drop_rest zero [] le = refl
+drop_rest (suc n) [] le = refl
+drop_rest zero (x ∷ xs) le = absurd (omega (arith, le))
+drop_rest (suc n) (x ∷ xs) le = drop_rest n xs (omega (arith, le))
+
+-- of right holders, those of a release's choices are all that are of it
+module _ (t : Tables) (all : List Holder) (held : AreHolders all t) (r : List ℕ) (place : ℕ) where
+  abbrev own_choices : List ChoiceRow
+  own_choices = filter (is_choice_in r) t.choice
+
+  among_own : (x : Holder) → is_among place own_choices x ≡ true → is_of place r x ≡ true
+  among_own x some =
+      let found = any_of (λ (row : ChoiceRow). is_holding row.document row.package_id place row.release x) own_choices some in
+      let row : ChoiceRow = found.0 in
+      let name : row.release ≡ r = texts_equal row.release r (in_filter (is_choice_in r) row t.choice found.1).1 in
+      let parts : ((is_held row.document row.package_id x && (x.place == place)) ≡ true) × (bytes_eq x.release row.release ≡ true) =
+      (and_left (is_held row.document row.package_id x && (x.place == place)) (bytes_eq x.release row.release) found.2, and_right (is_held row.document row.package_id x && (x.place == place)) (bytes_eq x.release row.release) found.2) in
+      both (x.place == place) (bytes_eq x.release r)
+      (and_right (is_held row.document row.package_id x) (x.place == place) parts.0)
+      (ap (bytes_eq x.release) (sym name) ∙ parts.1)
+
+  own_among : (x : Holder) → IsIn x all → is_of place r x ≡ true → is_among place own_choices x ≡ true
+  own_among x is of =
+      let there : (x.place == place) ≡ true = and_left (x.place == place) (bytes_eq x.release r) of in
+      let own : bytes_eq x.release r ≡ true = and_right (x.place == place) (bytes_eq x.release r) of in
+      let held_here : is_held x.document x.package_id x ≡ true = both (x.document == x.document) (bytes_eq x.package_id x.package_id) (same_number x.document) (same_text x.package_id) in
+      let some : list_any (is_choice_of r x.document x.package_id) t.choice ≡ true =
+      sym (held.holding r x.document x.package_id) ∙ in_any (is_holder r x.document x.package_id) x all is (both (bytes_eq x.release r) (is_held x.document x.package_id x) own held_here) in
+      let found = any_of (is_choice_of r x.document x.package_id) t.choice some in
+      let row : ChoiceRow = found.0 in
+      let front : (bytes_eq row.release r && (row.document == x.document)) ≡ true = and_left (bytes_eq row.release r && (row.document == x.document)) (bytes_eq row.package_id x.package_id) found.2 in
+      let text : row.package_id ≡ x.package_id = texts_equal row.package_id x.package_id (and_right (bytes_eq row.release r && (row.document == x.document)) (bytes_eq row.package_id x.package_id) found.2) in
+      let named : bytes_eq row.release r ≡ true = and_left (bytes_eq row.release r) (row.document == x.document) front in
+      let number : row.document ≡ x.document = numbers_equal row.document x.document (and_right (bytes_eq row.release r) (row.document == x.document) front) in
+      let release : row.release ≡ x.release = texts_equal row.release r named ∙ sym (texts_equal x.release r own) in
+      let same_package : is_held row.document row.package_id x ≡ true =
+      both (x.document == row.document) (bytes_eq x.package_id row.package_id) (ap (λ n. x.document == n) number ∙ same_number x.document) (ap (bytes_eq x.package_id) text ∙ same_text x.package_id) in
+      in_any (λ (c : ChoiceRow). is_holding c.document c.package_id place c.release x) row own_choices (in_filtered (is_choice_in r) row t.choice found.1 named)
+      (both (is_held row.document row.package_id x && (x.place == place)) (bytes_eq x.release row.release)
+      (both (is_held row.document row.package_id x) (x.place == place) same_package there)
+      (ap (bytes_eq x.release) release ∙ same_text x.release))
+
+  alike_tests : (a b : Bool) → (a ≡ true → b ≡ true) → (b ≡ true → a ≡ true) → a ≡ b
+  alike_tests true b there back = sym (there refl)
+  alike_tests false true there back = back refl
+  alike_tests false false there back = refl
+
+  all_own : letting_go place own_choices all ≡ filter (λ holder. not (is_of place r holder)) all
+  all_own =
+      filter_alike (λ holder. not (is_among place own_choices holder)) (λ holder. not (is_of place r holder)) all
+      (λ x is. ap not (alike_tests (is_among place own_choices x) (is_of place r x) (among_own x) (own_among x is)))
+
+pub leaves_all : (t : Tables) (all : List Holder) → AreHolders all t → (r : List ℕ) (place : Option ℕ) → leaving place (filter (is_choice_in r) t.choice) all ≡ withdrawing r place all
+leaves_all t all held r None = refl
+leaves_all t all held r (Some place) = all_own t all held r place
+
 -- a choice for a package, in a release that stands
 module _ (t : Tables) (all : List Holder) (held : AreHolders all t) (r : List ℕ) (d : ℕ) (p : List ℕ) (place : ℕ) (at : place_found t.releases r ≡ Some place) where
   abbrev others : List Holder
@@ -599,7 +709,7 @@ chose r d p rows all t stands own held = either (release_found t r) refl stands
         subst (λ o. AreHolders (choosing r o d p rows all) (applied (change.Chosen r d p rows) t)) (sym at) made
 
 -- a change that follows leaves the holders of the tables after it
-pub holders_kept : (c : Change) (t : Tables) (all : List Holder) → Ascends release_below t.releases → Follows c t → AreHolders all t → AreHolders (holders_after c t.releases all) (applied c t)
+pub holders_kept : (c : Change) (t : Tables) (all : List Holder) → Ascends release_below t.releases → Follows c t → AreHolders all t → AreHolders (holders_after c t all) (applied c t)
 holders_kept (change.Loaded row rules forms) t all up follows held = record { placed = held.placed; holding = held.holding; apart = held.apart }
 holders_kept (change.Imported row packages references) t all up follows held = record { placed = held.placed; holding = held.holding; apart = held.apart }
 holders_kept (change.Opened row) t all up follows held = opened row all t up follows.1 held
@@ -607,7 +717,8 @@ holders_kept (change.Attached row) t all up follows held = record { placed = hel
 holders_kept (change.Chosen r d p rows) t all up follows held = chose r d p rows all t follows.0 follows.1 held
 holders_kept (change.Froze r revision rows duties changes) t all up follows held = froze r revision all t (applied (change.Froze r revision rows duties changes) t) refl refl held
 holders_kept (change.Moved rows) t all up follows held = record { placed = held.placed; holding = held.holding; apart = held.apart }
-holders_kept (change.Withdrew r rows) t all up follows held = withdrew r all t (applied (change.Withdrew r rows) t) refl refl held
+holders_kept (change.Withdrew r rows) t all up follows held =
+    subst (λ left. AreHolders left (applied (change.Withdrew r rows) t)) (sym (leaves_all t all held r (place_found t.releases r))) (withdrew r all t (applied (change.Withdrew r rows) t) refl refl held)
 holders_kept (change.Concluded row) t all up follows held = record { placed = held.placed; holding = held.holding; apart = held.apart }
 holders_kept (change.Adopted row) t all up follows held = record { placed = held.placed; holding = held.holding; apart = held.apart }
 

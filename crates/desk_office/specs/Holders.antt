@@ -6,7 +6,7 @@ use Rattle.std.specs.Cmp.Lexicographic.{slice_cmp}
 use Rattle.std.specs.Str.{bytes_eq}
 use Rattle.std.specs.declared.cmp.Ordering.{Ordering}
 use Rattle.desk_rows.specs.Lists.{IsIn, replaced}
-use Rattle.desk_rows.specs.Keys.{below_by, is_choice_of}
+use Rattle.desk_rows.specs.Keys.{below_by, is_choice_in, is_choice_of}
 use Rattle.desk_rows.specs.Tables.{Tables}
 use Rattle.desk_rows.specs.declared.row.ChoiceRow.{ChoiceRow}
 use Rattle.desk_rows.specs.declared.row.ReleaseRow.{ReleaseRow}
@@ -60,13 +60,25 @@ choosing release None document id rows all = all
 choosing release (Some place) document id [] all = filter (λ holder. not (is_holding document id place release holder)) all
 choosing release (Some place) document id (row ∷ rows) all = replaced (below_by holder_order) (is_holding document id place release) (holder_of release place document id) all
 
+-- it holds one of these choices, in a release at this place
+abbrev pub is_among : ℕ → List ChoiceRow → Holder → Bool
+is_among place rows holder = list_any (λ row. is_holding row.document row.package_id place row.release holder) rows
+
+-- after none of these choices is held any more in a release at a place
+abbrev pub letting_go : ℕ → List ChoiceRow → List Holder → List Holder
+letting_go place rows all = filter (λ holder. not (is_among place rows holder)) all
+
+abbrev pub leaving : Option ℕ → List ChoiceRow → List Holder → List Holder
+leaving None rows all = all
+leaving (Some place) rows all = letting_go place rows all
+
 -- after the release at a place is withdrawn
 abbrev pub withdrawing : List ℕ → Option ℕ → List Holder → List Holder
 withdrawing release None all = all
 withdrawing release (Some place) all = filter (λ holder. not (is_of place release holder)) all
 
--- after a change, over these releases
-abbrev pub holders_after : Change → List ReleaseRow → List Holder → List Holder
-holders_after (change.Chosen release document id rows) releases all = choosing release (place_found releases release) document id rows all
-holders_after (change.Withdrew release rows) releases all = withdrawing release (place_found releases release) all
-holders_after _ releases all = all
+-- after a change, over these tables
+abbrev pub holders_after : Change → Tables → List Holder → List Holder
+holders_after (change.Chosen release document id rows) t all = choosing release (place_found t.releases release) document id rows all
+holders_after (change.Withdrew release rows) t all = leaving (place_found t.releases release) (filter (is_choice_in release) t.choice) all
+holders_after _ t all = all

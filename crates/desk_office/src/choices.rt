@@ -9,14 +9,14 @@ ghost use Rattle.desk_history.specs.FromTables.{holder_found};
 ghost use Rattle.desk_tally.specs.Kept.{ArePlaces};
 ghost use Rattle.desk_sorted.specs.Blocks.{rows_in};
 ghost use Rattle.desk_sorted.specs.Sides.{texts_meet};
-ghost use Rattle.desk_office.specs.Holders.{AreHolders, choosing, withdrawing};
+ghost use Rattle.desk_office.specs.Holders.{AreHolders, choosing, leaving, withdrawing};
 ghost use Rattle.desk_office.specs.Sides.{choice_side, holder_side};
 ghost use Rattle.desk_office.specs.Splitting.{choice_meets, choice_splits, holder_splits};
 
-use crate::holders::{ByHeld, Holder, drop_choice, drop_release, note};
+use crate::holders::{ByHeld, Holder, drop_choice, drop_choices, note};
 use desk_base::{Items, Text};
 use desk_rows::{ChoiceRow, Fault};
-use desk_sorted::{Blocks, Sought};
+use desk_sorted::{Blocks, Sought, run_in};
 use std::alloc::Global;
 use std::cmp::Ordering;
 
@@ -63,6 +63,28 @@ impl Sought<ChoiceRow> for ByHolder<'_> {
 
     fn side_of(&self, row: &ChoiceRow) -> Ordering {
         row.release.as_str().cmp(self.release)
+    }
+}
+
+/// The release at a place holds none of its choices any more. They are gone through where they stand, which takes no memory.
+fn drop_holders(
+    holders: &mut Blocks<Holder>,
+    rows: &Blocks<ChoiceRow>,
+    release: &Text,
+    place: Option<u32>,
+)
+    ensures { rows_in holders.new.blocks.items
+        ≡ leaving place (filter (is_choice_in release.now) (rows_in rows.now.blocks.items))
+        (rows_in holders.old.blocks.items) }
+{
+    let Some(place) = place else {
+        return;
+    };
+    let key = ByHolder {
+        release: release.as_str(),
+    };
+    for block in rows.among(&key) {
+        drop_choices(holders, place, run_in(block.as_slice(), &key));
     }
 }
 
@@ -123,19 +145,22 @@ impl Choices {
         Ok(())
     }
 
-    /// Drops all choices of the release at a place.
+    /// Drops all choices of the release at a place. Where the holders are those of the choices, it is a holder no more.
     pub fn withdraw(&mut self, release: &Text, place: Option<u32>)
         ensures rows { rows_in self.new.rows.blocks.items
             ≡ filter (is_choice_elsewhere release.now) (rows_in self.old.rows.blocks.items) }
-        ensures held { rows_in self.new.holders.blocks.items
+        ensures let_go { rows_in self.new.holders.blocks.items
+            ≡ leaving place (filter (is_choice_in release.now) (rows_in self.old.rows.blocks.items))
+            (rows_in self.old.holders.blocks.items) }
+        ensures held { (t : Tables) → AreHolders (rows_in self.old.holders.blocks.items) t
+            → t.choice ≡ rows_in self.old.rows.blocks.items
+            → rows_in self.new.holders.blocks.items
             ≡ withdrawing release.now place (rows_in self.old.holders.blocks.items) }
     {
+        drop_holders(&mut self.holders, &self.rows, release, place);
         self.rows.cut(&ByHolder {
             release: release.as_str(),
         });
-        if let Some(place) = place {
-            drop_release(&mut self.holders, release, place);
-        }
     }
 
     /// The first opened release that holds a choice for a package.

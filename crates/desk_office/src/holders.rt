@@ -5,12 +5,12 @@ ghost use Rattle.std.specs.Str.{bytes_eq};
 ghost use Rattle.desk_rows.specs.Lists.{replaced};
 ghost use Rattle.desk_rows.specs.Keys.{below_by};
 ghost use Rattle.desk_sorted.specs.Blocks.{rows_in};
-ghost use Rattle.desk_office.specs.Holders.{held_side, holder_of, holder_order, holding_side, is_held, is_holding, is_of};
+ghost use Rattle.desk_office.specs.Holders.{held_side, holder_of, holder_order, holding_side, is_held, is_holding, letting_go};
 ghost use Rattle.desk_office.specs.HolderLaws.{held_meets, held_splits, holder_total, holding_meets, holding_splits};
 
 use desk_base::Text;
-use desk_rows::Fault;
-use desk_sorted::{Blocks, Keyed, RowTest, Sought};
+use desk_rows::{ChoiceRow, Fault};
+use desk_sorted::{Blocks, Keyed, Sought};
 use std::alloc::AllocError;
 use std::cmp::Ordering;
 
@@ -87,21 +87,6 @@ impl Sought<Holder> for ByHolding<'_> {
     }
 }
 
-/// Whether a holder is the release at a place.
-#[derive(Clone, Copy)]
-struct OfRelease<'a> {
-    place: u32,
-    name: &'a str,
-}
-
-impl RowTest<Holder> for OfRelease<'_> {
-    ghost passes = { λ test. is_of test.place test.name.now };
-
-    fn passes(&self, holder: &Holder) -> bool {
-        holder.place == self.place && holder.release.as_str() == self.name
-    }
-}
-
 fn holder_of(
     release: &Text,
     place: u32,
@@ -163,13 +148,12 @@ pub(crate) fn note(
     Ok(())
 }
 
-/// The release holds no choice any more.
-pub(crate) fn drop_release(holders: &mut Blocks<Holder>, release: &Text, place: u32)
-    ensures { rows_in holders.new.blocks.items ≡ filter (λ holder.
-        not (is_of place release.now holder)) (rows_in holders.old.blocks.items) }
+/// The release of some choices, at a place, holds none of them any more.
+pub(crate) fn drop_choices(holders: &mut Blocks<Holder>, place: u32, rows: &[ChoiceRow])
+    ensures { rows_in holders.new.blocks.items
+        ≡ letting_go place rows.now (rows_in holders.old.blocks.items) }
 {
-    holders.discard(&OfRelease {
-        place,
-        name: release.as_str(),
-    });
+    for row in rows {
+        drop_choice(holders, &row.release, place, row.document, &row.package_id);
+    }
 }

@@ -5,6 +5,6 @@ mod PutAll
 mod Blocking
 mod Searching
 mod Changing
-mod Walking
+pub mod Walking
 mod Counting
 mod Beside

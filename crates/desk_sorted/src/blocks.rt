@@ -104,7 +104,7 @@ fn block_for<R: Keyed>(blocks: &[Vec<R>], row: &R) -> usize
 }
 
 /// The rows of a block that are sought.
-fn run_in<'a, R: Keyed, K: Sought<R>>(block: &'a [R], key: &K) -> &'a [R]
+pub fn run_in<'a, R: Keyed, K: Sought<R>>(block: &'a [R], key: &K) -> &'a [R]
     requires { ascends (below_by R.order) block.now ≡ true }
     ensures { result.now ≡ filter (K.is_at key.now) block.now }
 {
@@ -312,16 +312,6 @@ fn are_at<R: Keyed, K: Sought<R>>(rows: &[R], key: &K) -> bool
     rows.iter().all(|row| key.side_of(row).is_eq())
 }
 
-/// Drops the rows of each block that pass a test.
-fn discard_each<R: Drop, T: RowTest<R>>(blocks: &mut [Vec<R>], test: &T)
-    ensures rows { rows_in blocks.new ≡ filter (λ row. not (T.passes test.now row)) (rows_in blocks.old) }
-    ensures length { length blocks.new ≡ length blocks.old }
-{
-    for block in blocks.iter_mut() {
-        block.retain(|row| !test.passes(row));
-    }
-}
-
 /// No row is sought.
 struct NoRow;
 
@@ -337,15 +327,6 @@ impl<R: Keyed> Sought<R> for NoRow {
     fn side_of(&self, row: &R) -> Ordering {
         Ordering::Less
     }
-}
-
-/// A test of rows.
-pub trait RowTest<R> {
-    ghost passes: { Self → R → Bool };
-
-    /// Whether a row passes.
-    fn passes(&self, row: &R) -> bool
-        ensures { result ≡ passes self.now row.now };
 }
 
 /// Rows in the order of their keys, in blocks.
@@ -374,8 +355,8 @@ impl<R: Keyed + Drop> Blocks<R> {
         }
     }
 
-    /// The blocks where the rows stand that are sought.
-    fn among<K: Sought<R>>(&self, key: &K) -> &[Vec<R>]
+    /// The blocks where the rows stand that are sought: `run_in` finds them in each, so no memory is taken for a list of them.
+    pub fn among<K: Sought<R>>(&self, key: &K) -> &[Vec<R>]
         ensures found { filter (K.is_at key.now) (rows_in result.now)
             ≡ filter (K.is_at key.now) (rows_in self.now.blocks.items) }
         ensures ascending { ascends (below_by R.order) (rows_in result.now) ≡ true }
@@ -432,16 +413,6 @@ impl<R: Keyed + Drop> Blocks<R> {
             not (K.is_at key.now row)) (rows_in self.old.blocks.items) }
     {
         cut_within(&mut *self.blocks, key);
-        drop_empty(&mut self.blocks);
-        self.count = row_count(self.blocks.as_slice());
-    }
-
-    /// Drops the rows that pass a test.
-    pub fn discard<T: RowTest<R>>(&mut self, test: &T)
-        ensures { rows_in self.new.blocks.items ≡ filter (λ row.
-            not (T.passes test.now row)) (rows_in self.old.blocks.items) }
-    {
-        discard_each(&mut *self.blocks, test);
         drop_empty(&mut self.blocks);
         self.count = row_count(self.blocks.as_slice());
     }

@@ -10,5 +10,5 @@ mod sorted;
 mod tables;
 
 pub use appended::Appended;
-pub use blocks::{Blocks, RowTest};
+pub use blocks::{Blocks, run_in};
 pub use sorted::{Keyed, Run, Sorted, Sought, item_at, reserve, run_of};

@@ -27,7 +27,7 @@ returns-clause-wrote c =
             (subst (λ (u : Tables). Ascends release_below u.releases) (c.in_ok-write.ensures.ok ∙ ap (applied c.args.change) held.0) (ascends_from written.releases.rows.items written.releases.ascending))
             (subst (λ (u : Tables). IsPlaceFor c.args.change c.place_for-place.result u) held.0 c.place_for-place.ensures)
             held.1)),
-        subst (λ all. AreHolders all (applied c.args.change t)) (sym (c.in_ok-write.ensures.holders ∙ ap (λ (u : Tables). holders_after c.args.change u.releases (rows_in before.choices.holders.blocks.items)) held.0))
+        subst (λ all. AreHolders all (applied c.args.change t)) (sym (c.in_ok-write.ensures.holders ∙ ap (λ (u : Tables). holders_after c.args.change u (rows_in before.choices.holders.blocks.items)) held.0))
             (holders_kept c.args.change t (rows_in before.choices.holders.blocks.items) (subst (λ (u : Tables). Ascends release_below u.releases) held.0 (ascends_from before.releases.rows.items before.releases.ascending)) follows held.2),
       );
       leaves = λ h t held follows x left. absurd left;
