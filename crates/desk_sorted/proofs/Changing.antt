@@ -1,5 +1,5 @@
 -- Blocks that change.
-use Rattle.std.proofs.Common.{◌≡◌, ℕ, zero, suc, ◌+◌, ◌<◌, Bool, true, false, cond, List, [], ◌∷◌, ◌++◌, length, map, take, drop, get_or, set, sym, refl, ap, ◌∙◌, arith}
+use Rattle.std.proofs.Common.{◌≡◌, ℕ, zero, suc, ◌+◌, ◌-◌, ◌<◌, ◌≤◌, Bool, true, false, cond, List, [], ◌∷◌, ◌++◌, length, map, take, drop, get_or, set, sym, refl, ap, ◌∙◌, arith}
 use Rattle.std.specs.Prelude.{filter, flat_map, insert, ◌&&◌, ◌==◌, not, Vec}
 use Rattle.std.specs.List.{list_all, list_any}
 use Rattle.std.specs.declared.alloc.Global.{Global}
@@ -9,7 +9,7 @@ use Rattle.desk_rows.specs.Lists.{put, put_all}
 use Rattle.desk_sorted.specs.Blocks.{are_filled, has_rows, is_between, rows_in}
 use Rattle.desk_sorted.proofs.Halving.{put_first, put_past, some_left}
 use Rattle.desk_sorted.proofs.Blocking.{all_drop}
-use Rattle.desk_base.proofs.Bools.{and_left, and_right, both, not_true}
+use Rattle.desk_base.proofs.Bools.{and_left, and_right, both, not_true, or_left, or_right}
 
 -- blocks without rows are dropped
 
@@ -200,3 +200,29 @@ filled_joined {R = R} (x ∷ xs) last b d zero e f some =
     let split = sym (list_all-append (λ (y : Vec R Global). has_rows y.items) xs (last ∷ [])) ∙ some in
     and_left (list_all (λ (y : Vec R Global). has_rows y.items) xs) (list_all (λ (y : Vec R Global). has_rows y.items) (last ∷ [])) split
 filled_joined (x ∷ xs) last b d (suc at) e f some = all_joined xs last b d at (omega (arith, e)) f some
+
+-- blocks that are changed, none of which is left without rows
+
+all_parted : {R : Type 0} (xs ys : List (Vec R Global)) → list_all (λ b. has_rows b.items) xs ≡ true → list_all (λ b. has_rows b.items) ys ≡ true → list_all (λ b. has_rows b.items) (xs ++ ys) ≡ true
+all_parted [] ys e f = f
+all_parted (x ∷ xs) ys e f =
+    both (has_rows x.items) (list_all (λ b. has_rows b.items) (xs ++ ys)) (and_left (has_rows x.items) (list_all (λ b. has_rows b.items) xs) e) (all_parted xs ys (and_right (has_rows x.items) (list_all (λ b. has_rows b.items) xs) e) f)
+
+filled_both : {R : Type 0} (xs ys : List (Vec R Global)) → are_filled xs ≡ true → list_all (λ b. has_rows b.items) ys ≡ true → are_filled (xs ++ ys) ≡ true
+filled_both [] ys e f = all_drop (λ b. has_rows b.items) 1 ys f
+filled_both (x ∷ xs) ys e f = all_parted xs ys e f
+
+row_there : {A : Type 0} (xs : List A) → (length xs == 0) ≡ false → has_rows xs ≡ true
+row_there [] e = cc
+row_there (x ∷ xs) e = refl
+
+each_filled : {R : Type 0} (bs : List (Vec R Global)) → list_any (λ b. length b.items == 0) bs ≡ false → list_all (λ b. has_rows b.items) bs ≡ true
+each_filled [] e = refl
+each_filled (b ∷ bs) e = both (has_rows b.items) (list_all (λ c. has_rows c.items) bs) (row_there b.items (or_left (length b.items == 0) (list_any (λ c. length c.items == 0) bs) e)) (each_filled bs (or_right (length b.items == 0) (list_any (λ c. length c.items == 0) bs) e))
+
+pub filled_within : {R : Type 0} (bs cut : List (Vec R Global)) (low high : ℕ) → low ≤ high → length cut ≡ length (take (high - low) (drop low bs)) → list_any (λ b. length b.items == 0) cut ≡ false → are_filled (take low bs) ≡ true → are_filled bs ≡ true → are_filled (take low bs ++ (cut ++ drop high bs)) ≡ true
+filled_within bs cut (suc low) zero le e some front all = absurd (omega (arith, le))
+filled_within bs [] zero zero le e some front all = all
+filled_within bs (c ∷ cut) zero zero le e some front all = cc
+filled_within [] cut low (suc high) le e some front all = filled_both (take low []) (cut ++ []) front (all_parted cut [] (each_filled cut some) refl)
+filled_within (b ∷ bs) cut low (suc high) le e some front all = filled_both (take low (b ∷ bs)) (cut ++ drop high bs) front (all_parted cut (drop high bs) (each_filled cut some) (all_drop (λ b. has_rows b.items) high bs all))

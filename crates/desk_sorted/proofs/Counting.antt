@@ -33,6 +33,9 @@ more_found test bs i d here n all lt e f = omega (arith, found_split test bs i d
 pub no_more : {A : Type 0} (test : A → Bool) (xs : List A) → length (filter test xs) ≤ length xs
 no_more test xs = omega (arith, length-filter_both test (λ x. not (test x)) (λ x. refl) xs)
 
+pub count_left : {A : Type 0} (test : A → Bool) (xs ys : List A) (all gone : ℕ) → ys ≡ filter (λ x. not (test x)) xs → all ≡ length xs → gone ≡ length (filter test xs) → all - gone ≡ length ys
+count_left test xs ys all gone e f g = omega (arith, ap length e, f, g, length-filter_both test (λ x. not (test x)) (λ x. refl) xs)
+
 pub length-put : {A : Type 0} (below : A → A → Bool) (x : A) (xs : List A) → length (put below x xs) ≡ length xs + 1
 length-put below x [] = refl
 length-put below x (y ∷ ys) = either (length-put below x ys) (below x y)

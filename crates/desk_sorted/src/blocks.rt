@@ -1,6 +1,6 @@
 //! Rows in the order of their keys, cut into blocks: a row that is put in or taken out moves those of its block alone.
 
-ghost use Rattle.std.specs.Prelude.{◌≡◌, refl, ℕ, suc, Bool, true, false, not, ◌+◌, ◌^◌, ◌<◌, ◌≤◌, ◌++◌, [], ◌∷◌, filter, find, map, OnOk, OnErr, IfOk, IfErr, length, vec_len, List, Vec, get_or, take, drop};
+ghost use Rattle.std.specs.Prelude.{◌≡◌, refl, ℕ, suc, Bool, true, false, not, ◌+◌, ◌^◌, ◌<◌, ◌≤◌, ◌++◌, [], ◌∷◌, filter, find, map, OnOk, OnErr, IfOk, IfErr, length, vec_len, ◌==◌, List, Vec, get_or, take, drop};
 ghost use Rattle.std.specs.Vec.{vec_capacity};
 ghost use Rattle.std.specs.declared.alloc.Global.{Global};
 ghost use Rattle.std.specs.List.{list_any, list_all};
@@ -148,15 +148,25 @@ fn cut_each<R: Keyed + Drop, K: Sought<R>>(blocks: &mut [Vec<R>], key: &K)
     }
 }
 
-/// Cuts the rows that are sought out of the blocks where they stand.
-fn cut_within<R: Keyed + Drop, K: Sought<R>>(blocks: &mut [Vec<R>], key: &K)
+/// Whether a block has no rows.
+fn has_empty<R>(blocks: &[Vec<R>]) -> bool
+    ensures { result ≡ list_any (λ block. length block.items == 0) blocks.now }
+{
+    blocks.iter().any(|block| block.is_empty())
+}
+
+/// Cuts the rows that are sought out of the blocks where they stand. Whether one of these has no rows left.
+fn cut_within<R: Keyed + Drop, K: Sought<R>>(blocks: &mut [Vec<R>], key: &K) -> bool
     requires ascending { ascends (below_by R.order) (rows_in blocks.old) ≡ true }
     requires filled { are_filled blocks.old ≡ true }
     ensures rows { rows_in blocks.new ≡ filter (λ row. not (K.is_at key.now row)) (rows_in blocks.old) }
     ensures length { length blocks.new ≡ length blocks.old }
+    ensures filled { result ≡ false → are_filled blocks.new ≡ true }
 {
     let run = blocks_of(blocks, key);
-    cut_each(&mut blocks[run.start..run.end], key);
+    let within = &mut blocks[run.start..run.end];
+    cut_each(within, key);
+    has_empty(within)
 }
 
 /// Drops the blocks that have no rows.
@@ -165,6 +175,17 @@ fn drop_empty<R: Drop>(blocks: &mut Vec<Vec<R>>)
     ensures filled { are_filled blocks.new.items ≡ true }
 {
     blocks.retain(|block| !block.is_empty());
+}
+
+/// Drops the blocks that have no rows, if there may be some.
+fn tidy<R: Drop>(blocks: &mut Vec<Vec<R>>, has_empty: bool)
+    requires { has_empty ≡ false → are_filled blocks.old.items ≡ true }
+    ensures rows { rows_in blocks.new.items ≡ rows_in blocks.old.items }
+    ensures filled { are_filled blocks.new.items ≡ true }
+{
+    if has_empty {
+        drop_empty(blocks);
+    }
 }
 
 /// The rows of all blocks, counted.
@@ -412,9 +433,10 @@ impl<R: Keyed + Drop> Blocks<R> {
         ensures { rows_in self.new.blocks.items ≡ filter (λ row.
             not (K.is_at key.now row)) (rows_in self.old.blocks.items) }
     {
-        cut_within(&mut *self.blocks, key);
-        drop_empty(&mut self.blocks);
-        self.count = row_count(self.blocks.as_slice());
+        let count = self.count_of(key);
+        let has_empty = cut_within(&mut *self.blocks, key);
+        tidy(&mut self.blocks, has_empty);
+        self.count -= count;
     }
 
     /// Begins the first block.

@@ -1,9 +1,10 @@
-use Rattle.std.proofs.Common.{◌-◌, ◌++◌, ◌+◌, ◌≡◌, ◌∙◌, ap, arith, drop, take, List}
+use Rattle.std.proofs.Common.{◌-◌, ◌++◌, ◌+◌, ◌≡◌, ◌∙◌, ap, arith, drop, sym, take, List}
 use Rattle.std.specs.Prelude.{Vec}
 use Rattle.std.specs.declared.alloc.Global.{Global}
 use Rattle.desk_rows.specs.Keys.{below_by}
-use Rattle.desk_sorted.specs.Blocks.{rows_in}
-use Rattle.desk_sorted.proofs.Blocking.{ascends_drop, ascends_take}
+use Rattle.desk_sorted.specs.Blocks.{are_filled, rows_in}
+use Rattle.desk_sorted.proofs.Blocking.{ascends_drop, ascends_take, filled_take}
+use Rattle.desk_sorted.proofs.Changing.{filled_within}
 use Rattle.desk_sorted.proofs.Searching.{cut_in_run, drop_further}
 use Rattle.desk_sorted.proofs.Walking.{rows_put}
 use Rattle.desk_sorted.proofs.blocks.cut_within.Goals as goal
@@ -26,3 +27,13 @@ returns-clause-rows g c =
     rows_put (take low blocks) cut (drop (high - low) (drop low blocks))
     ∙ (ap (λ (l : List (Vec g.row.R.Denot Global)). rows_in (take low blocks) ++ (rows_in cut ++ rows_in l)) (drop_further low (high - low) high blocks far)
     ∙ cut_in_run (g.K.Sought.is_at key) (g.K.Sought.side key) (g.met.K.Sought.meets key) blocks low high (rows_in cut) c.blocks_of-run.ensures c.cut_each.ensures.rows)
+
+pub returns-clause-filled : goal.returns-clause-filled
+returns-clause-filled g c = λ none.
+    let blocks = c.args.blocks.now in
+    let low = c.blocks_of-run.result.start in
+    let high = c.blocks_of-run.result.end in
+    let cut = c.cut_each.new.blocks in
+    let far : low + (high - low) ≡ high = omega (arith, c.blocks_of-run.ensures.ordered) in
+    ap (λ (l : List (Vec g.row.R.Denot Global)). are_filled (take low blocks ++ (cut ++ l))) (drop_further low (high - low) high blocks far)
+    ∙ filled_within blocks cut low high c.blocks_of-run.ensures.ordered c.cut_each.ensures.length (sym c.has_empty.ensures ∙ none) (filled_take low blocks c.requires.filled) c.requires.filled
