@@ -20,11 +20,14 @@ fn written_out(alloc: Global, text: &str) -> Result<String, AllocError> {
 }
 
 /// The first request that is read as something else than the line behind it says, with what it is read as; else nothing. `␊` stands for
-/// a line end on both sides.
+/// a line end on both sides, and a line that begins with `#` tells what comes.
 fn difference(alloc: Global, requests: &str) -> Result<String, AllocError> {
     let requests = written_out(alloc, requests)?;
     let mut asked = None;
     for line in requests.lines() {
+        if line.starts_with('#') {
+            continue;
+        }
         let Some(request) = asked.take() else {
             asked = Some(line);
             continue;
