@@ -6,4 +6,5 @@ mod Releases
 mod Choices
 mod Conclusions
 mod Moves
+mod Steps
 mod Days

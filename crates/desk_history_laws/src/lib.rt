@@ -2,10 +2,11 @@
 //!
 //! The definitions of `desk_rows` go over the commands from the newest to the oldest. Here the same is said by filters and last
 //! entries, with the commands in the order in which they were recorded: which documents, revisions and rules there are, which choices,
-//! conclusions and adoptions stand, and how each duty was moved. Beside it stands that written days sort as dates do.
+//! conclusions and adoptions stand, and how each duty was moved. Beside it stands that a duty has few changes, and that written days sort
+//! as dates do.
 #![tactic(auto)]
 
-ghost use Rattle.std.specs.Prelude.{◌≡◌, ◌+◌, ◌++◌, ◌∷◌, ℕ, Some, None, List, false, map, filter, length, reverse, IsTrue, is_some, unwrap_or};
+ghost use Rattle.std.specs.Prelude.{◌≡◌, ◌≤◌, ◌+◌, ◌++◌, ◌∷◌, ℕ, Some, None, List, false, map, filter, length, reverse, IsTrue, is_some, unwrap_or};
 ghost use Rattle.std.specs.List.{enumerate_from, flat_map, last_or, list_any};
 ghost use Rattle.std.specs.Option.{option_and_then};
 ghost use Rattle.std.specs.Result.{result_ok};
@@ -132,6 +133,13 @@ pub fn moved_exactly()
         → IsMove w h q m → IsIn m (moves w h q) }
     ensures only { (w : Readings) (h : List Command) (q : ℕ) (m : Move)
         → IsIn m (moves w h q) → IsMove w h q m }
+{}
+
+/// A duty of a recorded history has at most 1,001 changes: Meet, Waive and Reopen are refused from 999 on, a waiver that ends may be the
+/// 1,000th, and a withdrawal the last one.
+pub fn changes_are_few()
+    ensures { (w : Readings) (h : List Command)
+        → IsHistory w h → (q : ℕ) → length (changes w h q) ≤ 1001 }
 {}
 
 /// Written days compare as dates: by year, then by month, then by day, each as a number. So one day is before another exactly where
