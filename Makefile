@@ -77,10 +77,11 @@ acceptance: needs build
 database: needs build
 	@python3 tests/database.py build/desk
 
-# Each allocation refused in turn of the tests that tell want of memory: of documents, of what ships, of codes, of findings, and of listings.
+# Each allocation refused in turn of the tests that tell want of memory, of calls that the program doesn't make: what ships by places, codes,
+# findings in capitals, what trees lack, and how expressions are printed.
 refused: needs
 	@mkdir -p build
-	@for crate in desk_tagvalue_tests desk_bom_tests desk_alts_tests; do \
+	@for crate in desk_bom_tests desk_reuse_tests desk_expr_tests; do \
 	    (cd crates/$$crate && rt test >../../build/log 2>&1) || { cat build/log; exit 1; }; \
 	    python3 tests/allocations/cases.py crates/$$crate/out/$${crate}_tests || exit 1; \
 	done

@@ -1,12 +1,15 @@
-"""Makes the cases of crates/desk_alts_tests/src/made.rt: python3 tests/alternatives/made.py >crates/desk_alts_tests/src/made.rt
+"""Makes a dialogue of small expressions, each with its alternatives and its cheapest choice:
 
-Small expressions are made at random from a fixed seed. What is expected of each is found by going over all sets of its terms, with
+    python3 tests/alternatives/made.py >tests/dialogues/lists-what-a-search-over-all-sets-finds.dialogue
+
+The expressions are made at random from a fixed seed. What is expected of each is found by going over all sets of its terms, with
 nothing of the desk: a set is minimal where it satisfies the expression and no proper subset of it does; the cheapest set is the one
 of least cost among all that satisfy it, minimal or not, whose terms all have a cost, and of these the first in the order of sets. A
-term without a plus costs one less than its id has letters, and one with a plus has no cost.
+term without a plus costs one less than its id has letters, and one with a plus has no cost, since it has no rule.
 """
 
 import itertools
+import json
 import random
 
 TERMS = ["a", "a+", "bb", "ccc", "dd", "e"]
@@ -68,28 +71,43 @@ def cheapest(node):
     return min(paid, key=lambda some: (cost(some), rank(some)), default=None)
 
 
-def constant(name, lines):
-    print(f'const {name}: &str = "{chr(10).join(lines)}";\n')
+def catalogue():
+    """A catalogue whose rules owe as many duties as a term costs."""
+    codes = ["one", "two"]
+    text = 'forms = ["binary"]\n'
+    for code in codes:
+        text += f'[[duty]]\ncode = "{code}"\ntitle = "{code}"\n'
+    for term in TERMS:
+        if not term.endswith("+"):
+            text += f'[[rule]]\nterm = "{term}"\nform = "binary"\nduties = {json.dumps(codes[: cost([term])])}\n'
+    return text
+
+
+DOCUMENT = (
+    "SPDXVersion: SPDX-2.3\nSPDXID: SPDXRef-DOCUMENT\nDocumentName: d\nDocumentNamespace: https://example.org/d\n"
+    "PackageName: p\nSPDXID: SPDXRef-p\n"
+)
+OF_PACKAGE = {"document": 1, "package": "SPDXRef-p"}
+
+
+def exchange(request, reply):
+    print("> " + json.dumps(request, separators=(",", ":")))
+    print("< " + json.dumps(reply, separators=(",", ":")))
 
 
 def main():
     choice = random.Random(16)
     nodes = [tree(choice, choice.randint(1, 8)) for _ in range(CASES)]
-    listed, least = [], []
+    print("# Lists what a search over all sets finds.")
+    print("# Made by tests/alternatives/made.py.")
+    exchange({"do": "catalogue", "text": catalogue()}, {"revision": 1})
+    exchange({"do": "import", "text": DOCUMENT}, {"document": 1, "new": True})
     for node in nodes:
-        sets = [", ".join(in_order(some)) for some in minimal_sets(node)]
-        listed.append(f"{text(node)} => {''.join(some + ' | ' for some in sets)}")
         found = cheapest(node)
-        answer = "none" if found is None else f"{cost(found)} {', '.join(in_order(found))}"
-        least.append(f"{text(node)} => {answer}")
-    print("//! Small expressions, each with what a search over all sets of its terms finds. Made by tests/alternatives/made.py.")
-    print("\nuse crate::answers::{Question, expect};\nuse desk_expr::ParseFault;\n")
-    constant("LISTINGS", listed)
-    print("#[test]\nfn made_listings(rt: HostRuntime) -> Result<(), ParseFault> {")
-    print("    expect(&rt, rt.alloc(), Question::Sets, LISTINGS)\n}\n")
-    constant("CHEAPEST", least)
-    print("#[test]\nfn made_cheapest_sets(rt: HostRuntime) -> Result<(), ParseFault> {")
-    print("    expect(&rt, rt.alloc(), Question::Cheapest, CHEAPEST)\n}")
+        exchange({"do": "conclude", **OF_PACKAGE, "expression": text(node)}, {"done": True})
+        exchange({"ask": "alternatives", **OF_PACKAGE}, {"rows": [in_order(some) for some in minimal_sets(node)]})
+        rows = [] if found is None else [[cost(found), in_order(found)]]
+        exchange({"ask": "cheapest", **OF_PACKAGE, "form": "binary"}, {"rows": rows})
 
 
 main()

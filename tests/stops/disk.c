@@ -2,9 +2,10 @@
 
      DISK_CALLS=read|write|sync  which calls are counted: pread; pwrite and ftruncate; fsync and fdatasync
      DISK_AT=N                   the Nth of them
-     DISK_DOES=stop|half|after|fail|full   end the process before it, with half of the bytes written, or after it; or refuse the call
-                                 with EIO or ENOSPC, and with `full` each later write too
+     DISK_DOES=stop|half|after|fail|full|lose   end the process before it, with half of the bytes written, or after it; or refuse
+                                 the call with EIO or ENOSPC, with `full` each later write too, and with `lose` each later call
      DISK_TOLD=FILE              is there once the call was met
+     DISK_KEPT=FOLDER            with `lose` has, by its inode, what each file held when it was last synced
 
    Streams of standard input and output go by read and write, which are left alone. */
 #define _GNU_SOURCE
@@ -12,8 +13,10 @@
 #include <errno.h>
 #include <fcntl.h>
 #include <signal.h>
+#include <stdio.h>
 #include <stdlib.h>
 #include <string.h>
+#include <sys/stat.h>
 #include <sys/types.h>
 #include <unistd.h>
 
@@ -22,8 +25,8 @@ enum action { GO, REFUSE, HALF, AFTER };
 
 static unsigned long long calls, at;
 static enum kind counted;
-static const char *does = "", *told;
-static int is_full;
+static const char *does = "", *told, *kept;
+static int is_full, is_lost;
 
 __attribute__((constructor)) static void begin(void)
 {
@@ -33,6 +36,7 @@ __attribute__((constructor)) static void begin(void)
     counted = kind && !strcmp(kind, "read") ? READ : kind && !strcmp(kind, "sync") ? SYNC : WRITE;
     does = what ? what : "";
     told = getenv("DISK_TOLD");
+    kept = getenv("DISK_KEPT");
 }
 
 static void end(void)
@@ -50,6 +54,10 @@ static enum action met(enum kind kind)
         errno = ENOSPC;
         return REFUSE;
     }
+    if (is_lost) {
+        errno = EIO;
+        return REFUSE;
+    }
     if (kind != counted || ++calls != at)
         return GO;
     file = told ? open(told, O_WRONLY | O_CREAT, 0600) : -1;
@@ -62,6 +70,7 @@ static enum action met(enum kind kind)
     if (!strcmp(does, "after"))
         return AFTER;
     is_full = !strcmp(does, "full");
+    is_lost = !strcmp(does, "lose");
     errno = is_full ? ENOSPC : EIO;
     return REFUSE;
 }
@@ -114,6 +123,31 @@ static int cut_by(cutter next, int file, off_t size)
     }
 }
 
+/* Copies the file, which was synced, into the folder of what is kept. */
+static int keep(int file)
+{
+    reader next = NEXT(reader, "pread");
+    char bytes[65536], path[4096];
+    struct stat about;
+    off_t place = 0;
+    ssize_t count;
+    FILE *copy;
+
+    if (!kept)
+        return 0;
+    if (fstat(file, &about) != 0)
+        return -1;
+    snprintf(path, sizeof path, "%s/%llu", kept, (unsigned long long)about.st_ino);
+    copy = fopen(path, "wb");
+    if (!copy)
+        return -1;
+    while ((count = next(file, bytes, sizeof bytes, place)) > 0) {
+        fwrite(bytes, 1, (size_t)count, copy);
+        place += count;
+    }
+    return fclose(copy);
+}
+
 static int sync_by(syncer next, int file)
 {
     switch (met(SYNC)) {
@@ -125,7 +159,7 @@ static int sync_by(syncer next, int file)
         end();
         return -1;
     default:
-        return next(file);
+        return next(file) == 0 ? keep(file) : -1;
     }
 }
 

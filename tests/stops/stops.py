@@ -4,6 +4,8 @@ The scripts are the first release and the withdrawn release, on a desk in a file
 each write and each sync. Then SQLite opens the files, finds them sound and reads the tables, and so does the desk: they are those after
 the commands that were replied to, or after the one that was being carried out too.
 
+A disk that is lost at a call refuses all from then on, and has afterwards only what was synced before: the same holds.
+
 With a call that fails the script goes on or stops: what was replied to is what the script without the other requests gives, the tables
 are those after these, or after the one that failed too where nothing was recorded after it, and a later run serves the desk.
 """
@@ -37,7 +39,7 @@ class Desk:
 
     def __init__(self, program, library, room):
         self.program, self.library, self.room = program, library, room
-        self.file, self.told = os.path.join(room, "desk.db"), os.path.join(room, "told")
+        self.file, self.told, self.kept = (os.path.join(room, name) for name in ("desk.db", "told", "kept"))
 
     def files(self):
         return [path for path in (self.file, self.file + "-wal", self.file + "-shm", self.told) if os.path.exists(path)]
@@ -45,6 +47,15 @@ class Desk:
     def clear(self):
         for path in self.files():
             os.remove(path)
+
+    def lose(self):
+        """Has each file hold what it held when it was last synced."""
+        for path in self.files():
+            kept = os.path.join(self.kept, str(os.stat(path).st_ino))
+            if os.path.exists(kept):
+                shutil.copy(kept, path)
+            else:
+                os.truncate(path, 0)
 
     def run(self, requests, **disk):
         """Standard output, the status, standard error, and whether the call of the disk was met."""
@@ -103,6 +114,24 @@ class Script:
             return False
         if status != STOPPED or told != self.replies[: len(told)]:
             self.fail(disk, f"status {status}, {told}")
+        return self.stands(told, **disk)
+
+    def lose(self, **disk):
+        """Whether there was such a call at which the disk was lost."""
+        self.desk.clear()
+        shutil.rmtree(self.desk.kept, ignore_errors=True)
+        os.mkdir(self.desk.kept)
+        told, status, _, was_met = self.desk.run(self.requests, kept=self.desk.kept, **disk)
+        if not was_met:
+            return False
+        told = told[: told.index(STORE)] if STORE in told else told
+        if status != 3 and len(told) < len(self.requests) or told != self.replies[: len(told)]:
+            self.fail(disk, f"status {status}, {told}")
+        self.desk.lose()
+        return self.stands(told, **disk)
+
+    def stands(self, told, **disk):
+        """That the tables are those after these replies, or after one more."""
         right = self.after[len(told) : len(told) + 2]
         by_sqlite = self.desk.tables()
         again, status, words, _ = self.desk.run([])
@@ -156,15 +185,16 @@ def main():
         library = os.path.join(room, "disk.so")
         subprocess.run(["cc", "-O2", "-shared", "-fPIC", "-o", library, os.path.join(HERE, "disk.c"), "-ldl"], check=True)
         desk = Desk(os.path.abspath(sys.argv[1]), library, room)
-        stopped, refused = 0, 0
+        stopped, refused, lost = 0, 0, 0
         for name in SCRIPTS:
             script = Script(desk, name)
             stopped += sum(script.each(script.stop, calls=calls, does=does) for calls in ("write", "sync") for does in ("stop", "half", "after"))
             refused += sum(script.each(script.refuse, calls=calls, does="fail") for calls in ("read", "write", "sync"))
             refused += script.each(script.refuse, calls="write", does="full")
-        if stopped == 0 or refused == 0:
+            lost += sum(script.each(script.lose, calls=calls, does="lose") for calls in ("write", "sync"))
+        if stopped == 0 or refused == 0 or lost == 0:
             sys.exit("no call of the disk was met")
-        print(f"{len(SCRIPTS)} scripts, stopped {stopped} times and refused a call of the disk {refused} times: passed")
+        print(f"{len(SCRIPTS)} scripts, stopped {stopped} times, refused a call of the disk {refused} times, its disk lost {lost} times: passed")
 
 
 if __name__ == "__main__":

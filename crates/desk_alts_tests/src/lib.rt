@@ -1,9 +1,6 @@
-//! Tests of `desk_alts`, and of the table of terms that it stands on.
+//! Tests of `desk_alts`, and of the table of terms that it stands on: what no listing of the built program shows. The listings and the
+//! cheapest sets are in `tests/dialogues`.
 #![tactic(auto)]
 
-#[cfg(test)]
-mod answers;
-#[cfg(test)]
-mod made;
 #[cfg(test)]
 mod rows;

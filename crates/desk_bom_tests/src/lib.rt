@@ -1,18 +1,6 @@
-//! Tests of `desk_bom` and `desk_findings`: which packages ship, codes of digests, what codes say of files, and findings, on small documents, hostile ones and
-//! drafts as the writer makes them.
+//! Tests of those calls of `desk_bom` and `desk_findings` that the program doesn't make: what a document ships by places, the state of
+//! one code, findings where operators are in capitals, and the names of missing fields. All else is shown by cases of the built program.
 #![tactic(auto)]
 
 #[cfg(test)]
-mod codes;
-#[cfg(test)]
-mod digests;
-#[cfg(test)]
-mod drafts;
-#[cfg(test)]
-mod findings;
-#[cfg(test)]
-mod hostile;
-#[cfg(test)]
-mod ships;
-#[cfg(test)]
-mod support;
+mod told;

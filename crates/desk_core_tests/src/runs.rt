@@ -1,31 +1,37 @@
 //! Lists of commands.
 
-use crate::rows::FIRST_RELEASE;
-use crate::support::empty_desk;
-use desk_core::desk::{run, run_in_memory};
+use desk_core::desk::{TableDesk, run, run_in_memory};
 use desk_json::{Request, read_command, reply_line};
-use desk_rows::{Command, Outcome};
+use desk_rows::Outcome;
 use desk_texts::Standard;
 use std::alloc::{AllocError, Global};
-use std::test::Fail;
 
-/// The commands of a script, and the replies to them as lines.
-fn commands_of(alloc: Global, script: &str) -> Result<(Vec<Command>, String), AllocError> {
-    let mut commands = Vec::new(alloc);
-    let mut replies = String::new(alloc);
-    let mut is_command = false;
-    for line in script.lines() {
-        if is_command {
-            replies.push_str(line)?;
-            replies.push('\n')?;
-            is_command = false;
-        } else if let Request::Act(command) = read_command(alloc, line.as_bytes())? {
-            commands.push(command)?;
-            is_command = true;
-        }
-    }
-    Ok((commands, replies))
-}
+/// A release that is frozen, and what is refused on the way.
+const REQUESTS: [&str; 10] = [
+    r#"{"do":"open","release":"r1","form":"binary"}"#,
+    r#"{"do":"catalogue","text":"a ="}"#,
+    r#"{"do":"catalogue","text":"forms = [\"binary\"]\n[[duty]]\ncode = \"include-text\"\ntitle = \"Ship the licence text\"\n[[rule]]\nterm = \"MIT\"\nform = \"binary\"\nduties = [\"include-text\"]\n"}"#,
+    r#"{"do":"open","release":"r1","form":"binary"}"#,
+    r#"{"do":"open","release":"r1","form":"binary"}"#,
+    r#"{"do":"import","text":"SPDXVersion: SPDX-2.3\nSPDXID: SPDXRef-DOCUMENT\nDocumentName: d1\nDocumentNamespace: https://example.org/d1\nPackageName: p\nSPDXID: SPDXRef-p\nPackageLicenseConcluded: MIT\n"}"#,
+    r#"{"do":"attach","release":"r1","document":1}"#,
+    r#"{"do":"choose","release":"r1","document":1,"package":"SPDXRef-p","terms":["MIT"]}"#,
+    r#"{"do":"freeze","release":"r1","day":"2025-03-03"}"#,
+    r#"{"do":"meet","duty":1,"day":"2025-03-04","text":"notices.txt"}"#,
+];
+
+/// What they are replied.
+const REPLIES: &str = r#"{"at":[],"name":"UnknownForm","refused":11}
+{"at":[1],"name":"BadCatalogue","refused":1}
+{"revision":1}
+{"done":true}
+{"at":[],"name":"NameTaken","refused":10}
+{"document":1,"new":true}
+{"done":true}
+{"done":true}
+{"count":1,"first":1}
+{"done":true}
+"#;
 
 /// The replies to outcomes as lines.
 fn told(alloc: Global, outcomes: &[Outcome]) -> Result<String, AllocError> {
@@ -37,42 +43,21 @@ fn told(alloc: Global, outcomes: &[Outcome]) -> Result<String, AllocError> {
     Ok(replies)
 }
 
-/// Whether so many commands of a script are replied in a run as the lines behind them say.
-fn is_run(alloc: Global, script: &str, count: usize) -> Result<bool, AllocError> {
-    let (commands, replies) = commands_of(alloc, script)?;
-    let outcomes = run(alloc, &mut empty_desk(alloc), commands.as_slice())?;
-    let told = told(alloc, outcomes.as_slice())?;
-    Ok(outcomes.len() == count && told.as_str() == replies.as_str())
-}
-
-fn is_run_in_memory(alloc: Global, script: &str, count: usize) -> Result<bool, AllocError> {
-    let (commands, replies) = commands_of(alloc, script)?;
-    let (outcomes, _desk) = run_in_memory(alloc, Standard, commands.as_slice())?;
-    let told = told(alloc, outcomes.as_slice())?;
-    Ok(outcomes.len() == count && told.as_str() == replies.as_str())
-}
-
-const REFUSED: &str = r#"{"do":"open","release":"r1","form":"binary"}
-{"at":[],"name":"UnknownForm","refused":11}
-{"do":"catalogue","text":"a ="}
-{"at":[1],"name":"BadCatalogue","refused":1}
-{"do":"catalogue","text":"forms = [\"binary\"]"}
-{"revision":1}
-{"do":"open","release":"r1","form":"binary"}
-{"done":true}
-{"do":"open","release":"r1","form":"binary"}
-{"at":[],"name":"NameTaken","refused":10}
-"#;
-
 /// Each command has an outcome, also behind one that was refused.
 #[test]
-fn goes_on_past_refusals(rt: HostRuntime) -> Result<(), Fail> {
-    assert!(rt; is_run(rt.alloc(), REFUSED, 5)?);
-    Ok(())
-}
-
-#[test]
-fn runs_on_an_empty_desk(rt: HostRuntime) -> Result<(), Fail> {
-    assert!(rt; is_run_in_memory(rt.alloc(), FIRST_RELEASE, 8)?);
+fn runs_lists_of_commands(rt: HostRuntime) -> Result<(), AllocError> {
+    let mut commands = Vec::new(rt.alloc());
+    for request in REQUESTS {
+        if let Request::Act(command) = read_command(rt.alloc(), request.as_bytes())? {
+            commands.push(command)?;
+        }
+    }
+    let mut desk = TableDesk::new(rt.alloc(), Standard);
+    let outcomes = run(rt.alloc(), &mut desk, commands.as_slice())?;
+    let replies = told(rt.alloc(), outcomes.as_slice())?;
+    assert!(rt; replies.as_str() == REPLIES, "{replies}");
+    let (outcomes, _desk) = run_in_memory(rt.alloc(), Standard, commands.as_slice())?;
+    let replies = told(rt.alloc(), outcomes.as_slice())?;
+    assert!(rt; replies.as_str() == REPLIES, "{replies}");
     Ok(())
 }

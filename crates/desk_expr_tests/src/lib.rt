@@ -1,8 +1,7 @@
-//! Tests of `desk_base` and `desk_expr`: days, idstrings, lines and profiles, and verdicts, printed terms and the faults of texts, one by one.
+//! Tests of `desk_base` and `desk_expr`: what the built program can't show. Verdicts, faults and limits are acceptance cases of `check`,
+//! days, idstrings and profiles dialogues.
 #![tactic(auto)]
 
-#[cfg(test)]
-mod answers;
 #[cfg(test)]
 mod base;
 #[cfg(test)]

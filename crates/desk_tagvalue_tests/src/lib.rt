@@ -1,23 +1,8 @@
-//! Tests of `desk_fields` and `desk_tagvalue`: fields and faults of small texts, faults in their order, drafts, hostile
-//! bytes, and documents written by hand after the clauses of SPDX 2.3. The answers on changed bytes are those of
-//! `tests/documents/oracle.py`.
+//! Tests of `desk_tagvalue`: a document with each tag, each of whose values is compared, and drafts that can't be written. No reply of the
+//! program shows all these values, and no tree has such drafts. All else is shown by cases of the built program.
 #![tactic(auto)]
 
 #[cfg(test)]
-mod documents;
-#[cfg(test)]
 mod drafts;
-#[cfg(test)]
-mod faults;
-#[cfg(test)]
-mod fields;
-#[cfg(test)]
-mod generators;
-#[cfg(test)]
-mod hostile;
-#[cfg(test)]
-mod shown;
-#[cfg(test)]
-mod support;
 #[cfg(test)]
 mod whole;

@@ -1,8 +1,10 @@
 //! A document written by hand after the clauses of SPDX 2.3, with each tag of each section. Its lines stand, to be read
 //! with other tools, in `tests/documents/whole.spdx`.
 
-/// The document.
-pub const WHOLE: &str = "# A document with each tag of clauses 6 to 13.
+use desk_tagvalue::{Document, read};
+use std::alloc::{AllocError, Global};
+
+const WHOLE: &str = "# A document with each tag of clauses 6 to 13.
 SPDXVersion: SPDX-2.3
 DataLicense: CC0-1.0
 SPDXID: SPDXRef-DOCUMENT
@@ -122,65 +124,41 @@ ReviewDate: 2025-02-05T00:00:00Z
 ReviewComment: <text>ok</text>
 ";
 
-/// What is read of it.
-pub const WHOLE_IN_FULL: &str = "document [kettle-2.1] [https://example.org/spdx/kettle-2.1-6b1f]
-97 fields, 2 packages, 4 relationships
-2 licences in files
-package 30
-  name [kettle]
-  id [SPDXRef-kettle]
-  version [2.1]
-  location [git+https://example.org/kettle.git@v2.1#src]
-  analyzed [true]
-  code [d6a770ba38583ed4bb4525bd96e50461655d2758 (excludes: ./kettle.spdx)]
-  concluded [(MIT OR Apache-2.0) AND LicenseRef-steam]
-  declared [MIT]
-  copyright [Copyright 2019 Kettle Works
-Copyright 2020 B. Boiler
-]
-package 94
-  name [valve]
-  id [SPDXRef-valve]
-  version -
-  location [NONE]
-  analyzed [false]
-  code -
-  concluded [NOASSERTION]
-  declared [NONE]
-  copyright [NOASSERTION]
-file 63
-  name [./src/boil.c]
-  id [SPDXRef-boil]
-  sha1 [D6A770ba38583ed4bb4525bd96e50461655d2758]
-  concluded [MIT]
-  copyright [Copyright 2019 Kettle Works]
-snippet 82
-  id [SPDXRef-spout]
-extracted 103
-  id [LicenseRef-steam]
-  text [Permission is granted to
-\tlet off steam:
-
-  1. upwards.
-# not a comment
-]
-extracted 113
-  id [LicenseRef-other]
-  text [one line]
-relationship 25
-  left [SPDXRef-DOCUMENT]
-  kind [DESCRIBES]
-  right [SPDXRef-kettle]
-relationship 27
-  left [SPDXRef-kettle]
-  kind [DEPENDS_ON]
-  right [DocumentRef-base.1+x:SPDXRef-libc]
-relationship 101
-  left [SPDXRef-valve]
-  kind [STATIC_LINK]
-  right [SPDXRef-kettle]
-relationship 115
-  left [SPDXRef-kettle]
-  kind [CONTAINS]
-  right [SPDXRef-boil]
+// What is read of it: a part a line.
+const WHOLE_IN_FULL: &str = "kettle-2.1 https://example.org/spdx/kettle-2.1-6b1f, 97 fields
+[Package { line: 30, name: \"kettle\", id: \"SPDXRef-kettle\", version: Some(\"2.1\"), download_location: Some(\"git+https://example.org/kettle.git@v2.1#src\"), files_analyzed: Some(\"true\"), verification_code: Some(\"d6a770ba38583ed4bb4525bd96e50461655d2758 (excludes: ./kettle.spdx)\"), concluded: Some(\"(MIT OR Apache-2.0) AND LicenseRef-steam\"), declared: Some(\"MIT\"), copyright: Some(\"Copyright 2019 Kettle Works\\nCopyright 2020 B. Boiler\\n\") }, \
+Package { line: 94, name: \"valve\", id: \"SPDXRef-valve\", version: None, download_location: Some(\"NONE\"), files_analyzed: Some(\"false\"), verification_code: None, concluded: Some(\"NOASSERTION\"), declared: Some(\"NONE\"), copyright: Some(\"NOASSERTION\") }]
+[FileEntry { line: 63, name: \"./src/boil.c\", id: \"SPDXRef-boil\", sha1: Some(\"D6A770ba38583ed4bb4525bd96e50461655d2758\"), concluded: Some(\"MIT\"), copyright: Some(\"Copyright 2019 Kettle Works\") }]
+[Snippet { line: 82, id: \"SPDXRef-spout\" }]
+[Extracted { line: 103, id: \"LicenseRef-steam\", text: Some(\"Permission is granted to\\n\\tlet off steam:\\n\\n  1. upwards.\\n# not a comment\\n\") }, \
+Extracted { line: 113, id: \"LicenseRef-other\", text: Some(\"one line\") }]
+[Edge { line: 25, left: \"SPDXRef-DOCUMENT\", kind: \"DESCRIBES\", right: \"SPDXRef-kettle\" }, \
+Edge { line: 27, left: \"SPDXRef-kettle\", kind: \"DEPENDS_ON\", right: \"DocumentRef-base.1+x:SPDXRef-libc\" }, \
+Edge { line: 101, left: \"SPDXRef-valve\", kind: \"STATIC_LINK\", right: \"SPDXRef-kettle\" }, \
+Edge { line: 115, left: \"SPDXRef-kettle\", kind: \"CONTAINS\", right: \"SPDXRef-boil\" }]
 ";
+
+// The parts of a document, written out.
+fn shown(alloc: Global, document: &Document) -> Result<String, AllocError> {
+    let name = document.name;
+    let namespace = document.namespace;
+    let fields = document.entries.as_slice().len();
+    let packages = document.packages.as_slice();
+    let files = document.files.as_slice();
+    let snippets = document.snippets.as_slice();
+    let extracted = document.extracted.as_slice();
+    let edges = document.edges.as_slice();
+    format!(in alloc;
+        "{name} {namespace}, {fields} fields\n{packages:?}\n{files:?}\n{snippets:?}\n{extracted:?}\n{edges:?}\n"
+    )
+}
+
+#[test]
+fn reads_each_value(rt: HostRuntime) -> Result<(), AllocError> {
+    let Ok(document) = read(rt.alloc(), WHOLE.as_bytes()) else {
+        return Err(AllocError);
+    };
+    let answer = shown(rt.alloc(), &document)?;
+    assert_eq!(rt; answer.as_str(), WHOLE_IN_FULL);
+    Ok(())
+}
