@@ -6,9 +6,9 @@ use Rattle.std.specs.declared.alloc.Global.{Global}
 use Rattle.std.proofs.lemmas.List.{append-nil, append_assoc, take-map, drop-map, map-append}
 use Rattle.std.proofs.lemmas.List.Folds.{flat_map-map, list_all-append}
 use Rattle.desk_rows.specs.Lists.{put, put_all}
-use Rattle.desk_sorted.specs.Blocks.{are_filled, has_rows, is_between, rows_in}
+use Rattle.desk_sorted.specs.Blocks.{are_all_filled, are_filled, has_rows, is_between, rows_in}
 use Rattle.desk_sorted.proofs.Halving.{put_first, put_past, some_left}
-use Rattle.desk_sorted.proofs.Blocking.{all_drop}
+use Rattle.desk_sorted.proofs.Blocking.{all_drop, all_take}
 use Rattle.desk_base.proofs.Bools.{and_left, and_right, both, not_true, or_left, or_right}
 
 -- blocks without rows are dropped
@@ -226,3 +226,18 @@ filled_within bs [] zero zero le e some front all = all
 filled_within bs (c ∷ cut) zero zero le e some front all = cc
 filled_within [] cut low (suc high) le e some front all = filled_both (take low []) (cut ++ []) front (all_parted cut [] (each_filled cut some) refl)
 filled_within (b ∷ bs) cut low (suc high) le e some front all = filled_both (take low (b ∷ bs)) (cut ++ drop high bs) front (all_parted cut (drop high bs) (each_filled cut some) (all_drop (λ b. has_rows b.items) high bs all))
+
+pub whole_within : {R : Type 0} (bs cut : List (Vec R Global)) (low high : ℕ) → list_any (λ b. length b.items == 0) cut ≡ false → are_all_filled bs ≡ true → are_all_filled (take low bs ++ (cut ++ drop high bs)) ≡ true
+whole_within bs cut low high some all =
+    all_parted (take low bs) (cut ++ drop high bs) (all_take (λ b. has_rows b.items) low bs all)
+    (all_parted cut (drop high bs) (each_filled cut some) (all_drop (λ b. has_rows b.items) high bs all))
+
+-- the blocks behind the first
+
+pub behind_filled : {R : Type 0} (bs : List (Vec R Global)) (at : ℕ) → are_filled bs ≡ true → are_all_filled (drop (suc at) bs) ≡ true
+behind_filled [] at all = refl
+behind_filled (b ∷ bs) at all = all_drop (λ b. has_rows b.items) at bs all
+
+pub filled_around : {R : Type 0} (front back : List (Vec R Global)) (b : Vec R Global) → are_filled front ≡ true → (length b.items == 0) ≡ false → are_all_filled back ≡ true → are_filled (front ++ (b ∷ [] ++ back)) ≡ true
+filled_around front back b e some all =
+    filled_both front (b ∷ back) e (both (has_rows b.items) (list_all (λ c. has_rows c.items) back) (row_there b.items some) all)

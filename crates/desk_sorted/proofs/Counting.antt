@@ -8,19 +8,11 @@ use Rattle.desk_rows.specs.Lists.{put, put_all}
 use Rattle.desk_sorted.specs.Blocks.{rows_in}
 use Rattle.desk_sorted.proofs.Walking.{drop_one, filter_split}
 
--- the rows from one block on
-
-pub count_split : {R : Type 0} (bs : List (Vec R Global)) (i : ℕ) (d : Vec R Global) → i < length bs → length (rows_in (drop i bs)) ≡ length (get_or bs i d).items + length (rows_in (drop (i + 1) bs))
-count_split {R = R} bs i d lt =
-    ap (λ (l : List (Vec R Global)). length (rows_in l)) (drop_one bs i d lt) ∙ length-append (get_or bs i d).items (rows_in (drop (i + 1) bs))
+-- the rows that are sought from one block on
 
 pub found_split : {R : Type 0} (test : R → Bool) (bs : List (Vec R Global)) (i : ℕ) (d : Vec R Global) → i < length bs → length (filter test (rows_in (drop i bs))) ≡ length (filter test (get_or bs i d).items) + length (filter test (rows_in (drop (i + 1) bs)))
 found_split test bs i d lt =
     ap length (filter_split test bs i d lt) ∙ length-append (filter test (get_or bs i d).items) (filter test (rows_in (drop (i + 1) bs)))
-
-pub block_counted : {R : Type 0} (bs : List (Vec R Global)) (i : ℕ) (d : Vec R Global) (here n all : ℕ) → i < length bs → d ≡ get_or bs i d → here ≡ length d.items → n + length (rows_in (drop i bs)) ≡ all → (n + here) + length (rows_in (drop (i + 1) bs)) ≡ all
-block_counted {R = R} bs i d here n all lt e f g =
-    omega (arith, count_split bs i d lt, ap (λ (b : Vec R Global). length b.items) e, f, g)
 
 pub none_counted : (n all : ℕ) → n ≡ all → 0 + n ≡ all
 none_counted n all e = omega (arith, e)
@@ -62,3 +54,7 @@ room_fits xs ys n m e f g h = omega (arith, ap length e, f, g, h)
 
 pub counted_fits : {A : Type 0} (xs : List A) (n m : ℕ) → m ≡ length xs → m ≡ n → n < 2 ^ 64 → length xs < 2 ^ 64
 counted_fits xs n m e f g = omega (arith, e, f, g)
+
+pub put_in_counted : {A : Type 0} (below : A → A → Bool) (test : A → Bool) (more xs ys : List A) (all gone : ℕ) → ys ≡ put_all below more (filter (λ x. not (test x)) xs) → all ≡ length xs → gone ≡ length (filter test xs) → all - gone + length more ≡ length ys
+put_in_counted below test more xs ys all gone e f g =
+    omega (arith, ap length e, length-put_all below more (filter (λ x. not (test x)) xs), count_left test xs (filter (λ x. not (test x)) xs) all gone refl f g)

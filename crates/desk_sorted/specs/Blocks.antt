@@ -18,6 +18,10 @@ has_rows (x ∷ xs) = true
 abbrev pub are_filled : {R : Type 0} → List (Vec R Global) → Bool
 are_filled blocks = list_all (λ block. has_rows block.items) (drop 1 blocks)
 
+-- each block has a row
+abbrev pub are_all_filled : {R : Type 0} → List (Vec R Global) → Bool
+are_all_filled blocks = list_all (λ block. has_rows block.items) blocks
+
 -- the last of some
 abbrev pub last_of : {A : Type 0} → A → List A → A
 last_of m [] = m

@@ -9,7 +9,7 @@ ghost use Rattle.std.specs.Ordering.{is_lt, is_le};
 ghost use Rattle.std.specs.declared.cmp.Ordering.TheVariants.{Less};
 ghost use Rattle.desk_rows.specs.Lists.{put, put_all, replaced, ascends};
 ghost use Rattle.desk_rows.specs.Keys.{below_by};
-ghost use Rattle.desk_sorted.specs.Blocks.{are_filled, ends_in, is_between, rows_in, HasRoom, IsBlockRun, IsSplit};
+ghost use Rattle.desk_sorted.specs.Blocks.{are_all_filled, are_filled, ends_in, is_between, rows_in, HasRoom, IsBlockRun, IsSplit};
 ghost use Rattle.desk_sorted.specs.Sides.{none_splits};
 
 use crate::sorted::{Keyed, Run, Sought, put_row, put_rows, run_of};
@@ -162,6 +162,7 @@ fn cut_within<R: Keyed + Drop, K: Sought<R>>(blocks: &mut [Vec<R>], key: &K) -> 
     ensures rows { rows_in blocks.new ≡ filter (λ row. not (K.is_at key.now row)) (rows_in blocks.old) }
     ensures length { length blocks.new ≡ length blocks.old }
     ensures filled { result ≡ false → are_filled blocks.new ≡ true }
+    ensures whole { result ≡ false → are_all_filled blocks.old ≡ true → are_all_filled blocks.new ≡ true }
 {
     let run = blocks_of(blocks, key);
     let within = &mut blocks[run.start..run.end];
@@ -188,18 +189,6 @@ fn tidy<R: Drop>(blocks: &mut Vec<Vec<R>>, has_empty: bool)
     }
 }
 
-/// The rows of all blocks, counted.
-fn row_count<R>(blocks: &[Vec<R>]) -> usize
-    requires { length (rows_in blocks.now) < 2 ^ 64 }
-    ensures { result ≡ length (rows_in blocks.now) }
-{
-    let mut count: usize = 0;
-    for block in blocks {
-        count += block.len();
-    }
-    count
-}
-
 /// Cuts the block at a place in two.
 fn halve<R: Drop>(blocks: &mut Vec<Vec<R>>, at: usize) -> Result<(), AllocError>
     requires within { at < length blocks.old.items }
@@ -221,28 +210,31 @@ fn halve<R: Drop>(blocks: &mut Vec<Vec<R>>, at: usize) -> Result<(), AllocError>
     Ok(())
 }
 
-/// Puts rows in place of those that are sought, into the block at a place, which has room for them.
+/// Puts rows in place of those that are sought, into the block at a place, which has room for them. Whether a block that was changed has
+/// no rows left.
 fn replace_within<R: Keyed + Drop, K: Sought<R>>(
     blocks: &mut [Vec<R>],
     at: usize,
     key: &K,
     more: Vec<R>,
-)
+) -> bool
     requires ascending { ascends (below_by R.order) (rows_in blocks.old) ≡ true }
     requires filled { are_filled blocks.old ≡ true }
     requires room { HasRoom (below_by R.order) (λ row. not (K.is_at key.now row)) more.items blocks.old at }
     ensures rows { rows_in blocks.new ≡ put_all (below_by R.order) more.items
         (filter (λ row. not (K.is_at key.now row)) (rows_in blocks.old)) }
     ensures length { length blocks.new ≡ length blocks.old }
+    ensures filled { result ≡ false → are_filled blocks.new ≡ true }
 {
     let (front, rest) = blocks.split_at_mut(at);
     let Some((block, back)) = rest.split_first_mut() else {
         unreachable!()
     };
-    cut_within(front, key);
+    let front_has_empty = cut_within(front, key);
     cut_run(block, key);
     put_rows(block, more);
-    cut_within(back, key);
+    let back_has_empty = cut_within(back, key);
+    front_has_empty | block.is_empty() | back_has_empty
 }
 
 /// Makes room in the block at a place.
@@ -510,9 +502,10 @@ impl<R: Keyed + Drop> Blocks<R> {
         ensures { rows_in self.new.blocks.items ≡ put_all (below_by R.order) more.items (filter (λ row.
             not (K.is_at key.now row)) (rows_in self.old.blocks.items)) }
     {
-        replace_within(&mut *self.blocks, at, key, more);
-        drop_empty(&mut self.blocks);
-        self.count = row_count(self.blocks.as_slice());
+        let count = self.count - self.count_of(key) + more.len();
+        let has_empty = replace_within(&mut *self.blocks, at, key, more);
+        tidy(&mut self.blocks, has_empty);
+        self.count = count;
     }
 
     /// Makes room for rows beside those that are there: all in one block, whose place is the answer. Where none of those is sought,

@@ -2,9 +2,9 @@ use Rattle.std.proofs.Common.{◌-◌, ◌++◌, ◌+◌, ◌≡◌, ◌∙◌, 
 use Rattle.std.specs.Prelude.{Vec}
 use Rattle.std.specs.declared.alloc.Global.{Global}
 use Rattle.desk_rows.specs.Keys.{below_by}
-use Rattle.desk_sorted.specs.Blocks.{are_filled, rows_in}
+use Rattle.desk_sorted.specs.Blocks.{are_all_filled, are_filled, rows_in}
 use Rattle.desk_sorted.proofs.Blocking.{ascends_drop, ascends_take, filled_take}
-use Rattle.desk_sorted.proofs.Changing.{filled_within}
+use Rattle.desk_sorted.proofs.Changing.{filled_within, whole_within}
 use Rattle.desk_sorted.proofs.Searching.{cut_in_run, drop_further}
 use Rattle.desk_sorted.proofs.Walking.{rows_put}
 use Rattle.desk_sorted.proofs.blocks.cut_within.Goals as goal
@@ -37,3 +37,13 @@ returns-clause-filled g c = λ none.
     let far : low + (high - low) ≡ high = omega (arith, c.blocks_of-run.ensures.ordered) in
     ap (λ (l : List (Vec g.row.R.Denot Global)). are_filled (take low blocks ++ (cut ++ l))) (drop_further low (high - low) high blocks far)
     ∙ filled_within blocks cut low high c.blocks_of-run.ensures.ordered c.cut_each.ensures.length (sym c.has_empty.ensures ∙ none) (filled_take low blocks c.requires.filled) c.requires.filled
+
+pub returns-clause-whole : goal.returns-clause-whole
+returns-clause-whole g c = λ none all.
+    let blocks = c.args.blocks.now in
+    let low = c.blocks_of-run.result.start in
+    let high = c.blocks_of-run.result.end in
+    let cut = c.cut_each.new.blocks in
+    let far : low + (high - low) ≡ high = omega (arith, c.blocks_of-run.ensures.ordered) in
+    ap (λ (l : List (Vec g.row.R.Denot Global)). are_all_filled (take low blocks ++ (cut ++ l))) (drop_further low (high - low) high blocks far)
+    ∙ whole_within blocks cut low high (sym c.has_empty.ensures ∙ none) all
