@@ -1,8 +1,14 @@
 -- One look-up after another.
-use Rattle.std.specs.Prelude.{Result, Ok, Err}
+use Rattle.std.proofs.Common.{◌≡◌, subst}
+use Rattle.std.specs.Prelude.{Result, Ok, Err, IfOk}
 use Rattle.std.specs.Result.{IsErr}
 use Rattle.desk_rows.specs.declared.command.Fault.{Fault}
-use Rattle.desk_access.specs.Seen.{Seen, Kept, Same, Looked}
+use Rattle.desk_rows.specs.declared.command.Answer.{Answer}
+use Rattle.desk_rows.specs.declared.command.Change.{Change}
+use Rattle.desk_rows.specs.declared.command.Plan.{Plan}
+use Rattle.desk_rows.specs.Tables.{Tables}
+use Rattle.desk_access.specs.Plans.{IsPlan, Plans}
+use Rattle.desk_access.specs.Seen.{Seen, Kept, Same, Looked, OfRows}
 
 module _ {Left : Type 0} where
   pub same_self : (a : Seen Left) → Same a a
@@ -29,3 +35,16 @@ module _ {Left : Type 0} where
   pub looked_err : {A : Type 0} (a b : Seen Left) (r : Result A Fault) → IsErr r → Kept a b → Looked a b r
   looked_err a b (Ok x) none k = absurd (cc)
   looked_err a b (Err fault) is k = k
+
+  -- a plan after look-ups
+  pub plans_after : (a b c : Seen Left) (r : Result Plan Fault) → Same a b → Plans b c r → Plans a c r
+  plans_after a b c (Ok plan) s p = (same_then_same a b c s p.0, p.1)
+  plans_after a b c (Err fault) s p = same_then_kept a b c s p
+
+  pub plan_after : (a b c : Seen Left) (answer answer' : Tables → Answer) (change change' : Tables → Change) (r : Result Plan Fault) → Same a b → Plans b c r
+      → (b.is_honest → (t : Tables) → a.holds t → (answer t ≡ answer' t) × (change t ≡ change' t))
+      → IfOk r (λ plan. OfRows (λ t. IsPlan (answer t) (change t) plan) b c) → IfOk r (λ plan. OfRows (λ t. IsPlan (answer' t) (change' t) plan) a c)
+  plan_after a b c answer answer' change change' (Ok plan) s p same is = λ h t held.
+      let facts = same (p.0.kept.spared.honest h) t held in
+      subst (λ (x : Answer). IsPlan x (change' t) plan) facts.0 (subst (λ (x : Change). IsPlan (answer t) x plan) facts.1 (is h t (s.kept.spared.holds t held)))
+  plan_after a b c answer answer' change change' (Err fault) s p same is = tt

@@ -1,3 +1,4 @@
 pub mod Follows
 pub mod Seen
 pub mod Plans
+pub mod Reading

@@ -2,7 +2,9 @@
 
 ghost use Rattle.std.specs.Prelude.{◌≡◌, ℕ, List, Option, IfOk, map};
 ghost use Rattle.desk_rows.specs.Listings.{IsCost};
-ghost use Rattle.desk_rows.specs.Readings.{Readings, TellsVerdict};
+ghost use Rattle.desk_rows.specs.Readings.{Readings};
+ghost use Rattle.desk_access.specs.Reading.{TellsExpression};
+ghost use Rattle.desk_base.specs.declared.profile.Profile.{Profile};
 
 use desk_base::{Items, Text};
 use desk_rows::{
@@ -11,10 +13,17 @@ use desk_rows::{
 };
 use std::alloc::{AllocError, Global};
 
-/// A reader of texts. It tells which readings are right by its own definitions, and answers as each of these does.
+/// A reader of texts. It tells which readings are right by its own definitions, and answers as each of these does. A licence expression
+/// is read once, and then asked about.
 pub trait Texts {
+    /// A licence expression that was read.
+    type Expression: Drop;
+
     /// The readings that give each text what it says.
     ghost are_right: { Readings → Type 0 };
+
+    /// An expression is the one that a text is by a profile of operators.
+    ghost is_of: { Profile → List ℕ → Self.Expression → Type 0 };
 
     /// The catalogue that a text is, or its fault.
     fn catalogue(
@@ -49,9 +58,14 @@ pub trait Texts {
         ensures { (w : Readings) → are_right w → IfOk result (λ adopted.
             adopted ≡ w.adopted_as licence.now term.now) };
 
-    /// Whether a text is a licence expression.
-    fn is_expression(&self, alloc: Global, profile: Profile, text: &str) -> Result<bool, AllocError>
-        ensures { (w : Readings) → are_right w → IfOk result (λ is. is ≡ w.is_expression profile text.now) };
+    /// The licence expression that a text is, if it is one.
+    fn expression(
+        &self,
+        alloc: Global,
+        profile: Profile,
+        text: &str,
+    ) -> Result<Option<Self::Expression>, AllocError>
+        ensures { (w : Readings) → are_right w → IfOk result (TellsExpression is_of w profile text.now) };
 
     /// Why a text is no licence expression, if it is none.
     fn expression_fault(
@@ -63,41 +77,45 @@ pub trait Texts {
         ensures { (w : Readings) → are_right w → IfOk result (λ fault.
             fault ≡ w.expression_fault profile text.now) };
 
-    /// What printed terms are to the expression that a text spells, if it spells one.
+    /// What printed terms are to an expression.
     fn verdict(
         &self,
         alloc: Global,
-        profile: Profile,
-        text: &str,
+        expression: &Self::Expression,
         terms: &[Text],
-    ) -> Result<Option<Verdict>, AllocError>
-        ensures { (w : Readings) → are_right w → IfOk result (TellsVerdict w profile text.now terms.now) };
+    ) -> Result<Verdict, AllocError>
+        ensures { (w : Readings) → are_right w → (profile : Profile) (text : List ℕ)
+            → is_of profile text expression.now
+            → IfOk result (λ verdict. verdict ≡ w.verdict profile text terms.now) };
 
-    /// The minimal sets of terms that the expression of a text is true under, printed, or why they aren't listed.
+    /// The minimal sets of terms that an expression is true under, printed, or why they aren't listed.
     fn alternatives(
         &self,
         alloc: Global,
-        profile: Profile,
-        text: &str,
+        expression: &Self::Expression,
     ) -> Result<Result<Items<Items<Text>>, ListFault>, AllocError>
-        ensures { (w : Readings) → are_right w → IfOk result (λ sets. sets ≡ w.alternatives profile text.now) };
+        ensures { (w : Readings) → are_right w → (profile : Profile) (text : List ℕ)
+            → is_of profile text expression.now
+            → IfOk result (λ sets. sets ≡ w.alternatives profile text) };
 
-    /// The distinct terms of the expression of a text, printed, in order.
-    fn terms(&self, alloc: Global, profile: Profile, text: &str) -> Result<Items<Text>, AllocError>
-        ensures { (w : Readings) → are_right w → IfOk result (λ terms. terms ≡ w.terms profile text.now) };
+    /// The distinct terms of an expression, printed, in order.
+    fn terms(&self, alloc: Global, expression: &Self::Expression) -> Result<Items<Text>, AllocError>
+        ensures { (w : Readings) → are_right w → (profile : Profile) (text : List ℕ)
+            → is_of profile text expression.now
+            → IfOk result (λ terms. terms ≡ w.terms profile text) };
 
-    /// The cheapest set of terms that the expression of a text is true under, printed, where each of its distinct terms in order
-    /// costs what stands at its place, at most 1,000,000.
+    /// The cheapest set of terms that an expression is true under, printed, where each of its distinct terms in order costs what
+    /// stands at its place, at most 1,000,000.
     fn cheapest(
         &self,
         alloc: Global,
-        profile: Profile,
-        text: &str,
+        expression: &Self::Expression,
         costs: &[Option<u64>],
     ) -> Result<Result<Option<Cheapest>, ListFault>, AllocError>
-        ensures { (w : Readings) → are_right w → (cost : List ℕ → Option ℕ) → IsCost cost
-            → costs.now ≡ map cost (w.terms profile text.now)
-            → IfOk result (λ found. found ≡ w.cheapest profile text.now cost) };
+        ensures { (w : Readings) → are_right w → (profile : Profile) (text : List ℕ)
+            → is_of profile text expression.now → (cost : List ℕ → Option ℕ) → IsCost cost
+            → costs.now ≡ map cost (w.terms profile text)
+            → IfOk result (λ found. found ≡ w.cheapest profile text cost) };
 
     /// The findings of the document that bytes spell.
     fn findings(

@@ -21,19 +21,6 @@ use Rattle.desk_decisions.proofs.Following.{change_follows}
 use Rattle.desk_base.proofs.Bools.{contrary}
 
 module _ {Left : Type 0} where
-  -- a plan after look-ups
-  pub plans_after : (a b c : Seen Left) (r : Result Plan Fault) → Same a b → Plans b c r → Plans a c r
-  plans_after a b c (Ok plan) s p = (same_then_same a b c s p.0, p.1)
-  plans_after a b c (Err fault) s p = same_then_kept a b c s p
-
-  pub plan_after : (a b c : Seen Left) (answer answer' : Tables → Answer) (change change' : Tables → Change) (r : Result Plan Fault) → Same a b → Plans b c r
-      → (b.is_honest → (t : Tables) → a.holds t → (answer t ≡ answer' t) × (change t ≡ change' t))
-      → IfOk r (λ plan. OfRows (λ t. IsPlan (answer t) (change t) plan) b c) → IfOk r (λ plan. OfRows (λ t. IsPlan (answer' t) (change' t) plan) a c)
-  plan_after a b c answer answer' change change' (Ok plan) s p same is = λ h t held.
-      let facts = same (p.0.kept.spared.honest h) t held in
-      subst (λ (x : Answer). IsPlan x (change' t) plan) facts.0 (subst (λ (x : Change). IsPlan (answer t) x plan) facts.1 (is h t (s.kept.spared.holds t held)))
-  plan_after a b c answer answer' change change' (Err fault) s p same is = tt
-
   -- nothing was decided
   pub minds_undecided : (a b : Seen Left) (fault : Fault) → Kept a b → Minds a b (Err fault)
   minds_undecided a b fault k = k.spared

@@ -1,5 +1,1 @@
-pub mod Concluding
-pub mod Walks
-pub mod Moving
 pub mod Carrying
-pub mod Dropping

@@ -9,17 +9,17 @@ ghost use Rattle.desk_access.specs.Plans.{IsPlanOf, Plans, Carries, SparesStore}
 ghost use Rattle.desk_decisions.specs.Carrying.{CarriesOutFrom};
 ghost use Rattle.desk_rows.specs.declared.command.Command.TheVariants.{Import};
 
-use crate::catalogue::load_catalogue;
-use crate::choice::{choose, unchoose};
-use crate::conclusion::{adopt, conclude};
-use crate::document::{import, import_copy};
-use crate::duty::{meet, reopen, waive};
-use crate::freeze::freeze;
-use crate::release::{attach, open_release};
-use crate::withdraw::{close_day, withdraw};
 use desk_access::store::Store;
 use desk_access::texts::Texts;
 use desk_base::Items;
+use desk_duties::duty::{meet, reopen, waive};
+use desk_duties::freeze::freeze;
+use desk_duties::withdraw::{close_day, withdraw};
+use desk_preparing::catalogue::load_catalogue;
+use desk_preparing::choice::{choose, unchoose};
+use desk_preparing::conclusion::{adopt, conclude};
+use desk_preparing::document::{import, import_copy};
+use desk_preparing::release::{attach, open_release};
 use desk_rows::{Answer, Command, Fault, Plan, Profile};
 use std::alloc::Global;
 

@@ -6,12 +6,12 @@ ghost use Rattle.desk_rows.specs.Faults.{MayFail};
 ghost use Rattle.desk_rows.specs.Conclusions.{profile_in};
 ghost use Rattle.desk_history.specs.FromTables.{conclusion_found};
 ghost use Rattle.desk_access.specs.Seen.{Looked, OfRows};
-ghost use Rattle.desk_packages.specs.Claims.{read_claim};
+ghost use Rattle.desk_packages.specs.Claims.{read_claim, InForceOf};
 
 use desk_access::store::Store;
 use desk_access::texts::Texts;
 use desk_rows::{Conclusion, Fault, PackageRow, Profile};
-use std::alloc::Global;
+use std::alloc::{AllocError, Global};
 
 /// What may be the conclusion in force for a package.
 #[derive(Drop)]
@@ -21,6 +21,17 @@ pub enum Claim {
     /// The package's own field, which is a conclusion where it is an expression.
     Field(Conclusion),
     /// Neither stands.
+    Nothing,
+}
+
+/// The conclusion in force for a package, its text read once.
+#[derive(Drop)]
+pub enum InForce<E> {
+    /// It is this expression.
+    Expression(E),
+    /// The office's, whose text is no expression: no terms are enough for it.
+    NoExpression,
+    /// There is none.
     Nothing,
 }
 
@@ -61,6 +72,49 @@ pub fn claim_of<S: Store>(store: &mut S, row: &PackageRow) -> Result<Claim, Faul
     }
 }
 
+/// The conclusion in force, read of what may be it.
+pub fn read_claim<T: Texts>(
+    alloc: Global,
+    texts: &T,
+    claim: &Claim,
+) -> Result<InForce<T::Expression>, AllocError>
+    ensures { (w : Readings) → T.are_right w
+        → IfOk result (InForceOf T.is_of w (read_claim w claim.now)) }
+{
+    match claim {
+        Claim::Office(conclusion) => {
+            match texts.expression(alloc, conclusion.profile, conclusion.text.as_str())? {
+                Some(expression) => Ok(InForce::Expression(expression)),
+                None => Ok(InForce::NoExpression),
+            }
+        }
+        Claim::Field(conclusion) => {
+            match texts.expression(alloc, conclusion.profile, conclusion.text.as_str())? {
+                Some(expression) => Ok(InForce::Expression(expression)),
+                None => Ok(InForce::Nothing),
+            }
+        }
+        Claim::Nothing => Ok(InForce::Nothing),
+    }
+}
+
+/// The conclusion in force for a package, its text read.
+pub fn in_force<T: Texts, S: Store>(
+    alloc: Global,
+    texts: &T,
+    store: &mut S,
+    row: &PackageRow,
+) -> Result<InForce<T::Expression>, Fault>
+    ensures found { (w : Readings) → T.are_right w → IfOk result (λ read.
+        OfRows (λ t. InForceOf T.is_of w (conclusion_found w t row.now) read)
+        (S.seen store.old) (S.seen store.new)) }
+    ensures kept { Looked (S.seen store.old) (S.seen store.new) result }
+    ensures fault { IfErr result (MayFail S.tells) }
+{
+    let claim = claim_of(store, row)?;
+    Ok(read_claim(alloc, texts, &claim)?)
+}
+
 /// The conclusion in force for a package: the office's, else its own field, where that is an expression.
 pub fn conclusion_of<T: Texts, S: Store>(
     alloc: Global,
@@ -76,11 +130,9 @@ pub fn conclusion_of<T: Texts, S: Store>(
     match claim_of(store, row)? {
         Claim::Office(conclusion) => Ok(Some(conclusion)),
         Claim::Field(conclusion) => {
-            let text = conclusion.text.as_str();
-            if texts.is_expression(alloc, conclusion.profile, text)? {
-                Ok(Some(conclusion))
-            } else {
-                Ok(None)
+            match texts.expression(alloc, conclusion.profile, conclusion.text.as_str())? {
+                Some(_) => Ok(Some(conclusion)),
+                None => Ok(None),
             }
         }
         Claim::Nothing => Ok(None),

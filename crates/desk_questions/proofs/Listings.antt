@@ -1,5 +1,5 @@
 -- What is told step by step is the list of refusals, or the sets.
-use Rattle.std.proofs.Common.{◌≡◌, ℕ, Bool, true, false, List, Option, Some, None, refl, sym, subst, ◌∙◌}
+use Rattle.std.proofs.Common.{◌≡◌, ℕ, Bool, true, false, List, Option, Some, None, refl, sym, ap, subst, ◌∙◌}
 use Rattle.std.specs.Prelude.{Result, Ok, Err, find, is_some, IfOk}
 use Rattle.std.specs.List.{list_any}
 use Rattle.std.specs.Option.{option_and_then}
@@ -16,6 +16,10 @@ use Rattle.desk_rows.specs.declared.command.Query.TheVariants as query
 use Rattle.desk_history.specs.FromTables.{conclusion_found, queried_from, rules_found}
 use Rattle.desk_questions.specs.Found.{listed, priced, told_of, of_package, told_found, listed_found, priced_found}
 use Rattle.desk_access.specs.Seen.{Seen, Same, Looked, OfRows}
+use Rattle.desk_base.specs.declared.profile.Profile.{Profile}
+use Rattle.desk_packages.specs.Claims.{InForceOf}
+use Rattle.desk_packages.specs.declared.conclusion.InForce.{InForce}
+use Rattle.desk_packages.specs.declared.conclusion.InForce.TheVariants.{Expression}
 use Rattle.desk_rows.specs.declared.command.Answer.{Answer}
 use Rattle.desk_rows.specs.declared.command.Fault.{Fault}
 use Rattle.desk_rows.specs.declared.refusal.Refusal.{Refusal}
@@ -78,3 +82,14 @@ module _ {Left : Type 0} where
       → IfOk r (λ x. OfRows (λ t. x ≡ told t) b c) → IfOk r (λ x. OfRows (λ t. x ≡ answer t) a c)
   told_after a b c told answer (Ok x) s l same is = λ h t held. is h t (s.kept.spared.holds t held) ∙ same (l.kept.spared.honest h) t held
   told_after a b c told answer (Err fault) s l same is = tt
+
+  -- what is told of the expression that was read of a conclusion
+  pub read_then : {E : Type 0} (is_of : Profile → List ℕ → E → Type 0) (w : Readings) (a b c : Seen Left) (concluded : Tables → Option Conclusion) (told : Profile → List ℕ → Tables → Answer) (p : PackageRow) (e : E) (read : InForce E) (r : Result Answer Fault)
+      → Same a b → Looked b c r → read ≡ Expression e
+      → (b.is_honest → (t : Tables) → a.holds t → InForceOf is_of w (concluded t) read)
+      → ((profile : Profile) (text : List ℕ) → is_of profile text e → IfOk r (λ x. OfRows (λ t. x ≡ told profile text t) b c))
+      → IfOk r (λ x. OfRows (λ t. x ≡ told_of (λ k. told k.profile k.text t) (concluded t) p) a c)
+  read_then is_of w a b c concluded told p e read (Err fault) s l is found gives = tt
+  read_then is_of w a b c concluded told p e read (Ok x) s l is found gives = λ h t held.
+      let one : InForceOf is_of w (concluded t) (Expression e) = subst (λ (i : InForce _). InForceOf is_of w (concluded t) i) is (found (l.kept.spared.honest h) t held) in
+      gives one.0.profile one.0.text one.2 h t (s.kept.spared.holds t held) ∙ sym (ap (λ (o : Option Conclusion). told_of (λ k. told k.profile k.text t) o p) one.1)

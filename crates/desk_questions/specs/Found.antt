@@ -48,7 +48,10 @@ abbrev pub listed_found : Readings → Tables → PackageRow → Answer
 listed_found w t p = told_of (λ c. listed (w.alternatives c.profile c.text)) (conclusion_found w t p) p
 
 -- the cheapest of them, by what its terms cost in a form
+abbrev pub priced_by : Readings → Tables → List ℕ → PackageRow → Answer
+priced_by w t form p =
+    told_of (λ c. priced (w.cheapest c.profile c.text (term_cost w t.adoption (rules_found t) form p.document))) (conclusion_found w t p) p
+
+-- in a form that the catalogue in force has, or why not
 abbrev pub priced_found : Readings → Tables → List ℕ → PackageRow → Answer
-priced_found w t form p =
-    if not (list_any (bytes_eq form) t.forms) then answered.Refused why.UnknownForm
-    else told_of (λ c. priced (w.cheapest c.profile c.text (term_cost w t.adoption (rules_found t) form p.document))) (conclusion_found w t p) p
+priced_found w t form p = if not (list_any (bytes_eq form) t.forms) then answered.Refused why.UnknownForm else priced_by w t form p

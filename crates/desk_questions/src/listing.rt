@@ -1,19 +1,20 @@
 //! The sets of terms that a package's conclusion in force is true under.
 
-ghost use Rattle.std.specs.Prelude.{◌≡◌, IfOk, IfErr, map};
+ghost use Rattle.std.specs.Prelude.{◌≡◌, ℕ, List, IfOk, IfErr, map};
+ghost use Rattle.desk_base.specs.declared.profile.Profile.{Profile};
 ghost use Rattle.desk_rows.specs.Readings.{Readings};
 ghost use Rattle.desk_rows.specs.Faults.{MayFail};
 ghost use Rattle.desk_rows.specs.Listings.{list_refusal, rule_cost, term_cost};
 ghost use Rattle.desk_access.specs.Seen.{Looked, OfRows};
 ghost use Rattle.desk_history.specs.FromTables.{conclusion_found, queried_from, rules_found};
-ghost use Rattle.desk_questions.specs.Found.{IsFound, listed, listed_found, priced, priced_found};
+ghost use Rattle.desk_questions.specs.Found.{IsFound, listed, listed_found, priced, priced_by, priced_found};
 
 use desk_access::store::Store;
 use desk_access::texts::Texts;
-use desk_base::{Text, limits};
-use desk_packages::{conclusion_of, rule_adopted};
-use desk_rows::{Answer, Conclusion, Fault, ListFault, PackageRow, Query, Refusal, Rule};
-use std::alloc::Global;
+use desk_base::{Items, Text, limits};
+use desk_packages::{InForce, in_force, rule_adopted};
+use desk_rows::{Answer, Fault, ListFault, PackageRow, Query, Refusal, Rule};
+use std::alloc::{AllocError, Global};
 
 fn list_refusal(fault: ListFault) -> Refusal
     ensures { result ≡ list_refusal fault }
@@ -33,12 +34,17 @@ fn unconcluded(row: PackageRow) -> Answer
     })
 }
 
-fn listed<T: Texts>(alloc: Global, texts: &T, conclusion: &Conclusion) -> Result<Answer, Fault>
-    ensures answer { (w : Readings) → T.are_right w → IfOk result
-        (λ answer. answer ≡ listed (w.alternatives conclusion.now.profile conclusion.now.text)) }
-    ensures fault { IfErr result (λ fault. fault ≡ Fault.Memory) }
+/// The sets of an expression, or why they aren't listed.
+fn listed<T: Texts>(
+    alloc: Global,
+    texts: &T,
+    expression: &T::Expression,
+) -> Result<Answer, AllocError>
+    ensures { (w : Readings) → T.are_right w → (profile : Profile) (text : List ℕ)
+        → T.is_of profile text expression.now
+        → IfOk result (λ answer. answer ≡ listed (w.alternatives profile text)) }
 {
-    match texts.alternatives(alloc, conclusion.profile, conclusion.text.as_str())? {
+    match texts.alternatives(alloc, expression)? {
         Ok(sets) => Ok(Answer::Alternatives(sets)),
         Err(fault) => Ok(Answer::Refused(list_refusal(fault))),
     }
@@ -76,9 +82,10 @@ fn listed_for<T: Texts, S: Store>(
     ensures kept { Looked (S.seen store.old) (S.seen store.new) result }
     ensures fault { IfErr result (MayFail S.tells) }
 {
-    match conclusion_of(alloc, texts, store, &row)? {
-        Some(conclusion) => listed(alloc, texts, &conclusion),
-        None => Ok(unconcluded(row)),
+    match in_force(alloc, texts, store, &row)? {
+        InForce::Expression(expression) => Ok(listed(alloc, texts, &expression)?),
+        InForce::NoExpression => Ok(Answer::Alternatives(Items::new(alloc))),
+        InForce::Nothing => Ok(unconcluded(row)),
     }
 }
 
@@ -153,29 +160,50 @@ fn term_costs<T: Texts, S: Store>(
     Ok(costs)
 }
 
-/// The cheapest set of terms that a conclusion is true under, by what its terms of a document cost in a form.
+/// The cheapest set of terms that an expression is true under, by what its terms of a document cost in a form.
 fn priced<T: Texts, S: Store>(
     alloc: Global,
     texts: &T,
     store: &mut S,
     form: &Text,
     document: u32,
-    conclusion: &Conclusion,
+    expression: &T::Expression,
 ) -> Result<Answer, Fault>
-    ensures answer { (w : Readings) → T.are_right w → IfOk result (λ answer.
-        OfRows (λ t. answer ≡ priced (w.cheapest conclusion.now.profile conclusion.now.text
+    ensures answer { (w : Readings) → T.are_right w → (profile : Profile) (text : List ℕ)
+        → T.is_of profile text expression.now → IfOk result (λ answer.
+        OfRows (λ t. answer ≡ priced (w.cheapest profile text
         (term_cost w t.adoption (rules_found t) form.now document)))
         (S.seen store.old) (S.seen store.new)) }
     ensures kept { Looked (S.seen store.old) (S.seen store.new) result }
     ensures fault { IfErr result (MayFail S.tells) }
 {
-    let profile = conclusion.profile;
-    let text = conclusion.text.as_str();
-    let terms = texts.terms(alloc, profile, text)?;
+    let terms = texts.terms(alloc, expression)?;
     let costs = term_costs(alloc, texts, store, form, document, terms.as_slice())?;
-    match texts.cheapest(alloc, profile, text, costs.as_slice())? {
+    match texts.cheapest(alloc, expression, costs.as_slice())? {
         Ok(found) => Ok(Answer::Cheapest(found)),
         Err(fault) => Ok(Answer::Refused(list_refusal(fault))),
+    }
+}
+
+/// The cheapest set of terms that the conclusion in force for a package is true under, if it has one.
+fn priced_by<T: Texts, S: Store>(
+    alloc: Global,
+    texts: &T,
+    store: &mut S,
+    form: &Text,
+    row: PackageRow,
+) -> Result<Answer, Fault>
+    ensures answer { (w : Readings) → T.are_right w → IfOk result (λ answer.
+        OfRows (λ t. answer ≡ priced_by w t form.now row) (S.seen store.old) (S.seen store.new)) }
+    ensures kept { Looked (S.seen store.old) (S.seen store.new) result }
+    ensures fault { IfErr result (MayFail S.tells) }
+{
+    match in_force(alloc, texts, store, &row)? {
+        InForce::Expression(expression) => {
+            priced(alloc, texts, store, form, row.document, &expression)
+        }
+        InForce::NoExpression => Ok(Answer::Cheapest(None)),
+        InForce::Nothing => Ok(unconcluded(row)),
     }
 }
 
@@ -196,10 +224,7 @@ fn priced_for<T: Texts, S: Store>(
     if !store.has_form(form.as_str())? {
         return Ok(Answer::Refused(Refusal::UnknownForm));
     }
-    match conclusion_of(alloc, texts, store, &row)? {
-        Some(conclusion) => priced(alloc, texts, store, form, row.document, &conclusion),
-        None => Ok(unconcluded(row)),
-    }
+    priced_by(alloc, texts, store, form, row)
 }
 
 /// The set of terms that owes the fewest duties in a form, of those that the conclusion in force for a package is true under.

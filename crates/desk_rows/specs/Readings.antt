@@ -1,11 +1,10 @@
 -- What texts say. The definitions of the history take it as an argument: which reading is right is said where texts are read,
 -- of licence expressions by SPDX 2.3, Annex D, of documents by its tag-value form.
-use Rattle.std.specs.Prelude.{◌≡◌, ℕ, Bool, true, false, List, Option, Some, None, Result}
+use Rattle.std.specs.Prelude.{ℕ, Bool, List, Option, Result}
 use Rattle.desk_rows.specs.declared.reading.Catalogue.{Catalogue}
 use Rattle.desk_rows.specs.declared.reading.Document.{Document}
 use Rattle.desk_base.specs.declared.profile.Profile.{Profile}
 use Rattle.desk_rows.specs.declared.reading.Verdict.{Verdict}
-use Rattle.desk_rows.specs.declared.reading.Verdict.TheVariants.{NotEnough}
 use Rattle.desk_rows.specs.declared.reading.ListFault.{ListFault}
 use Rattle.desk_rows.specs.declared.reading.Cheapest.{Cheapest}
 use Rattle.desk_rows.specs.declared.finding.FindingRow.{FindingRow}
@@ -40,8 +39,3 @@ pub record Readings : Type 0 where
   pub cheapest : Profile → List ℕ → (List ℕ → Option ℕ) → Result (Option Cheapest) ListFault
   -- the findings of the document that bytes spell
   pub findings : Profile → List ℕ → List FindingRow
-
--- What a reader tells of a text and terms: what they are to the expression, or none where the text is none, for which no terms are enough
-abbrev pub TellsVerdict : Readings → Profile → List ℕ → List (List ℕ) → Option Verdict → Type 0
-TellsVerdict w profile text terms (Some verdict) = (w.is_expression profile text ≡ true) × (verdict ≡ w.verdict profile text terms)
-TellsVerdict w profile text terms None = (w.is_expression profile text ≡ false) × (w.verdict profile text terms ≡ NotEnough)

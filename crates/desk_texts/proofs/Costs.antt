@@ -27,7 +27,7 @@ use Rattle.desk_rows.specs.Listings.{IsCost, at_most}
 use Rattle.desk_alts.specs.Faults.{IsListable}
 use Rattle.desk_base.specs.declared.profile.Profile.{Profile}
 use Rattle.desk_texts.specs.Expressions.{IsExpression}
-use Rattle.desk_texts.specs.Listings.{cost_at, cost_of, cost_within, HasTerms, Prices}
+use Rattle.desk_texts.specs.Listings.{cost_at, cost_of, cost_within, AreTermTexts, IsPriced}
 
 -- ---- the part of a set that stands in a list
 
@@ -225,7 +225,7 @@ entry_past costs k past =
     let le : length costs ≤ k = grind (arith, nat_tests) in
     ap (option_and_then (λ c. c)) (slice_get_past costs k le)
 
--- ---- what is told of the expression of a value
+-- ---- what is told of an expression
 
 pub at_some : {A : Type 0} (P : A → Type 0) (o : Option A) (x : A) → o ≡ Some x → IfSome o P → P x
 at_some P None x is h = absurd (cc)
@@ -235,14 +235,14 @@ pub at_none : {A : Type 0} (Q : Type 0) (o : Option A) → o ≡ None → IfNone
 at_none Q None is h = h
 at_none Q (Some y) is h = absurd (cc)
 
-module _ (profile : Profile) (text : List ℕ) (cost : List ℕ → Option ℕ) (bounded : IsCost cost) (e : Tree) (ts : List Term) (is : IsExpression profile text e) (are : AreTermsOf e ts) (listable : IsListable e)
-    (costs : List (Option ℕ)) (given : (terms : List (List ℕ)) → HasTerms profile text terms → costs ≡ map cost terms) where
+module _ (cost : List ℕ → Option ℕ) (bounded : IsCost cost) (e : Tree) (ts : List Term) (are : AreTermsOf e ts) (listable : IsListable e)
+    (costs : List (Option ℕ)) (given : (terms : List (List ℕ)) → AreTermTexts e terms → costs ≡ map cost terms) where
   at_terms : costs ≡ map cost (map printed_term ts)
-  at_terms = given (map printed_term ts) (inl (e, ts, is, are, refl))
+  at_terms = given (map printed_term ts) (ts, are, refl)
 
   pub some_priced : (price : ℕ) (set : List Term) (terms : List (List ℕ)) → IsCheapest (cost_within ts costs) e price set → terms ≡ map printed_term set
-      → Prices profile text cost (Ok (Some (record { cost = price; terms = terms })))
-  some_priced price set terms found printed = inl (e, is, (listable, set, cheapest_by_costs cost bounded e ts are costs at_terms price set found, printed))
+      → IsPriced cost e (Ok (Some (record { cost = price; terms = terms })))
+  some_priced price set terms found printed = (listable, set, cheapest_by_costs cost bounded e ts are costs at_terms price set found, printed)
 
-  pub none_priced : HasNoCosts (cost_within ts costs) e → Prices profile text cost (Ok None)
-  none_priced none = inl (e, is, (listable, none_by_costs cost bounded e ts are costs at_terms none))
+  pub none_priced : HasNoCosts (cost_within ts costs) e → IsPriced cost e (Ok None)
+  none_priced none = (listable, none_by_costs cost bounded e ts are costs at_terms none)

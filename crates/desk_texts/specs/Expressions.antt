@@ -69,13 +69,13 @@ IsVerdict e ts NotEnough = ¬ Holds (Contains ts) e
 IsVerdict e ts (Superfluous i) = IsFirst (CanGo ts e) i
 IsVerdict e ts Minimal = IsMinimal ts e
 
--- what texts that spell terms are to the expression of a value: not enough where it has none, or where a text spells no term
+-- what texts that spell terms are to an expression: not enough where a text spells no term
+abbrev pub JudgesTerms : Tree → List (List ℕ) → Verdict → Type 0
+JudgesTerms e words verdict =
+    ((ts : List Term) × AreTerms words ts × IsVerdict e ts verdict) ⊎ (((ts : List Term) → AreTerms words ts → ⊥) × (verdict ≡ NotEnough))
+
+-- what they are to the expression of a value: not enough where it has none, or where a text spells no term
 abbrev pub Judges : Profile → List ℕ → List (List ℕ) → Verdict → Type 0
 Judges profile text words verdict =
     ((e : Tree) × (ts : List Term) × IsExpression profile text e × AreTerms words ts × IsVerdict e ts verdict)
     ⊎ (((e : Tree) (ts : List Term) → IsExpression profile text e → AreTerms words ts → ⊥) × (verdict ≡ NotEnough))
-
--- the same, and none where the value is no expression, for which no terms are enough
-abbrev pub JudgesIfAny : Profile → List ℕ → List (List ℕ) → Option Verdict → Type 0
-JudgesIfAny profile text words (Some verdict) = Tells profile text true × Judges profile text words verdict
-JudgesIfAny profile text words None = Tells profile text false × Judges profile text words NotEnough

@@ -31,7 +31,11 @@ IsListing e (Err fault) = IsListFault e fault
 abbrev pub Lists : Profile → List ℕ → Result (List (List (List ℕ))) ListFault → Type 0
 Lists profile text listing = ((e : Tree) × IsExpression profile text e × IsListing e listing) ⊎ (IsNoExpression profile text × (listing ≡ Ok []))
 
--- the distinct terms of the expression of a value, printed, in order
+-- the distinct terms of an expression, printed, in order
+abbrev pub AreTermTexts : Tree → List (List ℕ) → Type 0
+AreTermTexts e terms = (ts : List Term) × AreTermsOf e ts × (terms ≡ map printed_term ts)
+
+-- those of the expression of a value; a value that is none has none
 abbrev pub HasTerms : Profile → List ℕ → List (List ℕ) → Type 0
 HasTerms profile text terms =
     ((e : Tree) × (ts : List Term) × IsExpression profile text e × AreTermsOf e ts × (terms ≡ map printed_term ts))

@@ -2,7 +2,7 @@
 
 ghost use Rattle.std.specs.Prelude.{◌≡◌, ◌<◌, IfOk, OnOk, IsTrue, Contains};
 ghost use Rattle.desk_expr.specs.Faults.{fault_number};
-ghost use Rattle.desk_texts.specs.Expressions.{word_place, IsRead, Tells, fault_of, IsFault, IsVerdict, JudgesIfAny};
+ghost use Rattle.desk_texts.specs.Expressions.{word_place, IsRead, fault_of, IsFault, IsVerdict, JudgesTerms};
 ghost use Rattle.desk_findings.specs.Fields.{is_no_licence};
 
 use crate::term::read_terms;
@@ -30,16 +30,6 @@ pub(crate) fn read_expression(
             told(fault)?;
             Ok(None)
         }
-    }
-}
-
-/// Whether a value is a licence expression by a profile of operators.
-pub(crate) fn is_expression(alloc: Global, text: &str, profile: Profile) -> Result<bool, AllocError>
-    ensures { IfOk result (Tells profile text.now) }
-{
-    match read_expression(alloc, text, profile)? {
-        Some(_) => Ok(true),
-        None => Ok(false),
     }
 }
 
@@ -94,20 +84,12 @@ fn judged(expr: &Expr, terms: &[Term]) -> Verdict
     }
 }
 
-/// What texts that spell terms are to the expression of a value by a profile of operators, if it is one.
-pub(crate) fn verdict(
-    alloc: Global,
-    text: &str,
-    profile: Profile,
-    words: &[Text],
-) -> Result<Option<Verdict>, AllocError>
-    ensures { IfOk result (JudgesIfAny profile text.now words.now) }
+/// What texts that spell terms are to an expression.
+pub(crate) fn verdict(alloc: Global, expr: &Expr, words: &[Text]) -> Result<Verdict, AllocError>
+    ensures { IfOk result (JudgesTerms expr.now words.now) }
 {
-    let Some(expr) = read_expression(alloc, text, profile)? else {
-        return Ok(None);
-    };
     match read_terms(alloc, words)? {
-        Some(terms) => Ok(Some(judged(&expr, terms.as_slice()))),
-        None => Ok(Some(Verdict::NotEnough)),
+        Some(terms) => Ok(judged(expr, terms.as_slice())),
+        None => Ok(Verdict::NotEnough),
     }
 }

@@ -8,12 +8,11 @@ ghost use Rattle.desk_expr.specs.Occurring.{term_order};
 ghost use Rattle.desk_expr.specs.Printing.{printed_term};
 ghost use Rattle.desk_alts.specs.Faults.{IsFaultOf};
 ghost use Rattle.desk_rows.specs.Listings.{IsCost};
-ghost use Rattle.desk_texts.specs.Listings.{IsListFault, Lists, HasTerms, Prices, cost_at, cost_within};
+ghost use Rattle.desk_texts.specs.Listings.{AreTermTexts, IsListFault, IsListing, IsPriced, cost_at, cost_within};
 
-use crate::expression::read_expression;
 use desk_alts::{AltFault, Cost, TermSet};
 use desk_base::{Items, Text, limits};
-use desk_expr::{Profile, Term, TermTable, print_term};
+use desk_expr::{Expr, Term, TermTable, print_term};
 use desk_rows::{Cheapest, ListFault};
 use std::alloc::{AllocError, Global};
 
@@ -55,31 +54,24 @@ fn printed_sets(alloc: Global, sets: &[TermSet]) -> Result<Items<Items<Text>>, A
     Ok(Items::from_vec(texts))
 }
 
-/// The minimal sets of terms of the expression of a value by a profile of operators. A value that is none has none.
+/// The minimal sets of terms of an expression.
 pub(crate) fn alternatives(
     alloc: Global,
-    text: &str,
-    profile: Profile,
+    expr: &Expr,
 ) -> Result<Result<Items<Items<Text>>, ListFault>, AllocError>
-    ensures { IfOk result (Lists profile text.now) }
+    ensures { IfOk result (IsListing expr.now) }
 {
-    let Some(expr) = read_expression(alloc, text, profile)? else {
-        return Ok(Ok(Items::new(alloc)));
-    };
-    match desk_alts::alternatives(alloc, &expr) {
+    match desk_alts::alternatives(alloc, expr) {
         Ok(sets) => Ok(Ok(printed_sets(alloc, sets.as_slice())?)),
         Err(fault) => Ok(Err(list_fault(fault)?)),
     }
 }
 
-/// The distinct terms of the expression of a value by a profile of operators, in order.
-pub(crate) fn terms(alloc: Global, text: &str, profile: Profile) -> Result<Items<Text>, AllocError>
-    ensures { IfOk result (HasTerms profile text.now) }
+/// The distinct terms of an expression, in order.
+pub(crate) fn terms(alloc: Global, expr: &Expr) -> Result<Items<Text>, AllocError>
+    ensures { IfOk result (AreTermTexts expr.now) }
 {
-    let Some(expr) = read_expression(alloc, text, profile)? else {
-        return Ok(Items::new(alloc));
-    };
-    let table = TermTable::of(alloc, &expr)?;
+    let table = TermTable::of(alloc, expr)?;
     printed_terms(alloc, table.terms())
 }
 
@@ -115,27 +107,22 @@ impl Cost for Costs<'_> {
     }
 }
 
-/// The cheapest set of terms of the expression of a value by a profile of operators, where each of its distinct terms costs what
-/// stands at its place, at most 1,000,000.
+/// The cheapest set of terms of an expression, where each of its distinct terms costs what stands at its place, at most 1,000,000.
 pub(crate) fn cheapest(
     alloc: Global,
-    text: &str,
-    profile: Profile,
+    expr: &Expr,
     costs: &[Option<u64>],
 ) -> Result<Result<Option<Cheapest>, ListFault>, AllocError>
     ensures { (cost : List ℕ → Option ℕ) → IsCost cost
-        → ((terms : List (List ℕ)) → HasTerms profile text.now terms → costs.now ≡ map cost terms)
-        → IfOk result (Prices profile text.now cost) }
+        → ((terms : List (List ℕ)) → AreTermTexts expr.now terms → costs.now ≡ map cost terms)
+        → IfOk result (IsPriced cost expr.now) }
 {
-    let Some(expr) = read_expression(alloc, text, profile)? else {
-        return Ok(Ok(None));
-    };
-    let table = TermTable::of(alloc, &expr)?;
+    let table = TermTable::of(alloc, expr)?;
     let by_place = Costs {
         table: &table,
         costs,
     };
-    match desk_alts::cheapest(alloc, &expr, &by_place) {
+    match desk_alts::cheapest(alloc, expr, &by_place) {
         Ok(Some(choice)) => Ok(Ok(Some(Cheapest {
             cost: choice.cost,
             terms: printed_terms(alloc, choice.set.terms())?,

@@ -1,15 +1,17 @@
 //! The desk's reader of texts.
 
+ghost use Rattle.desk_texts.specs.Expressions.{IsExpression};
 ghost use Rattle.desk_texts.specs.Right.{AreRight};
 
 use crate::catalogue::read_catalogue;
 use crate::document::read_document;
-use crate::expression::{expression_fault, is_expression, verdict};
+use crate::expression::{expression_fault, read_expression, verdict};
 use crate::findings::read_findings;
 use crate::listing::{alternatives, cheapest, terms};
 use crate::term::{adopted_as, is_licence, printed_term, reference_of};
 use desk_access::texts::Texts;
 use desk_base::{Items, Text};
+use desk_expr::Expr;
 use desk_rows::{
     Catalogue, CatalogueFault, Cheapest, Document, DocumentFault, ExpressionFault, FindingRow,
     ListFault, Profile, Verdict,
@@ -21,7 +23,11 @@ use std::alloc::{AllocError, Global};
 pub struct Standard;
 
 impl Texts for Standard {
+    type Expression = Expr;
+
     ghost are_right = { AreRight };
+
+    ghost is_of = { IsExpression };
 
     fn catalogue(
         &self,
@@ -55,13 +61,13 @@ impl Texts for Standard {
         adopted_as(alloc, licence, term)
     }
 
-    fn is_expression(
+    fn expression(
         &self,
         alloc: Global,
         profile: Profile,
         text: &str,
-    ) -> Result<bool, AllocError> {
-        is_expression(alloc, text, profile)
+    ) -> Result<Option<Expr>, AllocError> {
+        read_expression(alloc, text, profile)
     }
 
     fn expression_fault(
@@ -76,39 +82,31 @@ impl Texts for Standard {
     fn verdict(
         &self,
         alloc: Global,
-        profile: Profile,
-        text: &str,
+        expression: &Expr,
         terms: &[Text],
-    ) -> Result<Option<Verdict>, AllocError> {
-        verdict(alloc, text, profile, terms)
+    ) -> Result<Verdict, AllocError> {
+        verdict(alloc, expression, terms)
     }
 
     fn alternatives(
         &self,
         alloc: Global,
-        profile: Profile,
-        text: &str,
+        expression: &Expr,
     ) -> Result<Result<Items<Items<Text>>, ListFault>, AllocError> {
-        alternatives(alloc, text, profile)
+        alternatives(alloc, expression)
     }
 
-    fn terms(
-        &self,
-        alloc: Global,
-        profile: Profile,
-        text: &str,
-    ) -> Result<Items<Text>, AllocError> {
-        terms(alloc, text, profile)
+    fn terms(&self, alloc: Global, expression: &Expr) -> Result<Items<Text>, AllocError> {
+        terms(alloc, expression)
     }
 
     fn cheapest(
         &self,
         alloc: Global,
-        profile: Profile,
-        text: &str,
+        expression: &Expr,
         costs: &[Option<u64>],
     ) -> Result<Result<Option<Cheapest>, ListFault>, AllocError> {
-        cheapest(alloc, text, profile, costs)
+        cheapest(alloc, expression, costs)
     }
 
     fn findings(

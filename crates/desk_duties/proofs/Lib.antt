@@ -1,0 +1,3 @@
+mod Duties
+mod Walking
+mod Freezes

@@ -1,0 +1,294 @@
+//! Duties are met, waived and reopened.
+
+ghost use Rattle.std.specs.Prelude.{◌≡◌, ◌≤◌, ◌<◌, ◌+◌, ◌∷◌, [], IfOk, IfErr, MatchOption, Option, unwrap_or, true, false};
+ghost use Rattle.desk_base.specs.Day.{is_day};
+ghost use Rattle.desk_rows.specs.Readings.{Readings};
+ghost use Rattle.desk_rows.specs.Faults.{MayFail};
+ghost use Rattle.desk_rows.specs.States.{goes_from};
+ghost use Rattle.desk_rows.specs.Texts.{is_before, is_note};
+ghost use Rattle.desk_rows.specs.Moves.{change_row};
+ghost use Rattle.desk_rows.specs.Answers.{gone, settled, is_over, refused_by, refused_alone};
+ghost use Rattle.desk_history.specs.FromTables.{moved_change, moved_found, state_found};
+ghost use Rattle.desk_access.specs.Seen.{Looked, OfRows};
+ghost use Rattle.desk_access.specs.Plans.{IsPlan, IsPlanOf, Plans, SparesStore};
+ghost use Rattle.desk_duties.specs.Moving.{AreDays, IsRead, move_as, move_from, move_known};
+ghost use Rattle.desk_rows.specs.declared.command.Command.TheVariants.{Meet, Waive, Reopen};
+
+use desk_access::store::Store;
+use desk_base::{Day, Items, Text, are_shown, limits};
+use desk_packages::{done, refused};
+use desk_rows::{
+    Change, ChangeRow, DutyRow, DutyState, Fault, Limit, Move, Plan, Refusal, ReleaseState, Word,
+};
+use std::alloc::{AllocError, Global};
+
+/// Whether the text may stand at a change: 1 to 1,024 bytes without control bytes.
+pub fn is_note(text: &str) -> bool
+    ensures { result ≡ is_note text.now }
+{
+    if text.is_empty() {
+        return false;
+    }
+    if text.len() > limits::NOTE_BYTES {
+        return false;
+    }
+    are_shown(text.as_bytes())
+}
+
+/// The day that a text writes.
+pub(crate) fn read_day(text: &Text) -> Option<Day>
+    ensures { MatchOption result
+        (is_day text.now ≡ false) (λ day. (is_day text.now ≡ true) × (day ≡ text.now)) }
+{
+    Day::parse(text.as_str())
+}
+
+pub(crate) fn gone(state: ReleaseState) -> Option<Refusal>
+    ensures { result ≡ gone state }
+{
+    match state {
+        ReleaseState::Withdrawn => Some(Refusal::ReleaseState(ReleaseState::Withdrawn)),
+        _ => None,
+    }
+}
+
+fn goes_from(word: Word, state: DutyState) -> bool
+    ensures { result ≡ goes_from word state }
+{
+    match word {
+        Word::Met | Word::Waived => state == DutyState::IsOpen,
+        Word::Reopened => state == DutyState::Met || state == DutyState::Waived,
+        _ => false,
+    }
+}
+
+fn settled(word: Word, state: DutyState) -> Option<Refusal>
+    ensures { result ≡ settled word state }
+{
+    if goes_from(word, state) {
+        return None;
+    }
+    Some(Refusal::DutyState(state))
+}
+
+/// Whether one day is before another.
+fn is_before(day: Day, other: Day) -> bool
+    ensures { result ≡ is_before day other }
+{
+    day.as_bytes().cmp(other.as_bytes()).is_lt()
+}
+
+/// A move that was read, or why it is none.
+#[derive(Drop)]
+enum Read {
+    Move(Move),
+    Refused(Refusal),
+}
+
+/// The day of a move, and the last day of a waiver that ends.
+#[derive(Drop)]
+struct Days {
+    day: Day,
+    last_day: Option<Day>,
+}
+
+fn read_days(day: &Text, until: &Option<Text>) -> Option<Days>
+    ensures { AreDays day.now until.now result }
+{
+    let day = read_day(day)?;
+    let Some(text) = until else {
+        return Some(Days {
+            day,
+            last_day: None,
+        });
+    };
+    let last = read_day(text)?;
+    Some(Days {
+        day,
+        last_day: Some(last),
+    })
+}
+
+fn is_over(day: Day, last_day: &Option<Day>) -> bool
+    ensures { result ≡ is_over day last_day.now }
+{
+    match last_day {
+        Some(last) => is_before(*last, day),
+        None => false,
+    }
+}
+
+/// Reads a move: its days, its text, and whether it ends before its day.
+fn read_move(word: Word, day: &Text, text: &Text, until: &Option<Text>) -> Result<Read, AllocError>
+    ensures { IfOk result (IsRead word day.now text.now until.now) }
+{
+    let Some(Days { day, last_day }) = read_days(day, until) else {
+        return Ok(Read::Refused(Refusal::BadDay));
+    };
+    if !is_note(text.as_str()) {
+        return Ok(Read::Refused(Refusal::BadText));
+    }
+    if is_over(day, &last_day) {
+        return Ok(Read::Refused(Refusal::BadEnd));
+    }
+    let body = text.clone()?;
+    Ok(Read::Move(Move {
+        day,
+        word,
+        body,
+        last_day,
+    }))
+}
+
+/// The state of a release, open where there is none.
+fn release_state<S: Store>(store: &mut S, name: &Text) -> Result<ReleaseState, Fault>
+    ensures found { IfOk result (λ state.
+        OfRows (λ t. state ≡ unwrap_or (state_found t name.now) ReleaseState.IsOpen)
+        (S.seen store.old) (S.seen store.new)) }
+    ensures kept { Looked (S.seen store.old) (S.seen store.new) result }
+    ensures fault { IfErr result (MayFail S.tells) }
+{
+    match store.release(name.as_str())? {
+        Some(row) => Ok(row.state),
+        None => Ok(ReleaseState::IsOpen),
+    }
+}
+
+/// The one change that a duty's next move is.
+fn one_change(alloc: Global, duty: u32, step: u32, made: Move) -> Result<Change, AllocError>
+    ensures { IfOk result (λ change. change ≡ Change.Moved (change_row duty step made ∷ [])) }
+{
+    let mut changes = Items::new(alloc);
+    changes.push(ChangeRow {
+        duty,
+        step,
+        day: made.day,
+        word: made.word,
+        body: made.body,
+        last_day: made.last_day,
+    })?;
+    Ok(Change::Moved { changes })
+}
+
+/// Moves a duty that was found.
+fn move_found<S: Store>(
+    alloc: Global,
+    store: &mut S,
+    row: &DutyRow,
+    made: Move,
+) -> Result<Plan, Fault>
+    ensures plan { IfOk result (λ plan.
+        OfRows (λ t. IsPlan (move_from t made.word row.now) (moved_change t row.now.number made) plan)
+        (S.seen store.old) (S.seen store.new)) }
+    ensures kept { Plans (S.seen store.old) (S.seen store.new) result }
+    ensures fault { IfErr result (MayFail S.tells) }
+{
+    if let Some(refusal) = gone(release_state(store, &row.release)?) {
+        return Ok(refused(refusal));
+    }
+    if let Some(refusal) = settled(made.word, row.state) {
+        return Ok(refused(refusal));
+    }
+    let steps = store.steps(u64::from(row.number))?;
+    if steps >= limits::CHANGES {
+        return Ok(refused(Refusal::Full(Limit::Changes)));
+    }
+    Ok(done(one_change(alloc, row.number, steps as u32 + 1, made)?))
+}
+
+/// Moves the duty with a number.
+fn move_numbered<S: Store>(
+    alloc: Global,
+    store: &mut S,
+    duty: u64,
+    made: Move,
+) -> Result<Plan, Fault>
+    ensures plan { IfOk result (λ plan.
+        OfRows (λ t. IsPlan (move_known t made.word duty) (moved_change t duty made) plan)
+        (S.seen store.old) (S.seen store.new)) }
+    ensures kept { Plans (S.seen store.old) (S.seen store.new) result }
+    ensures fault { IfErr result (MayFail S.tells) }
+{
+    let Some(row) = store.duty(duty)? else {
+        return Ok(refused(Refusal::UnknownDuty));
+    };
+    move_found(alloc, store, &row, made)
+}
+
+/// Moves a duty as a command says.
+fn move_duty<S: Store>(
+    alloc: Global,
+    store: &mut S,
+    word: Word,
+    duty: u64,
+    day: &Text,
+    text: &Text,
+    until: &Option<Text>,
+) -> Result<Plan, Fault>
+    ensures plan { IfOk result (λ plan.
+        OfRows (λ t. IsPlan (moved_found t word duty day.now text.now until.now)
+        (moved_change t duty (move_as word day.now text.now until.now)) plan)
+        (S.seen store.old) (S.seen store.new)) }
+    ensures kept { Plans (S.seen store.old) (S.seen store.new) result }
+    ensures alone { SparesStore (refused_by day.now text.now until.now) result }
+    ensures fault { IfErr result (MayFail S.tells) }
+{
+    match read_move(word, day, text, until)? {
+        Read::Refused(refusal) => Ok(refused(refusal)),
+        Read::Move(made) => move_numbered(alloc, store, duty, made),
+    }
+}
+
+/// Meets a duty.
+pub fn meet<S: Store>(
+    alloc: Global,
+    store: &mut S,
+    duty: u64,
+    day: &Text,
+    text: &Text,
+) -> Result<Plan, Fault>
+    ensures plan { (w : Readings) → IfOk result (λ plan.
+        OfRows (IsPlanOf w (Meet duty day.now text.now) plan) (S.seen store.old) (S.seen store.new)) }
+    ensures kept { Plans (S.seen store.old) (S.seen store.new) result }
+    ensures alone { (w : Readings) → SparesStore (refused_alone w (Meet duty day.now text.now)) result }
+    ensures fault { IfErr result (MayFail S.tells) }
+{
+    move_duty(alloc, store, Word::Met, duty, day, text, &None)
+}
+
+/// Waives a duty, up to a last day where one is given.
+pub fn waive<S: Store>(
+    alloc: Global,
+    store: &mut S,
+    duty: u64,
+    day: &Text,
+    text: &Text,
+    until: &Option<Text>,
+) -> Result<Plan, Fault>
+    ensures plan { (w : Readings) → IfOk result (λ plan.
+        OfRows (IsPlanOf w (Waive duty day.now text.now until.now) plan)
+        (S.seen store.old) (S.seen store.new)) }
+    ensures kept { Plans (S.seen store.old) (S.seen store.new) result }
+    ensures alone { (w : Readings)
+        → SparesStore (refused_alone w (Waive duty day.now text.now until.now)) result }
+    ensures fault { IfErr result (MayFail S.tells) }
+{
+    move_duty(alloc, store, Word::Waived, duty, day, text, until)
+}
+
+/// Reopens a duty.
+pub fn reopen<S: Store>(
+    alloc: Global,
+    store: &mut S,
+    duty: u64,
+    day: &Text,
+    text: &Text,
+) -> Result<Plan, Fault>
+    ensures plan { (w : Readings) → IfOk result (λ plan.
+        OfRows (IsPlanOf w (Reopen duty day.now text.now) plan) (S.seen store.old) (S.seen store.new)) }
+    ensures kept { Plans (S.seen store.old) (S.seen store.new) result }
+    ensures alone { (w : Readings) → SparesStore (refused_alone w (Reopen duty day.now text.now)) result }
+    ensures fault { IfErr result (MayFail S.tells) }
+{
+    move_duty(alloc, store, Word::Reopened, duty, day, text, &None)
+}

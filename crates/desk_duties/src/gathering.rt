@@ -1,0 +1,287 @@
+//! What the packages of a release owe, gathered for its freeze.
+
+ghost use Rattle.std.specs.Prelude.{◌≡◌, ◌++◌, ◌∷◌, [], IfOk, IfErr, OnOk, map};
+ghost use Rattle.desk_rows.specs.Readings.{Readings};
+ghost use Rattle.desk_rows.specs.Faults.{MayFail};
+ghost use Rattle.desk_rows.specs.Raised.{owed_code, frozen_term};
+ghost use Rattle.desk_rows.specs.Answers.{first_unadopted, unadopted};
+ghost use Rattle.desk_history.specs.FromTables.{rules_found};
+ghost use Rattle.desk_access.specs.Seen.{Looked, OfRows};
+ghost use Rattle.desk_duties.specs.Freezing.{GathersTerms, GathersPackage, GathersAll, unready_package};
+
+use desk_access::store::Store;
+use desk_access::texts::Texts;
+use desk_base::Text;
+use desk_packages::{conclusion_of, rule_adopted};
+use desk_rows::{Conclusion, Fault, FrozenRow, Owed, PackageRow, Refusal, Rule};
+use std::alloc::{AllocError, Global};
+
+/// What a freeze has gathered: the frozen terms, and the duties that they owe.
+#[derive(Drop)]
+pub(crate) struct Gathered {
+    pub frozen: Vec<FrozenRow>,
+    pub owed: Vec<Owed>,
+}
+
+/// Which release is frozen, and the form in which it ships.
+#[derive(Drop)]
+pub(crate) struct Freezing<'a> {
+    pub release: &'a Text,
+    pub form: &'a Text,
+}
+
+fn owed_row(
+    release: &Text,
+    row: &PackageRow,
+    term: &Text,
+    rule: &Rule,
+    code: &Text,
+) -> Result<Owed, AllocError>
+    ensures { IfOk result (λ owed. owed ≡ owed_code release.now row.now term.now rule.now code.now) }
+{
+    Ok(Owed {
+        release: release.clone()?,
+        document: row.document,
+        package_id: row.id.clone()?,
+        term: term.clone()?,
+        code: code.clone()?,
+        rule: rule.spelled.clone()?,
+    })
+}
+
+fn add_codes(
+    owed: &mut Vec<Owed>,
+    release: &Text,
+    row: &PackageRow,
+    term: &Text,
+    rule: &Rule,
+) -> Result<(), AllocError>
+    ensures { OnOk result (owed.new.items
+        ≡ owed.old.items ++ map (owed_code release.now row.now term.now rule.now) rule.now.codes) }
+{
+    let codes = rule.codes.as_slice();
+    for code in codes {
+        owed.push(owed_row(release, row, term, rule, code)?)?;
+    }
+    Ok(())
+}
+
+fn frozen_row(
+    release: &Text,
+    row: &PackageRow,
+    term: &Text,
+    rule: &Rule,
+) -> Result<FrozenRow, AllocError>
+    ensures { IfOk result (λ frozen. frozen ≡ frozen_term release.now row.now term.now rule.now) }
+{
+    Ok(FrozenRow {
+        release: release.clone()?,
+        document: row.document,
+        package_id: row.id.clone()?,
+        term: term.clone()?,
+        rule: rule.spelled.clone()?,
+    })
+}
+
+/// Adds a frozen term and what it owes.
+fn add_term(
+    gathered: &mut Gathered,
+    release: &Text,
+    row: &PackageRow,
+    term: &Text,
+    rule: &Rule,
+) -> Result<(), AllocError>
+    ensures frozen { OnOk result (gathered.new.frozen.items
+        ≡ gathered.old.frozen.items ++ frozen_term release.now row.now term.now rule.now ∷ []) }
+    ensures owed { OnOk result (gathered.new.owed.items ≡ gathered.old.owed.items
+        ++ map (owed_code release.now row.now term.now rule.now) rule.now.codes) }
+{
+    gathered.frozen.push(frozen_row(release, row, term, rule)?)?;
+    add_codes(&mut gathered.owed, release, row, term, rule)?;
+    Ok(())
+}
+
+/// What stands against a term of a document: it is a reference without adoption.
+fn unadopted<T: Texts, S: Store>(
+    alloc: Global,
+    texts: &T,
+    store: &mut S,
+    document: u32,
+    term: &Text,
+) -> Result<Option<Refusal>, Fault>
+    ensures found { (w : Readings) → T.are_right w → IfOk result (λ refusal.
+        OfRows (λ t. refusal ≡ unadopted w t.adoption document term.now)
+        (S.seen store.old) (S.seen store.new)) }
+    ensures kept { Looked (S.seen store.old) (S.seen store.new) result }
+    ensures fault { IfErr result (MayFail S.tells) }
+{
+    let Some(reference) = texts.reference(alloc, term.as_str())? else {
+        return Ok(None);
+    };
+    if store.adoption(document, reference.as_str())?.is_some() {
+        return Ok(None);
+    }
+    Ok(Some(Refusal::NotAdopted {
+        document,
+        reference,
+    }))
+}
+
+/// The first term of a package without adoption.
+fn first_unadopted<T: Texts, S: Store>(
+    alloc: Global,
+    texts: &T,
+    store: &mut S,
+    document: u32,
+    terms: &[Text],
+) -> Result<Option<Refusal>, Fault>
+    ensures found { (w : Readings) → T.are_right w → IfOk result (λ refusal.
+        OfRows (λ t. refusal ≡ first_unadopted w t.adoption document terms.now)
+        (S.seen store.old) (S.seen store.new)) }
+    ensures kept { Looked (S.seen store.old) (S.seen store.new) result }
+    ensures fault { IfErr result (MayFail S.tells) }
+{
+    for term in terms {
+        if let Some(refusal) = unadopted(alloc, texts, store, document, term)? {
+            return Ok(Some(refusal));
+        }
+    }
+    Ok(None)
+}
+
+fn no_rule(row: &PackageRow, term: &Text) -> Result<Refusal, Fault>
+    ensures refusal { IfOk result (λ refusal. refusal ≡ Refusal.NoRule row.now.document row.now.id term.now) }
+    ensures fault { IfErr result (λ fault. fault ≡ Fault.Memory) }
+{
+    Ok(Refusal::NoRule {
+        document: row.document,
+        package_id: row.id.clone()?,
+        term: term.clone()?,
+    })
+}
+
+/// Gathers what the terms of a package owe, or tells the first without a rule.
+fn freeze_terms<T: Texts, S: Store>(
+    alloc: Global,
+    texts: &T,
+    store: &mut S,
+    freezing: &Freezing<'_>,
+    row: &PackageRow,
+    terms: &[Text],
+    gathered: &mut Gathered,
+) -> Result<Option<Refusal>, Fault>
+    ensures gathered { (w : Readings) → T.are_right w → IfOk result (λ fault.
+        OfRows (λ t. GathersTerms w t.adoption (rules_found t) freezing.now.form.now freezing.now.release.now
+        row.now terms.now gathered.old gathered.new fault)
+        (S.seen store.old) (S.seen store.new)) }
+    ensures kept { Looked (S.seen store.old) (S.seen store.new) result }
+    ensures fault { IfErr result (MayFail S.tells) }
+{
+    for term in terms {
+        let Some(rule) = rule_adopted(alloc, texts, store, freezing.form, row.document, term)?
+        else {
+            return Ok(Some(no_rule(row, term)?));
+        };
+        add_term(gathered, freezing.release, row, term, &rule)?;
+    }
+    Ok(None)
+}
+
+fn no_conclusion(row: &PackageRow) -> Result<Refusal, AllocError>
+    ensures { IfOk result (λ refusal. refusal ≡ Refusal.NoConclusion row.now.document row.now.id) }
+{
+    Ok(Refusal::NoConclusion {
+        document: row.document,
+        package_id: row.id.clone()?,
+    })
+}
+
+fn no_choice(row: &PackageRow) -> Result<Refusal, AllocError>
+    ensures { IfOk result (λ refusal. refusal ≡ Refusal.NoChoice row.now.document row.now.id) }
+{
+    Ok(Refusal::NoChoice {
+        document: row.document,
+        package_id: row.id.clone()?,
+    })
+}
+
+/// What stands against a package with this conclusion and these terms, apart from rules.
+fn unready_package<T: Texts, S: Store>(
+    alloc: Global,
+    texts: &T,
+    store: &mut S,
+    conclusion: &Option<Conclusion>,
+    row: &PackageRow,
+    terms: &[Text],
+) -> Result<Option<Refusal>, Fault>
+    ensures found { (w : Readings) → T.are_right w → IfOk result (λ refusal.
+        OfRows (λ t. refusal ≡ unready_package w t.adoption conclusion.now terms.now row.now)
+        (S.seen store.old) (S.seen store.new)) }
+    ensures kept { Looked (S.seen store.old) (S.seen store.new) result }
+    ensures fault { IfErr result (MayFail S.tells) }
+{
+    if conclusion.is_none() {
+        return Ok(Some(no_conclusion(row)?));
+    }
+    if terms.is_empty() {
+        return Ok(Some(no_choice(row)?));
+    }
+    first_unadopted(alloc, texts, store, row.document, terms)
+}
+
+/// Gathers what a package owes, or tells what stands against it.
+fn freeze_package<T: Texts, S: Store>(
+    alloc: Global,
+    texts: &T,
+    store: &mut S,
+    freezing: &Freezing<'_>,
+    row: &PackageRow,
+    gathered: &mut Gathered,
+) -> Result<Option<Refusal>, Fault>
+    ensures gathered { (w : Readings) → T.are_right w → IfOk result (λ fault.
+        OfRows (λ t. GathersPackage w t freezing.now.form.now freezing.now.release.now row.now
+        gathered.old gathered.new fault)
+        (S.seen store.old) (S.seen store.new)) }
+    ensures kept { Looked (S.seen store.old) (S.seen store.new) result }
+    ensures fault { IfErr result (MayFail S.tells) }
+{
+    let conclusion = conclusion_of(alloc, texts, store, row)?;
+    let terms = store.chosen(freezing.release.as_str(), row.document, row.id.as_str())?;
+    let refusal = unready_package(alloc, texts, store, &conclusion, row, terms.as_slice())?;
+    if refusal.is_some() {
+        return Ok(refusal);
+    }
+    freeze_terms(
+        alloc,
+        texts,
+        store,
+        freezing,
+        row,
+        terms.as_slice(),
+        gathered,
+    )
+}
+
+/// Gathers what packages owe, or tells what stands against the first that fails.
+pub(crate) fn freeze_packages<T: Texts, S: Store>(
+    alloc: Global,
+    texts: &T,
+    store: &mut S,
+    freezing: &Freezing<'_>,
+    packages: &[PackageRow],
+    gathered: &mut Gathered,
+) -> Result<Option<Refusal>, Fault>
+    ensures gathered { (w : Readings) → T.are_right w → IfOk result (λ fault.
+        OfRows (λ t. GathersAll w t freezing.now.form.now freezing.now.release.now packages.now
+        gathered.old gathered.new fault)
+        (S.seen store.old) (S.seen store.new)) }
+    ensures kept { Looked (S.seen store.old) (S.seen store.new) result }
+    ensures fault { IfErr result (MayFail S.tells) }
+{
+    for row in packages {
+        if let Some(refusal) = freeze_package(alloc, texts, store, freezing, row, gathered)? {
+            return Ok(Some(refusal));
+        }
+    }
+    Ok(None)
+}

@@ -1,0 +1,4 @@
+mod Attaching
+mod Names
+mod Sets
+mod Places

@@ -1,0 +1,3 @@
+pub mod Concluding
+pub mod Choosing
+pub mod Dropping

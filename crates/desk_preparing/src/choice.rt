@@ -1,0 +1,414 @@
+//! Terms are chosen for the packages of a release, and choices dropped.
+
+ghost use Rattle.std.specs.Prelude.{◌≡◌, ℕ, List, ◌≤◌, ◌<◌, ◌+◌, ◌++◌, ◌∷◌, [], IfOk, IfErr, OnOk, false, MatchOption, insert, map, length, Ok, Some, None, Option, filter};
+ghost use Rattle.desk_rows.specs.Readings.{Readings};
+ghost use Rattle.desk_base.specs.declared.profile.Profile.{Profile};
+ghost use Rattle.desk_rows.specs.Faults.{MayFail};
+ghost use Rattle.desk_rows.specs.Texts.{put_new, sorted_set};
+ghost use Rattle.desk_rows.specs.Tables.{choice_row};
+ghost use Rattle.desk_rows.specs.Answers.{refused_or};
+ghost use Rattle.desk_history.specs.FromTables.{chosen_change};
+ghost use Rattle.desk_access.specs.Seen.{Looked, OfRows};
+ghost use Rattle.desk_packages.specs.Claims.{read_claim};
+ghost use Rattle.desk_access.specs.Plans.{IsPlan, IsPlanOf, IsSound, Plans, SparesStore};
+ghost use Rattle.desk_preparing.specs.Choosing.{AreTermsOf, choose_for, choose_found, judged, IsFound, IsOpenPlace};
+ghost use Rattle.desk_preparing.specs.Dropping.{drop_answer, unchoose_in};
+ghost use Rattle.desk_rows.specs.Answers.{refused_alone};
+ghost use Rattle.desk_rows.specs.declared.command.Answer.TheVariants.{Done};
+ghost use Rattle.desk_rows.specs.declared.command.Command.TheVariants.{Choose, Unchoose};
+
+use desk_access::store::Store;
+use desk_access::texts::Texts;
+use desk_base::{Items, Text};
+use desk_packages::{Claim, InForce, claim_of, done, read_claim, refused, unready};
+use desk_rows::{Change, ChoiceRow, Fault, PackageRow, Plan, Refusal, ReleaseState, Verdict};
+use std::alloc::{AllocError, Global};
+
+/// The terms that texts spell, or the place of the first that spells none.
+#[derive(Drop)]
+enum TermsRead {
+    Terms(Items<Text>),
+    BadTerm(usize),
+}
+
+fn read_terms<T: Texts>(alloc: Global, texts: &T, words: &[Text]) -> Result<TermsRead, AllocError>
+    ensures { (w : Readings) → T.are_right w → IfOk result (AreTermsOf w words.now) }
+{
+    let mut terms = Items::new(alloc);
+    for (i, word) in words.iter().enumerate() {
+        let Some(term) = texts.term(alloc, word.as_str())? else {
+            return Ok(TermsRead::BadTerm(i));
+        };
+        terms.push(term)?;
+    }
+    Ok(TermsRead::Terms(terms))
+}
+
+/// Where a term goes among others that are sorted, if it isn't there.
+fn place_of(set: &[Text], term: &Text) -> Option<usize>
+    ensures { MatchOption result (put_new term.now set.now ≡ set.now) (λ place.
+        (place ≤ length set.now) × (put_new term.now set.now ≡ insert set.now place term.now)) }
+{
+    for (place, other) in set.iter().enumerate() {
+        if term.as_str() < other.as_str() {
+            return Some(place);
+        }
+        if term.as_str() == other.as_str() {
+            return None;
+        }
+    }
+    Some(set.len())
+}
+
+fn put_new(set: &mut Vec<Text>, term: Text) -> Result<(), AllocError>
+    ensures { OnOk result (set.new.items ≡ put_new term set.old.items) }
+{
+    if let Some(place) = place_of(set.as_slice(), &term) {
+        set.insert(place, term)?;
+    }
+    Ok(())
+}
+
+/// The set of some terms, sorted.
+fn sorted_set(alloc: Global, terms: Items<Text>) -> Result<Vec<Text>, AllocError>
+    ensures { IfOk result (λ set. set.items ≡ sorted_set terms) }
+{
+    let mut terms = terms.into_vec();
+    let mut set = Vec::new(alloc);
+    while let Some(term) = terms.pop() {
+        put_new(&mut set, term)?;
+    }
+    Ok(set)
+}
+
+/// What a verdict refuses.
+fn refusal_of(
+    alloc: Global,
+    terms: &[Text],
+    verdict: Verdict,
+) -> Result<Option<Refusal>, AllocError>
+    ensures { IfOk result (λ refusal. refused_or refusal Done ≡ judged terms.now verdict) }
+{
+    match verdict {
+        Verdict::NotEnough => Ok(Some(Refusal::NotEnough)),
+        Verdict::Superfluous(i) => {
+            let term = match terms.get(i) {
+                Some(term) => term.clone()?,
+                None => Text::of(alloc, "")?,
+            };
+            Ok(Some(Refusal::NotMinimal { term }))
+        }
+        Verdict::Minimal => Ok(None),
+    }
+}
+
+/// What is refused of a package without a conclusion.
+fn unconcluded(row: &PackageRow) -> Result<Refusal, AllocError>
+    ensures { IfOk result (λ refusal. refusal ≡ Refusal.NoConclusion row.now.document row.now.id) }
+{
+    Ok(Refusal::NoConclusion {
+        document: row.document,
+        package_id: row.id.clone()?,
+    })
+}
+
+/// What stands against the terms for a package with an expression in force.
+fn judge_by<T: Texts>(
+    alloc: Global,
+    texts: &T,
+    expression: &T::Expression,
+    terms: &[Text],
+) -> Result<Option<Refusal>, AllocError>
+    ensures { (w : Readings) → T.are_right w → (profile : Profile) (text : List ℕ)
+        → T.is_of profile text expression.now
+        → IfOk result (λ refusal. refused_or refusal Done
+        ≡ judged terms.now (w.verdict profile text terms.now)) }
+{
+    let verdict = texts.verdict(alloc, expression, terms)?;
+    refusal_of(alloc, terms, verdict)
+}
+
+/// What stands against the terms for a package with this claim. Its text is read once.
+fn judge<T: Texts>(
+    alloc: Global,
+    texts: &T,
+    claim: &Claim,
+    row: &PackageRow,
+    terms: &[Text],
+) -> Result<Option<Refusal>, AllocError>
+    ensures { (w : Readings) → T.are_right w → IfOk result (λ refusal.
+        refused_or refusal Done ≡ choose_for w terms.now (read_claim w claim.now) row.now) }
+{
+    match read_claim(alloc, texts, claim)? {
+        InForce::Expression(expression) => judge_by(alloc, texts, &expression, terms),
+        InForce::NoExpression => Ok(Some(Refusal::NotEnough)),
+        InForce::Nothing => Ok(Some(unconcluded(row)?)),
+    }
+}
+
+fn choice_rows(
+    alloc: Global,
+    release: &Text,
+    document: u32,
+    package_id: &Text,
+    terms: Vec<Text>,
+) -> Result<Items<ChoiceRow>, AllocError>
+    ensures { IfOk result (λ rows. rows ≡ map (choice_row release.now document package_id.now) terms.items) }
+{
+    let mut rows = Items::new(alloc);
+    for term in terms {
+        rows.push(ChoiceRow {
+            release: release.clone()?,
+            document,
+            package_id: package_id.clone()?,
+            term,
+        })?;
+    }
+    Ok(rows)
+}
+
+/// The rows of a choice.
+fn chosen(
+    alloc: Global,
+    release: &Text,
+    document: u32,
+    package_id: &Text,
+    terms: Items<Text>,
+) -> Result<Change, AllocError>
+    ensures { IfOk result
+        (λ change. change ≡ chosen_change release.now document package_id.now (sorted_set terms)) }
+{
+    let set = sorted_set(alloc, terms)?;
+    let rows = choice_rows(alloc, release, document, package_id, set)?;
+    Ok(Change::Chosen {
+        release: release.clone()?,
+        document,
+        package_id: package_id.clone()?,
+        rows,
+    })
+}
+
+/// A shipped package of an attached document in an open release.
+#[derive(Drop)]
+struct Place {
+    document: u32,
+    row: PackageRow,
+}
+
+/// Where terms may be chosen, or why not there.
+#[derive(Drop)]
+enum Found {
+    Here(Place),
+    Nowhere(Refusal),
+}
+
+/// Whether terms may be chosen at a place, by the state of the release and whether the document is attached.
+fn open_place(state: ReleaseState, is_attached: bool, place: Place) -> Found
+    ensures { IsOpenPlace state is_attached place result }
+{
+    if let Some(refusal) = unready(state) {
+        return Found::Nowhere(refusal);
+    }
+    if !is_attached {
+        return Found::Nowhere(Refusal::NotShipped);
+    }
+    if !place.row.shipped {
+        return Found::Nowhere(Refusal::NotShipped);
+    }
+    Found::Here(place)
+}
+
+/// Looks up where terms may be chosen.
+fn find_place<S: Store>(
+    store: &mut S,
+    release: &Text,
+    document: u64,
+    package_id: &Text,
+) -> Result<Found, Fault>
+    ensures found { IfOk result (λ found.
+        OfRows (λ t. IsFound t release.now document package_id.now found)
+        (S.seen store.old) (S.seen store.new)) }
+    ensures kept { Looked (S.seen store.old) (S.seen store.new) result }
+    ensures fault { IfErr result (MayFail S.tells) }
+{
+    let Some(found) = store.release(release.as_str())? else {
+        return Ok(Found::Nowhere(Refusal::UnknownRelease));
+    };
+    let Some((number, _)) = store.document(document)? else {
+        return Ok(Found::Nowhere(Refusal::UnknownDocument));
+    };
+    let Some(row) = store.package_row(document, package_id.as_str())? else {
+        return Ok(Found::Nowhere(Refusal::UnknownPackage));
+    };
+    let is_attached = store.is_attached(release.as_str(), document)?;
+    let place = Place {
+        document: number,
+        row,
+    };
+    Ok(open_place(found.state, is_attached, place))
+}
+
+/// Chooses terms that were read, at a place with this claim.
+fn choose_at<T: Texts>(
+    alloc: Global,
+    texts: &T,
+    release: &Text,
+    place: &Place,
+    claim: &Claim,
+    package_id: &Text,
+    terms: Items<Text>,
+) -> Result<Plan, AllocError>
+    ensures plan { (w : Readings) → T.are_right w
+        → IfOk result (IsPlan (choose_for w terms (read_claim w claim.now) place.now.row)
+        (chosen_change release.now place.now.document package_id.now (sorted_set terms))) }
+    ensures sound { IfOk result IsSound }
+{
+    if let Some(refusal) = judge(alloc, texts, claim, &place.row, terms.as_slice())? {
+        return Ok(refused(refusal));
+    }
+    Ok(done(chosen(alloc, release, place.document, package_id, terms)?))
+}
+
+/// Chooses terms that were read.
+fn choose_terms<T: Texts, S: Store>(
+    alloc: Global,
+    texts: &T,
+    store: &mut S,
+    release: &Text,
+    document: u64,
+    package_id: &Text,
+    terms: Items<Text>,
+) -> Result<Plan, Fault>
+    ensures plan { (w : Readings) → T.are_right w → IfOk result (λ plan.
+        OfRows (λ t. IsPlan (choose_found w t release.now document package_id.now terms)
+        (chosen_change release.now document package_id.now (sorted_set terms)) plan)
+        (S.seen store.old) (S.seen store.new)) }
+    ensures kept { Plans (S.seen store.old) (S.seen store.new) result }
+    ensures fault { IfErr result (MayFail S.tells) }
+{
+    match find_place(store, release, document, package_id)? {
+        Found::Nowhere(refusal) => Ok(refused(refusal)),
+        Found::Here(place) => {
+            let claim = claim_of(store, &place.row)?;
+            Ok(choose_at(alloc, texts, release, &place, &claim, package_id, terms)?)
+        }
+    }
+}
+
+/// Chooses terms for a package in a release.
+pub fn choose<T: Texts, S: Store>(
+    alloc: Global,
+    texts: &T,
+    store: &mut S,
+    release: &Text,
+    document: u64,
+    package_id: &Text,
+    words: &Items<Text>,
+) -> Result<Plan, Fault>
+    ensures plan { (w : Readings) → T.are_right w → IfOk result (λ plan.
+        OfRows (IsPlanOf w (Choose release.now document package_id.now words.now) plan)
+        (S.seen store.old) (S.seen store.new)) }
+    ensures kept { Plans (S.seen store.old) (S.seen store.new) result }
+    ensures alone { (w : Readings) → T.are_right w
+        → SparesStore (refused_alone w (Choose release.now document package_id.now words.now)) result }
+    ensures fault { IfErr result (MayFail S.tells) }
+{
+    match read_terms(alloc, texts, words.as_slice())? {
+        TermsRead::BadTerm(i) => Ok(refused(Refusal::BadTerm(i))),
+        TermsRead::Terms(terms) => choose_terms(
+            alloc, texts, store, release, document, package_id, terms,
+        ),
+    }
+}
+
+/// The change that drops the choice for a package.
+fn dropped(
+    alloc: Global,
+    release: &Text,
+    document: u32,
+    package_id: &Text,
+) -> Result<Change, AllocError>
+    ensures { IfOk result (λ change. change ≡ chosen_change release.now document package_id.now []) }
+{
+    Ok(Change::Chosen {
+        release: release.clone()?,
+        document,
+        package_id: package_id.clone()?,
+        rows: Items::new(alloc),
+    })
+}
+
+/// Drops the choice for a package, where there is one.
+fn unchoose_terms(
+    alloc: Global,
+    release: &Text,
+    document: u32,
+    package_id: &Text,
+    terms: &[Text],
+) -> Result<Plan, AllocError>
+    ensures plan { IfOk result (IsPlan (drop_answer document package_id.now terms.now)
+        (chosen_change release.now document package_id.now [])) }
+    ensures sound { IfOk result IsSound }
+{
+    if terms.is_empty() {
+        return Ok(refused(Refusal::NoChoice {
+            document,
+            package_id: package_id.clone()?,
+        }));
+    }
+    Ok(done(dropped(alloc, release, document, package_id)?))
+}
+
+/// Drops the choice for a package of a document that was found, in a release in this state.
+fn unchoose_in<S: Store>(
+    alloc: Global,
+    store: &mut S,
+    state: ReleaseState,
+    release: &Text,
+    document: u32,
+    package_id: &Text,
+) -> Result<Plan, Fault>
+    ensures plan { IfOk result (λ plan.
+        OfRows (λ t. IsPlan (unchoose_in t state release.now document package_id.now)
+        (chosen_change release.now document package_id.now []) plan)
+        (S.seen store.old) (S.seen store.new)) }
+    ensures kept { Plans (S.seen store.old) (S.seen store.new) result }
+    ensures fault { IfErr result (MayFail S.tells) }
+{
+    if store
+        .package_row(u64::from(document), package_id.as_str())?
+        .is_none()
+    {
+        return Ok(refused(Refusal::UnknownPackage));
+    }
+    if let Some(refusal) = unready(state) {
+        return Ok(refused(refusal));
+    }
+    let terms = store.chosen(release.as_str(), document, package_id.as_str())?;
+    Ok(unchoose_terms(alloc, release, document, package_id, terms.as_slice())?)
+}
+
+/// Drops the choice for a package in a release.
+pub fn unchoose<S: Store>(
+    alloc: Global,
+    store: &mut S,
+    release: &Text,
+    document: u64,
+    package_id: &Text,
+) -> Result<Plan, Fault>
+    ensures plan { (w : Readings) → IfOk result (λ plan.
+        OfRows (IsPlanOf w (Unchoose release.now document package_id.now) plan)
+        (S.seen store.old) (S.seen store.new)) }
+    ensures kept { Plans (S.seen store.old) (S.seen store.new) result }
+    ensures alone { (w : Readings)
+        → SparesStore (refused_alone w (Unchoose release.now document package_id.now)) result }
+    ensures fault { IfErr result (MayFail S.tells) }
+{
+    let Some(row) = store.release(release.as_str())? else {
+        return Ok(refused(Refusal::UnknownRelease));
+    };
+    let Some((number, _)) = store.document(document)? else {
+        return Ok(refused(Refusal::UnknownDocument));
+    };
+    unchoose_in(alloc, store, row.state, release, number, package_id)
+}

@@ -1,0 +1,85 @@
+//! Releases are opened, and documents attached to them.
+
+ghost use Rattle.std.specs.Prelude.{◌≡◌, ◌≤◌, ◌<◌, ◌+◌, ◌^◌, ◌↔◌, IsTrue, IfOk, IfErr, map, length, Ok, Some, false};
+ghost use Rattle.std.specs.List.{list_any, list_all};
+ghost use Rattle.desk_rows.specs.Readings.{Readings};
+ghost use Rattle.desk_rows.specs.Faults.{MayFail};
+ghost use Rattle.desk_rows.specs.Texts.{is_release_name};
+ghost use Rattle.desk_rows.specs.Keys.{is_attachment, is_document};
+ghost use Rattle.desk_rows.specs.Answers.{unready, refused_alone};
+ghost use Rattle.desk_history.specs.FromTables.{opened_change, state_found};
+ghost use Rattle.desk_access.specs.Seen.{OfRows};
+ghost use Rattle.desk_access.specs.Plans.{IsPlanOf, Plans, SparesStore};
+ghost use Rattle.desk_rows.specs.declared.command.Command.TheVariants.{OpenRelease, Attach};
+
+use desk_access::store::Store;
+use desk_base::{Text, is_idstring, limits};
+use desk_packages::{done, refused, unready};
+use desk_rows::{AttachedRow, Change, Fault, Limit, Plan, Refusal, ReleaseRow, ReleaseState};
+
+/// Whether the text is a name for a release: an idstring of at most 64 bytes.
+pub fn is_release_name(text: &str) -> bool
+    ensures { result ≡ is_release_name text.now }
+{
+    text.len() <= limits::NAME_BYTES && is_idstring(text)
+}
+
+/// Opens a release.
+pub fn open_release<S: Store>(store: &mut S, release: &Text, form: &Text) -> Result<Plan, Fault>
+    ensures plan { (w : Readings) → IfOk result (λ plan.
+        OfRows (IsPlanOf w (OpenRelease release.now form.now) plan)
+        (S.seen store.old) (S.seen store.new)) }
+    ensures kept { Plans (S.seen store.old) (S.seen store.new) result }
+    ensures alone { (w : Readings) → SparesStore (refused_alone w (OpenRelease release.now form.now)) result }
+    ensures fault { IfErr result (MayFail S.tells) }
+{
+    if !is_release_name(release.as_str()) {
+        return Ok(refused(Refusal::BadName));
+    }
+    if !store.has_form(form.as_str())? {
+        return Ok(refused(Refusal::UnknownForm));
+    }
+    if store.release(release.as_str())?.is_some() {
+        return Ok(refused(Refusal::NameTaken));
+    }
+    let count = store.release_count()?;
+    if count >= limits::RELEASES {
+        return Ok(refused(Refusal::Full(Limit::Releases)));
+    }
+    Ok(done(Change::Opened(ReleaseRow {
+        name: release.clone()?,
+        place: count as u32 + 1,
+        form: form.clone()?,
+        state: ReleaseState::IsOpen,
+        revision: 0,
+    })))
+}
+
+/// Attaches a document to a release.
+pub fn attach<S: Store>(store: &mut S, release: &Text, document: u64) -> Result<Plan, Fault>
+    ensures plan { (w : Readings) → IfOk result (λ plan.
+        OfRows (IsPlanOf w (Attach release.now document) plan) (S.seen store.old) (S.seen store.new)) }
+    ensures kept { Plans (S.seen store.old) (S.seen store.new) result }
+    ensures alone { (w : Readings) → SparesStore (refused_alone w (Attach release.now document)) result }
+    ensures fault { IfErr result (MayFail S.tells) }
+{
+    let Some(row) = store.release(release.as_str())? else {
+        return Ok(refused(Refusal::UnknownRelease));
+    };
+    let Some((number, _)) = store.document(document)? else {
+        return Ok(refused(Refusal::UnknownDocument));
+    };
+    if let Some(refusal) = unready(row.state) {
+        return Ok(refused(refusal));
+    }
+    if store.is_attached(release.as_str(), document)? {
+        return Ok(refused(Refusal::AlreadyAttached));
+    }
+    if store.attached_count(release.as_str())? >= limits::ATTACHED {
+        return Ok(refused(Refusal::Full(Limit::Attached)));
+    }
+    Ok(done(Change::Attached(AttachedRow {
+        release: release.clone()?,
+        document: number,
+    })))
+}
