@@ -4,6 +4,13 @@ use desk_json::{Request, read_command};
 use desk_rows::Query;
 use std::alloc::AllocError;
 
+fn asks_for_totals(request: &Request) -> bool {
+    match request {
+        Request::Ask(Query::Totals { release }) => release.as_str() == "r1",
+        _ => false,
+    }
+}
+
 #[test]
 fn reads_bytes_of_more_than_a_line(rt: HostRuntime) -> Result<(), AllocError> {
     for (bytes, is_request) in [
@@ -14,11 +21,8 @@ fn reads_bytes_of_more_than_a_line(rt: HostRuntime) -> Result<(), AllocError> {
         ("{\"ask\":\"totals\",\"release\":\"r\n1\"}", false),
         ("// totals\n{\"ask\":\"totals\",\"release\":\"r1\"}", false),
     ] {
-        let is_read = match read_command(rt.alloc(), bytes.as_bytes())? {
-            Request::Ask(Query::Totals { release }) => release.as_str() == "r1",
-            _ => false,
-        };
-        assert!(rt; is_read == is_request, "{bytes}");
+        let request = read_command(rt.alloc(), bytes.as_bytes())?;
+        assert!(rt; asks_for_totals(&request) == is_request, "{bytes}");
     }
     Ok(())
 }
