@@ -1,3 +1,4 @@
 pub mod Days
 pub mod Floats
 pub mod Texts
+pub mod FormLemmas

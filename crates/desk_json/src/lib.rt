@@ -30,7 +30,9 @@
 //! Want of memory is the only error of both.
 #![tactic(auto)]
 
+mod cells;
 mod fields;
+mod forms;
 mod reading;
 mod refusals;
 mod replies;

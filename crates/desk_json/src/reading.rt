@@ -1,10 +1,12 @@
 //! Reads a request.
 
-ghost use Rattle.std.specs.Prelude.{◌≡◌, IfOk, codes};
+ghost use Rattle.std.specs.Prelude.{◌≡◌, IfOk};
 ghost use Rattle.serde_json.specs.View.{view};
-ghost use Rattle.desk_json.specs.Requests.{catalogue_request, import_profile, import_request, open_request, attach_request, choose_request, freeze_request, meet_request, unchoose_request, waive_until, waive_request, reopen_request, withdraw_request, close_request, conclude_request, adopt_request, ledger_request, duties_request, totals_request, changes_request, findings_request, release_request, alternatives_request, cheapest_request, query_request, request_of, request_in, with_text};
+ghost use Rattle.desk_json.specs.Requests.{catalogue_request, import_profile, import_request, open_request, attach_request, choose_request, freeze_request, meet_request, unchoose_request, waive_until, waive_request, reopen_request, withdraw_request, close_request, conclude_request, adopt_request, duties_request, totals_request, changes_request, findings_request, release_request, alternatives_request, cheapest_request, request_of, request_in};
+ghost use Rattle.desk_json.specs.Forms.{form_request, request_by};
 
 use crate::fields::{number_at, profile_at, size_of, take_text, text_at, texts_at};
+use crate::forms::{COMMANDS, Form, QUERIES, form_named};
 use crate::request::Request;
 use desk_base::{Items, Text};
 use desk_rows::{Command, Profile, Query};
@@ -419,52 +421,50 @@ fn read_cheapest(alloc: Global, value: &Value) -> Result<Request, AllocError>
     }))
 }
 
-fn read_ask(alloc: Global, value: &Value) -> Result<Request, AllocError>
-    ensures { IfOk result (λ r. r ≡ with_text (codes "ask") (view value.now) (λ word.
-        query_request word (view value.now))) }
+/// The form that the word behind `do` names, or else the one behind `ask`.
+fn form_of(value: &Value) -> Option<Form>
+    ensures { request_by result (view value.now) ≡ request_of (view value.now) }
 {
-    match text_at(value, "ask") {
-        Some("duties") => read_duties(alloc, value),
-        Some("totals") => read_totals(alloc, value),
-        Some("changes") => Ok(read_changes(value)),
-        Some("findings") => Ok(read_findings(value)),
-        Some("release") => read_release(alloc, value),
-        Some("alternatives") => read_alternatives(alloc, value),
-        Some("cheapest") => read_cheapest(alloc, value),
-        _ => Ok(Request::BadCommand),
+    match text_at(value, "do") {
+        Some(word) => form_named(word, &COMMANDS),
+        None => form_named(text_at(value, "ask")?, &QUERIES),
     }
 }
 
-/// A command of the ledger.
-fn read_ledger(alloc: Global, value: &Value) -> Result<Request, AllocError>
-    ensures { IfOk result (λ r. r ≡ with_text (codes "do") (view value.now) (λ word.
-        ledger_request word (view value.now))) }
+fn read_form(alloc: Global, form: Form, value: &mut Value) -> Result<Request, AllocError>
+    ensures { IfOk result (λ r. r ≡ form_request form (view value.old)) }
 {
-    match text_at(value, "do") {
-        Some("meet") => read_meet(alloc, value),
-        Some("waive") => read_waive(alloc, value),
-        Some("reopen") => read_reopen(alloc, value),
-        Some("withdraw") => read_withdraw(alloc, value),
-        Some("close") => read_close(alloc, value),
-        _ => Ok(Request::BadCommand),
+    match form {
+        Form::Catalogue => read_catalogue(alloc, value),
+        Form::Import => Ok(read_import(value)),
+        Form::Open => read_open(alloc, value),
+        Form::Attach => read_attach(alloc, value),
+        Form::Choose => read_choose(alloc, value),
+        Form::Freeze => read_freeze(alloc, value),
+        Form::Unchoose => read_unchoose(alloc, value),
+        Form::Conclude => read_conclude(alloc, value),
+        Form::Adopt => read_adopt(alloc, value),
+        Form::Meet => read_meet(alloc, value),
+        Form::Waive => read_waive(alloc, value),
+        Form::Reopen => read_reopen(alloc, value),
+        Form::Withdraw => read_withdraw(alloc, value),
+        Form::Close => read_close(alloc, value),
+        Form::Duties => read_duties(alloc, value),
+        Form::Totals => read_totals(alloc, value),
+        Form::Changes => Ok(read_changes(value)),
+        Form::Findings => Ok(read_findings(value)),
+        Form::Release => read_release(alloc, value),
+        Form::Alternatives => read_alternatives(alloc, value),
+        Form::Cheapest => read_cheapest(alloc, value),
     }
 }
 
 fn read_value(alloc: Global, value: &mut Value) -> Result<Request, AllocError>
     ensures { IfOk result (λ r. r ≡ request_of (view value.old)) }
 {
-    match text_at(value, "do") {
-        Some("catalogue") => read_catalogue(alloc, value),
-        Some("import") => Ok(read_import(value)),
-        Some("open") => read_open(alloc, value),
-        Some("attach") => read_attach(alloc, value),
-        Some("choose") => read_choose(alloc, value),
-        Some("freeze") => read_freeze(alloc, value),
-        Some("unchoose") => read_unchoose(alloc, value),
-        Some("conclude") => read_conclude(alloc, value),
-        Some("adopt") => read_adopt(alloc, value),
-        Some(_) => read_ledger(alloc, value),
-        None => read_ask(alloc, value),
+    match form_of(value) {
+        Some(form) => read_form(alloc, form, value),
+        None => Ok(Request::BadCommand),
     }
 }
 

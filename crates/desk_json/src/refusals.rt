@@ -8,38 +8,42 @@ ghost use Rattle.desk_rows.specs.FaultNumbers.{expression_fault_number, document
 ghost use Rattle.desk_json.specs.Parts.{whole, list};
 ghost use Rattle.desk_json.specs.Refusals.{expression_fault_place, document_fault_values, catalogue_fault_values, refusal_values};
 
+use crate::cells::{Cell, list};
 use desk_rows::{CatalogueFault, CataloguePart, DocumentFault, ExpressionFault, Refusal};
-use serde_json::{Value, json};
+use serde_json::Value;
 use std::alloc::{AllocError, Global};
 
 fn nothing(alloc: Global) -> Result<Value, AllocError>
     ensures { IfOk result (λ v. view v ≡ list []) }
 {
-    json!(in alloc; [])
+    list(alloc, &[])
 }
 
 fn number(alloc: Global, number: u64) -> Result<Value, AllocError>
     ensures { IfOk result (λ v. view v ≡ list (whole number ∷ [])) }
 {
-    json!(in alloc; [number])
+    list(alloc, &[Cell::Number(number)])
 }
 
 fn text(alloc: Global, text: &str) -> Result<Value, AllocError>
     ensures { IfOk result (λ v. view v ≡ list (string text.now ∷ [])) }
 {
-    json!(in alloc; [text])
+    list(alloc, &[Cell::Text(text)])
 }
 
 fn number_and_text(alloc: Global, number: u32, text: &str) -> Result<Value, AllocError>
     ensures { IfOk result (λ v. view v ≡ list (whole number ∷ string text.now ∷ [])) }
 {
-    json!(in alloc; [number, text])
+    list(alloc, &[Cell::Number(u64::from(number)), Cell::Text(text)])
 }
 
 fn numbers(alloc: Global, first: u8, second: u64) -> Result<Value, AllocError>
     ensures { IfOk result (λ v. view v ≡ list (whole first ∷ whole second ∷ [])) }
 {
-    json!(in alloc; [first, second])
+    list(
+        alloc,
+        &[Cell::Number(u64::from(first)), Cell::Number(second)],
+    )
 }
 
 /// The byte at which a text stops.
@@ -67,7 +71,14 @@ fn expression_fault(alloc: Global, fault: &ExpressionFault) -> Result<Value, All
 fn number_line_and_tag(alloc: Global, number: u8, line: u64, tag: &str) -> Result<Value, AllocError>
     ensures { IfOk result (λ v. view v ≡ list (whole number ∷ whole line ∷ string tag.now ∷ [])) }
 {
-    json!(in alloc; [number, line, tag])
+    list(
+        alloc,
+        &[
+            Cell::Number(u64::from(number)),
+            Cell::Number(line),
+            Cell::Text(tag),
+        ],
+    )
 }
 
 fn document_fault(alloc: Global, fault: &DocumentFault) -> Result<Value, AllocError>
@@ -99,9 +110,12 @@ fn number_part_and_index(
 ) -> Result<Value, AllocError>
     ensures { IfOk result (λ v. view v ≡ list (whole number ∷ string (part_name part.now) ∷ whole index ∷ [])) }
 {
-    let part = part.name();
-    let index = index as u64;
-    json!(in alloc; [number, part, index])
+    let cells = [
+        Cell::Number(u64::from(number)),
+        Cell::Text(part.name()),
+        Cell::Number(index as u64),
+    ];
+    list(alloc, &cells)
 }
 
 fn catalogue_fault(alloc: Global, fault: &CatalogueFault) -> Result<Value, AllocError>
@@ -120,15 +134,22 @@ fn catalogue_fault(alloc: Global, fault: &CatalogueFault) -> Result<Value, Alloc
     }
 }
 
-fn document_package_and_term(
+fn document_package_and_term<'a>(
     alloc: Global,
     document: u32,
-    package_id: &str,
-    term: &str,
+    package_id: &'a str,
+    term: &'a str,
 ) -> Result<Value, AllocError>
     ensures { IfOk result (λ v. view v ≡ list (whole document ∷ string package_id.now ∷ string term.now ∷ [])) }
 {
-    json!(in alloc; [document, package_id, term])
+    list(
+        alloc,
+        &[
+            Cell::Number(u64::from(document)),
+            Cell::Text(package_id),
+            Cell::Text(term),
+        ],
+    )
 }
 
 /// The values of a refusal, in order.

@@ -1,14 +1,14 @@
 //! The rows of answers as JSON.
 
 ghost use Rattle.std.specs.Prelude.{◌≡◌, ◌∷◌, [], ℕ, List, IfOk, IsTrue, Some, map, unwrap_or};
-ghost use Rattle.serde_json.specs.Data.{string};
 ghost use Rattle.serde_json.specs.View.{view, items_view, items_of};
 ghost use Rattle.desk_base.specs.Day.{is_day};
 ghost use Rattle.desk_json.specs.Parts.{day_text, duty_row, change_line, totals_row, finding_line, release_line, term_list, package_values, cheapest_row, cheapest_rows};
 
+use crate::cells::{Cell, list, texts};
 use desk_base::{Day, Items, Text};
 use desk_rows::{ChangeRow, Cheapest, DutyLine, FindingRow, PackageLine, ReleaseRow, Totals};
-use serde_json::{Value, json};
+use serde_json::Value;
 use std::alloc::{AllocError, Global};
 
 /// A day as it is written.
@@ -35,15 +35,17 @@ fn day_text(day: &Option<Day>) -> &str
 fn duty_row(alloc: Global, line: &DutyLine) -> Result<Value, AllocError>
     ensures { IfOk result (λ v. view v ≡ duty_row line.now) }
 {
-    let number = line.number;
-    let document = line.document;
-    let package_id = line.package_id.as_str();
-    let term = line.term.as_str();
-    let rule = line.rule.as_str();
-    let code = line.code.as_str();
-    let state = line.state.name();
-    let day = day_text(&line.day);
-    json!(in alloc; [number, document, package_id, term, rule, code, state, day])
+    let cells = [
+        Cell::Number(u64::from(line.number)),
+        Cell::Number(u64::from(line.document)),
+        Cell::Text(line.package_id.as_str()),
+        Cell::Text(line.term.as_str()),
+        Cell::Text(line.rule.as_str()),
+        Cell::Text(line.code.as_str()),
+        Cell::Text(line.state.name()),
+        Cell::Text(day_text(&line.day)),
+    ];
+    list(alloc, &cells)
 }
 
 /// A row for each line.
@@ -60,16 +62,17 @@ pub(crate) fn duty_rows(alloc: Global, lines: &[DutyLine]) -> Result<Vec<Value>,
 fn change_row(alloc: Global, change: &ChangeRow) -> Result<Value, AllocError>
     ensures { IfOk result (λ v. view v ≡ change_line change.now) }
 {
-    let step = change.step;
-    let day = written_day(&change.day);
-    let word = change.word.name();
-    let body = change.body.as_str();
+    let cells = [
+        Cell::Number(u64::from(change.step)),
+        Cell::Text(written_day(&change.day)),
+        Cell::Text(change.word.name()),
+        Cell::Text(change.body.as_str()),
+        Cell::Text(day_text(&change.last_day)),
+    ];
+    // Only a waiver that ends has the last of them.
     match &change.last_day {
-        Some(last) => {
-            let last = written_day(last);
-            json!(in alloc; [step, day, word, body, last])
-        }
-        None => json!(in alloc; [step, day, word, body]),
+        Some(_) => list(alloc, &cells),
+        None => list(alloc, &cells[..4]),
     }
 }
 
@@ -94,35 +97,27 @@ pub(crate) fn totals_row(alloc: Global, totals: &Totals) -> Result<Value, AllocE
         waived,
         withdrawn,
     } = *totals;
-    json!(in alloc; [raised, still_open, met, waived, withdrawn])
+    let cells = [
+        Cell::Number(raised),
+        Cell::Number(still_open),
+        Cell::Number(met),
+        Cell::Number(waived),
+        Cell::Number(withdrawn),
+    ];
+    list(alloc, &cells)
 }
 
 /// A release, its form and state, and the revision of the catalogue at its freeze.
 fn release_row(alloc: Global, row: &ReleaseRow) -> Result<Value, AllocError>
     ensures { IfOk result (λ v. view v ≡ release_line row.now) }
 {
-    let name = row.name.as_str();
-    let form = row.form.as_str();
-    let state = row.state.name();
-    let revision = row.revision;
-    json!(in alloc; [name, form, state, revision])
-}
-
-fn term_value(alloc: Global, term: &Text) -> Result<Value, AllocError>
-    ensures { IfOk result (λ v. view v ≡ string term.now) }
-{
-    let term = term.as_str();
-    json!(in alloc; term)
-}
-
-fn term_values(alloc: Global, terms: &[Text]) -> Result<Value, AllocError>
-    ensures { IfOk result (λ v. view v ≡ term_list terms.now) }
-{
-    let mut values = Vec::new(alloc);
-    for term in terms {
-        values.push(term_value(alloc, term)?)?;
-    }
-    Ok(Value::Array(values))
+    let cells = [
+        Cell::Text(row.name.as_str()),
+        Cell::Text(row.form.as_str()),
+        Cell::Text(row.state.name()),
+        Cell::Number(row.revision),
+    ];
+    list(alloc, &cells)
 }
 
 /// The text, and an empty one where there is none.
@@ -138,12 +133,14 @@ fn text_or_empty(text: &Option<Text>) -> &str
 fn package_row(alloc: Global, line: &PackageLine) -> Result<Value, AllocError>
     ensures { IfOk result (λ v. view v ≡ package_values line.now) }
 {
-    let document = line.document;
-    let package_id = line.package_id.as_str();
-    let name = line.name.as_str();
-    let conclusion = text_or_empty(&line.conclusion);
-    let terms = term_values(alloc, line.terms.as_slice())?;
-    json!(in alloc; [document, package_id, name, conclusion, terms])
+    let cells = [
+        Cell::Number(u64::from(line.document)),
+        Cell::Text(line.package_id.as_str()),
+        Cell::Text(line.name.as_str()),
+        Cell::Text(text_or_empty(&line.conclusion)),
+        Cell::Texts(line.terms.as_slice()),
+    ];
+    list(alloc, &cells)
 }
 
 /// A row for a release, and one for each of its packages.
@@ -166,10 +163,12 @@ pub(crate) fn release_rows(
 fn finding_row(alloc: Global, finding: &FindingRow) -> Result<Value, AllocError>
     ensures { IfOk result (λ v. view v ≡ finding_line finding.now) }
 {
-    let line = finding.line;
-    let kind = finding.kind;
-    let name = finding.name.as_str();
-    json!(in alloc; [line, kind, name])
+    let cells = [
+        Cell::Number(finding.line),
+        Cell::Number(u64::from(finding.kind)),
+        Cell::Text(finding.name.as_str()),
+    ];
+    list(alloc, &cells)
 }
 
 /// A row for each finding.
@@ -189,7 +188,7 @@ pub(crate) fn set_rows(alloc: Global, sets: &[Items<Text>]) -> Result<Vec<Value>
 {
     let mut rows = Vec::new(alloc);
     for set in sets {
-        rows.push(term_values(alloc, set.as_slice())?)?;
+        rows.push(texts(alloc, set.as_slice())?)?;
     }
     Ok(rows)
 }
@@ -197,9 +196,11 @@ pub(crate) fn set_rows(alloc: Global, sets: &[Items<Text>]) -> Result<Vec<Value>
 fn cheapest_row(alloc: Global, found: &Cheapest) -> Result<Value, AllocError>
     ensures { IfOk result (λ v. view v ≡ cheapest_row found.now) }
 {
-    let cost = found.cost;
-    let terms = term_values(alloc, found.terms.as_slice())?;
-    json!(in alloc; [cost, terms])
+    let cells = [
+        Cell::Number(found.cost),
+        Cell::Texts(found.terms.as_slice()),
+    ];
+    list(alloc, &cells)
 }
 
 /// A row for the cheapest set, if there is one.

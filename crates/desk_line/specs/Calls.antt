@@ -1,16 +1,17 @@
 -- The call that the words of a command line hold.
-use Rattle.std.specs.Prelude.{◌≡◌, ◌≢◌, ◌-◌, Bool, false, [], ◌∷◌, List, codes, if◌then◌else◌, Option, None, Some, option_map, option_and_then}
+use Rattle.std.specs.Prelude.{ℕ, ◌≡◌, ◌≢◌, ◌-◌, Bool, false, [], ◌∷◌, List, codes, if◌then◌else◌, Option, None, Some, option_map, option_and_then}
 use Rattle.std.specs.Str.{bytes_eq}
-use Rattle.clap.specs.Words.{IsAmong, Kinds, Row, Text, all_of, fault_of, first_of, kind_of, subcommand_of}
+use Rattle.clap.specs.Words.{IsAmong, Kinds, Row, Text, all_of, fault_of, first_of, kind_of, one_of, subcommand_of}
 use Rattle.clap.specs.Kinds.{or_else}
 use Rattle.desk_base.specs.Profiles.{profile_numbered}
 use Rattle.desk_base.specs.declared.profile.Profile.{Profile}
 use Rattle.clap.specs.declared.error.kind.ErrorKind.TheVariants.{InvalidValue, MissingSubcommand, OutOfMemory}
 use Rattle.clap.specs.declared.error.Error.{Error}
 use Rattle.desk_line.specs.Fields.{if_stands}
+use Rattle.desk_line.specs.Numbers.{number_written}
 use Rattle.desk_line.specs.Words.{desk_app}
 use Rattle.desk_line.specs.declared.call.Call.{Call}
-use Rattle.desk_line.specs.declared.call.Call.TheVariants.{Check, Alternatives, Script, Import, Catalogue, Gather, Lint}
+use Rattle.desk_line.specs.declared.call.Call.TheVariants.{Check, Alternatives, Script, Import, Catalogue, Gather, Lint, Serve}
 use Rattle.desk_line.specs.declared.call.LineFault.{LineFault}
 use Rattle.desk_line.specs.declared.call.LineFault.TheVariants.{Memory, Usage}
 
@@ -62,6 +63,15 @@ is_true (Some value) = bytes_eq value (codes "true")
 abbrev pub lint_in : List Row → Option Call
 lint_in rows = option_map (λ folder. Lint folder (is_true (first_of (codes "JSON") rows))) (first_of (codes "DIR") rows)
 
+-- the number that a value is, as `clap` reads it, where it has so many bits
+abbrev pub number_in : ℕ → Text → List Row → Option ℕ
+number_in bits id rows = option_and_then (number_written bits) (one_of id rows)
+
+-- the call of `serve` with these values
+abbrev pub serve_in : List Row → Option Call
+serve_in rows = option_and_then (λ database. option_and_then (λ port. option_map (λ limit. Serve database port limit)
+    (number_in 32 (codes "N") rows)) (number_in 16 (codes "PORT") rows)) (first_of (codes "FILE") rows)
+
 -- the call of a subcommand with these values
 abbrev pub call_in : Text → List Row → Option Call
 call_in name rows =
@@ -72,6 +82,7 @@ call_in name rows =
     else if bytes_eq name (codes "catalogue") then catalogue_in rows
     else if bytes_eq name (codes "gather") then gather_in rows
     else if bytes_eq name (codes "lint") then lint_in rows
+    else if bytes_eq name (codes "serve") then serve_in rows
     else None
 
 -- the call of the subcommand that was met, if any

@@ -1,9 +1,10 @@
 -- The command line of the program, as `clap` reads it.
-use Rattle.std.specs.Prelude.{codes, [], ◌∷◌, Some, true}
+use Rattle.std.specs.Prelude.{ℕ, pos, codes, [], ◌∷◌, Some, true}
 use Rattle.clap.specs.Lexer.{usize_max}
 use Rattle.clap.specs.Words.{App, Rule, Text, new_app, new_rule, with_rule, with_subcommand}
 use Rattle.clap.specs.Simple.{on_top}
 use Rattle.clap.specs.declared.builder.action.ArgAction.TheVariants.{SetTrue}
+use Rattle.clap.specs.declared.builder.value_parser.ValueParser.TheVariants.{Signed}
 
 -- a word that must stand in its place
 abbrev pub word : Text → Rule
@@ -68,6 +69,15 @@ flag name long = record (new_rule name) { long = Some long; action = Some SetTru
 abbrev pub lint_app : App
 lint_app = with_rule (with_rule (new_app (codes "lint")) (word (codes "DIR"))) (flag (codes "JSON") (codes "json"))
 
+-- `--LONG NAME`, a whole number from 0 to this one, which must be used
+abbrev pub number_option : Text → Text → ℕ → Rule
+number_option name long most = record (wanted name long) { parser = Some (Signed (pos 0) (pos most)) }
+
+-- `serve --db FILE --port PORT --limit N`, by the numbers that a port may have, and a million connections
+abbrev pub serve_app : App
+serve_app = with_rule (with_rule (with_rule (new_app (codes "serve")) database_option)
+    (number_option (codes "PORT") (codes "port") 65535)) (number_option (codes "N") (codes "limit") 1000000)
+
 -- `desk`, which has a version, asks for a subcommand, and shows its help where there are no words
 abbrev pub desk_alone : App
 desk_alone = on_top (λ s. record s { has_version = true; subcommand_required = true; arg_required_else_help = true })
@@ -82,5 +92,9 @@ abbrev pub requesting_app : App
 requesting_app = with_subcommand (with_subcommand (with_subcommand judging_app script_app.top) import_app.top) catalogue_app.top
 
 -- and with those that read a source tree
+abbrev pub reading_app : App
+reading_app = with_subcommand (with_subcommand requesting_app gather_app.top) lint_app.top
+
+-- and with the one that replies over HTTP
 abbrev pub desk_app : App
-desk_app = with_subcommand (with_subcommand requesting_app gather_app.top) lint_app.top
+desk_app = with_subcommand reading_app serve_app.top

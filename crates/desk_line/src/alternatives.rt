@@ -1,16 +1,14 @@
 //! The subcommand that lists the minimal choices of terms.
 
-ghost use Rattle.std.specs.Prelude.{◌≡◌, IfOk, false};
-ghost use Rattle.clap.specs.Words.{app_of, found_of, rows_of};
-ghost use Rattle.clap.specs.declared.builder.command.Command.TheViews.{out-Command};
-ghost use Rattle.desk_line.specs.Words.{alternatives_app};
+ghost use Rattle.std.specs.Prelude.{◌≡◌, IfOk};
+ghost use Rattle.clap.specs.Words.{found_of, rows_of};
 ghost use Rattle.desk_line.specs.Calls.{alternatives_in};
 
-use crate::arguments::word_arg;
+use crate::arguments::{Argument, EXPRESSION, PROFILE};
 use crate::call::Call;
-use crate::subcommands::profile_arg;
+use crate::subcommands::Help;
 use crate::values::{profile_in, text_in};
-use clap::{ArgMatches, Command};
+use clap::ArgMatches;
 use desk_base::Text;
 use std::alloc::{AllocError, Global};
 
@@ -44,18 +42,15 @@ Statuses:
   2  the command line is wrong
   3  no memory, or the lines could not be written";
 
-/// The subcommand as `clap` reads it.
-pub fn alternatives_command<'a>(alloc: Global) -> Result<Command<'a>, AllocError>
-    ensures shape { IfOk result (λ c. app_of c ≡ alternatives_app) }
-    ensures local { IfOk result (λ c. (out-Command c).has_globals ≡ false) }
-{
-    Command::new(alloc, "alternatives")
-        .about(ABOUT)
-        .long_about(LONG_ABOUT)
-        .after_help(AFTER_HELP)
-        .arg(profile_arg(alloc))?
-        .arg(word_arg(alloc, "EXPR", "The licence expression, one word: quote it"))
-}
+/// The help of the subcommand.
+pub(crate) const HELP: Help = Help {
+    about: ABOUT,
+    long_about: LONG_ABOUT,
+    after_help: AFTER_HELP,
+};
+
+/// Its arguments.
+pub(crate) const ARGUMENTS: [Argument; 2] = [PROFILE, EXPRESSION];
 
 /// The call with the values of these matches, or `None` where they lack one.
 pub fn alternatives_from(

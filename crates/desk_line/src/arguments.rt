@@ -1,79 +1,112 @@
 //! The arguments of the subcommands.
 
-ghost use Rattle.std.specs.Prelude.{◌≡◌, false};
+ghost use Rattle.std.specs.Prelude.{◌≡◌, false, map, IfOk};
+ghost use Rattle.std.specs.List.{All};
 ghost use Rattle.clap.specs.Words.{rule_of};
-ghost use Rattle.desk_line.specs.Words.{database_option, flag, option, optional, wanted, word, words};
+ghost use Rattle.desk_line.specs.Rows.{rule_at};
 
+use clap::builder::ValueParser;
 use clap::{Arg, ArgAction};
-use std::alloc::Global;
+use std::alloc::{AllocError, Global};
 
-/// A named value, which has another one where it isn't used.
-pub fn option_arg<'a>(
-    alloc: Global,
-    name: &'a str,
-    long: &'a str,
-    value: &'a str,
-    help: &'a str,
-) -> Arg<'a>
-    ensures rule { rule_of result ≡ option name.entry.now long.entry.now value.entry.now }
-    ensures local { result.global ≡ false }
-{
-    Arg::new(alloc, name)
-        .long(long)
-        .default_value(value)
-        .help(help)
+/// How an argument stands among the words.
+#[derive(Clone, Copy)]
+pub(crate) enum Form {
+    /// A word that must stand in its place.
+    Word,
+    /// One word or more, up to the end of the line.
+    Words,
+    /// A named value, which has another one where it isn't used.
+    Preset {
+        long: &'static str,
+        value: &'static str,
+    },
+    /// A named value that must be there.
+    Wanted {
+        long: &'static str,
+    },
+    /// A named value that may be left out.
+    Optional {
+        long: &'static str,
+    },
+    /// A named flag without a value.
+    Flag {
+        long: &'static str,
+    },
+    /// A named whole number, from 0 to this one, that must be there.
+    Number {
+        long: &'static str,
+        most: u32,
+    },
 }
 
-/// A named value that must be there.
-pub fn wanted_arg<'a>(alloc: Global, name: &'a str, long: &'a str, help: &'a str) -> Arg<'a>
-    ensures rule { rule_of result ≡ wanted name.entry.now long.entry.now }
-    ensures local { result.global ≡ false }
-{
-    Arg::new(alloc, name).long(long).required(true).help(help)
+/// An argument of a subcommand, with its line of help.
+#[derive(Clone, Copy)]
+pub(crate) struct Argument {
+    pub(crate) name: &'static str,
+    pub(crate) form: Form,
+    pub(crate) help: &'static str,
 }
 
-/// A named value that may be left out.
-pub fn optional_arg<'a>(alloc: Global, name: &'a str, long: &'a str, help: &'a str) -> Arg<'a>
-    ensures rule { rule_of result ≡ optional name.entry.now long.entry.now }
-    ensures local { result.global ≡ false }
-{
-    Arg::new(alloc, name).long(long).help(help)
-}
+/// How the operators of a licence expression are written.
+pub(crate) const PROFILE: Argument = Argument {
+    name: "PROFILE",
+    form: Form::Preset {
+        long: "profile",
+        value: "1",
+    },
+    help: "How operators are written: 1 AND, OR, WITH; 2 also and, or, with",
+};
+
+/// A licence expression.
+pub(crate) const EXPRESSION: Argument = Argument {
+    name: "EXPR",
+    form: Form::Word,
+    help: "The licence expression, one word: quote it",
+};
 
 /// The file that keeps a desk, which must be named.
-pub fn database_arg<'a>(alloc: Global) -> Arg<'a>
-    ensures rule { rule_of result ≡ database_option }
+pub(crate) const DATABASE: Argument = Argument {
+    name: "FILE",
+    form: Form::Wanted { long: "db" },
+    help: "The file that keeps the desk",
+};
+
+/// The folder of a source tree.
+pub(crate) const FOLDER: Argument = Argument {
+    name: "DIR",
+    form: Form::Word,
+    help: "The folder of the tree",
+};
+
+/// An argument as `clap` reads it.
+fn arg<'a>(alloc: Global, row: &Argument) -> Arg<'a>
+    ensures rule { rule_of result ≡ rule_at row.now }
     ensures local { result.global ≡ false }
 {
-    wanted_arg(alloc, "FILE", "db", "The file that keeps the desk")
+    let arg = Arg::new(alloc, row.name).help(row.help);
+    match row.form {
+        Form::Word => arg.required(true),
+        Form::Words => arg.required(true).num_args(1..),
+        Form::Preset { long, value } => arg.long(long).default_value(value),
+        Form::Wanted { long } => arg.long(long).required(true),
+        Form::Optional { long } => arg.long(long),
+        Form::Flag { long } => arg.long(long).action(ArgAction::SetTrue),
+        Form::Number { long, most } => arg
+            .long(long)
+            .required(true)
+            .value_parser(ValueParser::Signed(0, i64::from(most))),
+    }
 }
 
-/// A named flag without a value.
-pub fn flag_arg<'a>(alloc: Global, name: &'a str, long: &'a str, help: &'a str) -> Arg<'a>
-    ensures rule { rule_of result ≡ flag name.entry.now long.entry.now }
-    ensures local { result.global ≡ false }
+/// Arguments as `clap` reads them.
+pub(crate) fn args<'a>(alloc: Global, rows: &[Argument]) -> Result<Vec<Arg<'a>>, AllocError>
+    ensures rules { IfOk result (λ args. map rule_of args.items ≡ map rule_at rows.now) }
+    ensures local { IfOk result (λ args. All (λ arg. arg.global ≡ false) args.items) }
 {
-    Arg::new(alloc, name)
-        .long(long)
-        .action(ArgAction::SetTrue)
-        .help(help)
-}
-
-/// A word that must stand in its place.
-pub fn word_arg<'a>(alloc: Global, name: &'a str, help: &'a str) -> Arg<'a>
-    ensures rule { rule_of result ≡ word name.entry.now }
-    ensures local { result.global ≡ false }
-{
-    Arg::new(alloc, name).required(true).help(help)
-}
-
-/// One word or more, up to the end of the line.
-pub fn words_arg<'a>(alloc: Global, name: &'a str, help: &'a str) -> Arg<'a>
-    ensures rule { rule_of result ≡ words name.entry.now }
-    ensures local { result.global ≡ false }
-{
-    Arg::new(alloc, name)
-        .required(true)
-        .num_args(1..)
-        .help(help)
+    let mut args = Vec::new(alloc);
+    for row in rows {
+        args.push(arg(alloc, row))?;
+    }
+    Ok(args)
 }

@@ -5,7 +5,7 @@ use desk_base::{Items, Profile, Text};
 use std::alloc::AllocError;
 
 /// A subcommand with its values.
-#[derive(Debug, Drop)]
+#[derive(Drop)]
 pub enum Call {
     /// Whether the terms are a minimal set that satisfies the licence expression, whose operators are
     /// written by the profile.
@@ -43,6 +43,13 @@ pub enum Call {
         namespace: Text,
         created: Text,
     },
+    /// Replies over HTTP by the desk that is kept in a file, at a port of this machine's own address, to so many connections. Port 0
+    /// is one that is free.
+    Serve {
+        database: Text,
+        port: u16,
+        limit: u32,
+    },
     /// The problems of the tree of files in a folder, as one JSON object or as lines.
     Lint {
         folder: Text,
@@ -51,7 +58,7 @@ pub enum Call {
 }
 
 /// Why a command line gave no call.
-#[derive(Debug, Drop)]
+#[derive(Drop)]
 pub enum LineFault {
     Memory(AllocError),
     /// The words are no call. The error's text is for the user: what is wrong, or the help or

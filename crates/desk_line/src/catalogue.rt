@@ -1,15 +1,14 @@
 //! The subcommand that loads a catalogue.
 
-ghost use Rattle.std.specs.Prelude.{◌≡◌, IfOk, false};
-ghost use Rattle.clap.specs.Words.{app_of, found_of, rows_of};
-ghost use Rattle.clap.specs.declared.builder.command.Command.TheViews.{out-Command};
-ghost use Rattle.desk_line.specs.Words.{catalogue_app};
+ghost use Rattle.std.specs.Prelude.{◌≡◌, IfOk};
+ghost use Rattle.clap.specs.Words.{found_of, rows_of};
 ghost use Rattle.desk_line.specs.Calls.{catalogue_in};
 
-use crate::arguments::{database_arg, word_arg};
+use crate::arguments::{Argument, DATABASE, Form};
 use crate::call::Call;
+use crate::subcommands::Help;
 use crate::values::text_in;
-use clap::{ArgMatches, Command};
+use clap::ArgMatches;
 use desk_base::Text;
 use std::alloc::{AllocError, Global};
 
@@ -44,18 +43,22 @@ Statuses:
   2  the command line is wrong
   3  no memory, or a file or stream failed";
 
-/// The subcommand as `clap` reads it.
-pub(crate) fn catalogue_command<'a>(alloc: Global) -> Result<Command<'a>, AllocError>
-    ensures shape { IfOk result (λ c. app_of c ≡ catalogue_app) }
-    ensures local { IfOk result (λ c. (out-Command c).has_globals ≡ false) }
-{
-    Command::new(alloc, "catalogue")
-        .about(ABOUT)
-        .long_about(LONG_ABOUT)
-        .after_help(AFTER_HELP)
-        .arg(database_arg(alloc))?
-        .arg(word_arg(alloc, "TOML", "The file of the catalogue"))
-}
+/// The help of the subcommand.
+pub(crate) const HELP: Help = Help {
+    about: ABOUT,
+    long_about: LONG_ABOUT,
+    after_help: AFTER_HELP,
+};
+
+/// Its arguments.
+pub(crate) const ARGUMENTS: [Argument; 2] = [
+    DATABASE,
+    Argument {
+        name: "TOML",
+        form: Form::Word,
+        help: "The file of the catalogue",
+    },
+];
 
 /// The call with the values of these matches, or `None` where they lack one.
 pub(crate) fn catalogue_from(

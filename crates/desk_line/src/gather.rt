@@ -1,16 +1,15 @@
 //! The subcommand that writes the document of a tree of files.
 
-ghost use Rattle.std.specs.Prelude.{◌≡◌, IfOk, false};
-ghost use Rattle.clap.specs.Words.{app_of, found_of, rows_of};
-ghost use Rattle.clap.specs.declared.builder.command.Command.TheViews.{out-Command};
-ghost use Rattle.desk_line.specs.Words.{gather_app, named_tree_app};
+ghost use Rattle.std.specs.Prelude.{◌≡◌, IfOk};
+ghost use Rattle.clap.specs.Words.{found_of, rows_of};
 ghost use Rattle.desk_line.specs.Calls.{gather_in};
 
-use crate::arguments::{wanted_arg, word_arg};
+use crate::arguments::{Argument, FOLDER, Form};
 use crate::call::Call;
 use crate::fields::field_in;
+use crate::subcommands::Help;
 use crate::values::text_in;
-use clap::{ArgMatches, Command};
+use clap::ArgMatches;
 use desk_base::Text;
 use std::alloc::{AllocError, Global};
 
@@ -48,43 +47,32 @@ Statuses:
   2  the command line is wrong, or a value cannot stand in its field
   3  no memory, or a file or folder could not be read, or the document could not be written";
 
-// The subcommand with the folder and the name.
-fn named_tree_command<'a>(alloc: Global) -> Result<Command<'a>, AllocError>
-    ensures shape { IfOk result (λ c. app_of c ≡ named_tree_app) }
-    ensures local { IfOk result (λ c. (out-Command c).has_globals ≡ false) }
-{
-    Command::new(alloc, "gather")
-        .about(ABOUT)
-        .long_about(LONG_ABOUT)
-        .after_help(AFTER_HELP)
-        .arg(word_arg(alloc, "DIR", "The folder of the tree"))?
-        .arg(wanted_arg(
-            alloc,
-            "NAME",
-            "name",
-            "The name of the document and of its package",
-        ))
-}
+/// The help of the subcommand.
+pub(crate) const HELP: Help = Help {
+    about: ABOUT,
+    long_about: LONG_ABOUT,
+    after_help: AFTER_HELP,
+};
 
-/// The subcommand as `clap` reads it.
-pub(crate) fn gather_command<'a>(alloc: Global) -> Result<Command<'a>, AllocError>
-    ensures shape { IfOk result (λ c. app_of c ≡ gather_app) }
-    ensures local { IfOk result (λ c. (out-Command c).has_globals ≡ false) }
-{
-    named_tree_command(alloc)?
-        .arg(wanted_arg(
-            alloc,
-            "NAMESPACE",
-            "namespace",
-            "The URI that no other document has",
-        ))?
-        .arg(wanted_arg(
-            alloc,
-            "CREATED",
-            "created",
-            "When it is made, as 2025-01-01T00:00:00Z",
-        ))
-}
+/// Its arguments.
+pub(crate) const ARGUMENTS: [Argument; 4] = [
+    FOLDER,
+    Argument {
+        name: "NAME",
+        form: Form::Wanted { long: "name" },
+        help: "The name of the document and of its package",
+    },
+    Argument {
+        name: "NAMESPACE",
+        form: Form::Wanted { long: "namespace" },
+        help: "The URI that no other document has",
+    },
+    Argument {
+        name: "CREATED",
+        form: Form::Wanted { long: "created" },
+        help: "When it is made, as 2025-01-01T00:00:00Z",
+    },
+];
 
 /// The call with the values of these matches, or `None` where they lack one, or one can't stand in its field.
 pub(crate) fn gather_from(

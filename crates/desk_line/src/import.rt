@@ -1,16 +1,14 @@
 //! The subcommand that imports a document.
 
-ghost use Rattle.std.specs.Prelude.{◌≡◌, IfOk, false};
-ghost use Rattle.clap.specs.Words.{app_of, found_of, rows_of};
-ghost use Rattle.clap.specs.declared.builder.command.Command.TheViews.{out-Command};
-ghost use Rattle.desk_line.specs.Words.{import_app};
+ghost use Rattle.std.specs.Prelude.{◌≡◌, IfOk};
+ghost use Rattle.clap.specs.Words.{found_of, rows_of};
 ghost use Rattle.desk_line.specs.Calls.{import_in};
 
-use crate::arguments::{database_arg, word_arg};
+use crate::arguments::{Argument, DATABASE, Form, PROFILE};
 use crate::call::Call;
-use crate::subcommands::profile_arg;
+use crate::subcommands::Help;
 use crate::values::{profile_in, text_in};
-use clap::{ArgMatches, Command};
+use clap::ArgMatches;
 use desk_base::Text;
 use std::alloc::{AllocError, Global};
 
@@ -49,19 +47,23 @@ Statuses:
   2  the command line is wrong
   3  no memory, or a file or stream failed";
 
-/// The subcommand as `clap` reads it.
-pub(crate) fn import_command<'a>(alloc: Global) -> Result<Command<'a>, AllocError>
-    ensures shape { IfOk result (λ c. app_of c ≡ import_app) }
-    ensures local { IfOk result (λ c. (out-Command c).has_globals ≡ false) }
-{
-    Command::new(alloc, "import")
-        .about(ABOUT)
-        .long_about(LONG_ABOUT)
-        .after_help(AFTER_HELP)
-        .arg(database_arg(alloc))?
-        .arg(profile_arg(alloc))?
-        .arg(word_arg(alloc, "DOC", "The file of the document"))
-}
+/// The help of the subcommand.
+pub(crate) const HELP: Help = Help {
+    about: ABOUT,
+    long_about: LONG_ABOUT,
+    after_help: AFTER_HELP,
+};
+
+/// Its arguments.
+pub(crate) const ARGUMENTS: [Argument; 3] = [
+    DATABASE,
+    PROFILE,
+    Argument {
+        name: "DOC",
+        form: Form::Word,
+        help: "The file of the document",
+    },
+];
 
 /// The call with the values of these matches, or `None` where they lack one, or the profile is none.
 pub(crate) fn import_from(

@@ -12,12 +12,14 @@ mod alternatives;
 mod arguments;
 mod call;
 mod catalogue;
+mod check;
 mod fields;
 mod gather;
 mod import;
 mod lint;
 mod reading;
 mod script;
+mod serve;
 mod subcommands;
 mod values;
 

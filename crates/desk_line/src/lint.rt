@@ -1,15 +1,14 @@
 //! The subcommand that tells the problems of a tree of files.
 
-ghost use Rattle.std.specs.Prelude.{◌≡◌, IfOk, option_map, false};
-ghost use Rattle.clap.specs.Words.{app_of, found_of, rows_of};
-ghost use Rattle.clap.specs.declared.builder.command.Command.TheViews.{out-Command};
-ghost use Rattle.desk_line.specs.Words.{lint_app};
+ghost use Rattle.std.specs.Prelude.{◌≡◌, IfOk, option_map};
+ghost use Rattle.clap.specs.Words.{found_of, rows_of};
 ghost use Rattle.desk_line.specs.Calls.{is_true, lint_in};
 
-use crate::arguments::{flag_arg, word_arg};
+use crate::arguments::{Argument, FOLDER, Form};
 use crate::call::Call;
+use crate::subcommands::Help;
 use crate::values::text_in;
-use clap::{ArgMatches, Command};
+use clap::ArgMatches;
 use desk_base::Text;
 use std::alloc::{AllocError, Global};
 
@@ -47,18 +46,22 @@ Statuses:
   2  the command line is wrong
   3  no memory, or a file or folder could not be read, or the lines could not be written";
 
-/// The subcommand as `clap` reads it.
-pub(crate) fn lint_command<'a>(alloc: Global) -> Result<Command<'a>, AllocError>
-    ensures shape { IfOk result (λ c. app_of c ≡ lint_app) }
-    ensures local { IfOk result (λ c. (out-Command c).has_globals ≡ false) }
-{
-    Command::new(alloc, "lint")
-        .about(ABOUT)
-        .long_about(LONG_ABOUT)
-        .after_help(AFTER_HELP)
-        .arg(word_arg(alloc, "DIR", "The folder of the tree"))?
-        .arg(flag_arg(alloc, "JSON", "json", "Prints one JSON object"))
-}
+/// The help of the subcommand.
+pub(crate) const HELP: Help = Help {
+    about: ABOUT,
+    long_about: LONG_ABOUT,
+    after_help: AFTER_HELP,
+};
+
+/// Its arguments.
+pub(crate) const ARGUMENTS: [Argument; 2] = [
+    FOLDER,
+    Argument {
+        name: "JSON",
+        form: Form::Flag { long: "json" },
+        help: "Prints one JSON object",
+    },
+];
 
 // Whether a flag is used.
 fn is_true(value: Option<&str>) -> bool

@@ -1,15 +1,14 @@
 //! The subcommand that replies to requests.
 
-ghost use Rattle.std.specs.Prelude.{◌≡◌, IfOk, option_map, false};
-ghost use Rattle.clap.specs.Words.{app_of, found_of, rows_of};
-ghost use Rattle.clap.specs.declared.builder.command.Command.TheViews.{out-Command};
-ghost use Rattle.desk_line.specs.Words.{script_app};
+ghost use Rattle.std.specs.Prelude.{◌≡◌, IfOk, option_map};
+ghost use Rattle.clap.specs.Words.{found_of, rows_of};
 ghost use Rattle.desk_line.specs.Calls.{script_in};
 
-use crate::arguments::optional_arg;
+use crate::arguments::{Argument, Form};
 use crate::call::Call;
+use crate::subcommands::Help;
 use crate::values::text_in;
-use clap::{ArgMatches, Command};
+use clap::ArgMatches;
 use desk_base::Text;
 use std::alloc::{AllocError, Global};
 
@@ -118,17 +117,19 @@ Statuses:
   2  the command line is wrong
   3  no memory, or a file or stream failed";
 
-/// The subcommand as `clap` reads it.
-pub(crate) fn script_command<'a>(alloc: Global) -> Result<Command<'a>, AllocError>
-    ensures shape { IfOk result (λ c. app_of c ≡ script_app) }
-    ensures local { IfOk result (λ c. (out-Command c).has_globals ≡ false) }
-{
-    Command::new(alloc, "script")
-        .about(ABOUT)
-        .long_about(LONG_ABOUT)
-        .after_help(AFTER_HELP)
-        .arg(optional_arg(alloc, "FILE", "db", "The file that keeps the desk"))
-}
+/// The help of the subcommand.
+pub(crate) const HELP: Help = Help {
+    about: ABOUT,
+    long_about: LONG_ABOUT,
+    after_help: AFTER_HELP,
+};
+
+/// Its arguments.
+pub(crate) const ARGUMENTS: [Argument; 1] = [Argument {
+    name: "FILE",
+    form: Form::Optional { long: "db" },
+    help: "The file that keeps the desk",
+}];
 
 // A copy of a text, if there is one.
 fn copied_text(alloc: Global, text: Option<&str>) -> Result<Option<Text>, AllocError>

@@ -1,19 +1,15 @@
 //! The program's command with its subcommands, as `clap` reads them.
 
-ghost use Rattle.std.specs.Prelude.{◌≡◌, IfOk, false};
-ghost use Rattle.clap.specs.Words.{app_of};
+ghost use Rattle.std.specs.Prelude.{◌≡◌, IfOk, false, map};
+ghost use Rattle.std.specs.List.{All};
+ghost use Rattle.clap.specs.Words.{app_of, new_app, shape_of};
 ghost use Rattle.clap.specs.declared.builder.command.Command.TheViews.{out-Command};
-ghost use Rattle.desk_line.specs.Words.{check_app, desk_app, judging_app, profile_option, requesting_app};
-ghost use Rattle.clap.specs.Words.{rule_of};
+ghost use Rattle.desk_line.specs.Rows.{kind_named, row_app, row_shape};
+ghost use Rattle.desk_line.specs.Words.{desk_alone, desk_app};
 
-use crate::alternatives::alternatives_command;
-use crate::arguments::{option_arg, word_arg, words_arg};
-use crate::catalogue::catalogue_command;
-use crate::gather::gather_command;
-use crate::import::import_command;
-use crate::lint::lint_command;
-use crate::script::script_command;
-use clap::{Arg, Command};
+use crate::arguments::{Argument, args};
+use crate::{alternatives, catalogue, check, gather, import, lint, script, serve};
+use clap::Command;
 use std::alloc::{AllocError, Global};
 
 const VERSION: &str = "0.1.0";
@@ -27,66 +23,140 @@ Statuses:
   2  the command line is wrong
   3  no memory, or a file or stream failed";
 
-const CHECK_ABOUT: &str = "Tells whether a choice of licences is enough, and no more than that";
-
-const CHECK_LONG_ABOUT: &str = "\
-Tells whether a choice of licences is enough, and no more than that
-
-Reads a licence expression (SPDX 2.3, Annex D) and the terms that were chosen to satisfy it, and
-prints one line:
-
-  minimal            the terms satisfy the expression, and none can be left out
-  not enough         the terms do not satisfy the expression
-  superfluous: TERM  they do, and still do without this term, the first such
-  fault: NAME at N   the expression cannot be read: what is wrong, and at which byte, from 0
-  bad term: TERM     the word is no term, the first such";
-
-const PROFILE_HELP: &str = "How operators are written: 1 AND, OR, WITH; 2 also and, or, with";
-
-const CHECK_AFTER_HELP: &str = "\
-A term is a licence id, or one followed directly by +, or a reference (LicenseRef-x or
-DocumentRef-y:LicenseRef-x), and perhaps WITH and an exception. One term is one word of the
-command line, so quote a term with an exception. Ids are compared without regard to case,
-references are not. AND binds tighter than OR. The profile is of EXPR alone: the WITH of a term is
-always in capitals.
-
-Examples:
-  desk check MIT mit
-  desk check 'Apache-2.0 OR MIT AND BSD-3-Clause' MIT BSD-3-Clause
-  desk check --profile 2 'MIT or Zlib' zlib
-  desk check 'GPL-2.0-only WITH Classpath-exception-2.0' 'GPL-2.0-only WITH Classpath-exception-2.0'
-
-Statuses:
-  0  minimal
-  1  any other line
-  2  the command line is wrong
-  3  no memory, or the line could not be written";
-
-/// How the operators of a licence expression are written.
-pub(crate) fn profile_arg<'a>(alloc: Global) -> Arg<'a>
-    ensures rule { rule_of result ≡ profile_option }
-    ensures local { result.global ≡ false }
-{
-    option_arg(alloc, "PROFILE", "profile", "1", PROFILE_HELP)
+/// Which subcommand it is.
+#[derive(Clone, Copy)]
+pub(crate) enum Kind {
+    Check,
+    Alternatives,
+    Script,
+    Import,
+    Catalogue,
+    Gather,
+    Lint,
+    Serve,
 }
 
-fn check_command<'a>(alloc: Global) -> Result<Command<'a>, AllocError>
-    ensures shape { IfOk result (λ c. app_of c ≡ check_app) }
-    ensures local { IfOk result (λ c. (out-Command c).has_globals ≡ false) }
-{
-    Command::new(alloc, "check")
-        .about(CHECK_ABOUT)
-        .long_about(CHECK_LONG_ABOUT)
-        .after_help(CHECK_AFTER_HELP)
-        .arg(profile_arg(alloc))?
-        .arg(word_arg(alloc, "EXPR", "The licence expression, one word: quote it"))?
-        .arg(words_arg(alloc, "TERM", "The terms that were chosen, a word each"))
+/// A subcommand: its name and its arguments.
+#[derive(Clone, Copy)]
+pub(crate) struct Subcommand {
+    pub(crate) kind: Kind,
+    pub(crate) name: &'static str,
+    pub(crate) arguments: &'static [Argument],
 }
 
-/// The command with the subcommands that judge an expression.
-fn judging_command<'a>(alloc: Global) -> Result<Command<'a>, AllocError>
-    ensures shape { IfOk result (λ c. app_of c ≡ judging_app) }
+/// The subcommands.
+pub(crate) const SUBCOMMANDS: [Subcommand; 8] = [
+    Subcommand {
+        kind: Kind::Check,
+        name: "check",
+        arguments: &check::ARGUMENTS,
+    },
+    Subcommand {
+        kind: Kind::Alternatives,
+        name: "alternatives",
+        arguments: &alternatives::ARGUMENTS,
+    },
+    Subcommand {
+        kind: Kind::Script,
+        name: "script",
+        arguments: &script::ARGUMENTS,
+    },
+    Subcommand {
+        kind: Kind::Import,
+        name: "import",
+        arguments: &import::ARGUMENTS,
+    },
+    Subcommand {
+        kind: Kind::Catalogue,
+        name: "catalogue",
+        arguments: &catalogue::ARGUMENTS,
+    },
+    Subcommand {
+        kind: Kind::Gather,
+        name: "gather",
+        arguments: &gather::ARGUMENTS,
+    },
+    Subcommand {
+        kind: Kind::Lint,
+        name: "lint",
+        arguments: &lint::ARGUMENTS,
+    },
+    Subcommand {
+        kind: Kind::Serve,
+        name: "serve",
+        arguments: &serve::ARGUMENTS,
+    },
+];
+
+/// The help of a subcommand.
+#[derive(Clone, Copy)]
+pub(crate) struct Help {
+    pub(crate) about: &'static str,
+    pub(crate) long_about: &'static str,
+    pub(crate) after_help: &'static str,
+}
+
+fn help_of(kind: Kind) -> Help {
+    match kind {
+        Kind::Check => check::HELP,
+        Kind::Alternatives => alternatives::HELP,
+        Kind::Script => script::HELP,
+        Kind::Import => import::HELP,
+        Kind::Catalogue => catalogue::HELP,
+        Kind::Gather => gather::HELP,
+        Kind::Lint => lint::HELP,
+        Kind::Serve => serve::HELP,
+    }
+}
+
+/// The subcommand of a name, if it is one.
+pub(crate) fn kind_named(name: &str, rows: &[Subcommand]) -> Option<Kind>
+    ensures { result ≡ kind_named name.now rows.now }
+{
+    for row in rows {
+        if name == row.name {
+            return Some(row.kind);
+        }
+    }
+    None
+}
+
+/// A command with a name and its help, and nothing else.
+fn titled<'a>(alloc: Global, name: &'static str, help: Help) -> Command<'a>
+    ensures app { app_of result ≡ new_app name.now }
+    ensures local { (out-Command result).has_globals ≡ false }
+{
+    Command::new(alloc, name)
+        .about(help.about)
+        .long_about(help.long_about)
+        .after_help(help.after_help)
+}
+
+/// A subcommand as `clap` reads it.
+fn command<'a>(alloc: Global, row: &Subcommand) -> Result<Command<'a>, AllocError>
+    ensures shape { IfOk result (λ c. app_of c ≡ row_app row.now) }
     ensures local { IfOk result (λ c. (out-Command c).has_globals ≡ false) }
+{
+    let args = args(alloc, row.arguments)?;
+    titled(alloc, row.name, help_of(row.kind)).args(args)
+}
+
+/// Subcommands as `clap` reads them.
+fn commands<'a>(alloc: Global, rows: &[Subcommand]) -> Result<Vec<Command<'a>>, AllocError>
+    ensures shapes { IfOk result (λ cs. map shape_of cs.items ≡ map row_shape rows.now) }
+    ensures local { IfOk result (λ cs. All (λ c. (out-Command c).has_globals ≡ false) cs.items) }
+{
+    let mut commands = Vec::new(alloc);
+    for row in rows {
+        commands.push(command(alloc, row)?)?;
+    }
+    Ok(commands)
+}
+
+/// The program's command with no subcommand.
+fn desk_alone<'a>(alloc: Global) -> Command<'a>
+    ensures app { app_of result ≡ desk_alone }
+    ensures local { (out-Command result).has_globals ≡ false }
 {
     Command::new(alloc, "desk")
         .version(VERSION)
@@ -94,19 +164,6 @@ fn judging_command<'a>(alloc: Global) -> Result<Command<'a>, AllocError>
         .after_help(STATUSES)
         .subcommand_required(true)
         .arg_required_else_help(true)
-        .subcommand(check_command(alloc)?)?
-        .subcommand(alternatives_command(alloc)?)
-}
-
-/// The same with the subcommands that hand a desk its requests.
-fn requesting_command<'a>(alloc: Global) -> Result<Command<'a>, AllocError>
-    ensures shape { IfOk result (λ c. app_of c ≡ requesting_app) }
-    ensures local { IfOk result (λ c. (out-Command c).has_globals ≡ false) }
-{
-    judging_command(alloc)?
-        .subcommand(script_command(alloc)?)?
-        .subcommand(import_command(alloc)?)?
-        .subcommand(catalogue_command(alloc)?)
 }
 
 /// The whole command.
@@ -114,7 +171,6 @@ pub fn desk_command<'a>(alloc: Global) -> Result<Command<'a>, AllocError>
     ensures shape { IfOk result (λ c. app_of c ≡ desk_app) }
     ensures local { IfOk result (λ c. (out-Command c).has_globals ≡ false) }
 {
-    requesting_command(alloc)?
-        .subcommand(gather_command(alloc)?)?
-        .subcommand(lint_command(alloc)?)
+    let commands = commands(alloc, &SUBCOMMANDS)?;
+    desk_alone(alloc).subcommands(commands)
 }

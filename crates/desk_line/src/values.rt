@@ -2,15 +2,18 @@
 
 ghost use Rattle.std.specs.Prelude.{◌≡◌, IfOk, map, option_map};
 ghost use Rattle.clap.specs.Words.{all_of, first_of, found_of, rows_of};
-ghost use Rattle.desk_line.specs.Calls.{call_in, check_in, profile_in, profile_written};
+ghost use Rattle.desk_line.specs.Calls.{call_in, profile_in, profile_written};
 
 use crate::alternatives::alternatives_from;
 use crate::call::Call;
 use crate::catalogue::catalogue_from;
+use crate::check::check_from;
 use crate::gather::gather_from;
 use crate::import::import_from;
 use crate::lint::lint_from;
 use crate::script::script_from;
+use crate::serve::serve_from;
+use crate::subcommands::{Kind, SUBCOMMANDS, kind_named};
 use clap::ArgMatches;
 use desk_base::{Items, Profile, Text};
 use std::alloc::{AllocError, Global};
@@ -21,7 +24,7 @@ pub(crate) fn text_in<'a>(matches: &ArgMatches<'a>, id: &str) -> Option<&'a str>
     matches.get_str(id)
 }
 
-fn texts_in(
+pub(crate) fn texts_in(
     alloc: Global,
     matches: &ArgMatches<'_>,
     id: &str,
@@ -60,26 +63,6 @@ pub(crate) fn profile_in(matches: &ArgMatches<'_>) -> Option<Profile>
     profile_written(text_in(matches, "PROFILE")?)
 }
 
-fn check_from(alloc: Global, matches: &ArgMatches<'_>) -> Result<Option<Call>, AllocError>
-    ensures { IfOk result (λ r. r ≡ check_in (rows_of (found_of matches.now))) }
-{
-    let Some(expression) = text_in(matches, "EXPR") else {
-        return Ok(None);
-    };
-    let Some(terms) = texts_in(alloc, matches, "TERM")? else {
-        return Ok(None);
-    };
-    let Some(profile) = profile_in(matches) else {
-        return Ok(None);
-    };
-    let expression = Text::of(alloc, expression)?;
-    Ok(Some(Call::Check {
-        expression,
-        profile,
-        terms,
-    }))
-}
-
 /// The call of a subcommand with these matches, or `None` where they lack a value, a value is none
 /// that it may have, or no subcommand has the name.
 pub fn call_from(
@@ -89,21 +72,15 @@ pub fn call_from(
 ) -> Result<Option<Call>, AllocError>
     ensures { IfOk result (λ r. r ≡ call_in name.now (rows_of (found_of matches.now))) }
 {
-    if name == "check" {
-        check_from(alloc, matches)
-    } else if name == "alternatives" {
-        alternatives_from(alloc, matches)
-    } else if name == "script" {
-        Ok(Some(script_from(alloc, matches)?))
-    } else if name == "import" {
-        import_from(alloc, matches)
-    } else if name == "catalogue" {
-        catalogue_from(alloc, matches)
-    } else if name == "gather" {
-        gather_from(alloc, matches)
-    } else if name == "lint" {
-        lint_from(alloc, matches)
-    } else {
-        Ok(None)
+    match kind_named(name, &SUBCOMMANDS) {
+        Some(Kind::Check) => check_from(alloc, matches),
+        Some(Kind::Alternatives) => alternatives_from(alloc, matches),
+        Some(Kind::Script) => Ok(Some(script_from(alloc, matches)?)),
+        Some(Kind::Import) => import_from(alloc, matches),
+        Some(Kind::Catalogue) => catalogue_from(alloc, matches),
+        Some(Kind::Gather) => gather_from(alloc, matches),
+        Some(Kind::Lint) => lint_from(alloc, matches),
+        Some(Kind::Serve) => serve_from(alloc, matches),
+        None => Ok(None),
     }
 }

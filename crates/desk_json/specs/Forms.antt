@@ -1,0 +1,43 @@
+-- The forms of requests, by the words that name them.
+use Rattle.std.specs.Prelude.{ℕ, List, [], ◌∷◌, if◌then◌else◌, Option, None, Some}
+use Rattle.std.specs.Str.{bytes_eq}
+use Rattle.serde_json.specs.Data.{Data}
+use Rattle.desk_json.specs.Requests.{catalogue_request, import_request, open_request, attach_request, choose_request, freeze_request, unchoose_request, conclude_request, adopt_request, meet_request, waive_request, reopen_request, withdraw_request, close_request, duties_request, totals_request, changes_request, findings_request, release_request, alternatives_request, cheapest_request}
+use Rattle.desk_json.specs.declared.forms.Form.{Form}
+use Rattle.desk_json.specs.declared.forms.Form.TheVariants as form
+use Rattle.desk_json.specs.declared.forms.Name.{Name}
+use Rattle.desk_json.specs.declared.request.Request.{Request}
+use Rattle.desk_json.specs.declared.request.Request.TheVariants.{BadCommand}
+
+abbrev pub form_named : List ℕ → List Name → Option Form
+form_named word [] = None
+form_named word (name ∷ more) = if bytes_eq word name.word.now then Some name.form else form_named word more
+
+-- the request that a value is in a form
+abbrev pub form_request : Form → Data → Request
+form_request form.Catalogue d = catalogue_request d
+form_request form.Import d = import_request d
+form_request form.Open d = open_request d
+form_request form.Attach d = attach_request d
+form_request form.Choose d = choose_request d
+form_request form.Freeze d = freeze_request d
+form_request form.Unchoose d = unchoose_request d
+form_request form.Conclude d = conclude_request d
+form_request form.Adopt d = adopt_request d
+form_request form.Meet d = meet_request d
+form_request form.Waive d = waive_request d
+form_request form.Reopen d = reopen_request d
+form_request form.Withdraw d = withdraw_request d
+form_request form.Close d = close_request d
+form_request form.Duties d = duties_request d
+form_request form.Totals d = totals_request d
+form_request form.Changes d = changes_request d
+form_request form.Findings d = findings_request d
+form_request form.Release d = release_request d
+form_request form.Alternatives d = alternatives_request d
+form_request form.Cheapest d = cheapest_request d
+
+-- the request of a form, if there is one
+abbrev pub request_by : Option Form → Data → Request
+request_by None d = BadCommand
+request_by (Some named) d = form_request named d
