@@ -1,3 +1,4 @@
 pub mod Ordered
 mod Codes
 pub mod States
+pub mod Ships

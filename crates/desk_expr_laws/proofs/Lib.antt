@@ -11,3 +11,5 @@ pub mod Stops
 pub mod TreeStops
 pub mod TermStops
 pub mod TreeOrStop
+pub mod Order
+pub mod Formed

@@ -11,16 +11,24 @@
 //! Where a text spells nothing, `some_stop` and `some_term_stop` say that it stops at some place for some reason, and `one_stop`
 //! and `one_term_stop` that it has only one such stop.
 //!
+//! Each term that a text spells is well formed (`spelled_terms_are_well_formed`), and well-formed terms sort as their texts
+//! (`terms_sort_as_their_texts`).
+//!
 //! A tree and a verdict have no second answer: that a text spells one tree at most is the clause `only` of
 //! `desk_expr::parse_in`, and that a choice has one verdict is `one_verdict`.
 #![tactic(auto)]
 
-ghost use Rattle.std.specs.Prelude.{◌≡◌, ◌⊎◌, ◌<◌, ℕ, List, Contains};
+ghost use Rattle.std.specs.Prelude.{◌≡◌, ◌⊎◌, ◌<◌, ℕ, List, Contains, IsTrue};
+ghost use Rattle.std.specs.Ordering.{nat_cmp};
+ghost use Rattle.std.specs.Cmp.Lexicographic.{slice_cmp};
 ghost use Rattle.desk_expr.specs.declared.fault.ParseFault.{ParseFault};
 ghost use Rattle.desk_expr.specs.Faults.{fault_number};
 ghost use Rattle.desk_expr.specs.Grammar.{SpellsTree, SpellsTerm};
 ghost use Rattle.desk_expr.specs.declared.term.Term.{Term};
 ghost use Rattle.desk_expr.specs.Meaning.{Holds, CanGo, IsFirst, IsMinimal};
+ghost use Rattle.desk_expr.specs.Occurring.{term_order};
+ghost use Rattle.desk_expr.specs.Printing.{printed_term};
+ghost use Rattle.desk_expr.specs.Words.{is_term};
 ghost use Rattle.desk_expr.specs.Tree.{Tree};
 ghost use Rattle.desk_expr.specs.Spelling.{SpellsWithinBy, SpellsTermWithinBy, IsStopBy};
 ghost use Rattle.desk_base.specs.declared.profile.Profile.{Profile};
@@ -76,4 +84,17 @@ pub fn one_term_stop()
     ensures { (profile : Profile) (text : List ℕ) (f g : ParseFault) → 0 < fault_number f
         → 0 < fault_number g → IsStopBy SpellsTerm profile text f
         → IsStopBy SpellsTerm profile text g → f ≡ g }
+{}
+
+/// A term that a text spells is well formed: its key is a folded id, perhaps with a plus, or a reference, and its exception a folded id.
+pub fn spelled_terms_are_well_formed()
+    ensures { (profile : Profile) (text : List ℕ) (t : Term) → SpellsTermWithinBy profile text t
+        → IsTrue (is_term t) }
+{}
+
+/// Well-formed terms sort as their printed texts do, byte by byte: what follows a key is a plus or a blank, and both go before each
+/// byte of a key.
+pub fn terms_sort_as_their_texts()
+    ensures { (a b : Term) → IsTrue (is_term a) → IsTrue (is_term b)
+        → slice_cmp nat_cmp (printed_term a) (printed_term b) ≡ term_order a b }
 {}

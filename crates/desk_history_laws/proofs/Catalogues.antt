@@ -1,5 +1,5 @@
 -- The catalogues are the texts that were loaded.
-use Rattle.std.proofs.Common.{◌≡◌, ℕ, ◌+◌, Bool, true, false, List, [], ◌∷◌, ◌++◌, length, map, Option, Some, None, refl, ap, ◌∙◌, sym, subst}
+use Rattle.std.proofs.Common.{◌≡◌, ℕ, ◌+◌, true, List, [], ◌∷◌, ◌++◌, length, map, refl, ap, ◌∙◌, sym}
 use Rattle.std.specs.Prelude.{filter, IsTrue, is_some, Result, Ok, Err}
 use Rattle.std.specs.List.{enumerate_from, flat_map}
 use Rattle.std.specs.Option.{option_and_then}
@@ -9,7 +9,6 @@ use Rattle.desk_rows.specs.Readings.{Readings}
 use Rattle.desk_rows.specs.History.{revisions, loaded, in_force, rules_in, rule_rows}
 use Rattle.desk_rows.specs.Keys.{is_rule_of}
 use Rattle.desk_rows.specs.Answers.{IsHistory, is_recorded, Loading, load_answer, loading}
-use Rattle.desk_rows.specs.Tables.{tables}
 use Rattle.desk_rows.specs.declared.reading.Catalogue.{Catalogue}
 use Rattle.desk_rows.specs.declared.refusal.CatalogueFault.{CatalogueFault}
 use Rattle.desk_rows.specs.declared.row.CatalogueRow.{CatalogueRow}

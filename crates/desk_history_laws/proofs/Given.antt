@@ -1,5 +1,5 @@
 -- What commands give, in the order in which they were recorded.
-use Rattle.std.proofs.Common.{◌≡◌, ℕ, ◌+◌, List, [], ◌∷◌, ◌++◌, length, map, Option, Some, None, refl, ap, ◌∙◌, sym, arith, length-append, append-nil, append_assoc, add-zero}
+use Rattle.std.proofs.Common.{◌≡◌, ℕ, ◌+◌, List, [], ◌∷◌, ◌++◌, length, map, Option, Some, None, refl, ap, ◌∙◌, sym, arith, append-nil, append_assoc, add-zero}
 use Rattle.std.specs.Prelude.{reverse, filter, cond, Bool, true, false, if◌then◌else◌}
 use Rattle.std.specs.List.{filter_map, cons_option, last_or, enumerate_from, flat_map}
 use Rattle.std.proofs.lemmas.List.{reverse-append, map-append}

@@ -8,3 +8,7 @@ mod Conclusions
 mod Moves
 mod Steps
 mod Days
+mod Sets
+mod DutyRows
+mod FrozenRows
+mod FrozenChoices

@@ -1,9 +1,9 @@
 -- Releases by their openings, freezes and attached documents.
-use Rattle.std.proofs.Common.{◌≡◌, ℕ, ◌+◌, Bool, true, false, List, [], ◌∷◌, ◌++◌, length, Option, Some, None, sym, refl, ap, ◌∙◌, subst, inl, inr}
-use Rattle.std.specs.Prelude.{filter, unwrap_or, if◌then◌else◌, ◌||◌, ◌&&◌, ◌==◌}
-use Rattle.std.specs.List.{list_any, flat_map, filter_map}
+use Rattle.std.proofs.Common.{◌≡◌, ℕ, ◌+◌, false, List, [], ◌∷◌, ◌++◌, length, Option, Some, sym, refl, ap, ◌∙◌, subst}
+use Rattle.std.specs.Prelude.{filter, unwrap_or, ◌==◌}
+use Rattle.std.specs.List.{list_any, filter_map}
 use Rattle.std.specs.Str.{bytes_eq}
-use Rattle.desk_rows.specs.Lists.{IsIn, latest}
+use Rattle.desk_rows.specs.Lists.{IsIn}
 use Rattle.desk_rows.specs.Readings.{Readings}
 use Rattle.desk_rows.specs.Keys.{below_by, attached_order, is_attached_to, is_shipped_by}
 use Rattle.desk_rows.specs.History.{opened, place_in, form_of, form_given, state_of, state_given, revision_of, revisions, attachment, attached, attached_to, packages}
@@ -60,7 +60,7 @@ in_shipped w h r p is =
     (in_filter (is_shipped_by p.document) p (packages w h) (both (p.document == p.document) p.shipped (same_number p.document) is.ships) is.listed)
 
 -- what gives an attachment is the Attach of it
-attaches : (c : Command) (row : AttachedRow) → attachment c ≡ Some row → c ≡ Attach row.release row.document
+pub attaches : (c : Command) (row : AttachedRow) → attachment c ≡ Some row → c ≡ Attach row.release row.document
 attaches (Attach r d) row e =
     let same : row_of r d ≡ row = ap (λ (o : Option AttachedRow). unwrap_or o (row_of r d)) e in
     ap (λ (a : AttachedRow). Attach a.release a.document) same

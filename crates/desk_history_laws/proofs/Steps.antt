@@ -36,11 +36,11 @@ use Rattle.desk_history.proofs.OwnKeys.{open_at}
 
 -- What a recorded command looked up
 
-past : (o : Option Refusal) (a : Answer) → IsTrue (is_recorded (refused_or o a)) → (o ≡ None) × IsTrue (is_recorded a)
+pub past : (o : Option Refusal) (a : Answer) → IsTrue (is_recorded (refused_or o a)) → (o ≡ None) × IsTrue (is_recorded a)
 past None a e = (refl, e)
 past (Some refusal) a e = absurd (cc)
 
-is_so : (so : Bool) (refusal : Refusal) → unless so refusal ≡ None → so ≡ true
+pub is_so : (so : Bool) (refusal : Refusal) → unless so refusal ≡ None → so ≡ true
 is_so true refusal e = refl
 is_so false refusal e = cc
 

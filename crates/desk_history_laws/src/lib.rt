@@ -2,8 +2,9 @@
 //!
 //! The definitions of `desk_rows` go over the commands from the newest to the oldest. Here the same is said by filters and last
 //! entries, with the commands in the order in which they were recorded: which documents, revisions and rules there are, which choices,
-//! conclusions and adoptions stand, and how each duty was moved. Beside it stands that a duty has few changes, and that written days sort
-//! as dates do.
+//! conclusions and adoptions stand, and how each duty was moved. The rows of duties and of frozen terms are said both ways, each field
+//! named, and a frozen release's choices are its frozen terms. Beside it stands that a set of texts has the texts that are listed, that a
+//! duty has few changes, and that written days sort as dates do.
 #![tactic(auto)]
 
 ghost use Rattle.std.specs.Prelude.{◌≡◌, ◌≤◌, ◌+◌, ◌++◌, ◌∷◌, ℕ, Some, None, List, false, map, filter, length, reverse, IsTrue, is_some, unwrap_or};
@@ -21,21 +22,25 @@ ghost use Rattle.desk_rows.specs.Lists.{IsIn};
 ghost use Rattle.desk_rows.specs.Moves.{changes, moves, place};
 ghost use Rattle.desk_rows.specs.Raised.{shipped};
 ghost use Rattle.desk_rows.specs.Readings.{Readings};
-ghost use Rattle.desk_rows.specs.Tables.{choices};
-ghost use Rattle.desk_rows.specs.Texts.{is_before};
+ghost use Rattle.desk_rows.specs.Tables.{choices, tables};
+ghost use Rattle.desk_rows.specs.Texts.{is_before, sorted_set, text_below};
 ghost use Rattle.desk_rows.specs.declared.command.Command.{Command};
 ghost use Rattle.desk_rows.specs.declared.command.Command.TheVariants.{Freeze, OpenRelease};
 ghost use Rattle.desk_rows.specs.declared.row.AdoptionRow.{AdoptionRow};
 ghost use Rattle.desk_rows.specs.declared.row.ChoiceRow.{ChoiceRow};
 ghost use Rattle.desk_rows.specs.declared.row.ConclusionRow.{ConclusionRow};
+ghost use Rattle.desk_rows.specs.declared.row.DutyRow.{DutyRow};
+ghost use Rattle.desk_rows.specs.declared.row.FrozenRow.{FrozenRow};
 ghost use Rattle.desk_rows.specs.declared.row.Move.{Move};
 ghost use Rattle.desk_rows.specs.declared.row.PackageRow.{PackageRow};
-ghost use Rattle.desk_rows.specs.declared.state.ReleaseState.TheVariants.{IsOpen};
+ghost use Rattle.desk_rows.specs.declared.state.ReleaseState.TheVariants.{Frozen, IsOpen};
 ghost use Rattle.desk_history.specs.FromTables.{rule_of};
+ghost use Rattle.desk_history.specs.Laws.{IsFrozenTerm, Rises};
 ghost use Rattle.desk_history_laws.specs.Dates.{date_order};
 ghost use Rattle.desk_history_laws.specs.Filters.{document_row, freezes, given, imported, last_decision, last_given, opens, packages_of, references_of, revision_row, rules_of, terms_left};
 ghost use Rattle.desk_history_laws.specs.Moved.{left_by, moves_given, step_row, IsMove};
 ghost use Rattle.desk_history_laws.specs.Shipping.{IsShipped};
+ghost use Rattle.desk_history_laws.specs.Standing.{frozen_row, IsDutyRow};
 
 /// The revisions of the catalogue are the texts that were loaded, in order and numbered from 1, and the rules of all revisions those of
 /// each. The catalogue in force is that of the last text loaded: in a recorded history there is one as soon as a text was loaded, and
@@ -150,3 +155,50 @@ pub fn days_compare_as_dates()
     ensures before { (a b : List ℕ)
         → IsTrue (is_day a) → IsTrue (is_day b) → is_before a b ≡ below_by date_order a b }
 {}
+
+/// A text is in the set of some texts exactly where it is one of them, and the set rises: no text stands in it twice.
+pub fn sets_keep_their_members()
+    ensures held { (text : List ℕ) (texts : List (List ℕ)) → IsIn text texts → IsIn text (sorted_set texts) }
+    ensures only { (text : List ℕ) (texts : List (List ℕ)) → IsIn text (sorted_set texts) → IsIn text texts }
+    ensures order { (texts : List (List ℕ)) → Rises text_below (sorted_set texts) }
+{}
+
+/// A row is in the duty table exactly where a duty with its number was raised and the row names the duty's release, document, package,
+/// term and code, the rule as it is spelled, and the place where the duty stands.
+pub fn duty_rows_exactly()
+    ensures held { (w : Readings) (h : List Command) (row : DutyRow) → IsDutyRow w h row
+        → let t = tables w h in IsIn row t.duty }
+    ensures only { (w : Readings) (h : List Command) (row : DutyRow)
+        → (let t = tables w h in IsIn row t.duty) → IsDutyRow w h row }
+{
+    desk_history::raised_exactly();
+    desk_history::duties_are_numbered_on();
+}
+
+/// A row is in the table of frozen terms exactly where a freeze of its release stands in the history, and before it a document that
+/// ships the package was attached, the term was chosen for it, and the catalogue in force had a rule for the term's adopted form, which
+/// is spelled so. A release of a recorded history is frozen once: before all its freezes stand the same commands.
+pub fn frozen_rows_exactly()
+    ensures held { (w : Readings) (h : List Command) (row : FrozenRow) → IsFrozenTerm w h row
+        → let t = tables w h in IsIn row t.frozen }
+    ensures only { (w : Readings) (h : List Command) (row : FrozenRow)
+        → (let t = tables w h in IsIn row t.frozen) → IsFrozenTerm w h row }
+    ensures once { (w : Readings) (h later before later' before' : List Command) (r day day' : List ℕ)
+        → IsHistory w h → h ≡ later ++ Freeze r day ∷ before → h ≡ later' ++ Freeze r day' ∷ before'
+        → before ≡ before' }
+{
+    desk_history::frozen_terms_were_held();
+}
+
+/// A frozen release of a recorded history holds the terms that it was frozen with, and no others: a term is held for a package exactly
+/// where a row of the frozen terms names the release, the package and the term.
+pub fn frozen_choices_are_the_frozen_terms()
+    ensures held { (w : Readings) (h : List Command) (row : FrozenRow) → IsHistory w h
+        → state_of h row.release ≡ Frozen → (let t = tables w h in IsIn row t.frozen)
+        → IsIn row.term (choice w h row.release row.document row.package_id) }
+    ensures only { (w : Readings) (h : List Command) (r : List ℕ) (d : ℕ) (p term : List ℕ)
+        → IsHistory w h → state_of h r ≡ Frozen → IsIn term (choice w h r d p) → (rule : List ℕ)
+        × (let t = tables w h in IsIn (frozen_row r d p term rule) t.frozen) }
+{
+    desk_history::frozen_terms_were_held();
+}

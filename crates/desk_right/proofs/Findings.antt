@@ -138,14 +138,14 @@ order_total =
 -- ---- the findings
 
 module _ (reads : List ℕ → Option Tree) (d : DocumentText) where
-  one_list : (a b : List Finding) → AreFindings reads d a → AreFindings reads d b → a ≡ b
+  pub one_list : (a b : List Finding) → AreFindings reads d a → AreFindings reads d b → a ≡ b
   one_list a b h k =
       let all : all_findings reads h.state d ≡ all_findings reads k.state d = ap (λ state. all_findings reads state d) (one_states d h.state k.state h.states k.states) in
       let from : IsPermutation (all_findings reads k.state d) a = subst (λ l. IsPermutation l a) all h.each in
       one_sorted finding_order order_total order_tells a b h.ordered k.ordered
       (λ f. sum_by-IsPermutation f (all_findings reads k.state d) a from ∙ sym (sum_by-IsPermutation f (all_findings reads k.state d) b k.each))
 
-  findings_exist : (found : List Finding) × AreFindings reads d found
+  pub findings_exist : (found : List Finding) × AreFindings reads d found
   findings_exist =
       let states = states_exist d in
       let sorted = sorted_list finding_order order_total (all_findings reads states.0 d) in

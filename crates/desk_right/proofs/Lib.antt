@@ -6,3 +6,7 @@ mod Reading
 mod Rights
 mod Once
 mod Ordered
+mod Sets
+mod Held
+mod Forms
+mod Ids

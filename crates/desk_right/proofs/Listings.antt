@@ -1,6 +1,6 @@
 -- The sets of terms that the expression of a value is true under: each value has one listing, one list of terms, and by each cost one
 -- cheapest set or none.
-use Rattle.std.proofs.Common.{◌≡◌, ◌∙◌, ◌⊎◌, inl, inr, ℕ, List, [], ◌∷◌, map, Option, Some, None, sym, subst, ap, refl}
+use Rattle.std.proofs.Common.{◌≡◌, ◌∙◌, ◌⊎◌, inl, inr, ℕ, List, [], map, Option, Some, None, sym, subst, ap, refl}
 use Rattle.std.specs.Prelude.{Result, Ok, Err}
 use Rattle.desk_base.specs.declared.profile.Profile.{Profile}
 use Rattle.desk_expr.specs.declared.term.Term.{Term}
@@ -16,7 +16,7 @@ use Rattle.desk_alts_laws.proofs.Cheapest.{cheapest_exists, one_cheapest, cheape
 use Rattle.desk_rows.specs.declared.reading.Cheapest.{Cheapest}
 use Rattle.desk_rows.specs.declared.reading.ListFault.{ListFault}
 use Rattle.desk_rows.specs.declared.reading.ListFault.TheVariants.{TooManyTerms, TooMany}
-use Rattle.desk_texts.specs.Expressions.{IsExpression, IsNoExpression, IsRead}
+use Rattle.desk_texts.specs.Expressions.{IsRead}
 use Rattle.desk_texts.specs.Listings.{IsListFault, IsListing, Lists, HasTerms, cost_of, IsPriced, Prices}
 use Rattle.desk_right.proofs.Verdicts.{one_tree}
 

@@ -122,7 +122,7 @@ entry_has terms forms duties index d rule e =
     let term = then_by (ok_or (licence_of terms written.0.term) (BadTerm part.Rule index)) (rule_of forms duties index written.0) rule written.2 in
     rule_has forms duties index written.0 term.0 rule term.2
 
-put_keeps : (P : Rule → Type 0) (x : Rule) (rs : List Rule) → P x → Each P rs → Each P (put_rule x rs)
+pub put_keeps : (P : Rule → Type 0) (x : Rule) (rs : List Rule) → P x → Each P rs → Each P (put_rule x rs)
 put_keeps P x [] p all = (p, tt)
 put_keeps P x (r ∷ rs) p all =
     elim (rule_order x r) as (λ o. Each P (match_ordering o (x ∷ r ∷ rs) (x ∷ rs) (r ∷ put_rule x rs))) [

@@ -1,13 +1,26 @@
 //! Laws of right readings, each the contract of a function with an empty body.
 
-ghost use Rattle.std.specs.Prelude.{◌≡◌, ℕ, List, [], Option, is_none};
+ghost use Rattle.std.specs.Prelude.{◌≡◌, ℕ, List, [], Option, Some, is_none, IsTrue, true};
 ghost use Rattle.desk_expr.specs.declared.term.Term.{Term};
 ghost use Rattle.desk_expr.specs.Tree.{Tree};
 ghost use Rattle.desk_expr.specs.Meaning.{IsMinimal};
+ghost use Rattle.desk_expr.specs.Printing.{printed_term};
+ghost use Rattle.desk_expr.specs.Spelling.{SpellsTermWithin};
+ghost use Rattle.desk_expr.specs.Words.{is_term};
 ghost use Rattle.desk_rows.specs.Readings.{Readings};
 ghost use Rattle.desk_base.specs.declared.profile.Profile.{Profile};
 ghost use Rattle.desk_rows.specs.declared.reading.Verdict.TheVariants.{Minimal};
-ghost use Rattle.desk_history.specs.Laws.{ListsInOrder, ListsOnce};
+ghost use Rattle.desk_rows.specs.Answers.{IsHistory};
+ghost use Rattle.desk_rows.specs.History.{choice};
+ghost use Rattle.desk_rows.specs.declared.command.Command.{Command};
+ghost use Rattle.desk_rows.specs.declared.row.FrozenRow.{FrozenRow};
+ghost use Rattle.desk_history.specs.Laws.{IsFrozenTerm, ListsInOrder, ListsOnce};
+ghost use Rattle.desk_history_laws.specs.Ids.{ListsIds};
+ghost use Rattle.desk_findings.specs.declared.finding.Finding.{Finding};
+ghost use Rattle.desk_findings.specs.Findings.{AreFindings};
+ghost use Rattle.desk_tagvalue.specs.Parts.{DocumentText};
+ghost use Rattle.desk_right.specs.Forms.{adopted_form, is_plain_licence, reference_of};
+ghost use Rattle.desk_right.specs.Held.{AreMinimalFor};
 ghost use Rattle.desk_texts.specs.Expressions.{IsExpression};
 ghost use Rattle.desk_texts.specs.Listings.{Lists, Prices};
 ghost use Rattle.desk_texts.specs.Terms.{AreTerms};
@@ -59,6 +72,20 @@ pub fn choices_are_minimal_sets()
         × IsExpression profile text e × AreTerms words ts × IsMinimal ts e }
 {}
 
+/// The terms that a release holds for a package are, as a set, minimal for the expression that is concluded for the package now; and
+/// those that a release was frozen with were so at its freeze.
+pub fn held_terms_are_minimal_sets()
+    ensures held { (w : Readings) (h : List Command) (r : List ℕ) (d : ℕ) (p : List ℕ) → AreRight w
+        → IsHistory w h → (choice w h r d p ≡ [] → ⊥) → AreMinimalFor w h d p (choice w h r d p) }
+    ensures frozen { (w : Readings) (h : List Command) (f : FrozenRow) → AreRight w → IsHistory w h
+        → (is : IsFrozenTerm w h f) → AreMinimalFor w is.before is.row.document is.row.id
+        (choice w is.before f.release is.row.document is.row.id) }
+{
+    desk_history::held_choices_are_minimal();
+    desk_history::frozen_terms_were_held();
+    choices_are_minimal_sets();
+}
+
 /// A right reading calls no empty list of terms minimal: no spelled expression is true under no terms, so a choice that is held has a term.
 pub fn choices_have_terms()
     ensures { (w : Readings) → AreRight w → (profile : Profile) (text : List ℕ)
@@ -78,6 +105,29 @@ pub fn right_readings_list_in_order()
     ensures { (w : Readings) → AreRight w → ListsInOrder w }
 {}
 
+/// By a right reading each code of a rule is an idstring (SPDX 2.3, Annex D.2), so the tables of each history and the change of each
+/// command are such as a file holds (`tables_are_orderly` and `changes_can_be_written` of `desk_table_laws`).
+pub fn right_readings_list_ids()
+    ensures { (w : Readings) → AreRight w → ListsIds w }
+{}
+
+/// A right reading prints the term that a text spells, which is well formed. What it tells of a printed term is so of the term: the reference that it names is its key, where that is a reference; it
+/// is a licence alone where its key is a licence id and it has neither plus nor exception; and adopted as such a licence it is the term of
+/// that id, without a plus, with its own exception (SPDX 2.3, Annex D.2 to D.4).
+pub fn readings_speak_of_terms()
+    ensures term { (w : Readings) → AreRight w → (text : List ℕ) (t : Term) → SpellsTermWithin text t
+        → (w.term text ≡ Some (printed_term t)) × IsTrue (is_term t) }
+    ensures reference { (w : Readings) → AreRight w → (t : Term) → IsTrue (is_term t)
+        → w.reference (printed_term t) ≡ reference_of t }
+    ensures licence { (w : Readings) → AreRight w → (t : Term) → IsTrue (is_term t)
+        → w.is_licence (printed_term t) ≡ is_plain_licence t }
+    ensures adopted { (w : Readings) → AreRight w → (licence t : Term) → is_plain_licence licence ≡ true
+        → IsTrue (is_term t)
+        → w.adopted_as (printed_term licence) (printed_term t) ≡ printed_term (adopted_form licence t) }
+{
+    desk_expr_laws::spelled_terms_are_well_formed();
+}
+
 /// By a right reading a text is an expression exactly where it has no fault.
 pub fn expressions_have_no_fault()
     ensures { (w : Readings) → AreRight w → (profile : Profile) (text : List ℕ)
@@ -96,4 +146,12 @@ pub fn listings_are_all_minimal_sets()
 pub fn cheapest_sets_are_least()
     ensures { (w : Readings) → AreRight w → (profile : Profile) (text : List ℕ) (cost : List ℕ
         → Option ℕ) → Prices profile text cost (w.cheapest profile text cost) }
+{}
+
+/// The findings of a document are one list, and there is one, whichever way texts are read as expressions.
+pub fn findings_are_one_list()
+    ensures some { (reads : List ℕ → Option Tree) (d : DocumentText) → (found : List Finding)
+        × AreFindings reads d found }
+    ensures one { (reads : List ℕ → Option Tree) (d : DocumentText) (a b : List Finding)
+        → AreFindings reads d a → AreFindings reads d b → a ≡ b }
 {}
