@@ -9,9 +9,6 @@ ARGS = check MIT mit
 CRATES =
 
 program = crates/desk_program
-documents = crates/desk_documents_bench
-bom = crates/desk_bom_bench
-globs = crates/desk_globs_bench
 
 all: build
 
@@ -40,34 +37,9 @@ needs:
 	    || { echo "There is no $$program." >&2; exit 1; }; done
 	@python3 -c 'import sys; sys.exit(sys.version_info < (3, 9))' || { echo 'This Python is older.' >&2; exit 1; }
 
-# The merge gate, and then the acceptance cases, large inputs and refused allocations on the built program.
+# The merge gate: quick checks of texts, every proof, and then the cases, stops, large inputs and refused allocations on the built program.
 test: needs
-	@echo 'Comparing the tables of the pages with the definitions and the code.'
-	@python3 tests/pages.py
-	@echo 'Running the gate: every proof from nothing, every must-fail edit, every test.'
-	@echo 'That takes minutes to hours: docs/GATE.md has the times of each machine.'
-	@mkdir -p build
-	@: >build/is-begun
-	rt ci
-	@cp $(program)/out/desk_program build/desk
-	@touch -r build/is-begun build/desk
-	@echo 'Running the acceptance cases on the program that the gate proved and built.'
-	@sh tests/acceptance/run.sh build/desk
-	@echo 'Running the scripts among them over files.'
-	@python3 tests/database.py build/desk
-	@echo 'Reading the tables of a desk by SQLite.'
-	@python3 tests/tables.py build/desk
-	@echo 'Stopping a desk in a file at each write, failing each call of its disk, and handing it files that are no desk.'
-	@python3 tests/stops/stops.py build/desk
-	@python3 tests/stops/places.py build/desk
-	@echo 'Feeding it large inputs and each fault of each reader.'
-	@python3 tests/ample/ample.py build/desk
-	@echo 'Refusing each allocation of build/desk in turn.'
-	@python3 tests/allocations/sweep.py build/desk
-	@echo 'Looking for what this tree lacks to be REUSE-compliant.'
-	@sh tests/lint.sh build/desk
-	@echo 'Changing trees while they are read.'
-	@python3 tests/changing.py build/desk
+	@python3 tests/gate.py
 
 # The acceptance cases alone.
 acceptance: needs build
@@ -77,14 +49,20 @@ acceptance: needs build
 database: needs build
 	@python3 tests/database.py build/desk
 
-# Each allocation refused in turn of the tests that tell want of memory, of calls that the program doesn't make: what ships by places, codes,
-# findings in capitals, what trees lack, and how expressions are printed.
+# What a desk that is served over HTTP replies.
+serving: needs build
+	@python3 tests/serving.py build/desk
+
+# The tests of single calls, with no proof of their own.
+units: needs
+	@sh tests/units/run.sh
+
+# Each allocation refused in turn of those tests that tell want of memory, of calls that the program doesn't make: what ships by places,
+# codes, findings in capitals, what trees lack, and how expressions are printed.
 refused: needs
 	@mkdir -p build
-	@for crate in desk_bom_tests desk_reuse_tests desk_expr_tests; do \
-	    (cd crates/$$crate && rt test >../../build/log 2>&1) || { cat build/log; exit 1; }; \
-	    python3 tests/allocations/cases.py crates/$$crate/out/$${crate}_tests || exit 1; \
-	done
+	@sh tests/units/run.sh proved >build/log 2>&1 || { cat build/log; exit 1; }
+	@python3 tests/allocations/cases.py build/unit_tests
 
 # What a checkout of this tree lacks to be REUSE-compliant, which is nothing.
 lint: needs build
@@ -98,10 +76,10 @@ ample: needs build
 allocations: needs build
 	@python3 tests/allocations/sweep.py build/desk
 
-# More edits that the prover must refuse: make edits CRATES='desk_expr'
+# Edits that the prover must refuse, all of some crates: make edits CRATES='desk_expr'. Records the crates whose edits were all refused.
 edits:
 	@echo 'Trying edits that turn a meaning: minutes for each crate.'
-	@sh tests/edits.sh $(CRATES)
+	@python3 tests/edits.py $(CRATES)
 
 # Runs the program with no proof: make try ARGS='check MIT mit'
 try:
@@ -117,15 +95,12 @@ bench: build
 	@python3 bench/rows.py build/desk
 	@python3 bench/store.py build/desk
 	@python3 bench/trees.py build/desk
-	@echo 'Building the program that reads documents.'
-	@cd $(documents) && { rt run >../../build/log 2>&1 || { cat ../../build/log; exit 1; }; }
-	@python3 bench/documents.py $(documents)/out/desk_documents_bench build/documents
-	@python3 bench/import.py build/desk $(documents)/out/desk_documents_bench build/scripts
-	@cd $(bom) && { rt run >../../build/log 2>&1 || { cat ../../build/log; exit 1; }; }
-	@python3 bench/bom.py $(bom)/out/desk_bom_bench build/bom
-	@echo 'Building the program that matches patterns.'
-	@cd $(globs) && { rt run >../../build/log 2>&1 || { cat ../../build/log; exit 1; }; }
-	@python3 bench/globs.py $(globs)/out/desk_globs_bench
+	@echo 'Building the programs that only the benches run.'
+	@sh bench/programs/build.sh documents bom globs
+	@python3 bench/documents.py build/bench/documents build/documents
+	@python3 bench/import.py build/desk build/bench/documents build/scripts
+	@python3 bench/bom.py build/bench/bom build/bom
+	@python3 bench/globs.py build/bench/globs
 
 install: build
 	mkdir -p $(DESTDIR)$(PREFIX)/bin
@@ -134,4 +109,4 @@ install: build
 clean:
 	rm -rf build
 
-.PHONY: all build demo needs test acceptance database refused lint ample allocations edits try bench install clean
+.PHONY: all build demo needs test acceptance database serving units refused lint ample allocations edits try bench install clean

@@ -1,7 +1,7 @@
 #!/usr/bin/env python3
 """Makes documents in a folder and times what is asked of them, beside their reading.
 
-`python3 bench/bom.py PROGRAM FOLDER`: PROGRAM is desk_bom_bench as LLVM builds it (`rt run` in its crate leaves it in `out/`). Each time
+`python3 bench/bom.py PROGRAM FOLDER`: PROGRAM is what bench/programs/build.sh makes of bench/programs/bom. Each time
 is the least of nine."""
 import os
 import subprocess

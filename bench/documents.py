@@ -1,7 +1,7 @@
 #!/usr/bin/env python3
 """Makes documents of 1, 2 and 4 MiB and longer-winded ones in a folder, and times their reading beside `sha1sum`.
 
-`python3 bench/documents.py PROGRAM FOLDER`: PROGRAM is desk_documents_bench as LLVM builds it (`rt run` in its crate leaves it in `out/`).
+`python3 bench/documents.py PROGRAM FOLDER`: PROGRAM is what bench/programs/build.sh makes of bench/programs/documents.
 The peak is that of the whole process behind one reading, the document itself included, as a multiple of the document's bytes; what the
 process takes with an empty document is left out."""
 import itertools

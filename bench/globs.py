@@ -1,7 +1,7 @@
 #!/usr/bin/env python3
 """Times patterns of at most 1,000 bytes on paths of at most 4,096, from ordinary ones to the slowest known.
 
-`python3 bench/globs.py PROGRAM`: PROGRAM is desk_globs_bench as LLVM builds it (`rt run` in its crate leaves it in `out/`). A match of
+`python3 bench/globs.py PROGRAM`: PROGRAM is what bench/programs/build.sh makes of bench/programs/globs. A match of
 the slowest ones takes seconds."""
 import subprocess
 import sys

@@ -1,8 +1,8 @@
 """Refuses each allocation of a crate's tests in turn: python3 tests/allocations/cases.py PROGRAM...
 
-Each PROGRAM is a crate's tests as `rt test` builds them, crates/NAME/out/NAME_tests. Of these the tests run whose names say that they
-tell want of memory: for each N once with the Nth allocation refused, until a run makes fewer. Such a test passes where it is told of want
-of memory, or is given the right answer.
+Each PROGRAM is a crate's tests as `rt test` builds them; `tests/units/run.sh proved` leaves build/unit_tests. Of these the tests run
+whose names say that they tell want of memory: for each N once with the Nth allocation refused, until a run makes fewer. Such a test
+passes where it is told of want of memory, or is given the right answer.
 """
 
 import os

@@ -1,0 +1,77 @@
+#!/usr/bin/env python3
+"""The merge gate: python3 tests/gate.py
+
+Quick checks of texts come first, then every proof, then what is tried on the program that was proved and built. It prints which step of
+how many it is at, and during the proofs how many crates are proved and the minutes so far. It stops at the first step that fails."""
+import os
+import re
+import shutil
+import subprocess
+import sys
+import time
+
+TOP = os.path.dirname(os.path.dirname(os.path.abspath(__file__)))
+MADE = "crates/desk_program/out/desk_program"
+DESK = "build/desk"
+PROOFS = ["rt", "ci"]
+
+STEPS = [
+    ("Comparing the tables of the pages with the definitions and the code.", ["python3", "tests/pages.py"]),
+    ("Comparing the picture of the layers with the crates.", ["python3", "docs/layers.py", "--check"]),
+    ("Looking at the layout of the sources.", ["python3", "tests/format.py"]),
+    ("Looking for the places of the edits that the prover must refuse.", ["python3", "tests/edits.py", "--texts"]),
+    ("Comparing the crates with what their edits were tried on.", ["python3", "tests/edits.py", "--records"]),
+    ("Running the tests of single calls, compiled with checks and no proof.", ["sh", "tests/units/run.sh"]),
+    ("Proving everything from nothing, and trying edits: an hour or two.", PROOFS),
+    ("Running the acceptance cases on the program that was proved and built.", ["sh", "tests/acceptance/run.sh", DESK]),
+    ("Running the scripts among them over files.", ["python3", "tests/database.py", DESK]),
+    ("Asking it over HTTP.", ["python3", "tests/serving.py", DESK]),
+    ("Reading the tables of a desk by SQLite.", ["python3", "tests/tables.py", DESK]),
+    ("Stopping a desk in a file at each write, and failing each call of its disk.", ["python3", "tests/stops/stops.py", DESK]),
+    ("Handing it files that are no desk.", ["python3", "tests/stops/places.py", DESK]),
+    ("Feeding it large inputs and each fault of each reader.", ["python3", "tests/ample/ample.py", DESK]),
+    ("Refusing each of its allocations in turn.", ["python3", "tests/allocations/sweep.py", DESK]),
+    ("Looking for what this tree lacks to be REUSE-compliant.", ["sh", "tests/lint.sh", DESK]),
+    ("Changing trees while they are read.", ["python3", "tests/changing.py", DESK]),
+]
+
+
+def crates():
+    lines = [line.split("#")[0] for line in open("crates.txt")]
+    return sum(":" in line for line in lines)
+
+
+def prove(start):
+    """Runs `rt ci`, and counts the crates as they are proved."""
+    proved, count = 0, crates()
+    began = time.time()
+    run = subprocess.Popen(PROOFS, stdout=subprocess.PIPE, stderr=subprocess.STDOUT, text=True, errors="replace")
+    for line in run.stdout:
+        if re.match(r"rt: \w+ proved$", line):
+            proved += 1
+            line = f"{line.rstrip()} ({proved} of {count} crates, {(time.time() - start) / 60:.0f} minutes)\n"
+        sys.stdout.write(line)
+        sys.stdout.flush()
+    status = run.wait()
+    if not status:
+        os.makedirs("build", exist_ok=True)
+        shutil.copy(MADE, DESK)
+        # `make` goes by these times whether the program is older than its sources
+        os.utime(DESK, (began, began))
+    return status
+
+
+def main():
+    os.chdir(TOP)
+    start = time.time()
+    for number, (what, words) in enumerate(STEPS, 1):
+        print(f"Step {number} of {len(STEPS)}, {(time.time() - start) / 60:.0f} minutes: {what}", flush=True)
+        status = prove(start) if words is PROOFS else subprocess.call(words)
+        if status:
+            print(f"Step {number} failed: {' '.join(words)}")
+            return 1
+    print(f"All {len(STEPS)} steps passed, in {(time.time() - start) / 60:.0f} minutes.")
+    return 0
+
+
+sys.exit(main())
