@@ -1,0 +1,79 @@
+-- What a connection is replied.
+use Rattle.std.specs.Prelude.{◌≡◌, ℕ, Bool, ◌<◌, ◌≤◌, List, length, codes, Option}
+use Rattle.std.specs.Str.{bytes_eq}
+use Rattle.std.specs.Io.KnownBytes.{Appends, Consumes, Keeps}
+use Rattle.desk_http_head.specs.Framings.{Asked, refused, asked, IsAsked}
+use Rattle.desk_http_head.specs.Limits as most
+use Rattle.desk_http_head.specs.Receiving.{AreLeft}
+use Rattle.desk_http_head.specs.Sending.{AppendsFront}
+use Rattle.desk_http_head.specs.declared.receiving.ServeFault.{ServeFault}
+use Rattle.desk_http_head.specs.declared.receiving.ServeFault.TheVariants as fault
+use Rattle.desk_http_requests.specs.Replies.{Told, IsTold, reply_bytes}
+use Rattle.desk_http_requests.specs.Requests.{request_for}
+use Rattle.desk_http_requests.specs.declared.asking.Reply.{Reply}
+use Rattle.desk_http_requests.specs.declared.asking.Reply.TheVariants as reply
+use Rattle.desk_http.specs.declared.answering.Wanted.{Wanted}
+use Rattle.desk_http.specs.declared.answering.Wanted.TheVariants as wanted
+use Rattle.desk_http_requests.specs.declared.asking.Request.{Request}
+use Rattle.desk_http_requests.specs.declared.asking.Request.TheVariants.{Act, Ask, NoRoute, BadCommand, NotText}
+use Rattle.desk_http.specs.declared.serving.Served.{Served}
+use Rattle.desk_http.specs.declared.serving.Served.TheVariants.{Replied, Nothing}
+use Rattle.desk_access.specs.Seen.{Seen}
+use Rattle.desk_json.specs.declared.request.Request.TheVariants as line
+use Rattle.desk_rows.specs.Readings.{Readings}
+use Rattle.desk_rows.specs.declared.command.StoreFault.{StoreFault}
+use Rattle.desk_script.specs.Replies.{Replies}
+use Rattle.desk_script.specs.declared.answer.Reply.TheVariants as script
+
+abbrev pub is_get : List ℕ → Bool
+is_get method = bytes_eq method (codes "GET")
+
+-- what is wanted is what bytes ask, unless no memory was left to find it out
+abbrev pub Wants : Wanted → Asked → Type 0
+Wants (wanted.Request request get) (asked method target body) = (request ≡ request_for method target body) × (get ≡ is_get method)
+Wants (wanted.Bad status) (refused given) = status ≡ given
+Wants wanted.Memory asks = Unit {0}
+Wants _ _ = ⊥
+
+module _ (is_right : Readings → Type 0) (tells : StoreFault → Type 0) {Left Desk : Type 0} (seen : Desk → Seen Left) where
+  -- A request gets this reply, and leads from one desk to the other: a command or a query as a line of a script does; anything else
+  -- leaves the desk.
+  abbrev pub Answers : Bool → Desk → Reply → Request → Desk → Type 0
+  Answers get before (reply.Became o short) (Act c) after =
+      (short ≡ get) × Replies is_right tells (seen before) (line.Act c) (script.Became o) (seen after)
+  Answers get before (reply.Became o short) (Ask q) after =
+      (short ≡ get) × Replies is_right tells (seen before) (line.Ask q) (script.Became o) (seen after)
+  Answers get before reply.NoRoute NoRoute after = after ≡ before
+  Answers get before reply.BadCommand BadCommand after = after ≡ before
+  Answers get before reply.NotText NotText after = after ≡ before
+  Answers get before _ _ after = ⊥
+
+  -- The reply to these bytes, and the desk after it. Where no memory was left before the request was known, it isn't applied.
+  abbrev pub IsReply : Desk → List ℕ → Reply → Desk → Type 0
+  IsReply before bytes reply.Memory after = after ≡ before
+  IsReply before bytes (reply.Bad status) after = IsAsked bytes (refused status) × (after ≡ before)
+  IsReply before bytes r after =
+      (method : List ℕ) × (target : List ℕ) × (body : List ℕ) × IsAsked bytes (asked method target body)
+      × Answers (is_get method) before r (request_for method target body) after
+
+  -- what the bytes of a connection are replied
+  pub record IsAnswered (before : Desk) (bytes : List ℕ) (told : Told) (after : Desk) : Type 0 where
+    pub some : 0 < length bytes
+    pub reply : Reply
+    pub is_reply : IsReply before bytes reply after
+    pub is_told : IsTold reply told
+
+  -- a connection that was served: its reply was written, with this status; where no byte came, nothing
+  abbrev pub IsServed : Desk → List ℕ → Desk → Option (List ℕ) → Option (List ℕ) → Served → Type 0
+  IsServed before bytes after old new (Replied status) =
+      (told : Told) × IsAnswered before bytes told after × (status ≡ told.0) × Appends old new (reply_bytes told)
+  IsServed before bytes after old new Nothing = (length bytes ≡ 0) × (after ≡ before) × Keeps old new
+
+  -- A connection that was not. After a fault of the reader nothing was written, and the desk is as it was; one that was asked too often
+  -- gave a byte each time at least. After a fault of the writer a front of the reply was written, and what was done stands.
+  abbrev pub IsStopped : Option (List ℕ) → Option (List ℕ) → Desk → Desk → Option (List ℕ) → Option (List ℕ) → ServeFault → Type 0
+  IsStopped from to before after old new fault.Write =
+      (bytes : List ℕ) × (told : Told) × AreLeft from bytes × IsAnswered before bytes told after × AppendsFront old new (reply_bytes told)
+  IsStopped from to before after old new fault.Read = (after ≡ before) × Keeps old new
+  IsStopped from to before after old new fault.Turns =
+      (after ≡ before) × Keeps old new × ((bytes : List ℕ) × Consumes from to bytes × (most.reads ≤ length bytes))

@@ -1,0 +1,110 @@
+//! Answers the request that bytes ask.
+
+ghost use Rattle.std.specs.Prelude.{◌≡◌, ◌<◌, List, ℕ, length, MatchOption};
+ghost use Rattle.desk_http_head.specs.Framings.{Framed, IsFraming, closed, IsAsked, Asked};
+ghost use Rattle.desk_http_head.specs.Receiving.{IsReceived};
+ghost use Rattle.desk_http.specs.Serving.{Wants, Answers, IsReply, is_get};
+ghost use Rattle.desk_json.specs.declared.request.Request.TheVariants.{Act, Ask};
+ghost use Rattle.desk_script.specs.Replies.{Replies};
+ghost use Rattle.desk_script.specs.declared.answer.Reply.TheVariants as script;
+
+use desk_core::desk::Desk;
+use desk_http_head::{Framing, Received, Status, frame};
+use desk_http_requests::{Reply, Request, request_of};
+use desk_rows::{Command, Outcome, Query};
+use std::alloc::Global;
+
+/// What is wanted of the desk.
+#[derive(Debug, Drop)]
+pub enum Wanted {
+    /// This request, which may come by GET.
+    Request(Request, bool),
+    /// Nothing: what came is refused with this status.
+    Bad(Status),
+    /// Nothing: no memory was left to read it.
+    Memory,
+}
+
+fn is_get(method: &[u8]) -> bool
+    ensures { result ≡ is_get method.now }
+{
+    method == b"GET".as_slice()
+}
+
+/// What bytes want that no more will follow.
+fn wanted_by(alloc: Global, bytes: &[u8]) -> Wanted
+    ensures { (f : Framed) × IsFraming bytes.now f × Wants result (closed f) }
+{
+    match frame(bytes) {
+        Framing::Part(_) => Wanted::Bad(Status::BadRequest),
+        Framing::Bad(status) => Wanted::Bad(status),
+        Framing::Whole {
+            method,
+            target,
+            body,
+            ..
+        } => match request_of(alloc, method, target, body) {
+            Ok(request) => Wanted::Request(request, is_get(method)),
+            Err(_) => Wanted::Memory,
+        },
+    }
+}
+
+/// Applies a command, and hands on the bytes of an import, so that they are not copied.
+fn applied<D: Desk>(desk: &mut D, command: Command) -> Outcome
+    ensures { Replies D.are_right D.tells (D.seen desk.old) (Act command) (script.Became result) (D.seen desk.new) }
+{
+    match command {
+        Command::Import { bytes, profile } => Outcome::from(desk.import(bytes, profile)),
+        other => Outcome::from(desk.apply(&other)),
+    }
+}
+
+/// Asks a question.
+fn asked<D: Desk>(desk: &mut D, query: &Query) -> Outcome
+    ensures { Replies D.are_right D.tells (D.seen desk.old) (Ask query.now) (script.Became result) (D.seen desk.new) }
+{
+    Outcome::from(desk.ask(query))
+}
+
+/// The reply to a request.
+fn reply_to<D: Desk>(desk: &mut D, request: Request, is_get: bool) -> Reply
+    ensures { Answers D.are_right D.tells D.seen is_get desk.old result request desk.new }
+{
+    match request {
+        Request::Act(command) => Reply::Became(applied(desk, command), is_get),
+        Request::Ask(query) => Reply::Became(asked(desk, &query), is_get),
+        Request::NoRoute => Reply::NoRoute,
+        Request::BadCommand => Reply::BadCommand,
+        Request::NotText => Reply::NotText,
+    }
+}
+
+/// The reply to what is wanted.
+fn reply_for<D: Desk>(desk: &mut D, wanted: Wanted) -> Reply
+    ensures { (bytes : List ℕ) (asks : Asked) → IsAsked bytes asks → Wants wanted asks
+        → IsReply D.are_right D.tells D.seen desk.old bytes result desk.new }
+{
+    match wanted {
+        Wanted::Request(request, is_get) => reply_to(desk, request, is_get),
+        Wanted::Bad(status) => Reply::Bad(status),
+        Wanted::Memory => Reply::Memory,
+    }
+}
+
+/// The reply to what was received, if any byte was. The bytes are let go of before the desk answers, which can use their memory.
+pub fn answer<D: Desk>(alloc: Global, desk: &mut D, received: Received) -> Option<Reply>
+    ensures { (bytes : List ℕ) → IsReceived bytes received → MatchOption result
+        ((length bytes ≡ 0) × (desk.new ≡ desk.old))
+        (λ reply. (0 < length bytes) × IsReply D.are_right D.tells D.seen desk.old bytes reply desk.new) }
+{
+    match received {
+        Received::Nothing => None,
+        Received::Memory => Some(Reply::Memory),
+        Received::Bytes(bytes) => {
+            let wanted = wanted_by(alloc, bytes.as_slice());
+            drop(bytes);
+            Some(reply_for(desk, wanted))
+        }
+    }
+}

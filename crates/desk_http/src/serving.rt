@@ -1,0 +1,78 @@
+//! Serves a connection.
+
+ghost use Rattle.std.specs.Prelude.{◌≡◌, List, ℕ, IfOk, IfErr, OnErr};
+ghost use Rattle.std.specs.Io.KnownBytes.{Appends};
+ghost use Rattle.desk_http_head.specs.Receiving.{AreLeft, IsPrompt};
+ghost use Rattle.desk_http_head.specs.Sending.{AppendsFront};
+ghost use Rattle.desk_http_requests.specs.Replies.{Told, IsTold, reply_bytes};
+ghost use Rattle.desk_http.specs.Serving.{IsServed, IsStopped};
+
+use crate::answering::answer;
+use desk_core::desk::Desk;
+use desk_http_head::{ServeFault, Status, receive, send};
+use desk_http_requests::{Message, Reply, message_of, no_memory, no_store, no_text};
+use std::alloc::Global;
+use std::io::{Read, Write};
+
+/// How a connection was served.
+#[derive(Clone, Copy, Debug, Drop, PartialEq, Eq)]
+pub enum Served {
+    /// A reply with this status was written.
+    Replied(Status),
+    /// No byte came, and nothing was written.
+    Nothing,
+}
+
+/// Writes a reply, and gives its status.
+fn write_reply<W: Write>(alloc: Global, writer: &mut W, reply: &Reply) -> Result<Status, ServeFault>
+    ensures ok { IfOk result (λ status. (told : Told) × IsTold reply.now told × (status ≡ told.0)
+        × Appends (W.contents writer.old) (W.contents writer.new) (reply_bytes told)) }
+    ensures err { OnErr result ((told : Told) × IsTold reply.now told
+        × AppendsFront (W.contents writer.old) (W.contents writer.new) (reply_bytes told)) }
+    ensures fault { IfErr result (λ fault. fault ≡ ServeFault.Write) }
+{
+    match message_of(alloc, reply) {
+        Message::Made(status, text) => {
+            send(writer, text.as_bytes())?;
+            Ok(status)
+        }
+        Message::NoMemory => {
+            send(writer, no_memory().as_bytes())?;
+            Ok(Status::ServiceUnavailable)
+        }
+        Message::NoText => {
+            send(writer, no_text().as_bytes())?;
+            Ok(Status::ServiceUnavailable)
+        }
+        Message::NoStore => {
+            send(writer, no_store().as_bytes())?;
+            Ok(Status::InternalServerError)
+        }
+    }
+}
+
+/// Serves the one request of a connection: reads it, has the desk answer it, and writes the reply.
+///
+/// What is replied is said by the bytes alone, however they come in pieces; 400 where some came and they end in a part of a request;
+/// nothing where none came. A command is applied once, or not at all where the reply is 503 with `memory`. After a fault of the
+/// reader, or too many reads, nothing was written and the desk is as it was; after one of the writer a front of the reply was
+/// written, and an accepted command stands. The reader isn't read past the piece with which the request is whole.
+pub fn serve_one<D: Desk, R: Read, W: Write>(
+    alloc: Global,
+    desk: &mut D,
+    reader: &mut R,
+    writer: &mut W,
+) -> Result<Served, ServeFault>
+    ensures ok { IfOk result (λ served. (bytes : List ℕ) × AreLeft (R.remaining reader.old) bytes
+        × IsServed D.are_right D.tells D.seen desk.old bytes desk.new (W.contents writer.old) (W.contents writer.new) served) }
+    ensures fault { IfErr result (IsStopped D.are_right D.tells D.seen (R.remaining reader.old) (R.remaining reader.new)
+        desk.old desk.new (W.contents writer.old) (W.contents writer.new)) }
+    ensures prompt { IsPrompt (R.remaining reader.old) (R.remaining reader.new) }
+{
+    let received = receive(alloc, reader)?;
+    let Some(reply) = answer(alloc, desk, received) else {
+        return Ok(Served::Nothing);
+    };
+    let status = write_reply(alloc, writer, &reply)?;
+    Ok(Served::Replied(status))
+}

@@ -1,0 +1,5 @@
+pub mod Stability
+pub mod Found
+pub mod LineEnds
+pub mod Settled
+pub mod Fronts

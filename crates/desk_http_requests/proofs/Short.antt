@@ -1,0 +1,10 @@
+-- What is told where no memory is left for the reply to an outcome.
+use Rattle.std.proofs.Common.{inr, refl}
+use Rattle.std.specs.Prelude.{Bool, true, false, if◌then◌else◌}
+use Rattle.desk_http_requests.specs.Replies.{IsTold, no_memory, no_text}
+use Rattle.desk_http_requests.specs.declared.asking.Reply.TheVariants.{Became}
+use Rattle.desk_rows.specs.declared.command.Outcome.{Outcome}
+
+pub IsTold-short : (o : Outcome) (get : Bool) → IsTold (Became o get) (if get then no_memory else no_text)
+IsTold-short o true = inr refl
+IsTold-short o false = inr refl

@@ -1,0 +1,47 @@
+//! What a client asks for over HTTP, and what it is replied.
+
+use desk_http_head::Status;
+use desk_rows::{Command, Outcome, Query};
+
+/// What a request asks of the desk.
+#[derive(Debug, Drop)]
+pub enum Request {
+    /// The command is to be applied.
+    Act(Command),
+    /// The query is to be answered.
+    Ask(Query),
+    /// The method and the path lead nowhere.
+    NoRoute,
+    /// The body is no request.
+    BadCommand,
+    /// The body is a catalogue that isn't UTF-8.
+    NotText,
+}
+
+/// What bytes begin with.
+#[derive(Debug, Drop)]
+pub enum Reading<'a> {
+    /// A request, and the bytes after its body.
+    Whole(Request, &'a [u8]),
+    /// A part of a request: more bytes are awaited.
+    Part,
+    /// What is refused with this status.
+    Bad(Status),
+}
+
+/// What a connection is replied.
+#[derive(Debug, Drop)]
+pub enum Reply {
+    /// What became of its command or query, and whether it was a GET.
+    Became(Outcome, bool),
+    /// Its bytes are no request, and are refused with this status.
+    Bad(Status),
+    /// Its method and path lead nowhere.
+    NoRoute,
+    /// Its body is no request.
+    BadCommand,
+    /// Its catalogue isn't UTF-8.
+    NotText,
+    /// No memory was left for it.
+    Memory,
+}

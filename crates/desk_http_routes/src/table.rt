@@ -1,0 +1,104 @@
+//! The table of the routes.
+
+ghost use Rattle.std.specs.Prelude.{◌≡◌, IfOk};
+ghost use Rattle.desk_http_routes.specs.Routes.{desk_routes, method_of, found_at, with_method};
+
+use matchit::{InsertError, Router};
+use std::alloc::{AllocError, Global};
+
+/// What a path leads to: by POST a request to be read from the body, by GET an answer.
+#[derive(Clone, Copy, Debug)]
+pub enum Route {
+    Post(Posted),
+    Get(Shown),
+}
+
+/// What the body is that is posted.
+#[derive(Clone, Copy, Debug)]
+pub enum Posted {
+    /// A command or a query as JSON.
+    Request,
+    /// A document to be imported.
+    Document,
+    /// A catalogue to be loaded.
+    Catalogue,
+}
+
+/// What is shown.
+#[derive(Clone, Copy, Debug)]
+pub enum Shown {
+    Findings,
+    Alternatives,
+    Cheapest,
+    Release,
+    Duties,
+    Totals,
+    Changes,
+}
+
+fn table(alloc: Global) -> Result<Router<Route>, InsertError>
+    ensures { IfOk result (λ r. r ≡ desk_routes) }
+{
+    let mut routes = Router::new(alloc);
+    routes.insert("/commands", Route::Post(Posted::Request))?;
+    routes.insert("/documents", Route::Post(Posted::Document))?;
+    routes.insert("/catalogue", Route::Post(Posted::Catalogue))?;
+    routes.insert("/documents/{n}/findings", Route::Get(Shown::Findings))?;
+    routes.insert(
+        "/documents/{n}/packages/{id}/alternatives",
+        Route::Get(Shown::Alternatives),
+    )?;
+    routes.insert(
+        "/documents/{n}/packages/{id}/cheapest/{form}",
+        Route::Get(Shown::Cheapest),
+    )?;
+    routes.insert("/releases/{name}", Route::Get(Shown::Release))?;
+    routes.insert("/releases/{name}/duties", Route::Get(Shown::Duties))?;
+    routes.insert("/releases/{name}/totals", Route::Get(Shown::Totals))?;
+    routes.insert("/duties/{n}/changes", Route::Get(Shown::Changes))?;
+    Ok(routes)
+}
+
+/// The table of the routes. A row that can't be added for another cause than memory is none of this table.
+pub fn routes(alloc: Global) -> Result<Router<Route>, AllocError>
+    ensures { IfOk result (λ r. r ≡ desk_routes) }
+{
+    match table(alloc) {
+        Ok(routes) => Ok(routes),
+        Err(_) => Err(AllocError),
+    }
+}
+
+impl Route {
+    /// The method that a route wants.
+    fn method(self) -> &'static str
+        ensures { result.now ≡ method_of self }
+    {
+        match self {
+            Route::Post(_) => "POST",
+            Route::Get(_) => "GET",
+        }
+    }
+}
+
+/// What a path leads to.
+fn found_at(routes: &Router<Route>, path: &str) -> Option<Route>
+    ensures { result ≡ found_at routes.now path.now }
+{
+    match routes.at(path) {
+        Ok(found) => Some(*found.value),
+        Err(_) => None,
+    }
+}
+
+/// What a method and a path ask for, if anything.
+pub fn route_of(routes: &Router<Route>, method: &[u8], path: &str) -> Option<Route>
+    ensures { result ≡ with_method method.now (found_at routes.now path.now) }
+{
+    let route = found_at(routes, path)?;
+    if method == route.method().as_bytes() {
+        Some(route)
+    } else {
+        None
+    }
+}
