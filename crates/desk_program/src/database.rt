@@ -1,26 +1,21 @@
 //! The desk that a file keeps: it is opened, does a task, and is closed.
 
-ghost use Rattle.std.specs.Prelude.{◌≡◌, false, IfOk};
+ghost use Rattle.std.specs.Prelude.{◌≡◌, false};
 
 use crate::input::bytes_at;
+use crate::serving;
 use crate::trouble::trouble_of;
 use desk_base::{Items, Profile, Text};
+use desk_core::Desk;
 use desk_store::{AdoptFault, CreateFault, SqlDesk};
 use desk_subcommands::{
     Failure, NoDesk, Trouble, catalogue, refuse_catalogue, refuse_database, text_of,
 };
-use sqlite::Connection;
-use sqlite_disk::Wary;
-use sqlite_std_file::FileFrom;
+use sqlite::{Alter, Connection};
+use sqlite_disk::{Disk, Wary};
 use sqlite_store::FileStore;
 use std::alloc::Global;
-use std::io::{self, BufWriter};
-
-/// A connection to a file, and to the log beside it.
-type FileConnection = Connection<FileStore<FileFrom<Wary>>>;
-
-/// A desk in a file.
-type FileDesk = SqlDesk<FileStore<FileFrom<Wary>>>;
+use std::io::{self, BufWriter, Write};
 
 /// What a desk in a file is to do.
 #[derive(Drop)]
@@ -31,6 +26,8 @@ enum Task {
     Import { bytes: Items<u8>, profile: Profile },
     /// It loads a catalogue.
     Load { text: Text },
+    /// It serves so many connections over HTTP.
+    Serve { port: u16, limit: u32 },
 }
 
 // Why a file can't keep a desk.
@@ -41,22 +38,12 @@ fn unusable(alloc: Global, path: &str, trouble: Trouble) -> Failure {
     }
 }
 
-// Opens a file. It is supposed that a write that is cut off may leave any bytes, so each commit is synced twice.
-fn connected(rt: &HostRuntime, path: &str) -> Result<FileConnection, Failure>
-    ensures { IfOk result (λ conn. conn.in_transaction ≡ false) }
-{
-    match Connection::open_from(rt, path, false, Wary) {
-        Ok(conn) => Ok(conn),
-        Err((error, _)) => Err(unusable(rt.alloc(), path, trouble_of(error))),
-    }
-}
-
 // The desk that stands behind a connection, or why there is none.
-fn adopted(
+fn adopted<S: Alter + Drop>(
     alloc: Global,
-    conn: FileConnection,
+    conn: Connection<S>,
     path: &str,
-) -> Result<Result<FileDesk, NoDesk>, Failure>
+) -> Result<Result<SqlDesk<S>, NoDesk>, Failure>
     requires { conn.in_transaction ≡ false }
 {
     match SqlDesk::adopt_connection(alloc, conn) {
@@ -67,13 +54,14 @@ fn adopted(
     }
 }
 
-// The desk that a file keeps, or why it keeps none. Where there is no table `meta`, an empty desk is created.
-fn desk_at(
-    rt: &HostRuntime,
+// The desk behind a connection to a file, or why it keeps none. Where there is no table `meta`, an empty desk is created.
+fn desk_of<S: Alter + Drop>(
     alloc: Global,
+    conn: Connection<S>,
     path: &str,
-) -> Result<Result<FileDesk, NoDesk>, Failure> {
-    let conn = connected(rt, path)?;
+) -> Result<Result<SqlDesk<S>, NoDesk>, Failure>
+    requires { conn.in_transaction ≡ false }
+{
     match SqlDesk::create(alloc, conn) {
         Ok(desk) => Ok(Ok(desk)),
         Err((CreateFault::NotEmpty, conn)) => adopted(alloc, conn, path),
@@ -82,37 +70,69 @@ fn desk_at(
 }
 
 // Moves what was done from the log into the file, and closes both.
-fn close(alloc: Global, desk: FileDesk, path: &str) -> Result<(), Failure> {
+fn close<D: Disk + Drop>(
+    alloc: Global,
+    desk: SqlDesk<FileStore<D>>,
+    path: &str,
+) -> Result<(), Failure> {
     match desk.into_connection().close() {
         Ok(()) => Ok(()),
         Err(error) => Err(Failure::Close(String::from_str(alloc, path)?, trouble_of(error))),
     }
 }
 
-// Has the desk in a file do a task. The desk is closed whatever became of that.
-fn serve(rt: &HostRuntime, path: &str, task: Task) -> Result<u8, Failure> {
+// Has a desk do a task, and returns the program's status.
+fn done<D: Desk, W: Write>(
+    rt: &HostRuntime,
+    desk: &mut D,
+    task: Task,
+    writer: &mut W,
+) -> Result<u8, Failure> {
     let alloc = rt.alloc();
-    let mut writer = BufWriter::new(alloc, io::writer(rt))?;
-    let mut desk = match desk_at(rt, alloc, path)? {
-        Ok(desk) => desk,
-        Err(reason) => return refuse_database(reason, &mut writer),
-    };
-    let told = match task {
-        Task::Script => desk_subcommands::script(alloc, &mut desk, &mut rt.reader(), &mut writer),
+    match task {
+        Task::Script => desk_subcommands::script(alloc, desk, &mut rt.reader(), writer),
         Task::Import { bytes, profile } => {
-            desk_subcommands::import(alloc, &mut desk, bytes, profile, &mut writer)
+            desk_subcommands::import(alloc, desk, bytes, profile, writer)
         }
-        Task::Load { text } => catalogue(alloc, &mut desk, text, &mut writer),
+        Task::Load { text } => catalogue(alloc, desk, text, writer),
+        Task::Serve { port, limit } => serving::serve(rt, alloc, desk, port, limit),
+    }
+}
+
+// Has the desk behind a connection do a task. The desk is closed whatever became of that.
+fn do_over<D: Disk + Drop, W: Write>(
+    rt: &HostRuntime,
+    conn: Connection<FileStore<D>>,
+    path: &str,
+    task: Task,
+    writer: &mut W,
+) -> Result<u8, Failure>
+    requires { conn.in_transaction ≡ false }
+{
+    let mut desk = match desk_of(rt.alloc(), conn, path)? {
+        Ok(desk) => desk,
+        Err(reason) => return refuse_database(reason, writer),
     };
-    let closed = close(alloc, desk, path);
+    let told = done(rt, &mut desk, task, writer);
+    let closed = close(rt.alloc(), desk, path);
     let status = told?;
     closed?;
     Ok(status)
 }
 
+// Has the desk in a file do a task. Of the disk it is supposed that a write that is cut off may leave any bytes, so each commit is synced
+// twice. No other function names the connection to a file: each that does costs the gate a minute.
+fn do_in(rt: &HostRuntime, path: &str, task: Task) -> Result<u8, Failure> {
+    let mut writer = BufWriter::new(rt.alloc(), io::writer(rt))?;
+    match Connection::open_from(rt, path, false, Wary) {
+        Ok(conn) => do_over(rt, conn, path, task, &mut writer),
+        Err((error, _)) => Err(unusable(rt.alloc(), path, trouble_of(error))),
+    }
+}
+
 /// Replies to the requests of standard input over the desk that a file keeps.
 pub fn script(rt: &HostRuntime, path: &str) -> Result<u8, Failure> {
-    serve(rt, path, Task::Script)
+    do_in(rt, path, Task::Script)
 }
 
 /// Has the desk that a file keeps import the document of another file.
@@ -123,7 +143,7 @@ pub fn import(
     profile: Profile,
 ) -> Result<u8, Failure> {
     let bytes = Items::from_vec(bytes_at(rt, document)?);
-    serve(rt, path, Task::Import { bytes, profile })
+    do_in(rt, path, Task::Import { bytes, profile })
 }
 
 /// Has the desk that a file keeps load the catalogue of another file.
@@ -131,7 +151,12 @@ pub fn load(rt: &HostRuntime, path: &str, catalogue: &str) -> Result<u8, Failure
     let alloc = rt.alloc();
     let bytes = bytes_at(rt, catalogue)?;
     match text_of(alloc, bytes.as_slice())? {
-        Some(text) => serve(rt, path, Task::Load { text }),
+        Some(text) => do_in(rt, path, Task::Load { text }),
         None => refuse_catalogue(alloc, &mut io::writer(rt)),
     }
+}
+
+/// Serves so many connections over HTTP by the desk that a file keeps.
+pub fn serve(rt: &HostRuntime, path: &str, port: u16, limit: u32) -> Result<u8, Failure> {
+    do_in(rt, path, Task::Serve { port, limit })
 }

@@ -7,6 +7,7 @@
 
 mod database;
 mod input;
+mod serving;
 mod trouble;
 
 use desk_base::{Profile, Text};
@@ -139,6 +140,11 @@ fn answer(rt: &HostRuntime, alloc: Global, call: &Call, is_watched: bool) -> Res
             database,
             catalogue,
         } => { database::load(rt, database.as_str(), catalogue.as_str()) }
+        Call::Serve {
+            database,
+            port,
+            limit,
+        } => database::serve(rt, database.as_str(), *port, *limit),
         Call::Gather {
             folder,
             name,

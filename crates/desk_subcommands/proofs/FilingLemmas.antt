@@ -39,5 +39,7 @@ module _ (is_right : Readings → Type 0) (tells : StoreFault → Type 0) {Left 
   failed outcome (Err (failure.Read path error)) comes told = absurd told
   failed outcome (Err (failure.Database path trouble)) comes told = absurd told
   failed outcome (Err (failure.Close path trouble)) comes told = absurd told
+  failed outcome (Err (failure.Listen port trouble)) comes told = absurd told
+  failed outcome (Err (failure.Connections count)) comes told = absurd told
   failed outcome (Err (failure.Tree fault)) comes told = absurd told
   failed outcome (Err failure.BadValue) comes told = absurd told

@@ -1,6 +1,6 @@
 //! Why a subcommand could not do its work.
 
-use crate::trouble::Trouble;
+use crate::trouble::{PortTrouble, Trouble};
 use desk_rows::Fault;
 use desk_script::ScriptFault;
 use desk_trees::TreeFault;
@@ -33,6 +33,12 @@ pub enum Failure {
     /// What was done couldn't be moved into the file that keeps the desk: its path, and why.
     #[error("cannot close {0:?}: {1}; what was done stands in the file beside it whose name ends in -wal: keep both together")]
     Close(String, Trouble),
+    /// A port of 127.0.0.1 can't be listened on: which, and why.
+    #[error("cannot listen on port {0} of 127.0.0.1: {1}")]
+    Listen(u16, PortTrouble),
+    /// So many connections failed.
+    #[error("connections that failed: {0}")]
+    Connections(u64),
     /// The files of a tree can't be had.
     #[error("{0}")]
     Tree(TreeFault),

@@ -27,4 +27,4 @@ pub use gathering::gather;
 pub use linting::lint;
 pub use listing::alternatives;
 pub use scripting::script;
-pub use trouble::Trouble;
+pub use trouble::{PortTrouble, Trouble};

@@ -38,3 +38,14 @@ impl From<Fault> for Trouble {
         }
     }
 }
+
+/// Why a port can't be listened on.
+#[derive(Clone, Copy, Debug, Drop, PartialEq, Eq, Error)]
+pub enum PortTrouble {
+    #[error("another program listens there; end that one, or name another port: 0 takes a free one")]
+    InUse,
+    #[error("only the administrator may listen on a port below 1,024; name a higher one")]
+    Denied,
+    #[error("the system refused it")]
+    Refused,
+}

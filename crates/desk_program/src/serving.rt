@@ -1,0 +1,126 @@
+//! The desk over HTTP on 127.0.0.1: connections are served one after the other, and a peer that is slow doesn't keep the next one waiting
+//! for ever.
+
+use desk_core::Desk;
+use desk_http::{ServeFault, serve_one};
+use desk_subcommands::{Failure, PortTrouble};
+use std::alloc::Global;
+use std::io::{self, Read, Write};
+use std::net::{Ipv4Addr, TcpListener, TcpStream};
+use std::time::{Duration, Instant};
+
+/// How many seconds a peer has to send its request; and again, to take the reply.
+const PATIENCE: u64 = 10;
+
+/// One direction of a connection, which fails when its time is over.
+#[derive(Drop)]
+struct Timed<'a> {
+    rt: &'a HostRuntime,
+    stream: &'a TcpStream,
+    since: Option<Instant>,
+}
+
+impl<'a> Timed<'a> {
+    fn over(rt: &'a HostRuntime, stream: &'a TcpStream) -> Timed<'a> {
+        Timed {
+            rt,
+            stream,
+            since: None,
+        }
+    }
+
+    // What is left of the time, which begins with the first call.
+    fn left(&mut self) -> io::Result<Duration> {
+        let patience = Duration::from_secs(PATIENCE);
+        match self.since {
+            Some(since) => Ok(patience.saturating_sub(since.elapsed(self.rt)?)),
+            None => {
+                self.since = Some(Instant::now(self.rt)?);
+                Ok(patience)
+            }
+        }
+    }
+}
+
+impl Read for Timed<'_> {
+    fn read(&mut self, buf: &mut [u8]) -> io::Result<usize> {
+        let left = self.left()?;
+        // (a time of nothing is refused)
+        self.stream.set_read_timeout(Some(left))?;
+        let mut stream = self.stream;
+        stream.read(buf)
+    }
+}
+
+impl Write for Timed<'_> {
+    fn write(&mut self, buf: &[u8]) -> io::Result<usize> {
+        let left = self.left()?;
+        self.stream.set_write_timeout(Some(left))?;
+        let mut stream = self.stream;
+        stream.write(buf)
+    }
+
+    fn flush(&mut self) -> io::Result<()> {
+        Ok(())
+    }
+}
+
+// Why a port can't be listened on, by what the system said.
+fn port_trouble(error: &io::Error) -> PortTrouble {
+    match error.kind() {
+        io::ErrorKind::AddrInUse => PortTrouble::InUse,
+        io::ErrorKind::PermissionDenied => PortTrouble::Denied,
+        _ => PortTrouble::Refused,
+    }
+}
+
+// Listens on a port of 127.0.0.1, on a free one for 0, and says on which.
+fn listening(rt: &HostRuntime, port: u16) -> Result<TcpListener, Failure> {
+    let listener = match TcpListener::bind(rt, (Ipv4Addr::LOCALHOST, port)) {
+        Ok(listener) => listener,
+        Err(error) => return Err(Failure::Listen(port, port_trouble(&error))),
+    };
+    let bound = listener.local_addr()?.port();
+    println!(rt; "listening on 127.0.0.1:{bound}")?;
+    io::writer(rt).flush()?;
+    Ok(listener)
+}
+
+// Serves the request of one connection. Whether that was done.
+fn serve_stream<D: Desk>(
+    rt: &HostRuntime,
+    alloc: Global,
+    desk: &mut D,
+    stream: &TcpStream,
+) -> Result<(), ServeFault> {
+    let (mut reader, mut writer) = (Timed::over(rt, stream), Timed::over(rt, stream));
+    serve_one(alloc, desk, &mut reader, &mut writer)?;
+    Ok(())
+}
+
+/// Serves so many connections, past those that fail, and returns the program's status.
+pub fn serve<D: Desk>(
+    rt: &HostRuntime,
+    alloc: Global,
+    desk: &mut D,
+    port: u16,
+    limit: u32,
+) -> Result<u8, Failure> {
+    let listener = listening(rt, port)?;
+    let mut failed = 0u64;
+    for _ in 0..limit {
+        let done = match listener.accept() {
+            Ok((stream, _)) => serve_stream(rt, alloc, desk, &stream),
+            Err(_) => Err(ServeFault::Read),
+        };
+        if let Err(fault) = done {
+            // Where standard error fails, the count still says it at the end.
+            let _told = eprintln!(rt; "a connection failed: {fault}");
+            failed = failed.saturating_add(1);
+        }
+    }
+    match failed {
+        0 => Ok(0),
+        _ => Err(Failure::Connections(failed)),
+    }
+}
