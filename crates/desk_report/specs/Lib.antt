@@ -1,0 +1,2 @@
+pub mod CsvTable
+pub mod Lines

@@ -1,0 +1,36 @@
+-- The lines of totals and of changes. 10 is the line feed, 32 the blank.
+use Rattle.std.specs.Prelude.{ℕ, List, [], ◌∷◌, ◌++◌, codes, decimal, Option, Some, None}
+use Rattle.desk_rows.specs.Names.{word_name}
+use Rattle.desk_rows.specs.declared.command.Totals.{Totals}
+use Rattle.desk_rows.specs.declared.row.ChangeRow.{ChangeRow}
+
+-- a word, a blank and a number
+abbrev pub counted : List ℕ → ℕ → List ℕ
+counted word count = word ++ codes " " ++ decimal count
+
+-- how many duties were raised, and how many of these stand where
+abbrev pub totals_line : Totals → List ℕ
+totals_line t = counted (codes "raised") t.raised ++ counted (codes " open") t.still_open ++ counted (codes " met") t.met
+    ++ counted (codes " waived") t.waived ++ counted (codes " withdrawn") t.withdrawn ++ codes "\n"
+
+-- a word behind a blank
+abbrev pub spaced : List ℕ → List ℕ
+spaced word = 32 ∷ word
+
+-- the last day of a waiver that ends
+abbrev pub until : Option (List ℕ) → List ℕ
+until None = []
+until (Some day) = spaced (codes "until") ++ spaced day
+
+-- the text of a change, if it isn't empty
+abbrev pub behind : List ℕ → List ℕ
+behind [] = []
+behind (b ∷ more) = spaced (b ∷ more)
+
+-- the step, the day and the word of a change
+abbrev pub front : ChangeRow → List ℕ
+front row = decimal row.step ++ spaced row.day ++ spaced (word_name row.word)
+
+-- the line of a change
+abbrev pub change_text : ChangeRow → List ℕ
+change_text row = front row ++ until row.last_day ++ behind row.body ++ 10 ∷ []
