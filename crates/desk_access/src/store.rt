@@ -4,7 +4,8 @@ ghost use Rattle.std.specs.Prelude.{◌≡◌, ℕ, Bool, ◌+◌, ◌<◌, ◌^
 ghost use Rattle.std.specs.Option.{option_map};
 ghost use Rattle.std.specs.List.{list_any};
 ghost use Rattle.std.specs.Str.{bytes_eq};
-ghost use Rattle.desk_rows.specs.Keys.{is_attachment, is_change_of, is_choice_of, is_document, is_duty_of, is_package, is_shipped_by, has_namespace};
+ghost use Rattle.desk_rows.specs.Keys.{is_attachment, is_change_of, is_choice_of, is_frozen_of, is_document, is_duty_of, is_package, is_shipped_by, has_namespace};
+ghost use Rattle.desk_rows.specs.Bills.{extracted_text, revision_text};
 ghost use Rattle.desk_rows.specs.Tables.{Tables};
 ghost use Rattle.desk_access.specs.Seen.{Seen, Looked, OfRows, Wrote};
 ghost use Rattle.desk_rows.specs.Faults.{MayFail};
@@ -17,8 +18,8 @@ ghost use Rattle.desk_rows.specs.declared.command.StoreFault.{StoreFault};
 
 use desk_base::{Day, Items, Text};
 use desk_rows::{
-    AttachedRow, Change, ChangeRow, DutyRow, Fault, PackageRow, Profile, ReleaseRow, Rule,
-    Standing, Totals,
+    AttachedRow, Change, ChangeRow, DutyRow, Fault, FrozenRow, PackageRow, Profile, ReleaseRow,
+    Rule, Standing, Totals,
 };
 
 /// Tables of rows, in memory or in a database. Look-ups leave the rows; `commit` alone writes, all of a change or nothing.
@@ -46,6 +47,13 @@ pub trait Store {
             n ≡ length t.catalogue) (seen self.old) (seen self.new)) }
         ensures kept { Looked (seen self.old) (seen self.new) result }
         ensures misses { OnErr result may_miss }
+        ensures fault { IfErr result (MayFail tells) };
+
+    /// The text of a revision of the catalogue.
+    fn catalogue_text(&mut self, revision: u64) -> Result<Option<Text>, Fault>
+        ensures found { IfOk result (λ found. OfRows (λ t.
+            found ≡ revision_text t.catalogue revision) (seen self.old) (seen self.new)) }
+        ensures kept { Looked (seen self.old) (seen self.new) result }
         ensures fault { IfErr result (MayFail tells) };
 
     /// Whether the catalogue in force has a form.
@@ -110,6 +118,13 @@ pub trait Store {
         ensures kept { Looked (seen self.old) (seen self.new) result }
         ensures fault { IfErr result (MayFail tells) };
 
+    /// The text that a document gives for a reference.
+    fn extracted_text(&mut self, document: u32, reference: &str) -> Result<Option<Text>, Fault>
+        ensures found { IfOk result (λ found. OfRows (λ t.
+            found ≡ extracted_text t.extracted document reference.now) (seen self.old) (seen self.new)) }
+        ensures kept { Looked (seen self.old) (seen self.new) result }
+        ensures fault { IfErr result (MayFail tells) };
+
     fn release(&mut self, name: &str) -> Result<Option<ReleaseRow>, Fault>
         ensures found { IfOk result (λ found. OfRows (λ t.
             found ≡ release_found t name.now) (seen self.old) (seen self.new)) }
@@ -149,6 +164,14 @@ pub trait Store {
         ensures found { IfOk result (λ found. OfRows (λ t.
             found.items ≡ map (λ row. row.term)
             (filter (is_choice_of release.now document id.now) t.choice)) (seen self.old)
+            (seen self.new)) }
+        ensures kept { Looked (seen self.old) (seen self.new) result }
+        ensures fault { IfErr result (MayFail tells) };
+
+    /// The terms that a release was frozen with for a package, in order, each with its rule.
+    fn frozen(&mut self, release: &str, document: u32, id: &str) -> Result<Vec<FrozenRow>, Fault>
+        ensures found { IfOk result (λ found. OfRows (λ t.
+            found.items ≡ filter (is_frozen_of release.now document id.now) t.frozen) (seen self.old)
             (seen self.new)) }
         ensures kept { Looked (seen self.old) (seen self.new) result }
         ensures fault { IfErr result (MayFail tells) };

@@ -9,7 +9,7 @@ ghost use Rattle.desk_base.specs.declared.profile.Profile.{Profile};
 use desk_base::{Items, Text};
 use desk_rows::{
     Catalogue, CatalogueFault, Cheapest, Document, DocumentFault, ExpressionFault, FindingRow,
-    ListFault, Profile, Verdict,
+    LicenceText, ListFault, Profile, Verdict,
 };
 use std::alloc::{AllocError, Global};
 
@@ -19,11 +19,17 @@ pub trait Texts {
     /// A licence expression that was read.
     type Expression: Drop;
 
+    /// A catalogue that was read for its texts of licences.
+    type Licences: Drop;
+
     /// The readings that give each text what it says.
     ghost are_right: { Readings → Type 0 };
 
     /// An expression is the one that a text is by a profile of operators.
     ghost is_of: { Profile → List ℕ → Self.Expression → Type 0 };
+
+    /// These are the texts of licences that a reading finds in the catalogue that a text is.
+    ghost are_in: { Readings → List ℕ → Self.Licences → Type 0 };
 
     /// The catalogue that a text is, or its fault.
     fn catalogue(
@@ -57,6 +63,28 @@ pub trait Texts {
     fn adopted_as(&self, alloc: Global, licence: &str, term: &str) -> Result<Text, AllocError>
         ensures { (w : Readings) → are_right w → IfOk result (λ adopted.
             adopted ≡ w.adopted_as licence.now term.now) };
+
+    /// The id of the licence that a printed term names, without its plus and exception, where it names no reference.
+    fn licence_id(&self, alloc: Global, term: &str) -> Result<Text, AllocError>
+        ensures { (w : Readings) → are_right w → IfOk result (λ id. id ≡ w.licence_id term.now) };
+
+    /// The exception of a printed term, if it has one.
+    fn exception(&self, alloc: Global, term: &str) -> Result<Option<Text>, AllocError>
+        ensures { (w : Readings) → are_right w → IfOk result (λ exception. exception ≡ w.exception term.now) };
+
+    /// The texts of licences in the catalogue that a text is; none where it is no catalogue.
+    fn licences(&self, alloc: Global, text: &str) -> Result<Self::Licences, AllocError>
+        ensures { (w : Readings) → are_right w → IfOk result (are_in w text.now) };
+
+    /// The text of a licence or an exception among these, by its id.
+    fn licence_text(
+        &self,
+        alloc: Global,
+        licences: &Self::Licences,
+        id: &str,
+    ) -> Result<Option<LicenceText>, AllocError>
+        ensures { (w : Readings) → are_right w → (text : List ℕ) → are_in w text licences.now
+            → IfOk result (λ found. found ≡ w.licence_text text id.now) };
 
     /// The licence expression that a text is, if it is one.
     fn expression(

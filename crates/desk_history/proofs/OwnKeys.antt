@@ -148,9 +148,13 @@ belongs w (Import bytes profile ∷ h) p m =
     ]
 belongs w (c ∷ h) p m = belongs w h p m
 
-ids_of : (w : Readings) → ListsOnce w → (bytes : List ℕ) (read : Result Document DocumentFault) → w.document bytes ≡ read → AreDistinct (map (λ (p : Package). p.id) (packages_in (result_ok read)))
-ids_of w once bytes (Ok document) e = once.packages bytes document e
-ids_of w once bytes (Err fault) e = tt
+-- a reading by which no document has two packages with one id
+abbrev pub HasOwnIds : Readings → Type 0
+HasOwnIds w = (bytes : List ℕ) (document : Document) → w.document bytes ≡ Ok document → AreDistinct (map (λ p. p.id) document.packages)
+
+ids_of : (w : Readings) → HasOwnIds w → (bytes : List ℕ) (read : Result Document DocumentFault) → w.document bytes ≡ read → AreDistinct (map (λ (p : Package). p.id) (packages_in (result_ok read)))
+ids_of w own bytes (Ok document) e = own bytes document e
+ids_of w own bytes (Err fault) e = tt
 
 distinct-from_map : {A B : Type 0} (f : A → B) (xs : List A) → AreDistinct (map f xs) → AreDistinct xs
 distinct-from_map f [] a = tt
@@ -166,9 +170,9 @@ distinct-pairs n (p ∷ ps) a = (
   distinct-pairs n ps a.1,
 )
 
-distinct-packages : (w : Readings) → ListsOnce w → (h : List Command) → AreDistinct (map place_of (packages w h))
-distinct-packages w once [] = tt
-distinct-packages w once (Import bytes profile ∷ h) =
+distinct-packages : (w : Readings) → HasOwnIds w → (h : List Command) → AreDistinct (map place_of (packages w h))
+distinct-packages w own [] = tt
+distinct-packages w own (Import bytes profile ∷ h) =
     let n = length (documents w h) + 1 in
     let new = map (package_row n) (packages_in (result_ok (w.document bytes))) in
     let apart : (k : ℕ × List ℕ) → IsIn k (map place_of (packages w h)) → IsIn k (map place_of new) → ⊥ =
@@ -178,9 +182,9 @@ distinct-packages w once (Import bytes profile ∷ h) =
     let here : n ≡ old.0.document = ap (λ (p : PackageRow). p.document) found.2 ∙ ap (λ (k : ℕ × List ℕ). k.0) (row.2 ∙ sym old.2) in
     omega (arith, here, belongs w h old.0 old.1)) in
     subst AreDistinct (sym (map-append place_of (packages w h) new))
-    (distinct-append (map place_of (packages w h)) (map place_of new) (distinct-packages w once h)
-    (distinct-pairs n (packages_in (result_ok (w.document bytes))) (ids_of w once bytes (w.document bytes) refl)) apart)
-distinct-packages w once (c ∷ h) = distinct-packages w once h
+    (distinct-append (map place_of (packages w h)) (map place_of new) (distinct-packages w own h)
+    (distinct-pairs n (packages_in (result_ok (w.document bytes))) (ids_of w own bytes (w.document bytes) refl)) apart)
+distinct-packages w own (c ∷ h) = distinct-packages w own h
 
 -- Attached documents: none is attached twice
 
@@ -224,12 +228,12 @@ distinct-documents w h r ok =
 pub shipped_document : (d : ℕ) (p : PackageRow) → is_shipped_by d p ≡ true → p.document ≡ d
 shipped_document d p e = let same : (p.document == d) ≡ true = and_left (p.document == d) p.shipped e in grind (arith, nat_tests)
 
-distinct-shipped : (w : Readings) → ListsOnce w → (h : List Command) (r : List ℕ) → IsHistory w h → AreDistinct (map place_of (shipped w h r))
-distinct-shipped w once h r ok =
+pub distinct-shipped : (w : Readings) → HasOwnIds w → (h : List Command) (r : List ℕ) → IsHistory w h → AreDistinct (map place_of (shipped w h r))
+distinct-shipped w own h r ok =
     distinct-flat_map (λ (row : AttachedRow). filter (is_shipped_by row.document) (packages w h)) place_of (λ (k : ℕ × List ℕ). k.0) (λ (row : AttachedRow). row.document) (attached_to (attached h) r)
     (λ row p m. shipped_document row.document p (from_filter (is_shipped_by row.document) p (packages w h) m).1)
     (distinct-documents w h r ok)
-    (λ row m. distinct-filter place_of (is_shipped_by row.document) (packages w h) (distinct-packages w once h))
+    (λ row m. distinct-filter place_of (is_shipped_by row.document) (packages w h) (distinct-packages w own h))
 
 -- Freezes: a release is frozen once
 
@@ -239,7 +243,7 @@ distinct-owed w once h r ok =
     let form = unwrap_or (form_of h r) [] in
     distinct-flat_map (λ (p : PackageRow). owed_for_terms w (adoptions w h) rules form r p (chosen_in w h r p)) owed_key package_of place_of (shipped w h r)
     (λ p d m. (key_for_terms w h r form p d m).1)
-    (distinct-shipped w once h r ok)
+    (distinct-shipped w once.packages h r ok)
     (λ p m. distinct-terms w once h r form p)
 
 pub owed_release : (w : Readings) (h : List Command) (r : List ℕ) (d : Owed) → IsIn d (owed_at w h r) → d.release ≡ r

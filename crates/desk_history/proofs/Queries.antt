@@ -16,6 +16,7 @@ use Rattle.desk_rows.specs.Raised.{raised, chosen_in, shipped}
 use Rattle.desk_rows.specs.Moves.{duty_row, changes, place, all_changes}
 use Rattle.desk_rows.specs.Tables.{Tables, tables, release_row}
 use Rattle.desk_rows.specs.Answers.{conclusion}
+use Rattle.desk_rows.specs.Bills.{bill_answer, bill_of}
 use Rattle.desk_rows.specs.Queries.{queried, listing, duty_line, package_line, duties_of, totals_of}
 use Rattle.desk_rows.specs.Moves.{duty_at}
 use Rattle.desk_history.specs.FromTables.{queried_from, choice_found, duty_found}
@@ -75,6 +76,13 @@ release_told w h r =
     ∙ (ap (λ chosen. option_map_or (λ row. told row chosen) (if is_some (form_of h r) then Some (release_row h r) else None) (answered.Refused why.UnknownRelease)) (choice-found w h r)
     ∙ (elim (is_some (form_of h r)) as (λ b. option_map_or (λ row. told row (chosen_in w h r)) (if b then Some (release_row h r) else None) (answered.Refused why.UnknownRelease) ≡ (if b then told (release_row h r) (chosen_in w h r) else answered.Refused why.UnknownRelease)) [ true ↦ refl | false ↦ refl ]))
 
+bill_told : (w : Readings) (h : List Command) (r : List ℕ) → queried_from w (tables w h) (query.Bill r) ≡ queried w h (query.Bill r)
+bill_told w h r =
+    let t : Tables = tables w h in
+    let told : ReleaseRow → Answer = λ row. bill_answer (bill_of w t.catalogue t.extracted t.frozen (shipped w h r) row) row.state in
+    ap (λ o. option_map_or told o (answered.Refused why.UnknownRelease)) (release_found-tables w h r)
+    ∙ (elim (is_some (form_of h r)) as (λ b. option_map_or told (if b then Some (release_row h r) else None) (answered.Refused why.UnknownRelease) ≡ (if b then told (release_row h r) else answered.Refused why.UnknownRelease)) [ true ↦ refl | false ↦ refl ])
+
 pub query-answer : (w : Readings) (h : List Command) (q : Query) → queried_from w (tables w h) q ≡ queried w h q
 query-answer w h (query.Duties r) =
     ap (λ b. if b then answered.Duties (map (duty_line (λ q. filter (is_change_of q) (all_changes w h))) (duties_of w h r)) else answered.Refused why.UnknownRelease) (is_found w h r)
@@ -87,6 +95,7 @@ query-answer w h (query.Changes q) =
     (λ known. changes-found w h q (sym (known_at w h q) ∙ known))
 query-answer w h (query.Findings d) = refl
 query-answer w h (query.Release r) = release_told w h r
+query-answer w h (query.Bill r) = bill_told w h r
 query-answer w h (query.Alternatives d p) = refl
 query-answer w h (query.Cheapest d p form) =
     ap (λ rules. cheapest_answer w (list_any (bytes_eq form) (forms_in (in_force w h))) (term_cost w (adoptions w h) rules form) (listing w h d p)) (rules-found w h)

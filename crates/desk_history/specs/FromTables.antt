@@ -17,6 +17,7 @@ use Rattle.desk_rows.specs.declared.state.Word.{Word}
 use Rattle.desk_rows.specs.Tables.{Tables, applied, choice_row}
 use Rattle.desk_rows.specs.Answers.{load_answer, import_answer, open_answer, attach_answer, choose_answer, freeze_answer, unchoose_answer, Loading, Importing, Opening, Attaching, Choosing, Unchoosing, Freezing, Withdrawing, Closing, Moving, Concluding, Adopting, move_answer, withdraw_answer, close_answer, conclude_answer, adopt_answer, walk, is_recorded}
 use Rattle.desk_rows.specs.Queries.{duty_line, package_line, totals_of}
+use Rattle.desk_rows.specs.Bills.{bill_answer, bill_of}
 use Rattle.desk_rows.specs.Findings.{findings_answer}
 use Rattle.desk_rows.specs.Listings.{Listing, alternatives_answer, cheapest_answer, term_cost}
 use Rattle.desk_rows.specs.declared.reading.Catalogue.{Catalogue}
@@ -349,3 +350,6 @@ queried_from w t (query.Release r) =
 queried_from w t (query.Alternatives d p) = alternatives_answer w (listing_found w t d p)
 queried_from w t (query.Cheapest d p form) =
     cheapest_answer w (list_any (bytes_eq form) t.forms) (term_cost w t.adoption (rules_found t) form) (listing_found w t d p)
+queried_from w t (query.Bill r) =
+    option_map_or (λ row. bill_answer (bill_of w t.catalogue t.extracted t.frozen (shipped_found t r) row) row.state) (release_found t r)
+    (answered.Refused why.UnknownRelease)

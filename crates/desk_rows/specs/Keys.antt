@@ -6,6 +6,8 @@ use Rattle.std.specs.Cmp.Lexicographic.{slice_cmp}
 use Rattle.std.specs.declared.cmp.Ordering.{Ordering}
 use Rattle.desk_rows.specs.Texts.{text_below}
 use Rattle.desk_rows.specs.declared.reading.Rule.{Rule}
+use Rattle.desk_rows.specs.declared.row.CatalogueRow.{CatalogueRow}
+use Rattle.desk_rows.specs.declared.row.ExtractedRow.{ExtractedRow}
 use Rattle.desk_rows.specs.declared.row.RuleRow.{RuleRow}
 use Rattle.desk_rows.specs.declared.row.DocumentRow.{DocumentRow}
 use Rattle.desk_rows.specs.declared.row.PackageRow.{PackageRow}
@@ -50,6 +52,9 @@ change_below a b = nat_lt a.duty b.duty || ((a.duty == b.duty) && nat_lt a.step 
 abbrev pub is_rule : List ℕ → List ℕ → Rule → Bool
 is_rule term form rule = bytes_eq rule.term term && bytes_eq rule.form form
 
+abbrev pub is_revision : ℕ → CatalogueRow → Bool
+is_revision revision row = row.revision == revision
+
 abbrev pub is_rule_of : ℕ → RuleRow → Bool
 is_rule_of revision row = row.revision == revision
 
@@ -64,6 +69,9 @@ is_package document id row = (row.document == document) && bytes_eq row.id id
 
 abbrev pub is_shipped_by : ℕ → PackageRow → Bool
 is_shipped_by document row = (row.document == document) && row.shipped
+
+abbrev pub is_extracted : ℕ → List ℕ → ExtractedRow → Bool
+is_extracted document reference row = (row.document == document) && bytes_eq row.reference reference
 
 abbrev pub is_release : List ℕ → ReleaseRow → Bool
 is_release name row = bytes_eq row.name name
@@ -88,6 +96,9 @@ is_choice_of release document id row = bytes_eq row.release release && (row.docu
 
 abbrev pub is_choice_in : List ℕ → ChoiceRow → Bool
 is_choice_in release row = bytes_eq row.release release
+
+abbrev pub is_frozen_of : List ℕ → ℕ → List ℕ → FrozenRow → Bool
+is_frozen_of release document id row = bytes_eq row.release release && (row.document == document) && bytes_eq row.package_id id
 
 abbrev pub is_duty : ℕ → DutyRow → Bool
 is_duty number row = row.number == number

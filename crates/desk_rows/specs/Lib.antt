@@ -10,6 +10,7 @@ pub mod Tables
 pub mod Answers
 pub mod Findings
 pub mod Listings
+pub mod Bills
 pub mod Queries
 pub mod Runs
 pub mod Numbers

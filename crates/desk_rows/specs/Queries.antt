@@ -4,8 +4,9 @@ use Rattle.desk_rows.specs.Readings.{Readings}
 use Rattle.std.specs.List.{list_any}
 use Rattle.std.specs.Str.{bytes_eq}
 use Rattle.desk_rows.specs.Keys.{is_document, is_duty_of}
-use Rattle.desk_rows.specs.History.{documents, form_of, forms_in, in_force, rules_in}
+use Rattle.desk_rows.specs.History.{documents, form_of, forms_in, in_force, rules_in, state_of}
 use Rattle.desk_rows.specs.Conclusions.{adoptions}
+use Rattle.desk_rows.specs.Bills.{bill_answer, bill_of}
 use Rattle.desk_rows.specs.Findings.{findings_answer}
 use Rattle.desk_rows.specs.Listings.{Listing, alternatives_answer, cheapest_answer, term_cost}
 use Rattle.desk_rows.specs.Moves.{changes, duties}
@@ -14,7 +15,7 @@ use Rattle.desk_rows.specs.Moves.{duty_at}
 use Rattle.desk_rows.specs.declared.refusal.Refusal.TheVariants as why
 use Rattle.std.specs.Option.{option_map, option_and_then}
 use Rattle.desk_rows.specs.Raised.{chosen_in, shipped}
-use Rattle.desk_rows.specs.Tables.{release_row}
+use Rattle.desk_rows.specs.Tables.{release_row, tables}
 use Rattle.desk_rows.specs.Answers.{conclusion, has_document, package_at}
 use Rattle.desk_rows.specs.declared.reading.Conclusion.{Conclusion}
 use Rattle.desk_rows.specs.declared.row.PackageRow.{PackageRow}
@@ -93,3 +94,7 @@ queried w h (query.Release r) =
 queried w h (query.Alternatives d p) = alternatives_answer w (listing w h d p)
 queried w h (query.Cheapest d p form) =
     cheapest_answer w (list_any (bytes_eq form) (forms_in (in_force w h))) (term_cost w (adoptions w h) (rules_in (in_force w h)) form) (listing w h d p)
+queried w h (query.Bill r) =
+    let t = tables w h in
+    if is_some (form_of h r) then bill_answer (bill_of w t.catalogue t.extracted t.frozen (shipped w h r) (release_row h r)) (state_of h r)
+    else answered.Refused why.UnknownRelease

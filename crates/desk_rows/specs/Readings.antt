@@ -3,6 +3,7 @@
 use Rattle.std.specs.Prelude.{ℕ, Bool, List, Option, Result}
 use Rattle.desk_rows.specs.declared.reading.Catalogue.{Catalogue}
 use Rattle.desk_rows.specs.declared.reading.Document.{Document}
+use Rattle.desk_rows.specs.declared.reading.LicenceText.{LicenceText}
 use Rattle.desk_base.specs.declared.profile.Profile.{Profile}
 use Rattle.desk_rows.specs.declared.reading.Verdict.{Verdict}
 use Rattle.desk_rows.specs.declared.reading.ListFault.{ListFault}
@@ -25,6 +26,12 @@ pub record Readings : Type 0 where
   pub is_licence : List ℕ → Bool
   -- a licence, with the exception of a printed term
   pub adopted_as : List ℕ → List ℕ → List ℕ
+  -- the id of the licence that a printed term names, without its plus and exception, where it names no reference
+  pub licence_id : List ℕ → List ℕ
+  -- the exception of a printed term, if it has one
+  pub exception : List ℕ → Option (List ℕ)
+  -- the text of a licence or an exception in the catalogue that a text is, by its id
+  pub licence_text : List ℕ → List ℕ → Option LicenceText
   -- whether a text is a licence expression
   pub is_expression : Profile → List ℕ → Bool
   -- why a text is no licence expression, if it is none

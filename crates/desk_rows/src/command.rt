@@ -1,5 +1,6 @@
 //! Commands, queries and what they are answered.
 
+use crate::bill::Bill;
 use crate::finding::FindingRow;
 use crate::reading::{Cheapest, Profile};
 use crate::refusal::Refusal;
@@ -175,6 +176,11 @@ pub enum Query {
         /// A form of the catalogue in force.
         form: Text,
     },
+    /// What the notices of a frozen release are written of.
+    Bill {
+        /// The name of a release.
+        release: Text,
+    },
 }
 
 /// A duty of a release, and the day of its last change.
@@ -267,6 +273,8 @@ pub enum Answer {
     Alternatives(Items<Items<Text>>),
     /// The cheapest set, where there is one.
     Cheapest(Option<Cheapest>),
+    /// What the notices of a frozen release are written of.
+    Bill(Bill),
     /// Nothing was recorded, for this reason.
     Refused(Refusal),
 }

@@ -4,6 +4,7 @@
 //! A contract sees each text and each list as its items, and each other value as the record of its fields.
 #![tactic(auto)]
 
+pub mod bill;
 pub mod command;
 pub mod finding;
 pub mod reading;
@@ -11,13 +12,14 @@ pub mod refusal;
 pub mod row;
 pub mod state;
 
+pub use bill::{Bill, BillLine, BillText, TextOf};
 pub use command::{
     Answer, Change, Command, DutyLine, Fault, Outcome, PackageLine, Plan, Query, StoreFault, Totals,
 };
 pub use finding::FindingRow;
 pub use reading::{
-    Catalogue, Cheapest, Conclusion, Document, ListFault, Package, Profile, Reference, Rule,
-    Verdict,
+    Catalogue, Cheapest, Conclusion, Document, LicenceText, ListFault, Package, Profile, Reference,
+    Rule, Verdict,
 };
 pub use refusal::{CatalogueFault, CataloguePart, DocumentFault, ExpressionFault, Limit, Refusal};
 pub use row::{

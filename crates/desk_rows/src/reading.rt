@@ -25,6 +25,15 @@ pub struct Catalogue {
     pub rules: Items<Rule>,
 }
 
+/// The text that a catalogue has of a licence or an exception.
+#[derive(Debug, Drop)]
+pub struct LicenceText {
+    /// The id, as the catalogue spells it.
+    pub title: Text,
+    /// The text.
+    pub body: Text,
+}
+
 /// A package of a document.
 #[derive(Debug, Drop)]
 pub struct Package {
