@@ -1,9 +1,11 @@
 -- Printed terms are cut where their words end.
-use Rattle.std.proofs.Common.{◌≡◌, ◌∙◌, ℕ, suc, Bool, true, false, List, [], ◌∷◌, ◌++◌, length, take, drop, Option, Some, None, codes, refl, sym, ap, arith}
+use Rattle.std.proofs.Common.{◌≡◌, ◌∙◌, ℕ, suc, Bool, true, false, List, [], ◌∷◌, ◌++◌, ◌-◌, length, take, drop, Option, Some, None, codes, refl, sym, ap, subst, nat_eq, arith}
 use Rattle.std.specs.Prelude.{not, ◌&&◌, ◌||◌, is_none, nat_lt, if◌then◌else◌}
-use Rattle.std.specs.List.{list_all, position_or_len}
+use Rattle.std.specs.List.{ends_with, list_all, position_or_len}
 use Rattle.std.proofs.lemmas.List.{append-nil}
 use Rattle.std.proofs.lemmas.List.Sums.{list_all-from_AllPass}
+use Rattle.std.proofs.lemmas.Bool.Decides.{Decides-eqb}
+use Rattle.std.proofs.lemmas.Slice.Eq.{ends_is}
 use Rattle.std.specs.Str.{bytes_eq}
 use Rattle.desk_base.proofs.Bools.{and_left, and_right, not_true}
 use Rattle.desk_base.specs.Bytes.{is_blank}
@@ -18,9 +20,9 @@ use Rattle.desk_catalogue.specs.Terms.{IsTermOf}
 use Rattle.desk_expr.specs.Spelling.{SpellsTermWithin}
 use Rattle.desk_expr.proofs.TermLemmas.{spells_term_once}
 use Rattle.desk_expr.specs.Tokens.{is_parenthesis, is_run_byte}
-use Rattle.desk_expr.proofs.WordKinds.{licence_kind, or_later_kind, plain_word, reference_kind}
+use Rattle.desk_expr.proofs.WordKinds.{licence_kind, or_later_kind, plain_word, plus_front, reference_kind}
 use Rattle.desk_fields.specs.Text.{first_word, after_word, skip_blanks}
-use Rattle.desk_texts.specs.Terms.{adopted_as, is_licence, reference_in}
+use Rattle.desk_texts.specs.Terms.{adopted_as, behind_with, exception_in, is_licence, licence_id_in, reference_in, without_plus}
 use Rattle.desk_right.specs.Forms.{adopted_form, is_plain_licence, reference_of}
 
 -- ---- where the word of a printed term ends
@@ -169,6 +171,40 @@ plain_print k false None e = append-nil (k ++ [])
 pub adopted-printed : (licence t : Term) → is_plain_licence licence ≡ true → is_term t ≡ true → adopted_as (printed_term licence) (printed_term t) ≡ printed_term (adopted_form licence t)
 adopted-printed licence t plain h =
     (λ i. plain_print licence.key licence.plus licence.exception plain i ++ after-word t h i)
+
+-- ---- ids of licences, and exceptions
+
+plus_ends : (k : List ℕ) → ends_with nat_eq (k ++ codes "+") (codes "+") ≡ true
+plus_ends k = (ends_is Decides-eqb (k ++ codes "+") (codes "+") _ refl).1 k refl
+
+no_plus_ends : (k : List ℕ) → is_idstring k ≡ true → ends_with nat_eq k (codes "+") ≡ false
+no_plus_ends k id =
+    never (ends_with nat_eq k (codes "+"))
+    (λ e.
+    let cut = (ends_is Decides-eqb k (codes "+") _ refl).0 e in
+    let no = no_id (take (length k - 1) k) [] 43 refl in
+    let yes = subst (λ w. is_idstring w ≡ true) cut id in
+    cc)
+
+id-of-word : (k : List ℕ) (plus : Bool) → is_folded_id k ≡ true → without_plus (k ++ (if plus then codes "+" else [])) ≡ k
+id-of-word k true id = rw (plus_ends k) (plus_front k)
+id-of-word k false id = ap without_plus (append-nil k) ∙ rw (no_plus_ends k (and_left (is_idstring k) (bytes_eq (folded k) k) id)) refl
+
+other_key : (a b c : Bool) → (a || (b && c)) ≡ true → b ≡ false → a ≡ true
+other_key true b c h other = refl
+other_key false true c h other = cc
+other_key false false c h other = cc
+
+pub licence-id-printed : (t : Term) → is_term t ≡ true → is_reference t.key ≡ false → licence_id_in (printed_term t) ≡ t.key
+licence-id-printed t h other =
+    ap without_plus (first-word t h) ∙ id-of-word t.key t.plus (other_key (is_folded_id t.key) (is_reference t.key) (not t.plus) (key_of t h) other)
+
+exception-behind : (o : Option (List ℕ)) → behind_with (printed_exception o) ≡ o
+exception-behind None = refl
+exception-behind (Some x) = refl
+
+pub exception-printed : (t : Term) → is_term t ≡ true → exception_in (printed_term t) ≡ t.exception
+exception-printed t h = ap behind_with (after-word t h) ∙ exception-behind t.exception
 
 -- ---- the term of a text
 

@@ -20,10 +20,10 @@ use Rattle.desk_tagvalue.specs.Parts.{DocumentText}
 use Rattle.desk_tagvalue.proofs.ReadLemmas.{spells_once}
 use Rattle.desk_expr_laws.proofs.TreeOrStop.{tree_or_stop, stops_spell_nothing}
 use Rattle.desk_expr_laws.proofs.TreeStops.{one_stop}
-use Rattle.desk_texts.specs.Catalogues.{kept_catalogue}
+use Rattle.desk_texts.specs.Catalogues.{kept_catalogue, licence_text_in}
 use Rattle.desk_texts.specs.Documents.{Keeps}
 use Rattle.desk_texts.specs.Expressions.{word_place, IsExpression, IsRead, Tells, fault_of, IsFault, IsVerdict, Judges}
-use Rattle.desk_texts.specs.Terms.{IsTerm, AreTerms, AreAllTerms, reference_in, is_licence, adopted_as}
+use Rattle.desk_texts.specs.Terms.{IsTerm, AreTerms, AreAllTerms, reference_in, is_licence, adopted_as, licence_id_in, exception_in}
 use Rattle.desk_texts.specs.Right.{AreRight}
 use Rattle.desk_right.proofs.Findings.{rows_exist, rows_once}
 use Rattle.desk_right.proofs.Listings.{listing_of, listing_once, terms_of as all_terms, terms_once, price_of, price_once}
@@ -149,6 +149,9 @@ module _
       reference = reference_in;
       is_licence = is_licence;
       adopted_as = adopted_as;
+      licence_id = licence_id_in;
+      exception = exception_in;
+      licence_text = λ text. licence_text_in (catalogue_of terms_read.0 text);
       is_expression = λ profile text. is_some (expression_read profile text).0;
       expression_fault = λ profile text. (faulted profile text).0;
       verdict = λ profile text words. (judged profile text words).0;
@@ -169,6 +172,9 @@ module _
       reference = λ term. refl;
       licence = λ term. refl;
       adopted = λ licence term. refl;
+      licence_id = λ term. refl;
+      exception = λ term. refl;
+      licence_text = λ text id. refl;
       expression = λ profile text tells says. tells_once profile text (expression_read profile text).0 tells (expression_read profile text).1 says;
       fault = λ profile text f is. faulted_once profile text (faulted profile text).0 f (faulted profile text).1 is;
       verdict = λ profile text words v judges. judged_once profile text words (judged profile text words).0 v (judged profile text words).1 judges;

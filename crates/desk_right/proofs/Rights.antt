@@ -15,7 +15,7 @@ use Rattle.desk_rows.specs.declared.refusal.ExpressionFault.{ExpressionFault}
 use Rattle.desk_rows.specs.declared.reading.Verdict.{Verdict}
 use Rattle.desk_rows.specs.declared.reading.Verdict.TheVariants.{NotEnough, Superfluous, Minimal}
 use Rattle.desk_catalogue.specs.Reading.{catalogue_of}
-use Rattle.desk_texts.specs.Catalogues.{kept_catalogue}
+use Rattle.desk_texts.specs.Catalogues.{kept_catalogue, licence_text_in}
 use Rattle.desk_catalogue.proofs.TermsRead.{same_term}
 use Rattle.desk_texts.specs.Expressions.{IsExpression, Tells, IsFault, IsVerdict, Judges}
 use Rattle.desk_texts.specs.Terms.{AreTerms}
@@ -98,6 +98,16 @@ same_licence v w a b term = a.licence term ∙ sym (b.licence term)
 
 pub same_adopted : (v w : Readings) → AreRight v → AreRight w → (licence term : List ℕ) → v.adopted_as licence term ≡ w.adopted_as licence term
 same_adopted v w a b licence term = a.adopted licence term ∙ sym (b.adopted licence term)
+
+pub same_licence_id : (v w : Readings) → AreRight v → AreRight w → (term : List ℕ) → v.licence_id term ≡ w.licence_id term
+same_licence_id v w a b term = a.licence_id term ∙ sym (b.licence_id term)
+
+pub same_exception : (v w : Readings) → AreRight v → AreRight w → (term : List ℕ) → v.exception term ≡ w.exception term
+same_exception v w a b term = a.exception term ∙ sym (b.exception term)
+
+pub same_licence_text : (v w : Readings) → AreRight v → AreRight w → (text id : List ℕ) → v.licence_text text id ≡ w.licence_text text id
+same_licence_text v w a b text id =
+    a.licence_text text id ∙ (ap (λ terms. licence_text_in (catalogue_of terms text) id) (λ i t. same_terms_told v w a b t i) ∙ sym (b.licence_text text id))
 
 pub same_fault : (v w : Readings) → AreRight v → AreRight w → (profile : Profile) (text : List ℕ) → v.expression_fault profile text ≡ w.expression_fault profile text
 same_fault v w a b profile text =

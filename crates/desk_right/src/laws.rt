@@ -1,12 +1,12 @@
 //! Laws of right readings, each the contract of a function with an empty body.
 
-ghost use Rattle.std.specs.Prelude.{◌≡◌, ℕ, List, [], Option, Some, is_none, IsTrue, true};
+ghost use Rattle.std.specs.Prelude.{◌≡◌, ℕ, List, [], Option, Some, is_none, IsTrue, true, false};
 ghost use Rattle.desk_expr.specs.declared.term.Term.{Term};
 ghost use Rattle.desk_expr.specs.Tree.{Tree};
 ghost use Rattle.desk_expr.specs.Meaning.{IsMinimal};
 ghost use Rattle.desk_expr.specs.Printing.{printed_term};
 ghost use Rattle.desk_expr.specs.Spelling.{SpellsTermWithin};
-ghost use Rattle.desk_expr.specs.Words.{is_term};
+ghost use Rattle.desk_expr.specs.Words.{is_reference, is_term};
 ghost use Rattle.desk_rows.specs.Readings.{Readings};
 ghost use Rattle.desk_base.specs.declared.profile.Profile.{Profile};
 ghost use Rattle.desk_rows.specs.declared.reading.Verdict.TheVariants.{Minimal};
@@ -44,6 +44,12 @@ pub fn one_right_reading()
         → v.is_licence term ≡ w.is_licence term }
     ensures adopted { (v w : Readings) → AreRight v → AreRight w → (licence term : List ℕ)
         → v.adopted_as licence term ≡ w.adopted_as licence term }
+    ensures licence_ids { (v w : Readings) → AreRight v → AreRight w → (term : List ℕ)
+        → v.licence_id term ≡ w.licence_id term }
+    ensures exceptions { (v w : Readings) → AreRight v → AreRight w → (term : List ℕ)
+        → v.exception term ≡ w.exception term }
+    ensures licence_texts { (v w : Readings) → AreRight v → AreRight w → (text id : List ℕ)
+        → v.licence_text text id ≡ w.licence_text text id }
     ensures faults { (v w : Readings) → AreRight v → AreRight w → (profile : Profile) (text : List ℕ)
         → v.expression_fault profile text ≡ w.expression_fault profile text }
     ensures expressions { (v w : Readings) → AreRight v → AreRight w
@@ -111,9 +117,10 @@ pub fn right_readings_list_ids()
     ensures { (w : Readings) → AreRight w → ListsIds w }
 {}
 
-/// A right reading prints the term that a text spells, which is well formed. What it tells of a printed term is so of the term: the reference that it names is its key, where that is a reference; it
-/// is a licence alone where its key is a licence id and it has neither plus nor exception; and adopted as such a licence it is the term of
-/// that id, without a plus, with its own exception (SPDX 2.3, Annex D.2 to D.4).
+/// A right reading prints the term that a text spells, which is well formed. What it says of a printed term is so of the term: the
+/// reference that it names is its key, where that is a reference, and else the id of its licence is its key; its exception is the term's
+/// own; it is a licence alone where its key is a licence id and it has neither plus nor exception; and adopted as such a licence it is
+/// the term of that id, without a plus, with its own exception (SPDX 2.3, Annex D.2 to D.4).
 pub fn readings_speak_of_terms()
     ensures term { (w : Readings) → AreRight w → (text : List ℕ) (t : Term) → SpellsTermWithin text t
         → (w.term text ≡ Some (printed_term t)) × IsTrue (is_term t) }
@@ -124,6 +131,10 @@ pub fn readings_speak_of_terms()
     ensures adopted { (w : Readings) → AreRight w → (licence t : Term) → is_plain_licence licence ≡ true
         → IsTrue (is_term t)
         → w.adopted_as (printed_term licence) (printed_term t) ≡ printed_term (adopted_form licence t) }
+    ensures licence_id { (w : Readings) → AreRight w → (t : Term) → IsTrue (is_term t)
+        → is_reference t.key ≡ false → w.licence_id (printed_term t) ≡ t.key }
+    ensures exception { (w : Readings) → AreRight w → (t : Term) → IsTrue (is_term t)
+        → w.exception (printed_term t) ≡ t.exception }
 {
     desk_expr_laws::spelled_terms_are_well_formed();
 }

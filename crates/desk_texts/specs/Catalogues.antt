@@ -1,9 +1,27 @@
 -- What the desk keeps of a catalogue: the forms and the rules, of which it makes its rows. The texts of licences are for reports.
-use Rattle.std.specs.Prelude.{Result, Ok, Err}
+use Rattle.std.specs.Prelude.{◌≡◌, ℕ, List, Option, Result, Ok, Err}
+use Rattle.std.specs.Option.{option_map, option_and_then}
+use Rattle.std.specs.Result.{result_ok}
+use Rattle.desk_rows.specs.Readings.{Readings}
 use Rattle.desk_rows.specs.declared.reading.Catalogue.{Catalogue}
+use Rattle.desk_rows.specs.declared.reading.LicenceText.{LicenceText}
 use Rattle.desk_rows.specs.declared.refusal.CatalogueFault.{CatalogueFault}
+use Rattle.desk_catalogue.specs.Lookup.{text_for}
+use Rattle.desk_catalogue.specs.Reading.{catalogue_of}
 use Rattle.desk_catalogue.specs.declared.catalogue.Catalogue.{Catalogue as WholeCatalogue}
 
 abbrev pub kept_catalogue : Result WholeCatalogue CatalogueFault → Result Catalogue CatalogueFault
 kept_catalogue (Ok catalogue) = Ok (record { forms = catalogue.forms; rules = catalogue.rules })
 kept_catalogue (Err fault) = Err fault
+
+-- the text that a catalogue has of a licence or an exception, by its id in any case (SPDX 2.3, Annex D.2)
+abbrev pub found_text : List ℕ → WholeCatalogue → Option LicenceText
+found_text id catalogue = option_map (λ text. record { title = text.licence; body = text.body }) (text_for catalogue id)
+
+-- the same where there is a catalogue
+abbrev pub licence_text_in : Result WholeCatalogue CatalogueFault → List ℕ → Option LicenceText
+licence_text_in read id = option_and_then (found_text id) (result_ok read)
+
+-- the catalogue that a text is by a reading of terms, whole, if it is one
+abbrev pub IsWholeCatalogue : Readings → List ℕ → Option WholeCatalogue → Type 0
+IsWholeCatalogue w text catalogue = catalogue ≡ result_ok (catalogue_of w.term text)

@@ -14,12 +14,12 @@ use Rattle.desk_catalogue.specs.Reading.{catalogue_of}
 use Rattle.desk_catalogue.specs.Terms.{ReadsTerms}
 use Rattle.desk_tagvalue.specs.Documents.{Spells}
 use Rattle.desk_tagvalue.specs.Parts.{DocumentText}
-use Rattle.desk_texts.specs.Catalogues.{kept_catalogue}
+use Rattle.desk_texts.specs.Catalogues.{kept_catalogue, licence_text_in}
 use Rattle.desk_texts.specs.Documents.{Keeps}
 use Rattle.desk_texts.specs.Expressions.{Tells, IsFault, Judges}
 use Rattle.desk_texts.specs.Findings.{Finds}
 use Rattle.desk_texts.specs.Listings.{Lists, HasTerms, Prices}
-use Rattle.desk_texts.specs.Terms.{reference_in, is_licence, adopted_as}
+use Rattle.desk_texts.specs.Terms.{reference_in, is_licence, adopted_as, licence_id_in, exception_in}
 
 pub record AreRight (w : Readings) : Type 0 where
   -- the licence term that a text spells, printed
@@ -34,6 +34,12 @@ pub record AreRight (w : Readings) : Type 0 where
   pub licence : (term : List ℕ) → w.is_licence term ≡ is_licence term
   -- a licence with the exception of a printed term
   pub adopted : (licence term : List ℕ) → w.adopted_as licence term ≡ adopted_as licence term
+  -- the id of the licence that a printed term names
+  pub licence_id : (term : List ℕ) → w.licence_id term ≡ licence_id_in term
+  -- the exception of a printed term
+  pub exception : (term : List ℕ) → w.exception term ≡ exception_in term
+  -- the text of a licence or an exception in the catalogue that a text is
+  pub licence_text : (text id : List ℕ) → w.licence_text text id ≡ licence_text_in (catalogue_of w.term text) id
   -- whether a value is a licence expression by a profile of operators
   pub expression : (profile : Profile) (text : List ℕ) (tells : Bool) → Tells profile text tells → w.is_expression profile text ≡ tells
   -- why a value is no licence expression, if it is none

@@ -1,8 +1,9 @@
 -- Terms as texts (SPDX 2.3, Annex D.2 to D.4).
-use Rattle.std.specs.Prelude.{ℕ, ◌&&◌, not, Bool, List, [], ◌∷◌, ◌++◌, Option, Some, None, if◌then◌else◌}
+use Rattle.std.specs.Prelude.{ℕ, ◌&&◌, not, Bool, List, [], ◌∷◌, ◌++◌, drop, codes, nat_eq, Option, Some, None, if◌then◌else◌}
+use Rattle.std.specs.List.{starts_with, ends_with}
 use Rattle.desk_base.specs.Idstring.{is_idstring}
 use Rattle.desk_expr.specs.declared.term.Term.{Term}
-use Rattle.desk_expr.specs.Words.{is_reference}
+use Rattle.desk_expr.specs.Words.{is_reference, without_last}
 use Rattle.desk_expr.specs.Spelling.{SpellsTermWithin}
 use Rattle.desk_fields.specs.Text.{first_word, after_word}
 
@@ -37,3 +38,19 @@ is_licence term = is_idstring term && not (is_reference term)
 -- the licence in place of a printed term's word, and what follows the word: its exception, if it has one
 abbrev pub adopted_as : List ℕ → List ℕ → List ℕ
 adopted_as licence term = licence ++ after_word term
+
+-- a word without a plus at its end
+abbrev pub without_plus : List ℕ → List ℕ
+without_plus word = if ends_with nat_eq word (codes "+") then without_last word else word
+
+-- the id of the licence that a printed term names: its first word, without the plus that may follow an id (Annex D.3)
+abbrev pub licence_id_in : List ℕ → List ℕ
+licence_id_in term = without_plus (first_word term)
+
+-- what follows WITH
+abbrev pub behind_with : List ℕ → Option (List ℕ)
+behind_with rest = if starts_with nat_eq rest (codes " WITH ") then Some (drop 6 rest) else None
+
+-- the exception of a printed term: what follows WITH behind the first word, if that is there (Annex D.4)
+abbrev pub exception_in : List ℕ → Option (List ℕ)
+exception_in term = behind_with (after_word term)

@@ -9,6 +9,7 @@ mod catalogue;
 mod document;
 mod expression;
 mod findings;
+mod licences;
 mod listing;
 mod sorting;
 mod standard;

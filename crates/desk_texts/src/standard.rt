@@ -1,5 +1,6 @@
 //! The desk's reader of texts.
 
+ghost use Rattle.desk_texts.specs.Catalogues.{IsWholeCatalogue};
 ghost use Rattle.desk_texts.specs.Expressions.{IsExpression};
 ghost use Rattle.desk_texts.specs.Right.{AreRight};
 
@@ -7,14 +8,17 @@ use crate::catalogue::read_catalogue;
 use crate::document::read_document;
 use crate::expression::{expression_fault, read_expression, verdict};
 use crate::findings::read_findings;
+use crate::licences::{licence_text, whole_catalogue};
 use crate::listing::{alternatives, cheapest, terms};
-use crate::term::{adopted_as, is_licence, printed_term, reference_of};
+use crate::term::{
+    adopted_as, exception_of, is_licence, licence_id_of, printed_term, reference_of,
+};
 use desk_access::texts::Texts;
 use desk_base::{Items, Text};
 use desk_expr::Expr;
 use desk_rows::{
     Catalogue, CatalogueFault, Cheapest, Document, DocumentFault, ExpressionFault, FindingRow,
-    ListFault, Profile, Verdict,
+    LicenceText, ListFault, Profile, Verdict,
 };
 use std::alloc::{AllocError, Global};
 
@@ -25,9 +29,13 @@ pub struct Standard;
 impl Texts for Standard {
     type Expression = Expr;
 
+    type Licences = Option<desk_catalogue::Catalogue>;
+
     ghost are_right = { AreRight };
 
     ghost is_of = { IsExpression };
+
+    ghost are_in = { IsWholeCatalogue };
 
     fn catalogue(
         &self,
@@ -59,6 +67,31 @@ impl Texts for Standard {
 
     fn adopted_as(&self, alloc: Global, licence: &str, term: &str) -> Result<Text, AllocError> {
         adopted_as(alloc, licence, term)
+    }
+
+    fn licence_id(&self, alloc: Global, term: &str) -> Result<Text, AllocError> {
+        licence_id_of(alloc, term)
+    }
+
+    fn exception(&self, alloc: Global, term: &str) -> Result<Option<Text>, AllocError> {
+        exception_of(alloc, term)
+    }
+
+    fn licences(
+        &self,
+        alloc: Global,
+        text: &str,
+    ) -> Result<Option<desk_catalogue::Catalogue>, AllocError> {
+        whole_catalogue(alloc, text)
+    }
+
+    fn licence_text(
+        &self,
+        alloc: Global,
+        licences: &Option<desk_catalogue::Catalogue>,
+        id: &str,
+    ) -> Result<Option<LicenceText>, AllocError> {
+        licence_text(alloc, licences, id)
     }
 
     fn expression(

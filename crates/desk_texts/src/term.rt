@@ -3,11 +3,12 @@
 ghost use Rattle.std.specs.Prelude.{◌≡◌, IfOk};
 ghost use Rattle.std.specs.Option.{option_map};
 ghost use Rattle.desk_catalogue.specs.Terms.{IsTermOf};
-ghost use Rattle.desk_texts.specs.Terms.{IsTerm, AreAllTerms, reference_in, is_licence, adopted_as};
+ghost use Rattle.desk_texts.specs.Terms.{IsTerm, AreAllTerms, reference_in, is_licence, adopted_as, without_plus, licence_id_in, exception_in};
 
 use desk_base::{Text, is_idstring_of_bytes};
 use desk_expr::{Term, is_reference, parse_term, print_term, told};
 use desk_fields::split_word;
+use desk_tagvalue::behind;
 use std::alloc::{AllocError, Global};
 
 /// The term that a text spells.
@@ -87,4 +88,37 @@ pub(crate) fn adopted_as(alloc: Global, licence: &str, term: &str) -> Result<Tex
     let mut adopted = String::from_str(alloc, licence)?;
     adopted.push_str(exception)?;
     Text::of(alloc, adopted.as_str())
+}
+
+/// A word without a plus at its end.
+fn without_plus(word: &str) -> &str
+    ensures { result.now ≡ without_plus word.now }
+{
+    word.strip_suffix("+").unwrap_or(word)
+}
+
+/// The id of the licence that a printed term names, without its plus and exception.
+pub(crate) fn licence_id_of(alloc: Global, term: &str) -> Result<Text, AllocError>
+    ensures { IfOk result (λ id. id ≡ licence_id_in term.now) }
+{
+    let (word, _) = split_word(term);
+    Text::of(alloc, without_plus(word))
+}
+
+/// The exception of a printed term, if it has one.
+fn exception_in(term: &str) -> Option<&str>
+    ensures { option_map (λ id. id.now) result ≡ exception_in term.now }
+{
+    let (_, rest) = split_word(term);
+    behind(rest, " WITH ")
+}
+
+/// The same as a text of its own.
+pub(crate) fn exception_of(alloc: Global, term: &str) -> Result<Option<Text>, AllocError>
+    ensures { IfOk result (λ exception. exception ≡ exception_in term.now) }
+{
+    match exception_in(term) {
+        Some(exception) => Ok(Some(Text::of(alloc, exception)?)),
+        None => Ok(None),
+    }
 }

@@ -1,4 +1,4 @@
-use Rattle.desk_right.proofs.Rights.{same_terms_told, same_reference, same_catalogue, same_document, same_licence, same_adopted, same_fault, same_expression, same_verdict, same_alternatives, same_listed_terms, same_cheapest, same_findings}
+use Rattle.desk_right.proofs.Rights.{same_terms_told, same_reference, same_catalogue, same_document, same_licence, same_adopted, same_licence_id, same_exception, same_licence_text, same_fault, same_expression, same_verdict, same_alternatives, same_listed_terms, same_cheapest, same_findings}
 use Rattle.desk_right.proofs.laws.one_right_reading.Goals as goal
 
 pub returns-clause-terms : goal.returns-clause-terms
@@ -24,6 +24,15 @@ returns-clause-licences c = same_licence
 
 pub returns-clause-adopted : goal.returns-clause-adopted
 returns-clause-adopted c = same_adopted
+
+pub returns-clause-licence_ids : goal.returns-clause-licence_ids
+returns-clause-licence_ids c = same_licence_id
+
+pub returns-clause-exceptions : goal.returns-clause-exceptions
+returns-clause-exceptions c = same_exception
+
+pub returns-clause-licence_texts : goal.returns-clause-licence_texts
+returns-clause-licence_texts c = same_licence_text
 
 pub returns-clause-faults : goal.returns-clause-faults
 returns-clause-faults c = same_fault
