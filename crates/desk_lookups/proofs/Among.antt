@@ -5,7 +5,7 @@ use Rattle.std.specs.List.{list_all}
 use Rattle.std.proofs.lemmas.Bool.{and_parts}
 use Rattle.std.proofs.lemmas.Bool.Decides.{nat_tests}
 use Rattle.desk_layout.specs.Held.{AreOrderly, AreNumbered}
-use Rattle.desk_rows.specs.Keys.{is_document, is_duty, is_change_of, is_package}
+use Rattle.desk_rows.specs.Keys.{is_document, is_duty, is_change_of, is_package, is_revision}
 use Rattle.desk_rows.specs.Tables.{Tables}
 
 same_among : (m n count : ℕ) → nat_le m count ≡ true → (m == min n (count + 1)) ≡ (m == n)
@@ -28,6 +28,10 @@ duty_among n count t are is =
 pub document_among : (n count : ℕ) (t : Tables) → AreOrderly t → length t.document ≡ count → filter (is_document (min n (count + 1))) t.document ≡ filter (is_document n) t.document
 document_among n count t are is =
     filter_alike (is_document (min n (count + 1))) (is_document n) (λ row. nat_le row.number count) t.document (λ row low. same_among row.number n count low) (numbered_within (λ row. row.number) 1 count t.document are.documents (omega (arith, is)))
+
+pub revision_among : (n count : ℕ) (t : Tables) → AreOrderly t → length t.catalogue ≡ count → filter (is_revision (min n (count + 1))) t.catalogue ≡ filter (is_revision n) t.catalogue
+revision_among n count t are is =
+    filter_alike (is_revision (min n (count + 1))) (is_revision n) (λ row. nat_le row.revision count) t.catalogue (λ row low. same_among row.revision n count low) (numbered_within (λ row. row.revision) 1 count t.catalogue are.revisions (omega (arith, is)))
 
 pub changes_among : (n count : ℕ) (t : Tables) → AreOrderly t → length t.duty ≡ count → filter (is_change_of (min n (count + 1))) t.changes ≡ filter (is_change_of n) t.changes
 changes_among n count t are is = filter_alike (is_change_of (min n (count + 1))) (is_change_of n) (λ row. nat_le row.duty count) t.changes (λ row low. same_among row.duty n count low) (rw is at are.of_duties)

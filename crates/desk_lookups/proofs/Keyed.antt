@@ -14,11 +14,12 @@ use Rattle.sqlite_trees.specs.Tree.{IsAscending}
 use Rattle.sqlite_trees.proofs.ListLemmas.{ascending_weaker}
 use Rattle.sqlite_sql.specs.Query.{key_cmp}
 use Rattle.desk_history.specs.Laws.{Ascends, duty_below}
-use Rattle.desk_rows.specs.Keys.{below_by, attached_order, choice_order, change_below, release_below}
+use Rattle.desk_rows.specs.Keys.{below_by, attached_order, choice_order, frozen_order, change_below, release_below}
 use Rattle.desk_rows.specs.declared.row.AttachedRow.{AttachedRow}
 use Rattle.desk_rows.specs.declared.row.ChoiceRow.{ChoiceRow}
 use Rattle.desk_rows.specs.declared.row.ChangeRow.{ChangeRow}
 use Rattle.desk_rows.specs.declared.row.DutyRow.{DutyRow}
+use Rattle.desk_rows.specs.declared.row.FrozenRow.{FrozenRow}
 use Rattle.desk_rows.specs.declared.row.PackageRow.{PackageRow}
 use Rattle.desk_rows.specs.declared.row.ReleaseRow.{ReleaseRow}
 use Rattle.desk_layout.specs.Cells.{number}
@@ -77,6 +78,12 @@ pub choices_sorted : (rows : List ChoiceRow) → Ascends (below_by choice_order)
     → IsAscending (λ a b. is_lt (key_cmp 0 (keys (1 ∷ 2 ∷ 3 ∷ 4 ∷ [])) (Text b.release ∷ number b.document ∷ Text b.package_id ∷ Text b.term ∷ []) (Text a.release ∷ number a.document ∷ Text a.package_id ∷ Text a.term ∷ [])) ≡ false) rows
 choices_sorted rows up =
     in_order (below_by choice_order) (λ a b. key_cmp 0 (keys (1 ∷ 2 ∷ 3 ∷ 4 ∷ [])) (Text a.release ∷ number a.document ∷ Text a.package_id ∷ Text a.term ∷ []) (Text b.release ∷ number b.document ∷ Text b.package_id ∷ Text b.term ∷ [])) rows
+    (λ a b. rw (value_cmp-Text a.release b.release, numbers a.document b.document, value_cmp-Text a.package_id b.package_id, value_cmp-Text a.term b.term, then-Equal (slice_cmp nat_cmp a.term b.term)) refl) up
+
+pub frozen_sorted : (rows : List FrozenRow) → Ascends (below_by frozen_order) rows
+    → IsAscending (λ a b. is_lt (key_cmp 0 (keys (1 ∷ 2 ∷ 3 ∷ 4 ∷ [])) (Text b.release ∷ number b.document ∷ Text b.package_id ∷ Text b.term ∷ []) (Text a.release ∷ number a.document ∷ Text a.package_id ∷ Text a.term ∷ [])) ≡ false) rows
+frozen_sorted rows up =
+    in_order (below_by frozen_order) (λ a b. key_cmp 0 (keys (1 ∷ 2 ∷ 3 ∷ 4 ∷ [])) (Text a.release ∷ number a.document ∷ Text a.package_id ∷ Text a.term ∷ []) (Text b.release ∷ number b.document ∷ Text b.package_id ∷ Text b.term ∷ [])) rows
     (λ a b. rw (value_cmp-Text a.release b.release, numbers a.document b.document, value_cmp-Text a.package_id b.package_id, value_cmp-Text a.term b.term, then-Equal (slice_cmp nat_cmp a.term b.term)) refl) up
 
 pub releases_sorted : (rows : List ReleaseRow) → Ascends release_below rows → IsAscending (λ a b. is_lt (key_cmp 0 (keys (1 ∷ [])) (Text b.name ∷ []) (Text a.name ∷ [])) ≡ false) rows

@@ -14,3 +14,4 @@ pub mod DutyQueries
 pub mod ReleaseQueries
 pub mod DocumentQueries
 pub mod OfficeQueries
+pub mod TextQueries

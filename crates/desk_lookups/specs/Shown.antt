@@ -4,8 +4,9 @@ use Rattle.sqlite_value.specs.Order.{Row}
 use Rattle.sqlite_value.specs.declared.value.Value.TheVariants.{Text, Blob}
 use Rattle.desk_base.specs.Profiles.{profile_number}
 use Rattle.desk_base.specs.declared.profile.Profile.{Profile}
-use Rattle.desk_layout.specs.Cells.{number}
+use Rattle.desk_layout.specs.Cells.{number, text_or_null}
 use Rattle.desk_rows.specs.declared.row.DocumentRow.{DocumentRow}
+use Rattle.desk_rows.specs.declared.row.ExtractedRow.{ExtractedRow}
 
 abbrev pub text_cells : List ℕ → Row
 text_cells text = Text text ∷ []
@@ -20,3 +21,7 @@ known_cells known = number known.0 ∷ number (profile_number known.1) ∷ []
 -- the number of a document, and its bytes
 abbrev pub import_cells : DocumentRow → Row
 import_cells row = number row.number ∷ Blob row.bytes ∷ []
+
+-- the text of a reference, where it has one
+abbrev pub extracted_body_cells : ExtractedRow → Row
+extracted_body_cells row = text_or_null row.body ∷ []

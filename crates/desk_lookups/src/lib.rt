@@ -23,13 +23,15 @@ mod releases;
 mod rows;
 mod rules;
 mod standings;
+mod texts;
 
 pub use changes::{changes_of, last_day, steps};
 pub use documents::{document, document_source, import_of, package_row, shipped};
 pub use duties::{duties_of, duty};
 pub use holders::holder;
 pub use office::{adoption, adoption_count, conclusion};
-pub use releases::{attached, attached_count, chosen, is_attached, release};
+pub use releases::{attached, attached_count, chosen, frozen, is_attached, release};
 pub use rows::{read_duties, read_releases};
 pub use rules::rule;
 pub use standings::{ended, standings_of};
+pub use texts::{catalogue_text, extracted_text};

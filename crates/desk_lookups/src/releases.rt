@@ -1,4 +1,4 @@
-//! Releases, and what is attached to them and chosen for their packages.
+//! Releases, what is attached to them, and what is chosen and frozen for their packages.
 
 ghost use Rattle.std.specs.Prelude.{◌≡◌, ◌==◌, false, IfOk, filter, map, length};
 ghost use Rattle.std.specs.List.{list_any};
@@ -6,16 +6,16 @@ ghost use Rattle.sqlite.specs.Held.{state};
 ghost use Rattle.desk_access.specs.Seen.{Looked, OfRows};
 ghost use Rattle.desk_layout.specs.Held.{seen_of};
 ghost use Rattle.desk_history.specs.FromTables.{release_found};
-ghost use Rattle.desk_layout.specs.Cells.{attached_cells, release_cells};
+ghost use Rattle.desk_layout.specs.Cells.{attached_cells, frozen_cells, release_cells};
 ghost use Rattle.desk_rows.specs.History.{attached_to};
-ghost use Rattle.desk_rows.specs.Keys.{is_attachment, is_choice_of, is_release};
+ghost use Rattle.desk_rows.specs.Keys.{is_attachment, is_choice_of, is_frozen_of, is_release};
 ghost use Rattle.desk_lookups.specs.Shown.{text_cells};
 
 use crate::query::{query, text};
 use crate::read::{read_all, read_first};
 use desk_base::Text;
 use desk_layout::values::number;
-use desk_rows::{AttachedRow, Fault, ReleaseRow};
+use desk_rows::{AttachedRow, Fault, FrozenRow, ReleaseRow};
 use sqlite::{Alter, Connection, Row};
 use std::alloc::Global;
 
@@ -168,5 +168,42 @@ pub fn chosen<S: Alter>(
     ensures mode { conn.old.in_transaction ≡ false → conn.new.in_transaction ≡ false }
 {
     let rows = select_chosen(conn, release, document, id)?;
+    read_all(alloc, &rows)
+}
+
+fn select_frozen<S: Alter>(
+    conn: &mut Connection<S>,
+    release: &str,
+    document: u32,
+    id: &str,
+) -> Result<Vec<Row>, Fault>
+    ensures found { IfOk result (λ rows. OfRows (λ t.
+        rows.items ≡ map frozen_cells (filter (is_frozen_of release.now document id.now) t.frozen))
+        (seen_of (state S.Store conn.old)) (seen_of (state S.Store conn.new))) }
+    ensures kept { Looked (seen_of (state S.Store conn.old)) (seen_of (state S.Store conn.new)) result }
+    ensures mode { conn.old.in_transaction ≡ false → conn.new.in_transaction ≡ false }
+{
+    query(
+        conn,
+        "SELECT release, document, package, term, rule FROM frozen WHERE release = ?1 AND document = ?2 AND package = ?3 ORDER BY release, document, package, term",
+        &[text(release), number(document), text(id)],
+    )
+}
+
+/// The terms that a release was frozen with for a package, in order, each with its rule.
+pub fn frozen<S: Alter>(
+    alloc: Global,
+    conn: &mut Connection<S>,
+    release: &str,
+    document: u32,
+    id: &str,
+) -> Result<Vec<FrozenRow>, Fault>
+    ensures found { IfOk result (λ found. OfRows (λ t.
+        found.items ≡ filter (is_frozen_of release.now document id.now) t.frozen)
+        (seen_of (state S.Store conn.old)) (seen_of (state S.Store conn.new))) }
+    ensures kept { Looked (seen_of (state S.Store conn.old)) (seen_of (state S.Store conn.new)) result }
+    ensures mode { conn.old.in_transaction ≡ false → conn.new.in_transaction ≡ false }
+{
+    let rows = select_frozen(conn, release, document, id)?;
     read_all(alloc, &rows)
 }

@@ -1,7 +1,7 @@
 //! The cells of each row.
 
 ghost use Rattle.std.specs.Prelude.{◌≡◌, IfOk, List, map};
-ghost use Rattle.desk_layout.specs.Cells.{attached_cells, change_cells, duty_cells, package_cells, release_cells};
+ghost use Rattle.desk_layout.specs.Cells.{attached_cells, change_cells, duty_cells, frozen_cells, package_cells, release_cells};
 ghost use Rattle.desk_rows.specs.declared.row.ChangeRow.{ChangeRow as Change};
 ghost use Rattle.desk_rows.specs.declared.row.DutyRow.{DutyRow as Duty};
 ghost use Rattle.desk_rows.specs.declared.row.ReleaseRow.{ReleaseRow as Release};
@@ -14,7 +14,7 @@ use crate::columns::{
 };
 use crate::read::{ReadRow, read_all};
 use desk_base::{Day, Items, Profile, Text};
-use desk_rows::{AttachedRow, ChangeRow, DutyRow, Fault, PackageRow, ReleaseRow};
+use desk_rows::{AttachedRow, ChangeRow, DutyRow, Fault, FrozenRow, PackageRow, ReleaseRow};
 use sqlite::Row;
 use std::alloc::Global;
 
@@ -79,6 +79,20 @@ impl ReadRow for AttachedRow {
         Ok(AttachedRow {
             release: text_at(alloc, row, 0)?,
             document: number_at(row, 1)?,
+        })
+    }
+}
+
+impl ReadRow for FrozenRow {
+    ghost cells = { frozen_cells };
+
+    fn read(alloc: Global, row: &Row) -> Result<FrozenRow, Fault> {
+        Ok(FrozenRow {
+            release: text_at(alloc, row, 0)?,
+            document: number_at(row, 1)?,
+            package_id: text_at(alloc, row, 2)?,
+            term: text_at(alloc, row, 3)?,
+            rule: text_at(alloc, row, 4)?,
         })
     }
 }

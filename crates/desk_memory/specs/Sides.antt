@@ -5,6 +5,7 @@ use Rattle.std.specs.Cmp.Lexicographic.{slice_cmp}
 use Rattle.std.specs.Str.{bytes_eq}
 use Rattle.std.specs.declared.cmp.Ordering.{Ordering}
 use Rattle.desk_rows.specs.declared.row.DocumentRow.{DocumentRow}
+use Rattle.desk_rows.specs.declared.row.ExtractedRow.{ExtractedRow}
 use Rattle.desk_rows.specs.declared.row.PackageRow.{PackageRow}
 use Rattle.desk_rows.specs.declared.row.ReleaseRow.{ReleaseRow}
 use Rattle.desk_rows.specs.declared.row.AttachedRow.{AttachedRow}
@@ -36,3 +37,10 @@ is_frozen_in release row = bytes_eq row.release release
 
 abbrev pub frozen_side : List ℕ → FrozenRow → Ordering
 frozen_side release row = slice_cmp nat_cmp row.release release
+
+abbrev pub frozen_package_side : List ℕ → ℕ → List ℕ → FrozenRow → Ordering
+frozen_package_side release document id row =
+    ordering_then (ordering_then (slice_cmp nat_cmp row.release release) (nat_cmp row.document document)) (slice_cmp nat_cmp row.package_id id)
+
+abbrev pub extracted_side : ℕ → List ℕ → ExtractedRow → Ordering
+extracted_side document reference row = ordering_then (nat_cmp row.document document) (slice_cmp nat_cmp row.reference reference)

@@ -6,7 +6,7 @@ ghost use Rattle.std.specs.Option.{option_copied, option_map};
 ghost use Rattle.std.specs.List.{list_any};
 ghost use Rattle.std.specs.Str.{bytes_eq};
 ghost use Rattle.desk_rows.specs.Lists.{updated};
-ghost use Rattle.desk_rows.specs.Keys.{is_release, is_document, has_namespace, is_package, is_adoption, is_adoption_in, is_conclusion, is_shipped_by, is_attached_to, is_attachment, is_choice_of, is_duty, is_duty_of, is_change_of, is_rule, is_rule_of};
+ghost use Rattle.desk_rows.specs.Keys.{is_release, is_document, is_frozen_of, is_revision, has_namespace, is_package, is_adoption, is_adoption_in, is_conclusion, is_shipped_by, is_attached_to, is_attachment, is_choice_of, is_duty, is_duty_of, is_change_of, is_rule, is_rule_of};
 ghost use Rattle.desk_rows.specs.Tables.{Tables, applied, with_release_state, withdrawn_release};
 ghost use Rattle.desk_rows.specs.declared.state.ReleaseState.TheVariants.{Frozen};
 ghost use Rattle.desk_tally.specs.Kept.{place_found, AreKept, IsPlaceFor};
@@ -17,7 +17,10 @@ ghost use Rattle.desk_memory.specs.Memory.{rows_of, memory_seen};
 ghost use Rattle.desk_history.specs.FromTables.{rule_of};
 
 use crate::documents::Documents;
-use crate::keys::{ByAttachment, ByDocument, ByFrozen, ById, ByName, ByNumber, ByRelease};
+use crate::keys::{
+    ByAttachment, ByDocument, ByExtracted, ByFrozen, ByFrozenPackage, ById, ByName, ByNumber,
+    ByRelease,
+};
 use crate::rules::Rules;
 use desk_access::store::Store;
 use desk_base::{Day, Items, Text};
@@ -148,6 +151,35 @@ fn terms_of(alloc: Global, rows: &[&ChoiceRow]) -> Result<Vec<Text>, AllocError>
     Ok(terms)
 }
 
+fn frozen_copy(row: &FrozenRow) -> Result<FrozenRow, AllocError>
+    ensures { IfOk result (λ copy. copy ≡ row.now) }
+{
+    Ok(FrozenRow {
+        release: row.release.clone()?,
+        document: row.document,
+        package_id: row.package_id.clone()?,
+        term: row.term.clone()?,
+        rule: row.rule.clone()?,
+    })
+}
+
+fn frozen_copies(alloc: Global, rows: &[&FrozenRow]) -> Result<Vec<FrozenRow>, AllocError>
+    ensures { IfOk result (λ copies. copies.items ≡ map (λ row. row.now) rows.now) }
+{
+    let mut copies = Vec::new(alloc);
+    for row in rows {
+        copies.push(frozen_copy(row)?)?;
+    }
+    Ok(copies)
+}
+
+/// A revision of the catalogue.
+fn revision_in(rows: &[CatalogueRow], revision: u64) -> Option<&CatalogueRow>
+    ensures { option_copied result ≡ find (is_revision revision) rows.now }
+{
+    rows.iter().find(|row| u64::from(row.revision) == revision)
+}
+
 fn change_copy(row: &ChangeRow) -> Result<ChangeRow, AllocError>
     ensures { IfOk result (λ copy. copy ≡ row.now) }
 {
@@ -233,7 +265,7 @@ pub struct MemStore {
     rules: Rules,
     documents: Documents,
     packages: Appended<PackageRow>,
-    extracted: Vec<ExtractedRow>,
+    extracted: Appended<ExtractedRow>,
     office: Office,
     releases: Sorted<ReleaseRow>,
     attached: Blocks<AttachedRow>,
@@ -260,7 +292,7 @@ impl MemStore {
             rules: Rules::new(alloc),
             documents: Documents::new(alloc),
             packages: Appended::new(alloc),
-            extracted: Vec::new(alloc),
+            extracted: Appended::new(alloc),
             office: Office::new(alloc),
             releases: Sorted::new(alloc),
             attached: Blocks::new(alloc),
@@ -307,14 +339,12 @@ impl MemStore {
         ensures fault { IfErr result (λ fault. fault ≡ Fault.Memory) }
     {
         let packages = packages.into_vec();
-        let mut references = references.into_vec();
+        let references = references.into_vec();
         self.packages.reserve(packages.len())?;
-        reserve(&mut self.extracted, references.len())?;
+        self.extracted.reserve(references.len())?;
         self.documents.push(row)?;
         self.packages.append(packages);
-        let Ok(()) = self.extracted.append(&mut references) else {
-            unreachable!()
-        };
+        self.extracted.append(references);
         Ok(())
     }
 
@@ -472,6 +502,13 @@ impl Store for MemStore {
         Ok(self.catalogue.len() as u64)
     }
 
+    fn catalogue_text(&mut self, revision: u64) -> Result<Option<Text>, Fault> {
+        match revision_in(self.catalogue.as_slice(), revision) {
+            Some(row) => Ok(Some(row.body.clone()?)),
+            None => Ok(None),
+        }
+    }
+
     fn has_form(&mut self, form: &str) -> Result<bool, Fault> {
         Ok(has_form(self.forms.as_slice(), form))
     }
@@ -522,6 +559,16 @@ impl Store for MemStore {
         Ok(shipped_rows(self.alloc, rows, document)?)
     }
 
+    fn extracted_text(&mut self, document: u32, reference: &str) -> Result<Option<Text>, Fault> {
+        match self.extracted.find(&ByExtracted {
+            document,
+            reference,
+        }) {
+            Some(row) => Ok(copy_of(&row.body)?),
+            None => Ok(None),
+        }
+    }
+
     fn release(&mut self, name: &str) -> Result<Option<ReleaseRow>, Fault> {
         match self.releases.find(&ByName { name }) {
             Some(row) => Ok(Some(release_copy(row)?)),
@@ -553,6 +600,15 @@ impl Store for MemStore {
             id,
         })?;
         Ok(terms_of(self.alloc, rows.as_slice())?)
+    }
+
+    fn frozen(&mut self, release: &str, document: u32, id: &str) -> Result<Vec<FrozenRow>, Fault> {
+        let rows = self.frozen.run(&ByFrozenPackage {
+            release,
+            document,
+            id,
+        })?;
+        Ok(frozen_copies(self.alloc, rows.as_slice())?)
     }
 
     fn conclusion(&mut self, document: u32, id: &str) -> Result<Option<Text>, Fault> {

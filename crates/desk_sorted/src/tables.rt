@@ -1,12 +1,12 @@
 //! The orders of the tables' rows.
 
 ghost use Rattle.desk_rows.specs.Keys.{adoption_order, attached_order, choice_order, conclusion_order, frozen_order, package_order};
-ghost use Rattle.desk_sorted.specs.Orders.{document_order, release_order, document_total, package_total, release_total, attached_total, choice_total, frozen_total, conclusion_total, adoption_total};
+ghost use Rattle.desk_sorted.specs.Orders.{document_order, extracted_order, release_order, document_total, extracted_total, package_total, release_total, attached_total, choice_total, frozen_total, conclusion_total, adoption_total};
 
 use crate::sorted::Keyed;
 use desk_rows::{
-    AdoptionRow, AttachedRow, ChoiceRow, ConclusionRow, DocumentRow, FrozenRow, PackageRow,
-    ReleaseRow,
+    AdoptionRow, AttachedRow, ChoiceRow, ConclusionRow, DocumentRow, ExtractedRow, FrozenRow,
+    PackageRow, ReleaseRow,
 };
 use std::cmp::Ordering;
 
@@ -29,6 +29,18 @@ impl Keyed for PackageRow {
         self.document
             .cmp(&other.document)
             .then(self.id.as_str().cmp(other.id.as_str()))
+    }
+}
+
+impl Keyed for ExtractedRow {
+    ghost order = { extracted_order };
+
+    ghost total = { extracted_total };
+
+    fn compare(&self, other: &Self) -> Ordering {
+        self.document
+            .cmp(&other.document)
+            .then(self.reference.as_str().cmp(other.reference.as_str()))
     }
 }
 

@@ -17,8 +17,8 @@ use crate::counts::{Counts, counts_after};
 use desk_access::store::Store;
 use desk_base::{Day, Items, Text};
 use desk_rows::{
-    AttachedRow, Change, ChangeRow, DutyRow, Fault, PackageRow, Profile, ReleaseRow, Rule,
-    Standing, StoreFault, Totals,
+    AttachedRow, Change, ChangeRow, DutyRow, Fault, FrozenRow, PackageRow, Profile, ReleaseRow,
+    Rule, Standing, StoreFault, Totals,
 };
 use desk_tally::{Step, Tallies};
 use sqlite::{Alter, Connection};
@@ -169,6 +169,10 @@ impl<S: Alter> Store for SqlStore<S> {
         Ok(u64::from(self.counts.revisions))
     }
 
+    fn catalogue_text(&mut self, revision: u64) -> Result<Option<Text>, Fault> {
+        desk_lookups::catalogue_text(self.alloc, &mut self.conn, self.counts.revisions, revision)
+    }
+
     fn has_form(&mut self, form: &str) -> Result<bool, Fault> {
         Ok(has_form(self.forms.as_slice(), form))
     }
@@ -208,6 +212,10 @@ impl<S: Alter> Store for SqlStore<S> {
         desk_lookups::shipped(self.alloc, &mut self.conn, document)
     }
 
+    fn extracted_text(&mut self, document: u32, reference: &str) -> Result<Option<Text>, Fault> {
+        desk_lookups::extracted_text(self.alloc, &mut self.conn, document, reference)
+    }
+
     fn release(&mut self, name: &str) -> Result<Option<ReleaseRow>, Fault> {
         desk_lookups::release(self.alloc, &mut self.conn, name)
     }
@@ -230,6 +238,10 @@ impl<S: Alter> Store for SqlStore<S> {
 
     fn chosen(&mut self, release: &str, document: u32, id: &str) -> Result<Vec<Text>, Fault> {
         desk_lookups::chosen(self.alloc, &mut self.conn, release, document, id)
+    }
+
+    fn frozen(&mut self, release: &str, document: u32, id: &str) -> Result<Vec<FrozenRow>, Fault> {
+        desk_lookups::frozen(self.alloc, &mut self.conn, release, document, id)
     }
 
     fn conclusion(&mut self, document: u32, id: &str) -> Result<Option<Text>, Fault> {
