@@ -1,1 +1,3 @@
 mod Listings
+mod Bills
+mod Uses

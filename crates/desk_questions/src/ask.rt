@@ -8,6 +8,7 @@ ghost use Rattle.desk_rows.specs.Queries.{duty_line};
 ghost use Rattle.desk_access.specs.Seen.{Looked, OfRows};
 ghost use Rattle.desk_history.specs.FromTables.{queried_from, line_found};
 
+use crate::bill::bill;
 use crate::findings::findings;
 use crate::listing::{alternatives, cheapest};
 use crate::packages::release;
@@ -118,5 +119,6 @@ pub fn answer_to<T: Texts, S: Store>(
             package_id,
             form,
         } => cheapest(alloc, texts, store, *document, package_id, form),
+        Query::Bill { release: name } => bill(alloc, texts, store, name),
     }
 }

@@ -5,10 +5,12 @@
 //! leaves the rows as they are.
 //!
 //! - `answer_to` is all questions; `ask` has those of duties, `findings` reads a document, `packages` tells a release, `listing`
-//!   the sets of terms that a conclusion is true under.
+//!   the sets of terms that a conclusion is true under, `bill` what the notices of a release are written of.
 #![tactic(auto)]
 
 pub mod ask;
+pub mod bill;
 pub mod findings;
 pub mod listing;
 pub mod packages;
+mod texts;

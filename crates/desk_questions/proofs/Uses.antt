@@ -1,0 +1,161 @@
+-- Texts in the order of first use: one text more is at the end, if it isn't among those before; and a set of keys tells whether it is.
+use Rattle.std.proofs.Common.{◌≡◌, ◌∙◌, inl, inr, ℕ, ◌+◌, ◌==◌, Bool, true, false, cond, List, [], ◌∷◌, ◌++◌, sym, ap, refl, nat_cmp, arith}
+use Rattle.std.specs.Prelude.{◌||◌, ◌&&◌, not, filter, if◌then◌else◌}
+use Rattle.std.specs.List.{list_any}
+use Rattle.std.specs.Ordering.{is_eq, ordering_then}
+use Rattle.std.specs.Cmp.{unsigned_tied}
+use Rattle.std.specs.Cmp.Lexicographic.{slice_cmp}
+use Rattle.std.specs.Str.{bytes_eq}
+use Rattle.std.specs.BTreeSet.{BTreeSet, contains_by, Updates}
+use Rattle.std.specs.declared.cmp.Ordering.{Ordering}
+use Rattle.std.specs.declared.cmp.Ordering.TheVariants.{Less, Equal, Greater}
+use Rattle.std.proofs.lemmas.Bool.{cases_Bool, false≢true}
+use Rattle.std.proofs.lemmas.Bool.Decides.{nat_tests}
+use Rattle.std.proofs.lemmas.List.{append-nil}
+use Rattle.std.proofs.lemmas.Slice.Eq.{bytes_eq-Decides}
+use Rattle.std.proofs.lemmas.Map.Text.{is_eq-slice_cmp}
+use Rattle.std.proofs.lemmas.List.Elements.{filter-append}
+use Rattle.std.proofs.lemmas.List.Folds.{list_any-append}
+use Rattle.desk_rows.specs.Bills.{first_uses, is_same_text}
+use Rattle.desk_rows.specs.declared.bill.TextOf.{TextOf}
+use Rattle.desk_rows.specs.declared.bill.TextOf.TheVariants.{Licence, Reference}
+use Rattle.desk_questions.specs.Billing.{HasTexts, key_order, text_key}
+use Rattle.desk_questions.specs.declared.texts.TextKey.{TextKey}
+
+-- Either side
+
+bytes_flipped : (a b : List ℕ) → bytes_eq a b ≡ bytes_eq b a
+bytes_flipped a b =
+    elim (cases_Bool (bytes_eq a b)) [
+      | inl same ↦ same ∙ sym ((bytes_eq-Decides b a).1 (sym ((bytes_eq-Decides a b).0 same)))
+      | inr other ↦ elim (cases_Bool (bytes_eq b a)) [
+        | inl same ↦ absurd (false≢true (sym other ∙ (bytes_eq-Decides a b).1 (sym ((bytes_eq-Decides b a).0 same))))
+        | inr other' ↦ other ∙ sym other'
+      ]
+    ]
+
+nat_flipped : (d e : ℕ) → (d == e) ≡ (e == d)
+nat_flipped d e = grind (arith, nat_tests)
+
+-- Keys
+
+either_equal : (o p : Ordering) → is_eq (ordering_then o p) ≡ (is_eq o && is_eq p)
+either_equal Less p = refl
+either_equal Equal p = refl
+either_equal Greater p = refl
+
+key_equal : (a b : TextKey) → is_eq (key_order a b) ≡ ((a.document == b.document) && bytes_eq a.name b.name)
+key_equal a b =
+    either_equal (nat_cmp a.document b.document) (slice_cmp nat_cmp a.name b.name)
+    ∙ (λ i. unsigned_tied a.document b.document i && is_eq-slice_cmp a.name b.name i)
+
+next_same : (d e : ℕ) → (d + 1 == e + 1) ≡ (d == e)
+next_same d e = grind (arith, nat_tests)
+
+next_other : (d : ℕ) → (0 == d + 1) ≡ false
+next_other d = grind (arith, nat_tests)
+
+other_next : (d : ℕ) → (d + 1 == 0) ≡ false
+other_next d = grind (arith, nat_tests)
+
+-- texts are the same where their keys are
+pub same_key : (a b : TextOf) → is_eq (key_order (text_key a) (text_key b)) ≡ is_same_text a b
+same_key (Licence id) (Licence other) = key_equal (text_key (Licence id)) (text_key (Licence other))
+same_key (Licence id) (Reference e other) =
+    key_equal (text_key (Licence id)) (text_key (Reference e other)) ∙ ap (λ b. b && bytes_eq id other) (next_other e)
+same_key (Reference d reference) (Licence other) =
+    key_equal (text_key (Reference d reference)) (text_key (Licence other)) ∙ ap (λ b. b && bytes_eq reference other) (other_next d)
+same_key (Reference d reference) (Reference e other) =
+    key_equal (text_key (Reference d reference)) (text_key (Reference e other)) ∙ ap (λ b. b && bytes_eq reference other) (next_same d e)
+
+flipped : (a b : TextOf) → is_same_text a b ≡ is_same_text b a
+flipped (Licence id) (Licence other) = bytes_flipped id other
+flipped (Licence id) (Reference e other) = refl
+flipped (Reference d reference) (Licence other) = refl
+flipped (Reference d reference) (Reference e other) = λ i. nat_flipped d e i && bytes_flipped reference other i
+
+-- One text more
+
+added : (x : TextOf) (xs : List TextOf) (y : TextOf) (b : Bool) → list_any (is_same_text x) xs ≡ b
+    → y ∷ filter (λ other. not (is_same_text y other)) (if b then first_uses xs else first_uses xs ++ x ∷ [])
+    ≡ (if is_same_text x y || b then first_uses (y ∷ xs) else first_uses (y ∷ xs) ++ x ∷ [])
+added x xs y true e = at_true (is_same_text x y)
+  where
+    at_true : (c : Bool) → first_uses (y ∷ xs) ≡ (if c || true then first_uses (y ∷ xs) else first_uses (y ∷ xs) ++ x ∷ [])
+    at_true true = refl
+    at_true false = refl
+added x xs y false e =
+    ap (λ l. y ∷ l) (filter-append (λ other. not (is_same_text y other)) (first_uses xs) (x ∷ []))
+    ∙ at_false (is_same_text x y) (flipped y x)
+  where
+    kept : List TextOf
+    kept = filter (λ other. not (is_same_text y other)) (first_uses xs)
+
+    at_false : (c : Bool) → is_same_text y x ≡ c
+        → y ∷ (kept ++ filter (λ other. not (is_same_text y other)) (x ∷ []))
+        ≡ (if c || false then y ∷ kept else y ∷ (kept ++ x ∷ []))
+    at_false true is = ap (λ b. y ∷ (kept ++ cond (not b) (x ∷ []) [])) is ∙ ap (λ l. y ∷ l) (append-nil kept)
+    at_false false is = ap (λ b. y ∷ (kept ++ cond (not b) (x ∷ []) [])) is
+
+pub first_uses-append : (xs : List TextOf) (x : TextOf)
+    → first_uses (xs ++ x ∷ []) ≡ (if list_any (is_same_text x) xs then first_uses xs else first_uses xs ++ x ∷ [])
+first_uses-append [] x = refl
+first_uses-append (y ∷ xs) x =
+    ap (λ l. y ∷ filter (λ other. not (is_same_text y other)) l) (first_uses-append xs x)
+    ∙ added x xs y (list_any (is_same_text x) xs) refl
+
+-- Sets
+
+either : (b c : Bool) → cond b true c ≡ (c || b)
+either true true = refl
+either true false = refl
+either false true = refl
+either false false = refl
+
+none_more : (b : Bool) → b ≡ (b || false)
+none_more true = refl
+none_more false = refl
+
+any_key : (x : TextOf) (xs : List TextOf) → list_any (λ text. is_eq (key_order (text_key x) (text_key text))) xs ≡ list_any (is_same_text x) xs
+any_key x [] = refl
+any_key x (y ∷ xs) = λ i. same_key x y i || any_key x xs i
+
+turned : (a b : TextKey) → is_eq (key_order a b) ≡ is_eq (key_order b a)
+turned a b = key_equal a b ∙ (λ i. nat_flipped a.document b.document i && bytes_flipped a.name b.name i) ∙ sym (key_equal b a)
+
+-- a text is new where none before is the same
+pub is_new : (xs : List TextOf) (seen : BTreeSet TextKey) (x : TextOf) (key : TextKey) (told : Bool) → key ≡ text_key x → HasTexts xs seen
+    → told ≡ not (contains_by (key_order key) seen) → told ≡ not (list_any (is_same_text x) xs)
+is_new xs seen x key told is has e =
+    e ∙ ap (λ k. not (contains_by (key_order k) seen)) is ∙ ap not (has (text_key x) ∙ any_key x xs)
+
+-- one text more
+pub texts_more : (xs : List TextOf) (x : TextOf) (old new : BTreeSet TextKey) (key : TextKey) → key ≡ text_key x → Updates key_order old new key true
+    → HasTexts xs old → HasTexts (xs ++ x ∷ []) new
+texts_more xs x old new key is h has = λ q.
+    h.0 q
+    ∙ (λ i. cond (turned key q i) true (has q i))
+    ∙ either (is_eq (key_order q key)) (list_any (λ text. is_eq (key_order q (text_key text))) xs)
+    ∙ ap (λ k. list_any (λ text. is_eq (key_order q (text_key text))) xs || is_eq (key_order q k)) is
+    ∙ ap (λ b. list_any (λ text. is_eq (key_order q (text_key text))) xs || b) (none_more (is_eq (key_order q (text_key x))))
+    ∙ sym (list_any-append (λ text. is_eq (key_order q (text_key text))) xs (x ∷ []))
+
+-- What is kept after one text more: that text too where it is new, else what was kept
+kept_new : (b : Bool) (xs : List TextOf) (x : TextOf) → not b ≡ true → (if b then first_uses xs else first_uses xs ++ x ∷ []) ≡ first_uses xs ++ x ∷ []
+kept_new true xs x e = absurd (false≢true e)
+kept_new false xs x e = refl
+
+kept_old : (b : Bool) (xs : List TextOf) (x : TextOf) → not b ≡ false → (if b then first_uses xs else first_uses xs ++ x ∷ []) ≡ first_uses xs
+kept_old true xs x e = refl
+kept_old false xs x e = absurd (false≢true (sym e))
+
+pub uses_more : (xs uses next : List TextOf) (x : TextOf) (told : Bool) → told ≡ not (list_any (is_same_text x) xs) → uses ≡ first_uses xs → told ≡ true
+    → next ≡ uses ++ x ∷ [] → next ≡ first_uses (xs ++ x ∷ [])
+uses_more xs uses next x told is kept e put =
+    put ∙ ap (λ l. l ++ x ∷ []) kept
+    ∙ sym (first_uses-append xs x ∙ kept_new (list_any (is_same_text x) xs) xs x (sym is ∙ e))
+
+pub uses_same : (xs uses : List TextOf) (x : TextOf) (told : Bool) → told ≡ not (list_any (is_same_text x) xs) → uses ≡ first_uses xs → told ≡ false
+    → uses ≡ first_uses (xs ++ x ∷ [])
+uses_same xs uses x told is kept e =
+    kept ∙ sym (first_uses-append xs x ∙ kept_old (list_any (is_same_text x) xs) xs x (sym is ∙ e))

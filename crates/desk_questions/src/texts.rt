@@ -1,0 +1,286 @@
+//! The texts that go with a frozen release: those that its terms name, in the order of first use, each once.
+
+ghost use Rattle.std.specs.Prelude.{◌≡◌, ◌++◌, ℕ, List, Option, IfOk, IfErr, OnOk, map};
+ghost use Rattle.std.specs.List.{flat_map};
+ghost use Rattle.std.specs.Option.{option_map_or};
+ghost use Rattle.std.specs.Ordering.{nat_cmp, on, then_cmp, as_partial_cmp};
+ghost use Rattle.std.specs.Cmp.{partial_order_from_own_ties};
+ghost use Rattle.std.specs.Cmp.Rules.{comparing};
+ghost use Rattle.std.specs.Cmp.Lexicographic.{slice_cmp};
+ghost use Rattle.std.proofs.Common.{rules};
+ghost use Rattle.desk_rows.specs.Readings.{Readings};
+ghost use Rattle.desk_rows.specs.Bills.{bill_text, first_uses, licence_bill, revision_text, texts_named};
+ghost use Rattle.desk_rows.specs.Faults.{MayFail};
+ghost use Rattle.desk_access.specs.Seen.{Looked, OfRows};
+ghost use Rattle.desk_questions.specs.Billing.{AreIn, licence_found, main_text, terms_texts, text_key};
+
+use crate::bill::FrozenPackage;
+use desk_access::store::Store;
+use desk_access::texts::Texts;
+use desk_base::{Items, Text};
+use desk_rows::{BillText, Fault, FrozenRow, LicenceText, TextOf};
+use std::alloc::{AllocError, Global};
+use std::cmp::Ordering;
+use std::collections::BTreeSet;
+
+/// The text of a term's reference, or else of its licence.
+fn main_text<T: Texts>(
+    alloc: Global,
+    texts: &T,
+    document: u32,
+    term: &Text,
+) -> Result<TextOf, AllocError>
+    ensures { (w : Readings) → T.are_right w → IfOk result (λ text. text ≡ main_text w document term.now) }
+{
+    match texts.reference(alloc, term.as_str())? {
+        Some(reference) => Ok(TextOf::Reference {
+            document,
+            reference,
+        }),
+        None => Ok(TextOf::Licence {
+            id: texts.licence_id(alloc, term.as_str())?,
+        }),
+    }
+}
+
+/// Adds the texts that a term names.
+fn add_texts<T: Texts>(
+    alloc: Global,
+    texts: &T,
+    row: &FrozenRow,
+    named: &mut Vec<TextOf>,
+) -> Result<(), AllocError>
+    ensures { (w : Readings) → T.are_right w
+        → OnOk result (named.new.items ≡ named.old.items ++ texts_named w row.now.document row.now.term) }
+{
+    let main = main_text(alloc, texts, row.document, &row.term)?;
+    named.push(main)?;
+    if let Some(id) = texts.exception(alloc, row.term.as_str())? {
+        named.push(TextOf::Licence { id })?;
+    }
+    Ok(())
+}
+
+/// Adds the texts that the terms of a package name.
+fn add_package<T: Texts>(
+    alloc: Global,
+    texts: &T,
+    terms: &[FrozenRow],
+    named: &mut Vec<TextOf>,
+) -> Result<(), AllocError>
+    ensures { (w : Readings) → T.are_right w
+        → OnOk result (named.new.items ≡ named.old.items ++ terms_texts w terms.now) }
+{
+    for row in terms {
+        add_texts(alloc, texts, row, named)?;
+    }
+    Ok(())
+}
+
+/// The texts that the terms of packages name, in their order.
+fn named_texts<T: Texts>(
+    alloc: Global,
+    texts: &T,
+    packages: &[FrozenPackage],
+) -> Result<Vec<TextOf>, AllocError>
+    ensures { (w : Readings) → T.are_right w → IfOk result (λ named.
+        named.items ≡ flat_map (λ frozen. terms_texts w frozen.terms) packages.now) }
+{
+    let mut named = Vec::new(alloc);
+    for frozen in packages {
+        add_package(alloc, texts, frozen.terms.as_slice(), &mut named)?;
+    }
+    Ok(named)
+}
+
+/// What a text is known by: its name, and 0 for an id, or for a reference one more than the number of its document.
+#[derive(Drop, PartialEq, Eq)]
+pub(crate) struct TextKey {
+    document: u64,
+    name: Text,
+}
+
+impl Ord for TextKey {
+    ghost cmp = { then_cmp (on (λ k. k.document) nat_cmp) (on (λ k. k.name) (slice_cmp nat_cmp)) };
+
+    ghost total = { Prim.search (comparing, rules) };
+
+    ghost matches_partial_cmp = { Prim.search (comparing, rules) };
+
+    ghost matches_eq = { Prim.search (comparing, rules) };
+
+    fn cmp(&self, other: &TextKey) -> Ordering {
+        self.document
+            .cmp(&other.document)
+            .then(self.name.as_str().cmp(other.name.as_str()))
+    }
+}
+
+impl PartialOrd for TextKey {
+    ghost partial_cmp = { as_partial_cmp (then_cmp (on (λ k. k.document) nat_cmp) (on (λ k. k.name) (slice_cmp nat_cmp))) };
+
+    ghost laws = { partial_order_from_own_ties (Prim.search (comparing, rules)) (Prim.search (comparing, rules)) };
+
+    fn partial_cmp(&self, other: &TextKey) -> Option<Ordering> {
+        Some(self.cmp(other))
+    }
+}
+
+fn text_key(text: &TextOf) -> Result<TextKey, AllocError>
+    ensures { IfOk result (λ key. key ≡ text_key text.now) }
+{
+    match text {
+        TextOf::Licence { id } => Ok(TextKey {
+            document: 0,
+            name: id.clone()?,
+        }),
+        TextOf::Reference {
+            document,
+            reference,
+        } => Ok(TextKey {
+            document: u64::from(*document) + 1,
+            name: reference.clone()?,
+        }),
+    }
+}
+
+/// The texts in the order of first use, each once.
+fn first_uses(alloc: Global, named: Vec<TextOf>) -> Result<Vec<TextOf>, AllocError>
+    ensures { IfOk result (λ uses. uses.items ≡ first_uses named.items) }
+{
+    let mut uses = Vec::new(alloc);
+    let mut seen = BTreeSet::new(alloc);
+    for text in named {
+        let key = text_key(&text)?;
+        if seen.insert(key)? {
+            uses.push(text)?;
+        }
+    }
+    Ok(uses)
+}
+
+/// The texts of licences in a revision of the catalogue, if there is one.
+fn licences_of<T: Texts, S: Store>(
+    alloc: Global,
+    texts: &T,
+    store: &mut S,
+    revision: u64,
+) -> Result<Option<T::Licences>, Fault>
+    ensures found { (w : Readings) → T.are_right w → IfOk result (λ licences.
+        OfRows (λ t. AreIn T.are_in w (revision_text t.catalogue revision) licences)
+        (S.seen store.old) (S.seen store.new)) }
+    ensures kept { Looked (S.seen store.old) (S.seen store.new) result }
+    ensures fault { IfErr result (MayFail S.tells) }
+{
+    match store.catalogue_text(revision)? {
+        Some(text) => Ok(Some(texts.licences(alloc, text.as_str())?)),
+        None => Ok(None),
+    }
+}
+
+/// The text of a licence or an exception.
+fn licence_found<T: Texts>(
+    alloc: Global,
+    texts: &T,
+    licences: &Option<T::Licences>,
+    id: &Text,
+) -> Result<Option<LicenceText>, AllocError>
+    ensures { (w : Readings) → T.are_right w → (catalogue : Option (List ℕ))
+        → AreIn T.are_in w catalogue licences.now
+        → IfOk result (λ found. found ≡ licence_found w catalogue id.now) }
+{
+    match licences {
+        Some(licences) => texts.licence_text(alloc, licences, id.as_str()),
+        None => Ok(None),
+    }
+}
+
+fn licence_bill(id: Text, found: Option<LicenceText>) -> BillText
+    ensures { result ≡ licence_bill id found }
+{
+    match found {
+        Some(text) => BillText {
+            title: text.title,
+            body: Some(text.body),
+        },
+        None => BillText {
+            title: id,
+            body: None,
+        },
+    }
+}
+
+fn bill_text<T: Texts, S: Store>(
+    alloc: Global,
+    texts: &T,
+    store: &mut S,
+    licences: &Option<T::Licences>,
+    text: TextOf,
+) -> Result<BillText, Fault>
+    ensures found { (w : Readings) → T.are_right w → (catalogue : Option (List ℕ))
+        → AreIn T.are_in w catalogue licences.now → IfOk result (λ found.
+        OfRows (λ t. found ≡ bill_text w catalogue t.extracted text) (S.seen store.old) (S.seen store.new)) }
+    ensures kept { Looked (S.seen store.old) (S.seen store.new) result }
+    ensures fault { IfErr result (MayFail S.tells) }
+{
+    match text {
+        TextOf::Licence { id } => {
+            let found = licence_found(alloc, texts, licences, &id)?;
+            Ok(licence_bill(id, found))
+        }
+        TextOf::Reference {
+            document,
+            reference,
+        } => {
+            let body = store.extracted_text(document, reference.as_str())?;
+            Ok(BillText {
+                title: reference,
+                body,
+            })
+        }
+    }
+}
+
+#[tactic(auto, using(desk_access::proofs::Chains::same_then_kept, desk_access::proofs::Chains::same_then_same))]
+fn bill_texts<T: Texts, S: Store>(
+    alloc: Global,
+    texts: &T,
+    store: &mut S,
+    licences: &Option<T::Licences>,
+    uses: Vec<TextOf>,
+) -> Result<Items<BillText>, Fault>
+    ensures found { (w : Readings) → T.are_right w → (catalogue : Option (List ℕ))
+        → AreIn T.are_in w catalogue licences.now → IfOk result (λ found.
+        OfRows (λ t. found ≡ map (bill_text w catalogue t.extracted) uses.items)
+        (S.seen store.old) (S.seen store.new)) }
+    ensures kept { Looked (S.seen store.old) (S.seen store.new) result }
+    ensures fault { IfErr result (MayFail S.tells) }
+{
+    let mut bodies = Items::new(alloc);
+    for text in uses {
+        let body = bill_text(alloc, texts, store, licences, text)?;
+        bodies.push(body)?;
+    }
+    Ok(bodies)
+}
+
+/// The texts of the terms of packages, by a revision of the catalogue, each once in the order of first use.
+pub(crate) fn texts_for<T: Texts, S: Store>(
+    alloc: Global,
+    texts: &T,
+    store: &mut S,
+    revision: u64,
+    packages: &[FrozenPackage],
+) -> Result<Items<BillText>, Fault>
+    ensures found { (w : Readings) → T.are_right w → IfOk result (λ found.
+        OfRows (λ t. found ≡ map (bill_text w (revision_text t.catalogue revision) t.extracted)
+        (first_uses (flat_map (λ frozen. terms_texts w frozen.terms) packages.now)))
+        (S.seen store.old) (S.seen store.new)) }
+    ensures kept { Looked (S.seen store.old) (S.seen store.new) result }
+    ensures fault { IfErr result (MayFail S.tells) }
+{
+    let licences = licences_of(alloc, texts, store, revision)?;
+    let named = named_texts(alloc, texts, packages)?;
+    let uses = first_uses(alloc, named)?;
+    bill_texts(alloc, texts, store, &licences, uses)
+}
