@@ -33,24 +33,24 @@ module _ (is_right : Readings → Type 0) (tells : StoreFault → Type 0) {Left 
   -- a request of a connection is replied as a line
   as_line : (before after : Desk) (get : Bool) (r : Reply) (q : Request) → Answers is_right tells seen get before r q after
       → Replies is_right tells (seen before) (line_of q) (line_reply r) (seen after)
-  as_line before after get (Became o short) (request.Act c) a = a.1
-  as_line before after get (Became o short) (request.Ask c) a = a.1
-  as_line before after get (Became o short) request.NoRoute a = absurd a
-  as_line before after get (Became o short) request.BadCommand a = absurd a
-  as_line before after get (Became o short) request.NotText a = absurd a
+  as_line before after get (Became o s short) (request.Act c) a = a.2
+  as_line before after get (Became o s short) (request.Ask c shape) a = a.2
+  as_line before after get (Became o s short) request.NoRoute a = absurd a
+  as_line before after get (Became o s short) request.BadCommand a = absurd a
+  as_line before after get (Became o s short) request.NotText a = absurd a
   as_line before after get NoRoute request.NoRoute a = unasked before after a
   as_line before after get NoRoute (request.Act c) a = absurd a
-  as_line before after get NoRoute (request.Ask c) a = absurd a
+  as_line before after get NoRoute (request.Ask c shape) a = absurd a
   as_line before after get NoRoute request.BadCommand a = absurd a
   as_line before after get NoRoute request.NotText a = absurd a
   as_line before after get BadCommand request.BadCommand a = unasked before after a
   as_line before after get BadCommand (request.Act c) a = absurd a
-  as_line before after get BadCommand (request.Ask c) a = absurd a
+  as_line before after get BadCommand (request.Ask c shape) a = absurd a
   as_line before after get BadCommand request.NoRoute a = absurd a
   as_line before after get BadCommand request.NotText a = absurd a
   as_line before after get NotText request.NotText a = unasked before after a
   as_line before after get NotText (request.Act c) a = absurd a
-  as_line before after get NotText (request.Ask c) a = absurd a
+  as_line before after get NotText (request.Ask c shape) a = absurd a
   as_line before after get NotText request.NoRoute a = absurd a
   as_line before after get NotText request.BadCommand a = absurd a
   as_line before after get Memory q a = absurd a
@@ -60,8 +60,8 @@ module _ (is_right : Readings → Type 0) (tells : StoreFault → Type 0) {Left 
       → (q : json_request.Request) × IsLineOf bytes r q × Replies is_right tells (seen before) q (line_reply r) (seen after)
   one before after bytes Memory a = (line.BadCommand, refl, unasked before after a)
   one before after bytes (Bad status) a = (line.BadCommand, (a.0, refl), unasked before after a.1)
-  one before after bytes (Became o short) (m, t, b, x, a) =
-      (line_of (request_for m t b), (m, t, b, x, refl), as_line before after (is_get m) (Became o short) (request_for m t b) a)
+  one before after bytes (Became o s short) (m, t, b, x, a) =
+      (line_of (request_for m t b), (m, t, b, x, refl), as_line before after (is_get m) (Became o s short) (request_for m t b) a)
   one before after bytes NoRoute (m, t, b, x, a) =
       (line_of (request_for m t b), (m, t, b, x, refl), as_line before after (is_get m) NoRoute (request_for m t b) a)
   one before after bytes BadCommand (m, t, b, x, a) =

@@ -24,8 +24,8 @@ module _ (is_right : Readings → Type 0) (tells : StoreFault → Type 0) {Left 
   IsReply-wanted before after bytes r request get (refused status) x w a = absurd w
   IsReply-wanted before after bytes Memory request get (asked m t b) x w a = absurd a
   IsReply-wanted before after bytes (Bad status) request get (asked m t b) x w a = absurd a
-  IsReply-wanted before after bytes (Became o short) request get (asked m t b) x w a =
-      (m, t, b, x, moved before after (Became o short) request get m t b w.0 w.1 a)
+  IsReply-wanted before after bytes (Became o s short) request get (asked m t b) x w a =
+      (m, t, b, x, moved before after (Became o s short) request get m t b w.0 w.1 a)
   IsReply-wanted before after bytes NoRoute request get (asked m t b) x w a = (m, t, b, x, moved before after NoRoute request get m t b w.0 w.1 a)
   IsReply-wanted before after bytes BadCommand request get (asked m t b) x w a = (m, t, b, x, moved before after BadCommand request get m t b w.0 w.1 a)
   IsReply-wanted before after bytes NotText request get (asked m t b) x w a = (m, t, b, x, moved before after NotText request get m t b w.0 w.1 a)

@@ -25,11 +25,11 @@ pub record Connection : Type 0 where
 -- a request and a reply as those of a line; what the desk isn't asked is like a line that is no request
 abbrev pub line_of : Request → json_request.Request
 line_of (Act c) = line.Act c
-line_of (Ask q) = line.Ask q
+line_of (Ask q shape) = line.Ask q
 line_of _ = line.BadCommand
 
 abbrev pub line_reply : Reply → script_reply.Reply
-line_reply (reply.Became o short) = script.Became o
+line_reply (reply.Became o shape short) = script.Became o
 line_reply _ = script.NoRequest
 
 -- the request of these bytes as that of a line; none where they are refused, or no memory was left to read them

@@ -16,6 +16,7 @@ use Rattle.desk_http.specs.declared.answering.Wanted.{Wanted}
 use Rattle.desk_http.specs.declared.answering.Wanted.TheVariants as wanted
 use Rattle.desk_http_requests.specs.declared.asking.Request.{Request}
 use Rattle.desk_http_requests.specs.declared.asking.Request.TheVariants.{Act, Ask, NoRoute, BadCommand, NotText}
+use Rattle.desk_http_requests.specs.declared.asking.Shape.TheVariants.{Json}
 use Rattle.desk_http.specs.declared.serving.Served.{Served}
 use Rattle.desk_http.specs.declared.serving.Served.TheVariants.{Replied, Nothing}
 use Rattle.desk_access.specs.Seen.{Seen}
@@ -37,12 +38,12 @@ Wants _ _ = ⊥
 
 module _ (is_right : Readings → Type 0) (tells : StoreFault → Type 0) {Left Desk : Type 0} (seen : Desk → Seen Left) where
   -- A request gets this reply, and leads from one desk to the other: a command or a query as a line of a script does; anything else
-  -- leaves the desk.
+  -- leaves the desk. An answer is written in the shape that is asked for, that of a command in JSON.
   abbrev pub Answers : Bool → Desk → Reply → Request → Desk → Type 0
-  Answers get before (reply.Became o short) (Act c) after =
-      (short ≡ get) × Replies is_right tells (seen before) (line.Act c) (script.Became o) (seen after)
-  Answers get before (reply.Became o short) (Ask q) after =
-      (short ≡ get) × Replies is_right tells (seen before) (line.Ask q) (script.Became o) (seen after)
+  Answers get before (reply.Became o given short) (Act c) after =
+      (given ≡ Json) × (short ≡ get) × Replies is_right tells (seen before) (line.Act c) (script.Became o) (seen after)
+  Answers get before (reply.Became o given short) (Ask q shape) after =
+      (given ≡ shape) × (short ≡ get) × Replies is_right tells (seen before) (line.Ask q) (script.Became o) (seen after)
   Answers get before reply.NoRoute NoRoute after = after ≡ before
   Answers get before reply.BadCommand BadCommand after = after ≡ before
   Answers get before reply.NotText NotText after = after ≡ before

@@ -10,7 +10,7 @@ ghost use Rattle.desk_script.specs.declared.answer.Reply.TheVariants as script;
 
 use desk_core::desk::Desk;
 use desk_http_head::{Framing, Received, Status, frame};
-use desk_http_requests::{Reply, Request, request_of};
+use desk_http_requests::{Reply, Request, Shape, request_of};
 use desk_rows::{Command, Outcome, Query};
 use std::alloc::Global;
 
@@ -72,8 +72,8 @@ fn reply_to<D: Desk>(desk: &mut D, request: Request, is_get: bool) -> Reply
     ensures { Answers D.are_right D.tells D.seen is_get desk.old result request desk.new }
 {
     match request {
-        Request::Act(command) => Reply::Became(applied(desk, command), is_get),
-        Request::Ask(query) => Reply::Became(asked(desk, &query), is_get),
+        Request::Act(command) => Reply::Became(applied(desk, command), Shape::Json, is_get),
+        Request::Ask(query, shape) => Reply::Became(asked(desk, &query), shape, is_get),
         Request::NoRoute => Reply::NoRoute,
         Request::BadCommand => Reply::BadCommand,
         Request::NotText => Reply::NotText,

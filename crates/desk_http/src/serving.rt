@@ -33,7 +33,7 @@ fn write_reply<W: Write>(alloc: Global, writer: &mut W, reply: &Reply) -> Result
 {
     match message_of(alloc, reply) {
         Message::Made(status, text) => {
-            send(writer, text.as_bytes())?;
+            send(writer, text.as_slice())?;
             Ok(status)
         }
         Message::NoMemory => {

@@ -3,8 +3,9 @@ use Rattle.std.proofs.Common.{inr, refl}
 use Rattle.std.specs.Prelude.{Bool, true, false, if◌then◌else◌}
 use Rattle.desk_http_requests.specs.Replies.{IsTold, no_memory, no_text}
 use Rattle.desk_http_requests.specs.declared.asking.Reply.TheVariants.{Became}
+use Rattle.desk_http_requests.specs.declared.asking.Shape.{Shape}
 use Rattle.desk_rows.specs.declared.command.Outcome.{Outcome}
 
-pub IsTold-short : (o : Outcome) (get : Bool) → IsTold (Became o get) (if get then no_memory else no_text)
-IsTold-short o true = inr refl
-IsTold-short o false = inr refl
+pub IsTold-short : (o : Outcome) (s : Shape) (get : Bool) → IsTold (Became o s get) (if get then no_memory else no_text)
+IsTold-short o s true = inr refl
+IsTold-short o s false = inr refl

@@ -22,11 +22,12 @@ use Rattle.desk_http_requests.specs.declared.asking.Reading.{Reading}
 use Rattle.desk_http_requests.specs.declared.asking.Reading.TheVariants as reading
 use Rattle.desk_http_requests.specs.declared.asking.Request.{Request}
 use Rattle.desk_http_requests.specs.declared.asking.Request.TheVariants.{Act, Ask, NoRoute, BadCommand, NotText}
+use Rattle.desk_http_requests.specs.declared.asking.Shape.TheVariants.{Json, Notices, Csv}
 
 -- a request of a line
 abbrev pub of_line : line.Request → Request
 of_line (json.Act c) = Act c
-of_line (json.Ask q) = Ask q
+of_line (json.Ask q) = Ask q Json
 of_line json.BadCommand = BadCommand
 
 -- what is posted: a request as JSON, a document, or a catalogue, which is UTF-8
@@ -37,16 +38,18 @@ posted_request posted.Catalogue body = if is_utf8 body then Act (command.LoadCat
 
 -- a query that needs a number of 1 to 18 digits
 abbrev pub with_number : List ℕ → (ℕ → Query) → Request
-with_number text ask = unwrap_or (option_map (λ n. Ask (ask n)) (number_text text)) NoRoute
+with_number text ask = unwrap_or (option_map (λ n. Ask (ask n) Json) (number_text text)) NoRoute
 
 -- what is shown at a path, whose parts stand for the names of its pattern
 abbrev pub shown_request : Shown → List ℕ → Request
 shown_request shown.Findings path = with_number (part_at 2 path) (λ n. query.Findings n)
 shown_request shown.Alternatives path = with_number (part_at 2 path) (λ n. query.Alternatives n (part_at 4 path))
 shown_request shown.Cheapest path = with_number (part_at 2 path) (λ n. query.Cheapest n (part_at 4 path) (part_at 6 path))
-shown_request shown.Release path = Ask (query.Release (part_at 2 path))
-shown_request shown.Duties path = Ask (query.Duties (part_at 2 path))
-shown_request shown.Totals path = Ask (query.Totals (part_at 2 path))
+shown_request shown.Release path = Ask (query.Release (part_at 2 path)) Json
+shown_request shown.Duties path = Ask (query.Duties (part_at 2 path)) Json
+shown_request shown.Totals path = Ask (query.Totals (part_at 2 path)) Json
+shown_request shown.Notices path = Ask (query.Bill (part_at 2 path)) Notices
+shown_request shown.DutyTable path = Ask (query.Duties (part_at 2 path)) Csv
 shown_request shown.Changes path = with_number (part_at 2 path) (λ n. query.Changes n)
 
 abbrev pub route_request : Option Route → List ℕ → List ℕ → Request

@@ -3,13 +3,24 @@
 use desk_http_head::Status;
 use desk_rows::{Command, Outcome, Query};
 
+/// The form in which an answer is written.
+#[derive(Clone, Copy, Debug, PartialEq, Eq)]
+pub enum Shape {
+    /// A line of JSON.
+    Json,
+    /// The notices of a release, as a text.
+    Notices,
+    /// The table of a release's duties, as comma-separated values.
+    Csv,
+}
+
 /// What a request asks of the desk.
 #[derive(Debug, Drop)]
 pub enum Request {
     /// The command is to be applied.
     Act(Command),
-    /// The query is to be answered.
-    Ask(Query),
+    /// The query is to be answered in this shape.
+    Ask(Query, Shape),
     /// The method and the path lead nowhere.
     NoRoute,
     /// The body is no request.
@@ -32,8 +43,8 @@ pub enum Reading<'a> {
 /// What a connection is replied.
 #[derive(Debug, Drop)]
 pub enum Reply {
-    /// What became of its command or query, and whether it was a GET.
-    Became(Outcome, bool),
+    /// What became of its command or query, the shape of an answer, and whether it was a GET.
+    Became(Outcome, Shape, bool),
     /// Its bytes are no request, and are refused with this status.
     Bad(Status),
     /// Its method and path lead nowhere.

@@ -8,7 +8,7 @@ ghost use Rattle.desk_http_routes.specs.Routes.{desk_routes, route_of};
 ghost use Rattle.desk_http_routes.specs.Paths.{part_at, path_of};
 ghost use Rattle.desk_http_requests.specs.Requests.{of_line, posted_request, shown_request, route_request, request_for, Shows};
 
-use crate::asking::{Reading, Request};
+use crate::asking::{Reading, Request, Shape};
 use desk_base::{Items, Profile, Text};
 use desk_http_head::{Framing, frame, number_of};
 use desk_http_routes::{Posted, Route, Shown, part_at, path_of, route_of, routes};
@@ -33,7 +33,7 @@ fn of_line(request: desk_json::Request) -> Request
 {
     match request {
         desk_json::Request::Act(command) => Request::Act(command),
-        desk_json::Request::Ask(query) => Request::Ask(query),
+        desk_json::Request::Ask(query) => Request::Ask(query, Shape::Json),
         desk_json::Request::BadCommand => Request::BadCommand,
     }
 }
@@ -73,6 +73,13 @@ fn number_in(path: &str) -> Option<u64>
     number_of(part_at(path, 2).as_bytes())
 }
 
+/// The name of a release in a path.
+fn release_in(alloc: Global, path: &str) -> Result<Text, AllocError>
+    ensures { IfOk result (λ name. name ≡ part_at 2 path.now) }
+{
+    Text::of(alloc, part_at(path, 2))
+}
+
 fn alternatives(alloc: Global, path: &str) -> Result<Request, AllocError>
     ensures { IfOk result (λ r. r ≡ shown_request Shown.Alternatives path.now) }
 {
@@ -80,10 +87,11 @@ fn alternatives(alloc: Global, path: &str) -> Result<Request, AllocError>
         return Ok(Request::NoRoute);
     };
     let package_id = Text::of(alloc, part_at(path, 4))?;
-    Ok(Request::Ask(Query::Alternatives {
+    let query = Query::Alternatives {
         document,
         package_id,
-    }))
+    };
+    Ok(Request::Ask(query, Shape::Json))
 }
 
 fn cheapest(alloc: Global, path: &str) -> Result<Request, AllocError>
@@ -94,18 +102,19 @@ fn cheapest(alloc: Global, path: &str) -> Result<Request, AllocError>
     };
     let package_id = Text::of(alloc, part_at(path, 4))?;
     let form = Text::of(alloc, part_at(path, 6))?;
-    Ok(Request::Ask(Query::Cheapest {
+    let query = Query::Cheapest {
         document,
         package_id,
         form,
-    }))
+    };
+    Ok(Request::Ask(query, Shape::Json))
 }
 
 fn findings(path: &str) -> Request
     ensures { result ≡ shown_request Shown.Findings path.now }
 {
     match number_in(path) {
-        Some(document) => Request::Ask(Query::Findings { document }),
+        Some(document) => Request::Ask(Query::Findings { document }, Shape::Json),
         None => Request::NoRoute,
     }
 }
@@ -114,7 +123,7 @@ fn changes(path: &str) -> Request
     ensures { result ≡ shown_request Shown.Changes path.now }
 {
     match number_in(path) {
-        Some(duty) => Request::Ask(Query::Changes { duty }),
+        Some(duty) => Request::Ask(Query::Changes { duty }, Shape::Json),
         None => Request::NoRoute,
     }
 }
@@ -128,16 +137,24 @@ fn shown_request(alloc: Global, what: Shown, path: &str) -> Result<Request, Allo
         Shown::Cheapest => cheapest(alloc, path),
         Shown::Changes => Ok(changes(path)),
         Shown::Release => {
-            let release = Text::of(alloc, part_at(path, 2))?;
-            Ok(Request::Ask(Query::Release { release }))
+            let release = release_in(alloc, path)?;
+            Ok(Request::Ask(Query::Release { release }, Shape::Json))
         }
         Shown::Duties => {
-            let release = Text::of(alloc, part_at(path, 2))?;
-            Ok(Request::Ask(Query::Duties { release }))
+            let release = release_in(alloc, path)?;
+            Ok(Request::Ask(Query::Duties { release }, Shape::Json))
         }
         Shown::Totals => {
-            let release = Text::of(alloc, part_at(path, 2))?;
-            Ok(Request::Ask(Query::Totals { release }))
+            let release = release_in(alloc, path)?;
+            Ok(Request::Ask(Query::Totals { release }, Shape::Json))
+        }
+        Shown::Notices => {
+            let release = release_in(alloc, path)?;
+            Ok(Request::Ask(Query::Bill { release }, Shape::Notices))
+        }
+        Shown::DutyTable => {
+            let release = release_in(alloc, path)?;
+            Ok(Request::Ask(Query::Duties { release }, Shape::Csv))
         }
     }
 }

@@ -2,43 +2,94 @@
 
 ghost use Rattle.std.specs.Prelude.{◌≡◌, ◌⊎◌, true, false, IfOk, codes, string_bytes, if◌then◌else◌};
 ghost use Rattle.desk_json.specs.Replies.{reply_text, bad_command_text};
-ghost use Rattle.desk_http_requests.specs.Replies.{Told, IsTold, IsMessage, reply_bytes, told_of, not_toml, no_memory, no_text, no_store};
+ghost use Rattle.desk_http_requests.specs.Replies.{Told, IsTold, IsMessage, head_bytes, reply_bytes, json, content_of, told_of, not_toml, no_memory, no_text, no_store};
 ghost use Rattle.desk_http_requests.specs.declared.asking.Reply.TheVariants.{Became};
 
-use crate::asking::Reply;
+use crate::asking::{Reply, Shape};
 use crate::statuses::status_of;
 use desk_http_head::Status;
 use desk_json::{bad_command_line, reply_line};
-use desk_rows::{Fault, Outcome};
+use desk_report::{duties_csv, notices};
+use desk_rows::{Answer, Fault, Outcome};
 use std::alloc::{AllocError, Global};
 
-/// What is written of a reply: its text, or one of those that take no memory.
+/// What is written of a reply: its bytes, or one of those that take no memory.
 #[derive(Debug, Drop)]
 pub enum Message {
-    Made(Status, String),
+    Made(Status, Vec<u8>),
     NoMemory,
     NoText,
     NoStore,
 }
 
-/// A reply with a status and a body.
-#[tactic(auto, unfolding(crate::specs::Replies::reply_bytes))]
-fn text_of(alloc: Global, status: Status, body: &str) -> Result<String, AllocError>
-    ensures { IfOk result (λ text. string_bytes text ≡ reply_bytes (status, body.now)) }
+/// What an outcome is written as.
+#[derive(Debug, Drop)]
+struct Content {
+    media_type: &'static str,
+    body: Vec<u8>,
+}
+
+/// The lines before a body of so many bytes.
+#[tactic(auto, unfolding(crate::specs::Replies::head_bytes))]
+fn head(
+    alloc: Global,
+    status: Status,
+    media_type: &str,
+    length: usize,
+) -> Result<String, AllocError>
+    ensures { IfOk result (λ text. string_bytes text ≡ head_bytes status media_type.now length) }
 {
     let line = status.line();
-    let length = body.len();
     format!(in alloc;
-        "HTTP/1.1 {line}\r\nContent-Type: application/json\r\nContent-Length: {length}\r\nConnection: close\r\n\r\n{body}"
+        "HTTP/1.1 {line}\r\nContent-Type: {media_type}\r\nContent-Length: {length}\r\nConnection: close\r\n\r\n"
     )
 }
 
-/// The reply to an outcome: its status, and its line of JSON.
-pub fn reply(alloc: Global, outcome: &Outcome) -> Result<String, AllocError>
-    ensures { IfOk result (λ text. string_bytes text ≡ reply_bytes (told_of outcome.now)) }
+/// A reply with a status, a media type and a body.
+#[tactic(auto, unfolding(crate::specs::Replies::reply_bytes))]
+fn reply_with(
+    alloc: Global,
+    status: Status,
+    media_type: &str,
+    body: &[u8],
+) -> Result<Vec<u8>, AllocError>
+    ensures { IfOk result (λ text. text.items ≡ reply_bytes (status, (media_type.now, body.now))) }
 {
-    let body = reply_line(alloc, outcome)?;
-    text_of(alloc, status_of(outcome), body.as_str())
+    let mut text = head(alloc, status, media_type, body.len())?.into_bytes();
+    text.extend_from_slice(body)?;
+    Ok(text)
+}
+
+/// The media type and the body of an outcome: a bill and rows of duties as the texts that are asked for, all else as its line of JSON.
+fn content_of(alloc: Global, outcome: &Outcome, shape: Shape) -> Result<Content, AllocError>
+    ensures { IfOk result (λ c. (c.media_type.now, c.body.items) ≡ content_of outcome.now shape) }
+{
+    let (media_type, body) = match (outcome, shape) {
+        (Outcome::Answered(Answer::Bill(bill)), Shape::Notices) => {
+            ("text/plain; charset=utf-8", notices(alloc, bill)?)
+        }
+        (Outcome::Answered(Answer::Duties(lines)), Shape::Csv) => {
+            (
+                "text/csv; charset=utf-8",
+                duties_csv(alloc, lines.as_slice())?,
+            )
+        }
+        _ => ("application/json", reply_line(alloc, outcome)?.into_bytes()),
+    };
+    Ok(Content { media_type, body })
+}
+
+/// The reply to an outcome: its status, and how it is written in a shape.
+pub fn reply(alloc: Global, outcome: &Outcome, shape: Shape) -> Result<Vec<u8>, AllocError>
+    ensures { IfOk result (λ text. text.items ≡ reply_bytes (told_of outcome.now shape)) }
+{
+    let content = content_of(alloc, outcome, shape)?;
+    reply_with(
+        alloc,
+        status_of(outcome),
+        content.media_type,
+        content.body.as_slice(),
+    )
 }
 
 /// The reply where no memory was left for a request.
@@ -71,9 +122,9 @@ fn not_toml_line() -> &'static str
 
 /// The message of a reply for which the desk wasn't asked.
 fn unasked(alloc: Global, status: Status, body: &str) -> Message
-    ensures { (told : Told) × IsMessage told result × ((told ≡ (status, body.now)) ⊎ (told ≡ no_memory)) }
+    ensures { (told : Told) × IsMessage told result × ((told ≡ (status, json body.now)) ⊎ (told ≡ no_memory)) }
 {
-    match text_of(alloc, status, body) {
+    match reply_with(alloc, status, "application/json", body.as_bytes()) {
         Ok(text) => Message::Made(status, text),
         Err(_) => Message::NoMemory,
     }
@@ -91,13 +142,13 @@ fn short_message(is_get: bool) -> Message
 }
 
 /// The message of the reply to an outcome.
-fn outcome_message(alloc: Global, outcome: &Outcome, is_get: bool) -> Message
-    ensures { (told : Told) × IsMessage told result × IsTold (Became outcome.now is_get) told }
+fn outcome_message(alloc: Global, outcome: &Outcome, shape: Shape, is_get: bool) -> Message
+    ensures { (told : Told) × IsMessage told result × IsTold (Became outcome.now shape is_get) told }
 {
     match outcome {
         Outcome::Failed(Fault::Memory) => Message::NoMemory,
         Outcome::Failed(Fault::Store(_)) => Message::NoStore,
-        Outcome::Answered(_) => match reply(alloc, outcome) {
+        Outcome::Answered(_) => match reply(alloc, outcome, shape) {
             Ok(text) => Message::Made(status_of(outcome), text),
             Err(_) => short_message(is_get),
         },
@@ -109,7 +160,7 @@ pub fn message_of(alloc: Global, reply: &Reply) -> Message
     ensures { (told : Told) × IsMessage told result × IsTold reply.now told }
 {
     match reply {
-        Reply::Became(outcome, is_get) => outcome_message(alloc, outcome, *is_get),
+        Reply::Became(outcome, shape, is_get) => outcome_message(alloc, outcome, *shape, *is_get),
         Reply::Bad(status) => unasked(alloc, *status, "{\"fault\":\"request\"}"),
         Reply::NoRoute => unasked(alloc, Status::NotFound, "{\"fault\":\"route\"}"),
         Reply::BadCommand => unasked(alloc, Status::BadRequest, bad_command_line()),

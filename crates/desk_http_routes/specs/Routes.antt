@@ -23,6 +23,8 @@ with_route pattern route rows = with_scan (parse_route pattern) route rows
 unfoldable pub desk_routes : RowsOf (RouteOf Route)
 desk_routes =
     with_route (codes "/duties/{n}/changes") (Get shown.Changes)
+    (with_route (codes "/releases/{name}/duties.csv") (Get shown.DutyTable)
+    (with_route (codes "/releases/{name}/notices") (Get shown.Notices)
     (with_route (codes "/releases/{name}/totals") (Get shown.Totals)
     (with_route (codes "/releases/{name}/duties") (Get shown.Duties)
     (with_route (codes "/releases/{name}") (Get shown.Release)
@@ -31,7 +33,7 @@ desk_routes =
     (with_route (codes "/documents/{n}/findings") (Get shown.Findings)
     (with_route (codes "/catalogue") (Post posted.Catalogue)
     (with_route (codes "/documents") (Post posted.Document)
-    (with_route (codes "/commands") (Post posted.Request) [])))))))))
+    (with_route (codes "/commands") (Post posted.Request) [])))))))))))
 
 -- what a table leads a path to
 abbrev pub found_at : RowsOf (RouteOf Route) → List ℕ → Option Route

@@ -33,6 +33,10 @@ pub enum Shown {
     Release,
     Duties,
     Totals,
+    /// The notices of a release, as a text.
+    Notices,
+    /// The duties of a release, as comma-separated values.
+    DutyTable,
     Changes,
 }
 
@@ -55,6 +59,8 @@ fn table(alloc: Global) -> Result<Router<Route>, InsertError>
     routes.insert("/releases/{name}", Route::Get(Shown::Release))?;
     routes.insert("/releases/{name}/duties", Route::Get(Shown::Duties))?;
     routes.insert("/releases/{name}/totals", Route::Get(Shown::Totals))?;
+    routes.insert("/releases/{name}/notices", Route::Get(Shown::Notices))?;
+    routes.insert("/releases/{name}/duties.csv", Route::Get(Shown::DutyTable))?;
     routes.insert("/duties/{n}/changes", Route::Get(Shown::Changes))?;
     Ok(routes)
 }

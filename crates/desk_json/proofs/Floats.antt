@@ -121,6 +121,7 @@ answer_has_no_float (answer.Release row lines) = rw (packages_have_no_float line
 answer_has_no_float (answer.Alternatives sets) = rw (sets_have_no_float sets) refl
 answer_has_no_float (answer.Cheapest None) = refl
 answer_has_no_float (answer.Cheapest (Some c)) = rw (terms_have_no_float c.terms) refl
+answer_has_no_float (answer.Bill bill) = refl
 answer_has_no_float (answer.Refused refusal) = rw (refusal_has_no_float refusal) refl
 
 pub reply_has_no_float : (o : Outcome) → has_float (reply_of o) ≡ false

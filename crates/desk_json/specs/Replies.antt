@@ -6,6 +6,7 @@ use Rattle.desk_json.specs.Parts.{whole, list, duty_row, totals_row, change_line
 use Rattle.desk_json.specs.Refusals.{refusal_values}
 use Rattle.desk_rows.specs.Names.{refusal_name}
 use Rattle.desk_rows.specs.Numbers.{refusal_number}
+use Rattle.desk_rows.specs.declared.bill.Bill.{Bill}
 use Rattle.desk_rows.specs.declared.command.Answer.{Answer}
 use Rattle.desk_rows.specs.declared.command.Answer.TheVariants as answer
 use Rattle.desk_rows.specs.declared.command.Fault.{Fault}
@@ -33,6 +34,10 @@ closed_reply count = object (member (codes "closed") (whole count) no_members)
 abbrev pub rows_reply : List Data → Data
 rows_reply rows = object (member (codes "rows") (list rows) no_members)
 
+-- the bill itself is written as a text; this is its release
+abbrev pub bill_reply : Bill → Data
+bill_reply bill = object (member (codes "bill") (string bill.release) no_members)
+
 -- the values of a refusal, its name and its number
 abbrev pub refusal_reply : Refusal → Data
 refusal_reply refusal = object
@@ -54,6 +59,7 @@ answer_reply (answer.Findings rows) = rows_reply (map finding_line rows)
 answer_reply (answer.Release row lines) = rows_reply (release_line row ∷ map package_values lines)
 answer_reply (answer.Alternatives sets) = rows_reply (map term_list sets)
 answer_reply (answer.Cheapest found) = rows_reply (cheapest_rows found)
+answer_reply (answer.Bill bill) = bill_reply bill
 answer_reply (answer.Refused refusal) = refusal_reply refusal
 
 abbrev pub fault_reply : List ℕ → Data

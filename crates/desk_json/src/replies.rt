@@ -3,7 +3,7 @@
 ghost use Rattle.std.specs.Prelude.{◌≡◌, ◌∷◌, [], IfOk, codes, string_bytes};
 ghost use Rattle.serde_json.specs.Data.{array, object, member, no_members};
 ghost use Rattle.serde_json.specs.View.{view, items_view};
-ghost use Rattle.desk_json.specs.Replies.{revision_reply, document_reply, done_reply, frozen_reply, closed_reply, refusal_reply, answer_reply, fault_reply, reply_of, reply_text, bad_command_text, fault_word};
+ghost use Rattle.desk_json.specs.Replies.{revision_reply, document_reply, done_reply, frozen_reply, closed_reply, bill_reply, refusal_reply, answer_reply, fault_reply, reply_of, reply_text, bad_command_text, fault_word};
 ghost use Rattle.desk_rows.specs.declared.command.Fault.TheVariants.{Memory};
 ghost use Rattle.desk_rows.specs.declared.command.Outcome.TheVariants.{Failed};
 ghost use Rattle.desk_json.specs.Parts.{list};
@@ -12,7 +12,7 @@ use crate::refusals::refusal_values;
 use crate::rows::{
     change_rows, cheapest_rows, duty_rows, finding_rows, release_rows, set_rows, totals_row,
 };
-use desk_rows::{Answer, Fault, Outcome, Refusal};
+use desk_rows::{Answer, Bill, Fault, Outcome, Refusal};
 use serde_json::{Value, json};
 use std::alloc::{AllocError, Global};
 
@@ -60,6 +60,13 @@ fn totals(alloc: Global, row: Value) -> Result<Value, AllocError>
     json!(in alloc; {"rows": [row]})
 }
 
+fn bill(alloc: Global, bill: &Bill) -> Result<Value, AllocError>
+    ensures { IfOk result (λ v. view v ≡ bill_reply bill.now) }
+{
+    let release = bill.release.as_str();
+    json!(in alloc; {"bill": release})
+}
+
 fn refusal(alloc: Global, refusal: &Refusal) -> Result<Value, AllocError>
     ensures { IfOk result (λ v. view v ≡ refusal_reply refusal.now) }
 {
@@ -88,6 +95,7 @@ fn answer(alloc: Global, answer: &Answer) -> Result<Value, AllocError>
         }
         Answer::Alternatives(sets) => rows(alloc, set_rows(alloc, sets.as_slice())?),
         Answer::Cheapest(found) => rows(alloc, cheapest_rows(alloc, found)?),
+        Answer::Bill(given) => bill(alloc, given),
         Answer::Refused(reason) => refusal(alloc, reason),
     }
 }

@@ -1,5 +1,5 @@
 -- The table of duties as comma-separated values (RFC 4180, section 2), each record ended by LF, as the `csv` crate writes it by default.
-use Rattle.std.specs.Prelude.{◌≡◌, ℕ, Bool, false, List, [], ◌∷◌, ◌++◌, codes, decimal, unwrap_or, map}
+use Rattle.std.specs.Prelude.{◌≡◌, ℕ, false, List, [], ◌∷◌, ◌++◌, codes, decimal, unwrap_or}
 use Rattle.std.specs.List.{flat_map}
 use Rattle.csv.specs.Writing.{default_writer, fields_written, has_written, row_text, writer_setup}
 use Rattle.csv.specs.declared.writer.Writer.{Writer}

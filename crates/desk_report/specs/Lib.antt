@@ -1,2 +1,3 @@
 pub mod CsvTable
 pub mod Lines
+pub mod Notices

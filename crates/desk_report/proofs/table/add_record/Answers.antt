@@ -1,4 +1,4 @@
-use Rattle.std.proofs.Common.{◌≡◌, ◌≢◌}
+use Rattle.std.proofs.Common.{◌≢◌}
 use Rattle.csv.specs.declared.writer.QuoteStyle.TheVariants as style
 use Rattle.desk_report.specs.CsvTable.{record_text}
 use Rattle.desk_report.proofs.table.add_record.Goals as goal
