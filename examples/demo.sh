@@ -133,6 +133,19 @@ echo
 echo '$ desk script < examples/findings/script.jsonl'
 show_script 7-findings
 
+echo
+echo 'What ships with the first release, and the table of its duties, after its first requests:'
+echo
+echo '$ desk script --db office.db <script.jsonl && desk notices --db office.db r1 && desk duties --db office.db r1'
+if [ -n "$desk" ]; then
+    "$desk" script --db "$room/office.db" <"$here/first-release/script.jsonl" >"$room/log"
+    "$desk" notices --db "$room/office.db" r1
+    "$desk" duties --db "$room/office.db" r1
+else
+    echo '(without a proved program no file keeps a desk; these are the texts that the tests compare)'
+    cat "$here/first-release/NOTICES" "$here/first-release/duties.csv"
+fi
+
 if [ -n "$desk" ]; then
     echo
     echo 'This repository itself: what it lacks to be REUSE-compliant, and the SPDX document that is gathered of it, imported and asked'

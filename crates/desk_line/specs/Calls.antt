@@ -11,7 +11,8 @@ use Rattle.desk_line.specs.Fields.{if_stands}
 use Rattle.desk_line.specs.Numbers.{number_written}
 use Rattle.desk_line.specs.Words.{desk_app}
 use Rattle.desk_line.specs.declared.call.Call.{Call}
-use Rattle.desk_line.specs.declared.call.Call.TheVariants.{Check, Alternatives, Script, Import, Catalogue, Gather, Lint, Serve}
+use Rattle.desk_line.specs.declared.call.Call.TheVariants.{Check, Alternatives, Script, Import, Catalogue, Notices, Duties, Totals, Changes, Gather, Lint, Serve}
+use Rattle.desk_line.specs.declared.reports.Release.{Release}
 use Rattle.desk_line.specs.declared.call.LineFault.{LineFault}
 use Rattle.desk_line.specs.declared.call.LineFault.TheVariants.{Memory, Usage}
 
@@ -72,6 +73,26 @@ abbrev pub serve_in : List Row → Option Call
 serve_in rows = option_and_then (λ database. option_and_then (λ port. option_map (λ limit. Serve database port limit)
     (number_in 32 (codes "N") rows)) (number_in 16 (codes "PORT") rows)) (first_of (codes "FILE") rows)
 
+-- the file that keeps the desk, and the release
+abbrev pub release_in : List Row → Option Release
+release_in rows = option_and_then (λ database. option_map (λ release. let found : Release = record { database = database; release = release } in found)
+    (first_of (codes "RELEASE") rows)) (first_of (codes "FILE") rows)
+
+-- the calls of those that hand out a text about a release
+abbrev pub notices_in : List Row → Option Call
+notices_in rows = option_map (λ found. Notices found.database found.release) (release_in rows)
+
+abbrev pub duties_in : List Row → Option Call
+duties_in rows = option_map (λ found. Duties found.database found.release) (release_in rows)
+
+abbrev pub totals_in : List Row → Option Call
+totals_in rows = option_map (λ found. Totals found.database found.release) (release_in rows)
+
+-- the call of `changes` with these values
+abbrev pub changes_in : List Row → Option Call
+changes_in rows = option_and_then (λ database. option_map (λ duty. Changes database duty)
+    (number_in 32 (codes "DUTY") rows)) (first_of (codes "FILE") rows)
+
 -- the call of a subcommand with these values
 abbrev pub call_in : Text → List Row → Option Call
 call_in name rows =
@@ -80,6 +101,10 @@ call_in name rows =
     else if bytes_eq name (codes "script") then Some (script_in rows)
     else if bytes_eq name (codes "import") then import_in rows
     else if bytes_eq name (codes "catalogue") then catalogue_in rows
+    else if bytes_eq name (codes "notices") then notices_in rows
+    else if bytes_eq name (codes "duties") then duties_in rows
+    else if bytes_eq name (codes "totals") then totals_in rows
+    else if bytes_eq name (codes "changes") then changes_in rows
     else if bytes_eq name (codes "gather") then gather_in rows
     else if bytes_eq name (codes "lint") then lint_in rows
     else if bytes_eq name (codes "serve") then serve_in rows

@@ -73,6 +73,18 @@ lint_app = with_rule (with_rule (new_app (codes "lint")) (word (codes "DIR"))) (
 abbrev pub number_option : Text → Text → ℕ → Rule
 number_option name long most = record (wanted name long) { parser = Some (Signed (pos 0) (pos most)) }
 
+-- a whole number from 0 to this one, which must stand in its place
+abbrev pub count : Text → ℕ → Rule
+count name most = record (word name) { parser = Some (Signed (pos 0) (pos most)) }
+
+-- `NAME --db FILE RELEASE`, which writes a text about a release
+abbrev pub release_app : Text → App
+release_app name = with_rule (with_rule (new_app name) database_option) (word (codes "RELEASE"))
+
+-- `changes --db FILE DUTY`, by the numbers that a duty may have
+abbrev pub changes_app : App
+changes_app = with_rule (with_rule (new_app (codes "changes")) database_option) (count (codes "DUTY") 4294967295)
+
 -- `serve --db FILE --port PORT --limit N`, by the numbers that a port may have, and a million connections
 abbrev pub serve_app : App
 serve_app = with_rule (with_rule (with_rule (new_app (codes "serve")) database_option)
@@ -91,9 +103,16 @@ judging_app = with_subcommand (with_subcommand desk_alone check_app.top) alterna
 abbrev pub requesting_app : App
 requesting_app = with_subcommand (with_subcommand (with_subcommand judging_app script_app.top) import_app.top) catalogue_app.top
 
+-- and with those that hand out texts
+abbrev pub counting_app : App
+counting_app = with_subcommand (with_subcommand requesting_app (release_app (codes "notices")).top) (release_app (codes "duties")).top
+
+abbrev pub reporting_app : App
+reporting_app = with_subcommand (with_subcommand counting_app (release_app (codes "totals")).top) changes_app.top
+
 -- and with those that read a source tree
 abbrev pub reading_app : App
-reading_app = with_subcommand (with_subcommand requesting_app gather_app.top) lint_app.top
+reading_app = with_subcommand (with_subcommand reporting_app gather_app.top) lint_app.top
 
 -- and with the one that replies over HTTP
 abbrev pub desk_app : App

@@ -1,8 +1,9 @@
 //! The arguments of the subcommands.
 
-ghost use Rattle.std.specs.Prelude.{◌≡◌, false, map, IfOk};
+ghost use Rattle.std.specs.Prelude.{◌≡◌, false, map, pos, IfOk};
 ghost use Rattle.std.specs.List.{All};
 ghost use Rattle.clap.specs.Words.{rule_of};
+ghost use Rattle.clap.specs.declared.builder.value_parser.ValueParser.TheVariants.{Signed};
 ghost use Rattle.desk_line.specs.Rows.{rule_at};
 
 use clap::builder::ValueParser;
@@ -32,6 +33,10 @@ pub(crate) enum Form {
     /// A named flag without a value.
     Flag {
         long: &'static str,
+    },
+    /// A whole number, from 0 to this one, that must stand in its place.
+    Count {
+        most: u32,
     },
     /// A named whole number, from 0 to this one, that must be there.
     Number {
@@ -79,6 +84,13 @@ pub(crate) const FOLDER: Argument = Argument {
     help: "The folder of the tree",
 };
 
+/// A whole number up to this one.
+fn whole<'a>(most: u32) -> ValueParser<'a>
+    ensures { result ≡ Signed (pos 0) (pos most) }
+{
+    ValueParser::Signed(0, i64::from(most))
+}
+
 /// An argument as `clap` reads it.
 fn arg<'a>(alloc: Global, row: &Argument) -> Arg<'a>
     ensures rule { rule_of result ≡ rule_at row.now }
@@ -92,10 +104,8 @@ fn arg<'a>(alloc: Global, row: &Argument) -> Arg<'a>
         Form::Wanted { long } => arg.long(long).required(true),
         Form::Optional { long } => arg.long(long),
         Form::Flag { long } => arg.long(long).action(ArgAction::SetTrue),
-        Form::Number { long, most } => arg
-            .long(long)
-            .required(true)
-            .value_parser(ValueParser::Signed(0, i64::from(most))),
+        Form::Count { most } => arg.required(true).value_parser(whole(most)),
+        Form::Number { long, most } => arg.long(long).required(true).value_parser(whole(most)),
     }
 }
 

@@ -50,6 +50,26 @@ pub enum Call {
         port: u16,
         limit: u32,
     },
+    /// The notices of a release of the desk that is kept in a file.
+    Notices {
+        database: Text,
+        release: Text,
+    },
+    /// The table of the duties of a release of the desk that is kept in a file.
+    Duties {
+        database: Text,
+        release: Text,
+    },
+    /// How many duties of a release of the desk that is kept in a file are in which state.
+    Totals {
+        database: Text,
+        release: Text,
+    },
+    /// The changes of a duty of the desk that is kept in a file.
+    Changes {
+        database: Text,
+        duty: u32,
+    },
     /// The problems of the tree of files in a folder, as one JSON object or as lines.
     Lint {
         folder: Text,

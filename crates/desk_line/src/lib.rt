@@ -18,6 +18,7 @@ mod gather;
 mod import;
 mod lint;
 mod reading;
+mod reports;
 mod script;
 mod serve;
 mod subcommands;

@@ -12,10 +12,10 @@ use clap::ArgMatches;
 use desk_base::Text;
 use std::alloc::{AllocError, Global};
 
-const ABOUT: &str = "Tells all that keeps a source tree from being REUSE-compliant";
+const ABOUT: &str = "Lists what is wrong in a source tree, by the desk's rules";
 
 const LONG_ABOUT: &str = "\
-Tells all that keeps a source tree from being REUSE-compliant
+Lists what is wrong in a source tree, by the desk's rules
 
 Reads the files of a folder as gather does (REUSE Specification 3.3), goes on past what is wrong, and
 prints a line for each problem:
@@ -33,8 +33,9 @@ With --json the same is one object: \"covered\" is the number of files, and \"pr
 objects, each with \"kind\", \"line\" (or null), \"message\" and \"path\". The kinds are TooManyFiles, BadPath,
 TwicePath, BadToml, BadAnnotation, BadExpression, Missing, Unused and Bare.
 
-Links are not followed, and the folder .git at the root is not entered. Whatever else version control
-ignores has to be taken away before.
+A tree that is clean here may still lack what `reuse lint` asks for, such as ids that the SPDX licence list
+has; docs/LINT.md has the differences. Links are not followed, and the folder .git at the root is not
+entered. Whatever else version control ignores has to be taken away before.
 
 Examples:
   desk lint .

@@ -8,7 +8,7 @@ ghost use Rattle.desk_line.specs.Rows.{kind_named, row_app, row_shape};
 ghost use Rattle.desk_line.specs.Words.{desk_alone, desk_app};
 
 use crate::arguments::{Argument, args};
-use crate::{alternatives, catalogue, check, gather, import, lint, script, serve};
+use crate::{alternatives, catalogue, check, gather, import, lint, reports, script, serve};
 use clap::Command;
 use std::alloc::{AllocError, Global};
 
@@ -31,6 +31,10 @@ pub(crate) enum Kind {
     Script,
     Import,
     Catalogue,
+    Notices,
+    Duties,
+    Totals,
+    Changes,
     Gather,
     Lint,
     Serve,
@@ -45,7 +49,7 @@ pub(crate) struct Subcommand {
 }
 
 /// The subcommands.
-pub(crate) const SUBCOMMANDS: [Subcommand; 8] = [
+pub(crate) const SUBCOMMANDS: [Subcommand; 12] = [
     Subcommand {
         kind: Kind::Check,
         name: "check",
@@ -70,6 +74,26 @@ pub(crate) const SUBCOMMANDS: [Subcommand; 8] = [
         kind: Kind::Catalogue,
         name: "catalogue",
         arguments: &catalogue::ARGUMENTS,
+    },
+    Subcommand {
+        kind: Kind::Notices,
+        name: "notices",
+        arguments: &reports::RELEASE_ARGUMENTS,
+    },
+    Subcommand {
+        kind: Kind::Duties,
+        name: "duties",
+        arguments: &reports::RELEASE_ARGUMENTS,
+    },
+    Subcommand {
+        kind: Kind::Totals,
+        name: "totals",
+        arguments: &reports::RELEASE_ARGUMENTS,
+    },
+    Subcommand {
+        kind: Kind::Changes,
+        name: "changes",
+        arguments: &reports::DUTY_ARGUMENTS,
     },
     Subcommand {
         kind: Kind::Gather,
@@ -103,6 +127,10 @@ fn help_of(kind: Kind) -> Help {
         Kind::Script => script::HELP,
         Kind::Import => import::HELP,
         Kind::Catalogue => catalogue::HELP,
+        Kind::Notices => reports::NOTICES_HELP,
+        Kind::Duties => reports::DUTIES_HELP,
+        Kind::Totals => reports::TOTALS_HELP,
+        Kind::Changes => reports::CHANGES_HELP,
         Kind::Gather => gather::HELP,
         Kind::Lint => lint::HELP,
         Kind::Serve => serve::HELP,

@@ -11,6 +11,7 @@ use crate::check::check_from;
 use crate::gather::gather_from;
 use crate::import::import_from;
 use crate::lint::lint_from;
+use crate::reports::{changes_from, duties_from, notices_from, totals_from};
 use crate::script::script_from;
 use crate::serve::serve_from;
 use crate::subcommands::{Kind, SUBCOMMANDS, kind_named};
@@ -78,6 +79,10 @@ pub fn call_from(
         Some(Kind::Script) => Ok(Some(script_from(alloc, matches)?)),
         Some(Kind::Import) => import_from(alloc, matches),
         Some(Kind::Catalogue) => catalogue_from(alloc, matches),
+        Some(Kind::Notices) => notices_from(alloc, matches),
+        Some(Kind::Duties) => duties_from(alloc, matches),
+        Some(Kind::Totals) => totals_from(alloc, matches),
+        Some(Kind::Changes) => changes_from(alloc, matches),
         Some(Kind::Gather) => gather_from(alloc, matches),
         Some(Kind::Lint) => lint_from(alloc, matches),
         Some(Kind::Serve) => serve_from(alloc, matches),

@@ -7,9 +7,10 @@ use crate::serving;
 use crate::trouble::trouble_of;
 use desk_base::{Items, Profile, Text};
 use desk_core::Desk;
+use desk_rows::Query;
 use desk_store::{AdoptFault, CreateFault, SqlDesk};
 use desk_subcommands::{
-    Failure, NoDesk, Trouble, catalogue, refuse_catalogue, refuse_database, text_of,
+    Failure, NoDesk, Trouble, catalogue, refuse_catalogue, refuse_database, show, text_of,
 };
 use sqlite::{Alter, Connection};
 use sqlite_disk::{Disk, Wary};
@@ -26,6 +27,8 @@ enum Task {
     Import { bytes: Items<u8>, profile: Profile },
     /// It loads a catalogue.
     Load { text: Text },
+    /// It writes the text of an answer.
+    Show { query: Query },
     /// It serves so many connections over HTTP.
     Serve { port: u16, limit: u32 },
 }
@@ -95,6 +98,7 @@ fn done<D: Desk, W: Write>(
             desk_subcommands::import(alloc, desk, bytes, profile, writer)
         }
         Task::Load { text } => catalogue(alloc, desk, text, writer),
+        Task::Show { query } => show(alloc, desk, &query, writer),
         Task::Serve { port, limit } => serving::serve(rt, alloc, desk, port, limit),
     }
 }
@@ -154,6 +158,54 @@ pub fn load(rt: &HostRuntime, path: &str, catalogue: &str) -> Result<u8, Failure
         Some(text) => do_in(rt, path, Task::Load { text }),
         None => refuse_catalogue(alloc, &mut io::writer(rt)),
     }
+}
+
+/// Writes the notices of a release of the desk that a file keeps.
+pub fn notices(rt: &HostRuntime, path: &str, release: &Text) -> Result<u8, Failure> {
+    let release = release.clone()?;
+    do_in(
+        rt,
+        path,
+        Task::Show {
+            query: Query::Bill { release },
+        },
+    )
+}
+
+/// Writes the table of the duties of a release of the desk that a file keeps.
+pub fn duties(rt: &HostRuntime, path: &str, release: &Text) -> Result<u8, Failure> {
+    let release = release.clone()?;
+    do_in(
+        rt,
+        path,
+        Task::Show {
+            query: Query::Duties { release },
+        },
+    )
+}
+
+/// Writes how many duties of a release of the desk that a file keeps are in which state.
+pub fn totals(rt: &HostRuntime, path: &str, release: &Text) -> Result<u8, Failure> {
+    let release = release.clone()?;
+    do_in(
+        rt,
+        path,
+        Task::Show {
+            query: Query::Totals { release },
+        },
+    )
+}
+
+/// Writes the changes of a duty of the desk that a file keeps.
+pub fn changes(rt: &HostRuntime, path: &str, duty: u32) -> Result<u8, Failure> {
+    let duty = u64::from(duty);
+    do_in(
+        rt,
+        path,
+        Task::Show {
+            query: Query::Changes { duty },
+        },
+    )
 }
 
 /// Serves so many connections over HTTP by the desk that a file keeps.

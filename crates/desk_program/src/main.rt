@@ -140,6 +140,10 @@ fn answer(rt: &HostRuntime, alloc: Global, call: &Call, is_watched: bool) -> Res
             database,
             catalogue,
         } => { database::load(rt, database.as_str(), catalogue.as_str()) }
+        Call::Notices { database, release } => database::notices(rt, database.as_str(), release),
+        Call::Duties { database, release } => database::duties(rt, database.as_str(), release),
+        Call::Totals { database, release } => database::totals(rt, database.as_str(), release),
+        Call::Changes { database, duty } => database::changes(rt, database.as_str(), *duty),
         Call::Serve {
             database,
             port,

@@ -45,3 +45,8 @@ abbrev pub IsOfOutput : Failure → Type 0
 IsOfOutput (Memory error) = Unit {0}
 IsOfOutput (Write error) = Unit {0}
 IsOfOutput _ = ⊥
+
+-- and of a document: some value of it can't stand in its field
+abbrev pub IsOfDocument : Failure → Type 0
+IsOfDocument BadValue = Unit {0}
+IsOfDocument failure = IsOfOutput failure

@@ -5,3 +5,4 @@ pub mod Gathering
 pub mod Linting
 pub mod Filing
 pub mod Troubles
+pub mod Showing

@@ -3,7 +3,7 @@
 ghost use Rattle.std.specs.Prelude.{◌≡◌, ◌++◌, ◌∷◌, [], ℕ, ◌<◌, IfOk, IfErr, OnErr, List, map};
 ghost use Rattle.std.specs.Io.KnownBytes.{Appends, Keeps};
 ghost use Rattle.desk_expr.specs.Faults.{fault_number};
-ghost use Rattle.desk_subcommands.specs.Failures.{IfMemory};
+ghost use Rattle.desk_subcommands.specs.Failures.{IfMemory, IsOfOutput};
 ghost use Rattle.desk_subcommands.specs.Report.{IsReadTo, IsReport, IsVerdict, SpellTerms, Tells, TellsOnce};
 
 use crate::failure::Failure;
@@ -95,6 +95,7 @@ pub fn check<W: Write>(
         × Tells profile expression.now (map (λ w. w.now) words.now) line status
         × Appends (W.contents writer.old) (W.contents writer.new) (line ++ 10 ∷ [])) }
     ensures once { TellsOnce profile expression.now (map (λ w. w.now) words.now) }
+    ensures fails { IfErr result IsOfOutput }
     ensures memory { IfErr result
         (IfMemory (Keeps (W.contents writer.old) (W.contents writer.new))) }
 {

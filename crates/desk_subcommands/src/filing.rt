@@ -73,9 +73,13 @@ fn write_reply<W: Write>(alloc: Global, outcome: &Outcome, writer: &mut W) -> Re
 }
 
 // Writes the reply to an outcome as a line, and answers the status.
-fn tell<W: Write>(alloc: Global, outcome: &Outcome, writer: &mut W) -> Result<u8, Failure>
+pub(crate) fn tell<W: Write>(
+    alloc: Global,
+    outcome: &Outcome,
+    writer: &mut W,
+) -> Result<u8, Failure>
     ensures done { IfOk result (λ status. (answer : Answer) × (outcome.now ≡ Answered answer)
-        × Appends (W.contents writer.old) (W.contents writer.new) (outcome_line outcome.now) × (status ≡ answer_status answer)) }
+        × Appends (W.contents writer.old) (W.contents writer.new) (outcome_line (Answered answer)) × (status ≡ answer_status answer)) }
     ensures failed { IfErr result (OfRequest
         (λ fault. (outcome.now ≡ Failed fault) × Appends (W.contents writer.old) (W.contents writer.new) (outcome_line outcome.now)) (Unit {0})) }
     ensures memory { IfErr result (IfMemory (Keeps (W.contents writer.old) (W.contents writer.new))) }
@@ -156,6 +160,7 @@ pub fn text_of(alloc: Global, bytes: &[u8]) -> Result<Option<Text>, AllocError>
 pub fn refuse_catalogue<W: Write>(alloc: Global, writer: &mut W) -> Result<u8, Failure>
     ensures told { IfOk result (λ status. (status ≡ 1)
         × Appends (W.contents writer.old) (W.contents writer.new) (outcome_line no_text)) }
+    ensures fails { IfErr result IsOfOutput }
     ensures memory { IfErr result (IfMemory (Keeps (W.contents writer.old) (W.contents writer.new))) }
 {
     let refusal = Refusal::BadCatalogue(CatalogueFault::NotToml);
@@ -166,6 +171,7 @@ pub fn refuse_catalogue<W: Write>(alloc: Global, writer: &mut W) -> Result<u8, F
 pub fn refuse_database<W: Write>(reason: NoDesk, writer: &mut W) -> Result<u8, Failure>
     ensures told { IfOk result (λ status. (status ≡ 1)
         × Appends (W.contents writer.old) (W.contents writer.new) (no_desk_line reason ++ 10 ∷ [])) }
+    ensures fails { IfErr result IsOfOutput }
     ensures memory { IfErr result (IfMemory (Keeps (W.contents writer.old) (W.contents writer.new))) }
 {
     write_line(writer, no_desk_line(reason))?;

@@ -4,7 +4,7 @@ ghost use Rattle.std.specs.Prelude.{◌≡◌, ℕ, List, IfOk, IfErr};
 ghost use Rattle.std.specs.Io.KnownBytes.{Appends, Keeps};
 ghost use Rattle.desk_gather.specs.Readers.{Reader, IsRightReader};
 ghost use Rattle.desk_tree_texts.specs.Gathering.{IsGathering, IsUnwritable};
-ghost use Rattle.desk_subcommands.specs.Failures.{IfBadValue, IfUntold};
+ghost use Rattle.desk_subcommands.specs.Failures.{IfBadValue, IfUntold, IsOfDocument};
 ghost use Rattle.desk_subcommands.specs.Gathering.{gathering_status, Gathers};
 
 use crate::failure::Failure;
@@ -29,6 +29,7 @@ fn gathered(
     ensures ok { (r : Reader) → IsRightReader r
         → IfOk result (IsGathering r files.items
         (record { name = name.now; namespace = namespace.now; created = created.now })) }
+    ensures fails { IfErr result IsOfDocument }
     ensures err { (r : Reader) → IsRightReader r
         → IfErr result (IfBadValue (IsUnwritable r files.items
         (record { name = name.now; namespace = namespace.now; created = created.now }))) }
@@ -55,6 +56,7 @@ pub fn gather<W: Write>(
         × Appends (W.contents writer.old) (W.contents writer.new) text) }
     ensures bad_value { (r : Reader) → IsRightReader r → IfErr result
         (IfBadValue (IsUnwritable r files.items (record { name = name.now; namespace = namespace.now; created = created.now }))) }
+    ensures fails { IfErr result IsOfDocument }
     ensures untold { IfErr result (IfUntold (Keeps (W.contents writer.old) (W.contents writer.new))) }
 {
     let answer = gathered(alloc, files, name, namespace, created)?;

@@ -6,6 +6,7 @@
 //!
 //! - `check` judges a choice of terms (`specs/Report.antt`), `alternatives` lists the choices that there are (`specs/Listing.antt`).
 //! - `script` replies to requests, `import` and `catalogue` do one each (`specs/Filing.antt`).
+//! - `show` writes the text of an answer: notices, the table of duties, totals, changes (`specs/Showing.antt`).
 //! - `gather` writes the document of a tree of files (`specs/Gathering.antt`), `lint` what is wrong in it (`specs/Linting.antt`).
 //! - `Failure` and `Trouble` say in words what failed, and what to do.
 #![tactic(auto)]
@@ -18,6 +19,7 @@ mod linting;
 mod listing;
 mod report;
 mod scripting;
+mod showing;
 mod trouble;
 
 pub use checking::check;
@@ -27,4 +29,5 @@ pub use gathering::gather;
 pub use linting::lint;
 pub use listing::alternatives;
 pub use scripting::script;
+pub use showing::show;
 pub use trouble::{PortTrouble, Trouble};

@@ -3,7 +3,7 @@
 ghost use Rattle.std.specs.Prelude.{◌≡◌, ℕ, List, IfOk, IfErr};
 ghost use Rattle.std.specs.Io.KnownBytes.{Appends, Keeps};
 ghost use Rattle.desk_gather.specs.Readers.{Reader, IsRightReader};
-ghost use Rattle.desk_subcommands.specs.Failures.{IfMemory};
+ghost use Rattle.desk_subcommands.specs.Failures.{IfMemory, IsOfOutput};
 ghost use Rattle.desk_subcommands.specs.Linting.{lint_status, Lints};
 
 use crate::failure::Failure;
@@ -29,6 +29,7 @@ pub fn lint<W: Write>(
     ensures told { (r : Reader) → IsRightReader r → IfOk result (λ status. (text : List ℕ)
         × Lints r files.now json text status
         × Appends (W.contents writer.old) (W.contents writer.new) text) }
+    ensures fails { IfErr result IsOfOutput }
     ensures memory { IfErr result (IfMemory (Keeps (W.contents writer.old) (W.contents writer.new))) }
 {
     let report = report_on(alloc, files, json)?;

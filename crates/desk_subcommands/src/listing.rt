@@ -3,7 +3,7 @@
 ghost use Rattle.std.specs.Prelude.{◌≡◌, ◌++◌, ℕ, List, IfOk, IfErr, OnOk};
 ghost use Rattle.std.specs.Io.KnownBytes.{Appends, Keeps};
 ghost use Rattle.std.specs.String.{string_bytes};
-ghost use Rattle.desk_subcommands.specs.Failures.{IfMemory};
+ghost use Rattle.desk_subcommands.specs.Failures.{IfMemory, IsOfOutput};
 ghost use Rattle.desk_subcommands.specs.Listing.{IsListing, IsListingOf, listing_status, listing_text, Lists, ListsOnce, set_text, sets_text};
 
 use crate::checking::told;
@@ -110,6 +110,7 @@ pub fn alternatives<W: Write>(
     ensures told { IfOk result (λ status. (text : List ℕ) × Lists profile expression.now text status
         × Appends (W.contents writer.old) (W.contents writer.new) text) }
     ensures once { ListsOnce profile expression.now }
+    ensures fails { IfErr result IsOfOutput }
     ensures memory { IfErr result (IfMemory (Keeps (W.contents writer.old) (W.contents writer.new))) }
 {
     let listing = list(alloc, expression, profile)?;

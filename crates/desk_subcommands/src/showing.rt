@@ -1,0 +1,100 @@
+//! The texts that an office hands out: the notices of a release, the table of its duties, their totals, and the changes of a duty.
+
+ghost use Rattle.std.specs.Prelude.{◌≡◌, IfOk, IfErr, OnOk, option_map};
+ghost use Rattle.std.specs.Io.KnownBytes.{Appends, Keeps};
+ghost use Rattle.desk_report.specs.Lines.{totals_line};
+ghost use Rattle.desk_rows.specs.declared.command.Answer.{Answer};
+ghost use Rattle.desk_rows.specs.declared.command.Outcome.TheVariants.{Answered, Failed};
+ghost use Rattle.desk_subcommands.specs.Failures.{IfMemory, IsOfOutput, OfRequest};
+ghost use Rattle.desk_subcommands.specs.Filing.{answer_status, outcome_line};
+ghost use Rattle.desk_subcommands.specs.Showing.{answer_text, Asks, HasFailed, IsShown, IsUntold, outcome_text, shown};
+
+use crate::failure::Failure;
+use crate::filing::tell;
+use desk_core::desk::Desk;
+use desk_report::{changes_text, duties_csv, notices, totals_text};
+use desk_rows::{Answer, Outcome, Query, Totals};
+use std::alloc::{AllocError, Global};
+use std::io::Write;
+
+fn totals_bytes(alloc: Global, totals: &Totals) -> Result<Vec<u8>, AllocError>
+    ensures { IfOk result (λ text. text.items ≡ totals_line totals.now) }
+{
+    Ok(totals_text(alloc, totals)?.into_bytes())
+}
+
+// The text of an answer, if it has one.
+fn answer_text(alloc: Global, answer: &Answer) -> Result<Option<Vec<u8>>, AllocError>
+    ensures { IfOk result (λ found. option_map (λ text. text.items) found ≡ answer_text answer.now) }
+{
+    match answer {
+        Answer::Bill(bill) => Ok(Some(notices(alloc, bill)?)),
+        Answer::Duties(lines) => Ok(Some(duties_csv(alloc, lines.as_slice())?)),
+        Answer::Totals(totals) => Ok(Some(totals_bytes(alloc, totals)?)),
+        Answer::Changes(rows) => Ok(Some(changes_text(alloc, rows.as_slice())?)),
+        _ => Ok(None),
+    }
+}
+
+fn outcome_text(alloc: Global, outcome: &Outcome) -> Result<Option<Vec<u8>>, AllocError>
+    ensures { IfOk result (λ found. option_map (λ text. text.items) found ≡ outcome_text outcome.now) }
+{
+    match outcome {
+        Outcome::Answered(answer) => answer_text(alloc, answer),
+        Outcome::Failed(_) => Ok(None),
+    }
+}
+
+fn write_text<W: Write>(writer: &mut W, text: &[u8]) -> Result<(), Failure>
+    ensures ok { OnOk result (Appends (W.contents writer.old) (W.contents writer.new) text.now) }
+    ensures err { IfErr result IsOfOutput }
+    ensures memory { IfErr result (IfMemory (Keeps (W.contents writer.old) (W.contents writer.new))) }
+{
+    writer.write_all(text)?;
+    writer.flush()?;
+    Ok(())
+}
+
+// Writes what an outcome is shown as, and returns the status.
+fn write_outcome<W: Write>(alloc: Global, outcome: &Outcome, writer: &mut W) -> Result<u8, Failure>
+    ensures done { IfOk result (λ status. (answer : Answer) × (outcome.now ≡ Answered answer)
+        × Appends (W.contents writer.old) (W.contents writer.new) (shown answer) × (status ≡ answer_status answer)) }
+    ensures failed { IfErr result (OfRequest
+        (λ fault. (outcome.now ≡ Failed fault) × Appends (W.contents writer.old) (W.contents writer.new) (outcome_line outcome.now)) (Unit {0})) }
+    ensures memory { IfErr result (IfMemory (Keeps (W.contents writer.old) (W.contents writer.new))) }
+{
+    match outcome_text(alloc, outcome)? {
+        Some(text) => {
+            write_text(writer, text.as_slice())?;
+            Ok(0)
+        }
+        None => tell(alloc, outcome, writer),
+    }
+}
+
+// Asks a question.
+fn asked<D: Desk>(desk: &mut D, query: &Query) -> Outcome
+    ensures { Asks D.are_right D.tells query.now (D.seen desk.old) (D.seen desk.new) result }
+{
+    Outcome::from(desk.ask(query))
+}
+
+/// Asks a desk a question and writes the text of its answer: the notices of a bill, the table of duties, the line of totals, the lines
+/// of changes; any other answer, a refusal among them, is written as the line of its reply. It returns the program's status. If the
+/// desk fails, the reply says so and so does the failure. The desk is as it was.
+pub fn show<D: Desk, W: Write>(
+    alloc: Global,
+    desk: &mut D,
+    query: &Query,
+    writer: &mut W,
+) -> Result<u8, Failure>
+    ensures done { IfOk result (IsShown D.are_right D.tells query.now (D.seen desk.old) (D.seen desk.new)
+        (W.contents writer.old) (W.contents writer.new)) }
+    ensures failed { IfErr result (OfRequest
+        (HasFailed D.are_right D.tells query.now (D.seen desk.old) (D.seen desk.new) (W.contents writer.old) (W.contents writer.new))
+        (IsUntold D.are_right D.tells query.now (D.seen desk.old) (D.seen desk.new))) }
+    ensures memory { IfErr result (IfMemory (Keeps (W.contents writer.old) (W.contents writer.new))) }
+{
+    let outcome = asked(desk, query);
+    write_outcome(alloc, &outcome, writer)
+}
