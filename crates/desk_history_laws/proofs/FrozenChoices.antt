@@ -36,13 +36,13 @@ use Rattle.desk_history_laws.proofs.Steps.{past, is_so}
 
 -- ---- what a recorded command looked up
 
-is_ready : (o : Option ReleaseState) → is_some o ≡ true → option_and_then unready o ≡ None → o ≡ Some IsOpen
+pub is_ready : (o : Option ReleaseState) → is_some o ≡ true → option_and_then unready o ≡ None → o ≡ Some IsOpen
 is_ready None known e = cc
 is_ready (Some IsOpen) known e = refl
 is_ready (Some Frozen) known e = cc
 is_ready (Some Withdrawn) known e = cc
 
-open_by : (s : ReleaseState) (form : Option (List ℕ)) → option_map (λ (form : List ℕ). s) form ≡ Some IsOpen → s ≡ IsOpen
+pub open_by : (s : ReleaseState) (form : Option (List ℕ)) → option_map (λ (form : List ℕ). s) form ≡ Some IsOpen → s ≡ IsOpen
 open_by s None e = cc
 open_by s (Some form) e = cc
 
@@ -191,7 +191,7 @@ there : (o : Option Rule) → is_some o ≡ true → (rule : Rule) × (o ≡ Som
 there None e = cc
 there (Some rule) e = (rule, refl)
 
-ruled : (w : Readings) (h : List Command) (r day : List ℕ) (p : PackageRow) (term : List ℕ) → IsTrue (is_recorded (answer w h (Freeze r day))) → IsIn p (shipped w h r) → IsIn term (choice w h r p.document p.id)
+pub ruled : (w : Readings) (h : List Command) (r day : List ℕ) (p : PackageRow) (term : List ℕ) → IsTrue (is_recorded (answer w h (Freeze r day))) → IsIn p (shipped w h r) → IsIn term (choice w h r p.document p.id)
     → (rule : Rule) × (rule_adopted w (adoptions w h) (rules_in (in_force w h)) (unwrap_or (form_of h r) []) p.document term ≡ Some rule)
 ruled w h r day p term recorded ships chosen =
     let licences = adoptions w h in
@@ -209,14 +209,14 @@ ruled w h r day p term recorded ships chosen =
 
 -- ---- nothing is chosen behind the freeze
 
-record FrozenAt (w : Readings) (h : List Command) (r : List ℕ) : Type 0 where
-  later : List Command
-  before : List Command
-  day : List ℕ
-  split : h ≡ later ++ Freeze r day ∷ before
-  recorded : IsTrue (is_recorded (answer w before (Freeze r day)))
-  old : IsHistory w before
-  same : (d : ℕ) (p : List ℕ) → choice w h r d p ≡ choice w before r d p
+pub record FrozenAt (w : Readings) (h : List Command) (r : List ℕ) : Type 0 where
+  pub later : List Command
+  pub before : List Command
+  pub day : List ℕ
+  pub split : h ≡ later ++ Freeze r day ∷ before
+  pub recorded : IsTrue (is_recorded (answer w before (Freeze r day)))
+  pub old : IsHistory w before
+  pub same : (d : ℕ) (p : List ℕ) → choice w h r d p ≡ choice w before r d p
 
 frozen_later : (w : Readings) (c : Command) (h : List Command) (r : List ℕ) → ((d : ℕ) (p : List ℕ) → choice w (c ∷ h) r d p ≡ choice w h r d p) → FrozenAt w h r → FrozenAt w (c ∷ h) r
 frozen_later w c h r stays at = record {
@@ -230,7 +230,7 @@ frozen_later w c h r stays at = record {
 }
 
 -- a release that is open is another one
-other_release : (h : List Command) (r r' : List ℕ) → state_of h r' ≡ IsOpen → state_of h r ≡ Frozen → bytes_eq r' r ≡ false
+pub other_release : (h : List Command) (r r' : List ℕ) → state_of h r' ≡ IsOpen → state_of h r ≡ Frozen → bytes_eq r' r ≡ false
 other_release h r r' opened frozen =
     elim (text_tells r' r) [
       | inl same ↦ (let both : state_of h r' ≡ state_of h r = ap (state_of h) same.1 in let no : IsOpen ≡ Frozen = sym opened ∙ both ∙ frozen in cc)
@@ -244,7 +244,7 @@ kept_choice false terms o e = refl
 another : (r r' p p' : List ℕ) (d d' : ℕ) → bytes_eq r' r ≡ false → is_package_of r d p r' d' p' ≡ false
 another r r' p p' d d' differ = rw differ refl
 
-frozen_at : (w : Readings) (h : List Command) (r : List ℕ) → IsHistory w h → state_of h r ≡ Frozen → FrozenAt w h r
+pub frozen_at : (w : Readings) (h : List Command) (r : List ℕ) → IsHistory w h → state_of h r ≡ Frozen → FrozenAt w h r
 frozen_at w [] r ok e = cc
 frozen_at w (Freeze r' day ∷ h) r ok e =
     elim (text_tells r' r) [

@@ -63,7 +63,7 @@ closed_still : (b : Bool) (s : ReleaseState) (o : Option ReleaseState) → s ≢
 closed_still true s o f e = f
 closed_still false s o f e = e
 
-still_closed : (c : Command) (h : List Command) (r : List ℕ) → state_of h r ≢ IsOpen → state_of (c ∷ h) r ≢ IsOpen
+pub still_closed : (c : Command) (h : List Command) (r : List ℕ) → state_of h r ≢ IsOpen → state_of (c ∷ h) r ≢ IsOpen
 still_closed (Freeze r' day) h r closed = closed_still (bytes_eq r' r) Frozen (latest (state_given r) h) (λ e. cc) closed
 still_closed (Withdraw r' day text) h r closed = closed_still (bytes_eq r' r) Withdrawn (latest (state_given r) h) (λ e. cc) closed
 still_closed c h r closed = closed

@@ -12,3 +12,5 @@ mod Sets
 mod DutyRows
 mod FrozenRows
 mod FrozenChoices
+mod Bills
+mod Billed

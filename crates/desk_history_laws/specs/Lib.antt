@@ -4,3 +4,4 @@ pub mod Shipping
 pub mod Dates
 pub mod Standing
 pub mod Ids
+pub mod Billed

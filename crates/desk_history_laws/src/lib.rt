@@ -3,7 +3,7 @@
 //! The definitions of `desk_rows` go over the commands from the newest to the oldest. Here the same is said by filters and last
 //! entries, with the commands in the order in which they were recorded: which documents, revisions and rules there are, which choices,
 //! conclusions and adoptions stand, and how each duty was moved. The rows of duties and of frozen terms are said both ways, each field
-//! named, and a frozen release's choices are its frozen terms. Beside it stands that a set of texts has the texts that are listed, that a
+//! named, a frozen release's choices are its frozen terms, and its bill stays as its freeze made it. Beside it stands that a set of texts has the texts that are listed, that a
 //! duty has few changes, and that written days sort as dates do.
 #![tactic(auto)]
 
@@ -20,12 +20,15 @@ ghost use Rattle.desk_rows.specs.History.{choice, documents, form_given, form_of
 ghost use Rattle.desk_rows.specs.Keys.{below_by, is_rule_of};
 ghost use Rattle.desk_rows.specs.Lists.{IsIn};
 ghost use Rattle.desk_rows.specs.Moves.{changes, moves, place};
+ghost use Rattle.desk_rows.specs.Queries.{queried};
 ghost use Rattle.desk_rows.specs.Raised.{shipped};
 ghost use Rattle.desk_rows.specs.Readings.{Readings};
 ghost use Rattle.desk_rows.specs.Tables.{choices, tables};
 ghost use Rattle.desk_rows.specs.Texts.{is_before, sorted_set, text_below};
+ghost use Rattle.desk_rows.specs.declared.command.Answer.TheVariants as answered;
 ghost use Rattle.desk_rows.specs.declared.command.Command.{Command};
 ghost use Rattle.desk_rows.specs.declared.command.Command.TheVariants.{Freeze, OpenRelease};
+ghost use Rattle.desk_rows.specs.declared.command.Query.TheVariants.{Bill};
 ghost use Rattle.desk_rows.specs.declared.row.AdoptionRow.{AdoptionRow};
 ghost use Rattle.desk_rows.specs.declared.row.ChoiceRow.{ChoiceRow};
 ghost use Rattle.desk_rows.specs.declared.row.ConclusionRow.{ConclusionRow};
@@ -36,6 +39,7 @@ ghost use Rattle.desk_rows.specs.declared.row.PackageRow.{PackageRow};
 ghost use Rattle.desk_rows.specs.declared.state.ReleaseState.TheVariants.{Frozen, IsOpen};
 ghost use Rattle.desk_history.specs.FromTables.{rule_of};
 ghost use Rattle.desk_history.specs.Laws.{IsFrozenTerm, Rises};
+ghost use Rattle.desk_history_laws.specs.Billed.{bill_for, ListsPackagesOnce};
 ghost use Rattle.desk_history_laws.specs.Dates.{date_order};
 ghost use Rattle.desk_history_laws.specs.Filters.{document_row, freezes, given, imported, last_decision, last_given, opens, packages_of, references_of, revision_row, rules_of, terms_left};
 ghost use Rattle.desk_history_laws.specs.Moved.{left_by, moves_given, step_row, IsMove};
@@ -202,3 +206,21 @@ pub fn frozen_choices_are_the_frozen_terms()
 {
     desk_history::frozen_terms_were_held();
 }
+
+/// The bill of a frozen release is that of its freeze: whatever is recorded while the release is frozen, the answer stays the same, word
+/// for word.
+pub fn bills_stay()
+    ensures { (w : Readings) (later h : List Command) (r : List ℕ) → IsHistory w (later ++ h)
+        → state_of h r ≡ Frozen → state_of (later ++ h) r ≡ Frozen
+        → queried w (later ++ h) (Bill r) ≡ queried w h (Bill r) }
+{}
+
+/// The bill of a frozen release lists the packages that it shipped at its freeze, each with the rules of the terms that were chosen for
+/// it, by the catalogue then in force and in the order of terms, and the texts of these terms by that catalogue and the documents. This
+/// takes a reading by which no document has two packages with one id: by another one each line would have the rules of both.
+pub fn bills_list_what_was_chosen()
+    ensures { (w : Readings) (later before : List Command) (r day : List ℕ)
+        → ListsPackagesOnce w → IsHistory w (later ++ Freeze r day ∷ before)
+        → state_of (later ++ Freeze r day ∷ before) r ≡ Frozen
+        → queried w (later ++ Freeze r day ∷ before) (Bill r) ≡ answered.Bill (bill_for w before r) }
+{}
