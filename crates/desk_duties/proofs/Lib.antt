@@ -1,3 +1,4 @@
 mod Duties
 mod Walking
 mod Freezes
+mod Withdrawals
