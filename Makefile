@@ -86,14 +86,16 @@ try:
 	@echo 'Trying the program with no proof: this says nothing of its contracts.'
 	@cd $(program) && rt try -- $(ARGS)
 
-# Times the program, beside another one, its scripts, by the rows that a desk holds, in a file beside the library of SQLite, on trees, the
-# reading of documents, and patterns of paths.
+# Times the program, beside another one, its scripts, by the rows that a desk holds, in a file beside the library of SQLite, over HTTP,
+# notices and tables, on trees, the reading of documents, and patterns of paths.
 bench: build
 	@python3 bench/bench.py build/desk
 	@python3 bench/alternatives.py build/desk
 	@python3 bench/script.py build/desk build/scripts
 	@python3 bench/rows.py build/desk
 	@python3 bench/store.py build/desk
+	@python3 bench/serving.py build/desk
+	@python3 bench/reports.py build/desk
 	@python3 bench/trees.py build/desk
 	@echo 'Building the programs that only the benches run.'
 	@sh bench/programs/build.sh documents bom globs

@@ -4,13 +4,17 @@ The scripts, the checks, the listings and the trees are those of the acceptance 
 with its Nth allocation refused, until a run makes fewer. Then
 
 - a check or a listing tells its answer with its status, or nothing with status 3 and its words;
+- a text of a desk in a file (notices, the table of duties, totals, changes) is written whole, or not at all with status 3 and its words; or
+  the reply is {"fault":"memory"};
 - a script over a file does so too, and may fail to open or to close it, with its words;
 - so do the document and the problems of a tree; the words may also be those of a folder or a file that found no memory;
+- a desk that is served, from its first connection on, replies to each as it would, but for one: that is replied 503 with "memory", and the
+  others as without its request; or, if it isn't GET, with "reply", and the others as with it. It may fail to close its file, with its words;
 - a script tells its replies with its status; or one reply is {"fault":"memory"}, the status is 3 with its words, and the other replies
   are those of the script without that request, so what was accepted stands and the script went on; or it stopped with status 3 and its
   words, and what is there are whole replies, those of the script. Before the first reply it may also say that it could not begin.
 
-Each request of a script is told want of memory so at least once, but a line that is no UTF-8, which takes none.
+Each request of a script or a connection is told want of memory so at least once, but a line that is no UTF-8, which takes none.
 """
 
 import os
@@ -22,21 +26,26 @@ import tempfile
 
 HERE = os.path.dirname(os.path.abspath(__file__))
 CASES = os.path.join(HERE, "../acceptance")
-sys.path.insert(0, CASES)
+sys.path[:0] = [CASES, os.path.join(HERE, "..")]
 sys.dont_write_bytecode = True
 
 import dialogue
+import serving
 
 BYTES = 16_384
-MEMORY = "/dev/shm"
+SHARED = "/dev/shm"
 OVER_A_FILE = ("script-first-release.dialogue",)
 FILES = 100
+MANY = 1_000_000
+# (of the allocations that open a file, one in their midst)
+OPENING = 1_000
 MEMORY = b'{"fault":"memory"}\n'
 
 WANTING = b"error: no memory is left\n"
 NOT_BEGUN = (WANTING, b"error: cannot write: out of memory\n")
 STOPPED = b"error: the script stopped: no memory is left for a line or a reply\n"
 ONE_FAILED = b"error: requests that failed: 1\n"
+NOT_SHOWN = b"error: the request failed: out of memory; it was done whole or not at all, so look before you send it again\n"
 UNUSED = re.compile(rb'error: cannot use ".*": .*\n')
 UNREAD = re.compile(rb'error: cannot read ".*": (out of memory|Cannot allocate memory.*)\n')
 
@@ -65,14 +74,30 @@ class Program:
 
     def run(self, words, text, refused=0):
         """Standard output, the status, standard error, and whether an allocation was refused."""
-        for name in ("desk.db", "desk.db-wal"):
-            if os.path.exists(os.path.join(self.folder, name)):
-                os.remove(os.path.join(self.folder, name))
-        if os.path.exists(self.told):
-            os.remove(self.told)
-        env = {"LD_PRELOAD": self.library, "REFUSE": str(refused), "REFUSED": self.told} if refused else {}
-        done = subprocess.run([self.path, *words], input=text, capture_output=True, env=env, cwd=self.folder, check=False)
+        self.clear()
+        done = subprocess.run([self.path, *words], input=text, capture_output=True, env=self.env(refused), cwd=self.folder, check=False)
         return done.stdout, done.returncode, done.stderr, os.path.exists(self.told)
+
+    def serve(self, requests, refused=0):
+        """The same of a desk that is served, with its replies in the place of standard output, if it comes to listen."""
+        self.clear()
+        try:
+            desk = serving.Served(self.path, os.path.join(self.folder, "desk.db"), len(requests), **self.env(refused))
+        except serving.NotServed as error:
+            return None, error.status, error.words, os.path.exists(self.told)
+        try:
+            replies = [desk.raw(request, ends=False) for request in requests]
+            return replies, *desk.ended(), os.path.exists(self.told)
+        finally:
+            desk.stop()
+
+    def env(self, refused):
+        return {"LD_PRELOAD": self.library, "REFUSE": str(refused), "REFUSED": self.told} if refused else {}
+
+    def clear(self):
+        for path in (self.told, *(os.path.join(self.folder, name) for name in ("desk.db", "desk.db-wal"))):
+            if os.path.exists(path):
+                os.remove(path)
 
 
 def lines(text):
@@ -111,6 +136,17 @@ class Tree(Check):
 
     def is_right(self, stdout, status, stderr):
         return super().is_right(stdout, status, stderr) or (stdout, status) == (b"", 3) and UNREAD.fullmatch(stderr)
+
+
+class Shown(Check):
+    """A run that writes a text of a desk in a file, and what may be told where memory is wanting."""
+
+    def is_right(self, stdout, status, stderr):
+        if super().is_right(stdout, status, stderr):
+            return True
+        if stdout == MEMORY:
+            return (status, stderr) == (3, NOT_SHOWN)
+        return status == 3 and stdout in (b"", self.whole[0]) and (stderr in NOT_BEGUN or UNUSED.fullmatch(stderr) is not None)
 
 
 class Script:
@@ -153,13 +189,48 @@ class Script:
         return [n for n, line in enumerate(self.replied) if n not in self.told and is_text(self.requests[line])]
 
 
+class Serve:
+    """A desk that is served to connections, and what may be told where memory is wanting."""
+
+    def __init__(self, program, requests):
+        self.program, self.requests = program, requests
+        self.whole = program.serve(requests)[0]
+        self.told, self.rests = set(), {}
+
+    def rest(self, place):
+        """The replies to the others, where the connection at this place isn't there."""
+        if place not in self.rests:
+            self.rests[place] = self.program.serve(self.requests[:place] + self.requests[place + 1 :])[0]
+        return self.rests[place]
+
+    def is_right(self, replies, status, stderr):
+        is_closed = (status, stderr) == (0, b"") or status == 3 and UNUSED.fullmatch(stderr)
+        failed = [place for place, reply in enumerate(replies) if reply.startswith(b"HTTP/1.1 503 ")]
+        if not failed:
+            return is_closed and replies == self.whole
+        place = failed[0]
+        others = replies[:place] + replies[place + 1 :]
+        is_get = self.requests[place].startswith(b"GET ")
+        if replies[place] == serving.response(b'{"fault":"memory"}'):
+            self.told.add(place)
+            return is_closed and others == self.rest(place)
+        is_reply = replies[place] == serving.response(b'{"fault":"reply"}', status=503)
+        return is_closed and is_reply and not is_get and others == self.whole[:place] + self.whole[place + 1 :]
+
+    def untold(self):
+        """The connections that were never told want of memory."""
+        return [place for place in range(len(self.requests)) if place not in self.told]
+
+
 KINDS = {"script": Script, "check": Check, "alternatives": Check, "gather": Tree, "lint": Tree}
+TEXTS = {"notices": "r1", "duties": "r1", "totals": "r1", "changes": "1"}
+KINDS.update((word, Shown) for word in TEXTS)
 
 
-def sweep(program, name, words, text):
-    """How many allocations were refused."""
+def sweep(program, name, words, text, first=1):
+    """How many allocations were refused, from the first one on."""
     run = KINDS[words[0]](program, words, text)
-    refused = 1
+    refused = first
     while True:
         stdout, status, stderr, was_refused = program.run(words, text, refused)
         if not was_refused:
@@ -169,7 +240,61 @@ def sweep(program, name, words, text):
         refused += 1
     if run.untold():
         sys.exit(f"{name}: no want of memory was told for the requests {run.untold()}")
-    return refused - 1
+    return refused - first
+
+
+def first_of_texts(program, words):
+    """The first allocation behind those that open the desk's file. Scripts over a file make the same ones."""
+    least, most = OPENING, MANY
+    while least < most:
+        middle = (least + most) // 2
+        if UNUSED.fullmatch(program.run(words, b"", middle)[2]):
+            least = middle + 1
+        else:
+            most = middle
+    if least == OPENING:
+        sys.exit(f"{words[0]}: the file is opened by fewer allocations than {OPENING}")
+    return least
+
+
+def first_of_connections(program):
+    """The first allocation behind those that a desk makes until it listens. Scripts over a file make the same ones."""
+    least, most = 1, MANY
+    while least < most:
+        middle = (least + most) // 2
+        if program.serve([], middle)[0] is None:
+            least = middle + 1
+        else:
+            most = middle
+    return least
+
+
+def sweep_connections(program):
+    """How many allocations of a desk that is served were refused, from the first connection on."""
+    requests = [request for _, request, *_ in serving.RELEASE]
+    run = Serve(program, requests)
+    wanted = [serving.response(*reply) for _, _, *reply in serving.RELEASE]
+    if run.whole != wanted:
+        sys.exit("connections: other replies, with memory")
+    refused = first = first_of_connections(program)
+    while True:
+        replies, status, stderr, was_refused = program.serve(requests, refused)
+        if not was_refused:
+            break
+        if not run.is_right(replies, status, stderr):
+            sys.exit(f"connections: allocation {refused}: status {status}, {replies!r:.400}, {stderr[:200]!r}")
+        refused += 1
+    if run.untold():
+        sys.exit(f"connections: no want of memory was told for the requests {run.untold()}")
+    return refused - first
+
+
+def texts(program):
+    """The words of each text of the first release, which is made in a file."""
+    with open(os.path.join(HERE, "../../examples/first-release/script.jsonl"), "rb") as file:
+        program.run(["script", "--db", "office"], file.read())
+    for word, of in TEXTS.items():
+        yield [word, "--db", "office", of]
 
 
 def words_of(path):
@@ -209,7 +334,7 @@ def cases():
 
 
 def main():
-    with tempfile.TemporaryDirectory(dir=MEMORY if os.path.isdir(MEMORY) else None) as room:
+    with tempfile.TemporaryDirectory(dir=SHARED if os.path.isdir(SHARED) else None) as room:
         library = os.path.join(room, "refuse.so")
         subprocess.run(["cc", "-O2", "-shared", "-fPIC", "-o", library, os.path.join(HERE, "refuse.c"), "-ldl"], check=True)
         program = Program(os.path.abspath(sys.argv[1]), library, room)
@@ -219,6 +344,10 @@ def main():
             if program.files() > FILES:
                 continue
             swept, runs = swept + 1, runs + sweep(program, name, words, text)
+        program.stand_in(None, None)
+        for words in texts(program):
+            swept, runs = swept + 1, runs + sweep(program, words[0], words, b"", first_of_texts(program, words))
+        swept, runs = swept + 1, runs + sweep_connections(program)
         if swept == 0 or runs == 0:
             sys.exit("nothing was swept")
         print(f"{swept} runs of the program, each of their {runs} allocations refused in turn: passed")
