@@ -6,7 +6,7 @@ mod Reading
 mod Rights
 mod Once
 mod Ordered
-mod Sets
+pub mod Sets
 mod Held
 mod Forms
 mod Ids

@@ -1,0 +1,5 @@
+mod Orders
+mod Concluded
+mod Held
+mod Kept
+mod Choices

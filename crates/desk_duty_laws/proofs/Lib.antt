@@ -1,0 +1,5 @@
+mod Runs
+mod Changes
+mod Words
+mod Rules
+mod Owed

@@ -1,0 +1,75 @@
+-- Which rows are meant: those of a document, a package, a release, a duty.
+use Rattle.std.specs.Prelude.{◌≡◌, ℕ, ◌+◌, ℤ, pos, ◌&&◌, Bool, List, [], ◌∷◌, Option, find}
+use Rattle.std.specs.Ordering.{int_eq}
+use Rattle.std.specs.Str.{bytes_eq}
+use Rattle.desk_rows.specs.Names.{release_state_name, duty_state_name, word_name}
+use Rattle.desk_rows.specs.declared.state.DutyState.{DutyState}
+use Rattle.desk_rows.specs.declared.state.DutyState.TheVariants as duty
+use Rattle.desk_rows.specs.declared.state.ReleaseState.{ReleaseState}
+use Rattle.desk_rows.specs.declared.state.ReleaseState.TheVariants as release
+use Rattle.desk_rows.specs.declared.state.Word.{Word}
+use Rattle.desk_rows.specs.declared.state.Word.TheVariants as word
+use Rattle.desk_snapshot.specs.declared.rows.StoredAttached.{StoredAttached}
+use Rattle.desk_snapshot.specs.declared.rows.StoredChange.{StoredChange}
+use Rattle.desk_snapshot.specs.declared.rows.StoredChoice.{StoredChoice}
+use Rattle.desk_snapshot.specs.declared.rows.StoredConclusion.{StoredConclusion}
+use Rattle.desk_snapshot.specs.declared.rows.StoredFrozen.{StoredFrozen}
+use Rattle.desk_snapshot.specs.declared.rows.StoredPackage.{StoredPackage}
+use Rattle.desk_snapshot.specs.declared.rows.StoredReading.{StoredReading}
+use Rattle.desk_snapshot.specs.declared.rows.StoredRelease.{StoredRelease}
+use Rattle.desk_snapshot.specs.declared.rows.StoredRule.{StoredRule}
+use Rattle.desk_snapshot.specs.declared.rows.StoredWaiver.{StoredWaiver}
+
+-- these are the numbers from n on
+abbrev pub AreFrom : ℕ → List ℤ → Type 0
+AreFrom n [] = Unit {0}
+AreFrom n (m ∷ ms) = (m ≡ pos n) × AreFrom (n + 1) ms
+
+abbrev pub is_reading_of : ℤ → StoredReading → Bool
+is_reading_of document row = int_eq row.document document
+
+abbrev pub is_package : ℤ → List ℕ → StoredPackage → Bool
+is_package document id row = int_eq row.document document && bytes_eq row.id id
+
+abbrev pub is_conclusion : ℤ → List ℕ → StoredConclusion → Bool
+is_conclusion document id row = int_eq row.document document && bytes_eq row.package_id id
+
+abbrev pub is_release : List ℕ → StoredRelease → Bool
+is_release name row = bytes_eq row.name name
+
+abbrev pub is_attachment : List ℕ → ℤ → StoredAttached → Bool
+is_attachment release document row = bytes_eq row.release release && int_eq row.document document
+
+-- the choices of a release, and those of a package in it
+abbrev pub is_choice_in : List ℕ → StoredChoice → Bool
+is_choice_in release row = bytes_eq row.release release
+
+abbrev pub is_choice_of : List ℕ → ℤ → List ℕ → StoredChoice → Bool
+is_choice_of release document id row = bytes_eq row.release release && (int_eq row.document document && bytes_eq row.package_id id)
+
+abbrev pub is_frozen_in : List ℕ → StoredFrozen → Bool
+is_frozen_in release row = bytes_eq row.release release
+
+-- the rule of a revision and a form that is spelled so
+abbrev pub is_rule_spelled : ℤ → List ℕ → List ℕ → StoredRule → Bool
+is_rule_spelled revision form spelled row = int_eq row.revision revision && (bytes_eq row.form form && bytes_eq row.spelled spelled)
+
+abbrev pub is_change_of : ℤ → StoredChange → Bool
+is_change_of duty row = int_eq row.duty duty
+
+abbrev pub is_change_at : ℤ → ℤ → StoredChange → Bool
+is_change_at duty step row = int_eq row.duty duty && int_eq row.step step
+
+abbrev pub is_waiver_at : ℤ → ℤ → StoredWaiver → Bool
+is_waiver_at duty step row = int_eq row.duty duty && int_eq row.step step
+
+-- States and words, by their texts
+
+abbrev pub release_state_named : List ℕ → Option ReleaseState
+release_state_named text = find (λ state. bytes_eq (release_state_name state) text) (release.IsOpen ∷ release.Frozen ∷ release.Withdrawn ∷ [])
+
+abbrev pub duty_state_named : List ℕ → Option DutyState
+duty_state_named text = find (λ state. bytes_eq (duty_state_name state) text) (duty.IsOpen ∷ duty.Met ∷ duty.Waived ∷ duty.Withdrawn ∷ [])
+
+abbrev pub word_named : List ℕ → Option Word
+word_named text = find (λ word. bytes_eq (word_name word) text) (word.Raised ∷ word.Met ∷ word.Waived ∷ word.Reopened ∷ word.Withdrawn ∷ word.Ended ∷ [])

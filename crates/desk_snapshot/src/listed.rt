@@ -1,0 +1,66 @@
+//! Rows of a table in the order in which they came.
+
+ghost use Rattle.std.specs.Prelude.{◌≡◌, ◌++◌, ◌∷◌, [], filter, find, OnOk, OnErr};
+ghost use Rattle.std.specs.Option.{option_copied};
+
+use desk_rows::Fault;
+use desk_sorted::{Appended, Keyed, Sought};
+use std::alloc::Global;
+use std::marker::Model;
+
+/// The rows of a table, seen as their list. They are found by halving where they stand in the order of their keys, as they do where a
+/// database lists them so, else one after the other.
+#[derive(Drop)]
+pub struct Listed<R: Keyed> {
+    appended: Appended<R>,
+}
+
+impl<R: Keyed> Model for Listed<R> {
+    ghost use Rattle.std.specs.Prelude.{List};
+
+    ghost Value = { List R };
+
+    ghost view = { λ s. s.appended.rows.items };
+}
+
+impl<R: Keyed + Drop> Listed<R> {
+    /// The list of no row.
+    pub fn new(alloc: Global) -> Listed<R>
+        ensures { result ≡ [] }
+    {
+        Listed {
+            appended: Appended::new(alloc),
+        }
+    }
+
+    /// Adds a row at the end.
+    pub fn push(&mut self, row: R) -> Result<(), Fault>
+        ensures ok { OnOk result (self.new ≡ self.old ++ row ∷ []) }
+        ensures err { OnErr result (self.new ≡ self.old) }
+    {
+        self.appended.reserve(1)?;
+        self.appended.push(row);
+        Ok(())
+    }
+
+    /// All rows.
+    pub fn as_slice(&self) -> &[R]
+        ensures { result.now ≡ self.now }
+    {
+        self.appended.rows.as_slice()
+    }
+
+    /// Rows among which all stand that are sought, and no others where the rows are in order.
+    pub fn among<K: Sought<R>>(&self, key: &K) -> &[R]
+        ensures { filter (K.is_at key.now) result.now ≡ filter (K.is_at key.now) self.now }
+    {
+        self.appended.among(key)
+    }
+
+    /// The first of the rows that are sought.
+    pub fn find<K: Sought<R>>(&self, key: &K) -> Option<&R>
+        ensures { option_copied result ≡ find (K.is_at key.now) self.now }
+    {
+        self.appended.find(key)
+    }
+}
