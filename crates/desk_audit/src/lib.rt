@@ -1,0 +1,129 @@
+//! The audit of a desk's tables: which of ten conditions (`desk_snapshot`) their rows don't meet first.
+//!
+//! The conditions of catalogues and documents are judged by `desk_audit_texts`, those of conclusions, adoptions, releases and choices by
+//! `desk_audit_choices`, those of duties and their changes by `desk_audit_duties`; here they are put in their order.
+#![tactic(auto)]
+
+ghost use Rattle.std.specs.Prelude.{◌≡◌, pos, [], ◌∷◌, IfOk};
+ghost use Rattle.std.specs.Bool.{Decides};
+ghost use Rattle.desk_rows.specs.Readings.{Readings};
+ghost use Rattle.desk_snapshot.specs.Reports.{IsFirst, IsReport};
+ghost use Rattle.desk_snapshot.specs.declared.fault.AuditFault.TheVariants.{BadChange, BadChoice, BadDocument, BadDuty, BadMeta, BadNumber, BadPackage, BadRevision, BadRule, BadState};
+ghost use Rattle.desk_texts.specs.Right.{AreRight};
+
+use desk_access::texts::Texts;
+use desk_audit_choices::choice_fault;
+use desk_audit_duties::{change_fault, duty_fault, number_fault, state_fault};
+use desk_audit_texts::{catalogue_fault, document_fault};
+use desk_snapshot::{AuditFault, AuditReport, Snapshot, StoredMeta};
+use desk_texts::Standard;
+use std::alloc::{AllocError, Global};
+
+/// The version of the tables that a desk has.
+const VERSION: i64 = 3;
+
+/// Whether there is one row, with this version.
+fn has_version(rows: &[StoredMeta]) -> bool
+    ensures { Decides result (rows.now ≡ (record { version = pos 3 }) ∷ []) }
+{
+    match rows {
+        [row] => row.version == VERSION,
+        _ => false,
+    }
+}
+
+/// The first condition of versions, catalogues and documents that isn't met.
+fn fault_of_texts<T: Texts>(
+    alloc: Global,
+    texts: &T,
+    snapshot: &Snapshot,
+) -> Result<Option<AuditFault>, AllocError>
+    ensures { (w : Readings) → T.are_right w → IfOk result (IsFirst w snapshot.now
+        (BadMeta ∷ BadRevision ∷ BadRule ∷ BadDocument ∷ BadPackage ∷ [])) }
+{
+    if !has_version(snapshot.meta.as_slice()) {
+        return Ok(Some(AuditFault::BadMeta));
+    }
+    let found = catalogue_fault(alloc, texts, snapshot)?;
+    match found {
+        Some(fault) => Ok(Some(fault)),
+        None => document_fault(alloc, texts, snapshot),
+    }
+}
+
+/// The first condition of changes and states that isn't met.
+fn fault_of_changes(snapshot: &Snapshot) -> Option<AuditFault>
+    ensures { (w : Readings) → IsFirst w snapshot.now (BadChange ∷ BadState ∷ []) result }
+{
+    match change_fault(snapshot) {
+        Some(fault) => Some(fault),
+        None => state_fault(snapshot),
+    }
+}
+
+/// The first condition of what is owed, of changes and of states that isn't met.
+fn fault_of_owed(alloc: Global, snapshot: &Snapshot) -> Result<Option<AuditFault>, AllocError>
+    ensures { IfOk result (λ found. (w : Readings) → IsFirst w snapshot.now
+        (BadDuty ∷ BadChange ∷ BadState ∷ []) found) }
+{
+    let found = duty_fault(alloc, snapshot)?;
+    match found {
+        Some(fault) => Ok(Some(fault)),
+        None => Ok(fault_of_changes(snapshot)),
+    }
+}
+
+/// The first condition of duties and their changes that isn't met.
+fn fault_of_duties(alloc: Global, snapshot: &Snapshot) -> Result<Option<AuditFault>, AllocError>
+    ensures { (w : Readings) → IfOk result (IsFirst w snapshot.now
+        (BadNumber ∷ BadDuty ∷ BadChange ∷ BadState ∷ [])) }
+{
+    match number_fault(snapshot) {
+        Some(fault) => Ok(Some(fault)),
+        None => fault_of_owed(alloc, snapshot),
+    }
+}
+
+/// The first condition of what the office decided, of duties and of their changes that isn't met.
+fn fault_of_office<T: Texts>(
+    alloc: Global,
+    texts: &T,
+    snapshot: &Snapshot,
+) -> Result<Option<AuditFault>, AllocError>
+    ensures { (w : Readings) → T.are_right w → IfOk result (IsFirst w snapshot.now
+        (BadChoice ∷ BadNumber ∷ BadDuty ∷ BadChange ∷ BadState ∷ [])) }
+{
+    let found = choice_fault(alloc, texts, snapshot)?;
+    match found {
+        Some(fault) => Ok(Some(fault)),
+        None => fault_of_duties(alloc, snapshot),
+    }
+}
+
+/// The first of the ten conditions that isn't met.
+fn first_fault<T: Texts>(
+    alloc: Global,
+    texts: &T,
+    snapshot: &Snapshot,
+) -> Result<Option<AuditFault>, AllocError>
+    ensures { (w : Readings) → T.are_right w → IfOk result (IsFirst w snapshot.now
+        (BadMeta ∷ BadRevision ∷ BadRule ∷ BadDocument ∷ BadPackage
+        ∷ BadChoice ∷ BadNumber ∷ BadDuty ∷ BadChange ∷ BadState ∷ [])) }
+{
+    let found = fault_of_texts(alloc, texts, snapshot)?;
+    match found {
+        Some(fault) => Ok(Some(fault)),
+        None => fault_of_office(alloc, texts, snapshot),
+    }
+}
+
+/// The report on a snapshot: sound where the ten conditions are met, else the first that isn't. Texts are read by their standards.
+pub fn judge(alloc: Global, snapshot: &Snapshot) -> Result<AuditReport, AllocError>
+    ensures { (w : Readings) → AreRight w → IfOk result (IsReport w snapshot.now) }
+{
+    let found = first_fault(alloc, &Standard, snapshot)?;
+    match found {
+        Some(fault) => Ok(AuditReport::Unsound(fault)),
+        None => Ok(AuditReport::Sound),
+    }
+}

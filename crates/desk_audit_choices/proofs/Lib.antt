@@ -1,0 +1,5 @@
+mod Sorted
+mod Numbers
+mod Found
+mod Reading
+mod Alike

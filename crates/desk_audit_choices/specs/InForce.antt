@@ -1,0 +1,14 @@
+-- What is read of the conclusion in force for a package.
+use Rattle.std.specs.Prelude.{◌≡◌, ℕ, List, Option, Some, None}
+use Rattle.desk_base.specs.declared.profile.Profile.{Profile}
+use Rattle.desk_rows.specs.Readings.{Readings}
+use Rattle.desk_rows.specs.declared.reading.Conclusion.{Conclusion}
+use Rattle.desk_rows.specs.declared.reading.Verdict.TheVariants.{NotEnough}
+
+module _ {E : Type 0} (is_of : Profile → List ℕ → E → Type 0) where
+  -- the expression that the conclusion is; or none, where no terms are enough for the conclusion or there is none
+  abbrev pub IsRead : Readings → Option Conclusion → Option E → Type 0
+  IsRead w (Some conclusion) (Some expression) = is_of conclusion.profile conclusion.text expression
+  IsRead w (Some conclusion) None = (terms : List (List ℕ)) → w.verdict conclusion.profile conclusion.text terms ≡ NotEnough
+  IsRead w None (Some expression) = ⊥
+  IsRead w None None = Unit {0}

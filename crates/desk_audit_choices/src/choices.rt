@@ -1,0 +1,47 @@
+//! Whether what the office made is such as it can have made.
+
+ghost use Rattle.std.specs.Prelude.{◌≡◌, IfOk, [], ◌∷◌};
+ghost use Rattle.std.specs.Bool.{Decides};
+ghost use Rattle.desk_rows.specs.Readings.{Readings};
+ghost use Rattle.desk_snapshot.specs.Conditions.{AreChoices};
+ghost use Rattle.desk_snapshot.specs.Reports.{IsFirst};
+
+use crate::adoptions::are_adoptions;
+use crate::conclusions::are_expressions;
+use crate::held::are_choices;
+use crate::kept::are_kept;
+use crate::places::are_places;
+use desk_access::texts::Texts;
+use desk_snapshot::{AuditFault, Snapshot};
+use std::alloc::{AllocError, Global};
+
+/// Whether conclusions, adoptions, places and choices are such as the office can have made.
+fn is_met<T: Texts>(alloc: Global, texts: &T, snapshot: &Snapshot) -> Result<bool, AllocError>
+    ensures { (w : Readings) → T.are_right w
+        → IfOk result (λ is. Decides is (AreChoices w snapshot.now)) }
+{
+    Ok(
+        are_expressions(alloc, texts, snapshot.conclusion.as_slice())?
+            && are_adoptions(alloc, texts, snapshot.adoption.as_slice())?
+            && are_places(alloc, snapshot.releases.as_slice())?
+            && are_choices(alloc, texts, snapshot)?
+            && are_kept(snapshot),
+    )
+}
+
+/// The fault where conclusions, adoptions, places and choices aren't such as the office can have made, `BadChoice`; none where they are.
+/// An error only where an allocation was refused.
+pub fn choice_fault<T: Texts>(
+    alloc: Global,
+    texts: &T,
+    snapshot: &Snapshot,
+) -> Result<Option<AuditFault>, AllocError>
+    ensures { (w : Readings) → T.are_right w
+        → IfOk result (IsFirst w snapshot.now (AuditFault.BadChoice ∷ [])) }
+{
+    if is_met(alloc, texts, snapshot)? {
+        Ok(None)
+    } else {
+        Ok(Some(AuditFault::BadChoice))
+    }
+}

@@ -1,0 +1,5 @@
+mod Forming
+mod Judging
+mod Sorting
+mod Ruled
+mod OwedOrders

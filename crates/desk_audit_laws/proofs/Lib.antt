@@ -1,0 +1,3 @@
+mod Printed
+mod Spelled
+mod Rights
