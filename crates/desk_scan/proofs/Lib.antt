@@ -1,0 +1,12 @@
+pub mod Holding
+mod Telling
+mod Scanning
+mod Values
+mod Rising
+mod Waivers
+mod CatalogueQueries
+mod DocumentQueries
+mod OfficeQueries
+mod ReleaseQueries
+mod DutyQueries
+mod Joining

@@ -1,0 +1,4 @@
+pub mod Cells
+pub mod Orders
+pub mod Scans
+pub mod Parts
