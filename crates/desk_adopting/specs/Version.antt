@@ -36,8 +36,13 @@ version_in _ = None
 abbrev pub TellsVersion : Option ℤ → State → Type 0
 TellsVersion version s = (rows : List Row) × Answers version_text [] s rows × (version_in rows ≡ version)
 
--- What a database is taken for: a desk by its version and by its schema; a file of another version by that alone; else something other.
+-- no other version is told
+abbrev pub TellsNoOther : State → Type 0
+TellsNoOther s = TellsVersion (Some (pos 3)) s ⊎ TellsVersion None s
+
+-- What a database is taken for: a desk by its schema, where it tells no other version; a file of another version by that alone; else
+-- something other.
 abbrev pub IsContent : State → Content → Type 0
-IsContent s Desk = TellsVersion (Some (pos 3)) s × (s.now.schema ≡ desk_schema)
+IsContent s Desk = TellsNoOther s × (s.now.schema ≡ desk_schema)
 IsContent s (OtherVersion n) = TellsVersion (Some n) s × (n ≢ pos 3) × (has_version s.now.schema ≡ true)
-IsContent s Other = (has_version s.now.schema ≡ false) ⊎ (TellsVersion None s ⊎ (TellsVersion (Some (pos 3)) s × (s.now.schema ≢ desk_schema)))
+IsContent s Other = (has_version s.now.schema ≡ false) ⊎ (TellsNoOther s × (s.now.schema ≢ desk_schema))

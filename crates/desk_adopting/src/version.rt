@@ -25,7 +25,7 @@ const VERSION: i64 = 3;
 /// What a database holds.
 #[derive(Clone, Copy, Debug, Drop, PartialEq, Eq)]
 pub enum Content {
-    /// The tables of a desk, with their version.
+    /// The tables of a desk, which tell no other version.
     Desk,
     /// A table `meta` that tells another version.
     OtherVersion(i64),
@@ -91,11 +91,12 @@ fn version<S: Alter>(conn: &mut Connection<S>) -> Result<Option<i64>, Fault>
 fn content_by(version: Option<i64>, is_declared: bool) -> Content
     ensures desk { version ≡ Some (pos 3) → is_declared ≡ true → result ≡ Content.Desk }
     ensures undeclared { version ≡ Some (pos 3) → is_declared ≡ false → result ≡ Content.Other }
-    ensures none { version ≡ None → result ≡ Content.Other }
+    ensures unnamed { version ≡ None → is_declared ≡ true → result ≡ Content.Desk }
+    ensures none { version ≡ None → is_declared ≡ false → result ≡ Content.Other }
     ensures other { (n : ℤ) → version ≡ Some n → n ≢ pos 3 → result ≡ Content.OtherVersion n }
 {
     match version {
-        Some(VERSION) if is_declared => Content::Desk,
+        Some(VERSION) | None if is_declared => Content::Desk,
         Some(VERSION) | None => Content::Other,
         Some(version) => Content::OtherVersion(version),
     }
@@ -103,8 +104,8 @@ fn content_by(version: Option<i64>, is_declared: bool) -> Content
 
 /// What a database holds, by the version that it tells and by its schema. It is only read.
 ///
-/// A database that shows a desk's tables is a desk. A table, an index or a view more, or one that is declared otherwise, makes it
-/// `Other`.
+/// A database that shows a desk's tables, and whose table `meta` tells no other version, is a desk: whether `meta` has just one row is
+/// for an audit to say. A table, an index or a view more, or one that is declared otherwise, makes it `Other`.
 pub fn examine<S: Alter>(conn: &mut Connection<S>) -> Result<Content, Fault>
     requires { conn.old.in_transaction ≡ false }
     ensures found { HasCleanDisk (state S.Store conn.new) → IfOk result (IsContent (state S.Store conn.old)) }

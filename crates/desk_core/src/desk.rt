@@ -77,7 +77,8 @@ pub trait Desk {
 #[derive(Drop)]
 pub struct TableDesk<T, S> {
     texts: T,
-    store: S,
+    /// Its rows.
+    pub store: S,
     alloc: Global,
 }
 

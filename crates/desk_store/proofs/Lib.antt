@@ -1,2 +1,4 @@
 mod Counted
 mod Bodies
+mod Audited
+mod Vetted

@@ -1,5 +1,5 @@
 -- What creating a desk in a database, and adopting one, tell and leave.
-use Rattle.std.specs.Prelude.{◌≡◌, ◌⊎◌, true, false, [], length}
+use Rattle.std.specs.Prelude.{◌≡◌, ◌⊎◌, true, false, [], length, IsTrue}
 use Rattle.sqlite_trees.specs.Tree.{Trees}
 use Rattle.sqlite.specs.State.{State}
 use Rattle.desk_rows.specs.Readings.{Readings}
@@ -10,9 +10,11 @@ use Rattle.desk_tally.specs.Kept.{are_countable}
 use Rattle.desk_adopting.specs.Reading.{IsSpared, HasStayed}
 use Rattle.desk_adopting.specs.declared.version.Content.TheVariants as content
 use Rattle.desk_adopting.specs.Version.{IsContent}
+use Rattle.desk_snapshot.specs.declared.fault.AuditReport.TheVariants as report
+use Rattle.desk_store.specs.Auditing.{Reports}
 use Rattle.desk_store.specs.declared.counts.Counts.{Counts}
 use Rattle.desk_store.specs.declared.fault.AdoptFault.{AdoptFault}
-use Rattle.desk_store.specs.declared.fault.AdoptFault.TheVariants.{NotADesk, BadVersion, Fault}
+use Rattle.desk_store.specs.declared.fault.AdoptFault.TheVariants.{NotADesk, BadVersion, Unsound, Fault}
 
 -- what is left holds the tables of no command
 abbrev pub StandsEmpty : Trees → Type 0
@@ -36,21 +38,26 @@ abbrev pub IsFault : AdoptFault → Type 0
 IsFault (Fault fault) = Unit {0}
 IsFault _ = ⊥
 
--- whether the releases and duties of tables can be counted
-abbrev pub IsCountable : Tables → Type 0
-IsCountable t = are_countable t.releases t.duty ≡ true
-
+-- the releases and duties of tables can't be counted
 abbrev pub IsUncountable : Tables → Type 0
 IsUncountable t = are_countable t.releases t.duty ≡ false
 
--- the tables of a desk, with rows that can't be counted
-abbrev pub IsUncounted : State → Type 0
-IsUncounted s = IsContent s content.Desk × ((t : Tables) → (seen_of s).holds t → IsUncountable t)
+-- what may come of an audit: it finds something, or memory was wanting or the store failed
+abbrev pub IsOfAudit : AdoptFault → Type 0
+IsOfAudit (Unsound fault) = Unit {0}
+IsOfAudit (Fault fault) = Unit {0}
+IsOfAudit _ = ⊥
+
+-- what it finds is the report on the rows
+abbrev pub IsFinding : State → AdoptFault → Type 0
+IsFinding s (Unsound fault) = Reports s (report.Unsound fault)
+IsFinding s _ = Unit {0}
 
 -- what the database was found to hold, where it isn't adopted
 abbrev pub IsReason : State → AdoptFault → Type 0
-IsReason s NotADesk = IsContent s content.Other ⊎ IsUncounted s
+IsReason s NotADesk = IsContent s content.Other
 IsReason s (BadVersion version) = IsContent s (content.OtherVersion version)
+IsReason s (Unsound fault) = IsContent s content.Desk × (IsTrue s.is_open → Reports s (report.Unsound fault))
 IsReason s (Fault fault) = Unit {0}
 
 -- the connection shows what it showed; only a fault may have ended that

@@ -11,13 +11,16 @@ ghost use Rattle.desk_rows.specs.Tables.{tables};
 ghost use Rattle.desk_access.specs.Seen.{OfRows};
 ghost use Rattle.desk_core.specs.Desks.{InHistory};
 ghost use Rattle.desk_layout.specs.Held.{known_of, seen_of};
+ghost use Rattle.desk_layout.specs.Layout.{desk_schema};
 ghost use Rattle.desk_texts.specs.Right.{AreRight};
 ghost use Rattle.desk_adopting.specs.Reading.{HasRead, HasStayed};
 ghost use Rattle.desk_adopting.specs.Version.{IsContent};
-ghost use Rattle.desk_store.specs.Adopting.{HasCounts, IsCountable, IsFault, IsLeft, IsReason, IsUncountable};
+ghost use Rattle.desk_store.specs.Adopting.{HasCounts, IsFault, IsFinding, IsLeft, IsOfAudit, IsReason, IsUncountable};
+ghost use Rattle.desk_store.specs.Auditing.{Reports};
 ghost use Rattle.desk_store.specs.Counting.{known_by};
 ghost use Rattle.desk_tally.specs.Kept.{AreKept};
 
+use crate::audit::audit_connection;
 use crate::counts::Counts;
 use crate::fault::AdoptFault;
 use desk_access::texts::Texts;
@@ -27,6 +30,7 @@ use desk_adopting::{
 };
 use desk_base::{Items, Text};
 use desk_rows::{Fault, StoreFault};
+use desk_snapshot::AuditReport;
 use desk_tally::Tallies;
 use desk_texts::Standard;
 use sqlite::{Alter, Connection};
@@ -121,7 +125,70 @@ fn read_beside<S: Alter>(
     }
 }
 
-/// Examines a database, and reads of a desk what a store keeps beside its tables. One whose rows can't be counted is no desk.
+/// Whether a database holds the tables of a desk, or why not.
+fn examined<S: Alter>(conn: &mut Connection<S>) -> Result<(), AdoptFault>
+    requires { conn.old.in_transaction ≡ false }
+    ensures desk { HasCleanDisk (state S.Store conn.new)
+        → OnOk result (IsContent (state S.Store conn.old) Content.Desk) }
+    ensures held { IfErr result (λ fault. IsTrue (state S.Store conn.old).is_open
+        → OfRows (λ t. IsFault fault) (seen_of (state S.Store conn.old))
+        (seen_of (state S.Store conn.new))) }
+    ensures reason { HasCleanDisk (state S.Store conn.new) → IfErr result (IsReason (state S.Store conn.old)) }
+    ensures stayed { OnOk result (HasStayed (state S.Store conn.old) (state S.Store conn.new)) }
+    ensures left { IfErr result (IsLeft (state S.Store conn.old) (state S.Store conn.new)) }
+    ensures mode { conn.new.in_transaction ≡ false }
+{
+    match examine(conn) {
+        Ok(Content::Desk) => Ok(()),
+        Ok(Content::OtherVersion(version)) => Err(AdoptFault::BadVersion(version)),
+        Ok(Content::Other) => Err(AdoptFault::NotADesk),
+        Err(fault) => Err(AdoptFault::Fault(fault)),
+    }
+}
+
+/// Whether the tables of a desk are sound, or why not.
+fn audited<S: Alter>(alloc: Global, conn: &mut Connection<S>) -> Result<(), AdoptFault>
+    requires { conn.old.in_transaction ≡ false }
+    ensures sound { IfErr result (λ fault. InHistory AreRight (λ w h. IsFault fault)
+        (seen_of (state S.Store conn.old)) (seen_of (state S.Store conn.new))) }
+    ensures only { IfErr result IsOfAudit }
+    ensures told { HasCleanDisk (state S.Store conn.new) → (state S.Store conn.old).now.schema ≡ desk_schema
+        → IfErr result (IsFinding (state S.Store conn.old)) }
+    ensures passed { HasCleanDisk (state S.Store conn.new) → (state S.Store conn.old).now.schema ≡ desk_schema
+        → OnOk result (Reports (state S.Store conn.old) AuditReport.Sound) }
+    ensures stayed { OnOk result (HasStayed (state S.Store conn.old) (state S.Store conn.new)) }
+    ensures left { IfErr result (IsLeft (state S.Store conn.old) (state S.Store conn.new)) }
+    ensures mode { conn.new.in_transaction ≡ false }
+{
+    match audit_connection(alloc, conn) {
+        Ok(AuditReport::Sound) => Ok(()),
+        Ok(AuditReport::Unsound(fault)) => Err(AdoptFault::Unsound(fault)),
+        Err(fault) => Err(AdoptFault::Fault(fault)),
+    }
+}
+
+/// Whether a database holds the sound tables of a desk, or why not.
+fn vetted<S: Alter>(alloc: Global, conn: &mut Connection<S>) -> Result<(), AdoptFault>
+    requires { conn.old.in_transaction ≡ false }
+    ensures desk { HasCleanDisk (state S.Store conn.new)
+        → OnOk result (IsContent (state S.Store conn.old) Content.Desk) }
+    ensures passed { HasCleanDisk (state S.Store conn.new) → IsTrue (state S.Store conn.old).is_open
+        → OnOk result (Reports (state S.Store conn.old) AuditReport.Sound) }
+    ensures sound { IfErr result (λ fault. IsTrue (state S.Store conn.old).is_open
+        → InHistory AreRight (λ w h. IsFault fault) (seen_of (state S.Store conn.old))
+        (seen_of (state S.Store conn.new))) }
+    ensures reason { HasCleanDisk (state S.Store conn.new) → IfErr result (IsReason (state S.Store conn.old)) }
+    ensures stayed { OnOk result (HasStayed (state S.Store conn.old) (state S.Store conn.new)) }
+    ensures left { IfErr result (IsLeft (state S.Store conn.old) (state S.Store conn.new)) }
+    ensures mode { conn.new.in_transaction ≡ false }
+{
+    match examined(conn) {
+        Ok(()) => audited(alloc, conn),
+        Err(fault) => Err(fault),
+    }
+}
+
+/// Examines and audits a database, and reads of a desk what a store keeps beside its tables.
 pub(crate) fn examine_desk<S: Alter>(
     alloc: Global,
     conn: &mut Connection<S>,
@@ -132,25 +199,22 @@ pub(crate) fn examine_desk<S: Alter>(
     ensures known { IfOk result (λ known. InHistory AreRight (λ w h.
         known_of (tables w h) ≡ known_by known.0 known.1) (seen_of (state S.Store conn.old))
         (seen_of (state S.Store conn.new))) }
-    ensures countable { IfErr result (λ fault. IsTrue (state S.Store conn.old).is_open
-        → OfRows (λ t. IsCountable t → IsFault fault) (seen_of (state S.Store conn.old))
+    ensures sound { IfErr result (λ fault. IsTrue (state S.Store conn.old).is_open
+        → InHistory AreRight (λ w h. IsFault fault) (seen_of (state S.Store conn.old))
         (seen_of (state S.Store conn.new))) }
     ensures desk { HasCleanDisk (state S.Store conn.new)
         → OnOk result (IsContent (state S.Store conn.old) Content.Desk) }
+    ensures passed { HasCleanDisk (state S.Store conn.new) → IsTrue (state S.Store conn.old).is_open
+        → OnOk result (Reports (state S.Store conn.old) AuditReport.Sound) }
     ensures reason { HasCleanDisk (state S.Store conn.new) → IfErr result (IsReason (state S.Store conn.old)) }
     ensures stayed { OnOk result (HasStayed (state S.Store conn.old) (state S.Store conn.new)) }
     ensures left { IfErr result (IsLeft (state S.Store conn.old) (state S.Store conn.new)) }
     ensures mode { conn.new.in_transaction ≡ false }
 {
-    match examine(conn) {
-        Ok(Content::Desk) => {}
-        Ok(Content::OtherVersion(version)) => return Err(AdoptFault::BadVersion(version)),
-        Ok(Content::Other) => return Err(AdoptFault::NotADesk),
-        Err(fault) => return Err(AdoptFault::Fault(fault)),
-    }
+    vetted(alloc, conn)?;
     match read_beside(alloc, conn) {
         Ok(Some(beside)) => Ok(beside),
-        Ok(None) => Err(AdoptFault::NotADesk),
+        Ok(None) => Err(AdoptFault::Fault(Fault::Store(StoreFault::Rows))),
         Err(fault) => Err(AdoptFault::Fault(fault)),
     }
 }

@@ -5,7 +5,7 @@ ghost use Rattle.sqlite_trees.specs.Tree.{Trees};
 ghost use Rattle.sqlite.specs.Held.{state};
 ghost use Rattle.sqlite.specs.State.{HasCleanDisk, Survives};
 ghost use Rattle.desk_rows.specs.Tables.{Tables, tables};
-ghost use Rattle.desk_access.specs.Seen.{OfRows, Same};
+ghost use Rattle.desk_access.specs.Seen.{Looked, Same};
 ghost use Rattle.desk_core.specs.Desks.{InHistory};
 ghost use Rattle.desk_layout.specs.Held.{Stands, known_of, seen_of};
 ghost use Rattle.desk_tally.specs.Kept.{AreKept};
@@ -14,7 +14,8 @@ ghost use Rattle.desk_writing.specs.Creating.{has_meta};
 ghost use Rattle.desk_writing.specs.Written.{Undone};
 ghost use Rattle.desk_adopting.specs.Reading.{HasStayed};
 ghost use Rattle.desk_adopting.specs.Version.{IsContent};
-ghost use Rattle.desk_store.specs.Adopting.{IsCountable, IsEmpty, IsFault, IsLeft, IsReason, StandsEmpty};
+ghost use Rattle.desk_store.specs.Adopting.{IsEmpty, IsFault, IsLeft, IsReason, StandsEmpty};
+ghost use Rattle.desk_store.specs.Auditing.{IsAudit, Reports};
 ghost use Rattle.desk_store.specs.Counting.{known_by};
 
 use crate::adopt::examine_desk;
@@ -25,6 +26,7 @@ use desk_adopting::Content;
 use desk_base::{Items, Text};
 use desk_core::{Answer, Command, Desk, Fault, Query, TableDesk};
 use desk_rows::Profile;
+use desk_snapshot::AuditReport;
 use desk_tally::Tallies;
 use desk_texts::Standard;
 use desk_writing::{Refused, create_tables};
@@ -101,12 +103,11 @@ impl<S: Alter> SqlDesk<S> {
     ///
     /// It isn't adopted as `BadVersion` where its table `meta` tells another version than 3, whatever else stands in it; as
     /// `NotADesk` where no table `meta` tells one version, or where not all tables of a desk are declared as `create` declares them,
-    /// in its order, or where a table, an index or a view stands beside them, or where its rows can't be counted: releases whose
-    /// places aren't those from 1 to their number, duties that aren't numbered from 1 on or are of no release, or more than 100,000
-    /// of them. After these the connection is as it was. A fault tells that memory was wanting, that the database failed, or that it
-    /// gave rows that no desk has, such as a catalogue in force that can't be read.
+    /// in its order, or where a table, an index or a view stands beside them; as `Unsound` where `audit_connection` finds that its
+    /// tables aren't sound. After these the connection is as it was. A fault tells that memory was wanting, that the database failed,
+    /// or that it gave rows that no desk has.
     ///
-    /// The tables of a recorded history can be counted, so of them a fault alone is answered.
+    /// The tables of a recorded history are sound, so of them a fault alone is answered.
     pub fn adopt_connection(
         alloc: Global,
         conn: Connection<S>,
@@ -116,13 +117,12 @@ impl<S: Alter> SqlDesk<S> {
             (⟦<SqlDesk<S> as Desk>⟧.seen desk).holds (tables w h)) (seen_of (state S.Store conn))
             (⟦<SqlDesk<S> as Desk>⟧.seen desk)) }
         ensures adopts { IfErr result (λ e. IsTrue (state S.Store conn).is_open
-            → InHistory (λ w. Unit {0}) (λ w h.
+            → InHistory AreRight (λ w h.
             IsFault e.0) (seen_of (state S.Store conn)) (seen_of (state S.Store e.1))) }
-        ensures countable { IfErr result (λ e. IsTrue (state S.Store conn).is_open
-            → OfRows (λ t. IsCountable t → IsFault e.0) (seen_of (state S.Store conn))
-            (seen_of (state S.Store e.1))) }
         ensures desk { IfOk result (λ desk. HasCleanDisk (state S.Store desk.desk.store.conn)
             → IsContent (state S.Store conn) Content.Desk) }
+        ensures passed { IfOk result (λ desk. HasCleanDisk (state S.Store desk.desk.store.conn)
+            → IsTrue (state S.Store conn).is_open → Reports (state S.Store conn) AuditReport.Sound) }
         ensures reason { IfErr result (λ e. HasCleanDisk (state S.Store e.1)
             → IsReason (state S.Store conn) e.0) }
         ensures stayed { IfOk result (λ desk. HasStayed (state S.Store conn)
@@ -137,6 +137,19 @@ impl<S: Alter> SqlDesk<S> {
             }
             Err(fault) => Err((fault, conn)),
         }
+    }
+
+    /// Audits the desk's tables as `audit_connection` does. The desk is as it was.
+    pub fn audit(&mut self) -> Result<AuditReport, Fault>
+        ensures told { IfOk result (IsAudit (state S.Store self.old.desk.store.conn)
+            (state S.Store self.new.desk.store.conn)) }
+        ensures sound { IfOk result (λ report. InHistory AreRight (λ w h.
+            report ≡ AuditReport.Sound) (⟦<SqlDesk<S> as Desk>⟧.seen self.old)
+            (⟦<SqlDesk<S> as Desk>⟧.seen self.new)) }
+        ensures kept { Looked (⟦<SqlDesk<S> as Desk>⟧.seen self.old)
+            (⟦<SqlDesk<S> as Desk>⟧.seen self.new) result }
+    {
+        self.desk.store.audit()
     }
 
     /// Hands the connection back, which shows the desk's rows and is in no transaction.

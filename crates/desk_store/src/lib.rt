@@ -5,16 +5,19 @@
 //!
 //! `SqlDesk` is the desk over such a store, with the reader of texts by their standards. `create` makes the tables of an empty desk in
 //! a database where nothing stands; `adopt_connection` takes a database that holds a desk's tables as the desk with those rows; both
-//! hand the connection back where they don't. `into_connection` gives back a desk's connection. What each tells and leaves, also for a
+//! hand the connection back where they don't. `audit_connection` tells whether the tables are such as a desk's are, which `adopt_connection`
+//! asks first (`specs/Auditing.antt`). `into_connection` gives back a desk's connection. What each tells and leaves, also for a
 //! stop of the program, is said in `specs/Adopting.antt`.
 #![tactic(auto)]
 
 mod adopt;
+mod audit;
 mod counts;
 mod desk;
 mod fault;
 mod store;
 
+pub use audit::audit_connection;
 pub use counts::Counts;
 pub use desk::SqlDesk;
 pub use fault::{AdoptFault, CreateFault};

@@ -8,11 +8,15 @@ ghost use Rattle.sqlite.specs.Held.{state};
 ghost use Rattle.desk_rows.specs.Tables.{Tables, applied};
 ghost use Rattle.desk_access.specs.Seen.{Looked, OfRows};
 ghost use Rattle.desk_history.specs.Laws.{Ascends};
+ghost use Rattle.desk_core.specs.Desks.{InHistory};
 ghost use Rattle.desk_layout.specs.Held.{Stands, known_of, seen_of};
 ghost use Rattle.desk_rows.specs.Keys.{release_below};
 ghost use Rattle.desk_tally.specs.Kept.{AreKept, Fits, IsPlaceFor, LeadsTo};
+ghost use Rattle.desk_store.specs.Auditing.{IsAudit};
 ghost use Rattle.desk_store.specs.Counting.{forms_after, known_by, tallied};
+ghost use Rattle.desk_texts.specs.Right.{AreRight};
 
+use crate::audit::audit_connection;
 use crate::counts::{Counts, counts_after};
 use desk_access::store::Store;
 use desk_base::{Day, Items, Text};
@@ -20,6 +24,7 @@ use desk_rows::{
     AttachedRow, Change, ChangeRow, DutyRow, Fault, FrozenRow, PackageRow, Profile, ReleaseRow,
     Rule, Standing, StoreFault, Totals,
 };
+use desk_snapshot::AuditReport;
 use desk_tally::{Step, Tallies};
 use sqlite::{Alter, Connection};
 use std::alloc::Global;
@@ -78,6 +83,18 @@ impl<S: Alter> SqlStore<S> {
 }
 
 impl<S: Alter> SqlStore<S> {
+    /// Audits the tables as `audit_connection` does. The store is as it was.
+    pub fn audit(&mut self) -> Result<AuditReport, Fault>
+        ensures told { IfOk result (IsAudit (state S.Store self.old.conn) (state S.Store self.new.conn)) }
+        ensures sound { IfOk result (λ report. InHistory AreRight (λ w h.
+            report ≡ AuditReport.Sound) (⟦<SqlStore<S> as Store>⟧.seen self.old)
+            (⟦<SqlStore<S> as Store>⟧.seen self.new)) }
+        ensures kept { Looked (⟦<SqlStore<S> as Store>⟧.seen self.old)
+            (⟦<SqlStore<S> as Store>⟧.seen self.new) result }
+    {
+        audit_connection(self.alloc, &mut self.conn)
+    }
+
     /// Keeps the forms of a catalogue that was loaded.
     fn take_forms(&mut self, change: Change)
         ensures forms { self.new.forms ≡ forms_after change self.old.forms }

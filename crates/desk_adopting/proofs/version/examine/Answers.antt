@@ -20,5 +20,5 @@ returns-clause-found g c = λ clean.
     let s = state g.S.Store c.args.conn.now in
     let schema = c.schema-schema.ensures.value in
     content_is s (sym (ap has_version schema) ∙ sym c.has_version.ensures ∙ c.if-not-has_version.false) c.is_declared-is_declared.result (λ is. sym schema ∙ c.is_declared-is_declared.ensures.0 is)
-    (λ same. c.is_declared-is_declared.ensures.1 (schema ∙ same)) c.content_by.result c.in_ok-version.field-0 c.content_by.ensures.desk c.content_by.ensures.undeclared c.content_by.ensures.none c.content_by.ensures.other
+    (λ same. c.is_declared-is_declared.ensures.1 (schema ∙ same)) c.content_by.result c.in_ok-version.field-0 c.content_by.ensures.desk c.content_by.ensures.undeclared c.content_by.ensures.unnamed c.content_by.ensures.none c.content_by.ensures.other
     (c.in_ok-version.ensures.told clean)

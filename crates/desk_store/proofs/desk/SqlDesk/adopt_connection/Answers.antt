@@ -1,7 +1,6 @@
 use Rattle.sqlite.specs.Held.{state}
 use Rattle.desk_rows.specs.Tables.{tables}
 use Rattle.desk_adopting.proofs.Spared.{kept}
-use Rattle.desk_tally.proofs.Countable.{countable}
 use Rattle.desk_store.proofs.desk.SqlDesk.adopt_connection.Goals as goal
 
 pub returns-in-Ok-clause-holds : goal.returns-in-Ok-clause-holds
@@ -14,4 +13,4 @@ returns-in-Ok-clause-holds g c = λ w right honest h ok held.
     c.over.ensures.holds (tables w h) known tallies ((kept old new c.in-Ok.ensures.stayed.0).spared.holds (tables w h) held)
 
 pub returns-in-Err-clause-adopts : goal.returns-in-Err-clause-adopts
-returns-in-Err-clause-adopts g c = λ is w right honest h ok held. c.in-Err.ensures.countable is honest (tables w h) held (countable w h ok)
+returns-in-Err-clause-adopts g c = c.in-Err.ensures.sound

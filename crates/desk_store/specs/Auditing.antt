@@ -1,0 +1,18 @@
+-- What an audit of a database tells.
+use Rattle.std.specs.Prelude.{◌≡◌}
+use Rattle.sqlite.specs.State.{State, HasCleanDisk}
+use Rattle.desk_rows.specs.Readings.{Readings}
+use Rattle.desk_layout.specs.Layout.{desk_schema}
+use Rattle.desk_snapshot.specs.Reports.{IsReport}
+use Rattle.desk_snapshot.specs.declared.fault.AuditReport.{AuditReport}
+use Rattle.desk_snapshot.specs.declared.snapshot.Snapshot.{Snapshot}
+use Rattle.desk_scan.specs.Scans.{IsSnapshot}
+use Rattle.desk_texts.specs.Right.{AreRight}
+
+-- of the rows of a database, by each right reading
+abbrev pub Reports : State → AuditReport → Type 0
+Reports old report = (s : Snapshot) × IsSnapshot s old.now × ((w : Readings) → AreRight w → IsReport w s report)
+
+-- The report is that on the rows, where the tables are declared as a desk's are.
+abbrev pub IsAudit : State → State → AuditReport → Type 0
+IsAudit old new report = HasCleanDisk new → old.now.schema ≡ desk_schema → Reports old report

@@ -1,0 +1,39 @@
+//! The audit of the tables in a database.
+
+ghost use Rattle.std.specs.Prelude.{◌≡◌, false, IfOk};
+ghost use Rattle.sqlite.specs.Held.{state};
+ghost use Rattle.desk_core.specs.Desks.{InHistory};
+ghost use Rattle.desk_layout.specs.Held.{seen_of};
+ghost use Rattle.desk_adopting.specs.Reading.{HasRead};
+ghost use Rattle.desk_store.specs.Auditing.{IsAudit};
+ghost use Rattle.desk_texts.specs.Right.{AreRight};
+
+use desk_audit::judge;
+use desk_rows::Fault;
+use desk_snapshot::AuditReport;
+use sqlite::{Alter, Connection};
+use std::alloc::Global;
+
+/// Audits the tables that a connection shows: whether they meet the ten conditions of a desk's tables, else which of them they don't
+/// meet first. The database is only read.
+///
+/// Any database may be audited. A fault tells that memory was wanting, that the database failed or lacks a table or a column of a
+/// desk, or that a cell has a value that no such column has. The tables of a recorded history are sound.
+pub fn audit_connection<S: Alter>(
+    alloc: Global,
+    conn: &mut Connection<S>,
+) -> Result<AuditReport, Fault>
+    requires { conn.old.in_transaction ≡ false }
+    ensures told { IfOk result (IsAudit (state S.Store conn.old) (state S.Store conn.new)) }
+    ensures sound { IfOk result (λ report. InHistory AreRight (λ w h.
+        report ≡ AuditReport.Sound) (seen_of (state S.Store conn.old)) (seen_of (state S.Store conn.new))) }
+    ensures read { HasRead (state S.Store conn.old) (state S.Store conn.new) result }
+    ensures mode { conn.new.in_transaction ≡ false }
+{
+    desk_history::listed_tables_are_sorted();
+    desk_right::right_readings_list_in_order();
+    desk_audit_laws::histories_are_sound();
+    let snapshot = desk_scan::snapshot(alloc, conn)?;
+    let report = judge(alloc, &snapshot)?;
+    Ok(report)
+}
