@@ -11,7 +11,7 @@ use Rattle.desk_line.specs.Fields.{if_stands}
 use Rattle.desk_line.specs.Numbers.{number_written}
 use Rattle.desk_line.specs.Words.{desk_app}
 use Rattle.desk_line.specs.declared.call.Call.{Call}
-use Rattle.desk_line.specs.declared.call.Call.TheVariants.{Check, Alternatives, Script, Import, Catalogue, Notices, Duties, Totals, Changes, Gather, Lint, Serve}
+use Rattle.desk_line.specs.declared.call.Call.TheVariants.{Check, Alternatives, Script, Import, Catalogue, Notices, Duties, Totals, Changes, Audit, Gather, Lint, Serve}
 use Rattle.desk_line.specs.declared.reports.Release.{Release}
 use Rattle.desk_line.specs.declared.call.LineFault.{LineFault}
 use Rattle.desk_line.specs.declared.call.LineFault.TheVariants.{Memory, Usage}
@@ -93,6 +93,10 @@ abbrev pub changes_in : List Row → Option Call
 changes_in rows = option_and_then (λ database. option_map (λ duty. Changes database duty)
     (number_in 32 (codes "DUTY") rows)) (first_of (codes "FILE") rows)
 
+-- the call of `audit` with these values
+abbrev pub audit_in : List Row → Option Call
+audit_in rows = option_map Audit (first_of (codes "FILE") rows)
+
 -- the call of a subcommand with these values
 abbrev pub call_in : Text → List Row → Option Call
 call_in name rows =
@@ -105,6 +109,7 @@ call_in name rows =
     else if bytes_eq name (codes "duties") then duties_in rows
     else if bytes_eq name (codes "totals") then totals_in rows
     else if bytes_eq name (codes "changes") then changes_in rows
+    else if bytes_eq name (codes "audit") then audit_in rows
     else if bytes_eq name (codes "gather") then gather_in rows
     else if bytes_eq name (codes "lint") then lint_in rows
     else if bytes_eq name (codes "serve") then serve_in rows

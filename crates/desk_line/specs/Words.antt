@@ -110,9 +110,17 @@ counting_app = with_subcommand (with_subcommand requesting_app (release_app (cod
 abbrev pub reporting_app : App
 reporting_app = with_subcommand (with_subcommand counting_app (release_app (codes "totals")).top) changes_app.top
 
+-- `audit --db FILE`
+abbrev pub audit_app : App
+audit_app = with_rule (new_app (codes "audit")) database_option
+
+-- and with the one that audits a file
+abbrev pub auditing_app : App
+auditing_app = with_subcommand reporting_app audit_app.top
+
 -- and with those that read a source tree
 abbrev pub reading_app : App
-reading_app = with_subcommand (with_subcommand reporting_app gather_app.top) lint_app.top
+reading_app = with_subcommand (with_subcommand auditing_app gather_app.top) lint_app.top
 
 -- and with the one that replies over HTTP
 abbrev pub desk_app : App

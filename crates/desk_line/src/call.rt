@@ -70,6 +70,10 @@ pub enum Call {
         database: Text,
         duty: u32,
     },
+    /// The audit of the tables of a file.
+    Audit {
+        database: Text,
+    },
     /// The problems of the tree of files in a folder, as one JSON object or as lines.
     Lint {
         folder: Text,

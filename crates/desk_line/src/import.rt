@@ -30,6 +30,7 @@ Any other that keeps no desk of this version is left as it is, and one line says
 
   fault: NotADesk    it is a database of something else
   fault: BadVersion  it keeps a desk of another version
+  fault: Bad..       its tables aren't sound: desk audit --help has the names
 
 One program at a time has FILE open. While one does, and after it was stopped, the last changes stand in
 FILE-wal beside it: keep and copy both files together. DOC may be /dev/stdin. It is read before FILE is

@@ -10,6 +10,7 @@
 
 mod alternatives;
 mod arguments;
+mod audit;
 mod call;
 mod catalogue;
 mod check;

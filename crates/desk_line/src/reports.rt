@@ -53,6 +53,7 @@ is, and one line says so:
 
   fault: NotADesk    it is a database of something else
   fault: BadVersion  it keeps a desk of another version
+  fault: Bad..       its tables aren't sound: desk audit --help has the names
 
 Examples:
   desk notices --db desk.db r1 >NOTICES

@@ -8,7 +8,7 @@ ghost use Rattle.desk_line.specs.Rows.{kind_named, row_app, row_shape};
 ghost use Rattle.desk_line.specs.Words.{desk_alone, desk_app};
 
 use crate::arguments::{Argument, args};
-use crate::{alternatives, catalogue, check, gather, import, lint, reports, script, serve};
+use crate::{alternatives, audit, catalogue, check, gather, import, lint, reports, script, serve};
 use clap::Command;
 use std::alloc::{AllocError, Global};
 
@@ -35,6 +35,7 @@ pub(crate) enum Kind {
     Duties,
     Totals,
     Changes,
+    Audit,
     Gather,
     Lint,
     Serve,
@@ -49,7 +50,7 @@ pub(crate) struct Subcommand {
 }
 
 /// The subcommands.
-pub(crate) const SUBCOMMANDS: [Subcommand; 12] = [
+pub(crate) const SUBCOMMANDS: [Subcommand; 13] = [
     Subcommand {
         kind: Kind::Check,
         name: "check",
@@ -96,6 +97,11 @@ pub(crate) const SUBCOMMANDS: [Subcommand; 12] = [
         arguments: &reports::DUTY_ARGUMENTS,
     },
     Subcommand {
+        kind: Kind::Audit,
+        name: "audit",
+        arguments: &audit::ARGUMENTS,
+    },
+    Subcommand {
         kind: Kind::Gather,
         name: "gather",
         arguments: &gather::ARGUMENTS,
@@ -131,6 +137,7 @@ fn help_of(kind: Kind) -> Help {
         Kind::Duties => reports::DUTIES_HELP,
         Kind::Totals => reports::TOTALS_HELP,
         Kind::Changes => reports::CHANGES_HELP,
+        Kind::Audit => audit::HELP,
         Kind::Gather => gather::HELP,
         Kind::Lint => lint::HELP,
         Kind::Serve => serve::HELP,

@@ -5,6 +5,7 @@ ghost use Rattle.clap.specs.Words.{all_of, first_of, found_of, rows_of};
 ghost use Rattle.desk_line.specs.Calls.{call_in, profile_in, profile_written};
 
 use crate::alternatives::alternatives_from;
+use crate::audit::audit_from;
 use crate::call::Call;
 use crate::catalogue::catalogue_from;
 use crate::check::check_from;
@@ -83,6 +84,7 @@ pub fn call_from(
         Some(Kind::Duties) => duties_from(alloc, matches),
         Some(Kind::Totals) => totals_from(alloc, matches),
         Some(Kind::Changes) => changes_from(alloc, matches),
+        Some(Kind::Audit) => audit_from(alloc, matches),
         Some(Kind::Gather) => gather_from(alloc, matches),
         Some(Kind::Lint) => lint_from(alloc, matches),
         Some(Kind::Serve) => serve_from(alloc, matches),

@@ -1,6 +1,6 @@
 //! The desk that a file keeps: it is opened, does a task, and is closed.
 
-ghost use Rattle.std.specs.Prelude.{◌≡◌, false};
+ghost use Rattle.std.specs.Prelude.{◌≡◌, false, IfOk};
 
 use crate::input::bytes_at;
 use crate::serving;
@@ -8,9 +8,10 @@ use crate::trouble::trouble_of;
 use desk_base::{Items, Profile, Text};
 use desk_core::Desk;
 use desk_rows::Query;
-use desk_store::{AdoptFault, CreateFault, SqlDesk};
+use desk_store::{AdoptFault, CreateFault, SqlDesk, audit_connection};
 use desk_subcommands::{
-    Failure, NoDesk, Trouble, catalogue, refuse_catalogue, refuse_database, show, text_of,
+    Failure, NoDesk, Trouble, catalogue, refuse_catalogue, refuse_database, show, tell_report,
+    text_of,
 };
 use sqlite::{Alter, Connection};
 use sqlite_disk::{Disk, Wary};
@@ -33,6 +34,15 @@ enum Task {
     Serve { port: u16, limit: u32 },
 }
 
+/// What is to be done with a file.
+#[derive(Drop)]
+enum Work {
+    /// Its tables are audited.
+    Audit,
+    /// The desk that it keeps does a task.
+    Do(Task),
+}
+
 // Why a file can't keep a desk.
 fn unusable(alloc: Global, path: &str, trouble: Trouble) -> Failure {
     match String::from_str(alloc, path) {
@@ -53,6 +63,7 @@ fn adopted<S: Alter + Drop>(
         Ok(desk) => Ok(Ok(desk)),
         Err((AdoptFault::NotADesk, _)) => Ok(Err(NoDesk::NotADesk)),
         Err((AdoptFault::BadVersion(_), _)) => Ok(Err(NoDesk::BadVersion)),
+        Err((AdoptFault::Unsound(fault), _)) => Ok(Err(NoDesk::Unsound(fault))),
         Err((AdoptFault::Fault(fault), _)) => Err(unusable(alloc, path, Trouble::from(fault))),
     }
 }
@@ -75,10 +86,10 @@ fn desk_of<S: Alter + Drop>(
 // Moves what was done from the log into the file, and closes both.
 fn close<D: Disk + Drop>(
     alloc: Global,
-    desk: SqlDesk<FileStore<D>>,
+    conn: Connection<FileStore<D>>,
     path: &str,
 ) -> Result<(), Failure> {
-    match desk.into_connection().close() {
+    match conn.close() {
         Ok(()) => Ok(()),
         Err(error) => Err(Failure::Close(String::from_str(alloc, path)?, trouble_of(error))),
     }
@@ -115,23 +126,97 @@ fn do_over<D: Disk + Drop, W: Write>(
 {
     let mut desk = match desk_of(rt.alloc(), conn, path)? {
         Ok(desk) => desk,
-        Err(reason) => return refuse_database(reason, writer),
+        Err(reason) => return refuse_database(rt.alloc(), reason, writer),
     };
     let told = done(rt, &mut desk, task, writer);
-    let closed = close(rt.alloc(), desk, path);
+    let closed = close(rt.alloc(), desk.into_connection(), path);
     let status = told?;
     closed?;
     Ok(status)
 }
 
-// Has the desk in a file do a task. Of the disk it is supposed that a write that is cut off may leave any bytes, so each commit is synced
+// The connection to a file whose tables are to be audited. Where there is no table `meta`, an empty desk is created.
+fn tables_of<S: Alter + Drop>(
+    alloc: Global,
+    conn: Connection<S>,
+    path: &str,
+) -> Result<Connection<S>, Failure>
+    requires { conn.in_transaction ≡ false }
+    ensures { IfOk result (λ conn. conn.in_transaction ≡ false) }
+{
+    match SqlDesk::create(alloc, conn) {
+        Ok(desk) => Ok(desk.into_connection()),
+        Err((CreateFault::NotEmpty, conn)) => Ok(conn),
+        Err((CreateFault::Fault(fault), _)) => Err(unusable(alloc, path, Trouble::from(fault))),
+    }
+}
+
+// Audits the tables that a connection shows, and returns the program's status.
+fn audited<S: Alter, W: Write>(
+    alloc: Global,
+    conn: &mut Connection<S>,
+    path: &str,
+    writer: &mut W,
+) -> Result<u8, Failure>
+    requires { conn.old.in_transaction ≡ false }
+{
+    match audit_connection(alloc, conn) {
+        Ok(report) => tell_report(report, writer),
+        Err(fault) => Err(unusable(alloc, path, Trouble::from(fault))),
+    }
+}
+
+// Audits the tables behind a connection. The file is closed whatever became of that.
+fn audit_over<D: Disk + Drop, W: Write>(
+    rt: &HostRuntime,
+    conn: Connection<FileStore<D>>,
+    path: &str,
+    writer: &mut W,
+) -> Result<u8, Failure>
+    requires { conn.in_transaction ≡ false }
+{
+    let mut conn = tables_of(rt.alloc(), conn, path)?;
+    let told = audited(rt.alloc(), &mut conn, path, writer);
+    let closed = close(rt.alloc(), conn, path);
+    let status = told?;
+    closed?;
+    Ok(status)
+}
+
+// Does what is to be done with a file.
+fn work_over<D: Disk + Drop, W: Write>(
+    rt: &HostRuntime,
+    conn: Connection<FileStore<D>>,
+    path: &str,
+    work: Work,
+    writer: &mut W,
+) -> Result<u8, Failure>
+    requires { conn.in_transaction ≡ false }
+{
+    match work {
+        Work::Audit => audit_over(rt, conn, path, writer),
+        Work::Do(task) => do_over(rt, conn, path, task, writer),
+    }
+}
+
+// Does what is to be done with a file. Of the disk it is supposed that a write that is cut off may leave any bytes, so each commit is synced
 // twice. No other function names the connection to a file: each that does costs the gate a minute.
-fn do_in(rt: &HostRuntime, path: &str, task: Task) -> Result<u8, Failure> {
+fn work_in(rt: &HostRuntime, path: &str, work: Work) -> Result<u8, Failure> {
     let mut writer = BufWriter::new(rt.alloc(), io::writer(rt))?;
     match Connection::open_from(rt, path, false, Wary) {
-        Ok(conn) => do_over(rt, conn, path, task, &mut writer),
+        Ok(conn) => work_over(rt, conn, path, work, &mut writer),
         Err((error, _)) => Err(unusable(rt.alloc(), path, trouble_of(error))),
     }
+}
+
+// Has the desk in a file do a task.
+fn do_in(rt: &HostRuntime, path: &str, task: Task) -> Result<u8, Failure> {
+    work_in(rt, path, Work::Do(task))
+}
+
+/// Audits the tables of a file.
+pub fn audit(rt: &HostRuntime, path: &str) -> Result<u8, Failure> {
+    work_in(rt, path, Work::Audit)
 }
 
 /// Replies to the requests of standard input over the desk that a file keeps.

@@ -144,6 +144,7 @@ fn answer(rt: &HostRuntime, alloc: Global, call: &Call, is_watched: bool) -> Res
         Call::Duties { database, release } => database::duties(rt, database.as_str(), release),
         Call::Totals { database, release } => database::totals(rt, database.as_str(), release),
         Call::Changes { database, duty } => database::changes(rt, database.as_str(), *duty),
+        Call::Audit { database } => database::audit(rt, database.as_str()),
         Call::Serve {
             database,
             port,
@@ -165,13 +166,23 @@ fn answer(rt: &HostRuntime, alloc: Global, call: &Call, is_watched: bool) -> Res
     }
 }
 
+/// Whether nobody reads on what is written, as behind `| head`.
+fn is_unread(failure: &Failure) -> bool {
+    match failure {
+        Failure::Write(error) => error.kind() == io::ErrorKind::BrokenPipe,
+        _ => false,
+    }
+}
+
 fn main(rt: HostRuntime) -> ExitCode {
     let is_watched = rt.stderr().is_terminal();
     match run(&rt, is_watched) {
         Ok(status) => ExitCode::from(status),
         Err(failure) => {
-            // Where standard error fails too, there is nobody left to tell.
-            let _told = eprintln!(rt; "error: {failure}");
+            if !is_unread(&failure) {
+                // Where standard error fails too, there is nobody left to tell.
+                let _told = eprintln!(rt; "error: {failure}");
+            }
             ExitCode::from(failure.status())
         }
     }

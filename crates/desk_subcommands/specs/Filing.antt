@@ -1,5 +1,5 @@
 -- What `import` and `catalogue` write, and the status that they answer; and what is told of a file that keeps no desk.
-use Rattle.std.specs.Prelude.{◌≡◌, ℕ, List, Option, codes}
+use Rattle.std.specs.Prelude.{◌≡◌, ◌++◌, ℕ, List, [], ◌∷◌, Option, codes}
 use Rattle.std.specs.Io.KnownBytes.{Appends}
 use Rattle.desk_rows.specs.Readings.{Readings}
 use Rattle.desk_rows.specs.declared.command.Answer.{Answer}
@@ -14,10 +14,11 @@ use Rattle.desk_rows.specs.declared.refusal.Refusal.TheVariants.{BadCatalogue}
 use Rattle.desk_access.specs.Seen.{Seen}
 use Rattle.desk_json.specs.declared.request.Request.TheVariants.{Act}
 use Rattle.desk_script.specs.Replies.{Replies}
+use Rattle.desk_snapshot.specs.Reports.{audit_name}
 use Rattle.desk_script.specs.Texts.{line_of}
 use Rattle.desk_script.specs.declared.answer.Reply.TheVariants.{Became}
 use Rattle.desk_subcommands.specs.declared.filing.NoDesk.{NoDesk}
-use Rattle.desk_subcommands.specs.declared.filing.NoDesk.TheVariants.{NotADesk, BadVersion}
+use Rattle.desk_subcommands.specs.declared.filing.NoDesk.TheVariants.{NotADesk, BadVersion, Unsound}
 
 -- the program's status for the answer to a command: refused, or done
 abbrev pub answer_status : Answer → ℕ
@@ -32,10 +33,15 @@ outcome_line outcome = line_of (Became outcome)
 abbrev pub no_text : Outcome
 no_text = Answered (Refused (BadCatalogue NotToml))
 
--- the line that tells why a file keeps no desk, without its end
+-- the name of why a file keeps no desk: of tables that aren't sound, that of the first condition which they don't meet
+abbrev pub no_desk_name : NoDesk → List ℕ
+no_desk_name NotADesk = codes "NotADesk"
+no_desk_name BadVersion = codes "BadVersion"
+no_desk_name (Unsound fault) = audit_name fault
+
+-- the line that tells it
 abbrev pub no_desk_line : NoDesk → List ℕ
-no_desk_line NotADesk = codes "fault: NotADesk"
-no_desk_line BadVersion = codes "fault: BadVersion"
+no_desk_line reason = (codes "fault: " ++ no_desk_name reason) ++ 10 ∷ []
 
 module _ (is_right : Readings → Type 0) (tells : StoreFault → Type 0) {Left : Type 0} (command : Command) (before after : Seen Left) where
   -- the command comes to this on a desk, and the rows become what they become for a script's request

@@ -6,3 +6,4 @@ pub mod Linting
 pub mod Filing
 pub mod Troubles
 pub mod Showing
+pub mod Auditing

@@ -1,19 +1,21 @@
 //! The commands whose texts stand in files: the import of a document, and the loading of a catalogue.
 
-ghost use Rattle.std.specs.Prelude.{◌≡◌, ◌++◌, ◌∷◌, [], IfOk, IfErr, OnOk, MatchOption};
+ghost use Rattle.std.specs.Prelude.{◌≡◌, ◌++◌, ◌∷◌, [], IfOk, IfErr, OnOk, MatchOption, codes};
+ghost use Rattle.std.specs.String.{string_bytes};
 ghost use Rattle.std.specs.Io.KnownBytes.{Appends, Keeps};
 ghost use Rattle.std.specs.Str.{IsUtf8};
 ghost use Rattle.desk_rows.specs.declared.command.Answer.{Answer};
 ghost use Rattle.desk_rows.specs.declared.command.Command.TheVariants.{Import, LoadCatalogue};
 ghost use Rattle.desk_rows.specs.declared.command.Outcome.TheVariants.{Answered, Failed};
 ghost use Rattle.desk_subcommands.specs.Failures.{IfMemory, IsOfOutput, OfRequest};
-ghost use Rattle.desk_subcommands.specs.Filing.{answer_status, Comes, HasFailed, IsAnswered, IsUntold, no_desk_line, no_text, outcome_line};
+ghost use Rattle.desk_subcommands.specs.Filing.{answer_status, Comes, HasFailed, IsAnswered, IsUntold, no_desk_line, no_desk_name, no_text, outcome_line};
 
 use crate::failure::Failure;
 use desk_base::{Items, Text};
 use desk_core::desk::Desk;
 use desk_json::{memory_line, reply_line};
 use desk_rows::{Answer, CatalogueFault, Command, Fault, Outcome, Profile, Refusal};
+use desk_snapshot::AuditFault;
 use std::alloc::{AllocError, Global};
 use std::io::Write;
 
@@ -24,15 +26,18 @@ pub enum NoDesk {
     NotADesk,
     /// Its tables are of another version.
     BadVersion,
+    /// Its tables aren't sound: the first condition of an audit that they don't meet.
+    Unsound(AuditFault),
 }
 
-// The line that tells why a file keeps no desk, without its end.
-fn no_desk_line(reason: NoDesk) -> &'static str
-    ensures { result.now ≡ no_desk_line reason }
+// The name of why a file keeps no desk.
+fn no_desk_name(reason: NoDesk) -> &'static str
+    ensures { result.now ≡ no_desk_name reason }
 {
     match reason {
-        NoDesk::NotADesk => "fault: NotADesk",
-        NoDesk::BadVersion => "fault: BadVersion",
+        NoDesk::NotADesk => "NotADesk",
+        NoDesk::BadVersion => "BadVersion",
+        NoDesk::Unsound(fault) => fault.name(),
     }
 }
 
@@ -45,7 +50,7 @@ fn status_of(answer: &Answer) -> u8
     }
 }
 
-fn write_line<W: Write>(writer: &mut W, text: &str) -> Result<(), Failure>
+pub(crate) fn write_line<W: Write>(writer: &mut W, text: &str) -> Result<(), Failure>
     ensures ok { OnOk result (Appends (W.contents writer.old) (W.contents writer.new) (text.now ++ 10 ∷ [])) }
     ensures err { IfErr result IsOfOutput }
     ensures memory { IfErr result (IfMemory (Keeps (W.contents writer.old) (W.contents writer.new))) }
@@ -167,13 +172,27 @@ pub fn refuse_catalogue<W: Write>(alloc: Global, writer: &mut W) -> Result<u8, F
     tell(alloc, &Outcome::Answered(Answer::Refused(refusal)), writer)
 }
 
+// The line that tells why a file keeps no desk, without its end.
+fn no_desk_text(alloc: Global, reason: NoDesk) -> Result<String, AllocError>
+    ensures { IfOk result (λ text. string_bytes text ≡ codes "fault: " ++ no_desk_name reason) }
+{
+    let mut text = String::from_str(alloc, "fault: ")?;
+    text.push_str(no_desk_name(reason))?;
+    Ok(text)
+}
+
 /// Writes why a file keeps no desk, as a line, and answers the program's status.
-pub fn refuse_database<W: Write>(reason: NoDesk, writer: &mut W) -> Result<u8, Failure>
+pub fn refuse_database<W: Write>(
+    alloc: Global,
+    reason: NoDesk,
+    writer: &mut W,
+) -> Result<u8, Failure>
     ensures told { IfOk result (λ status. (status ≡ 1)
-        × Appends (W.contents writer.old) (W.contents writer.new) (no_desk_line reason ++ 10 ∷ [])) }
+        × Appends (W.contents writer.old) (W.contents writer.new) (no_desk_line reason)) }
     ensures fails { IfErr result IsOfOutput }
     ensures memory { IfErr result (IfMemory (Keeps (W.contents writer.old) (W.contents writer.new))) }
 {
-    write_line(writer, no_desk_line(reason))?;
+    let text = no_desk_text(alloc, reason)?;
+    write_line(writer, text.as_str())?;
     Ok(1)
 }

@@ -7,10 +7,12 @@
 //! - `check` judges a choice of terms (`specs/Report.antt`), `alternatives` lists the choices that there are (`specs/Listing.antt`).
 //! - `script` replies to requests, `import` and `catalogue` do one each (`specs/Filing.antt`).
 //! - `show` writes the text of an answer: notices, the table of duties, totals, changes (`specs/Showing.antt`).
+//! - `tell_report` writes what an audit reports (`specs/Auditing.antt`).
 //! - `gather` writes the document of a tree of files (`specs/Gathering.antt`), `lint` what is wrong in it (`specs/Linting.antt`).
 //! - `Failure` and `Trouble` say in words what failed, and what to do.
 #![tactic(auto)]
 
+mod auditing;
 mod checking;
 mod failure;
 mod filing;
@@ -22,6 +24,7 @@ mod scripting;
 mod showing;
 mod trouble;
 
+pub use auditing::tell_report;
 pub use checking::check;
 pub use failure::Failure;
 pub use filing::{NoDesk, catalogue, import, refuse_catalogue, refuse_database, text_of};
