@@ -1,5 +1,5 @@
 # Builds, shows, tests and installs the desk. It needs the Rattle toolchain's `rt`, a POSIX shell and make; the tests on the built
-# program need Python (3.9 or later) and a C compiler too.
+# program need Python (3.11 or later) and a C compiler too.
 .POSIX:
 .SUFFIXES:
 
@@ -32,10 +32,10 @@ demo:
 
 # What the tests need beside a shell and make.
 needs:
-	@echo 'The tests need rt, Python 3.9 or later (python3) and a C compiler (cc).'
+	@echo 'The tests need rt, Python 3.11 or later (python3) and a C compiler (cc).'
 	@for program in rt python3 cc; do command -v $$program >/dev/null 2>&1 \
 	    || { echo "There is no $$program." >&2; exit 1; }; done
-	@python3 -c 'import sys; sys.exit(sys.version_info < (3, 9))' || { echo 'This Python is older.' >&2; exit 1; }
+	@python3 -c 'import sys; sys.exit(sys.version_info < (3, 11))' || { echo 'This Python is older.' >&2; exit 1; }
 
 # The merge gate: quick checks of texts, every proof, and then the cases, stops, large inputs and refused allocations on the built program.
 test: needs
@@ -48,6 +48,10 @@ acceptance: needs build
 # The scripts among them over files, in one run each and in three.
 database: needs build
 	@python3 tests/database.py build/desk
+
+# What an audit says of files of desks, and of files that others wrote.
+auditing: needs build
+	@python3 tests/auditing.py build/desk
 
 # What a desk that is served over HTTP replies.
 serving: needs build
@@ -87,13 +91,14 @@ try:
 	@cd $(program) && rt try -- $(ARGS)
 
 # Times the program, beside another one, its scripts, by the rows that a desk holds, in a file beside the library of SQLite, over HTTP,
-# notices and tables, on trees, the reading of documents, and patterns of paths.
+# audits, notices and tables, on trees, the reading of documents, and patterns of paths.
 bench: build
 	@python3 bench/bench.py build/desk
 	@python3 bench/alternatives.py build/desk
 	@python3 bench/script.py build/desk build/scripts
 	@python3 bench/rows.py build/desk
 	@python3 bench/store.py build/desk
+	@python3 bench/audit.py build/desk
 	@python3 bench/serving.py build/desk
 	@python3 bench/reports.py build/desk
 	@python3 bench/trees.py build/desk
@@ -111,4 +116,4 @@ install: build
 clean:
 	rm -rf build
 
-.PHONY: all build demo needs test acceptance database serving units refused lint ample allocations edits try bench install clean
+.PHONY: all build demo needs test acceptance database auditing serving units refused lint ample allocations edits try bench install clean

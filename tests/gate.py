@@ -27,6 +27,7 @@ STEPS = [
     ("Running the scripts among them over files.", ["python3", "tests/database.py", DESK]),
     ("Asking it over HTTP.", ["python3", "tests/serving.py", DESK]),
     ("Reading the tables of a desk by SQLite.", ["python3", "tests/tables.py", DESK]),
+    ("Auditing files of desks, sound ones and others.", ["python3", "tests/auditing.py", DESK]),
     ("Stopping a desk in a file at each write, and failing each call of its disk.", ["python3", "tests/stops/stops.py", DESK]),
     ("Handing it files that are no desk.", ["python3", "tests/stops/places.py", DESK]),
     ("Feeding it large inputs and each fault of each reader.", ["python3", "tests/ample/ample.py", DESK]),

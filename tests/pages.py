@@ -130,8 +130,17 @@ def check_limits():
                 failures.append(f"docs/{page}.md has {number} for {name}, which is {wanted}")
 
 
+def check_conditions():
+    """The conditions of an audit, in the order in which they are tested."""
+    defined_names = re.findall(r'^audit_name \w+ = codes "(\w+)"$', text_of("crates/desk_snapshot/specs/Reports.antt"), flags=re.M)
+    headings = re.findall(r"^### (\w+)$", text_of("docs/AUDIT.md"), flags=re.M)
+    if not defined_names or headings != defined_names:
+        failures.append(f"docs/AUDIT.md has the conditions {headings}, and the definition {defined_names}")
+
+
 def main():
     check_names()
+    check_conditions()
     check_examples()
     check_limits()
     for failure in failures:

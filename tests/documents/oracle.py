@@ -141,4 +141,5 @@ def main():
         print(f"{count} {text}")
 
 
-main()
+if __name__ == "__main__":
+    main()
