@@ -1,16 +1,24 @@
-"""Compares the tables of the user's pages with the definitions and with the code: python3 tests/pages.py
+"""Compares the pages with the definitions, the code and the examples: python3 tests/pages.py
 
 Numbers and names of refusals, of faults and of kinds of findings, and the limits. The prover sees that code and definitions agree where a
-contract cites both; here each number and name is also read out of the pages. Each refusal has an example on one of them, too.
+contract cites both; here each number and name is also read out of the pages. Each refusal has an example on one of them, and what a
+page names is there (tests/page_names.py).
 """
 
+import glob
+import json
 import os
 import re
 import sys
 
+sys.dont_write_bytecode = True
+
+import page_names
+
 HERE = os.path.dirname(os.path.abspath(__file__))
 TREE = os.path.dirname(HERE)
 CRATES = os.path.join(TREE, "crates")
+HELP = "tests/acceptance/help-of-script/stdout"
 
 failures = []
 
@@ -138,11 +146,52 @@ def check_conditions():
         failures.append(f"docs/AUDIT.md has the conditions {headings}, and the definition {defined_names}")
 
 
+def check_texts():
+    """Each text that docs/REPORTS.md shows is one that an acceptance case wants."""
+    wanted = [text_of(path) for path in glob.glob(os.path.join(HERE, "acceptance/*/stdout"))]
+    for language, block in re.findall(r"^```(\w*)\n(.*?)^```$", text_of("docs/REPORTS.md"), flags=re.M | re.S):
+        if not language and not block.startswith("$ ") and not any(block in text for text in wanted):
+            failures.append(f"docs/REPORTS.md shows a text that no case wants: {block}")
+
+
+def forms_of_requests():
+    """The words behind `do` and `ask`, each with the members that its form must have, by the definition."""
+    text = text_of("crates/desk_json/specs/Requests.antt")
+    bodies = dict(re.findall(r"^(\w+)_request \w+ = (.*\n(?: .*\n)*)", text, flags=re.M))
+    words = re.findall(r'bytes_eq word \(codes "(\w+)"\) then (\w+)_request', text)
+    return {word: set(re.findall(r'with_\w+ \(codes "(\w+)"\)', bodies[name])) for word, name in words}
+
+
+def check_requests():
+    """Each form has a section of its own and a place in the help, with requests that have its members."""
+    forms = forms_of_requests()
+    page = text_of("docs/REQUESTS.md")
+    headings = re.findall(r"^### (\w+): ", page, flags=re.M)
+    compare("the sections of docs/REQUESTS.md", {name: name for name in headings}, {name: name for name in forms})
+    sections = {name: section(page, line) for line, name in re.findall(r"^(### (\w+): .*)$", page, flags=re.M)}
+    for place, texts in (("docs/REQUESTS.md", sections), ("the help of script", dict.fromkeys(forms, text_of(HELP)))):
+        for name, members in forms.items():
+            shown = re.findall(rf'^ *> (\{{"(?:do|ask)":"{name}",.*\}})$', texts.get(name, ""), flags=re.M)
+            if not any(set(json.loads(request)) - {"do", "ask", "profile", "until"} == members for request in shown):
+                failures.append(f"{place} has no {name} with {', '.join(sorted(members))}")
+
+
+def check_decisions():
+    """Each decision is a bullet of its own, with a name, and short."""
+    for line in text_of("docs/DECISIONS.md").splitlines():
+        if line.startswith("-") and (not line.startswith("- **") or len(line) > 300):
+            failures.append(f"docs/DECISIONS.md has a bullet without a name or of more than 300 characters: {line[:60]}")
+
+
 def main():
     check_names()
     check_conditions()
     check_examples()
     check_limits()
+    check_texts()
+    check_requests()
+    check_decisions()
+    failures.extend(page_names.failures())
     for failure in failures:
         print(failure, file=sys.stderr)
     print("pages: passed" if not failures else f"pages: {len(failures)} differences")
