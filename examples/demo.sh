@@ -148,9 +148,9 @@ fi
 
 if [ -n "$desk" ]; then
     echo
-    echo 'This repository itself: what it lacks to be REUSE-compliant, and the SPDX document that is gathered of it, imported and asked'
-    echo 'for findings.'
+    echo "This repository itself, in a copy of what git tracks: what is wrong in it by the desk's rules, and the SPDX document that is"
+    echo 'gathered of it, imported and asked for findings.'
     echo
-    echo '$ desk lint . && desk gather . --name desk ... >document && desk import --db office.db document && desk script --db office.db'
+    echo '$ tests/lint.sh desk    # desk lint, desk gather, desk import and desk script'
     sh "$here/../tests/lint.sh" "$desk"
 fi

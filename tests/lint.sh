@@ -1,5 +1,5 @@
 #!/bin/sh
-# Has a built program tell what a checkout of this tree lacks to be REUSE-compliant: nothing is wanted. Then its document is written and
+# Has a built program tell what is wrong in a checkout of this tree by the desk's rules: nothing is. Then its document is written and
 # imported, and has no findings.
 #
 #   tests/lint.sh PROGRAM
