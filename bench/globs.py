@@ -1,8 +1,7 @@
 #!/usr/bin/env python3
 """Times patterns of at most 1,000 bytes on paths of at most 4,096, from ordinary ones to the slowest known.
 
-`python3 bench/globs.py PROGRAM`: PROGRAM is what bench/programs/build.sh makes of bench/programs/globs. A match of
-the slowest ones takes seconds."""
+`python3 bench/globs.py PROGRAM`: PROGRAM is what bench/programs/build.sh makes of bench/programs/globs."""
 import subprocess
 import sys
 
@@ -24,9 +23,11 @@ def cases():
     yield "`*a` 499 times and `*b` on a name", "*a" * (PATTERN // 2 - 1) + "*b", "a" * PATH
     yield "`*` before 999 bytes on a name", "*" + tail(PATTERN - 1), "a" * PATH
     yield "`**` before 998 bytes on a name", "**" + tail(PATTERN - 2), "a" * PATH
-    for length in (100, 400, PATTERN - 4):
-        yield f"`**a*` before {length} bytes on a name", "**a*" + tail(length), "a" * PATH
+    yield f"`**a*` before {PATTERN - 4} bytes on a name", "**a*" + tail(PATTERN - 4), "a" * PATH
     yield f"`**a*` before {PATTERN - 4} bytes on names of 64 bytes", "**a*" + tail(PATTERN - 4), ("a" * 63 + "/") * (PATH // 64)
+    yield "`**` and `/*` 498 times and `b` on names of one byte", "**" + "/*" * 498 + "b", "a/" * (PATH // 2)
+    yield "`**aa` 249 times and `b` on a name", "**aa" * 249 + "b", "a" * PATH
+    yield "`**a*b` 199 times and `c` on names of three bytes", "**a*b" * 199 + "c", "aab/" * (PATH // 4)
 
 
 for name, pattern, path in cases():

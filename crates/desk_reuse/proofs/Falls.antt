@@ -4,7 +4,8 @@ use Rattle.std.specs.Prelude.{Option, Some, None, IfSome}
 use Rattle.std.proofs.Math.Nat.{mul-le-mul_right}
 use Rattle.desk_reuse.specs.declared.glob.Piece.{Piece}
 use Rattle.desk_reuse.specs.declared.glob.Piece.TheVariants.{Byte, InName, InPath}
-use Rattle.desk_reuse.specs.Steps.{Spot, State, Steps, NoLonger, Passes}
+use Rattle.desk_reuse.specs.Steps.{Spot, State, Steps, NoLonger, IsBehindName, Passes}
+use Rattle.desk_reuse.proofs.Names.{behind_shorter}
 use Rattle.desk_reuse.proofs.Greedy.{at, st, Fits, steps_cases}
 
 abbrev pub text_left : ℕ → Option Spot → ℕ
@@ -72,7 +73,7 @@ module _ (pieces text : ℕ) where
         fall_here (text_left text p) (text_left text p) (text_left (length ts) n) (length ts) (length (InName ∷ ps)) (length ps) (pieces + 1) ((text + 1) * (pieces + 1)) (omega arith) h1 less,
       )
 
-  path_falls : (ps : List Piece) (ts : List ℕ) (n p : Option Spot) → Falls pieces text (st (at (InPath ∷ ps) ts) n p) (st (at ps ts) None (Some (at ps ts)))
+  path_falls : (ps : List Piece) (ts : List ℕ) (n p : Option Spot) → Falls pieces text (st (at (InPath ∷ ps) ts) n p) (st (at ps ts) (Some (at ps ts)) (Some (at ps ts)))
   path_falls ps ts n p w =
       let h0 = w.here_pieces in
       let h1 = w.here_text in
@@ -81,7 +82,7 @@ module _ (pieces text : ℕ) where
       let fits : length ps ≤ pieces = omega arith in
       let less : length ps < length (InPath ∷ ps) = omega arith in
       let short : length ts ≤ text_left text p = omega arith in (
-        record { here_pieces = fits; name_pieces = tt; path_pieces = fits; here_text = omega arith; name_text = omega arith; path_text = omega arith },
+        record { here_pieces = fits; name_pieces = fits; path_pieces = fits; here_text = omega arith; name_text = omega arith; path_text = omega arith },
         fall_here (text_left text p) (length ts) (text_left (length ts) n) (length ts) (length (InPath ∷ ps)) (length ps) (pieces + 1) ((text + 1) * (pieces + 1)) short h1 less,
       )
 
@@ -94,14 +95,14 @@ module _ (pieces text : ℕ) where
         fall_name (text_left text p) (text_left text p) (length (c ∷ us)) (length us) (length h.pieces) (length qs) pieces ((text + 1) * (pieces + 1)) (omega arith) less fits,
       )
 
-  longer_path_falls : (h : Spot) (n : Option Spot) (qs : List Piece) (c : ℕ) (us : List ℕ) → (Fits h → ⊥) → NoLonger InName n → Falls pieces text (st h n (Some (at qs (c ∷ us)))) (st (at qs us) None (Some (at qs us)))
-  longer_path_falls h n qs c us none short w =
+  next_name_falls : (h : Spot) (n : Option Spot) (qs : List Piece) (ts us : List ℕ) → IsBehindName ts us → (Fits h → ⊥) → NoLonger n → Falls pieces text (st h n (Some (at qs ts))) (st (at qs us) (Some (at qs us)) (Some (at qs us)))
+  next_name_falls h n qs ts us b none short w =
       let h3 = w.path_text in
       let fits = w.path_pieces in
-      let less : length us < length (c ∷ us) = omega arith in (
-        record { here_pieces = fits; name_pieces = tt; path_pieces = fits; here_text = omega arith; name_text = omega arith; path_text = omega arith },
-        fall_path (length (c ∷ us)) (length us) (text_left (length h.text) n) (length us) (length h.pieces) (length qs) pieces text less (omega arith) fits,
+      let less : length us < length ts = behind_shorter ts us b in (
+        record { here_pieces = fits; name_pieces = fits; path_pieces = fits; here_text = omega arith; name_text = omega arith; path_text = omega arith },
+        fall_path (length ts) (length us) (text_left (length h.text) n) (length us) (length h.pieces) (length qs) pieces text less (omega arith) fits,
       )
 
   pub step_falls : (s n : State) → Steps s n → Falls pieces text s n
-  step_falls = steps_cases (Falls pieces text) byte_falls name_falls path_falls longer_name_falls longer_path_falls
+  step_falls = steps_cases (Falls pieces text) byte_falls name_falls path_falls longer_name_falls next_name_falls

@@ -59,7 +59,7 @@ spells_once p (x ∷ xs) (y ∷ ys) a b =
     let later = spells_once b.0 xs ys (subst (λ r. Spells r xs) z.1 a.2) b.2 in
     λ i. z.0 i ∷ later i
 
-same : (b c : ℕ) → (b ≡ c) ⊎ (b ≢ c)
+pub same : (b c : ℕ) → (b ≡ c) ⊎ (b ≢ c)
 same b c = ⊎_elim (λ t. inl t.1) (λ t. inr t.1) (eqb_tells b c)
 
 abbrev IsSpelled : List ℕ → Type 0

@@ -1,3 +1,4 @@
+pub mod Names
 pub mod Greedy
 pub mod Falls
 pub mod GlobOnce

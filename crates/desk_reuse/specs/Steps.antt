@@ -1,5 +1,5 @@
 -- The steps of a search for a match.
-use Rattle.std.specs.Prelude.{◌⊎◌, ◌≡◌, ℕ, List, [], ◌∷◌, Option, Some, None}
+use Rattle.std.specs.Prelude.{◌⊎◌, ◌≡◌, ◌≢◌, ℕ, List, [], ◌∷◌, ◌++◌, All, Option, Some, None}
 use Rattle.desk_reuse.specs.declared.glob.Piece.{Piece}
 use Rattle.desk_reuse.specs.declared.glob.Piece.TheVariants.{Byte, InName, InPath}
 use Rattle.desk_reuse.specs.declared.matching.Place.{Place}
@@ -33,13 +33,25 @@ Stuck s = IsMatch s.pieces s.text → ⊥
 abbrev pub Passes : Piece → ℕ → Type 0
 Passes p b = Covers p (b ∷ [])
 
--- the place with one byte more in its stretch
-abbrev pub Longer : Piece → Option Spot → Spot → Type 0
-Longer w None r = ⊥
-Longer w (Some s) r = (b : ℕ) × (s.pieces ≡ r.pieces) × (s.text ≡ b ∷ r.text) × Passes w b
+-- the place with one byte more in the stretch of its `*`
+abbrev pub Longer : Option Spot → Spot → Type 0
+Longer None r = ⊥
+Longer (Some s) r = (b : ℕ) × (s.pieces ≡ r.pieces) × (s.text ≡ b ∷ r.text) × Passes InName b
 
-abbrev pub NoLonger : Piece → Option Spot → Type 0
-NoLonger w o = (r : Spot) → Longer w o r → ⊥
+abbrev pub NoLonger : Option Spot → Type 0
+NoLonger o = (r : Spot) → Longer o r → ⊥
+
+-- a text behind the first `/` of another
+abbrev pub IsBehindName : List ℕ → List ℕ → Type 0
+IsBehindName text rest = (name : List ℕ) × (text ≡ name ++ (47 ∷ rest)) × All (λ b. b ≢ 47) name
+
+-- the place with the rest of a name more in the stretch of its `**`, and the `/` behind it
+abbrev pub Further : Option Spot → Spot → Type 0
+Further None r = ⊥
+Further (Some s) r = (s.pieces ≡ r.pieces) × IsBehindName s.text r.text
+
+abbrev pub NoFurther : Option Spot → Type 0
+NoFurther o = (r : Spot) → Further o r → ⊥
 
 -- a byte found
 abbrev pub ByByte : State → State → Type 0
@@ -49,27 +61,27 @@ ByByte s n = (b : ℕ) × (s.here.pieces ≡ Byte b ∷ n.here.pieces) × (s.her
 abbrev pub ByName : State → State → Type 0
 ByName s n = (s.here.pieces ≡ InName ∷ n.here.pieces) × (s.here.text ≡ n.here.text) × (n.name ≡ Some n.here) × (n.path ≡ s.path)
 
--- a `**`, which takes nothing at first
+-- a `**`, which takes nothing at first, and within the name is a `*`
 abbrev pub ByPath : State → State → Type 0
-ByPath s n = (s.here.pieces ≡ InPath ∷ n.here.pieces) × (s.here.text ≡ n.here.text) × (n.name ≡ None) × (n.path ≡ Some n.here)
+ByPath s n = (s.here.pieces ≡ InPath ∷ n.here.pieces) × (s.here.text ≡ n.here.text) × (n.name ≡ Some n.here) × (n.path ≡ Some n.here)
 
 -- one piece further
 abbrev pub Follows : State → State → Type 0
 Follows s n = ByByte s n ⊎ (ByName s n ⊎ ByPath s n)
 
--- the last `*` takes one byte more, or where it can't, the last `**` does
+-- the last `*` takes one byte more, or where it can't, the last `**` takes the rest of its name, and is a `*` in the next one
 abbrev pub ByLongerName : State → State → Type 0
-ByLongerName s n = Longer InName s.name n.here × (n.name ≡ Some n.here) × (n.path ≡ s.path)
+ByLongerName s n = Longer s.name n.here × (n.name ≡ Some n.here) × (n.path ≡ s.path)
 
-abbrev pub ByLongerPath : State → State → Type 0
-ByLongerPath s n = NoLonger InName s.name × Longer InPath s.path n.here × (n.name ≡ None) × (n.path ≡ Some n.here)
+abbrev pub ByNextName : State → State → Type 0
+ByNextName s n = NoLonger s.name × Further s.path n.here × (n.name ≡ Some n.here) × (n.path ≡ Some n.here)
 
 -- neither can take more
 abbrev pub Spent : State → Type 0
-Spent s = NoLonger InName s.name × NoLonger InPath s.path
+Spent s = NoLonger s.name × NoFurther s.path
 
 abbrev pub Returns : State → State → Type 0
-Returns s n = ByLongerName s n ⊎ ByLongerPath s n
+Returns s n = ByLongerName s n ⊎ ByNextName s n
 
 -- a step: one piece further where that goes, else back
 abbrev pub Steps : State → State → Type 0
@@ -77,4 +89,4 @@ Steps s n = Follows s n ⊎ (Stuck s.here × Returns s n)
 
 -- a search that has no step
 abbrev pub Ends : State → Type 0
-Ends s = Stuck s.here × NoLonger InName s.name × NoLonger InPath s.path
+Ends s = Stuck s.here × NoLonger s.name × NoFurther s.path

@@ -2,13 +2,17 @@
 //!
 //! The last `*` can always take the place of an earlier one in the same name, and the last `**` that of all wildcards before it:
 //! what an earlier one could reach with a longer stretch, the last one reaches too. So no other place is kept.
+//!
+//! A `**` is a `*` within the name where it begins, and goes on to the next name only once nothing begins in this one. So the pieces
+//! behind it are held against each name once, and a search takes at most about the pieces times the bytes of the path.
 
-ghost use Rattle.std.specs.Prelude.{◌↔◌, ◌<◌, ◌+◌, length, IsTrue, IfSome, IfNone};
+ghost use Rattle.std.specs.Prelude.{◌≡◌, ◌↔◌, ◌<◌, ◌+◌, ℕ, List, length, Some, IsTrue, IfSome, IfNone};
 ghost use Rattle.desk_reuse.specs.declared.glob.Piece.{Piece};
 ghost use Rattle.desk_reuse.specs.Glob.{IsMatch};
-ghost use Rattle.desk_reuse.specs.Steps.{spot, back, state, Longer, NoLonger, Follows, Stuck, Spent, Returns, Steps, Ends};
+ghost use Rattle.desk_reuse.specs.Steps.{spot, back, state, Longer, NoLonger, IsBehindName, Further, NoFurther, Follows, Stuck, Spent, Returns, Steps, Ends};
 
 use crate::glob::Piece;
+use memchr::memchr;
 
 // Pieces that are still to be found, in the text that is left.
 #[derive(Clone, Copy)]
@@ -27,8 +31,8 @@ struct Search<'a> {
 
 // The place behind a `*` that takes one byte more.
 fn longer_name<'a>(place: Option<Place<'a>>) -> Option<Place<'a>>
-    ensures some { IfSome result (λ r. Longer (Piece.InName) (back place.entry) (spot r)) }
-    ensures none { IfNone result (NoLonger (Piece.InName) (back place.entry)) }
+    ensures some { IfSome result (λ r. Longer (back place.entry) (spot r)) }
+    ensures none { IfNone result (NoLonger (back place.entry)) }
 {
     let place = place?;
     let (byte, text) = place.text.split_first()?;
@@ -41,17 +45,41 @@ fn longer_name<'a>(place: Option<Place<'a>>) -> Option<Place<'a>>
     })
 }
 
-// The place behind a `**` that takes one byte more.
-fn longer_path<'a>(place: Option<Place<'a>>) -> Option<Place<'a>>
-    ensures some { IfSome result (λ r. Longer (Piece.InPath) (back place.entry) (spot r)) }
-    ensures none { IfNone result (NoLonger (Piece.InPath) (back place.entry)) }
+// The text behind the first `/`.
+fn behind_name(text: &[u8]) -> Option<&[u8]>
+    ensures some { IfSome result (λ r. IsBehindName text.now r.now) }
+    ensures none { IfNone result ((rest : List ℕ) → IsBehindName text.now rest → ⊥) }
+{
+    let Some(slash) = memchr(b'/', text) else {
+        return None;
+    };
+    Some(&text[slash + 1..])
+}
+
+// The place behind a `**` that takes the rest of a name more, and its `/`.
+fn next_name<'a>(place: Option<Place<'a>>) -> Option<Place<'a>>
+    ensures some { IfSome result (λ r. Further (back place.entry) (spot r)) }
+    ensures none { IfNone result (NoFurther (back place.entry)) }
 {
     let place = place?;
-    let (_, text) = place.text.split_first()?;
+    let Some(text) = behind_name(place.text) else {
+        return None;
+    };
     Some(Place {
         pieces: place.pieces,
         text,
     })
+}
+
+// The search behind a `*`, or behind a `**` that is its last one.
+fn behind_star<'a>(here: Place<'a>, path: Option<Place<'a>>) -> Search<'a>
+    ensures { state result ≡ record { here = spot here.entry; name = Some (spot here.entry); path = back path.entry } }
+{
+    Search {
+        here,
+        name: Some(here),
+        path,
+    }
 }
 
 // The search one piece further.
@@ -60,11 +88,12 @@ fn forward<'a>(search: Search<'a>) -> Option<Search<'a>>
     ensures some { IfSome result (λ n. Follows (state search.entry) (state n)) }
     ensures none { IfNone result (Stuck (spot search.entry.here)) }
 {
-    let here = search.here;
-    let (piece, pieces) = here.pieces.split_first()?;
+    let text = search.here.text;
+    let (piece, pieces) = search.here.pieces.split_first()?;
+    let behind = Place { pieces, text };
     match *piece {
         Piece::Byte(byte) => {
-            let (first, text) = here.text.split_first()?;
+            let (first, text) = text.split_first()?;
             if *first != byte {
                 return None;
             }
@@ -74,49 +103,21 @@ fn forward<'a>(search: Search<'a>) -> Option<Search<'a>>
                 path: search.path,
             })
         }
-        Piece::InName => {
-            let here = Place {
-                pieces,
-                text: here.text,
-            };
-            Some(Search {
-                here,
-                name: Some(here),
-                path: search.path,
-            })
-        }
-        Piece::InPath => {
-            let here = Place {
-                pieces,
-                text: here.text,
-            };
-            Some(Search {
-                here,
-                name: None,
-                path: Some(here),
-            })
-        }
+        Piece::InName => Some(behind_star(behind, search.path)),
+        Piece::InPath => Some(behind_star(behind, Some(behind))),
     }
 }
 
-// The search behind its last `*` or `**` that can take one byte more.
+// The search behind its last `*` that takes one byte more, or its last `**` that goes on to the next name.
 fn backward<'a>(search: Search<'a>) -> Option<Search<'a>>
     ensures some { IfSome result (λ n. Returns (state search.entry) (state n)) }
     ensures none { IfNone result (Spent (state search.entry)) }
 {
     if let Some(here) = longer_name(search.name) {
-        return Some(Search {
-            here,
-            name: Some(here),
-            path: search.path,
-        });
+        return Some(behind_star(here, search.path));
     }
-    let here = longer_path(search.path)?;
-    Some(Search {
-        here,
-        name: None,
-        path: Some(here),
-    })
+    let here = next_name(search.path)?;
+    Some(behind_star(here, Some(here)))
 }
 
 // The search one step on.
