@@ -93,7 +93,7 @@ module _ (sql : List ℕ) (params : Row) (old new : State) (bare : Asks sql) whe
   not_run e (inl h) = inl h.1
   not_run e (inr f) = inr f.3
 
-  failed_so : (e : Error) → FailsToQuery sql params old new e → Moves
+  pub failed_so : (e : Error) → FailsToQuery sql params old new e → Moves
   unfolding FailsToQuery
   failed_so e (inl h) = not_run e h
   failed_so e (inr h) = let it = subst (FailsToShow old new sql h.0 (timed params h.0.formats h.1.now) e) (bare old.now.schema h.0 h.1.is) h.2 in inl it.3
@@ -107,7 +107,7 @@ module _ (sql : List ℕ) (params : Row) (old new : State) (bare : Asks sql) whe
   never x h = no_some h.0.returning (bare old.now.schema h.0 h.1.is) h.2
 
   module _ (settled : IsTrue old.is_open → old.now ≡ old.committed) (survives : Survives old new (CommitsShowing sql params old)) where
-    still : Survives old new (λ _. ⊥)
+    pub still : Survives old new (λ _. ⊥)
     still = record {
       clean = survives.clean;
       shield = survives.shield;

@@ -4,3 +4,4 @@ pub mod Spared
 pub mod Texts
 pub mod Contents
 mod Listing
+mod Olders

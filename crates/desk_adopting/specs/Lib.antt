@@ -2,3 +2,4 @@ pub mod Forms
 pub mod Reading
 pub mod Version
 pub mod Revisions
+pub mod Older

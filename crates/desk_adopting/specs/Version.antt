@@ -7,7 +7,7 @@ use Rattle.sqlite_value.specs.Order.{Row, column}
 use Rattle.sqlite_schema.specs.declared.schema.Table.{Table}
 use Rattle.sqlite_schema.specs.declared.schema.Schema.{Schema}
 use Rattle.sqlite_schema.specs.Names.{same_name}
-use Rattle.sqlite.specs.State.{State}
+use Rattle.sqlite.specs.State.{State, Shown}
 use Rattle.desk_layout.specs.Layout.{desk_schema}
 use Rattle.desk_adopting.specs.Reading.{Answers}
 use Rattle.desk_adopting.specs.declared.version.Content.{Content}
@@ -35,6 +35,10 @@ version_in _ = None
 -- the version, if there is just one and it is a whole number, is what the database answers when it is asked
 abbrev pub TellsVersion : Option ℤ → State → Type 0
 TellsVersion version s = (rows : List Row) × Answers version_text [] s rows × (version_in rows ≡ version)
+
+-- it is what a query for it shows
+abbrev pub ShowsVersion : Option ℤ → State → State → Type 0
+ShowsVersion version old new = (rows : List Row) × Shown version_text [] old new rows × (version_in rows ≡ version)
 
 -- no other version is told
 abbrev pub TellsNoOther : State → Type 0

@@ -5,6 +5,8 @@
 //! its columns and keys, the indexes of the keys, and nothing beside them. The database may have any schema, and its clause tells the
 //! version as what it answers when it is asked (`specs/Version.antt`).
 //!
+//! `examine_older` does the same for a migration: whether a database holds the tables of version 1 or 2 (`specs/Older.antt`).
+//!
 //! The rest is asked of a desk's tables: how many revisions, documents, releases and duties there are, the body of a revision, and the releases and
 //! duties themselves. What
 //! is told is so of each tables that the database holds (`found`).
@@ -19,6 +21,7 @@ mod counts;
 mod declared;
 mod forms;
 mod matching;
+mod older;
 mod query;
 mod rows;
 mod version;
@@ -26,5 +29,6 @@ mod version;
 pub use catalogue::body_of;
 pub use counts::{document_count, duty_count, release_count, revision_count};
 pub use declared::is_declared;
+pub use older::{OlderContent, OlderVersion, examine_older};
 pub use rows::{duties, releases};
 pub use version::{Content, examine};

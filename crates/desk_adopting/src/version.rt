@@ -9,7 +9,7 @@ ghost use Rattle.sqlite.specs.State.{HasCleanDisk};
 ghost use Rattle.desk_access.specs.Seen.{OfRows};
 ghost use Rattle.desk_layout.specs.Held.{seen_of};
 ghost use Rattle.desk_adopting.specs.Reading.{HasRead};
-ghost use Rattle.desk_adopting.specs.Version.{IsContent, TellsVersion, has_version, is_meta, version_in, whole_number};
+ghost use Rattle.desk_adopting.specs.Version.{IsContent, ShowsVersion, TellsVersion, has_version, is_meta, version_in, whole_number};
 
 use crate::declared::is_declared;
 use crate::query::query;
@@ -48,7 +48,7 @@ fn is_meta(table: &Table) -> bool
 }
 
 /// Whether a table `meta` stands, with the column `version`.
-fn has_version(schema: &Schema) -> bool
+pub(crate) fn has_version(schema: &Schema) -> bool
     ensures { result ≡ has_version schema.now }
 {
     schema.tables.as_slice().iter().any(|table| is_meta(table))
@@ -74,10 +74,12 @@ fn version_in(rows: &[Row]) -> Option<i64>
 }
 
 /// The version that the table `meta` tells: the whole number in its only row.
-fn version<S: Alter>(conn: &mut Connection<S>) -> Result<Option<i64>, Fault>
+pub(crate) fn version<S: Alter>(conn: &mut Connection<S>) -> Result<Option<i64>, Fault>
     requires { conn.old.in_transaction ≡ false }
     ensures told { HasCleanDisk (state S.Store conn.new)
         → IfOk result (λ version. TellsVersion version (state S.Store conn.old)) }
+    ensures shown { HasCleanDisk (state S.Store conn.new)
+        → IfOk result (λ version. ShowsVersion version (state S.Store conn.old) (state S.Store conn.new)) }
     ensures held { IfOk result (λ version. OfRows (λ t.
         version ≡ Some (pos 3)) (seen_of (state S.Store conn.old)) (seen_of (state S.Store conn.new))) }
     ensures read { HasRead (state S.Store conn.old) (state S.Store conn.new) result }

@@ -27,10 +27,11 @@ use Rattle.desk_snapshot.specs.Tables.{catalogue_stored, rule_stored}
 use Rattle.desk_snapshot.specs.declared.rows.StoredMeta.{StoredMeta}
 use Rattle.desk_snapshot.specs.declared.rows.StoredCatalogue.{StoredCatalogue}
 use Rattle.desk_snapshot.specs.declared.rows.StoredRule.{StoredRule}
-use Rattle.desk_adopting.specs.Reading.{Asks, HasRead}
+use Rattle.desk_adopting.specs.Reading.{Asks}
 use Rattle.desk_adopting.proofs.Asking.{asks}
 use Rattle.desk_lookups.proofs.Selects.{order_by, mine, by_rowid, by_unique}
 use Rattle.desk_lookups.proofs.Ties.{is_key, keys}
+use Rattle.desk_scan.specs.Asked.{HasAsked}
 use Rattle.desk_scan.specs.Cells.{columns_of, stored_meta_cells, stored_catalogue_cells, stored_rule_cells}
 use Rattle.desk_scan.specs.Orders.{meta_order, catalogue_order, rule_order}
 use Rattle.desk_scan.specs.Scans.{IsScan, IsShown, IsRead}
@@ -107,7 +108,7 @@ meta_found db shown rows reads are t holds =
     ) meta_in meta_back
 
 pub meta_read : (old new : State) (r : Result (List StoredMeta) Fault)
-    → HasRead old new r → (HasCleanDisk new → IfOk r (λ rows. IsShown meta_text 1 stored_meta_cells rows old new))
+    → HasAsked old new r → (HasCleanDisk new → IfOk r (λ rows. IsShown meta_text 1 stored_meta_cells rows old new))
     → IfOk r
     (λ rows. IsRead (IsScan d.meta_table stored_meta_cells meta_order rows) (λ t. rows ≡ record { version = pos 3 } ∷ []) old new)
 meta_read old new r read shown =
@@ -184,7 +185,7 @@ catalogue_found db shown rows reads are t holds =
     holds.orderly.sorted.catalogue) catalogue_in catalogue_back
 
 pub catalogue_read : (old new : State) (r : Result (List StoredCatalogue) Fault)
-    → HasRead old new r → (HasCleanDisk new → IfOk r (λ rows. IsShown catalogue_text 2 stored_catalogue_cells rows old new))
+    → HasAsked old new r → (HasCleanDisk new → IfOk r (λ rows. IsShown catalogue_text 2 stored_catalogue_cells rows old new))
     → IfOk r
     (λ rows. IsRead (IsScan d.catalogue_table stored_catalogue_cells catalogue_order rows) (λ t. rows ≡ map catalogue_stored t.catalogue) old new)
 catalogue_read old new r read shown =
@@ -271,7 +272,7 @@ rule_found db shown rows reads are t holds sorted =
     sorted.rule) rule_in rule_back
 
 pub rule_read : (old new : State) (r : Result (List StoredRule) Fault)
-    → HasRead old new r → (HasCleanDisk new → IfOk r (λ rows. IsShown rule_text 5 stored_rule_cells rows old new))
+    → HasAsked old new r → (HasCleanDisk new → IfOk r (λ rows. IsShown rule_text 5 stored_rule_cells rows old new))
     → IfOk r
     (λ rows. IsRead (IsScan d.rule_table stored_rule_cells rule_order rows) (λ t. AreSortedAsListed t → rows ≡ map rule_stored t.rule) old new)
 rule_read old new r read shown =

@@ -29,10 +29,11 @@ use Rattle.desk_snapshot.specs.declared.rows.StoredDocument.{StoredDocument}
 use Rattle.desk_snapshot.specs.declared.rows.StoredReading.{StoredReading}
 use Rattle.desk_snapshot.specs.declared.rows.StoredPackage.{StoredPackage}
 use Rattle.desk_snapshot.specs.declared.rows.StoredExtracted.{StoredExtracted}
-use Rattle.desk_adopting.specs.Reading.{Asks, HasRead}
+use Rattle.desk_adopting.specs.Reading.{Asks}
 use Rattle.desk_adopting.proofs.Asking.{asks}
 use Rattle.desk_lookups.proofs.Selects.{order_by, mine, by_rowid, by_unique}
 use Rattle.desk_lookups.proofs.Ties.{is_key, keys}
+use Rattle.desk_scan.specs.Asked.{HasAsked}
 use Rattle.desk_scan.specs.Cells.{columns_of, stored_document_cells, stored_reading_cells, stored_package_cells, stored_extracted_cells}
 use Rattle.desk_scan.specs.Orders.{document_order, extracted_order}
 use Rattle.desk_scan.specs.Scans.{IsScan, IsShown, IsRead}
@@ -110,7 +111,7 @@ document_found db shown rows reads are t holds =
     holds.orderly.sorted.document) document_in document_back
 
 pub document_read : (old new : State) (r : Result (List StoredDocument) Fault)
-    → HasRead old new r → (HasCleanDisk new → IfOk r (λ rows. IsShown document_text 3 stored_document_cells rows old new))
+    → HasAsked old new r → (HasCleanDisk new → IfOk r (λ rows. IsShown document_text 3 stored_document_cells rows old new))
     → IfOk r
     (λ rows. IsRead (IsScan d.document_table stored_document_cells document_order rows) (λ t. rows ≡ map document_stored t.document) old new)
 document_read old new r read shown =
@@ -186,7 +187,7 @@ reading_found db shown rows reads are t holds =
     holds.orderly.sorted.document) reading_in reading_back
 
 pub reading_read : (old new : State) (r : Result (List StoredReading) Fault)
-    → HasRead old new r → (HasCleanDisk new → IfOk r (λ rows. IsShown reading_text 2 stored_reading_cells rows old new))
+    → HasAsked old new r → (HasCleanDisk new → IfOk r (λ rows. IsShown reading_text 2 stored_reading_cells rows old new))
     → IfOk r
     (λ rows. IsRead (IsScan d.reading_table stored_reading_cells reading_order rows) (λ t. rows ≡ map reading_stored t.document) old new)
 reading_read old new r read shown =
@@ -282,7 +283,7 @@ package_found db shown rows reads are t holds =
     holds.rows).same (packages_rise t.packages holds.orderly.packages) package_in package_back
 
 pub package_read : (old new : State) (r : Result (List StoredPackage) Fault)
-    → HasRead old new r → (HasCleanDisk new → IfOk r (λ rows. IsShown package_text 7 stored_package_cells rows old new))
+    → HasAsked old new r → (HasCleanDisk new → IfOk r (λ rows. IsShown package_text 7 stored_package_cells rows old new))
     → IfOk r
     (λ rows. IsRead (IsScan d.package_table stored_package_cells package_order rows) (λ t. rows ≡ map package_stored t.packages) old new)
 package_read old new r read shown =
@@ -365,7 +366,7 @@ extracted_found db shown rows reads are t holds sorted =
     holds.rows).same (extracted_rise t.extracted sorted.extracted) extracted_in extracted_back
 
 pub extracted_read : (old new : State) (r : Result (List StoredExtracted) Fault)
-    → HasRead old new r → (HasCleanDisk new → IfOk r (λ rows. IsShown extracted_text 3 stored_extracted_cells rows old new))
+    → HasAsked old new r → (HasCleanDisk new → IfOk r (λ rows. IsShown extracted_text 3 stored_extracted_cells rows old new))
     → IfOk r
     (λ rows. IsRead (IsScan d.extracted_table stored_extracted_cells extracted_order rows) (λ t. AreSortedAsListed t → rows ≡ map extracted_stored t.extracted) old new)
 extracted_read old new r read shown =

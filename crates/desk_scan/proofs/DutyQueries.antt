@@ -28,10 +28,11 @@ use Rattle.desk_snapshot.specs.Tables.{duty_stored, change_stored, waiver_stored
 use Rattle.desk_snapshot.specs.declared.rows.StoredDuty.{StoredDuty}
 use Rattle.desk_snapshot.specs.declared.rows.StoredChange.{StoredChange}
 use Rattle.desk_snapshot.specs.declared.rows.StoredWaiver.{StoredWaiver}
-use Rattle.desk_adopting.specs.Reading.{Asks, HasRead}
+use Rattle.desk_adopting.specs.Reading.{Asks}
 use Rattle.desk_adopting.proofs.Asking.{asks}
 use Rattle.desk_lookups.proofs.Selects.{order_by, mine, by_rowid, by_unique}
 use Rattle.desk_lookups.proofs.Ties.{is_key, keys}
+use Rattle.desk_scan.specs.Asked.{HasAsked}
 use Rattle.desk_scan.specs.Cells.{columns_of, stored_duty_cells, stored_change_cells, stored_waiver_cells}
 use Rattle.desk_scan.specs.Orders.{duty_order}
 use Rattle.desk_scan.specs.Scans.{IsScan, IsShown, IsRead}
@@ -116,7 +117,7 @@ duty_found db shown rows reads are t holds =
     duty_below (λ row. row.number) (λ a b. refl) t.duty holds.orderly.sorted.duty) duty_in duty_back
 
 pub duty_read : (old new : State) (r : Result (List StoredDuty) Fault)
-    → HasRead old new r → (HasCleanDisk new → IfOk r (λ rows. IsShown duty_text 8 stored_duty_cells rows old new))
+    → HasAsked old new r → (HasCleanDisk new → IfOk r (λ rows. IsShown duty_text 8 stored_duty_cells rows old new))
     → IfOk r
     (λ rows. IsRead (IsScan d.duty_table stored_duty_cells duty_order rows) (λ t. rows ≡ map duty_stored t.duty) old new)
 duty_read old new r read shown =
@@ -200,7 +201,7 @@ change_found db shown rows reads are t holds =
     t.changes holds.orderly.sorted.changes) change_in change_back
 
 pub change_read : (old new : State) (r : Result (List StoredChange) Fault)
-    → HasRead old new r → (HasCleanDisk new → IfOk r (λ rows. IsShown change_text 5 stored_change_cells rows old new))
+    → HasAsked old new r → (HasCleanDisk new → IfOk r (λ rows. IsShown change_text 5 stored_change_cells rows old new))
     → IfOk r
     (λ rows. IsRead (IsScan d.change_table stored_change_cells change_order rows) (λ t. rows ≡ map change_stored t.changes) old new)
 change_read old new r read shown =
@@ -281,7 +282,7 @@ waiver_found db shown rows reads are t holds =
     (changes_rise t.changes holds.orderly.sorted.changes)) waiver_in waiver_back
 
 pub waiver_read : (old new : State) (r : Result (List StoredWaiver) Fault)
-    → HasRead old new r → (HasCleanDisk new → IfOk r (λ rows. IsShown waiver_text 3 stored_waiver_cells rows old new))
+    → HasAsked old new r → (HasCleanDisk new → IfOk r (λ rows. IsShown waiver_text 3 stored_waiver_cells rows old new))
     → IfOk r
     (λ rows. IsRead (IsScan d.waiver_table stored_waiver_cells waiver_order rows) (λ t. rows ≡ map waiver_stored (filter is_waiver t.changes)) old new)
 waiver_read old new r read shown =

@@ -1,3 +1,4 @@
+mod Asked
 pub mod Holding
 mod Telling
 mod Scanning

@@ -26,10 +26,11 @@ use Rattle.desk_snapshot.specs.Orders.{conclusion_order}
 use Rattle.desk_snapshot.specs.Tables.{conclusion_stored, adoption_stored}
 use Rattle.desk_snapshot.specs.declared.rows.StoredConclusion.{StoredConclusion}
 use Rattle.desk_snapshot.specs.declared.rows.StoredAdoption.{StoredAdoption}
-use Rattle.desk_adopting.specs.Reading.{Asks, HasRead}
+use Rattle.desk_adopting.specs.Reading.{Asks}
 use Rattle.desk_adopting.proofs.Asking.{asks}
 use Rattle.desk_lookups.proofs.Selects.{order_by, mine, by_unique}
 use Rattle.desk_lookups.proofs.Ties.{is_key, keys}
+use Rattle.desk_scan.specs.Asked.{HasAsked}
 use Rattle.desk_scan.specs.Cells.{columns_of, stored_conclusion_cells, stored_adoption_cells}
 use Rattle.desk_scan.specs.Orders.{adoption_order}
 use Rattle.desk_scan.specs.Scans.{IsScan, IsShown, IsRead}
@@ -114,7 +115,7 @@ conclusion_found db shown rows reads are t holds =
     holds.orderly.sorted.conclusion) conclusion_in conclusion_back
 
 pub conclusion_read : (old new : State) (r : Result (List StoredConclusion) Fault)
-    → HasRead old new r → (HasCleanDisk new → IfOk r (λ rows. IsShown conclusion_text 3 stored_conclusion_cells rows old new))
+    → HasAsked old new r → (HasCleanDisk new → IfOk r (λ rows. IsShown conclusion_text 3 stored_conclusion_cells rows old new))
     → IfOk r
     (λ rows. IsRead (IsScan d.conclusion_table stored_conclusion_cells conclusion_order rows) (λ t. rows ≡ map conclusion_stored t.conclusion) old new)
 conclusion_read old new r read shown =
@@ -197,7 +198,7 @@ adoption_found db shown rows reads are t holds =
     holds.rows).same (adoptions_rise t.adoption holds.orderly.sorted.adoption) adoption_in adoption_back
 
 pub adoption_read : (old new : State) (r : Result (List StoredAdoption) Fault)
-    → HasRead old new r → (HasCleanDisk new → IfOk r (λ rows. IsShown adoption_text 3 stored_adoption_cells rows old new))
+    → HasAsked old new r → (HasCleanDisk new → IfOk r (λ rows. IsShown adoption_text 3 stored_adoption_cells rows old new))
     → IfOk r
     (λ rows. IsRead (IsScan d.adoption_table stored_adoption_cells adoption_order rows) (λ t. rows ≡ map adoption_stored t.adoption) old new)
 adoption_read old new r read shown =

@@ -28,10 +28,11 @@ use Rattle.desk_snapshot.specs.declared.rows.StoredRelease.{StoredRelease}
 use Rattle.desk_snapshot.specs.declared.rows.StoredAttached.{StoredAttached}
 use Rattle.desk_snapshot.specs.declared.rows.StoredChoice.{StoredChoice}
 use Rattle.desk_snapshot.specs.declared.rows.StoredFrozen.{StoredFrozen}
-use Rattle.desk_adopting.specs.Reading.{Asks, HasRead}
+use Rattle.desk_adopting.specs.Reading.{Asks}
 use Rattle.desk_adopting.proofs.Asking.{asks}
 use Rattle.desk_lookups.proofs.Selects.{order_by, mine, by_unique}
 use Rattle.desk_lookups.proofs.Ties.{is_key, keys}
+use Rattle.desk_scan.specs.Asked.{HasAsked}
 use Rattle.desk_scan.specs.Cells.{columns_of, stored_release_cells, stored_attached_cells, stored_choice_cells, stored_frozen_cells}
 use Rattle.desk_scan.specs.Scans.{IsScan, IsShown, IsRead}
 use Rattle.desk_scan.proofs.Telling.{told}
@@ -113,7 +114,7 @@ release_found db shown rows reads are t holds =
     holds.rows).same (releases_rise t.releases holds.orderly.sorted.releases) release_in release_back
 
 pub release_read : (old new : State) (r : Result (List StoredRelease) Fault)
-    → HasRead old new r → (HasCleanDisk new → IfOk r (λ rows. IsShown release_text 5 stored_release_cells rows old new))
+    → HasAsked old new r → (HasCleanDisk new → IfOk r (λ rows. IsShown release_text 5 stored_release_cells rows old new))
     → IfOk r
     (λ rows. IsRead (IsScan d.releases_table stored_release_cells release_order rows) (λ t. rows ≡ map release_stored t.releases) old new)
 release_read old new r read shown =
@@ -194,7 +195,7 @@ attached_found db shown rows reads are t holds =
     holds.rows).same (attached_rise t.attached holds.orderly.sorted.attached) attached_in attached_back
 
 pub attached_read : (old new : State) (r : Result (List StoredAttached) Fault)
-    → HasRead old new r → (HasCleanDisk new → IfOk r (λ rows. IsShown attached_text 2 stored_attached_cells rows old new))
+    → HasAsked old new r → (HasCleanDisk new → IfOk r (λ rows. IsShown attached_text 2 stored_attached_cells rows old new))
     → IfOk r
     (λ rows. IsRead (IsScan d.attached_table stored_attached_cells attached_order rows) (λ t. rows ≡ map attached_stored t.attached) old new)
 attached_read old new r read shown =
@@ -282,7 +283,7 @@ choice_found db shown rows reads are t holds =
     t.choice holds.orderly.sorted.choice) choice_in choice_back
 
 pub choice_read : (old new : State) (r : Result (List StoredChoice) Fault)
-    → HasRead old new r → (HasCleanDisk new → IfOk r (λ rows. IsShown choice_text 4 stored_choice_cells rows old new))
+    → HasAsked old new r → (HasCleanDisk new → IfOk r (λ rows. IsShown choice_text 4 stored_choice_cells rows old new))
     → IfOk r
     (λ rows. IsRead (IsScan d.choice_table stored_choice_cells choice_order rows) (λ t. rows ≡ map choice_stored t.choice) old new)
 choice_read old new r read shown =
@@ -371,7 +372,7 @@ frozen_found db shown rows reads are t holds =
     t.frozen holds.orderly.sorted.frozen) frozen_in frozen_back
 
 pub frozen_read : (old new : State) (r : Result (List StoredFrozen) Fault)
-    → HasRead old new r → (HasCleanDisk new → IfOk r (λ rows. IsShown frozen_text 5 stored_frozen_cells rows old new))
+    → HasAsked old new r → (HasCleanDisk new → IfOk r (λ rows. IsShown frozen_text 5 stored_frozen_cells rows old new))
     → IfOk r
     (λ rows. IsRead (IsScan d.frozen_table stored_frozen_cells frozen_order rows) (λ t. rows ≡ map frozen_stored t.frozen) old new)
 frozen_read old new r read shown =

@@ -1,22 +1,24 @@
 -- What a query for all rows of a table tells, of the database that is shown and of the tables that it holds.
-use Rattle.std.proofs.Common.{◌≡◌, ℕ, List, [], map, false, refl, ap, subst, ◌∙◌, Ok, Err, Result, IfOk, IsTrue}
+use Rattle.std.proofs.Common.{◌≡◌, ℕ, List, [], map, false, refl, sym, ap, subst, ◌∙◌, Ok, Err, Result, IfOk, IsTrue}
 use Rattle.sqlite_value.specs.Order.{Row}
 use Rattle.sqlite.specs.Effect.{Database, Reads}
 use Rattle.sqlite.specs.Listing.{understood, reads_listing}
 use Rattle.sqlite.specs.State.{State, HasCleanDisk}
-use Rattle.sqlite.proofs.Callers.{IsPlain, command_of, reads_as}
+use Rattle.sqlite.proofs.Callers.{IsPlain, command_of, reads_as, unchanged_then}
+use Rattle.sqlite.proofs.StateLemmas.{survives_then}
 use Rattle.desk_layout.specs.Held.{Holds}
 use Rattle.desk_layout.specs.Layout.{desk_schema}
 use Rattle.desk_rows.specs.Tables.{Tables}
 use Rattle.desk_rows.specs.declared.command.Fault.{Fault}
-use Rattle.desk_adopting.specs.Reading.{Asks, HasRead}
+use Rattle.desk_adopting.specs.Reading.{Asks}
 use Rattle.desk_adopting.proofs.Asking.{shown_unchanged}
-use Rattle.desk_adopting.proofs.Spared.{clean_before, kept, spared_then}
+use Rattle.desk_adopting.proofs.Spared.{clean_before}
+use Rattle.desk_scan.specs.Asked.{HasAsked}
 use Rattle.desk_scan.specs.Cells.{columns_of}
 use Rattle.desk_scan.specs.Scans.{IsRead, IsShown}
 
 module _ (text : List ℕ) (asks : Asks text) (known : IsPlain (understood desk_schema text) × (reads_listing desk_schema text ≡ false)) {A : Type 0} (width : ℕ) (cells_of : A → Row) (old new : State) where
-  pub told : (r : Result (List A) Fault) → HasRead old new r → (HasCleanDisk new → IfOk r (λ rows. IsShown text width cells_of rows old new))
+  pub told : (r : Result (List A) Fault) → HasAsked old new r → (HasCleanDisk new → IfOk r (λ rows. IsShown text width cells_of rows old new))
       → (Raw : List A → Database → Type 0) (Is : List A → Tables → Type 0)
       → ((rows : List A) (db : Database) (shown : List Row) → Reads (command_of (understood desk_schema text)) db [] shown → map (columns_of width) shown ≡ map cells_of rows → Raw rows db)
       → ((rows : List A) (db : Database) (shown : List Row) → Reads (command_of (understood desk_schema text)) db [] shown → map (columns_of width) shown ≡ map cells_of rows
@@ -24,35 +26,29 @@ module _ (text : List ℕ) (asks : Asks text) (known : IsPlain (understood desk_
       → IfOk r (λ rows. IsRead (Raw rows) (Is rows) old new)
   told (Err e) stayed it Raw Is raw found = tt
   told (Ok rows) stayed it Raw Is raw found = record {
-    stayed = stayed;
-    was_open = was_open;
+    survives = stayed.0;
+    same = stayed.1;
     raw = λ clean has. let o = it clean in raw rows old.now o.0 (reads has clean) o.2;
-    found = λ clean t shows.
-        let holds = (shows (clean_before old new (λ _. ⊥) stayed.0.survives clean) (was_open clean)).holds in
-        let o = it clean in
-        found rows old.now o.0 (reads holds.rows.declared clean) o.2 t holds;
+    found = λ clean t holds. let o = it clean in found rows old.now o.0 (reads holds.rows.declared clean) o.2 t holds;
   }
     where
-      was_open : HasCleanDisk new → IsTrue old.is_open
-      was_open clean = let o = it clean in (shown_unchanged text [] old new asks o.0 o.1).0.was_open
-
       reads : old.now.schema ≡ desk_schema → (clean : HasCleanDisk new) → Reads (command_of (understood desk_schema text)) old.now [] (it clean).0
       reads has clean = let o = it clean in reads_as text [] old new desk_schema has (command_of (understood desk_schema text)) refl known.0 known.1 o.0 o.1
 
 -- one reading after another
 pub then_read : (R S : Database → Type 0) (P Q : Tables → Type 0) (a b c : State) → IsRead R P a b → IsRead S Q b c → IsRead (λ db. R db × S db) (λ t. P t × Q t) a c
 then_read R S P Q a b c one two =
-    let before : HasCleanDisk c → HasCleanDisk b = clean_before b c (λ _. ⊥) two.stayed.0.survives in
-    let same : (clean : HasCleanDisk c) → b.now ≡ a.now = λ clean. one.stayed.0.now (before clean) (two.was_open clean) in
+    let before : HasCleanDisk c → HasCleanDisk b = clean_before b c (λ _. ⊥) two.survives in
+    let now : (clean : HasCleanDisk c) → b.now ≡ a.now = λ clean. (one.same (before clean)).0.now_is in
     record {
-      stayed = (spared_then a b c one.stayed.0 two.stayed.0, λ clean is. two.stayed.1 clean (one.stayed.1 (before clean) is));
-      was_open = λ clean. one.was_open (before clean);
+      survives = survives_then a b c (λ _. ⊥) (λ _. ⊥) (λ _. ⊥) (λ _ db none. none) (λ _ db none. none) one.survives two.survives;
+      same = λ clean. unchanged_then a b c (one.same (before clean)) (two.same clean);
       raw = λ clean has. (
         one.raw (before clean) has,
-        subst S (same clean) (two.raw clean (ap (λ (db : Database). db.schema) (same clean) ∙ has)),
+        subst S (now clean) (two.raw clean (ap (λ (db : Database). db.schema) (now clean) ∙ has)),
       );
-      found = λ clean t shows. (
-        one.found (before clean) t shows,
-        two.found clean t ((kept a b one.stayed.0).spared.holds t shows),
+      found = λ clean t holds. (
+        one.found (before clean) t holds,
+        two.found clean t (subst (Holds t) (sym (now clean)) holds),
       );
     }

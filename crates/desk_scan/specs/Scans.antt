@@ -10,10 +10,8 @@ use Rattle.sqlite_trees.specs.View.{is_int}
 use Rattle.sqlite_schema.specs.declared.schema.Table.{Table}
 use Rattle.sqlite_schema.specs.declared.schema.Schema.{Schema}
 use Rattle.sqlite.specs.Effect.{Database}
-use Rattle.sqlite.specs.State.{State, HasCleanDisk, Shown}
-use Rattle.desk_access.specs.Seen.{OfRows}
-use Rattle.desk_adopting.specs.Reading.{HasStayed}
-use Rattle.desk_layout.specs.Held.{seen_of}
+use Rattle.sqlite.specs.State.{State, HasCleanDisk, IsUnchanged, Shown, Survives}
+use Rattle.desk_layout.specs.Held.{Holds}
 use Rattle.desk_layout.specs.Layout.{desk_schema, meta_table, catalogue_table, rule_table, document_table, package_table, extracted_table, conclusion_table, adoption_table, releases_table, attached_table, choice_table, frozen_table, duty_table, change_table, reading_table, waiver_table}
 use Rattle.desk_layout.specs.Stored.{cells}
 use Rattle.desk_rows.specs.Tables.{Tables}
@@ -81,7 +79,7 @@ IsShown sql width cells_of rows old new = (shown : List Row) × Shown sql [] old
 -- What was read of a connection, which stays as it is: so it is of the database with a desk's schema that it shows, and so it is of each
 -- tables that this holds.
 pub record IsRead (Raw : Database → Type 0) (Is : Tables → Type 0) (old new : State) : Type 0 where
-  pub stayed : HasStayed old new
-  pub was_open : HasCleanDisk new → IsTrue old.is_open
+  pub survives : Survives old new (λ _. ⊥)
+  pub same : HasCleanDisk new → IsUnchanged old new
   pub raw : HasCleanDisk new → old.now.schema ≡ desk_schema → Raw old.now
-  pub found : OfRows Is (seen_of old) (seen_of new)
+  pub found : HasCleanDisk new → (t : Tables) → Holds t old.now → Is t

@@ -1,8 +1,7 @@
 //! The version of the tables, and the revisions of the catalogue with their rules.
 
 ghost use Rattle.std.specs.Prelude.{◌≡◌, pos, false, IfOk, [], ◌∷◌, map};
-ghost use Rattle.sqlite.specs.Held.{state};
-ghost use Rattle.desk_adopting.specs.Reading.{HasRead};
+ghost use Rattle.desk_scan.specs.Asked.{HasAsked};
 ghost use Rattle.desk_history.specs.Laws.{AreSortedAsListed};
 ghost use Rattle.desk_layout.specs.Layout.{meta_table, catalogue_table, rule_table};
 ghost use Rattle.desk_snapshot.specs.Tables.{catalogue_stored, rule_stored};
@@ -13,10 +12,11 @@ ghost use Rattle.desk_scan.specs.Scans.{IsRead, IsScan};
 
 use crate::columns::{number_at, text_at};
 use crate::scan::{Stored, items};
+use crate::source::Source;
 use desk_base::Items;
 use desk_rows::Fault;
 use desk_snapshot::{StoredCatalogue, StoredMeta, StoredRule};
-use sqlite::{Alter, Connection, Row};
+use sqlite::Row;
 use std::alloc::Global;
 
 impl Stored for StoredMeta {
@@ -32,15 +32,16 @@ impl Stored for StoredMeta {
 }
 
 /// The version of the tables.
-fn meta_rows<S: Alter>(alloc: Global, conn: &mut Connection<S>) -> Result<Items<StoredMeta>, Fault>
-    requires { conn.old.in_transaction ≡ false }
+fn meta_rows<R: Source>(alloc: Global, source: &mut R) -> Result<Items<StoredMeta>, Fault>
+    requires { R.is_ready source.old }
     ensures ok { IfOk result (λ rows. IsRead (IsScan meta_table stored_meta_cells meta_order rows)
         (λ t. rows ≡ record { version = pos 3 } ∷ [])
-        (state S.Store conn.old) (state S.Store conn.new)) }
-    ensures read { HasRead (state S.Store conn.old) (state S.Store conn.new) result }
-    ensures mode { conn.new.in_transaction ≡ false }
+        (R.shows source.old) (R.shows source.new)) }
+    ensures asked { HasAsked (R.shows source.old) (R.shows source.new) result }
+    ensures ready { R.is_ready source.new }
+    ensures same_reference { R.name source.new ≡ R.name source.old }
 {
-    items(alloc, conn, "SELECT version FROM meta ORDER BY version")
+    items(alloc, source, "SELECT version FROM meta ORDER BY version")
 }
 
 impl Stored for StoredCatalogue {
@@ -57,20 +58,18 @@ impl Stored for StoredCatalogue {
 }
 
 /// All revisions of the catalogue, by number.
-fn catalogue_rows<S: Alter>(
-    alloc: Global,
-    conn: &mut Connection<S>,
-) -> Result<Items<StoredCatalogue>, Fault>
-    requires { conn.old.in_transaction ≡ false }
+fn catalogue_rows<R: Source>(alloc: Global, source: &mut R) -> Result<Items<StoredCatalogue>, Fault>
+    requires { R.is_ready source.old }
     ensures ok { IfOk result (λ rows. IsRead (IsScan catalogue_table stored_catalogue_cells catalogue_order rows)
         (λ t. rows ≡ map catalogue_stored t.catalogue)
-        (state S.Store conn.old) (state S.Store conn.new)) }
-    ensures read { HasRead (state S.Store conn.old) (state S.Store conn.new) result }
-    ensures mode { conn.new.in_transaction ≡ false }
+        (R.shows source.old) (R.shows source.new)) }
+    ensures asked { HasAsked (R.shows source.old) (R.shows source.new) result }
+    ensures ready { R.is_ready source.new }
+    ensures same_reference { R.name source.new ≡ R.name source.old }
 {
     items(
         alloc,
-        conn,
+        source,
         "SELECT revision, body FROM catalogue ORDER BY revision",
     )
 }
@@ -92,17 +91,18 @@ impl Stored for StoredRule {
 }
 
 /// All rules, by revision, term and form.
-fn rule_rows<S: Alter>(alloc: Global, conn: &mut Connection<S>) -> Result<Items<StoredRule>, Fault>
-    requires { conn.old.in_transaction ≡ false }
+fn rule_rows<R: Source>(alloc: Global, source: &mut R) -> Result<Items<StoredRule>, Fault>
+    requires { R.is_ready source.old }
     ensures ok { IfOk result (λ rows. IsRead (IsScan rule_table stored_rule_cells rule_order rows)
         (λ t. AreSortedAsListed t → rows ≡ map rule_stored t.rule)
-        (state S.Store conn.old) (state S.Store conn.new)) }
-    ensures read { HasRead (state S.Store conn.old) (state S.Store conn.new) result }
-    ensures mode { conn.new.in_transaction ≡ false }
+        (R.shows source.old) (R.shows source.new)) }
+    ensures asked { HasAsked (R.shows source.old) (R.shows source.new) result }
+    ensures ready { R.is_ready source.new }
+    ensures same_reference { R.name source.new ≡ R.name source.old }
 {
     items(
         alloc,
-        conn,
+        source,
         "SELECT revision, term, form, spelled, codes FROM rule ORDER BY revision, term, form",
     )
 }
@@ -116,19 +116,17 @@ pub(crate) struct CataloguePart {
 }
 
 /// The version of the tables, and the revisions of the catalogue with their rules.
-pub(crate) fn catalogues<S: Alter>(
-    alloc: Global,
-    conn: &mut Connection<S>,
-) -> Result<CataloguePart, Fault>
-    requires { conn.old.in_transaction ≡ false }
-    ensures ok { IfOk result (λ part. IsRead (HasCatalogues part) (OfCatalogues part) (state S.Store conn.old)
-        (state S.Store conn.new)) }
-    ensures read { HasRead (state S.Store conn.old) (state S.Store conn.new) result }
-    ensures mode { conn.new.in_transaction ≡ false }
+pub(crate) fn catalogues<R: Source>(alloc: Global, source: &mut R) -> Result<CataloguePart, Fault>
+    requires { R.is_ready source.old }
+    ensures ok { IfOk result (λ part. IsRead (HasCatalogues part) (OfCatalogues part) (R.shows source.old)
+        (R.shows source.new)) }
+    ensures asked { HasAsked (R.shows source.old) (R.shows source.new) result }
+    ensures ready { R.is_ready source.new }
+    ensures same_reference { R.name source.new ≡ R.name source.old }
 {
     Ok(CataloguePart {
-        meta: meta_rows(alloc, conn)?,
-        catalogue: catalogue_rows(alloc, conn)?,
-        rule: rule_rows(alloc, conn)?,
+        meta: meta_rows(alloc, source)?,
+        catalogue: catalogue_rows(alloc, source)?,
+        rule: rule_rows(alloc, source)?,
     })
 }

@@ -1,8 +1,7 @@
 //! Documents with their profiles, packages and extracted licences.
 
-ghost use Rattle.std.specs.Prelude.{◌≡◌, false, IfOk, map};
-ghost use Rattle.sqlite.specs.Held.{state};
-ghost use Rattle.desk_adopting.specs.Reading.{HasRead};
+ghost use Rattle.std.specs.Prelude.{◌≡◌, IfOk, map};
+ghost use Rattle.desk_scan.specs.Asked.{HasAsked};
 ghost use Rattle.desk_history.specs.Laws.{AreSortedAsListed};
 ghost use Rattle.desk_layout.specs.Layout.{document_table, reading_table, package_table, extracted_table};
 ghost use Rattle.desk_snapshot.specs.Orders.{reading_order, package_order};
@@ -14,10 +13,11 @@ ghost use Rattle.desk_scan.specs.Scans.{IsRead, IsScan};
 
 use crate::columns::{bytes_at, number_at, text_at, text_or_null_at};
 use crate::scan::{Stored, items, listed};
+use crate::source::Source;
 use desk_base::Items;
 use desk_rows::Fault;
 use desk_snapshot::{Listed, StoredDocument, StoredExtracted, StoredPackage, StoredReading};
-use sqlite::{Alter, Connection, Row};
+use sqlite::Row;
 use std::alloc::Global;
 
 impl Stored for StoredDocument {
@@ -35,20 +35,18 @@ impl Stored for StoredDocument {
 }
 
 /// All documents, by number.
-fn document_rows<S: Alter>(
-    alloc: Global,
-    conn: &mut Connection<S>,
-) -> Result<Items<StoredDocument>, Fault>
-    requires { conn.old.in_transaction ≡ false }
+fn document_rows<R: Source>(alloc: Global, source: &mut R) -> Result<Items<StoredDocument>, Fault>
+    requires { R.is_ready source.old }
     ensures ok { IfOk result (λ rows. IsRead (IsScan document_table stored_document_cells document_order rows)
         (λ t. rows ≡ map document_stored t.document)
-        (state S.Store conn.old) (state S.Store conn.new)) }
-    ensures read { HasRead (state S.Store conn.old) (state S.Store conn.new) result }
-    ensures mode { conn.new.in_transaction ≡ false }
+        (R.shows source.old) (R.shows source.new)) }
+    ensures asked { HasAsked (R.shows source.old) (R.shows source.new) result }
+    ensures ready { R.is_ready source.new }
+    ensures same_reference { R.name source.new ≡ R.name source.old }
 {
     items(
         alloc,
-        conn,
+        source,
         "SELECT number, namespace, bytes FROM document ORDER BY number",
     )
 }
@@ -67,20 +65,18 @@ impl Stored for StoredReading {
 }
 
 /// The profiles of all documents, by number.
-fn reading_rows<S: Alter>(
-    alloc: Global,
-    conn: &mut Connection<S>,
-) -> Result<Listed<StoredReading>, Fault>
-    requires { conn.old.in_transaction ≡ false }
+fn reading_rows<R: Source>(alloc: Global, source: &mut R) -> Result<Listed<StoredReading>, Fault>
+    requires { R.is_ready source.old }
     ensures ok { IfOk result (λ rows. IsRead (IsScan reading_table stored_reading_cells reading_order rows)
         (λ t. rows ≡ map reading_stored t.document)
-        (state S.Store conn.old) (state S.Store conn.new)) }
-    ensures read { HasRead (state S.Store conn.old) (state S.Store conn.new) result }
-    ensures mode { conn.new.in_transaction ≡ false }
+        (R.shows source.old) (R.shows source.new)) }
+    ensures asked { HasAsked (R.shows source.old) (R.shows source.new) result }
+    ensures ready { R.is_ready source.new }
+    ensures same_reference { R.name source.new ≡ R.name source.old }
 {
     listed(
         alloc,
-        conn,
+        source,
         "SELECT document, profile FROM reading ORDER BY document",
     )
 }
@@ -104,20 +100,18 @@ impl Stored for StoredPackage {
 }
 
 /// All packages, by document and id.
-fn package_rows<S: Alter>(
-    alloc: Global,
-    conn: &mut Connection<S>,
-) -> Result<Listed<StoredPackage>, Fault>
-    requires { conn.old.in_transaction ≡ false }
+fn package_rows<R: Source>(alloc: Global, source: &mut R) -> Result<Listed<StoredPackage>, Fault>
+    requires { R.is_ready source.old }
     ensures ok { IfOk result (λ rows. IsRead (IsScan package_table stored_package_cells package_order rows)
         (λ t. rows ≡ map package_stored t.packages)
-        (state S.Store conn.old) (state S.Store conn.new)) }
-    ensures read { HasRead (state S.Store conn.old) (state S.Store conn.new) result }
-    ensures mode { conn.new.in_transaction ≡ false }
+        (R.shows source.old) (R.shows source.new)) }
+    ensures asked { HasAsked (R.shows source.old) (R.shows source.new) result }
+    ensures ready { R.is_ready source.new }
+    ensures same_reference { R.name source.new ≡ R.name source.old }
 {
     listed(
         alloc,
-        conn,
+        source,
         "SELECT document, id, name, version, concluded, copyright, shipped FROM package ORDER BY document, id",
     )
 }
@@ -137,20 +131,18 @@ impl Stored for StoredExtracted {
 }
 
 /// All extracted licences, by document and reference.
-fn extracted_rows<S: Alter>(
-    alloc: Global,
-    conn: &mut Connection<S>,
-) -> Result<Items<StoredExtracted>, Fault>
-    requires { conn.old.in_transaction ≡ false }
+fn extracted_rows<R: Source>(alloc: Global, source: &mut R) -> Result<Items<StoredExtracted>, Fault>
+    requires { R.is_ready source.old }
     ensures ok { IfOk result (λ rows. IsRead (IsScan extracted_table stored_extracted_cells extracted_order rows)
         (λ t. AreSortedAsListed t → rows ≡ map extracted_stored t.extracted)
-        (state S.Store conn.old) (state S.Store conn.new)) }
-    ensures read { HasRead (state S.Store conn.old) (state S.Store conn.new) result }
-    ensures mode { conn.new.in_transaction ≡ false }
+        (R.shows source.old) (R.shows source.new)) }
+    ensures asked { HasAsked (R.shows source.old) (R.shows source.new) result }
+    ensures ready { R.is_ready source.new }
+    ensures same_reference { R.name source.new ≡ R.name source.old }
 {
     items(
         alloc,
-        conn,
+        source,
         "SELECT document, reference, body FROM extracted ORDER BY document, reference",
     )
 }
@@ -165,20 +157,18 @@ pub(crate) struct DocumentPart {
 }
 
 /// Documents with their profiles, packages and extracted licences.
-pub(crate) fn documents<S: Alter>(
-    alloc: Global,
-    conn: &mut Connection<S>,
-) -> Result<DocumentPart, Fault>
-    requires { conn.old.in_transaction ≡ false }
-    ensures ok { IfOk result (λ part. IsRead (HasDocuments part) (OfDocuments part) (state S.Store conn.old)
-        (state S.Store conn.new)) }
-    ensures read { HasRead (state S.Store conn.old) (state S.Store conn.new) result }
-    ensures mode { conn.new.in_transaction ≡ false }
+pub(crate) fn documents<R: Source>(alloc: Global, source: &mut R) -> Result<DocumentPart, Fault>
+    requires { R.is_ready source.old }
+    ensures ok { IfOk result (λ part. IsRead (HasDocuments part) (OfDocuments part) (R.shows source.old)
+        (R.shows source.new)) }
+    ensures asked { HasAsked (R.shows source.old) (R.shows source.new) result }
+    ensures ready { R.is_ready source.new }
+    ensures same_reference { R.name source.new ≡ R.name source.old }
 {
     Ok(DocumentPart {
-        document: document_rows(alloc, conn)?,
-        reading: reading_rows(alloc, conn)?,
-        packages: package_rows(alloc, conn)?,
-        extracted: extracted_rows(alloc, conn)?,
+        document: document_rows(alloc, source)?,
+        reading: reading_rows(alloc, source)?,
+        packages: package_rows(alloc, source)?,
+        extracted: extracted_rows(alloc, source)?,
     })
 }

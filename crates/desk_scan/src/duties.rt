@@ -1,8 +1,7 @@
 //! Duties with their changes, and the last days of waivers.
 
-ghost use Rattle.std.specs.Prelude.{◌≡◌, false, IfOk, map, filter};
-ghost use Rattle.sqlite.specs.Held.{state};
-ghost use Rattle.desk_adopting.specs.Reading.{HasRead};
+ghost use Rattle.std.specs.Prelude.{◌≡◌, IfOk, map, filter};
+ghost use Rattle.desk_scan.specs.Asked.{HasAsked};
 ghost use Rattle.desk_layout.specs.Layout.{duty_table, change_table, waiver_table};
 ghost use Rattle.desk_snapshot.specs.Orders.{change_order, waiver_order};
 ghost use Rattle.desk_snapshot.specs.Tables.{duty_stored, change_stored, waiver_stored, is_waiver};
@@ -13,10 +12,11 @@ ghost use Rattle.desk_scan.specs.Scans.{IsRead, IsScan};
 
 use crate::columns::{number_at, text_at};
 use crate::scan::{Stored, items, listed};
+use crate::source::Source;
 use desk_base::Items;
 use desk_rows::Fault;
 use desk_snapshot::{Listed, StoredChange, StoredDuty, StoredWaiver};
-use sqlite::{Alter, Connection, Row};
+use sqlite::Row;
 use std::alloc::Global;
 
 impl Stored for StoredDuty {
@@ -39,17 +39,18 @@ impl Stored for StoredDuty {
 }
 
 /// All duties, by number.
-fn duty_rows<S: Alter>(alloc: Global, conn: &mut Connection<S>) -> Result<Items<StoredDuty>, Fault>
-    requires { conn.old.in_transaction ≡ false }
+fn duty_rows<R: Source>(alloc: Global, source: &mut R) -> Result<Items<StoredDuty>, Fault>
+    requires { R.is_ready source.old }
     ensures ok { IfOk result (λ rows. IsRead (IsScan duty_table stored_duty_cells duty_order rows)
         (λ t. rows ≡ map duty_stored t.duty)
-        (state S.Store conn.old) (state S.Store conn.new)) }
-    ensures read { HasRead (state S.Store conn.old) (state S.Store conn.new) result }
-    ensures mode { conn.new.in_transaction ≡ false }
+        (R.shows source.old) (R.shows source.new)) }
+    ensures asked { HasAsked (R.shows source.old) (R.shows source.new) result }
+    ensures ready { R.is_ready source.new }
+    ensures same_reference { R.name source.new ≡ R.name source.old }
 {
     items(
         alloc,
-        conn,
+        source,
         "SELECT number, release, document, package, term, code, rule, state FROM duty ORDER BY number",
     )
 }
@@ -71,20 +72,18 @@ impl Stored for StoredChange {
 }
 
 /// All changes, by duty and step.
-fn change_rows<S: Alter>(
-    alloc: Global,
-    conn: &mut Connection<S>,
-) -> Result<Listed<StoredChange>, Fault>
-    requires { conn.old.in_transaction ≡ false }
+fn change_rows<R: Source>(alloc: Global, source: &mut R) -> Result<Listed<StoredChange>, Fault>
+    requires { R.is_ready source.old }
     ensures ok { IfOk result (λ rows. IsRead (IsScan change_table stored_change_cells change_order rows)
         (λ t. rows ≡ map change_stored t.changes)
-        (state S.Store conn.old) (state S.Store conn.new)) }
-    ensures read { HasRead (state S.Store conn.old) (state S.Store conn.new) result }
-    ensures mode { conn.new.in_transaction ≡ false }
+        (R.shows source.old) (R.shows source.new)) }
+    ensures asked { HasAsked (R.shows source.old) (R.shows source.new) result }
+    ensures ready { R.is_ready source.new }
+    ensures same_reference { R.name source.new ≡ R.name source.old }
 {
     listed(
         alloc,
-        conn,
+        source,
         "SELECT duty, step, day, word, body FROM change ORDER BY duty, step",
     )
 }
@@ -104,20 +103,18 @@ impl Stored for StoredWaiver {
 }
 
 /// The last days of all waivers that end, by duty and step.
-fn waiver_rows<S: Alter>(
-    alloc: Global,
-    conn: &mut Connection<S>,
-) -> Result<Listed<StoredWaiver>, Fault>
-    requires { conn.old.in_transaction ≡ false }
+fn waiver_rows<R: Source>(alloc: Global, source: &mut R) -> Result<Listed<StoredWaiver>, Fault>
+    requires { R.is_ready source.old }
     ensures ok { IfOk result (λ rows. IsRead (IsScan waiver_table stored_waiver_cells waiver_order rows)
         (λ t. rows ≡ map waiver_stored (filter is_waiver t.changes))
-        (state S.Store conn.old) (state S.Store conn.new)) }
-    ensures read { HasRead (state S.Store conn.old) (state S.Store conn.new) result }
-    ensures mode { conn.new.in_transaction ≡ false }
+        (R.shows source.old) (R.shows source.new)) }
+    ensures asked { HasAsked (R.shows source.old) (R.shows source.new) result }
+    ensures ready { R.is_ready source.new }
+    ensures same_reference { R.name source.new ≡ R.name source.old }
 {
     listed(
         alloc,
-        conn,
+        source,
         "SELECT duty, step, last_day FROM waiver ORDER BY duty, step",
     )
 }
@@ -131,16 +128,17 @@ pub(crate) struct DutyPart {
 }
 
 /// Duties with their changes, and the last days of waivers.
-pub(crate) fn duties<S: Alter>(alloc: Global, conn: &mut Connection<S>) -> Result<DutyPart, Fault>
-    requires { conn.old.in_transaction ≡ false }
-    ensures ok { IfOk result (λ part. IsRead (HasDuties part) (OfDuties part) (state S.Store conn.old)
-        (state S.Store conn.new)) }
-    ensures read { HasRead (state S.Store conn.old) (state S.Store conn.new) result }
-    ensures mode { conn.new.in_transaction ≡ false }
+pub(crate) fn duties<R: Source>(alloc: Global, source: &mut R) -> Result<DutyPart, Fault>
+    requires { R.is_ready source.old }
+    ensures ok { IfOk result (λ part. IsRead (HasDuties part) (OfDuties part) (R.shows source.old)
+        (R.shows source.new)) }
+    ensures asked { HasAsked (R.shows source.old) (R.shows source.new) result }
+    ensures ready { R.is_ready source.new }
+    ensures same_reference { R.name source.new ≡ R.name source.old }
 {
     Ok(DutyPart {
-        duty: duty_rows(alloc, conn)?,
-        changes: change_rows(alloc, conn)?,
-        waiver: waiver_rows(alloc, conn)?,
+        duty: duty_rows(alloc, source)?,
+        changes: change_rows(alloc, source)?,
+        waiver: waiver_rows(alloc, source)?,
     })
 }

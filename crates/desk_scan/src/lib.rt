@@ -15,9 +15,9 @@ mod columns;
 mod documents;
 mod duties;
 mod office;
-mod query;
 mod releases;
 mod scan;
+mod source;
 mod whole;
 
-pub use whole::snapshot;
+pub use whole::{snapshot, snapshot_inside};

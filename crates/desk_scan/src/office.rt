@@ -1,8 +1,7 @@
 //! What the office concluded and adopted.
 
-ghost use Rattle.std.specs.Prelude.{◌≡◌, false, IfOk, map};
-ghost use Rattle.sqlite.specs.Held.{state};
-ghost use Rattle.desk_adopting.specs.Reading.{HasRead};
+ghost use Rattle.std.specs.Prelude.{◌≡◌, IfOk, map};
+ghost use Rattle.desk_scan.specs.Asked.{HasAsked};
 ghost use Rattle.desk_layout.specs.Layout.{conclusion_table, adoption_table};
 ghost use Rattle.desk_snapshot.specs.Orders.{conclusion_order};
 ghost use Rattle.desk_snapshot.specs.Tables.{conclusion_stored, adoption_stored};
@@ -13,10 +12,11 @@ ghost use Rattle.desk_scan.specs.Scans.{IsRead, IsScan};
 
 use crate::columns::{number_at, text_at};
 use crate::scan::{Stored, items, listed};
+use crate::source::Source;
 use desk_base::Items;
 use desk_rows::Fault;
 use desk_snapshot::{Listed, StoredAdoption, StoredConclusion};
-use sqlite::{Alter, Connection, Row};
+use sqlite::Row;
 use std::alloc::Global;
 
 impl Stored for StoredConclusion {
@@ -34,20 +34,21 @@ impl Stored for StoredConclusion {
 }
 
 /// All conclusions, by document and package.
-fn conclusion_rows<S: Alter>(
+fn conclusion_rows<R: Source>(
     alloc: Global,
-    conn: &mut Connection<S>,
+    source: &mut R,
 ) -> Result<Listed<StoredConclusion>, Fault>
-    requires { conn.old.in_transaction ≡ false }
+    requires { R.is_ready source.old }
     ensures ok { IfOk result (λ rows. IsRead (IsScan conclusion_table stored_conclusion_cells conclusion_order rows)
         (λ t. rows ≡ map conclusion_stored t.conclusion)
-        (state S.Store conn.old) (state S.Store conn.new)) }
-    ensures read { HasRead (state S.Store conn.old) (state S.Store conn.new) result }
-    ensures mode { conn.new.in_transaction ≡ false }
+        (R.shows source.old) (R.shows source.new)) }
+    ensures asked { HasAsked (R.shows source.old) (R.shows source.new) result }
+    ensures ready { R.is_ready source.new }
+    ensures same_reference { R.name source.new ≡ R.name source.old }
 {
     listed(
         alloc,
-        conn,
+        source,
         "SELECT document, package, expression FROM conclusion ORDER BY document, package",
     )
 }
@@ -67,20 +68,18 @@ impl Stored for StoredAdoption {
 }
 
 /// All adoptions, by document and reference.
-fn adoption_rows<S: Alter>(
-    alloc: Global,
-    conn: &mut Connection<S>,
-) -> Result<Items<StoredAdoption>, Fault>
-    requires { conn.old.in_transaction ≡ false }
+fn adoption_rows<R: Source>(alloc: Global, source: &mut R) -> Result<Items<StoredAdoption>, Fault>
+    requires { R.is_ready source.old }
     ensures ok { IfOk result (λ rows. IsRead (IsScan adoption_table stored_adoption_cells adoption_order rows)
         (λ t. rows ≡ map adoption_stored t.adoption)
-        (state S.Store conn.old) (state S.Store conn.new)) }
-    ensures read { HasRead (state S.Store conn.old) (state S.Store conn.new) result }
-    ensures mode { conn.new.in_transaction ≡ false }
+        (R.shows source.old) (R.shows source.new)) }
+    ensures asked { HasAsked (R.shows source.old) (R.shows source.new) result }
+    ensures ready { R.is_ready source.new }
+    ensures same_reference { R.name source.new ≡ R.name source.old }
 {
     items(
         alloc,
-        conn,
+        source,
         "SELECT document, reference, licence FROM adoption ORDER BY document, reference",
     )
 }
@@ -93,15 +92,16 @@ pub(crate) struct OfficePart {
 }
 
 /// What the office concluded and adopted.
-pub(crate) fn office<S: Alter>(alloc: Global, conn: &mut Connection<S>) -> Result<OfficePart, Fault>
-    requires { conn.old.in_transaction ≡ false }
-    ensures ok { IfOk result (λ part. IsRead (HasOffice part) (OfOffice part) (state S.Store conn.old)
-        (state S.Store conn.new)) }
-    ensures read { HasRead (state S.Store conn.old) (state S.Store conn.new) result }
-    ensures mode { conn.new.in_transaction ≡ false }
+pub(crate) fn office<R: Source>(alloc: Global, source: &mut R) -> Result<OfficePart, Fault>
+    requires { R.is_ready source.old }
+    ensures ok { IfOk result (λ part. IsRead (HasOffice part) (OfOffice part) (R.shows source.old)
+        (R.shows source.new)) }
+    ensures asked { HasAsked (R.shows source.old) (R.shows source.new) result }
+    ensures ready { R.is_ready source.new }
+    ensures same_reference { R.name source.new ≡ R.name source.old }
 {
     Ok(OfficePart {
-        conclusion: conclusion_rows(alloc, conn)?,
-        adoption: adoption_rows(alloc, conn)?,
+        conclusion: conclusion_rows(alloc, source)?,
+        adoption: adoption_rows(alloc, source)?,
     })
 }

@@ -1,8 +1,7 @@
 //! Releases with their documents, and their chosen and frozen terms.
 
-ghost use Rattle.std.specs.Prelude.{◌≡◌, false, IfOk, map};
-ghost use Rattle.sqlite.specs.Held.{state};
-ghost use Rattle.desk_adopting.specs.Reading.{HasRead};
+ghost use Rattle.std.specs.Prelude.{◌≡◌, IfOk, map};
+ghost use Rattle.desk_scan.specs.Asked.{HasAsked};
 ghost use Rattle.desk_layout.specs.Layout.{releases_table, attached_table, choice_table, frozen_table};
 ghost use Rattle.desk_snapshot.specs.Orders.{release_order, attached_order, choice_order, frozen_order};
 ghost use Rattle.desk_snapshot.specs.Tables.{release_stored, attached_stored, choice_stored, frozen_stored};
@@ -12,9 +11,10 @@ ghost use Rattle.desk_scan.specs.Scans.{IsRead, IsScan};
 
 use crate::columns::{number_at, text_at};
 use crate::scan::{Stored, listed};
+use crate::source::Source;
 use desk_rows::Fault;
 use desk_snapshot::{Listed, StoredAttached, StoredChoice, StoredFrozen, StoredRelease};
-use sqlite::{Alter, Connection, Row};
+use sqlite::Row;
 use std::alloc::Global;
 
 impl Stored for StoredRelease {
@@ -34,20 +34,18 @@ impl Stored for StoredRelease {
 }
 
 /// All releases, by name.
-fn release_rows<S: Alter>(
-    alloc: Global,
-    conn: &mut Connection<S>,
-) -> Result<Listed<StoredRelease>, Fault>
-    requires { conn.old.in_transaction ≡ false }
+fn release_rows<R: Source>(alloc: Global, source: &mut R) -> Result<Listed<StoredRelease>, Fault>
+    requires { R.is_ready source.old }
     ensures ok { IfOk result (λ rows. IsRead (IsScan releases_table stored_release_cells release_order rows)
         (λ t. rows ≡ map release_stored t.releases)
-        (state S.Store conn.old) (state S.Store conn.new)) }
-    ensures read { HasRead (state S.Store conn.old) (state S.Store conn.new) result }
-    ensures mode { conn.new.in_transaction ≡ false }
+        (R.shows source.old) (R.shows source.new)) }
+    ensures asked { HasAsked (R.shows source.old) (R.shows source.new) result }
+    ensures ready { R.is_ready source.new }
+    ensures same_reference { R.name source.new ≡ R.name source.old }
 {
     listed(
         alloc,
-        conn,
+        source,
         "SELECT name, place, form, state, revision FROM releases ORDER BY name",
     )
 }
@@ -66,20 +64,18 @@ impl Stored for StoredAttached {
 }
 
 /// All attached documents, by release and number.
-fn attached_rows<S: Alter>(
-    alloc: Global,
-    conn: &mut Connection<S>,
-) -> Result<Listed<StoredAttached>, Fault>
-    requires { conn.old.in_transaction ≡ false }
+fn attached_rows<R: Source>(alloc: Global, source: &mut R) -> Result<Listed<StoredAttached>, Fault>
+    requires { R.is_ready source.old }
     ensures ok { IfOk result (λ rows. IsRead (IsScan attached_table stored_attached_cells attached_order rows)
         (λ t. rows ≡ map attached_stored t.attached)
-        (state S.Store conn.old) (state S.Store conn.new)) }
-    ensures read { HasRead (state S.Store conn.old) (state S.Store conn.new) result }
-    ensures mode { conn.new.in_transaction ≡ false }
+        (R.shows source.old) (R.shows source.new)) }
+    ensures asked { HasAsked (R.shows source.old) (R.shows source.new) result }
+    ensures ready { R.is_ready source.new }
+    ensures same_reference { R.name source.new ≡ R.name source.old }
 {
     listed(
         alloc,
-        conn,
+        source,
         "SELECT release, document FROM attached ORDER BY release, document",
     )
 }
@@ -100,20 +96,18 @@ impl Stored for StoredChoice {
 }
 
 /// All chosen terms, by release, document, package and term.
-fn choice_rows<S: Alter>(
-    alloc: Global,
-    conn: &mut Connection<S>,
-) -> Result<Listed<StoredChoice>, Fault>
-    requires { conn.old.in_transaction ≡ false }
+fn choice_rows<R: Source>(alloc: Global, source: &mut R) -> Result<Listed<StoredChoice>, Fault>
+    requires { R.is_ready source.old }
     ensures ok { IfOk result (λ rows. IsRead (IsScan choice_table stored_choice_cells choice_order rows)
         (λ t. rows ≡ map choice_stored t.choice)
-        (state S.Store conn.old) (state S.Store conn.new)) }
-    ensures read { HasRead (state S.Store conn.old) (state S.Store conn.new) result }
-    ensures mode { conn.new.in_transaction ≡ false }
+        (R.shows source.old) (R.shows source.new)) }
+    ensures asked { HasAsked (R.shows source.old) (R.shows source.new) result }
+    ensures ready { R.is_ready source.new }
+    ensures same_reference { R.name source.new ≡ R.name source.old }
 {
     listed(
         alloc,
-        conn,
+        source,
         "SELECT release, document, package, term FROM choice ORDER BY release, document, package, term",
     )
 }
@@ -135,20 +129,18 @@ impl Stored for StoredFrozen {
 }
 
 /// All frozen terms, by release, document, package and term.
-fn frozen_rows<S: Alter>(
-    alloc: Global,
-    conn: &mut Connection<S>,
-) -> Result<Listed<StoredFrozen>, Fault>
-    requires { conn.old.in_transaction ≡ false }
+fn frozen_rows<R: Source>(alloc: Global, source: &mut R) -> Result<Listed<StoredFrozen>, Fault>
+    requires { R.is_ready source.old }
     ensures ok { IfOk result (λ rows. IsRead (IsScan frozen_table stored_frozen_cells frozen_order rows)
         (λ t. rows ≡ map frozen_stored t.frozen)
-        (state S.Store conn.old) (state S.Store conn.new)) }
-    ensures read { HasRead (state S.Store conn.old) (state S.Store conn.new) result }
-    ensures mode { conn.new.in_transaction ≡ false }
+        (R.shows source.old) (R.shows source.new)) }
+    ensures asked { HasAsked (R.shows source.old) (R.shows source.new) result }
+    ensures ready { R.is_ready source.new }
+    ensures same_reference { R.name source.new ≡ R.name source.old }
 {
     listed(
         alloc,
-        conn,
+        source,
         "SELECT release, document, package, term, rule FROM frozen ORDER BY release, document, package, term",
     )
 }
@@ -163,20 +155,18 @@ pub(crate) struct ReleasePart {
 }
 
 /// Releases with their documents, and their chosen and frozen terms.
-pub(crate) fn releases<S: Alter>(
-    alloc: Global,
-    conn: &mut Connection<S>,
-) -> Result<ReleasePart, Fault>
-    requires { conn.old.in_transaction ≡ false }
-    ensures ok { IfOk result (λ part. IsRead (HasReleases part) (OfReleases part) (state S.Store conn.old)
-        (state S.Store conn.new)) }
-    ensures read { HasRead (state S.Store conn.old) (state S.Store conn.new) result }
-    ensures mode { conn.new.in_transaction ≡ false }
+pub(crate) fn releases<R: Source>(alloc: Global, source: &mut R) -> Result<ReleasePart, Fault>
+    requires { R.is_ready source.old }
+    ensures ok { IfOk result (λ part. IsRead (HasReleases part) (OfReleases part) (R.shows source.old)
+        (R.shows source.new)) }
+    ensures asked { HasAsked (R.shows source.old) (R.shows source.new) result }
+    ensures ready { R.is_ready source.new }
+    ensures same_reference { R.name source.new ≡ R.name source.old }
 {
     Ok(ReleasePart {
-        releases: release_rows(alloc, conn)?,
-        attached: attached_rows(alloc, conn)?,
-        choice: choice_rows(alloc, conn)?,
-        frozen: frozen_rows(alloc, conn)?,
+        releases: release_rows(alloc, source)?,
+        attached: attached_rows(alloc, source)?,
+        choice: choice_rows(alloc, source)?,
+        frozen: frozen_rows(alloc, source)?,
     })
 }

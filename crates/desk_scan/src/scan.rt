@@ -1,19 +1,19 @@
 //! All rows of a table.
 
-ghost use Rattle.std.specs.Prelude.{◌≡◌, false, ℕ, IfOk, map};
+ghost use Rattle.std.specs.Prelude.{◌≡◌, ℕ, IfOk, map};
 ghost use Rattle.sqlite_value.specs.Order.{Row as Cells};
-ghost use Rattle.sqlite.specs.Held.{state};
 ghost use Rattle.sqlite.specs.State.{HasCleanDisk};
-ghost use Rattle.desk_adopting.specs.Reading.{Asks, HasRead};
+ghost use Rattle.desk_adopting.specs.Reading.{Asks};
+ghost use Rattle.desk_scan.specs.Asked.{HasAsked};
 ghost use Rattle.desk_scan.specs.Cells.{columns_of};
 ghost use Rattle.desk_scan.specs.Scans.{IsShown};
 
-use crate::query::query;
+use crate::source::Source;
 use desk_base::Items;
 use desk_rows::Fault;
 use desk_snapshot::Listed;
 use desk_sorted::Keyed;
-use sqlite::{Alter, Connection, Row};
+use sqlite::Row;
 use std::alloc::Global;
 
 /// A row of one of the desk's tables as it stands.
@@ -41,36 +41,38 @@ fn read_all<T: Stored + Drop>(alloc: Global, rows: &[Row]) -> Result<Vec<T>, Fau
 }
 
 /// The rows that a query shows.
-fn scan<T: Stored + Drop, S: Alter>(
+fn scan<T: Stored + Drop, R: Source>(
     alloc: Global,
-    conn: &mut Connection<S>,
+    source: &mut R,
     sql: &str,
 ) -> Result<Vec<T>, Fault>
-    requires { conn.old.in_transaction ≡ false }
-    ensures shown { HasCleanDisk (state S.Store conn.new)
-        → IfOk result (λ rows. IsShown sql.now T.width T.cells rows.items (state S.Store conn.old)
-        (state S.Store conn.new)) }
-    ensures read { Asks sql.now → HasRead (state S.Store conn.old) (state S.Store conn.new) result }
-    ensures mode { conn.new.in_transaction ≡ false }
+    requires { R.is_ready source.old }
+    ensures shown { HasCleanDisk (R.shows source.new)
+        → IfOk result (λ rows. IsShown sql.now T.width T.cells rows.items (R.shows source.old)
+        (R.shows source.new)) }
+    ensures asked { Asks sql.now → HasAsked (R.shows source.old) (R.shows source.new) result }
+    ensures ready { R.is_ready source.new }
+    ensures same_reference { R.name source.new ≡ R.name source.old }
 {
-    let rows = query(conn, sql, &[])?;
+    let rows = source.query(sql)?;
     read_all(alloc, &rows)
 }
 
 /// The rows that a query shows.
-pub(crate) fn items<T: Stored + Drop, S: Alter>(
+pub(crate) fn items<T: Stored + Drop, R: Source>(
     alloc: Global,
-    conn: &mut Connection<S>,
+    source: &mut R,
     sql: &str,
 ) -> Result<Items<T>, Fault>
-    requires { conn.old.in_transaction ≡ false }
-    ensures shown { HasCleanDisk (state S.Store conn.new)
-        → IfOk result (λ rows. IsShown sql.now T.width T.cells rows (state S.Store conn.old)
-        (state S.Store conn.new)) }
-    ensures read { Asks sql.now → HasRead (state S.Store conn.old) (state S.Store conn.new) result }
-    ensures mode { conn.new.in_transaction ≡ false }
+    requires { R.is_ready source.old }
+    ensures shown { HasCleanDisk (R.shows source.new)
+        → IfOk result (λ rows. IsShown sql.now T.width T.cells rows (R.shows source.old)
+        (R.shows source.new)) }
+    ensures asked { Asks sql.now → HasAsked (R.shows source.old) (R.shows source.new) result }
+    ensures ready { R.is_ready source.new }
+    ensures same_reference { R.name source.new ≡ R.name source.old }
 {
-    Ok(Items::from_vec(scan(alloc, conn, sql)?))
+    Ok(Items::from_vec(scan(alloc, source, sql)?))
 }
 
 /// Rows as a list that is searched by their keys.
@@ -85,18 +87,19 @@ fn listed_from<T: Keyed + Drop>(alloc: Global, rows: Vec<T>) -> Result<Listed<T>
 }
 
 /// The rows that a query shows, as a list that is searched by their keys.
-pub(crate) fn listed<T: Stored + Keyed + Drop, S: Alter>(
+pub(crate) fn listed<T: Stored + Keyed + Drop, R: Source>(
     alloc: Global,
-    conn: &mut Connection<S>,
+    source: &mut R,
     sql: &str,
 ) -> Result<Listed<T>, Fault>
-    requires { conn.old.in_transaction ≡ false }
-    ensures shown { HasCleanDisk (state S.Store conn.new)
-        → IfOk result (λ rows. IsShown sql.now T.width T.cells rows (state S.Store conn.old)
-        (state S.Store conn.new)) }
-    ensures read { Asks sql.now → HasRead (state S.Store conn.old) (state S.Store conn.new) result }
-    ensures mode { conn.new.in_transaction ≡ false }
+    requires { R.is_ready source.old }
+    ensures shown { HasCleanDisk (R.shows source.new)
+        → IfOk result (λ rows. IsShown sql.now T.width T.cells rows (R.shows source.old)
+        (R.shows source.new)) }
+    ensures asked { Asks sql.now → HasAsked (R.shows source.old) (R.shows source.new) result }
+    ensures ready { R.is_ready source.new }
+    ensures same_reference { R.name source.new ≡ R.name source.old }
 {
-    let rows = scan(alloc, conn, sql)?;
+    let rows = scan(alloc, source, sql)?;
     listed_from(alloc, rows)
 }

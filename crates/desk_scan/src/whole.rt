@@ -9,6 +9,7 @@ ghost use Rattle.desk_history.specs.Laws.{AreSortedAsListed};
 ghost use Rattle.desk_layout.specs.Held.{seen_of};
 ghost use Rattle.desk_layout.specs.Layout.{desk_schema};
 ghost use Rattle.desk_snapshot.specs.Tables.{snapshot_of};
+ghost use Rattle.desk_scan.specs.Asked.{HasAsked};
 ghost use Rattle.desk_scan.specs.Parts.{HasCatalogues, HasDocuments, HasDuties, HasOffice, HasReleases, OfCatalogues, OfDocuments, OfDuties, OfOffice, OfReleases, joined_of};
 ghost use Rattle.desk_scan.specs.Scans.{IsRead, IsSnapshot};
 
@@ -17,9 +18,10 @@ use crate::documents::{DocumentPart, documents};
 use crate::duties::{DutyPart, duties};
 use crate::office::{OfficePart, office};
 use crate::releases::{ReleasePart, releases};
+use crate::source::Source;
 use desk_rows::Fault;
 use desk_snapshot::Snapshot;
-use sqlite::{Alter, Connection};
+use sqlite::{Alter, Connection, Transaction};
 use std::alloc::Global;
 
 /// The catalogue, the documents, and what the office decided of them.
@@ -38,35 +40,37 @@ struct SecondPart {
 }
 
 /// The tables of the first part, read.
-fn first_part<S: Alter>(alloc: Global, conn: &mut Connection<S>) -> Result<FirstPart, Fault>
-    requires { conn.old.in_transaction ≡ false }
+fn first_part<R: Source>(alloc: Global, source: &mut R) -> Result<FirstPart, Fault>
+    requires { R.is_ready source.old }
     ensures ok { IfOk result (λ part. IsRead (λ db. HasCatalogues part.catalogues db
         × (HasDocuments part.documents db × HasOffice part.office db))
         (λ t. OfCatalogues part.catalogues t
-        × (OfDocuments part.documents t × OfOffice part.office t)) (state S.Store conn.old)
-        (state S.Store conn.new)) }
-    ensures read { HasRead (state S.Store conn.old) (state S.Store conn.new) result }
-    ensures mode { conn.new.in_transaction ≡ false }
+        × (OfDocuments part.documents t × OfOffice part.office t)) (R.shows source.old)
+        (R.shows source.new)) }
+    ensures asked { HasAsked (R.shows source.old) (R.shows source.new) result }
+    ensures ready { R.is_ready source.new }
+    ensures same_reference { R.name source.new ≡ R.name source.old }
 {
     Ok(FirstPart {
-        catalogues: catalogues(alloc, conn)?,
-        documents: documents(alloc, conn)?,
-        office: office(alloc, conn)?,
+        catalogues: catalogues(alloc, source)?,
+        documents: documents(alloc, source)?,
+        office: office(alloc, source)?,
     })
 }
 
 /// The tables of the second part, read.
-fn second_part<S: Alter>(alloc: Global, conn: &mut Connection<S>) -> Result<SecondPart, Fault>
-    requires { conn.old.in_transaction ≡ false }
+fn second_part<R: Source>(alloc: Global, source: &mut R) -> Result<SecondPart, Fault>
+    requires { R.is_ready source.old }
     ensures ok { IfOk result (λ part. IsRead (λ db. HasReleases part.releases db × HasDuties part.duties db)
-        (λ t. OfReleases part.releases t × OfDuties part.duties t) (state S.Store conn.old)
-        (state S.Store conn.new)) }
-    ensures read { HasRead (state S.Store conn.old) (state S.Store conn.new) result }
-    ensures mode { conn.new.in_transaction ≡ false }
+        (λ t. OfReleases part.releases t × OfDuties part.duties t) (R.shows source.old)
+        (R.shows source.new)) }
+    ensures asked { HasAsked (R.shows source.old) (R.shows source.new) result }
+    ensures ready { R.is_ready source.new }
+    ensures same_reference { R.name source.new ≡ R.name source.old }
 {
     Ok(SecondPart {
-        releases: releases(alloc, conn)?,
-        duties: duties(alloc, conn)?,
+        releases: releases(alloc, source)?,
+        duties: duties(alloc, source)?,
     })
 }
 
@@ -124,6 +128,20 @@ fn joined(first: FirstPart, second: SecondPart) -> Snapshot
     }
 }
 
+/// All rows of a desk's tables.
+fn read_whole<R: Source>(alloc: Global, source: &mut R) -> Result<Snapshot, Fault>
+    requires { R.is_ready source.old }
+    ensures ok { IfOk result (λ s. IsRead (IsSnapshot s) (λ t. AreSortedAsListed t → s ≡ snapshot_of t)
+        (R.shows source.old) (R.shows source.new)) }
+    ensures asked { HasAsked (R.shows source.old) (R.shows source.new) result }
+    ensures ready { R.is_ready source.new }
+    ensures same_reference { R.name source.new ≡ R.name source.old }
+{
+    let first = first_part(alloc, source)?;
+    let second = second_part(alloc, source)?;
+    Ok(joined(first, second))
+}
+
 /// Reads all rows of a desk's tables, each table in the order of its key.
 ///
 /// Where the connection shows a database with a desk's schema, whatever its rows, the snapshot has them (`raw`); where it holds a
@@ -139,7 +157,21 @@ pub fn snapshot<S: Alter>(alloc: Global, conn: &mut Connection<S>) -> Result<Sna
     ensures read { HasRead (state S.Store conn.old) (state S.Store conn.new) result }
     ensures mode { conn.new.in_transaction ≡ false }
 {
-    let first = first_part(alloc, conn)?;
-    let second = second_part(alloc, conn)?;
-    Ok(joined(first, second))
+    let _settled = conn.is_autocommit();
+    read_whole(alloc, conn)
+}
+
+/// Reads all rows of a desk's tables inside a transaction, as `snapshot` does: of what the transaction shows.
+///
+/// The transaction goes on. After a fault it may be undone.
+pub fn snapshot_inside<S: Alter>(
+    alloc: Global,
+    tx: &mut Transaction<'_, S>,
+) -> Result<Snapshot, Fault>
+    ensures ok { IfOk result (λ s. IsRead (IsSnapshot s) (λ t. AreSortedAsListed t → s ≡ snapshot_of t)
+        (state S.Store tx.old.conn.now) (state S.Store tx.new.conn.now)) }
+    ensures asked { HasAsked (state S.Store tx.old.conn.now) (state S.Store tx.new.conn.now) result }
+    ensures same_reference { tx.new.conn.ghost_name ≡ tx.old.conn.ghost_name }
+{
+    read_whole(alloc, tx)
 }

@@ -1,4 +1,4 @@
-mod Inside
+pub mod Inside
 mod Grown
 mod Inserts
 mod Deletes
@@ -7,6 +7,6 @@ mod Lists
 mod Moves
 mod Applied
 mod Commits
-mod Declared
-mod Declarations
+pub mod Declared
+pub mod Declarations
 mod Empty

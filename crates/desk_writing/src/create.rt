@@ -16,6 +16,14 @@ use sqlite::{Alter, Connection, Transaction};
 use sqlite_schema::names::same_name;
 use sqlite_schema::schema::Schema;
 
+/// The statement that declares the profiles of documents.
+pub const READING_TABLE: &str =
+    "CREATE TABLE reading (document INTEGER PRIMARY KEY, profile INTEGER NOT NULL) STRICT";
+
+/// The statement that declares the last days of waivers.
+pub const WAIVER_TABLE: &str =
+    "CREATE TABLE waiver (duty INTEGER NOT NULL, step INTEGER NOT NULL, last_day TEXT NOT NULL, PRIMARY KEY (duty, step)) STRICT";
+
 /// The statements that declare the tables.
 const TABLES: [&str; 16] = [
     "CREATE TABLE meta (version INTEGER PRIMARY KEY) STRICT",
@@ -32,8 +40,8 @@ const TABLES: [&str; 16] = [
     "CREATE TABLE frozen (release TEXT NOT NULL, document INTEGER NOT NULL, package TEXT NOT NULL, term TEXT NOT NULL, rule TEXT NOT NULL, PRIMARY KEY (release, document, package, term)) STRICT",
     "CREATE TABLE duty (number INTEGER PRIMARY KEY, release TEXT NOT NULL, document INTEGER NOT NULL, package TEXT NOT NULL, term TEXT NOT NULL, code TEXT NOT NULL, rule TEXT NOT NULL, state TEXT NOT NULL, UNIQUE (release, document, package, term, code)) STRICT",
     "CREATE TABLE change (duty INTEGER NOT NULL, step INTEGER NOT NULL, day TEXT NOT NULL, word TEXT NOT NULL, body TEXT NOT NULL, PRIMARY KEY (duty, step)) STRICT",
-    "CREATE TABLE reading (document INTEGER PRIMARY KEY, profile INTEGER NOT NULL) STRICT",
-    "CREATE TABLE waiver (duty INTEGER NOT NULL, step INTEGER NOT NULL, last_day TEXT NOT NULL, PRIMARY KEY (duty, step)) STRICT",
+    READING_TABLE,
+    WAIVER_TABLE,
 ];
 
 /// Why no tables were created.

@@ -17,5 +17,6 @@ mod statement;
 mod transaction;
 mod writable;
 
-pub use create::{Refused, create_tables};
+pub use create::{READING_TABLE, Refused, WAIVER_TABLE, create_tables};
+pub use statement::execute;
 pub use transaction::commit;

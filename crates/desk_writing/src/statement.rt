@@ -11,8 +11,8 @@ use desk_rows::Fault;
 use sqlite::{Alter, Transaction};
 use sqlite_value::value::ValueRef;
 
-/// Runs a statement.
-pub(crate) fn execute<S: Alter>(
+/// Runs a statement. A fault tells want of memory, or that the database refused.
+pub fn execute<S: Alter>(
     tx: &mut Transaction<'_, S>,
     sql: &str,
     params: &[ValueRef<'_>],

@@ -17,6 +17,10 @@ returns-clause-told g c = λ clean.
     let rows = c.in_ok-rows.rows.items in
     (rows, answers version_text [] old new version_asks rows (c.in_ok-rows.ensures.shown clean), sym (c.version_in.ensures ∙ ap version_in c.deref.ensures.value))
 
+pub returns-clause-shown : goal.returns-clause-shown
+returns-clause-shown g c = λ clean.
+    (c.in_ok-rows.rows.items, c.in_ok-rows.ensures.shown clean, sym (c.version_in.ensures ∙ ap version_in c.deref.ensures.value))
+
 pub returns-clause-held : goal.returns-clause-held
 returns-clause-held g c =
     let old = state g.S.Store c.args.conn.now in

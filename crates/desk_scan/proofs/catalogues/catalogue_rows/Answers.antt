@@ -1,9 +1,8 @@
-use Rattle.sqlite.specs.Held.{state}
 use Rattle.desk_scan.proofs.CatalogueQueries.{catalogue_asks, catalogue_read}
 use Rattle.desk_scan.proofs.catalogues.catalogue_rows.Goals as goal
 
 pub returns-clause-ok : goal.returns-clause-ok
-returns-clause-ok g c = catalogue_read (state g.S.Store c.args.conn.now) (state g.S.Store c.items.new.conn) c.items.result (c.items.ensures.read catalogue_asks) c.items.ensures.shown
+returns-clause-ok g c = catalogue_read (g.R.Source.shows c.args.source.now) (g.R.Source.shows c.items.new.source) c.items.result (c.items.ensures.asked catalogue_asks) c.items.ensures.shown
 
-pub returns-clause-read : goal.returns-clause-read
-returns-clause-read g c = c.items.ensures.read catalogue_asks
+pub returns-clause-asked : goal.returns-clause-asked
+returns-clause-asked g c = c.items.ensures.asked catalogue_asks

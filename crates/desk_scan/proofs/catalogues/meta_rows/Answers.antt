@@ -1,9 +1,8 @@
-use Rattle.sqlite.specs.Held.{state}
 use Rattle.desk_scan.proofs.CatalogueQueries.{meta_asks, meta_read}
 use Rattle.desk_scan.proofs.catalogues.meta_rows.Goals as goal
 
 pub returns-clause-ok : goal.returns-clause-ok
-returns-clause-ok g c = meta_read (state g.S.Store c.args.conn.now) (state g.S.Store c.items.new.conn) c.items.result (c.items.ensures.read meta_asks) c.items.ensures.shown
+returns-clause-ok g c = meta_read (g.R.Source.shows c.args.source.now) (g.R.Source.shows c.items.new.source) c.items.result (c.items.ensures.asked meta_asks) c.items.ensures.shown
 
-pub returns-clause-read : goal.returns-clause-read
-returns-clause-read g c = c.items.ensures.read meta_asks
+pub returns-clause-asked : goal.returns-clause-asked
+returns-clause-asked g c = c.items.ensures.asked meta_asks
