@@ -2,3 +2,4 @@ mod Counted
 mod Bodies
 mod Audited
 mod Vetted
+mod Migrated

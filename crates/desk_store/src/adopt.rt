@@ -102,7 +102,7 @@ fn read_tallies<S: Alter>(alloc: Global, conn: &mut Connection<S>) -> Result<Opt
 }
 
 /// What a store keeps beside its tables, read from a database, if its rows can be counted.
-fn read_beside<S: Alter>(
+pub(crate) fn read_beside<S: Alter>(
     alloc: Global,
     conn: &mut Connection<S>,
 ) -> Result<Option<(Counts, Items<Text>, Tallies)>, Fault>

@@ -13,18 +13,24 @@ ghost use Rattle.desk_texts.specs.Right.{AreRight};
 ghost use Rattle.desk_writing.specs.Creating.{has_meta};
 ghost use Rattle.desk_writing.specs.Written.{Undone};
 ghost use Rattle.desk_adopting.specs.Reading.{HasStayed};
+ghost use Rattle.desk_adopting.specs.Older.{IsOlderContent};
 ghost use Rattle.desk_adopting.specs.Version.{IsContent};
+ghost use Rattle.desk_adopting.specs.declared.older.OlderVersion.{OlderVersion as Version};
+ghost use Rattle.desk_migrating.specs.Migrating.{InOlderHistory, IsFault as IsMigrateFault, IsReason as IsMigrateReason, LeavesSome, Migrated};
 ghost use Rattle.desk_store.specs.Adopting.{IsEmpty, IsFault, IsLeft, IsReason, StandsEmpty};
 ghost use Rattle.desk_store.specs.Auditing.{IsAudit, Reports};
 ghost use Rattle.desk_store.specs.Counting.{known_by};
+ghost use Rattle.desk_store.specs.Migrating.{IsLeftBy};
 
 use crate::adopt::examine_desk;
 use crate::counts::Counts;
 use crate::fault::{AdoptFault, CreateFault};
+use crate::migrate::migrated;
 use crate::store::SqlStore;
-use desk_adopting::Content;
+use desk_adopting::{Content, OlderContent, OlderVersion};
 use desk_base::{Items, Text};
 use desk_core::{Answer, Command, Desk, Fault, Query, TableDesk};
+use desk_migrating::MigrateFault;
 use desk_rows::Profile;
 use desk_snapshot::AuditReport;
 use desk_tally::Tallies;
@@ -139,6 +145,40 @@ impl<S: Alter> SqlDesk<S> {
         }
     }
 
+    /// Gives a database that holds a desk's tables in version 1 or 2 those of version 3, as `migrate_tables` does, and adopts it. The
+    /// old version is answered beside the desk.
+    ///
+    /// It is refused, and as it was after a refusal, as `migrate_tables` says. A fault may come after the migration too: then the
+    /// database that is handed back shows the migrated tables.
+    pub fn migrate(
+        alloc: Global,
+        conn: Connection<S>,
+    ) -> Result<(SqlDesk<S>, OlderVersion), (MigrateFault, Connection<S>)>
+        requires { conn.in_transaction ≡ false }
+        ensures migrated { IfOk result (λ made. HasCleanDisk (state S.Store made.0.desk.store.conn)
+            → IsOlderContent (state S.Store conn) (OlderContent.Older made.1)
+            × Migrated made.1 (state S.Store conn) (state S.Store made.0.desk.store.conn)) }
+        ensures holds { IfOk result (λ made. (version : Version) → InOlderHistory version (λ w h.
+            (made.1 ≡ version) × (⟦<SqlDesk<S> as Desk>⟧.seen made.0).holds (tables w h))
+            (state S.Store conn) (state S.Store made.0.desk.store.conn)) }
+        ensures leaves { IfOk result (λ made. Survives (state S.Store conn) (state S.Store made.0.desk.store.conn)
+            (LeavesSome (state S.Store conn))) }
+        ensures reason { IfErr result (λ e. HasCleanDisk (state S.Store e.1)
+            → IsMigrateReason (state S.Store conn) e.0) }
+        ensures history { IfErr result (λ e. (version : Version) → InOlderHistory version (λ w h.
+            IsMigrateFault e.0) (state S.Store conn) (state S.Store e.1)) }
+        ensures left { IfErr result (λ e. IsLeftBy (state S.Store conn) (state S.Store e.1) e.0) }
+        ensures idle { IfErr result (λ e. e.1.in_transaction ≡ false) }
+    {
+        let mut conn = conn;
+        match migrated(alloc, &mut conn) {
+            Ok((version, (counts, forms, tallies))) => {
+                Ok((SqlDesk::over(alloc, conn, counts, forms, tallies), version))
+            }
+            Err(fault) => Err((fault, conn)),
+        }
+    }
+
     /// Audits the desk's tables as `audit_connection` does. The desk is as it was.
     pub fn audit(&mut self) -> Result<AuditReport, Fault>
         ensures told { IfOk result (IsAudit (state S.Store self.old.desk.store.conn)
@@ -152,9 +192,12 @@ impl<S: Alter> SqlDesk<S> {
         self.desk.store.audit()
     }
 
-    /// Hands the connection back, which shows the desk's rows and is in no transaction.
+    /// Hands the connection back, which shows the desk's rows and is in no transaction. A stop leaves of it what it could leave of the
+    /// desk.
     pub fn into_connection(self) -> Connection<S>
         ensures shows { Same (⟦<SqlDesk<S> as Desk>⟧.seen self) (seen_of (state S.Store result)) }
+        ensures leaves { (left : Trees) → (state S.Store result).may_leave left
+            → (⟦<SqlDesk<S> as Desk>⟧.seen self).leaves left }
         ensures idle { result.in_transaction ≡ false }
     {
         let SqlDesk { desk } = self;

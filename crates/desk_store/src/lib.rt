@@ -15,10 +15,12 @@ mod audit;
 mod counts;
 mod desk;
 mod fault;
+mod migrate;
 mod store;
 
 pub use audit::audit_connection;
 pub use counts::Counts;
 pub use desk::SqlDesk;
+pub use desk_migrating::MigrateFault;
 pub use fault::{AdoptFault, CreateFault};
 pub use store::SqlStore;

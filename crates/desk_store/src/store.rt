@@ -64,12 +64,15 @@ impl<S: Alter> SqlStore<S> {
         }
     }
 
-    /// Hands the connection back, which shows the store's rows and is in no transaction.
+    /// Hands the connection back, which shows the store's rows and is in no transaction. A stop leaves of it what it could leave of the
+    /// store.
     pub fn into_connection(self) -> Connection<S>
         ensures same { result ≡ self.conn }
         ensures idle { result.in_transaction ≡ false }
         ensures holds { (t : Tables) → (⟦<SqlStore<S> as Store>⟧.seen self).holds t
             → (seen_of (state S.Store result)).holds t }
+        ensures leaves { (left : Trees) → (state S.Store result).may_leave left
+            → (⟦<SqlStore<S> as Store>⟧.seen self).leaves left }
     {
         let SqlStore {
             alloc: _,

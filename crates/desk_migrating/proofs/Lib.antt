@@ -1,0 +1,6 @@
+mod Gained
+mod Rows
+mod Whole
+pub mod Ends
+mod Preparing
+mod Ending
