@@ -1,1 +1,2 @@
 mod AtHistory
+pub mod Leaving

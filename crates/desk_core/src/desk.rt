@@ -1,14 +1,15 @@
 //! A desk, and a run of commands over it.
 
-ghost use Rattle.std.specs.Prelude.{◌≡◌, false, List, [], IfOk, IfErr, OnErr, length};
+ghost use Rattle.std.specs.Prelude.{◌≡◌, true, false, List, [], IfOk, IfErr, OnErr, length};
+ghost use Rattle.std.specs.List.{list_all, list_any};
 ghost use Rattle.desk_rows.specs.Readings.{Readings};
 ghost use Rattle.desk_rows.specs.Faults.{MayFail, MayBecome, MayAllBecome};
 ghost use Rattle.desk_rows.specs.Tables.{Tables, tables};
 ghost use Rattle.desk_rows.specs.Answers.{IsHistory, refused_alone};
 ghost use Rattle.desk_rows.specs.Queries.{queried};
-ghost use Rattle.desk_rows.specs.Runs.{AreAnswers, IsAnswer, history_after, history_with};
-ghost use Rattle.desk_access.specs.Seen.{Seen, Looked, Minds};
-ghost use Rattle.desk_core.specs.Desks.{CarriesOut, InHistory};
+ghost use Rattle.desk_rows.specs.Runs.{AreAnswers, IsAnswer, history_after, history_with, is_kept};
+ghost use Rattle.desk_access.specs.Seen.{Seen, Looked, Minds, Spared};
+ghost use Rattle.desk_core.specs.Desks.{AllSpareStore, CarriesOut, InHistory, IsLeft, Secures, is_answered};
 ghost use Rattle.desk_memory.specs.Memory.{memory_seen};
 ghost use Rattle.desk_rows.specs.declared.command.Command.TheVariants.{Import};
 ghost use Rattle.desk_rows.specs.declared.command.StoreFault.{StoreFault};
@@ -154,6 +155,15 @@ fn apply_one<D: Desk>(desk: &mut D, command: &Command) -> Outcome
     ensures content { InHistory D.are_right
         (λ w h. (D.seen desk.new).holds (tables w (history_with h command.now result)))
         (D.seen desk.old) (D.seen desk.new) }
+    ensures keeps { is_kept result ≡ false → Spared (D.seen desk.old) (D.seen desk.new) }
+    ensures stays { is_answered result ≡ true → InHistory D.are_right
+        (λ w h. (D.seen desk.old).is_open → (D.seen desk.new).is_open)
+        (D.seen desk.old) (D.seen desk.new) }
+    ensures left { InHistory D.are_right (λ w h. (x : D.Left) → (D.seen desk.new).leaves x
+        → IsLeft D.stands w h (D.seen desk.old) command.now result x)
+        (D.seen desk.old) (D.seen desk.new) }
+    ensures alone { (w : Readings) → D.are_right w
+        → MayBecome (λ fault. refused_alone w command.now ≡ false) result }
     ensures fault { MayBecome D.tells result }
 {
     Outcome::from(desk.apply(command))
@@ -164,7 +174,9 @@ fn apply_one<D: Desk>(desk: &mut D, command: &Command) -> Outcome
 /// The room of the list of outcomes is taken first: where that fails, nothing is applied. Otherwise there is one outcome for each
 /// command. Whatever recorded history `h` the rows stood for before, each outcome that is no fault is the answer at its place, after
 /// `h` and the commands recorded before it; and at the end the rows are the tables of all recorded commands, which are a
-/// recorded history again. An outcome is a fault only where `apply` had it, so it is one that the desk may tell.
+/// recorded history again. Where none was recorded, the rows are as they were, whatever they are. Where no outcome is a fault and a
+/// stop left the rows before and no others, it leaves those at the end and no others. An outcome is a fault only where `apply` had it:
+/// it is one that the desk may tell, and none of the store where the command alone decides.
 pub fn run<D: Desk>(
     alloc: Global,
     desk: &mut D,
@@ -180,7 +192,15 @@ pub fn run<D: Desk>(
         InHistory D.are_right
         (λ w h. (D.seen desk.new).holds (tables w (history_after h commands.now outcomes.items)))
         (D.seen desk.old) (D.seen desk.new)) }
+    ensures keeps { IfOk result (λ outcomes. list_any is_kept outcomes.items ≡ false
+        → Spared (D.seen desk.old) (D.seen desk.new)) }
+    ensures secures { IfOk result (λ outcomes. list_all is_answered outcomes.items ≡ true
+        → InHistory D.are_right (λ w h. Secures D.stands (tables w h) (D.seen desk.old)
+        → Secures D.stands (tables w (history_after h commands.now outcomes.items)) (D.seen desk.new))
+        (D.seen desk.old) (D.seen desk.new)) }
     ensures honest { (D.seen desk.new).is_honest → (D.seen desk.old).is_honest }
+    ensures alone { (w : Readings) → D.are_right w
+        → IfOk result (λ outcomes. AllSpareStore w commands.now outcomes.items) }
     ensures faults { IfOk result (λ outcomes. MayAllBecome D.tells outcomes.items) }
     ensures count { IfOk result (λ outcomes. length outcomes.items ≡ length commands.now) }
     ensures err { OnErr result (desk.new ≡ desk.old) }

@@ -11,28 +11,32 @@ use Rattle.desk_http.specs.Serving.{Answers, IsReply, is_get}
 use Rattle.desk_json.specs.declared.request.Request as json_request
 use Rattle.desk_json.specs.declared.request.Request.TheVariants as line
 use Rattle.desk_rows.specs.Readings.{Readings}
+use Rattle.desk_rows.specs.Tables.{Tables}
 use Rattle.desk_rows.specs.declared.command.StoreFault.{StoreFault}
 use Rattle.desk_script.specs.Replies.{Replies, AreReplied}
 use Rattle.desk_script.specs.declared.answer.Reply as script_reply
 use Rattle.desk_script.specs.declared.answer.Reply.TheVariants as script
 
-module _ (is_right : Readings → Type 0) (tells : StoreFault → Type 0) {Left Desk : Type 0} (seen : Desk → Seen Left) where
+module _ (is_right : Readings → Type 0) (tells : StoreFault → Type 0) {Left Desk : Type 0} (stands : Left → Tables → Type 0) (seen : Desk → Seen Left) where
   -- no request leaves what is seen
-  nothing : (s : Seen Left) → Replies is_right tells s line.BadCommand script.NoRequest s
+  nothing : (s : Seen Left) → Replies is_right tells stands s line.BadCommand script.NoRequest s
   nothing s = record {
     fits = tt;
     honest = λ h. h;
     keeps = λ e. record { honest = λ h. h; holds = λ t x. x };
     answer = λ w right honest h ok holds. tt;
     content = λ w right honest h ok holds. holds;
+    alone = λ w right. tt;
+    stays = λ none w right honest h ok holds shown. shown;
+    leaves = λ w right honest h ok holds x left shown. left;
   }
 
-  unasked : (before after : Desk) → after ≡ before → Replies is_right tells (seen before) line.BadCommand script.NoRequest (seen after)
-  unasked before after same = subst (λ (d : Desk). Replies is_right tells (seen before) line.BadCommand script.NoRequest (seen d)) (sym same) (nothing (seen before))
+  unasked : (before after : Desk) → after ≡ before → Replies is_right tells stands (seen before) line.BadCommand script.NoRequest (seen after)
+  unasked before after same = subst (λ (d : Desk). Replies is_right tells stands (seen before) line.BadCommand script.NoRequest (seen d)) (sym same) (nothing (seen before))
 
   -- a request of a connection is replied as a line
-  as_line : (before after : Desk) (get : Bool) (r : Reply) (q : Request) → Answers is_right tells seen get before r q after
-      → Replies is_right tells (seen before) (line_of q) (line_reply r) (seen after)
+  as_line : (before after : Desk) (get : Bool) (r : Reply) (q : Request) → Answers is_right tells stands seen get before r q after
+      → Replies is_right tells stands (seen before) (line_of q) (line_reply r) (seen after)
   as_line before after get (Became o s short) (request.Act c) a = a.2
   as_line before after get (Became o s short) (request.Ask c shape) a = a.2
   as_line before after get (Became o s short) request.NoRoute a = absurd a
@@ -56,8 +60,8 @@ module _ (is_right : Readings → Type 0) (tells : StoreFault → Type 0) {Left 
   as_line before after get Memory q a = absurd a
   as_line before after get (Bad status) q a = absurd a
 
-  one : (before after : Desk) (bytes : List ℕ) (r : Reply) → IsReply is_right tells seen before bytes r after
-      → (q : json_request.Request) × IsLineOf bytes r q × Replies is_right tells (seen before) q (line_reply r) (seen after)
+  one : (before after : Desk) (bytes : List ℕ) (r : Reply) → IsReply is_right tells stands seen before bytes r after
+      → (q : json_request.Request) × IsLineOf bytes r q × Replies is_right tells stands (seen before) q (line_reply r) (seen after)
   one before after bytes Memory a = (line.BadCommand, refl, unasked before after a)
   one before after bytes (Bad status) a = (line.BadCommand, (a.0, refl), unasked before after a.1)
   one before after bytes (Became o s short) (m, t, b, x, a) =
@@ -70,8 +74,8 @@ module _ (is_right : Readings → Type 0) (tells : StoreFault → Type 0) {Left 
       (line_of (request_for m t b), (m, t, b, x, refl), as_line before after (is_get m) NotText (request_for m t b) a)
 
   -- the lines that connections are
-  lines_of : (before : Desk) (cs : List Connection) (after : Desk) → AreAnswered is_right tells seen before cs after
-      → (qs : List json_request.Request) × (ps : List script_reply.Reply) × AreLines cs qs ps × AreReplied is_right tells seen before qs ps after
+  lines_of : (before : Desk) (cs : List Connection) (after : Desk) → AreAnswered is_right tells stands seen before cs after
+      → (qs : List json_request.Request) × (ps : List script_reply.Reply) × AreLines cs qs ps × AreReplied is_right tells stands seen before qs ps after
   lines_of before [] after same = ([], [], tt, same)
   lines_of before (c ∷ cs) after (between, first, rest) =
       let line = one before between c.bytes first.reply first.is_reply in
@@ -82,8 +86,8 @@ module _ (is_right : Readings → Type 0) (tells : StoreFault → Type 0) {Left 
         (between, line.2, more.3),
       )
 
-  pub AreServed-of : (before : Desk) (cs : List Connection) (after : Desk) → AreAnswered is_right tells seen before cs after
-      → AreServed is_right tells seen before cs after
+  pub AreServed-of : (before : Desk) (cs : List Connection) (after : Desk) → AreAnswered is_right tells stands seen before cs after
+      → AreServed is_right tells stands seen before cs after
   AreServed-of before cs after answered =
       let lines = lines_of before cs after answered in
       record { requests = lines.0; replies = lines.1; lines = lines.2; replied = lines.3 }

@@ -12,6 +12,7 @@ use Rattle.desk_http.specs.Serving.{IsAnswered}
 use Rattle.desk_json.specs.declared.request.Request as json_request
 use Rattle.desk_json.specs.declared.request.Request.TheVariants as line
 use Rattle.desk_rows.specs.Readings.{Readings}
+use Rattle.desk_rows.specs.Tables.{Tables}
 use Rattle.desk_rows.specs.declared.command.StoreFault.{StoreFault}
 use Rattle.desk_script.specs.Replies.{AreReplied}
 use Rattle.desk_script.specs.declared.answer.Reply as script_reply
@@ -51,16 +52,16 @@ AreLines [] [] [] = Unit {0}
 AreLines (c ∷ cs) (q ∷ qs) (p ∷ ps) = IsLine c q p × AreLines cs qs ps
 AreLines _ _ _ = ⊥
 
-module _ (is_right : Readings → Type 0) (tells : StoreFault → Type 0) {Left Desk : Type 0} (seen : Desk → Seen Left) where
+module _ (is_right : Readings → Type 0) (tells : StoreFault → Type 0) {Left Desk : Type 0} (stands : Left → Tables → Type 0) (seen : Desk → Seen Left) where
   -- connections are answered one after the other, each on the desk as the ones before it left it
   abbrev pub AreAnswered : Desk → List Connection → Desk → Type 0
   AreAnswered before [] after = before ≡ after
   AreAnswered before (c ∷ cs) after =
-      (between : Desk) × IsAnswered is_right tells seen before c.bytes c.told between × AreAnswered between cs after
+      (between : Desk) × IsAnswered is_right tells stands seen before c.bytes c.told between × AreAnswered between cs after
 
   -- connections are replied as lines of a script, one after the other, whose commands are a run of the desk
   pub record AreServed (before : Desk) (cs : List Connection) (after : Desk) : Type 0 where
     pub requests : List json_request.Request
     pub replies : List script_reply.Reply
     pub lines : AreLines cs requests replies
-    pub replied : AreReplied is_right tells seen before requests replies after
+    pub replied : AreReplied is_right tells stands seen before requests replies after

@@ -22,6 +22,7 @@ use Rattle.desk_http.specs.declared.serving.Served.TheVariants.{Replied, Nothing
 use Rattle.desk_access.specs.Seen.{Seen}
 use Rattle.desk_json.specs.declared.request.Request.TheVariants as line
 use Rattle.desk_rows.specs.Readings.{Readings}
+use Rattle.desk_rows.specs.Tables.{Tables}
 use Rattle.desk_rows.specs.declared.command.StoreFault.{StoreFault}
 use Rattle.desk_script.specs.Replies.{Replies}
 use Rattle.desk_script.specs.declared.answer.Reply.TheVariants as script
@@ -36,14 +37,14 @@ Wants (wanted.Bad status) (refused given) = status ≡ given
 Wants wanted.Memory asks = Unit {0}
 Wants _ _ = ⊥
 
-module _ (is_right : Readings → Type 0) (tells : StoreFault → Type 0) {Left Desk : Type 0} (seen : Desk → Seen Left) where
+module _ (is_right : Readings → Type 0) (tells : StoreFault → Type 0) {Left Desk : Type 0} (stands : Left → Tables → Type 0) (seen : Desk → Seen Left) where
   -- A request gets this reply, and leads from one desk to the other: a command or a query as a line of a script does; anything else
   -- leaves the desk. An answer is written in the shape that is asked for, that of a command in JSON.
   abbrev pub Answers : Bool → Desk → Reply → Request → Desk → Type 0
   Answers get before (reply.Became o given short) (Act c) after =
-      (given ≡ Json) × (short ≡ get) × Replies is_right tells (seen before) (line.Act c) (script.Became o) (seen after)
+      (given ≡ Json) × (short ≡ get) × Replies is_right tells stands (seen before) (line.Act c) (script.Became o) (seen after)
   Answers get before (reply.Became o given short) (Ask q shape) after =
-      (given ≡ shape) × (short ≡ get) × Replies is_right tells (seen before) (line.Ask q) (script.Became o) (seen after)
+      (given ≡ shape) × (short ≡ get) × Replies is_right tells stands (seen before) (line.Ask q) (script.Became o) (seen after)
   Answers get before reply.NoRoute NoRoute after = after ≡ before
   Answers get before reply.BadCommand BadCommand after = after ≡ before
   Answers get before reply.NotText NotText after = after ≡ before

@@ -10,7 +10,7 @@ ghost use Rattle.desk_script.specs.declared.answer.Reply.TheVariants as script;
 
 use desk_core::desk::Desk;
 use desk_http_head::{Framing, Received, Status, frame};
-use desk_http_requests::{Reply, Request, Shape, request_of};
+use desk_http_requests::{Reply, Request, RouteTable, Shape, request_of};
 use desk_rows::{Command, Outcome, Query};
 use std::alloc::Global;
 
@@ -32,7 +32,7 @@ fn is_get(method: &[u8]) -> bool
 }
 
 /// What bytes want that no more will follow.
-fn wanted_by(alloc: Global, bytes: &[u8]) -> Wanted
+fn wanted_by(alloc: Global, routes: &mut RouteTable, bytes: &[u8]) -> Wanted
     ensures { (f : Framed) × IsFraming bytes.now f × Wants result (closed f) }
 {
     match frame(bytes) {
@@ -43,7 +43,7 @@ fn wanted_by(alloc: Global, bytes: &[u8]) -> Wanted
             target,
             body,
             ..
-        } => match request_of(alloc, method, target, body) {
+        } => match request_of(alloc, routes, method, target, body) {
             Ok(request) => Wanted::Request(request, is_get(method)),
             Err(_) => Wanted::Memory,
         },
@@ -52,7 +52,7 @@ fn wanted_by(alloc: Global, bytes: &[u8]) -> Wanted
 
 /// Applies a command, and hands on the bytes of an import, so that they are not copied.
 fn applied<D: Desk>(desk: &mut D, command: Command) -> Outcome
-    ensures { Replies D.are_right D.tells (D.seen desk.old) (Act command) (script.Became result) (D.seen desk.new) }
+    ensures { Replies D.are_right D.tells D.stands (D.seen desk.old) (Act command) (script.Became result) (D.seen desk.new) }
 {
     match command {
         Command::Import { bytes, profile } => Outcome::from(desk.import(bytes, profile)),
@@ -62,14 +62,14 @@ fn applied<D: Desk>(desk: &mut D, command: Command) -> Outcome
 
 /// Asks a question.
 fn asked<D: Desk>(desk: &mut D, query: &Query) -> Outcome
-    ensures { Replies D.are_right D.tells (D.seen desk.old) (Ask query.now) (script.Became result) (D.seen desk.new) }
+    ensures { Replies D.are_right D.tells D.stands (D.seen desk.old) (Ask query.now) (script.Became result) (D.seen desk.new) }
 {
     Outcome::from(desk.ask(query))
 }
 
 /// The reply to a request.
 fn reply_to<D: Desk>(desk: &mut D, request: Request, is_get: bool) -> Reply
-    ensures { Answers D.are_right D.tells D.seen is_get desk.old result request desk.new }
+    ensures { Answers D.are_right D.tells D.stands D.seen is_get desk.old result request desk.new }
 {
     match request {
         Request::Act(command) => Reply::Became(applied(desk, command), Shape::Json, is_get),
@@ -83,7 +83,7 @@ fn reply_to<D: Desk>(desk: &mut D, request: Request, is_get: bool) -> Reply
 /// The reply to what is wanted.
 fn reply_for<D: Desk>(desk: &mut D, wanted: Wanted) -> Reply
     ensures { (bytes : List ℕ) (asks : Asked) → IsAsked bytes asks → Wants wanted asks
-        → IsReply D.are_right D.tells D.seen desk.old bytes result desk.new }
+        → IsReply D.are_right D.tells D.stands D.seen desk.old bytes result desk.new }
 {
     match wanted {
         Wanted::Request(request, is_get) => reply_to(desk, request, is_get),
@@ -93,16 +93,21 @@ fn reply_for<D: Desk>(desk: &mut D, wanted: Wanted) -> Reply
 }
 
 /// The reply to what was received, if any byte was. The bytes are let go of before the desk answers, which can use their memory.
-pub fn answer<D: Desk>(alloc: Global, desk: &mut D, received: Received) -> Option<Reply>
+pub fn answer<D: Desk>(
+    alloc: Global,
+    routes: &mut RouteTable,
+    desk: &mut D,
+    received: Received,
+) -> Option<Reply>
     ensures { (bytes : List ℕ) → IsReceived bytes received → MatchOption result
         ((length bytes ≡ 0) × (desk.new ≡ desk.old))
-        (λ reply. (0 < length bytes) × IsReply D.are_right D.tells D.seen desk.old bytes reply desk.new) }
+        (λ reply. (0 < length bytes) × IsReply D.are_right D.tells D.stands D.seen desk.old bytes reply desk.new) }
 {
     match received {
         Received::Nothing => None,
         Received::Memory => Some(Reply::Memory),
         Received::Bytes(bytes) => {
-            let wanted = wanted_by(alloc, bytes.as_slice());
+            let wanted = wanted_by(alloc, routes, bytes.as_slice());
             drop(bytes);
             Some(reply_for(desk, wanted))
         }

@@ -9,6 +9,6 @@ use desk_core::desk::Desk;
 /// same requests: the commands among them are a run of the desk, and what is proved of its history holds of them.
 pub fn connections_are_lines<D: Desk>()
     ensures { (before : D) (connections : List Connection) (after : D)
-        → AreAnswered D.are_right D.tells D.seen before connections after
-        → AreServed D.are_right D.tells D.seen before connections after }
+        → AreAnswered D.are_right D.tells D.stands D.seen before connections after
+        → AreServed D.are_right D.tells D.stands D.seen before connections after }
 {}

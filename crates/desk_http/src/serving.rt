@@ -10,7 +10,7 @@ ghost use Rattle.desk_http.specs.Serving.{IsServed, IsStopped};
 use crate::answering::answer;
 use desk_core::desk::Desk;
 use desk_http_head::{ServeFault, Status, receive, send};
-use desk_http_requests::{Message, Reply, message_of, no_memory, no_store, no_text};
+use desk_http_requests::{Message, Reply, RouteTable, message_of, no_memory, no_store, no_text};
 use std::alloc::Global;
 use std::io::{Read, Write};
 
@@ -51,12 +51,35 @@ fn write_reply<W: Write>(alloc: Global, writer: &mut W, reply: &Reply) -> Result
     }
 }
 
-/// Serves the one request of a connection: reads it, has the desk answer it, and writes the reply.
+/// Serves the one request of a connection: reads it, has the desk answer it, and writes the reply. The table of routes is that of the
+/// connections before.
 ///
 /// What is replied is said by the bytes alone, however they come in pieces; 400 where some came and they end in a part of a request;
 /// nothing where none came. A command is applied once, or not at all where the reply is 503 with `memory`. After a fault of the
 /// reader, or too many reads, nothing was written and the desk is as it was; after one of the writer a front of the reply was
 /// written, and an accepted command stands. The reader isn't read past the piece with which the request is whole.
+pub fn serve_with<D: Desk, R: Read, W: Write>(
+    alloc: Global,
+    routes: &mut RouteTable,
+    desk: &mut D,
+    reader: &mut R,
+    writer: &mut W,
+) -> Result<Served, ServeFault>
+    ensures ok { IfOk result (λ served. (bytes : List ℕ) × AreLeft (R.remaining reader.old) bytes
+        × IsServed D.are_right D.tells D.stands D.seen desk.old bytes desk.new (W.contents writer.old) (W.contents writer.new) served) }
+    ensures fault { IfErr result (IsStopped D.are_right D.tells D.stands D.seen (R.remaining reader.old) (R.remaining reader.new)
+        desk.old desk.new (W.contents writer.old) (W.contents writer.new)) }
+    ensures prompt { IsPrompt (R.remaining reader.old) (R.remaining reader.new) }
+{
+    let received = receive(alloc, reader)?;
+    let Some(reply) = answer(alloc, routes, desk, received) else {
+        return Ok(Served::Nothing);
+    };
+    let status = write_reply(alloc, writer, &reply)?;
+    Ok(Served::Replied(status))
+}
+
+/// Serves the one request of a connection as `serve_with` does, with a table of routes of its own.
 pub fn serve_one<D: Desk, R: Read, W: Write>(
     alloc: Global,
     desk: &mut D,
@@ -64,15 +87,11 @@ pub fn serve_one<D: Desk, R: Read, W: Write>(
     writer: &mut W,
 ) -> Result<Served, ServeFault>
     ensures ok { IfOk result (λ served. (bytes : List ℕ) × AreLeft (R.remaining reader.old) bytes
-        × IsServed D.are_right D.tells D.seen desk.old bytes desk.new (W.contents writer.old) (W.contents writer.new) served) }
-    ensures fault { IfErr result (IsStopped D.are_right D.tells D.seen (R.remaining reader.old) (R.remaining reader.new)
+        × IsServed D.are_right D.tells D.stands D.seen desk.old bytes desk.new (W.contents writer.old) (W.contents writer.new) served) }
+    ensures fault { IfErr result (IsStopped D.are_right D.tells D.stands D.seen (R.remaining reader.old) (R.remaining reader.new)
         desk.old desk.new (W.contents writer.old) (W.contents writer.new)) }
     ensures prompt { IsPrompt (R.remaining reader.old) (R.remaining reader.new) }
 {
-    let received = receive(alloc, reader)?;
-    let Some(reply) = answer(alloc, desk, received) else {
-        return Ok(Served::Nothing);
-    };
-    let status = write_reply(alloc, writer, &reply)?;
-    Ok(Served::Replied(status))
+    let mut routes = RouteTable::new();
+    serve_with(alloc, &mut routes, desk, reader, writer)
 }

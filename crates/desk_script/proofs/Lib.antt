@@ -1,7 +1,8 @@
 mod Cutting
-mod Chains
+pub mod Chains
 mod Gathering
 mod Losing
 mod OneLine
 mod Progress
 mod Results
+pub mod Applied

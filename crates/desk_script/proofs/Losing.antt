@@ -1,15 +1,15 @@
 -- What is written of bytes where a writer fails.
-use Rattle.std.proofs.Common.{◌≡◌, ℕ, ◌-◌, List, [], ◌++◌, Option, Result, Ok, Err, length, take, drop, sym, ap, ◌∙◌, subst, append_assoc, append-nil, take-append-drop}
+use Rattle.std.proofs.Common.{◌≡◌, ℕ, ◌-◌, List, [], ◌++◌, Option, Result, Ok, Err, length, take, drop, refl, sym, ap, ◌∙◌, subst, append_assoc, append-nil, take-append-drop}
 use Rattle.std.specs.Prelude.{OnErr, IfErr}
 use Rattle.std.specs.Io.KnownBytes.{Appends, Keeps}
 use Rattle.std.proofs.KnownBytes.{Appends-kept, Appends-trans}
 use Rattle.std.proofs.lemmas.List.{take_rest}
 use Rattle.desk_script.specs.Faults.{IsOfReply, IsOfWriter}
-use Rattle.desk_script.specs.Losses.{AppendsFront, IsFrontOf, Loses}
+use Rattle.desk_script.specs.Losses.{AppendsFront, IsFrontOf, IsStopAt, Loses}
 use Rattle.desk_script.specs.Texts.{line_of}
 use Rattle.desk_script.specs.declared.answer.Reply.{Reply}
 use Rattle.desk_script.specs.declared.serving.ScriptFault.{ScriptFault}
-use Rattle.desk_script.specs.declared.serving.ScriptFault.TheVariants.{Read, Write, Turns, Memory}
+use Rattle.desk_script.specs.declared.serving.ScriptFault.TheVariants.{Read, Write, Turns, Memory, Refused, Failed}
 
 -- more of the bytes
 pub front_moved : (bytes front rest : List ℕ) (n : ℕ) → bytes ≡ front ++ rest → bytes ≡ (front ++ take n rest) ++ take (length rest - n) (drop n rest)
@@ -46,6 +46,8 @@ lost_line (Err Write) reply u v bytes is of front = record { front = front.0; lo
 lost_line (Err Read) reply u v bytes is of front = absurd of
 lost_line (Err Turns) reply u v bytes is of front = absurd of
 lost_line (Err Memory) reply u v bytes is of front = absurd of
+lost_line (Err Refused) reply u v bytes is of front = absurd of
+lost_line (Err Failed) reply u v bytes is of front = absurd of
 
 -- a reply is lost by a fault of its own
 pub lost_by : (fault : ScriptFault) (reply : Reply) (u v : Option (List ℕ)) → Loses fault reply u v → IsOfReply fault
@@ -53,3 +55,14 @@ lost_by Write reply u v h = tt
 lost_by Memory reply u v h = tt
 lost_by Read reply u v h = absurd h.lost
 lost_by Turns reply u v h = absurd h.lost
+lost_by Refused reply u v h = tt
+lost_by Failed reply u v h = tt
+
+-- a reply that is written, whose line isn't done, ends the script where it is to end there
+pub stopped_at : (fault : ScriptFault) (reply : Reply) (u v : Option (List ℕ)) → IsStopAt reply fault → Appends u v (line_of reply) → Loses fault reply u v
+stopped_at Refused reply u v at written = record { front = line_of reply; lost = (at, refl); written = written }
+stopped_at Failed reply u v at written = record { front = line_of reply; lost = (at, refl); written = written }
+stopped_at Read reply u v at written = absurd at
+stopped_at Write reply u v at written = absurd at
+stopped_at Turns reply u v at written = absurd at
+stopped_at Memory reply u v at written = absurd at

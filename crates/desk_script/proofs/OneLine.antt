@@ -1,12 +1,13 @@
 -- The reply to one line.
-use Rattle.std.proofs.Common.{◌≡◌, ℕ, ◌+◌, Bool, true, false, List, [], ◌∷◌, Option, length, take, refl, sym, ap, ◌∙◌, subst, arith, append-nil, inr}
+use Rattle.std.proofs.Common.{◌≡◌, ℕ, ◌+◌, Bool, true, false, List, [], ◌∷◌, Option, length, take, refl, sym, ap, ◌∙◌, subst, arith, append-nil, inl, inr}
 use Rattle.std.specs.Prelude.{if◌then◌else◌, nat_lt}
 use Rattle.std.specs.Io.KnownBytes.{Appends}
 use Rattle.std.proofs.lemmas.List.{take_all}
 use Rattle.desk_rows.specs.Readings.{Readings}
+use Rattle.desk_rows.specs.Tables.{Tables}
 use Rattle.desk_access.specs.Seen.{Seen, Spared}
-use Rattle.desk_rows.specs.declared.command.Fault.TheVariants.{Memory}
-use Rattle.desk_rows.specs.declared.command.Outcome.TheVariants.{Failed}
+use Rattle.desk_rows.specs.declared.command.Fault.TheVariants as fault_is
+use Rattle.desk_rows.specs.declared.command.Outcome.TheVariants as outcome_is
 use Rattle.desk_rows.specs.declared.command.StoreFault.{StoreFault}
 use Rattle.desk_json.specs.Requests.{request_in}
 use Rattle.desk_json.specs.declared.request.Request.{Request}
@@ -14,7 +15,7 @@ use Rattle.desk_json.specs.declared.request.Request.TheVariants.{Act, Ask, BadCo
 use Rattle.desk_script.specs.Gathered.{HasCome}
 use Rattle.desk_base.specs.Limits.{line_bytes}
 use Rattle.desk_script.specs.Lines.{request_at, request_of}
-use Rattle.desk_script.specs.Losses.{Loses}
+use Rattle.desk_script.specs.Losses.{AreDone, IfStop, Loses}
 use Rattle.desk_script.specs.Replies.{Replies}
 use Rattle.desk_script.specs.Script.{Serves, ServesUntil}
 use Rattle.desk_script.specs.Texts.{line_of, count_refused, count_failed}
@@ -23,7 +24,17 @@ use Rattle.desk_script.specs.declared.answer.Reply.TheVariants.{Became, NoReques
 use Rattle.desk_script.specs.declared.line.Line.{Line}
 use Rattle.desk_script.specs.declared.serving.ScriptEnd.{ScriptEnd}
 use Rattle.desk_script.specs.declared.serving.ScriptFault.{ScriptFault}
+use Rattle.desk_script.specs.declared.serving.ScriptFault.TheVariants.{Read, Write, Turns, Memory, Refused, Failed}
 use Rattle.desk_script.proofs.Chains.{AreReplied-one, Serves-none}
+
+-- of no lines none is undone
+none_done : (fault : ScriptFault) → IfStop (AreDone []) fault
+none_done Refused = (refl, refl)
+none_done Failed = (refl, refl)
+none_done Read = tt
+none_done Write = tt
+none_done Turns = tt
+none_done Memory = tt
 
 -- a text within the limit is kept whole
 kept_whole : (n : ℕ) (text : List ℕ) → nat_lt n (length text) ≡ false → take n text ≡ text
@@ -40,40 +51,76 @@ request_at-blank line text h blank = ap (λ (b : Bool). if b then [] else reques
 pub request_at-one : (line : Line) (text : List ℕ) → HasCome line text → line.is_blank ≡ false → request_at text ≡ request_of text ∷ []
 request_at-one line text h blank = ap (λ (b : Bool). if b then [] else request_of text ∷ []) (sym h.blank ∙ blank)
 
-module _ (is_right : Readings → Type 0) (tells : StoreFault → Type 0) {Left : Type 0} where
+module _ (is_right : Readings → Type 0) (tells : StoreFault → Type 0) {Left : Type 0} (stands : Left → Tables → Type 0) where
   -- nothing was done
   same_now : (now : Seen Left) → Spared now now
   same_now now = record { honest = λ h. h; holds = λ t held. held }
 
   -- memory is wanting to read a request
-  pub Replies-memory : (now : Seen Left) (request : Request) → Replies is_right tells now request (Became (Failed Memory)) now
-  Replies-memory now (Act c) = record { fits = tt; honest = λ h. h; keeps = λ none. same_now now; answer = λ w right clean h ok held. tt; content = λ w right clean h ok held. held }
-  Replies-memory now (Ask q) = record { fits = tt; honest = λ h. h; keeps = λ none. same_now now; answer = λ w right clean h ok held. tt; content = λ w right clean h ok held. held }
-  Replies-memory now BadCommand = record { fits = tt; honest = λ h. h; keeps = λ none. same_now now; answer = λ w right clean h ok held. tt; content = λ w right clean h ok held. held }
+  pub Replies-memory : (now : Seen Left) (request : Request) → Replies is_right tells stands now request (Became (outcome_is.Failed fault_is.Memory)) now
+  Replies-memory now (Act c) = record {
+    fits = tt;
+    honest = λ h. h;
+    keeps = λ none. same_now now;
+    answer = λ w right clean h ok held. tt;
+    content = λ w right clean h ok held. held;
+    alone = λ w right. tt;
+    stays = λ none. absurd (omega (arith, none));
+    leaves = λ w right clean h ok held x left shown. inl left;
+  }
+  Replies-memory now (Ask q) = record {
+    fits = tt;
+    honest = λ h. h;
+    keeps = λ none. same_now now;
+    answer = λ w right clean h ok held. tt;
+    content = λ w right clean h ok held. held;
+    alone = λ w right. tt;
+    stays = λ none. absurd (omega (arith, none));
+    leaves = λ w right clean h ok held x left shown. left;
+  }
+  Replies-memory now BadCommand = record {
+    fits = tt;
+    honest = λ h. h;
+    keeps = λ none. same_now now;
+    answer = λ w right clean h ok held. tt;
+    content = λ w right clean h ok held. held;
+    alone = λ w right. tt;
+    stays = λ none. absurd (omega (arith, none));
+    leaves = λ w right clean h ok held x left shown. left;
+  }
 
-  pub no_request : (now : Seen Left) → Replies is_right tells now BadCommand NoRequest now
-  no_request now = record { fits = tt; honest = λ h. h; keeps = λ none. same_now now; answer = λ w right clean h ok held. tt; content = λ w right clean h ok held. held }
+  pub no_request : (now : Seen Left) → Replies is_right tells stands now BadCommand NoRequest now
+  no_request now = record {
+    fits = tt;
+    honest = λ h. h;
+    keeps = λ none. same_now now;
+    answer = λ w right clean h ok held. tt;
+    content = λ w right clean h ok held. held;
+    alone = λ w right. tt;
+    stays = λ none w right clean h ok held shown. shown;
+    leaves = λ w right clean h ok held x left shown. left;
+  }
 
   -- a long line is no request
-  pub Replies-long : (now : Seen Left) (line : Line) (text : List ℕ) → HasCome line text → line.is_long ≡ true → Replies is_right tells now (request_of text) NoRequest now
+  pub Replies-long : (now : Seen Left) (line : Line) (text : List ℕ) → HasCome line text → line.is_long ≡ true → Replies is_right tells stands now (request_of text) NoRequest now
   Replies-long now line text h long =
-      subst (λ (b : Bool). Replies is_right tells now (if b then BadCommand else request_in text) NoRequest now) (sym (sym h.long ∙ long)) (no_request now)
+      subst (λ (b : Bool). Replies is_right tells stands now (if b then BadCommand else request_in text) NoRequest now) (sym (sym h.long ∙ long)) (no_request now)
 
-module _ (is_right : Readings → Type 0) (tells : StoreFault → Type 0) {Left Desk : Type 0} (seen : Desk → Seen Left) where
+module _ (is_right : Readings → Type 0) (tells : StoreFault → Type 0) {Left Desk : Type 0} (stands : Left → Tables → Type 0) (seen : Desk → Seen Left) where
   pub Serves-blank : (now : Desk) (w : Option (List ℕ)) (from : ScriptEnd) (line : Line) (text : List ℕ) → HasCome line text → line.is_blank ≡ true
-      → Serves is_right tells seen (request_at text) now now w w from from
+      → Serves is_right tells stands seen (request_at text) now now w w from from
   Serves-blank now w from line text h blank =
-      subst (λ (rs : List Request). Serves is_right tells seen rs now now w w from from) (sym (request_at-blank line text h blank)) (Serves-none is_right tells seen now w from)
+      subst (λ (rs : List Request). Serves is_right tells stands seen rs now now w w from from) (sym (request_at-blank line text h blank)) (Serves-none is_right tells stands seen now w from)
 
   pub Serves-one : (now after : Desk) (u v : Option (List ℕ)) (from to : ScriptEnd) (line : Line) (text : List ℕ) (reply : Reply) → HasCome line text → line.is_blank ≡ false
-      → Replies is_right tells (seen now) (request_of text) reply (seen after)
+      → Replies is_right tells stands (seen now) (request_of text) reply (seen after)
       → Appends u v (line_of reply) → to.refused ≡ from.refused + count_refused reply → to.failed ≡ from.failed + count_failed reply
-      → Serves is_right tells seen (request_at text) now after u v from to
+      → Serves is_right tells stands seen (request_at text) now after u v from to
   Serves-one now after u v from to line text reply h blank replies written refused failed =
-      subst (λ (rs : List Request). Serves is_right tells seen rs now after u v from to) (sym (request_at-one line text h blank))
+      subst (λ (rs : List Request). Serves is_right tells stands seen rs now after u v from to) (sym (request_at-one line text h blank))
       (record {
         replies = reply ∷ [];
-        replied = AreReplied-one is_right tells seen now after (request_of text) reply replies;
+        replied = AreReplied-one is_right tells stands seen now after (request_of text) reply replies;
         written = subst (λ (bs : List ℕ). Appends u v bs) (sym (append-nil (line_of reply))) written;
         refused = omega (arith, refused);
         failed = omega (arith, failed);
@@ -81,12 +128,12 @@ module _ (is_right : Readings → Type 0) (tells : StoreFault → Type 0) {Left 
 
   -- the reply to a line is lost
   pub ServesUntil-one : (fault : ScriptFault) (now after : Desk) (u v : Option (List ℕ)) (line : Line) (text : List ℕ) (reply : Reply) → HasCome line text → line.is_blank ≡ false
-      → Replies is_right tells (seen now) (request_of text) reply (seen after) → Loses fault reply u v
-      → ServesUntil is_right tells seen fault (request_at text) now after u v
+      → Replies is_right tells stands (seen now) (request_of text) reply (seen after) → Loses fault reply u v
+      → ServesUntil is_right tells stands seen fault (request_at text) now after u v
   ServesUntil-one fault now after u v line text reply h blank replies loses =
-      subst (λ (rs : List Request). ServesUntil is_right tells seen fault rs now after u v) (sym (request_at-one line text h blank))
+      subst (λ (rs : List Request). ServesUntil is_right tells stands seen fault rs now after u v) (sym (request_at-one line text h blank))
       (record {
         replies = reply ∷ [];
-        replied = AreReplied-one is_right tells seen now after (request_of text) reply replies;
-        told = inr (record { told = []; last = reply; are = refl; front = loses.front; lost = loses.lost; written = loses.written });
+        replied = AreReplied-one is_right tells stands seen now after (request_of text) reply replies;
+        told = inr (record { told = []; last = reply; are = refl; front = loses.front; lost = loses.lost; first = none_done fault; written = loses.written });
       })

@@ -7,18 +7,19 @@ use Rattle.desk_base.specs.Lines.{CutsInto, IsLine, LineText}
 use Rattle.desk_base.specs.declared.lines.LineEnd.{LineEnd}
 use Rattle.desk_base.specs.declared.lines.LineEnd.TheVariants.{Nothing}
 use Rattle.desk_rows.specs.Readings.{Readings}
+use Rattle.desk_rows.specs.Tables.{Tables}
 use Rattle.desk_rows.specs.declared.command.StoreFault.{StoreFault}
 use Rattle.desk_access.specs.Seen.{Seen}
 use Rattle.desk_json.specs.declared.request.Request.{Request}
 use Rattle.desk_script.specs.Gathered.{Shows}
 use Rattle.desk_script.specs.Lines.{BeginsWith, is_blank_line, request_at, request_of, requests_of}
-use Rattle.desk_script.specs.Losses.{IsOfLine}
-use Rattle.desk_script.specs.Script.{AreLeft, HasServed, IsCutOff, IsFront, IsFrontAt, IsPart, IsScript, Serves, ServesUntil}
+use Rattle.desk_script.specs.Losses.{IfStop, IsOfLine}
+use Rattle.desk_script.specs.Script.{AreLeft, HasServed, IsCutOff, IsFront, IsFrontAt, IsPart, IsScript, IsUncounted, Serves, ServesUntil}
 use Rattle.desk_script.specs.declared.line.Line.{Line}
 use Rattle.desk_script.specs.declared.serving.ScriptEnd.{ScriptEnd}
 use Rattle.desk_script.specs.declared.serving.ScriptFault.{ScriptFault}
 use Rattle.desk_script.proofs.Cutting.{BeginsWith-more, BeginsWith-append, CutsInto-append, requests_of-append}
-use Rattle.desk_script.proofs.Chains.{IsRun-of, Serves-none, Serves-then, ServesUntil-line, ServesUntil-then}
+use Rattle.desk_script.proofs.Chains.{HasRun-of, IsRun-of, Serves-none, Serves-then, ServesUntil-line, ServesUntil-then}
 use Rattle.desk_script.proofs.Gathering.{IsLine-of, no_lf-of}
 
 no_lines : All (λ (l : LineText). l.end ≢ Nothing) []
@@ -48,10 +49,10 @@ last_line number (b ∷ bs) no_lf =
       requests_of-one number (b ∷ bs) Nothing,
     )
 
-module _ (is_right : Readings → Type 0) (tells : StoreFault → Type 0) {Left Desk : Type 0} (seen : Desk → Seen Left) where
+module _ (is_right : Readings → Type 0) (tells : StoreFault → Type 0) {Left Desk : Type 0} (stands : Left → Tables → Type 0) (seen : Desk → Seen Left) where
   -- nothing came but a line so far
   pub HasServed-came : (number : ℕ) (came : List ℕ) (now : Desk) (w : Option (List ℕ)) (from : ScriptEnd) (line : Line) → Shows line came → All (λ b. b ≢ 10) came
-      → HasServed is_right tells seen number came now now w w from from line
+      → HasServed is_right tells stands seen number came now now w w from from line
   HasServed-came number came now w from line shows no_lf = record {
     lines = [];
     came = came;
@@ -59,13 +60,13 @@ module _ (is_right : Readings → Type 0) (tells : StoreFault → Type 0) {Left 
     fed = no_lines;
     no_lf = no_lf;
     shows = shows;
-    serves = Serves-none is_right tells seen now w from;
+    serves = Serves-none is_right tells stands seen now w from;
   }
 
   -- bytes among which there is no LF
   pub HasServed-run : (number : ℕ) (front run : List ℕ) (before now : Desk) (u v : Option (List ℕ)) (from to : ScriptEnd) (line next : Line)
-      → (h : HasServed is_right tells seen number front before now u v from to line) → All (λ b. b ≢ 10) run → Shows next (h.came ++ run)
-      → HasServed is_right tells seen number (front ++ run) before now u v from to next
+      → (h : HasServed is_right tells stands seen number front before now u v from to line) → All (λ b. b ≢ 10) run → Shows next (h.came ++ run)
+      → HasServed is_right tells stands seen number (front ++ run) before now u v from to next
   HasServed-run number front run before now u v from to line next h no_lf shows = record {
     lines = h.lines;
     came = h.came ++ run;
@@ -76,24 +77,24 @@ module _ (is_right : Readings → Type 0) (tells : StoreFault → Type 0) {Left 
     serves = h.serves;
   }
 
-  both_served : (lines more : List LineText) (a b c : Desk) (u v w : Option (List ℕ)) (from mid to : ScriptEnd) → Serves is_right tells seen (requests_of lines) a b u v from mid
-      → Serves is_right tells seen (requests_of more) b c v w mid to → Serves is_right tells seen (requests_of (lines ++ more)) a c u w from to
+  both_served : (lines more : List LineText) (a b c : Desk) (u v w : Option (List ℕ)) (from mid to : ScriptEnd) → Serves is_right tells stands seen (requests_of lines) a b u v from mid
+      → Serves is_right tells stands seen (requests_of more) b c v w mid to → Serves is_right tells stands seen (requests_of (lines ++ more)) a c u w from to
   both_served lines more a b c u v w from mid to h k =
-      subst (λ (rs : List Request). Serves is_right tells seen rs a c u w from to) (sym (requests_of-append lines more))
-      (Serves-then is_right tells seen a b c (requests_of lines) (requests_of more) u v w from mid to h k)
+      subst (λ (rs : List Request). Serves is_right tells stands seen rs a c u w from to) (sym (requests_of-append lines more))
+      (Serves-then is_right tells stands seen a b c (requests_of lines) (requests_of more) u v w from mid to h k)
 
   served_until : (fault : ScriptFault) (lines more : List LineText) (a b c : Desk) (u v w : Option (List ℕ)) (from mid : ScriptEnd)
-      → Serves is_right tells seen (requests_of lines) a b u v from mid → ServesUntil is_right tells seen fault (requests_of more) b c v w
-      → ServesUntil is_right tells seen fault (requests_of (lines ++ more)) a c u w
-  served_until fault lines more a b c u v w from mid h k =
-      subst (λ (rs : List Request). ServesUntil is_right tells seen fault rs a c u w) (sym (requests_of-append lines more))
-      (ServesUntil-then is_right tells seen fault a b c (requests_of lines) (requests_of more) u v w from mid h k)
+      → IfStop (IsUncounted from mid) fault → Serves is_right tells stands seen (requests_of lines) a b u v from mid → ServesUntil is_right tells stands seen fault (requests_of more) b c v w
+      → ServesUntil is_right tells stands seen fault (requests_of (lines ++ more)) a c u w
+  served_until fault lines more a b c u v w from mid still h k =
+      subst (λ (rs : List Request). ServesUntil is_right tells stands seen fault rs a c u w) (sym (requests_of-append lines more))
+      (ServesUntil-then is_right tells stands seen fault a b c (requests_of lines) (requests_of more) u v w from mid still h k)
 
   -- more bytes, on the line so far
   pub HasServed-then : (number : ℕ) (front more : List ℕ) (a b c : Desk) (u v w : Option (List ℕ)) (from mid to : ScriptEnd) (line next : Line)
-      → (h : HasServed is_right tells seen number front a b u v from mid line)
-      → HasServed is_right tells seen (number + length h.lines) (h.came ++ more) b c v w mid to next
-      → HasServed is_right tells seen number (front ++ more) a c u w from to next
+      → (h : HasServed is_right tells stands seen number front a b u v from mid line)
+      → HasServed is_right tells stands seen (number + length h.lines) (h.came ++ more) b c v w mid to next
+      → HasServed is_right tells stands seen number (front ++ more) a c u w from to next
   HasServed-then number front more a b c u v w from mid to line next h k = record {
     lines = h.lines ++ k.lines;
     came = k.came;
@@ -105,40 +106,41 @@ module _ (is_right : Readings → Type 0) (tells : StoreFault → Type 0) {Left 
   }
 
   pub IsFrontAt-then : (number : ℕ) (fault : ScriptFault) (front more : List ℕ) (a b c : Desk) (u v w : Option (List ℕ)) (from mid : ScriptEnd) (line : Line)
-      → (h : HasServed is_right tells seen number front a b u v from mid line)
-      → IsFrontAt is_right tells seen (number + length h.lines) fault (h.came ++ more) b c v w
-      → IsFrontAt is_right tells seen number fault (front ++ more) a c u w
-  IsFrontAt-then number fault front more a b c u v w from mid line h k = record {
+      → IfStop (IsUncounted from mid) fault → (h : HasServed is_right tells stands seen number front a b u v from mid line)
+      → IsFrontAt is_right tells stands seen (number + length h.lines) fault (h.came ++ more) b c v w
+      → IsFrontAt is_right tells stands seen number fault (front ++ more) a c u w
+  IsFrontAt-then number fault front more a b c u v w from mid line still h k = record {
     lines = h.lines ++ k.lines;
     rest = k.rest;
     begins = BeginsWith-append number (front ++ more) h.lines k.lines (h.came ++ more) k.rest (BeginsWith-more number front h.lines h.came more h.begins h.fed) k.begins;
-    serves = served_until fault h.lines k.lines a b c u v w from mid h.serves k.serves;
+    serves = served_until fault h.lines k.lines a b c u v w from mid still h.serves k.serves;
   }
 
   -- a fault that is no reply's
   pub IsFrontAt-of : (number : ℕ) (fault : ScriptFault) (front more : List ℕ) (a b : Desk) (u v : Option (List ℕ)) (from to : ScriptEnd) (line : Line)
-      → IsOfLine fault → HasServed is_right tells seen number front a b u v from to line → IsFrontAt is_right tells seen number fault (front ++ more) a b u v
+      → IsOfLine fault → HasServed is_right tells stands seen number front a b u v from to line → IsFrontAt is_right tells stands seen number fault (front ++ more) a b u v
   IsFrontAt-of number fault front more a b u v from to line of_line h = record {
     lines = h.lines;
     rest = h.came ++ more;
     begins = BeginsWith-more number front h.lines h.came more h.begins h.fed;
-    serves = ServesUntil-line is_right tells seen fault a b (requests_of h.lines) u v from to of_line h.serves;
+    serves = ServesUntil-line is_right tells stands seen fault a b (requests_of h.lines) u v from to of_line h.serves;
   }
 
-  pub IsFront-at : (fault : ScriptFault) (bytes : List ℕ) (a b : Desk) (u v : Option (List ℕ)) → IsFrontAt is_right tells seen 1 fault bytes a b u v
-      → IsFront is_right tells seen fault bytes a b u v
+  pub IsFront-at : (fault : ScriptFault) (bytes : List ℕ) (a b : Desk) (u v : Option (List ℕ)) → IsFrontAt is_right tells stands seen 1 fault bytes a b u v
+      → IsFront is_right tells stands seen fault bytes a b u v
   IsFront-at fault bytes a b u v f = record {
     lines = f.lines;
     rest = f.rest;
     replies = f.serves.replies;
     begins = f.begins;
     replied = f.serves.replied;
-    run = IsRun-of is_right tells seen a b (requests_of f.lines) f.serves.replies f.serves.replied;
+    run = IsRun-of is_right tells stands seen a b (requests_of f.lines) f.serves.replies f.serves.replied;
+    fronts = HasRun-of is_right tells stands seen a b (requests_of f.lines) f.serves.replies f.serves.replied;
     told = f.serves.told;
   }
 
   pub IsCutOff-of : (front : List ℕ) (a b : Desk) (u v : Option (List ℕ)) (from to : ScriptEnd) (line : Line)
-      → HasServed is_right tells seen 1 front a b u v from to line → IsCutOff is_right tells seen front a b u v
+      → HasServed is_right tells stands seen 1 front a b u v from to line → IsCutOff is_right tells stands seen front a b u v
   IsCutOff-of front a b u v from to line h = record {
     lines = h.lines;
     rest = h.came;
@@ -147,12 +149,13 @@ module _ (is_right : Readings → Type 0) (tells : StoreFault → Type 0) {Left 
     fed = h.fed;
     no_lf = h.no_lf;
     replied = h.serves.replied;
-    run = IsRun-of is_right tells seen a b (requests_of h.lines) h.serves.replies h.serves.replied;
+    run = IsRun-of is_right tells stands seen a b (requests_of h.lines) h.serves.replies h.serves.replied;
+    fronts = HasRun-of is_right tells stands seen a b (requests_of h.lines) h.serves.replies h.serves.replied;
     written = h.serves.written;
   }
 
   pub HasServed-line : (number : ℕ) (came : List ℕ) (a b : Desk) (u v : Option (List ℕ)) (from to : ScriptEnd) (line next : Line) → (shows : Shows line came) → All (λ b. b ≢ 10) came
-      → Serves is_right tells seen (request_at shows.0) a b u v from to → Shows next [] → HasServed is_right tells seen number (came ++ 10 ∷ []) a b u v from to next
+      → Serves is_right tells stands seen (request_at shows.0) a b u v from to → Shows next [] → HasServed is_right tells stands seen number (came ++ 10 ∷ []) a b u v from to next
   HasServed-line number came a b u v from to line next shows no_lf serves none =
       let at = line_of_came number came [] line shows no_lf in
       let one : LineText = record { number = number; text = shows.0; end = at.0 } in
@@ -163,64 +166,65 @@ module _ (is_right : Readings → Type 0) (tells : StoreFault → Type 0) {Left 
         fed = All-cons (λ (l : LineText). l.end ≢ Nothing) one [] at.1 no_lines;
         no_lf = All-nil (λ (b : ℕ). b ≢ 10);
         shows = none;
-        serves = subst (λ (rs : List Request). Serves is_right tells seen rs a b u v from to) (sym (requests_of-one number shows.0 at.0)) serves;
+        serves = subst (λ (rs : List Request). Serves is_right tells stands seen rs a b u v from to) (sym (requests_of-one number shows.0 at.0)) serves;
       }
 
   pub IsFrontAt-line : (number : ℕ) (fault : ScriptFault) (came more : List ℕ) (a b : Desk) (u v : Option (List ℕ)) (line : Line) → (shows : Shows line came)
-      → All (λ b. b ≢ 10) came → ServesUntil is_right tells seen fault (request_at shows.0) a b u v
-      → IsFrontAt is_right tells seen number fault (came ++ 10 ∷ more) a b u v
+      → All (λ b. b ≢ 10) came → ServesUntil is_right tells stands seen fault (request_at shows.0) a b u v
+      → IsFrontAt is_right tells stands seen number fault (came ++ 10 ∷ more) a b u v
   IsFrontAt-line number fault came more a b u v line shows no_lf serves =
       let at = line_of_came number came more line shows no_lf in
       record {
         lines = record { number = number; text = shows.0; end = at.0 } ∷ [];
         rest = more;
         begins = at.2;
-        serves = subst (λ (rs : List Request). ServesUntil is_right tells seen fault rs a b u v) (sym (requests_of-one number shows.0 at.0)) serves;
+        serves = subst (λ (rs : List Request). ServesUntil is_right tells stands seen fault rs a b u v) (sym (requests_of-one number shows.0 at.0)) serves;
       }
 
   -- nothing was replied
   pub IsFrontAt-none : (number : ℕ) (fault : ScriptFault) (bytes : List ℕ) (a : Desk) (w : Option (List ℕ)) (from : ScriptEnd) → IsOfLine fault
-      → IsFrontAt is_right tells seen number fault bytes a a w w
+      → IsFrontAt is_right tells stands seen number fault bytes a a w w
   IsFrontAt-none number fault bytes a w from of_line = record {
     lines = [];
     rest = bytes;
     begins = refl;
-    serves = ServesUntil-line is_right tells seen fault a a [] w w from from of_line (Serves-none is_right tells seen a w from);
+    serves = ServesUntil-line is_right tells stands seen fault a a [] w w from from of_line (Serves-none is_right tells stands seen a w from);
   }
 
   pub IsFrontAt-last : (number : ℕ) (fault : ScriptFault) (came : List ℕ) (a b : Desk) (u v : Option (List ℕ)) → All (λ b. b ≢ 10) came
-      → ServesUntil is_right tells seen fault (request_at came) a b u v → IsFrontAt is_right tells seen number fault came a b u v
+      → ServesUntil is_right tells stands seen fault (request_at came) a b u v → IsFrontAt is_right tells stands seen number fault came a b u v
   IsFrontAt-last number fault came a b u v no_lf serves =
       let at = last_line number came no_lf in
       record {
         lines = at.0;
         rest = [];
         begins = at.2;
-        serves = subst (λ (rs : List Request). ServesUntil is_right tells seen fault rs a b u v) (sym at.3) serves;
+        serves = subst (λ (rs : List Request). ServesUntil is_right tells stands seen fault rs a b u v) (sym at.3) serves;
       }
 
   pub IsPart-last : (number : ℕ) (came : List ℕ) (a b : Desk) (u v : Option (List ℕ)) (from to : ScriptEnd) → All (λ b. b ≢ 10) came
-      → Serves is_right tells seen (request_at came) a b u v from to → IsPart is_right tells seen number came a b u v from to
+      → Serves is_right tells stands seen (request_at came) a b u v from to → IsPart is_right tells stands seen number came a b u v from to
   IsPart-last number came a b u v from to no_lf serves =
       let at = last_line number came no_lf in
       record {
         lines = at.0;
         cut = at.1;
-        serves = subst (λ (rs : List Request). Serves is_right tells seen rs a b u v from to) (sym at.3) serves;
+        serves = subst (λ (rs : List Request). Serves is_right tells stands seen rs a b u v from to) (sym at.3) serves;
       }
 
   pub IsScript-of : (front : List ℕ) (a b c : Desk) (u v w : Option (List ℕ)) (mid to : ScriptEnd) (line : Line)
-      → (h : HasServed is_right tells seen 1 front a b u v (record { refused = 0; failed = 0 }) mid line)
-      → IsPart is_right tells seen (1 + length h.lines) h.came b c v w mid to → IsScript is_right tells seen front a c u w to
+      → (h : HasServed is_right tells stands seen 1 front a b u v (record { refused = 0; failed = 0 }) mid line)
+      → IsPart is_right tells stands seen (1 + length h.lines) h.came b c v w mid to → IsScript is_right tells stands seen front a c u w to
   IsScript-of front a b c u v w mid to line h k =
-      let all : Serves is_right tells seen (requests_of (h.lines ++ k.lines)) a c u w (record { refused = 0; failed = 0 }) to =
+      let all : Serves is_right tells stands seen (requests_of (h.lines ++ k.lines)) a c u w (record { refused = 0; failed = 0 }) to =
       both_served h.lines k.lines a b c u v w (record { refused = 0; failed = 0 }) mid to h.serves k.serves in
       record {
         lines = h.lines ++ k.lines;
         replies = all.replies;
         cut = CutsInto-append 1 front h.lines k.lines h.came h.begins k.cut;
         replied = all.replied;
-        run = IsRun-of is_right tells seen a c (requests_of (h.lines ++ k.lines)) all.replies all.replied;
+        run = IsRun-of is_right tells stands seen a c (requests_of (h.lines ++ k.lines)) all.replies all.replied;
+        fronts = HasRun-of is_right tells stands seen a c (requests_of (h.lines ++ k.lines)) all.replies all.replied;
         written = all.written;
         refused = omega (arith, all.refused);
         failed = omega (arith, all.failed);

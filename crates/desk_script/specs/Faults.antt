@@ -2,14 +2,16 @@
 use Rattle.std.specs.Prelude.{ℕ, ◌≤◌}
 use Rattle.desk_base.specs.Limits as most
 use Rattle.desk_script.specs.declared.serving.ScriptFault.{ScriptFault}
-use Rattle.desk_script.specs.declared.serving.ScriptFault.TheVariants.{Read, Write, Turns, Memory}
+use Rattle.desk_script.specs.declared.serving.ScriptFault.TheVariants.{Read, Write, Turns, Memory, Refused, Failed}
 
--- a reply that couldn't be written, or no memory for a line or a reply
+-- a reply that couldn't be written, no memory for a line or a reply, or a line that isn't done where a script is to stop
 abbrev pub IsOfReply : ScriptFault → Type 0
 IsOfReply Write = Unit {0}
 IsOfReply Memory = Unit {0}
 IsOfReply Read = ⊥
 IsOfReply Turns = ⊥
+IsOfReply Refused = Unit {0}
+IsOfReply Failed = Unit {0}
 
 -- a writer that failed
 abbrev pub IsOfWriter : ScriptFault → Type 0
@@ -17,6 +19,8 @@ IsOfWriter Write = Unit {0}
 IsOfWriter Memory = ⊥
 IsOfWriter Read = ⊥
 IsOfWriter Turns = ⊥
+IsOfWriter Refused = ⊥
+IsOfWriter Failed = ⊥
 
 -- a reader that gave so many bytes and failed, or was asked too often: each time it gave a byte at least
 abbrev pub IsOfReader : ScriptFault → ℕ → Type 0
@@ -24,3 +28,5 @@ IsOfReader Read count = Unit {0}
 IsOfReader Turns count = most.script_reads ≤ count
 IsOfReader Write count = ⊥
 IsOfReader Memory count = ⊥
+IsOfReader Refused count = ⊥
+IsOfReader Failed count = ⊥

@@ -1,13 +1,13 @@
 -- What requests are replied, one after the other.
-use Rattle.std.specs.Prelude.{◌≡◌, Bool, false, ◌||◌, List, [], ◌∷◌}
+use Rattle.std.specs.Prelude.{◌≡◌, Bool, false, ◌||◌, List, [], ◌∷◌, sum_by}
 use Rattle.desk_rows.specs.Readings.{Readings}
-use Rattle.desk_rows.specs.Tables.{tables}
-use Rattle.desk_rows.specs.Answers.{IsHistory, is_recorded}
+use Rattle.desk_rows.specs.Tables.{Tables, tables}
+use Rattle.desk_rows.specs.Answers.{IsHistory, is_recorded, refused_alone}
 use Rattle.desk_rows.specs.Queries.{queried}
 use Rattle.desk_rows.specs.Faults.{MayBecome}
 use Rattle.desk_rows.specs.Runs.{IsAnswer, AreAnswers, history_after, history_with}
 use Rattle.desk_access.specs.Seen.{Seen, Spared}
-use Rattle.desk_core.specs.Desks.{InHistory}
+use Rattle.desk_core.specs.Desks.{AllSpareStore, InHistory, IsLeft, Secures}
 use Rattle.desk_rows.specs.declared.command.Command.{Command}
 use Rattle.desk_rows.specs.declared.command.Fault.TheVariants.{Memory}
 use Rattle.desk_rows.specs.declared.command.Outcome.{Outcome}
@@ -16,6 +16,7 @@ use Rattle.desk_rows.specs.declared.command.Query.{Query}
 use Rattle.desk_rows.specs.declared.command.StoreFault.{StoreFault}
 use Rattle.desk_json.specs.declared.request.Request.{Request}
 use Rattle.desk_json.specs.declared.request.Request.TheVariants.{Act, Ask, BadCommand}
+use Rattle.desk_script.specs.Texts.{count_failed}
 use Rattle.desk_script.specs.declared.answer.Reply.{Reply}
 use Rattle.desk_script.specs.declared.answer.Reply.TheVariants.{Became, NoRequest}
 
@@ -26,6 +27,11 @@ Fits tells (Ask q) (Became o) = MayBecome tells o
 Fits tells BadCommand (Became (Failed Memory)) = Unit {0}
 Fits tells BadCommand NoRequest = Unit {0}
 Fits tells _ _ = ⊥
+
+-- a command that is refused by itself has no fault of the store
+abbrev pub SparesStore : Readings → Request → Reply → Type 0
+SparesStore w (Act c) (Became o) = MayBecome (λ fault. refused_alone w c ≡ false) o
+SparesStore w _ _ = Unit {0}
 
 -- an outcome that is no fault is the answer to the query
 abbrev pub IsQueried : Readings → List Command → Query → Outcome → Type 0
@@ -52,16 +58,24 @@ abbrev pub is_any_recorded : List Request → List Reply → Bool
 is_any_recorded (request ∷ requests) (reply ∷ replies) = is_recorded_by request reply || is_any_recorded requests replies
 is_any_recorded _ _ = false
 
-module _ (is_right : Readings → Type 0) (tells : StoreFault → Type 0) {Left : Type 0} where
+-- what a stop may leave after a reply; only a command adds to what it could leave before
+abbrev pub IsLeftBy : {Left : Type 0} → (Left → Tables → Type 0) → Readings → List Command → Seen Left → Request → Reply → Left → Type 0
+IsLeftBy stands w h old (Act c) (Became o) x = IsLeft stands w h old c o x
+IsLeftBy stands w h old _ _ x = old.is_open → old.leaves x
+
+module _ (is_right : Readings → Type 0) (tells : StoreFault → Type 0) {Left : Type 0} (stands : Left → Tables → Type 0) where
   -- A desk gives a request this reply: whatever its rows are, they are as they were where nothing was recorded; and for each right
   -- reading and each history whose tables they are, it is the answer of the history, and leaves the tables of the history with
-  -- the command.
+  -- the command. What a stop leaves is told too, and that the desk still shows its rows, unless it had a fault.
   pub record Replies (old : Seen Left) (request : Request) (reply : Reply) (new : Seen Left) : Type 0 where
     pub fits : Fits tells request reply
     pub honest : new.is_honest → old.is_honest
     pub keeps : is_recorded_by request reply ≡ false → Spared old new
     pub answer : InHistory is_right (λ w h. IsReply w h request reply) old new
     pub content : InHistory is_right (λ w h. new.holds (tables w (history_past h request reply))) old new
+    pub alone : (w : Readings) → is_right w → SparesStore w request reply
+    pub stays : count_failed reply ≡ 0 → InHistory is_right (λ w h. old.is_open → new.is_open) old new
+    pub leaves : InHistory is_right (λ w h. (x : Left) → new.leaves x → IsLeftBy stands w h old request reply x) old new
 
   module _ {Desk : Type 0} (seen : Desk → Seen Left) where
     -- A desk gives requests these replies, one after the other, each on the desk as the ones before it left it: so there is a desk
@@ -85,10 +99,14 @@ outcomes_of _ _ = []
 
 -- The commands among the requests are a run. Whatever the rows were, they stay where no command was recorded. For each right reading
 -- and each history whose tables were the rows before, each outcome that is no fault is the answer at its place, the recorded commands
--- go on the history, and the rows after it are its tables.
-pub record IsRun {Left : Type 0} (is_right : Readings → Type 0) (old : Seen Left) (requests : List Request) (replies : List Reply) (new : Seen Left) : Type 0 where
+-- go on the history, and the rows after it are its tables. Where there was no fault and a stop left the rows before and no others, it
+-- leaves those after it and no others.
+pub record IsRun {Left : Type 0} (is_right : Readings → Type 0) (stands : Left → Tables → Type 0) (old : Seen Left) (requests : List Request) (replies : List Reply) (new : Seen Left) : Type 0 where
   pub honest : new.is_honest → old.is_honest
   pub keeps : is_any_recorded requests replies ≡ false → Spared old new
+  pub alone : (w : Readings) → is_right w → AllSpareStore w (commands_of requests) (outcomes_of requests replies)
   pub answers : InHistory is_right (λ w h. AreAnswers w h (commands_of requests) (outcomes_of requests replies)) old new
   pub history : InHistory is_right (λ w h. IsHistory w (history_after h (commands_of requests) (outcomes_of requests replies))) old new
   pub content : InHistory is_right (λ w h. new.holds (tables w (history_after h (commands_of requests) (outcomes_of requests replies)))) old new
+  pub secures : sum_by count_failed replies ≡ 0 → InHistory is_right
+      (λ w h. Secures stands (tables w h) old → Secures stands (tables w (history_after h (commands_of requests) (outcomes_of requests replies))) new) old new

@@ -1,9 +1,10 @@
 -- What a script does: to the desk, to what is written and to what is counted.
-use Rattle.std.specs.Prelude.{◌≡◌, ◌≢◌, ℕ, ◌+◌, List, Option, IfSome, All, sum_by}
+use Rattle.std.specs.Prelude.{◌≡◌, ◌≢◌, ℕ, ◌+◌, List, Option, IfSome, All, sum_by, take, drop}
 use Rattle.std.specs.Io.KnownBytes.{Appends}
 use Rattle.desk_base.specs.Lines.{CutsInto, LineText}
 use Rattle.desk_base.specs.declared.lines.LineEnd.TheVariants.{Nothing}
 use Rattle.desk_rows.specs.Readings.{Readings}
+use Rattle.desk_rows.specs.Tables.{Tables}
 use Rattle.desk_rows.specs.declared.command.StoreFault.{StoreFault}
 use Rattle.desk_access.specs.Seen.{Seen}
 use Rattle.desk_json.specs.declared.request.Request.{Request}
@@ -17,15 +18,26 @@ use Rattle.desk_script.specs.declared.line.Line.{Line}
 use Rattle.desk_script.specs.declared.serving.ScriptEnd.{ScriptEnd}
 use Rattle.desk_script.specs.declared.serving.ScriptFault.{ScriptFault}
 
+-- no line more was refused, was no request or failed
+abbrev pub IsUncounted : ScriptEnd → ScriptEnd → Type 0
+IsUncounted from to = (to.refused ≡ from.refused) × (to.failed ≡ from.failed)
+
 -- the bytes that a reader has left; of one that doesn't tell them, any
 abbrev pub AreLeft : Option (List ℕ) → List ℕ → Type 0
 AreLeft remaining bytes = IfSome remaining (λ told. told ≡ bytes)
 
-module _ (is_right : Readings → Type 0) (tells : StoreFault → Type 0) {Left Desk : Type 0} (seen : Desk → Seen Left) where
+module _ (is_right : Readings → Type 0) (tells : StoreFault → Type 0) {Left Desk : Type 0} (stands : Left → Tables → Type 0) (seen : Desk → Seen Left) where
+  -- After so many requests they are a run, on the way from one desk to the other: what is said of a run holds after each reply.
+  pub record HasRun (n : ℕ) (requests : List Request) (replies : List Reply) (before after : Desk) : Type 0 where
+    pub between : Desk
+    pub replied : AreReplied is_right tells stands seen before (take n requests) (take n replies) between
+    pub run : IsRun is_right stands (seen before) (take n requests) (take n replies) (seen between)
+    pub rest : AreReplied is_right tells stands seen between (drop n requests) (drop n replies) after
+
   -- requests were replied, the replies written as lines, and counted
   pub record Serves (requests : List Request) (before after : Desk) (old new : Option (List ℕ)) (from to : ScriptEnd) : Type 0 where
     pub replies : List Reply
-    pub replied : AreReplied is_right tells seen before requests replies after
+    pub replied : AreReplied is_right tells stands seen before requests replies after
     pub written : Appends old new (lines_of replies)
     pub refused : to.refused ≡ from.refused + sum_by count_refused replies
     pub failed : to.failed ≡ from.failed + sum_by count_failed replies
@@ -33,7 +45,7 @@ module _ (is_right : Readings → Type 0) (tells : StoreFault → Type 0) {Left 
   -- requests were replied until a fault, and the replies written as far as it let them be
   pub record ServesUntil (fault : ScriptFault) (requests : List Request) (before after : Desk) (old new : Option (List ℕ)) : Type 0 where
     pub replies : List Reply
-    pub replied : AreReplied is_right tells seen before requests replies after
+    pub replied : AreReplied is_right tells stands seen before requests replies after
     pub told : AreToldUntil fault replies old new
 
   -- A whole script: the bytes are cut into lines, the request of each line that isn't blank is replied, the commands among them are a
@@ -42,21 +54,24 @@ module _ (is_right : Readings → Type 0) (tells : StoreFault → Type 0) {Left 
     pub lines : List LineText
     pub replies : List Reply
     pub cut : CutsInto 1 bytes lines
-    pub replied : AreReplied is_right tells seen before (requests_of lines) replies after
-    pub run : IsRun is_right (seen before) (requests_of lines) replies (seen after)
+    pub replied : AreReplied is_right tells stands seen before (requests_of lines) replies after
+    pub run : IsRun is_right stands (seen before) (requests_of lines) replies (seen after)
+    pub fronts : (n : ℕ) → HasRun n (requests_of lines) replies before after
     pub written : Appends old new (lines_of replies)
     pub refused : end.refused ≡ sum_by count_refused replies
     pub failed : end.failed ≡ sum_by count_failed replies
 
   -- A script that stopped: of the lines that the bytes begin with some front was replied, and nothing else; the commands among them are
-  -- a run; and the replies are written, a line each, but for the last one where it is lost.
+  -- a run; and the replies are written, a line each, but for the last one where it is lost. One that was to stop there stopped at the
+  -- first line that isn't done.
   pub record IsFront (fault : ScriptFault) (bytes : List ℕ) (before after : Desk) (old new : Option (List ℕ)) : Type 0 where
     pub lines : List LineText
     pub rest : List ℕ
     pub replies : List Reply
     pub begins : BeginsWith 1 bytes lines rest
-    pub replied : AreReplied is_right tells seen before (requests_of lines) replies after
-    pub run : IsRun is_right (seen before) (requests_of lines) replies (seen after)
+    pub replied : AreReplied is_right tells stands seen before (requests_of lines) replies after
+    pub run : IsRun is_right stands (seen before) (requests_of lines) replies (seen after)
+    pub fronts : (n : ℕ) → HasRun n (requests_of lines) replies before after
     pub told : AreToldUntil fault replies old new
 
   -- a script whose reader gave no more than these bytes: the lines that an LF ended are replied, their replies written, and nothing else
@@ -67,8 +82,9 @@ module _ (is_right : Readings → Type 0) (tells : StoreFault → Type 0) {Left 
     pub begins : BeginsWith 1 bytes lines rest
     pub fed : All (λ l. l.end ≢ Nothing) lines
     pub no_lf : All (λ b. b ≢ 10) rest
-    pub replied : AreReplied is_right tells seen before (requests_of lines) replies after
-    pub run : IsRun is_right (seen before) (requests_of lines) replies (seen after)
+    pub replied : AreReplied is_right tells stands seen before (requests_of lines) replies after
+    pub run : IsRun is_right stands (seen before) (requests_of lines) replies (seen after)
+    pub fronts : (n : ℕ) → HasRun n (requests_of lines) replies before after
     pub written : Appends old new (lines_of replies)
 
   -- a part of a script that stopped: some front of the lines that the bytes begin with, numbered on from a number, is served until a

@@ -10,6 +10,9 @@
 //! written is the reply lines in order, and the end counts the refused and the failed ones. After a fault, some front of the lines was
 //! replied in this way: what was accepted stands, and of the replies only the last one can be missing or cut short.
 //!
+//! A `Watch` is told of each line. Where it says so, the script ends with the first line that isn't done: what was replied till then is
+//! a front of the lines, whose last one was refused, is no request or failed, and none before.
+//!
 //! - `line` gathers the bytes of a line as they come.
 //! - `answer` answers the request of a line.
 //! - `serving` writes the reply and counts it.
@@ -20,7 +23,9 @@ mod answer;
 mod line;
 mod serving;
 mod stream;
+mod watch;
 
-pub use answer::{Reply, answer_line};
+pub use answer::Reply;
 pub use serving::{ScriptEnd, ScriptFault};
 pub use stream::script;
+pub use watch::Watch;

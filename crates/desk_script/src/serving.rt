@@ -1,18 +1,19 @@
 //! Serves a line: answers its request, writes the reply and counts it.
 
-ghost use Rattle.std.specs.Prelude.{◌≡◌, ◌∷◌, ◌++◌, ◌+◌, ◌≤◌, ◌<◌, ◌^◌, [], List, ℕ, OnOk, OnErr, IfOk, IfErr, length, take};
+ghost use Rattle.std.specs.Prelude.{◌≡◌, true, ◌∷◌, ◌++◌, ◌+◌, ◌≤◌, ◌<◌, ◌^◌, [], List, ℕ, OnOk, OnErr, IfOk, IfErr, length, take};
 ghost use Rattle.std.specs.Io.KnownBytes.{Appends, Keeps};
 ghost use Rattle.desk_script.specs.Faults.{IsOfReply, IsOfWriter};
 ghost use Rattle.desk_script.specs.Gathered.{HasCome};
 ghost use Rattle.desk_script.specs.Texts.{line_of, count_refused, count_failed};
 ghost use Rattle.desk_script.specs.Lines.{request_at, request_of};
-ghost use Rattle.desk_script.specs.Losses.{AppendsFront, Loses};
+ghost use Rattle.desk_script.specs.Losses.{AppendsFront, IfStop, IsStopAt, Loses};
 ghost use Rattle.desk_script.specs.Replies.{Replies};
-ghost use Rattle.desk_script.specs.Script.{Serves, ServesUntil};
+ghost use Rattle.desk_script.specs.Script.{IsUncounted, Serves, ServesUntil};
 ghost use Rattle.desk_script.specs.declared.answer.Reply.{Reply};
 
 use crate::answer::{Reply, answer_line};
 use crate::line::Line;
+use crate::watch::Watch;
 use desk_core::desk::Desk;
 use desk_json::{bad_command_line, memory_line, reply_line};
 use desk_rows::{Answer, Fault, Outcome};
@@ -41,6 +42,12 @@ pub enum ScriptFault {
     Turns,
     #[error("no memory is left for a line or a reply")]
     Memory,
+    /// The script was to end with the first line that isn't done, which was refused or is no request.
+    #[error("a line was refused or is no request")]
+    Refused,
+    /// The same, where the request of the line failed.
+    #[error("the request of a line failed")]
+    Failed,
 }
 
 impl From<AllocError> for ScriptFault {
@@ -59,6 +66,7 @@ impl ScriptEnd {
         requires room { (self.old.refused + 1 < 2 ^ 64) × (self.old.failed + 1 < 2 ^ 64) }
         ensures refused { self.new.refused ≡ self.old.refused + count_refused reply.now }
         ensures failed { self.new.failed ≡ self.old.failed + count_failed reply.now }
+        ensures few { (self.new.refused ≤ self.old.refused + 1) × (self.new.failed ≤ self.old.failed + 1) }
     {
         match reply {
             Reply::NoRequest | Reply::Became(Outcome::Answered(Answer::Refused(_))) => {
@@ -122,6 +130,7 @@ fn write_reply<W: Write>(alloc: Global, writer: &mut W, reply: &Reply) -> Result
     ensures ok { OnOk result (Appends (W.contents writer.old) (W.contents writer.new) (line_of reply.now)) }
     ensures err { IfErr result (λ fault. Loses fault reply.now (W.contents writer.old)
         (W.contents writer.new)) }
+    ensures goes { IfErr result (IfStop ⊥) }
 {
     match reply {
         Reply::NoRequest => write_line(writer, bad_command_line()),
@@ -134,37 +143,87 @@ fn write_reply<W: Write>(alloc: Global, writer: &mut W, reply: &Reply) -> Result
 }
 
 /// The reply to a line that isn't blank. Its bytes are taken out of it.
-fn answer_kept<D: Desk>(alloc: Global, desk: &mut D, line: &mut Line) -> Reply
-    ensures { (text : List ℕ) → HasCome line.old text
-        → Replies D.are_right D.tells (D.seen desk.old) (request_of text) result (D.seen desk.new) }
+fn answer_kept<D: Desk, V: Watch>(
+    alloc: Global,
+    desk: &mut D,
+    watch: &mut V,
+    line: &mut Line,
+) -> Reply
+    ensures replies { (text : List ℕ) → HasCome line.old text
+        → Replies D.are_right D.tells D.stands (D.seen desk.old) (request_of text) result (D.seen desk.new) }
+    ensures same { V.stops watch.new ≡ V.stops watch.old }
 {
     if line.is_long {
+        watch.no_request(None);
         return Reply::NoRequest;
     }
     let text = mem::replace(&mut line.kept, Vec::new(alloc));
-    answer_line(alloc, desk, text)
+    answer_line(alloc, desk, watch, text)
+}
+
+/// Goes on past a reply, or ends the script with it where its line isn't done and it is to end there.
+fn go_on(stops: bool, reply: &Reply) -> Result<(), ScriptFault>
+    ensures goes { OnOk result (stops ≡ true → (count_refused reply.now ≡ 0) × (count_failed reply.now ≡ 0)) }
+    ensures ends { IfErr result (IsStopAt reply.now) }
+    ensures halts { IfErr result (IfStop (stops ≡ true)) }
+    ensures fault { IfErr result IsOfReply }
+{
+    if !stops {
+        return Ok(());
+    }
+    match reply {
+        Reply::NoRequest | Reply::Became(Outcome::Answered(Answer::Refused(_))) => {
+            Err(ScriptFault::Refused)
+        }
+        Reply::Became(Outcome::Failed(_)) => Err(ScriptFault::Failed),
+        Reply::Became(Outcome::Answered(_)) => Ok(()),
+    }
+}
+
+/// Writes a reply, and has it watched. The script goes on past it or ends with it.
+fn tell_reply<W: Write, V: Watch>(
+    alloc: Global,
+    writer: &mut W,
+    watch: &mut V,
+    reply: &Reply,
+) -> Result<(), ScriptFault>
+    ensures ok { OnOk result (Appends (W.contents writer.old) (W.contents writer.new) (line_of reply.now)) }
+    ensures goes { OnOk result (V.stops watch.old ≡ true → (count_refused reply.now ≡ 0) × (count_failed reply.now ≡ 0)) }
+    ensures err { IfErr result (λ fault. Loses fault reply.now (W.contents writer.old)
+        (W.contents writer.new)) }
+    ensures halts { IfErr result (IfStop (V.stops watch.old ≡ true)) }
+    ensures same { V.stops watch.new ≡ V.stops watch.old }
+{
+    write_reply(alloc, writer, reply)?;
+    watch.replied(reply);
+    go_on(watch.stops(), reply)
 }
 
 /// Serves a line of which these bytes came: a blank one is passed over; of any other the reply is written and counted.
-pub fn serve<D: Desk, W: Write>(
+pub fn serve<D: Desk, W: Write, V: Watch>(
     alloc: Global,
     desk: &mut D,
     writer: &mut W,
+    watch: &mut V,
     end: &mut ScriptEnd,
     line: &mut Line,
 ) -> Result<(), ScriptFault>
     requires room { (end.old.refused + 1 < 2 ^ 64) × (end.old.failed + 1 < 2 ^ 64) }
-    ensures ok { (text : List ℕ) → HasCome line.old text → OnOk result (Serves D.are_right D.tells D.seen (request_at text)
+    ensures ok { (text : List ℕ) → HasCome line.old text → OnOk result (Serves D.are_right D.tells D.stands D.seen (request_at text)
         desk.old desk.new (W.contents writer.old) (W.contents writer.new) end.old end.new) }
-    ensures err { (text : List ℕ) → HasCome line.old text → IfErr result (λ fault. ServesUntil D.are_right D.tells D.seen fault (request_at text)
+    ensures err { (text : List ℕ) → HasCome line.old text → IfErr result (λ fault. ServesUntil D.are_right D.tells D.stands D.seen fault (request_at text)
         desk.old desk.new (W.contents writer.old) (W.contents writer.new)) }
     ensures few { (end.new.refused ≤ end.old.refused + 1) × (end.new.failed ≤ end.old.failed + 1) }
     ensures fault { IfErr result IsOfReply }
+    ensures still { OnOk result (V.stops watch.old ≡ true → IsUncounted end.old end.new) }
+    ensures halts { IfErr result (IfStop (V.stops watch.old ≡ true)) }
+    ensures same { V.stops watch.new ≡ V.stops watch.old }
 {
+    watch.came();
     if line.is_blank {
         return Ok(());
     }
-    let reply = answer_kept(alloc, desk, line);
+    let reply = answer_kept(alloc, desk, watch, line);
     end.count(&reply);
-    write_reply(alloc, writer, &reply)
+    tell_reply(alloc, writer, watch, &reply)
 }

@@ -1,14 +1,16 @@
 //! Cuts what is read into lines, and serves each as soon as it is whole.
 
-ghost use Rattle.std.specs.Prelude.{◌≡◌, ◌≢◌, ◌∷◌, ◌++◌, ◌+◌, ◌*◌, ◌≤◌, ◌<◌, ◌^◌, [], List, ℕ, OnOk, IfOk, IfErr, Option, MatchOption, All, length, ◌⊎◌};
+ghost use Rattle.std.specs.Prelude.{◌≡◌, true, ◌≢◌, ◌∷◌, ◌++◌, ◌+◌, ◌*◌, ◌≤◌, ◌<◌, ◌^◌, [], List, ℕ, OnOk, IfOk, IfErr, Option, MatchOption, All, length, ◌⊎◌};
 ghost use Rattle.std.specs.Io.KnownBytes.{Consumes};
 ghost use Rattle.desk_base.specs.Limits.{script_reads};
 ghost use Rattle.desk_script.specs.Faults.{IsOfReader, IsOfReply};
-ghost use Rattle.desk_script.specs.Script.{AreLeft, HasServed, IsCutOff, IsFront, IsFrontAt, IsPart, IsScript};
+ghost use Rattle.desk_script.specs.Losses.{IfStop};
+ghost use Rattle.desk_script.specs.Script.{AreLeft, HasServed, IsCutOff, IsFront, IsFrontAt, IsPart, IsScript, IsUncounted};
 ghost use Rattle.desk_script.specs.Gathered.{Shows};
 
 use crate::line::Line;
 use crate::serving::{ScriptEnd, ScriptFault, serve};
+use crate::watch::Watch;
 use desk_base::limits::SCRIPT_READS;
 use desk_core::desk::Desk;
 use memchr::memchr;
@@ -28,31 +30,36 @@ fn cut_at_lf(bytes: &[u8]) -> Option<(&[u8], &[u8])>
 }
 
 /// Serves the line that an LF ends, and begins the next one.
-fn end_line<D: Desk, W: Write>(
+fn end_line<D: Desk, W: Write, V: Watch>(
     alloc: Global,
     desk: &mut D,
     writer: &mut W,
+    watch: &mut V,
     end: &mut ScriptEnd,
     line: &mut Line,
 ) -> Result<(), ScriptFault>
     requires room { (end.old.refused + 1 < 2 ^ 64) × (end.old.failed + 1 < 2 ^ 64) }
     ensures ok { (number : ℕ) (came : List ℕ) → Shows line.old came → All (λ b. b ≢ 10) came
-        → OnOk result (HasServed D.are_right D.tells D.seen number (came ++ 10 ∷ []) desk.old desk.new (W.contents writer.old) (W.contents writer.new) end.old end.new line.new) }
+        → OnOk result (HasServed D.are_right D.tells D.stands D.seen number (came ++ 10 ∷ []) desk.old desk.new (W.contents writer.old) (W.contents writer.new) end.old end.new line.new) }
     ensures err { (number : ℕ) (came more : List ℕ) → Shows line.old came → All (λ b. b ≢ 10) came
-        → IfErr result (λ fault. IsFrontAt D.are_right D.tells D.seen number fault (came ++ 10 ∷ more) desk.old desk.new (W.contents writer.old) (W.contents writer.new)) }
+        → IfErr result (λ fault. IsFrontAt D.are_right D.tells D.stands D.seen number fault (came ++ 10 ∷ more) desk.old desk.new (W.contents writer.old) (W.contents writer.new)) }
     ensures few { (end.new.refused ≤ end.old.refused + 1) × (end.new.failed ≤ end.old.failed + 1) }
     ensures fault { IfErr result IsOfReply }
+    ensures still { OnOk result (V.stops watch.old ≡ true → IsUncounted end.old end.new) }
+    ensures halts { IfErr result (IfStop (V.stops watch.old ≡ true)) }
+    ensures same { V.stops watch.new ≡ V.stops watch.old }
 {
-    serve(alloc, desk, writer, end, line)?;
+    serve(alloc, desk, writer, watch, end, line)?;
     line.clear();
     Ok(())
 }
 
 /// Takes the bytes of a piece, and serves the lines that end in it.
-fn feed<D: Desk, W: Write>(
+fn feed<D: Desk, W: Write, V: Watch>(
     alloc: Global,
     desk: &mut D,
     writer: &mut W,
+    watch: &mut V,
     end: &mut ScriptEnd,
     line: &mut Line,
     piece: &[u8],
@@ -60,17 +67,20 @@ fn feed<D: Desk, W: Write>(
     requires room { (end.old.refused + length piece.now < 2 ^ 64)
         × (end.old.failed + length piece.now < 2 ^ 64) }
     ensures ok { (number : ℕ) (came : List ℕ) → Shows line.old came → All (λ b. b ≢ 10) came
-        → OnOk result (HasServed D.are_right D.tells D.seen number (came ++ piece.now) desk.old desk.new (W.contents writer.old) (W.contents writer.new) end.old end.new line.new) }
+        → OnOk result (HasServed D.are_right D.tells D.stands D.seen number (came ++ piece.now) desk.old desk.new (W.contents writer.old) (W.contents writer.new) end.old end.new line.new) }
     ensures err { (number : ℕ) (came more : List ℕ) → Shows line.old came → All (λ b. b ≢ 10) came
-        → IfErr result (λ fault. IsFrontAt D.are_right D.tells D.seen number fault (came ++ (piece.now ++ more)) desk.old desk.new (W.contents writer.old) (W.contents writer.new)) }
+        → IfErr result (λ fault. IsFrontAt D.are_right D.tells D.stands D.seen number fault (came ++ (piece.now ++ more)) desk.old desk.new (W.contents writer.old) (W.contents writer.new)) }
     ensures few { (end.new.refused ≤ end.old.refused + length piece.now)
         × (end.new.failed ≤ end.old.failed + length piece.now) }
     ensures fault { IfErr result IsOfReply }
+    ensures still { OnOk result (V.stops watch.old ≡ true → IsUncounted end.old end.new) }
+    ensures halts { IfErr result (IfStop (V.stops watch.old ≡ true)) }
+    ensures same { V.stops watch.new ≡ V.stops watch.old }
 {
     let mut rest = piece;
     while let Some((text, more)) = cut_at_lf(rest) {
         line.extend(text)?;
-        end_line(alloc, desk, writer, end, line)?;
+        end_line(alloc, desk, writer, watch, end, line)?;
         rest = more;
     }
     line.extend(rest)?;
@@ -78,22 +88,26 @@ fn feed<D: Desk, W: Write>(
 }
 
 /// Serves the last line, where it has no end of its own.
-fn finish<D: Desk, W: Write>(
+fn finish<D: Desk, W: Write, V: Watch>(
     alloc: Global,
     desk: &mut D,
     writer: &mut W,
+    watch: &mut V,
     end: &mut ScriptEnd,
     line: &mut Line,
 ) -> Result<(), ScriptFault>
     requires room { (end.old.refused + 1 < 2 ^ 64) × (end.old.failed + 1 < 2 ^ 64) }
     ensures ok { (number : ℕ) (came : List ℕ) → Shows line.old came → All (λ b. b ≢ 10) came
-        → OnOk result (IsPart D.are_right D.tells D.seen number came desk.old desk.new (W.contents writer.old) (W.contents writer.new) end.old end.new) }
+        → OnOk result (IsPart D.are_right D.tells D.stands D.seen number came desk.old desk.new (W.contents writer.old) (W.contents writer.new) end.old end.new) }
     ensures err { (number : ℕ) (came : List ℕ) → Shows line.old came → All (λ b. b ≢ 10) came
-        → IfErr result (λ fault. IsFrontAt D.are_right D.tells D.seen number fault came desk.old desk.new (W.contents writer.old) (W.contents writer.new)) }
+        → IfErr result (λ fault. IsFrontAt D.are_right D.tells D.stands D.seen number fault came desk.old desk.new (W.contents writer.old) (W.contents writer.new)) }
     ensures fault { IfErr result IsOfReply }
+    ensures still { OnOk result (V.stops watch.old ≡ true → IsUncounted end.old end.new) }
+    ensures halts { IfErr result (IfStop (V.stops watch.old ≡ true)) }
+    ensures same { V.stops watch.new ≡ V.stops watch.old }
 {
     line.keep_cr()?;
-    serve(alloc, desk, writer, end, line)
+    serve(alloc, desk, writer, watch, end, line)
 }
 
 /// Reads requests, a line each, and writes a reply line for each line that isn't blank. Replies go out line by line: each is
@@ -104,21 +118,26 @@ fn finish<D: Desk, W: Write>(
 /// memory for a line or a reply's text, what was accepted stands, and all replies are written but for the last one, where the fault
 /// was its: of that one a front of its line is written, and nothing where its text found no memory. Where the reader failed, or was asked
 /// too often, each line that ended among the bytes it gave is replied, and each reply written.
-pub fn script<D: Desk, R: Read, W: Write>(
+///
+/// Where the one who watches says so, it ends with the first line that isn't done, whose reply is written.
+pub fn script<D: Desk, R: Read, W: Write, V: Watch>(
     alloc: Global,
     desk: &mut D,
     reader: &mut R,
     writer: &mut W,
+    watch: &mut V,
 ) -> Result<ScriptEnd, ScriptFault>
     ensures ok { IfOk result (λ end. (bytes : List ℕ) × AreLeft (R.remaining reader.old) bytes
-        × IsScript D.are_right D.tells D.seen bytes desk.old desk.new (W.contents writer.old) (W.contents writer.new) end) }
+        × IsScript D.are_right D.tells D.stands D.seen bytes desk.old desk.new (W.contents writer.old) (W.contents writer.new) end) }
     ensures err { IfErr result (λ fault. (bytes : List ℕ) × AreLeft (R.remaining reader.old) bytes
-        × IsFront D.are_right D.tells D.seen fault bytes desk.old desk.new (W.contents writer.old) (W.contents writer.new)) }
+        × IsFront D.are_right D.tells D.stands D.seen fault bytes desk.old desk.new (W.contents writer.old) (W.contents writer.new)) }
     ensures fault { IfErr result (λ fault. IsOfReply fault ⊎ ((bytes : List ℕ) × IsOfReader fault (length bytes)
         × Consumes (R.remaining reader.old) (R.remaining reader.new) bytes
-        × IsCutOff D.are_right D.tells D.seen bytes desk.old desk.new (W.contents writer.old) (W.contents writer.new))) }
+        × IsCutOff D.are_right D.tells D.stands D.seen bytes desk.old desk.new (W.contents writer.old) (W.contents writer.new))) }
     ensures taken { (bytes : List ℕ) × Consumes (R.remaining reader.old) (R.remaining reader.new) bytes
         × (length bytes ≤ script_reads * 65536) }
+    ensures still { IfOk result (λ end. V.stops watch.old ≡ true → (end.refused ≡ 0) × (end.failed ≡ 0)) }
+    ensures halts { IfErr result (IfStop (V.stops watch.old ≡ true)) }
 {
     let mut end = ScriptEnd {
         refused: 0,
@@ -131,10 +150,18 @@ pub fn script<D: Desk, R: Read, W: Write>(
             return Err(ScriptFault::Read);
         };
         if taken == 0 {
-            finish(alloc, desk, writer, &mut end, &mut line)?;
+            finish(alloc, desk, writer, watch, &mut end, &mut line)?;
             return Ok(end);
         }
-        feed(alloc, desk, writer, &mut end, &mut line, &piece[..taken])?;
+        feed(
+            alloc,
+            desk,
+            writer,
+            watch,
+            &mut end,
+            &mut line,
+            &piece[..taken],
+        )?;
     }
     Err(ScriptFault::Turns)
 }

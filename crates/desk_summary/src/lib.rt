@@ -1,0 +1,10 @@
+//! What an SPDX document comes to for a desk that takes it in: how many packages it has and ships, which of these have a conclusion of
+//! their own, and what in it isn't as the standard has it (`specs/Summaries.antt`).
+//!
+//! `summary_of` looks at a document that was read, and a `Summary` prints as two lines.
+#![tactic(auto)]
+
+mod licences;
+mod summary;
+
+pub use summary::{Standing, Summary, summary_of};

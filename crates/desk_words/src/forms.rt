@@ -1,0 +1,213 @@
+//! The keys of each form of request.
+
+/// What stands behind a key.
+#[derive(Clone, Copy, Debug, PartialEq, Eq)]
+pub enum Wanted {
+    Text,
+    Number,
+    Profile,
+    Texts,
+}
+
+/// A key of a form.
+#[derive(Clone, Copy)]
+pub(crate) struct Key {
+    pub(crate) name: &'static str,
+    pub(crate) wanted: Wanted,
+    /// Whether it may be left out.
+    pub(crate) is_optional: bool,
+}
+
+/// A form of request: the word that names it, and its keys beside that word's.
+#[derive(Clone, Copy)]
+pub(crate) struct Form {
+    pub(crate) word: &'static str,
+    pub(crate) keys: &'static [Key],
+}
+
+const DAY: Key = Key {
+    name: "day",
+    wanted: Wanted::Text,
+    is_optional: false,
+};
+
+const DOCUMENT: Key = Key {
+    name: "document",
+    wanted: Wanted::Number,
+    is_optional: false,
+};
+
+const DUTY: Key = Key {
+    name: "duty",
+    wanted: Wanted::Number,
+    is_optional: false,
+};
+
+const EXPRESSION: Key = Key {
+    name: "expression",
+    wanted: Wanted::Text,
+    is_optional: false,
+};
+
+const FORM: Key = Key {
+    name: "form",
+    wanted: Wanted::Text,
+    is_optional: false,
+};
+
+const LICENCE: Key = Key {
+    name: "licence",
+    wanted: Wanted::Text,
+    is_optional: false,
+};
+
+const PACKAGE: Key = Key {
+    name: "package",
+    wanted: Wanted::Text,
+    is_optional: false,
+};
+
+const PROFILE: Key = Key {
+    name: "profile",
+    wanted: Wanted::Profile,
+    is_optional: true,
+};
+
+const REFERENCE: Key = Key {
+    name: "reference",
+    wanted: Wanted::Text,
+    is_optional: false,
+};
+
+const RELEASE: Key = Key {
+    name: "release",
+    wanted: Wanted::Text,
+    is_optional: false,
+};
+
+const TERMS: Key = Key {
+    name: "terms",
+    wanted: Wanted::Texts,
+    is_optional: false,
+};
+
+const TEXT: Key = Key {
+    name: "text",
+    wanted: Wanted::Text,
+    is_optional: false,
+};
+
+const UNTIL: Key = Key {
+    name: "until",
+    wanted: Wanted::Text,
+    is_optional: true,
+};
+
+/// The forms that a word behind `do` names.
+pub(crate) const COMMANDS: [Form; 14] = [
+    Form {
+        word: "catalogue",
+        keys: &[TEXT],
+    },
+    Form {
+        word: "import",
+        keys: &[TEXT, PROFILE],
+    },
+    Form {
+        word: "open",
+        keys: &[RELEASE, FORM],
+    },
+    Form {
+        word: "attach",
+        keys: &[RELEASE, DOCUMENT],
+    },
+    Form {
+        word: "choose",
+        keys: &[RELEASE, DOCUMENT, PACKAGE, TERMS],
+    },
+    Form {
+        word: "freeze",
+        keys: &[RELEASE, DAY],
+    },
+    Form {
+        word: "unchoose",
+        keys: &[RELEASE, DOCUMENT, PACKAGE],
+    },
+    Form {
+        word: "conclude",
+        keys: &[DOCUMENT, PACKAGE, EXPRESSION],
+    },
+    Form {
+        word: "adopt",
+        keys: &[DOCUMENT, REFERENCE, LICENCE],
+    },
+    Form {
+        word: "meet",
+        keys: &[DUTY, DAY, TEXT],
+    },
+    Form {
+        word: "waive",
+        keys: &[DUTY, DAY, TEXT, UNTIL],
+    },
+    Form {
+        word: "reopen",
+        keys: &[DUTY, DAY, TEXT],
+    },
+    Form {
+        word: "withdraw",
+        keys: &[RELEASE, DAY, TEXT],
+    },
+    Form {
+        word: "close",
+        keys: &[DAY],
+    },
+];
+
+/// The forms that a word behind `ask` names.
+pub(crate) const QUERIES: [Form; 7] = [
+    Form {
+        word: "duties",
+        keys: &[RELEASE],
+    },
+    Form {
+        word: "totals",
+        keys: &[RELEASE],
+    },
+    Form {
+        word: "changes",
+        keys: &[DUTY],
+    },
+    Form {
+        word: "findings",
+        keys: &[DOCUMENT],
+    },
+    Form {
+        word: "release",
+        keys: &[RELEASE],
+    },
+    Form {
+        word: "alternatives",
+        keys: &[DOCUMENT, PACKAGE],
+    },
+    Form {
+        word: "cheapest",
+        keys: &[DOCUMENT, PACKAGE, FORM],
+    },
+];
+
+/// The form that a word names, if it names one.
+pub(crate) fn form_named<'a>(word: &str, forms: &'a [Form]) -> Option<&'a Form> {
+    for form in forms {
+        if word == form.word {
+            return Some(form);
+        }
+    }
+    None
+}
+
+impl Form {
+    /// Whether the form has a key, besides the one of its word.
+    pub(crate) fn has(&self, name: &str) -> bool {
+        self.keys.iter().any(|key| key.name == name)
+    }
+}
