@@ -14,6 +14,7 @@ mod replies;
 mod statuses;
 
 pub use asking::{Reading, Reply, Request, Shape};
+pub use desk_http_routes::RouteTable;
 pub use reading::{request, request_of};
 pub use replies::{Message, message_of, no_memory, no_store, no_text, reply};
 pub use statuses::status_of;

@@ -11,7 +11,7 @@ ghost use Rattle.desk_http_requests.specs.Requests.{of_line, posted_request, sho
 use crate::asking::{Reading, Request, Shape};
 use desk_base::{Items, Profile, Text};
 use desk_http_head::{Framing, frame, number_of};
-use desk_http_routes::{Posted, Route, Shown, part_at, path_of, route_of, routes};
+use desk_http_routes::{Posted, Route, RouteTable, Shown, part_at, path_of};
 use desk_json::read_command;
 use desk_rows::{Command, Query};
 use std::alloc::{AllocError, Global};
@@ -177,6 +177,7 @@ fn route_request(
 /// What a method, a target and a body ask for.
 pub fn request_of(
     alloc: Global,
+    routes: &mut RouteTable,
     method: &[u8],
     target: &[u8],
     body: &[u8],
@@ -187,8 +188,7 @@ pub fn request_of(
         return Ok(Request::NoRoute);
     };
     let path = path_of(target);
-    let routes = routes(alloc)?;
-    let route = route_of(&routes, method, path);
+    let route = routes.route_of(alloc, method, path)?;
     route_request(alloc, route, path, body)
 }
 
@@ -205,7 +205,8 @@ pub fn request(alloc: Global, bytes: &[u8]) -> Result<Reading<'_>, AllocError>
             body,
             rest,
         } => {
-            let request = request_of(alloc, method, target, body)?;
+            let mut routes = RouteTable::new();
+            let request = request_of(alloc, &mut routes, method, target, body)?;
             Ok(Reading::Whole(request, rest))
         }
     }

@@ -1,7 +1,7 @@
 //! The table of the routes.
 
-ghost use Rattle.std.specs.Prelude.{◌≡◌, IfOk};
-ghost use Rattle.desk_http_routes.specs.Routes.{desk_routes, method_of, found_at, with_method};
+ghost use Rattle.std.specs.Prelude.{◌≡◌, IfOk, unwrap_or};
+ghost use Rattle.desk_http_routes.specs.Routes.{desk_routes, method_of, found_at, route_of, with_method};
 
 use matchit::{InsertError, Router};
 use std::alloc::{AllocError, Global};
@@ -40,7 +40,7 @@ pub enum Shown {
     Changes,
 }
 
-fn table(alloc: Global) -> Result<Router<Route>, InsertError>
+fn rows(alloc: Global) -> Result<Router<Route>, InsertError>
     ensures { IfOk result (λ r. r ≡ desk_routes) }
 {
     let mut routes = Router::new(alloc);
@@ -65,11 +65,11 @@ fn table(alloc: Global) -> Result<Router<Route>, InsertError>
     Ok(routes)
 }
 
-/// The table of the routes. A row that can't be added for another cause than memory is none of this table.
-pub fn routes(alloc: Global) -> Result<Router<Route>, AllocError>
+// A row that can't be added for another cause than memory is none of this table.
+fn routes(alloc: Global) -> Result<Router<Route>, AllocError>
     ensures { IfOk result (λ r. r ≡ desk_routes) }
 {
-    match table(alloc) {
+    match rows(alloc) {
         Ok(routes) => Ok(routes),
         Err(_) => Err(AllocError),
     }
@@ -97,14 +97,49 @@ fn found_at(routes: &Router<Route>, path: &str) -> Option<Route>
     }
 }
 
-/// What a method and a path ask for, if anything.
-pub fn route_of(routes: &Router<Route>, method: &[u8], path: &str) -> Option<Route>
-    ensures { result ≡ with_method method.now (found_at routes.now path.now) }
+// What was found, where the method is the one that it wants.
+fn with_method(method: &[u8], found: Option<Route>) -> Option<Route>
+    ensures { result ≡ with_method method.now found }
 {
-    let route = found_at(routes, path)?;
+    let route = found?;
     if method == route.method().as_bytes() {
         Some(route)
     } else {
         None
+    }
+}
+
+/// The table of the routes. It is made when a path is looked up for the first time, and kept: to make it takes hundreds of times as
+/// long as to look a path up.
+#[derive(Drop)]
+pub struct RouteTable {
+    routes: Option<Router<Route>>,
+    ghost whole: { unwrap_or routes desk_routes ≡ desk_routes },
+}
+
+impl RouteTable {
+    /// A table that isn't made yet.
+    pub const fn new() -> RouteTable {
+        RouteTable { routes: None }
+    }
+
+    /// What a method and a path ask for, if anything.
+    pub fn route_of(
+        &mut self,
+        alloc: Global,
+        method: &[u8],
+        path: &str,
+    ) -> Result<Option<Route>, AllocError>
+        ensures { IfOk result (λ route. route ≡ route_of method.now path.now) }
+    {
+        if let Some(routes) = &self.routes {
+            return Ok(with_method(method, found_at(routes, path)));
+        }
+        let routes = routes(alloc)?;
+        let route = with_method(method, found_at(&routes, path));
+        *self = RouteTable {
+            routes: Some(routes),
+        };
+        Ok(route)
     }
 }

@@ -1,7 +1,7 @@
 use Rattle.std.proofs.Common.{refl}
 use Rattle.matchit.proofs.OnLiterals.{matchit_on_literals}
 use Rattle.desk_http_routes.specs.Routes.{desk_routes}
-use Rattle.desk_http_routes.proofs.table.table.Goals as goal
+use Rattle.desk_http_routes.proofs.table.rows.Goals as goal
 
 pub returns : goal.returns
 unfolding matchit_on_literals desk_routes
