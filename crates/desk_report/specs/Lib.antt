@@ -1,3 +1,4 @@
+pub mod Columns
 pub mod CsvTable
 pub mod Lines
 pub mod Notices

@@ -27,7 +27,7 @@ fn add_record<W: Write + Drop>(writer: &mut Writer<W>, fields: &[&[u8]]) -> Resu
 }
 
 // The day as it is written, and an empty field where there is none.
-fn day_cell(day: &Option<Day>) -> &[u8]
+pub(crate) fn day_cell(day: &Option<Day>) -> &[u8]
     ensures { result.now ≡ unwrap_or day.now [] }
 {
     match day {

@@ -1,0 +1,57 @@
+-- The table of duties laid out in columns, for a terminal. 10 is the line feed, 32 the blank and 63 `?`.
+use Rattle.std.specs.Prelude.{ℕ, ◌-◌, ◌+◌, false, ◌==◌, ◌||◌, nat_lt, List, [], ◌∷◌, ◌++◌, map, max, chars, codes, decimal, replicate, unwrap_or, if◌then◌else◌}
+use Rattle.std.specs.List.{flat_map}
+use Rattle.unicode_width.specs.Width.{str_width}
+use Rattle.desk_rows.specs.Names.{duty_state_name}
+use Rattle.desk_rows.specs.declared.command.DutyLine.{DutyLine}
+
+-- a question mark stands for a control byte
+abbrev pub shown_byte : ℕ → ℕ
+shown_byte b = if nat_lt b 32 || b == 127 then 63 else b
+
+-- how many columns of a terminal a text takes
+abbrev pub width : List ℕ → ℕ
+width text = str_width false (chars text)
+
+-- the names of the columns before the last
+abbrev pub front_names : List (List ℕ)
+front_names = codes "number" ∷ codes "document" ∷ codes "package" ∷ codes "term" ∷ codes "rule" ∷ codes "code" ∷ codes "state" ∷ []
+
+-- what stands in these of a duty
+abbrev pub front_cells : DutyLine → List (List ℕ)
+front_cells line = decimal line.number ∷ decimal line.document ∷ line.package_id ∷ line.term ∷ line.rule ∷ line.code ∷ duty_state_name line.state ∷ []
+
+-- the widths of columns that have these cells besides
+abbrev pub widened : List ℕ → List (List ℕ) → List ℕ
+widened [] cells = []
+widened (w ∷ ws) [] = []
+widened (w ∷ ws) (cell ∷ cells) = max w (width cell) ∷ widened ws cells
+
+-- the widths of columns that have the cells of these duties besides
+abbrev pub widths_with : List ℕ → List DutyLine → List ℕ
+widths_with ws [] = ws
+widths_with ws (line ∷ lines) = widths_with (widened ws (front_cells line)) lines
+
+-- each column is as wide as its widest text
+abbrev pub widths : List DutyLine → List ℕ
+widths lines = widths_with (map width front_names) lines
+
+-- a cell, filled up to the width of its column, and two blanks
+abbrev pub filled : ℕ → List ℕ → List ℕ
+filled w cell = map shown_byte cell ++ replicate (w - width cell + 2) 32
+
+abbrev pub front_text : List ℕ → List (List ℕ) → List ℕ
+front_text [] cells = []
+front_text (w ∷ ws) [] = []
+front_text (w ∷ ws) (cell ∷ cells) = filled w cell ++ front_text ws cells
+
+-- a row: the last column needs no blanks
+abbrev pub row_line : List ℕ → List (List ℕ) → List ℕ → List ℕ
+row_line ws cells last = front_text ws cells ++ last ++ 10 ∷ []
+
+abbrev pub duty_row : List ℕ → DutyLine → List ℕ
+duty_row ws line = row_line ws (front_cells line) (unwrap_or line.day [])
+
+-- the names of the columns, and a row for each duty
+unfoldable pub columns_text : List DutyLine → List ℕ
+columns_text lines = row_line (widths lines) front_names (codes "since") ++ flat_map (duty_row (widths lines)) lines

@@ -1,0 +1,191 @@
+//! The table of a release's duties in columns.
+
+ghost use Rattle.std.specs.Prelude.{◌≡◌, ◌++◌, ◌∷◌, decimal, map, replicate, IfOk, OnOk};
+ghost use Rattle.desk_report.specs.Columns.{shown_byte, width, front_names, front_cells, widened, widths, filled, front_text, row_line, duty_row, columns_text};
+
+use crate::table::day_cell;
+use desk_rows::DutyLine;
+use std::alloc::{AllocError, Global};
+use unicode_width::UnicodeWidthStr;
+
+/// How many blanks stand between two columns.
+const GAP: usize = 2;
+
+/// The names of the columns before the last.
+const FRONT_NAMES: [&str; 7] = [
+    "number", "document", "package", "term", "rule", "code", "state",
+];
+
+// A byte as a terminal is to show it.
+fn shown_byte(byte: u8) -> u8
+    ensures { result ≡ shown_byte byte }
+{
+    if byte < 32 || byte == 127 { b'?' } else { byte }
+}
+
+// How many columns of a terminal a text takes.
+fn width(text: &str) -> usize
+    ensures { result ≡ width text.now }
+{
+    text.width()
+}
+
+// What stands before the last column of a duty, whose numbers are written already.
+fn front_cells<'a>(number: &'a str, document: &'a str, line: &'a DutyLine) -> [&'a str; 7]
+    ensures { number.now ≡ decimal line.now.number → document.now ≡ decimal line.now.document
+        → map (λ cell. cell.now) result ≡ front_cells line.now }
+{
+    let state: &'a str = line.state.name();
+    [
+        number,
+        document,
+        line.package_id.as_str(),
+        line.term.as_str(),
+        line.rule.as_str(),
+        line.code.as_str(),
+        state,
+    ]
+}
+
+// The widths of texts.
+fn widths_of(alloc: Global, texts: &[&str]) -> Result<Vec<usize>, AllocError>
+    ensures { IfOk result (λ widths. widths.items ≡ map (λ text. width text.now) texts.now) }
+{
+    let mut widths = Vec::new(alloc);
+    for text in texts {
+        widths.push(width(*text))?;
+    }
+    Ok(widths)
+}
+
+// Adds the widths of columns that have these cells besides.
+fn add_widened(found: &mut Vec<usize>, widths: &[usize], cells: &[&str]) -> Result<(), AllocError>
+    ensures { OnOk result (found.new.items ≡ found.old.items ++ widened widths.now (map (λ cell. cell.now) cells.now)) }
+{
+    match widths {
+        [] => Ok(()),
+        [known, widths @ ..] => match cells {
+            [] => Ok(()),
+            [cell, cells @ ..] => {
+                found.push((*known).max(width(*cell)))?;
+                add_widened(found, widths, cells)
+            }
+        },
+    }
+}
+
+// The widths of columns that have the cells of a duty besides.
+fn widened(alloc: Global, widths: &[usize], line: &DutyLine) -> Result<Vec<usize>, AllocError>
+    ensures { IfOk result (λ found. found.items ≡ widened widths.now (front_cells line.now)) }
+{
+    let number = line.number;
+    let number = format!(in alloc; "{number}")?;
+    let document = line.document;
+    let document = format!(in alloc; "{document}")?;
+    let cells = front_cells(number.as_str(), document.as_str(), line);
+    let mut found = Vec::new(alloc);
+    add_widened(&mut found, widths, &cells)?;
+    Ok(found)
+}
+
+// The width of each column before the last.
+fn widths(alloc: Global, lines: &[DutyLine]) -> Result<Vec<usize>, AllocError>
+    ensures { IfOk result (λ found. found.items ≡ widths lines.now) }
+{
+    let mut found = widths_of(alloc, &FRONT_NAMES)?;
+    for line in lines {
+        found = widened(alloc, found.as_slice(), line)?;
+    }
+    Ok(found)
+}
+
+// Adds a text as a terminal is to show it.
+fn add_shown(text: &mut Vec<u8>, cell: &str) -> Result<(), AllocError>
+    ensures { OnOk result (text.new.items ≡ text.old.items ++ map shown_byte cell.now) }
+{
+    for byte in cell.as_bytes() {
+        text.push(shown_byte(*byte))?;
+    }
+    Ok(())
+}
+
+// Adds so many blanks.
+fn add_blanks(text: &mut Vec<u8>, count: usize) -> Result<(), AllocError>
+    ensures { OnOk result (text.new.items ≡ text.old.items ++ replicate count 32) }
+{
+    for _ in 0..count {
+        text.push(b' ')?;
+    }
+    Ok(())
+}
+
+// Adds a cell that is filled up to the width of its column.
+fn add_filled(text: &mut Vec<u8>, wide: usize, cell: &str) -> Result<(), AllocError>
+    ensures { OnOk result (text.new.items ≡ text.old.items ++ filled wide cell.now) }
+{
+    add_shown(text, cell)?;
+    add_blanks(text, wide.saturating_sub(width(cell)))?;
+    add_blanks(text, GAP)
+}
+
+// Adds cells, each filled up to the width of its column.
+fn add_front(text: &mut Vec<u8>, widths: &[usize], cells: &[&str]) -> Result<(), AllocError>
+    ensures { OnOk result (text.new.items ≡ text.old.items ++ front_text widths.now (map (λ cell. cell.now) cells.now)) }
+{
+    match widths {
+        [] => Ok(()),
+        [wide, widths @ ..] => match cells {
+            [] => Ok(()),
+            [cell, cells @ ..] => {
+                add_filled(text, *wide, *cell)?;
+                add_front(text, widths, cells)
+            }
+        },
+    }
+}
+
+// Adds a row.
+fn add_row(
+    text: &mut Vec<u8>,
+    widths: &[usize],
+    cells: &[&str],
+    last: &[u8],
+) -> Result<(), AllocError>
+    ensures { OnOk result (text.new.items ≡ text.old.items ++ row_line widths.now (map (λ cell. cell.now) cells.now) last.now) }
+{
+    add_front(text, widths, cells)?;
+    text.extend_from_slice(last)?;
+    text.extend_from_slice(b"\n")
+}
+
+// Adds the row of a duty.
+fn add_duty(
+    alloc: Global,
+    text: &mut Vec<u8>,
+    widths: &[usize],
+    line: &DutyLine,
+) -> Result<(), AllocError>
+    ensures { OnOk result (text.new.items ≡ text.old.items ++ duty_row widths.now line.now) }
+{
+    let number = line.number;
+    let number = format!(in alloc; "{number}")?;
+    let document = line.document;
+    let document = format!(in alloc; "{document}")?;
+    let cells = front_cells(number.as_str(), document.as_str(), line);
+    add_row(text, widths, &cells, day_cell(&line.day))
+}
+
+/// The table of duties as a terminal shows it: the names of the columns, as in `duties_csv`, and a row for each duty, each ended by LF.
+/// A column is as wide as its widest text, and two blanks stand before the next. A question mark stands for a control byte.
+#[tactic(auto, unfolding(crate::specs::Columns::columns_text))]
+pub fn duties_columns(alloc: Global, lines: &[DutyLine]) -> Result<Vec<u8>, AllocError>
+    ensures { IfOk result (λ text. text.items ≡ columns_text lines.now) }
+{
+    let widths = widths(alloc, lines)?;
+    let mut text = Vec::new(alloc);
+    add_row(&mut text, widths.as_slice(), &FRONT_NAMES, b"since")?;
+    for line in lines {
+        add_duty(alloc, &mut text, widths.as_slice(), line)?;
+    }
+    Ok(text)
+}
