@@ -1,5 +1,7 @@
 pub mod Texts
 pub mod Used
+pub mod Naming
+pub mod Firsts
 pub mod Sets
 pub mod Lists
 pub mod Shown

@@ -13,7 +13,7 @@ use desk_gather::FileInfo;
 use std::alloc::{AllocError, Global};
 use std::collections::BTreeSet;
 
-/// What a tree lacks to be REUSE-compliant.
+/// What a tree lacks.
 #[derive(Debug, Drop)]
 pub struct Lint {
     /// Licences, exceptions and references that are used and have no text, by their keys, in byte order.

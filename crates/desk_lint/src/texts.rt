@@ -49,8 +49,8 @@ fn stem(name: &str) -> &str
     }
 }
 
-// What an identifier is compared by.
-fn key_of(alloc: Global, id: &str) -> Result<Key, AllocError>
+/// What an identifier is compared by.
+pub(crate) fn key_of(alloc: Global, id: &str) -> Result<Key, AllocError>
     ensures { IfOk result (λ k. k ≡ key_of id.now) }
 {
     if is_reference(id.as_bytes()) {

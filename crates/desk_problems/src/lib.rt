@@ -1,13 +1,14 @@
 //! All problems of a source tree (REUSE Specification 3.3) at once: what is wrong in it, and what it lacks.
 //!
-//! - `problems` gives them: the flaws that `desk_gather::survey` finds, and the three lists of `desk_lint` over what can be read past
-//!   them (`specs/Problems.antt`). Where everything of the tree is gathered there are no flaws, and the lists are those of
+//! - `problems_of` gives them: older annotations that aren't read, the flaws that `desk_gather::survey` finds, licences with a blank at
+//!   an end, and the three lists of `desk_lint` over what can be read past all that (`specs/Problems.antt`). Where everything of the tree is gathered there are no flaws, and the lists are those of
 //!   `desk_lint::lint`; else the fault of `desk_gather::gather` is the first flaw.
-//! - `report` tells them: where each problem is, what is wrong and what to do (`specs/Rows.antt`), a line each or as one JSON object
+//! - `report_on` tells them: where each problem is, what is wrong and what to do (`specs/Rows.antt`), a line each or as one JSON object
 //!   (`specs/Reports.antt`).
 #![tactic(auto)]
 
 mod bare;
+mod blanks;
 mod json;
 mod lines;
 mod problems;
@@ -16,6 +17,7 @@ mod row;
 mod rows;
 
 pub use bare::{Bare, Lacking};
+pub use blanks::Blank;
 pub use problems::{Problems, problems_of};
 pub use reports::{Report, report_on};
 pub use row::{Kind, Row};

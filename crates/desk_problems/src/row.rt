@@ -1,7 +1,7 @@
 //! What is told of a problem.
 
 ghost use Rattle.std.specs.Prelude.{◌≡◌, IfOk};
-ghost use Rattle.desk_problems.specs.Rows.{kind_name, plain_row};
+ghost use Rattle.desk_problems.specs.Rows.{kind_name, kind_number, kinds, plain_row};
 
 use desk_base::Text;
 use std::alloc::{AllocError, Global};
@@ -9,6 +9,8 @@ use std::alloc::{AllocError, Global};
 /// The kinds of problems.
 #[derive(Clone, Copy, Debug, PartialEq, Eq)]
 pub enum Kind {
+    /// The older file of annotations, which isn't read.
+    Dep5,
     /// More than 10,000 files.
     TooManyFiles,
     /// A path that can't stand in a tree.
@@ -21,6 +23,8 @@ pub enum Kind {
     BadAnnotation,
     /// A tag that is no licence expression.
     BadExpression,
+    /// An annotation with a licence that no document can hold.
+    BlankAtEnd,
     /// A licence, exception or reference that is used and has no text.
     Missing,
     /// A licence's text that nothing uses.
@@ -35,17 +39,57 @@ impl Kind {
         ensures { result.now ≡ kind_name self }
     {
         match self {
+            Kind::Dep5 => "Dep5",
             Kind::TooManyFiles => "TooManyFiles",
             Kind::BadPath => "BadPath",
             Kind::TwicePath => "TwicePath",
             Kind::BadToml => "BadToml",
             Kind::BadAnnotation => "BadAnnotation",
             Kind::BadExpression => "BadExpression",
+            Kind::BlankAtEnd => "BlankAtEnd",
             Kind::Missing => "Missing",
             Kind::Unused => "Unused",
             Kind::Bare => "Bare",
         }
     }
+
+    // The place of the kind among all.
+    pub(crate) fn number(self) -> u8
+        ensures { result ≡ kind_number self }
+    {
+        match self {
+            Kind::Dep5 => 0,
+            Kind::TooManyFiles => 1,
+            Kind::BadPath => 2,
+            Kind::TwicePath => 3,
+            Kind::BadToml => 4,
+            Kind::BadAnnotation => 5,
+            Kind::BadExpression => 6,
+            Kind::BlankAtEnd => 7,
+            Kind::Missing => 8,
+            Kind::Unused => 9,
+            Kind::Bare => 10,
+        }
+    }
+}
+
+/// Each kind, in the order in which they are told.
+pub(crate) fn kinds() -> [Kind; 11]
+    ensures { result ≡ kinds }
+{
+    [
+        Kind::Dep5,
+        Kind::TooManyFiles,
+        Kind::BadPath,
+        Kind::TwicePath,
+        Kind::BadToml,
+        Kind::BadAnnotation,
+        Kind::BadExpression,
+        Kind::BlankAtEnd,
+        Kind::Missing,
+        Kind::Unused,
+        Kind::Bare,
+    ]
 }
 
 /// What is told of a problem.

@@ -5,16 +5,21 @@ ghost use Rattle.std.specs.List.{list_any};
 ghost use Rattle.std.specs.String.{string_bytes};
 ghost use Rattle.desk_expr.specs.Faults.{fault_number};
 ghost use Rattle.desk_gather.specs.declared.flaw.Flaw.TheVariants.{BadAnnotation, BadExpression};
-ghost use Rattle.desk_problems.specs.Rows.{flaw_row, annotation_words, StopsAt, path_words, expression_words, stop_words, IsFlawRow, AreFlawRows, missing_row, unused_row, lacking_words, bare_row, list_rows, AreRows};
+ghost use Rattle.desk_problems.specs.Rows.{flaw_row, annotation_words, StopsAt, path_words, quoted, expression_words, stop_words, IsFlawRow, AreFlawRows, dep5_rows, blank_row, named_words, text_words, missing_row, unused_row, lacking_words, bare_row, list_rows, AreRows};
 
 use crate::bare::{Bare, Lacking};
+use crate::blanks::Blank;
 use crate::problems::Problems;
 use crate::row::{Kind, Row, row_of};
 use desk_annotations::AnnotationFault;
 use desk_base::{Items, Text};
 use desk_expr::{ParseFault, parse};
 use desk_gather::Flaw;
+use desk_lint::Name;
 use std::alloc::{AllocError, Global};
+
+// How many bytes of a text are quoted.
+const QUOTED_MOST: usize = 200;
 
 // What is wrong with an annotation.
 fn annotation_words(fault: AnnotationFault) -> &'static str
@@ -66,22 +71,47 @@ fn stop_of(alloc: Global, text: &str) -> Result<Option<ParseFault>, AllocError>
 }
 
 // That, in words.
-fn expression_words(alloc: Global, stop: Option<ParseFault>) -> Result<String, AllocError>
-    ensures { IfOk result (λ words. string_bytes words ≡ expression_words stop) }
+fn stop_words(alloc: Global, stop: Option<ParseFault>) -> Result<String, AllocError>
+    ensures { IfOk result (λ words. string_bytes words ≡ stop_words stop) }
 {
     match stop {
         Some(fault) => {
             let name = fault.name();
             let place = fault.place();
-            format!(in alloc;
-                "the licence is no expression, {name} at {place}: mend it, or have the line ignored"
-            )
+            format!(in alloc; " ({name} at {place})")
         }
-        None => String::from_str(
-            alloc,
-            "the licence is no expression: mend it, or have the line ignored",
-        ),
+        None => String::from_str(alloc, ""),
     }
+}
+
+// A text in quotes, or how long it is.
+fn quoted(alloc: Global, text: &str) -> Result<String, AllocError>
+    ensures { IfOk result (λ words. string_bytes words ≡ quoted text.now) }
+{
+    let length = text.len();
+    if length > QUOTED_MOST {
+        format!(in alloc; "a text of {length} bytes")
+    } else {
+        format!(in alloc; "'{text}'")
+    }
+}
+
+// What is told of a tag.
+fn expression_words(
+    alloc: Global,
+    text: &str,
+    stop: Option<ParseFault>,
+) -> Result<String, AllocError>
+    ensures { IfOk result (λ words. string_bytes words ≡ expression_words text.now stop) }
+{
+    let quoted = quoted(alloc, text)?;
+    let stop = stop_words(alloc, stop)?;
+    let quoted = quoted.as_str();
+    let stop = stop.as_str();
+    format!(in alloc;
+        "{quoted}{stop} is no licence expression: mend it, state the licence in FILE.license beside the \
+         file, or put REUSE-IgnoreStart before the line and REUSE-IgnoreEnd behind it"
+    )
 }
 
 // The row of a tag that is no licence expression.
@@ -89,7 +119,7 @@ fn expression_row(alloc: Global, path: &str, line: u64, text: &str) -> Result<Ro
     ensures { IfOk result (IsFlawRow (BadExpression path.now line text.now)) }
 {
     let stop = stop_of(alloc, text)?;
-    let message = expression_words(alloc, stop)?;
+    let message = expression_words(alloc, text, stop)?;
     Ok(Row {
         kind: Kind::BadExpression,
         path: Text::of(alloc, path)?,
@@ -165,21 +195,94 @@ fn flaw_rows(alloc: Global, flaws: &[Flaw]) -> Result<Vec<Row>, AllocError>
     Ok(rows)
 }
 
-// The row of a text that is missing.
-fn missing_row(alloc: Global, key: &str) -> Result<Row, AllocError>
-    ensures { IfOk result (λ row. row ≡ missing_row key.now) }
+// The rows of older annotations.
+fn dep5_rows(alloc: Global, dep5: bool) -> Result<Vec<Row>, AllocError>
+    ensures { IfOk result (λ rows. rows.items ≡ dep5_rows dep5) }
 {
+    let mut rows = Vec::new(alloc);
+    if dep5 {
+        rows.push(row_of(
+            alloc,
+            Kind::Dep5,
+            ".reuse/dep5",
+            "this file isn't read: write what it says into a REUSE.toml, and take it away; \
+             until then no text is called unused",
+        )?)?;
+    }
+    Ok(rows)
+}
+
+// The row of an annotation with a licence that no document can hold.
+fn blank_row(alloc: Global, blank: &Blank) -> Result<Row, AllocError>
+    ensures { IfOk result (λ row. row ≡ blank_row blank.now) }
+{
+    let index = blank.index;
     let message = format!(in alloc;
-        "no text of {key}, which is used: add it as LICENSES/{key}.txt"
+        "annotation {index}, counted from 0, has a licence with a blank at an end, \
+         which no document can hold: take the blank away"
     )?;
+    row_of(
+        alloc,
+        Kind::BlankAtEnd,
+        blank.path.as_str(),
+        message.as_str(),
+    )
+}
+
+fn add_blanks(alloc: Global, rows: &mut Vec<Row>, blanks: &[Blank]) -> Result<(), AllocError>
+    ensures { OnOk result (rows.new.items ≡ rows.old.items ++ map blank_row blanks.now) }
+{
+    for blank in blanks {
+        rows.push(blank_row(alloc, blank)?)?;
+    }
+    Ok(())
+}
+
+// Which file names a licence.
+fn named_words(alloc: Global, path: &Option<Text>) -> Result<String, AllocError>
+    ensures { IfOk result (λ words. string_bytes words ≡ named_words path.now) }
+{
+    match path {
+        Some(path) => {
+            let path = path.as_str();
+            format!(in alloc; ", which {path} names")
+        }
+        None => String::from_str(alloc, ""),
+    }
+}
+
+// What to do for a text.
+fn text_words(alloc: Global, id: &str) -> Result<String, AllocError>
+    ensures { IfOk result (λ words. string_bytes words ≡ text_words id.now) }
+{
+    if id.as_bytes().starts_with(b"DocumentRef-") {
+        String::from_str(
+            alloc,
+            ": its text is in another document, so name a licence whose text is in LICENSES/",
+        )
+    } else {
+        format!(in alloc; ": add it as LICENSES/{id}.txt")
+    }
+}
+
+// The row of a text that is missing.
+fn missing_row(alloc: Global, name: &Name) -> Result<Row, AllocError>
+    ensures { IfOk result (λ row. row ≡ missing_row name.now) }
+{
+    let named = named_words(alloc, &name.path)?;
+    let text = text_words(alloc, name.id.as_str())?;
+    let id = name.id.as_str();
+    let named = named.as_str();
+    let text = text.as_str();
+    let message = format!(in alloc; "no text of {id}{named}{text}")?;
     row_of(alloc, Kind::Missing, "LICENSES/", message.as_str())
 }
 
-fn add_missing(alloc: Global, rows: &mut Vec<Row>, keys: &[Text]) -> Result<(), AllocError>
-    ensures { OnOk result (rows.new.items ≡ rows.old.items ++ map missing_row keys.now) }
+fn add_missing(alloc: Global, rows: &mut Vec<Row>, names: &[Name]) -> Result<(), AllocError>
+    ensures { OnOk result (rows.new.items ≡ rows.old.items ++ map missing_row names.now) }
 {
-    for key in keys {
-        rows.push(missing_row(alloc, key.as_str())?)?;
+    for name in names {
+        rows.push(missing_row(alloc, name)?)?;
     }
     Ok(())
 }
@@ -210,13 +313,16 @@ fn lacking_words(lacking: Lacking) -> &'static str
 {
     match lacking {
         Lacking::Notice => {
-            "no copyright notice: state one in the file, beside it in FILE.license, or in REUSE.toml"
+            "no SPDX-FileCopyrightText (a notice without it doesn't count): \
+             state one in the file, beside it in FILE.license, or in REUSE.toml"
         }
         Lacking::Licence => {
-            "no licence: state one in the file, beside it in FILE.license, or in REUSE.toml"
+            "no SPDX-License-Identifier (a licence without it doesn't count): \
+             state one in the file, beside it in FILE.license, or in REUSE.toml"
         }
         Lacking::Both => {
-            "no copyright notice and no licence: state them in the file, beside it in FILE.license, or in REUSE.toml"
+            "no SPDX-FileCopyrightText and no SPDX-License-Identifier (what is said without them doesn't count): \
+             state them in the file, beside it in FILE.license, or in REUSE.toml"
         }
     }
 }
@@ -242,13 +348,16 @@ fn add_bare(alloc: Global, rows: &mut Vec<Row>, files: &[Bare]) -> Result<(), Al
     Ok(())
 }
 
-/// What is told of each problem: the flaws first, then the texts that are missing, those that nothing uses, and the files that lack
-/// something. The only error is want of memory.
+/// What is told of each problem: older annotations first, the flaws, licences that no document can hold, then the texts that are
+/// missing, those that nothing uses, and the files that lack something. The only error is want of memory.
 pub fn rows_of(alloc: Global, problems: &Problems) -> Result<Vec<Row>, AllocError>
     ensures { IfOk result (λ rows. AreRows problems.now rows.items) }
 {
-    let mut rows = flaw_rows(alloc, problems.flaws.as_slice())?;
-    add_missing(alloc, &mut rows, problems.missing.as_slice())?;
+    let mut rows = dep5_rows(alloc, problems.dep5)?;
+    let mut told = flaw_rows(alloc, problems.flaws.as_slice())?;
+    rows.append(&mut told)?;
+    add_blanks(alloc, &mut rows, problems.blanks.as_slice())?;
+    add_missing(alloc, &mut rows, problems.names.as_slice())?;
     add_unused(alloc, &mut rows, problems.unused.as_slice())?;
     add_bare(alloc, &mut rows, problems.bare.as_slice())?;
     Ok(rows)

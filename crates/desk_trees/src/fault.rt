@@ -13,7 +13,7 @@ pub enum TreeFault {
     /// A file or folder can't be read, or a name in it isn't UTF-8: its path, and why.
     #[error("cannot read {0:?}: {1}")]
     Read(String, io::Error),
-    /// What was a file is none any more: its path.
-    #[error("cannot read {0:?}: it is no file any more; try again when nothing changes the folder")]
+    /// What was a file or a folder is none any more: its path.
+    #[error("cannot read {0:?}: it is no file or folder any more; try again when nothing changes the folder")]
     Changed(String),
 }

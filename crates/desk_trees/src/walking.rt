@@ -82,6 +82,32 @@ fn list<R: Files + AllocGlobal + Clone + Drop>(
     Ok(())
 }
 
+// Whether what was a folder is one still, and no link in its place. The root may be a link.
+fn is_folder<R: Files + AllocGlobal + Clone + Drop>(
+    rt: &R,
+    folder: &str,
+    place: &str,
+) -> io::Result<bool> {
+    if folder == "" {
+        return Ok(true);
+    }
+    Ok(fs::symlink_metadata(rt, place)?.is_dir())
+}
+
+// Notes what a folder holds, and says whether it is a folder still.
+fn list_folder<R: Files + AllocGlobal + Clone + Drop>(
+    rt: &R,
+    met: &mut Met,
+    folder: &str,
+    place: &str,
+) -> io::Result<bool> {
+    if !is_folder(rt, folder, place)? {
+        return Ok(false);
+    }
+    list(rt, met, folder, place)?;
+    Ok(true)
+}
+
 // Goes through the folders that are left, up to one with more files than a tree may have.
 fn walk<R: Files + AllocGlobal + Clone + Drop>(
     rt: &R,
@@ -94,8 +120,9 @@ fn walk<R: Files + AllocGlobal + Clone + Drop>(
             break;
         };
         let place = place(alloc, root, folder.as_str())?;
-        match list(rt, met, folder.as_str(), place.as_str()) {
-            Ok(()) => {}
+        match list_folder(rt, met, folder.as_str(), place.as_str()) {
+            Ok(true) => {}
+            Ok(false) => return Err(TreeFault::Changed(place)),
             Err(error) => return Err(TreeFault::Read(place, error)),
         }
         // With one more than a tree may have, no further one matters.
