@@ -11,7 +11,7 @@ use Rattle.desk_line.specs.Fields.{if_stands}
 use Rattle.desk_line.specs.Numbers.{number_written}
 use Rattle.desk_line.specs.Words.{desk_app}
 use Rattle.desk_line.specs.declared.call.Call.{Call}
-use Rattle.desk_line.specs.declared.call.Call.TheVariants.{Check, Alternatives, Script, Import, Catalogue, Notices, Duties, Totals, Changes, Audit, Gather, Lint, Serve}
+use Rattle.desk_line.specs.declared.call.Call.TheVariants.{Check, Alternatives, Script, Import, Catalogue, Notices, Duties, Totals, Changes, Audit, Migrate, Gather, Lint, Serve}
 use Rattle.desk_line.specs.declared.reports.Release.{Release}
 use Rattle.desk_line.specs.declared.call.LineFault.{LineFault}
 use Rattle.desk_line.specs.declared.call.LineFault.TheVariants.{Memory, Usage}
@@ -33,9 +33,14 @@ check_in rows = option_and_then (λ expression. option_and_then (λ terms. optio
 abbrev pub alternatives_in : List Row → Option Call
 alternatives_in rows = option_and_then (λ expression. option_map (λ profile. Alternatives expression profile) (profile_in rows)) (first_of (codes "EXPR") rows)
 
+-- whether a flag is used, which `clap` writes as a value
+abbrev pub is_true : Option Text → Bool
+is_true None = false
+is_true (Some value) = bytes_eq value (codes "true")
+
 -- the call of `script` with these values
 abbrev pub script_in : List Row → Call
-script_in rows = Script (first_of (codes "FILE") rows)
+script_in rows = Script (first_of (codes "FILE") rows) (is_true (first_of (codes "EXPLAIN") rows)) (is_true (first_of (codes "STOP") rows))
 
 -- the call of `import` with these values
 abbrev pub import_in : List Row → Option Call
@@ -54,11 +59,6 @@ field_in id rows = option_and_then if_stands (first_of id rows)
 abbrev pub gather_in : List Row → Option Call
 gather_in rows = option_and_then (λ folder. option_and_then (λ name. option_and_then (λ namespace. option_map (λ created. Gather folder name namespace created)
     (field_in (codes "CREATED") rows)) (field_in (codes "NAMESPACE") rows)) (field_in (codes "NAME") rows)) (first_of (codes "DIR") rows)
-
--- whether a flag is used, which `clap` writes as a value
-abbrev pub is_true : Option Text → Bool
-is_true None = false
-is_true (Some value) = bytes_eq value (codes "true")
 
 -- the call of `lint` with these values
 abbrev pub lint_in : List Row → Option Call
@@ -97,6 +97,10 @@ changes_in rows = option_and_then (λ database. option_map (λ duty. Changes dat
 abbrev pub audit_in : List Row → Option Call
 audit_in rows = option_map Audit (first_of (codes "FILE") rows)
 
+-- the call of `migrate` with these values
+abbrev pub migrate_in : List Row → Option Call
+migrate_in rows = option_map Migrate (first_of (codes "FILE") rows)
+
 -- the call of a subcommand with these values
 abbrev pub call_in : Text → List Row → Option Call
 call_in name rows =
@@ -110,6 +114,7 @@ call_in name rows =
     else if bytes_eq name (codes "totals") then totals_in rows
     else if bytes_eq name (codes "changes") then changes_in rows
     else if bytes_eq name (codes "audit") then audit_in rows
+    else if bytes_eq name (codes "migrate") then migrate_in rows
     else if bytes_eq name (codes "gather") then gather_in rows
     else if bytes_eq name (codes "lint") then lint_in rows
     else if bytes_eq name (codes "serve") then serve_in rows

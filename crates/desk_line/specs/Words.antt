@@ -34,9 +34,16 @@ alternatives_app = with_rule (with_rule (new_app (codes "alternatives")) profile
 abbrev pub optional : Text → Text → Rule
 optional name long = record (new_rule name) { long = Some long }
 
--- `script [--db FILE]`
+-- `--LONG`, which has no value
+abbrev pub flag : Text → Text → Rule
+flag name long = record (new_rule name) { long = Some long; action = Some SetTrue }
+
+-- `script [--db FILE] [--explain] [--stop]`
+abbrev pub kept_script_app : App
+kept_script_app = with_rule (new_app (codes "script")) (optional (codes "FILE") (codes "db"))
+
 abbrev pub script_app : App
-script_app = with_rule (new_app (codes "script")) (optional (codes "FILE") (codes "db"))
+script_app = with_rule (with_rule kept_script_app (flag (codes "EXPLAIN") (codes "explain"))) (flag (codes "STOP") (codes "stop"))
 
 -- `--LONG NAME`, which must be used
 abbrev pub wanted : Text → Text → Rule
@@ -60,10 +67,6 @@ named_tree_app = with_rule (with_rule (new_app (codes "gather")) (word (codes "D
 
 abbrev pub gather_app : App
 gather_app = with_rule (with_rule named_tree_app (wanted (codes "NAMESPACE") (codes "namespace"))) (wanted (codes "CREATED") (codes "created"))
-
--- `--LONG`, which has no value
-abbrev pub flag : Text → Text → Rule
-flag name long = record (new_rule name) { long = Some long; action = Some SetTrue }
 
 -- `lint DIR [--json]`
 abbrev pub lint_app : App
@@ -114,9 +117,13 @@ reporting_app = with_subcommand (with_subcommand counting_app (release_app (code
 abbrev pub audit_app : App
 audit_app = with_rule (new_app (codes "audit")) database_option
 
--- and with the one that audits a file
+-- `migrate --db FILE`
+abbrev pub migrate_app : App
+migrate_app = with_rule (new_app (codes "migrate")) database_option
+
+-- and with those that audit and migrate a file
 abbrev pub auditing_app : App
-auditing_app = with_subcommand reporting_app audit_app.top
+auditing_app = with_subcommand (with_subcommand reporting_app audit_app.top) migrate_app.top
 
 -- and with those that read a source tree
 abbrev pub reading_app : App

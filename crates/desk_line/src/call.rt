@@ -20,9 +20,12 @@ pub enum Call {
         expression: Text,
         profile: Profile,
     },
-    /// Replies to the requests of standard input, a line each, over the desk that is kept in a file, or over one in memory.
+    /// Replies to the requests of standard input, a line each, over the desk that is kept in a file, or over one in memory. What isn't
+    /// done is explained or not, and ends the script or not.
     Script {
         database: Option<Text>,
+        explain: bool,
+        stop: bool,
     },
     /// The import of a document, the file of which has this path, by the desk that is kept in a file. Operators of its licence
     /// expressions are written by the profile.
@@ -72,6 +75,10 @@ pub enum Call {
     },
     /// The audit of the tables of a file.
     Audit {
+        database: Text,
+    },
+    /// The migration of a file of an older version to this one's tables.
+    Migrate {
         database: Text,
     },
     /// The problems of the tree of files in a folder, as one JSON object or as lines.

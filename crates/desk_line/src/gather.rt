@@ -22,7 +22,8 @@ Writes the SPDX document of a source tree, by what its files say of their licenc
 Reads the files of a folder (REUSE Specification 3.3): the tags SPDX-License-Identifier: and
 SPDX-FileCopyrightText: in each file, or in FILE.license beside it, and the REUSE.toml files from the
 folder to the file's own. It prints a tag-value document (SPDX 2.3) of one package and its files, with
-their SHA1 digests, licences and notices, which the request import takes. Or it prints one line:
+their SHA1 digests, licences and notices. The desk's import takes it up to 9,999 files and 4 MiB. Or it
+prints one line:
 
   fault: BadToml FILE             a REUSE.toml that is no TOML document of version 1
   fault: BadAnnotation FILE N K   its annotation N, from 0: K is 1 for no path, 2 for a value of another
@@ -39,7 +40,7 @@ root, files named LICENSE, LICENCE or COPYING, and empty files are not told of.
 
 Examples:
   desk gather . --name hello --namespace https://example.org/hello-1 --created 2025-01-01T00:00:00Z
-  desk gather src --name src --namespace https://example.org/src --created 2025-01-01T00:00:00Z >src.spdx
+  desk gather . --name hello --namespace https://example.org/hello --created 2025-01-01T00:00:00Z >hello.spdx
 
 Statuses:
   0  the document was written

@@ -18,6 +18,7 @@ mod fields;
 mod gather;
 mod import;
 mod lint;
+mod migrate;
 mod reading;
 mod reports;
 mod script;

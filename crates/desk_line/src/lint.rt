@@ -1,13 +1,13 @@
 //! The subcommand that tells the problems of a tree of files.
 
-ghost use Rattle.std.specs.Prelude.{◌≡◌, IfOk, option_map};
+ghost use Rattle.std.specs.Prelude.{◌≡◌, IfOk};
 ghost use Rattle.clap.specs.Words.{found_of, rows_of};
-ghost use Rattle.desk_line.specs.Calls.{is_true, lint_in};
+ghost use Rattle.desk_line.specs.Calls.{lint_in};
 
 use crate::arguments::{Argument, FOLDER, Form};
 use crate::call::Call;
 use crate::subcommands::Help;
-use crate::values::text_in;
+use crate::values::{is_true, text_in};
 use clap::ArgMatches;
 use desk_base::Text;
 use std::alloc::{AllocError, Global};
@@ -23,15 +23,19 @@ prints a line for each problem:
   PATH:LINE: what is wrong and what to do
   PATH: the same, where it is on no line
 
-First what is wrong: names of files, each REUSE.toml and each of its annotations, and each licence in a
-file that is no expression. Then what the rest lacks: texts of licences in LICENSES/ that are missing or
-that no file uses, and files without a copyright notice or without a licence. The last line counts the
-problems and the files that were looked at. In a path, ? stands for a control byte.";
+First what is wrong: .reuse/dep5, names of files, each REUSE.toml and each of its annotations, and each
+licence in a file that is no expression. Then what the rest lacks: texts of licences in LICENSES/ that
+are missing or, if nothing of the first part is wrong, that no file uses, and files without a copyright
+notice or without a licence. The last line counts the problems, the files that were looked at, and the
+problems of each kind. ? stands for a control character.
+
+DIR is the root of the tree, where LICENSES/ is. To have lines ignored, write REUSE-IgnoreStart before
+them and REUSE-IgnoreEnd behind them.";
 
 const AFTER_HELP: &str = "\
 With --json the same is one object: \"covered\" is the number of files, and \"problems\" a list of
-objects, each with \"kind\", \"line\" (or null), \"message\" and \"path\". The kinds are TooManyFiles, BadPath,
-TwicePath, BadToml, BadAnnotation, BadExpression, Missing, Unused and Bare.
+objects, each with \"kind\", \"line\" (or null), \"message\" and \"path\". The kinds are Dep5, TooManyFiles,
+BadPath, TwicePath, BadToml, BadAnnotation, BadExpression, BlankAtEnd, Missing, Unused and Bare.
 
 A tree that is clean here may still lack what `reuse lint` asks for, such as ids that the SPDX licence list
 has; docs/LINT.md has the differences. Links are not followed, and the folder .git at the root is not
@@ -39,7 +43,7 @@ entered. Whatever else version control ignores has to be taken away before.
 
 Examples:
   desk lint .
-  desk lint --json src
+  desk lint --json .
 
 Statuses:
   0  no problem
@@ -63,16 +67,6 @@ pub(crate) const ARGUMENTS: [Argument; 2] = [
         help: "Prints one JSON object",
     },
 ];
-
-// Whether a flag is used.
-fn is_true(value: Option<&str>) -> bool
-    ensures { result ≡ is_true (option_map (λ s. s.now) value.entry) }
-{
-    match value {
-        Some(value) => value == "true",
-        None => false,
-    }
-}
 
 /// The call with the values of these matches, or `None` where they lack one.
 pub(crate) fn lint_from(alloc: Global, matches: &ArgMatches<'_>) -> Result<Option<Call>, AllocError>

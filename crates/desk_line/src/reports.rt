@@ -30,6 +30,8 @@ Comma-separated values (RFC 4180): a line of the columns' names, and one for eac
 
   number,document,package,term,rule,code,state,since
 
+On a terminal the same table stands in columns, with a question mark for a control byte.
+
 The state is open, met, waived or withdrawn, and since is the day of the last change.";
 
 const TOTALS: &str = "Counts the duties of a release by their state";

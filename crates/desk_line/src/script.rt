@@ -7,7 +7,7 @@ ghost use Rattle.desk_line.specs.Calls.{script_in};
 use crate::arguments::{Argument, Form};
 use crate::call::Call;
 use crate::subcommands::Help;
-use crate::values::text_in;
+use crate::values::{is_true, text_in};
 use clap::ArgMatches;
 use desk_base::Text;
 use std::alloc::{AllocError, Global};
@@ -24,6 +24,16 @@ than 8 MiB is no request. It stops after 1,048,576 reads.
 With --db FILE the desk is kept in the file, and the next script goes on with it. A file that is
 not there, is empty, or is a database with no tables becomes an empty desk first. Without
 --db the desk is in memory, empty at first and gone at the end.
+
+With --explain, and wherever standard error is a terminal, each line that is not done is told there
+with its number and the reason in words, and at the end how many lines were done and how many not:
+
+  line 3: no request: the key \"relase\" is not known here
+  line 7: BadDocument: TooLarge, more than 4 MiB
+  done: 5, refused: 1, no request: 1, failed: 0
+
+With --stop the script ends with the first line that is not done. Use it where a freeze follows: an
+attach that was refused is missing in the release, and a freeze is for good.
 
 Requests, with an example of each and its reply:
 
@@ -111,6 +121,7 @@ stand in FILE-wal beside it: keep and copy both files together.
 Examples:
   desk script <requests.jsonl
   desk script --db desk.db <requests.jsonl
+  desk script --db desk.db --explain --stop <requests.jsonl >replies.jsonl
 
 Statuses:
   0  every request was answered
@@ -126,11 +137,23 @@ pub(crate) const HELP: Help = Help {
 };
 
 /// Its arguments.
-pub(crate) const ARGUMENTS: [Argument; 1] = [Argument {
-    name: "FILE",
-    form: Form::Optional { long: "db" },
-    help: "The file that keeps the desk",
-}];
+pub(crate) const ARGUMENTS: [Argument; 3] = [
+    Argument {
+        name: "FILE",
+        form: Form::Optional { long: "db" },
+        help: "The file that keeps the desk",
+    },
+    Argument {
+        name: "EXPLAIN",
+        form: Form::Flag { long: "explain" },
+        help: "Tells each line that is not done on standard error",
+    },
+    Argument {
+        name: "STOP",
+        form: Form::Flag { long: "stop" },
+        help: "Ends with the first line that is not done",
+    },
+];
 
 // A copy of a text, if there is one.
 fn copied_text(alloc: Global, text: Option<&str>) -> Result<Option<Text>, AllocError>
@@ -147,5 +170,11 @@ pub(crate) fn script_from(alloc: Global, matches: &ArgMatches<'_>) -> Result<Cal
     ensures { IfOk result (λ call. call ≡ script_in (rows_of (found_of matches.now))) }
 {
     let database = copied_text(alloc, text_in(matches, "FILE"))?;
-    Ok(Call::Script { database })
+    let explain = is_true(text_in(matches, "EXPLAIN"));
+    let stop = is_true(text_in(matches, "STOP"));
+    Ok(Call::Script {
+        database,
+        explain,
+        stop,
+    })
 }

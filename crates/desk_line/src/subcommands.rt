@@ -8,7 +8,9 @@ ghost use Rattle.desk_line.specs.Rows.{kind_named, row_app, row_shape};
 ghost use Rattle.desk_line.specs.Words.{desk_alone, desk_app};
 
 use crate::arguments::{Argument, args};
-use crate::{alternatives, audit, catalogue, check, gather, import, lint, reports, script, serve};
+use crate::{
+    alternatives, audit, catalogue, check, gather, import, lint, migrate, reports, script, serve,
+};
 use clap::Command;
 use std::alloc::{AllocError, Global};
 
@@ -36,6 +38,7 @@ pub(crate) enum Kind {
     Totals,
     Changes,
     Audit,
+    Migrate,
     Gather,
     Lint,
     Serve,
@@ -50,7 +53,7 @@ pub(crate) struct Subcommand {
 }
 
 /// The subcommands.
-pub(crate) const SUBCOMMANDS: [Subcommand; 13] = [
+pub(crate) const SUBCOMMANDS: [Subcommand; 14] = [
     Subcommand {
         kind: Kind::Check,
         name: "check",
@@ -102,6 +105,11 @@ pub(crate) const SUBCOMMANDS: [Subcommand; 13] = [
         arguments: &audit::ARGUMENTS,
     },
     Subcommand {
+        kind: Kind::Migrate,
+        name: "migrate",
+        arguments: &migrate::ARGUMENTS,
+    },
+    Subcommand {
         kind: Kind::Gather,
         name: "gather",
         arguments: &gather::ARGUMENTS,
@@ -138,6 +146,7 @@ fn help_of(kind: Kind) -> Help {
         Kind::Totals => reports::TOTALS_HELP,
         Kind::Changes => reports::CHANGES_HELP,
         Kind::Audit => audit::HELP,
+        Kind::Migrate => migrate::HELP,
         Kind::Gather => gather::HELP,
         Kind::Lint => lint::HELP,
         Kind::Serve => serve::HELP,

@@ -2,7 +2,7 @@
 
 ghost use Rattle.std.specs.Prelude.{◌≡◌, IfOk, map, option_map};
 ghost use Rattle.clap.specs.Words.{all_of, first_of, found_of, rows_of};
-ghost use Rattle.desk_line.specs.Calls.{call_in, profile_in, profile_written};
+ghost use Rattle.desk_line.specs.Calls.{call_in, is_true, profile_in, profile_written};
 
 use crate::alternatives::alternatives_from;
 use crate::audit::audit_from;
@@ -12,6 +12,7 @@ use crate::check::check_from;
 use crate::gather::gather_from;
 use crate::import::import_from;
 use crate::lint::lint_from;
+use crate::migrate::migrate_from;
 use crate::reports::{changes_from, duties_from, notices_from, totals_from};
 use crate::script::script_from;
 use crate::serve::serve_from;
@@ -50,6 +51,16 @@ fn copied(alloc: Global, values: &[&str]) -> Result<Items<Text>, AllocError>
     Ok(texts)
 }
 
+/// Whether a flag is used.
+pub(crate) fn is_true(value: Option<&str>) -> bool
+    ensures { result ≡ is_true (option_map (λ s. s.now) value.entry) }
+{
+    match value {
+        Some(value) => value == "true",
+        None => false,
+    }
+}
+
 fn profile_written(text: &str) -> Option<Profile>
     ensures { result ≡ profile_written text.now }
 {
@@ -85,6 +96,7 @@ pub fn call_from(
         Some(Kind::Totals) => totals_from(alloc, matches),
         Some(Kind::Changes) => changes_from(alloc, matches),
         Some(Kind::Audit) => audit_from(alloc, matches),
+        Some(Kind::Migrate) => migrate_from(alloc, matches),
         Some(Kind::Gather) => gather_from(alloc, matches),
         Some(Kind::Lint) => lint_from(alloc, matches),
         Some(Kind::Serve) => serve_from(alloc, matches),

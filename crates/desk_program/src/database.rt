@@ -2,28 +2,30 @@
 
 ghost use Rattle.std.specs.Prelude.{◌≡◌, false, IfOk};
 
-use crate::input::bytes_at;
-use crate::serving;
-use crate::trouble::trouble_of;
+use crate::differences::{Difference, first_difference};
+use crate::input::{bytes_at, require_file};
+use crate::scripts::{self, Course};
+use crate::trouble::{trouble_at, trouble_of};
+use crate::{serving, summaries};
 use desk_base::{Items, Profile, Text};
 use desk_core::Desk;
 use desk_rows::Query;
-use desk_store::{AdoptFault, CreateFault, SqlDesk, audit_connection};
+use desk_store::{AdoptFault, CreateFault, MigrateFault, SqlDesk, audit_connection};
 use desk_subcommands::{
-    Failure, NoDesk, Trouble, catalogue, refuse_catalogue, refuse_database, show, tell_report,
-    text_of,
+    Failure, NoDesk, Trouble, catalogue, refuse_catalogue, refuse_database, show, tell_migration,
+    tell_report, text_of,
 };
 use sqlite::{Alter, Connection};
-use sqlite_disk::{Disk, Wary};
+use sqlite_disk::{Disk, Unknown};
 use sqlite_store::FileStore;
 use std::alloc::Global;
-use std::io::{self, BufWriter, Write};
+use std::io::{self, BufWriter, IsTerminal, Write};
 
 /// What a desk in a file is to do.
 #[derive(Drop)]
 enum Task {
     /// It replies to the requests of standard input.
-    Script,
+    Script { course: Course },
     /// It imports a document.
     Import { bytes: Items<u8>, profile: Profile },
     /// It loads a catalogue.
@@ -39,6 +41,8 @@ enum Task {
 enum Work {
     /// Its tables are audited.
     Audit,
+    /// Its tables become those of this version.
+    Migrate,
     /// The desk that it keeps does a task.
     Do(Task),
 }
@@ -51,33 +55,83 @@ fn unusable(alloc: Global, path: &str, trouble: Trouble) -> Failure {
     }
 }
 
+/// Why a file keeps no desk, and of one that is none how its tables differ from a desk's.
+#[derive(Drop)]
+struct Refused {
+    reason: NoDesk,
+    difference: Option<Difference>,
+}
+
+impl From<NoDesk> for Refused {
+    fn from(reason: NoDesk) -> Refused {
+        Refused {
+            reason,
+            difference: None,
+        }
+    }
+}
+
+// Why a file is no desk.
+fn no_desk<S: Alter + Drop>(alloc: Global, conn: &Connection<S>) -> Result<Refused, Failure> {
+    Ok(Refused {
+        reason: NoDesk::NotADesk,
+        difference: Some(first_difference(alloc, conn.schema())?),
+    })
+}
+
+// Tells why a file keeps no desk, and returns the program's status.
+fn refuse<W: Write>(
+    rt: &HostRuntime,
+    refused: Refused,
+    path: &str,
+    writer: &mut W,
+) -> Result<u8, Failure> {
+    let status = refuse_database(rt.alloc(), refused.reason, writer)?;
+    if let Some(difference) = refused.difference {
+        // Where standard error fails, the line on standard output still says it.
+        let _told = eprintln!(rt; "{path:?}: {difference}");
+    }
+    Ok(status)
+}
+
 // The desk that stands behind a connection, or why there is none.
 fn adopted<S: Alter + Drop>(
     alloc: Global,
     conn: Connection<S>,
     path: &str,
-) -> Result<Result<SqlDesk<S>, NoDesk>, Failure>
+) -> Result<Result<SqlDesk<S>, Refused>, Failure>
     requires { conn.in_transaction ≡ false }
 {
     match SqlDesk::adopt_connection(alloc, conn) {
         Ok(desk) => Ok(Ok(desk)),
-        Err((AdoptFault::NotADesk, _)) => Ok(Err(NoDesk::NotADesk)),
-        Err((AdoptFault::BadVersion(_), _)) => Ok(Err(NoDesk::BadVersion)),
-        Err((AdoptFault::Unsound(fault), _)) => Ok(Err(NoDesk::Unsound(fault))),
+        Err((AdoptFault::NotADesk, conn)) => Ok(Err(no_desk(alloc, &conn)?)),
+        Err((AdoptFault::BadVersion(_), _)) => Ok(Err(Refused::from(NoDesk::BadVersion))),
+        Err((AdoptFault::Unsound(fault), _)) => Ok(Err(Refused::from(NoDesk::Unsound(fault)))),
         Err((AdoptFault::Fault(fault), _)) => Err(unusable(alloc, path, Trouble::from(fault))),
+    }
+}
+
+// Says that a file keeps a new desk, where standard error is watched: a name may have been mistyped.
+fn tell_new(rt: &HostRuntime, path: &str) {
+    if rt.stderr().is_terminal() {
+        let _told = eprintln!(rt; "{path:?} is a new desk");
     }
 }
 
 // The desk behind a connection to a file, or why it keeps none. Where there is no table `meta`, an empty desk is created.
 fn desk_of<S: Alter + Drop>(
-    alloc: Global,
+    rt: &HostRuntime,
     conn: Connection<S>,
     path: &str,
-) -> Result<Result<SqlDesk<S>, NoDesk>, Failure>
+) -> Result<Result<SqlDesk<S>, Refused>, Failure>
     requires { conn.in_transaction ≡ false }
 {
+    let alloc = rt.alloc();
     match SqlDesk::create(alloc, conn) {
-        Ok(desk) => Ok(Ok(desk)),
+        Ok(desk) => {
+            tell_new(rt, path);
+            Ok(Ok(desk))
+        }
         Err((CreateFault::NotEmpty, conn)) => adopted(alloc, conn, path),
         Err((CreateFault::Fault(fault), _)) => Err(unusable(alloc, path, Trouble::from(fault))),
     }
@@ -104,12 +158,16 @@ fn done<D: Desk, W: Write>(
 ) -> Result<u8, Failure> {
     let alloc = rt.alloc();
     match task {
-        Task::Script => desk_subcommands::script(alloc, desk, &mut rt.reader(), writer),
+        Task::Script { course } => scripts::script(rt, desk, writer, course),
         Task::Import { bytes, profile } => {
             desk_subcommands::import(alloc, desk, bytes, profile, writer)
         }
         Task::Load { text } => catalogue(alloc, desk, text, writer),
-        Task::Show { query } => show(alloc, desk, &query, writer),
+        Task::Show { query } => {
+            // (a pipe and a file get comma-separated values)
+            let in_columns = rt.stdout().is_terminal();
+            show(alloc, desk, &query, in_columns, writer)
+        }
         Task::Serve { port, limit } => serving::serve(rt, alloc, desk, port, limit),
     }
 }
@@ -124,9 +182,9 @@ fn do_over<D: Disk + Drop, W: Write>(
 ) -> Result<u8, Failure>
     requires { conn.in_transaction ≡ false }
 {
-    let mut desk = match desk_of(rt.alloc(), conn, path)? {
+    let mut desk = match desk_of(rt, conn, path)? {
         Ok(desk) => desk,
-        Err(reason) => return refuse_database(rt.alloc(), reason, writer),
+        Err(refused) => return refuse(rt, refused, path, writer),
     };
     let told = done(rt, &mut desk, task, writer);
     let closed = close(rt.alloc(), desk.into_connection(), path);
@@ -183,6 +241,32 @@ fn audit_over<D: Disk + Drop, W: Write>(
     Ok(status)
 }
 
+// Migrates the tables behind a connection. The file is closed whatever became of that.
+fn migrate_over<D: Disk + Drop, W: Write>(
+    rt: &HostRuntime,
+    conn: Connection<FileStore<D>>,
+    path: &str,
+    writer: &mut W,
+) -> Result<u8, Failure>
+    requires { conn.in_transaction ≡ false }
+{
+    let alloc = rt.alloc();
+    let reason = match SqlDesk::migrate(alloc, conn) {
+        Ok((desk, version)) => {
+            close(alloc, desk.into_connection(), path)?;
+            tell_migration(alloc, version.number(), writer)?;
+            return Ok(0);
+        }
+        Err((MigrateFault::NotADesk, _)) => NoDesk::NotADesk,
+        Err((MigrateFault::BadVersion(_), _)) => NoDesk::BadVersion,
+        Err((MigrateFault::Unsound(fault), _)) => NoDesk::Unsound(fault),
+        Err((MigrateFault::Fault(fault), _)) => {
+            return Err(unusable(alloc, path, Trouble::from(fault)));
+        }
+    };
+    refuse_database(alloc, reason, writer)
+}
+
 // Does what is to be done with a file.
 fn work_over<D: Disk + Drop, W: Write>(
     rt: &HostRuntime,
@@ -195,17 +279,18 @@ fn work_over<D: Disk + Drop, W: Write>(
 {
     match work {
         Work::Audit => audit_over(rt, conn, path, writer),
+        Work::Migrate => migrate_over(rt, conn, path, writer),
         Work::Do(task) => do_over(rt, conn, path, task, writer),
     }
 }
 
-// Does what is to be done with a file. Of the disk it is supposed that a write that is cut off may leave any bytes, so each commit is synced
-// twice. No other function names the connection to a file: each that does costs the gate a minute.
+// Does what is to be done with a file. Of the disk it is supposed that a sector whose write has begun is finished, so each commit is synced
+// once. No other function names the connection to a file: each that does costs the gate a minute.
 fn work_in(rt: &HostRuntime, path: &str, work: Work) -> Result<u8, Failure> {
     let mut writer = BufWriter::new(rt.alloc(), io::writer(rt))?;
-    match Connection::open_from(rt, path, false, Wary) {
+    match Connection::open_from(rt, path, false, Unknown) {
         Ok(conn) => work_over(rt, conn, path, work, &mut writer),
-        Err((error, _)) => Err(unusable(rt.alloc(), path, trouble_of(error))),
+        Err((error, _)) => Err(unusable(rt.alloc(), path, trouble_at(rt, path, error))),
     }
 }
 
@@ -219,9 +304,15 @@ pub fn audit(rt: &HostRuntime, path: &str) -> Result<u8, Failure> {
     work_in(rt, path, Work::Audit)
 }
 
+/// Gives a file of an older version the tables of this one. No file is made where there is none.
+pub fn migrate(rt: &HostRuntime, path: &str) -> Result<u8, Failure> {
+    require_file(rt, path)?;
+    work_in(rt, path, Work::Migrate)
+}
+
 /// Replies to the requests of standard input over the desk that a file keeps.
-pub fn script(rt: &HostRuntime, path: &str) -> Result<u8, Failure> {
-    do_in(rt, path, Task::Script)
+pub fn script(rt: &HostRuntime, path: &str, course: Course) -> Result<u8, Failure> {
+    do_in(rt, path, Task::Script { course })
 }
 
 /// Has the desk that a file keeps import the document of another file.
@@ -231,8 +322,14 @@ pub fn import(
     document: &str,
     profile: Profile,
 ) -> Result<u8, Failure> {
-    let bytes = Items::from_vec(bytes_at(rt, document)?);
-    do_in(rt, path, Task::Import { bytes, profile })
+    let bytes = bytes_at(rt, document)?;
+    let summary = summaries::summary(rt.alloc(), bytes.as_slice(), profile);
+    let bytes = Items::from_vec(bytes);
+    let status = do_in(rt, path, Task::Import { bytes, profile })?;
+    if status == 0 {
+        summaries::tell(rt, profile, summary);
+    }
+    Ok(status)
 }
 
 /// Has the desk that a file keeps load the catalogue of another file.

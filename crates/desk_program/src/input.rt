@@ -1,9 +1,9 @@
-//! The files of documents and catalogues.
+//! The files that are read: documents and catalogues, and databases that must be there.
 
 use desk_base::limits::INPUT_BYTES;
 use desk_subcommands::Failure;
-use std::alloc::AllocError;
-use std::fs::File;
+use std::alloc::{AllocError, Global};
+use std::fs::{self, File};
 use std::io::{self, Read};
 use std::rt::Files;
 
@@ -28,6 +28,14 @@ fn read_at<R: Files + AllocGlobal + Clone + Drop>(rt: &R, path: &str) -> io::Res
     Ok(bytes)
 }
 
+// Why a file can't be read.
+fn unreadable(alloc: Global, path: &str, error: io::Error) -> Failure {
+    match String::from_str(alloc, path) {
+        Ok(path) if error.kind() != io::ErrorKind::OutOfMemory => Failure::Read(path, error),
+        _ => Failure::from(AllocError),
+    }
+}
+
 /// The bytes of the file at a path; of one that is longer than 64 MiB, so many of them.
 pub fn bytes_at<R: Files + AllocGlobal + Clone + Drop>(
     rt: &R,
@@ -35,7 +43,14 @@ pub fn bytes_at<R: Files + AllocGlobal + Clone + Drop>(
 ) -> Result<Vec<u8>, Failure> {
     match read_at(rt, path) {
         Ok(bytes) => Ok(bytes),
-        Err(error) if error.kind() == io::ErrorKind::OutOfMemory => Err(Failure::from(AllocError)),
-        Err(error) => Err(Failure::Read(String::from_str(rt.alloc(), path)?, error)),
+        Err(error) => Err(unreadable(rt.alloc(), path, error)),
+    }
+}
+
+/// Fails where no file stands at a path, which an opening would make.
+pub fn require_file(rt: &HostRuntime, path: &str) -> Result<(), Failure> {
+    match fs::metadata(rt, path) {
+        Ok(_) => Ok(()),
+        Err(error) => Err(unreadable(rt.alloc(), path, error)),
     }
 }

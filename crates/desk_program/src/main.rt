@@ -6,10 +6,14 @@
 #![tactic(auto)]
 
 mod database;
+mod differences;
 mod input;
+mod scripts;
 mod serving;
+mod summaries;
 mod trouble;
 
+use crate::scripts::Course;
 use desk_base::{Profile, Text};
 use desk_core::desk::MemDesk;
 use desk_line::{Call, LineFault, line};
@@ -85,15 +89,12 @@ fn check<R: Print>(
 }
 
 /// Replies to the requests of standard input on a desk in memory.
-fn script<R: Print + Input + AllocGlobal + Clone + Drop>(
-    rt: &R,
-    alloc: Global,
-) -> Result<u8, Failure> {
+fn script(rt: &HostRuntime, alloc: Global, course: Course) -> Result<u8, Failure> {
     keep_large_blocks(alloc);
     // The process ends with the script, so the desk is left to the system and not freed row by row.
     let mut desk = ManuallyDrop::new(MemDesk::new(alloc, Standard));
     let mut writer = BufWriter::new(alloc, io::writer(rt))?;
-    desk_subcommands::script(alloc, &mut *desk, &mut rt.reader(), &mut writer)
+    scripts::script(rt, &mut *desk, &mut writer, course)
 }
 
 /// Writes the document of a source tree.
@@ -113,6 +114,7 @@ fn gather(
         namespace,
         created,
         &mut io::writer(rt),
+        &mut rt.stderr(),
     )
 }
 
@@ -127,10 +129,20 @@ fn answer(rt: &HostRuntime, alloc: Global, call: &Call, is_watched: bool) -> Res
             expression,
             profile,
         } => alternatives(alloc, expression.as_str(), *profile, &mut io::writer(rt)),
-        Call::Script { database: None } => script(rt, alloc),
         Call::Script {
-            database: Some(path),
-        } => database::script(rt, path.as_str()),
+            database,
+            explain,
+            stop,
+        } => {
+            let course = Course {
+                is_explained: *explain || is_watched,
+                is_stopped: *stop,
+            };
+            match database {
+                Some(path) => database::script(rt, path.as_str(), course),
+                None => script(rt, alloc, course),
+            }
+        }
         Call::Import {
             database,
             document,
@@ -145,6 +157,7 @@ fn answer(rt: &HostRuntime, alloc: Global, call: &Call, is_watched: bool) -> Res
         Call::Totals { database, release } => database::totals(rt, database.as_str(), release),
         Call::Changes { database, duty } => database::changes(rt, database.as_str(), *duty),
         Call::Audit { database } => database::audit(rt, database.as_str()),
+        Call::Migrate { database } => database::migrate(rt, database.as_str()),
         Call::Serve {
             database,
             port,

@@ -2,7 +2,7 @@
 //! for ever.
 
 use desk_core::Desk;
-use desk_http::{ServeFault, serve_one};
+use desk_http::{RouteTable, ServeFault, serve_with};
 use desk_subcommands::{Failure, PortTrouble};
 use std::alloc::Global;
 use std::io::{self, Read, Write};
@@ -90,11 +90,12 @@ fn listening(rt: &HostRuntime, port: u16) -> Result<TcpListener, Failure> {
 fn serve_stream<D: Desk>(
     rt: &HostRuntime,
     alloc: Global,
+    routes: &mut RouteTable,
     desk: &mut D,
     stream: &TcpStream,
 ) -> Result<(), ServeFault> {
     let (mut reader, mut writer) = (Timed::over(rt, stream), Timed::over(rt, stream));
-    serve_one(alloc, desk, &mut reader, &mut writer)?;
+    serve_with(alloc, routes, desk, &mut reader, &mut writer)?;
     Ok(())
 }
 
@@ -107,10 +108,11 @@ pub fn serve<D: Desk>(
     limit: u32,
 ) -> Result<u8, Failure> {
     let listener = listening(rt, port)?;
+    let mut routes = RouteTable::new();
     let mut failed = 0u64;
     for _ in 0..limit {
         let done = match listener.accept() {
-            Ok((stream, _)) => serve_stream(rt, alloc, desk, &stream),
+            Ok((stream, _)) => serve_stream(rt, alloc, &mut routes, desk, &stream),
             Err(_) => Err(ServeFault::Read),
         };
         if let Err(fault) = done {

@@ -5,6 +5,8 @@ ghost use Rattle.desk_program.specs.Troubles.{trouble_of_error};
 
 use desk_subcommands::Trouble;
 use sqlite::{Error, ErrorCode};
+use std::fs::{self, Metadata, OpenOptions};
+use std::path::Path;
 
 /// Why the database of a file can't be used.
 pub fn trouble_of(error: Error) -> Trouble
@@ -20,5 +22,48 @@ pub fn trouble_of(error: Error) -> Trouble
         Error::SqliteFailure(ErrorCode::DiskFull) => Trouble::Full,
         Error::SqliteFailure(ErrorCode::SystemIoFailure | ErrorCode::Closed) => Trouble::Disk,
         _ => Trouble::Refused,
+    }
+}
+
+// Whether a file may be read, or written.
+fn may(rt: &HostRuntime, path: &str, is_written: bool) -> bool {
+    let mut options = OpenOptions::new();
+    options.read(!is_written).write(is_written);
+    options.open(rt, path).is_ok()
+}
+
+// Why a file that stands at a path can't be opened.
+fn closed(rt: &HostRuntime, path: &str, found: &Metadata) -> Trouble {
+    if found.is_dir() {
+        return Trouble::Folder;
+    }
+    match (may(rt, path, false), may(rt, path, true)) {
+        (false, _) => Trouble::Unreadable,
+        (true, false) => Trouble::ReadOnly,
+        (true, true) => Trouble::CannotOpen,
+    }
+}
+
+// Why a file that isn't there can't be made.
+fn absent(rt: &HostRuntime, path: &str) -> Trouble {
+    match Path::new(path).parent() {
+        Some(folder) if is_missing(rt, folder) => Trouble::NoFolder,
+        _ => Trouble::CannotOpen,
+    }
+}
+
+// Whether no folder stands at a path. The path of no words is that of the folder where the program runs.
+fn is_missing(rt: &HostRuntime, folder: Path) -> bool {
+    !folder.to_string_lossy().is_empty() && fs::metadata(rt, folder).is_err()
+}
+
+/// Why the database of the file at a path can't be used, by the error that its database told and by what stands there.
+pub fn trouble_at(rt: &HostRuntime, path: &str, error: Error) -> Trouble {
+    match trouble_of(error) {
+        Trouble::CannotOpen => match fs::metadata(rt, path) {
+            Ok(found) => closed(rt, path, &found),
+            Err(_) => absent(rt, path),
+        },
+        trouble => trouble,
     }
 }

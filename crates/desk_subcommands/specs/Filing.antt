@@ -2,6 +2,7 @@
 use Rattle.std.specs.Prelude.{◌≡◌, ◌++◌, ℕ, List, [], ◌∷◌, Option, codes}
 use Rattle.std.specs.Io.KnownBytes.{Appends}
 use Rattle.desk_rows.specs.Readings.{Readings}
+use Rattle.desk_rows.specs.Tables.{Tables}
 use Rattle.desk_rows.specs.declared.command.Answer.{Answer}
 use Rattle.desk_rows.specs.declared.command.Answer.TheVariants.{Refused}
 use Rattle.desk_rows.specs.declared.command.Command.{Command}
@@ -43,10 +44,10 @@ no_desk_name (Unsound fault) = audit_name fault
 abbrev pub no_desk_line : NoDesk → List ℕ
 no_desk_line reason = (codes "fault: " ++ no_desk_name reason) ++ 10 ∷ []
 
-module _ (is_right : Readings → Type 0) (tells : StoreFault → Type 0) {Left : Type 0} (command : Command) (before after : Seen Left) where
+module _ (is_right : Readings → Type 0) (tells : StoreFault → Type 0) {Left : Type 0} (stands : Left → Tables → Type 0) (command : Command) (before after : Seen Left) where
   -- the command comes to this on a desk, and the rows become what they become for a script's request
   abbrev pub Comes : Outcome → Type 0
-  Comes outcome = Replies is_right tells before (Act command) (Became outcome) after
+  Comes outcome = Replies is_right tells stands before (Act command) (Became outcome) after
 
   -- the desk answers the command, the reply is written, and the status is the answer's
   abbrev pub IsAnswered : Option (List ℕ) → Option (List ℕ) → ℕ → Type 0

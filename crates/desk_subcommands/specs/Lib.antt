@@ -7,3 +7,4 @@ pub mod Filing
 pub mod Troubles
 pub mod Showing
 pub mod Auditing
+pub mod Migrating

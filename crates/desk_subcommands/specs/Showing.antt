@@ -1,8 +1,9 @@
 -- What is handed out of a desk: the text of an answer, or the line of its reply.
-use Rattle.std.specs.Prelude.{◌≡◌, ℕ, List, Option, Some, None, unwrap_or}
+use Rattle.std.specs.Prelude.{◌≡◌, ℕ, Bool, List, Option, Some, None, unwrap_or, if◌then◌else◌}
 use Rattle.std.specs.List.{flat_map}
 use Rattle.std.specs.Io.KnownBytes.{Appends}
 use Rattle.desk_rows.specs.Readings.{Readings}
+use Rattle.desk_rows.specs.Tables.{Tables}
 use Rattle.desk_rows.specs.declared.command.Answer.{Answer}
 use Rattle.desk_rows.specs.declared.command.Answer.TheVariants.{Bill, Changes, Duties, Totals}
 use Rattle.desk_rows.specs.declared.command.Fault.{Fault}
@@ -12,6 +13,7 @@ use Rattle.desk_rows.specs.declared.command.Query.{Query}
 use Rattle.desk_rows.specs.declared.command.StoreFault.{StoreFault}
 use Rattle.desk_access.specs.Seen.{Seen}
 use Rattle.desk_json.specs.declared.request.Request.TheVariants.{Ask}
+use Rattle.desk_report.specs.Columns.{columns_text}
 use Rattle.desk_report.specs.CsvTable.{table_text}
 use Rattle.desk_report.specs.Lines.{change_text, totals_line}
 use Rattle.desk_report.specs.Notices.{notices_text}
@@ -19,30 +21,31 @@ use Rattle.desk_script.specs.Replies.{Replies}
 use Rattle.desk_script.specs.declared.answer.Reply.TheVariants.{Became}
 use Rattle.desk_subcommands.specs.Filing.{answer_status, outcome_line}
 
--- the text of an answer, if it has one
-abbrev pub answer_text : Answer → Option (List ℕ)
-answer_text (Bill bill) = Some (notices_text bill)
-answer_text (Duties lines) = Some (table_text lines)
-answer_text (Totals totals) = Some (totals_line totals)
-answer_text (Changes rows) = Some (flat_map change_text rows)
-answer_text _ = None
+-- the text of an answer, if it has one: duties are a table of comma-separated values, or one in columns
+abbrev pub answer_text : Bool → Answer → Option (List ℕ)
+answer_text in_columns (Bill bill) = Some (notices_text bill)
+answer_text in_columns (Duties lines) = Some (if in_columns then columns_text lines else table_text lines)
+answer_text in_columns (Totals totals) = Some (totals_line totals)
+answer_text in_columns (Changes rows) = Some (flat_map change_text rows)
+answer_text in_columns _ = None
 
-abbrev pub outcome_text : Outcome → Option (List ℕ)
-outcome_text (Answered answer) = answer_text answer
-outcome_text (Failed fault) = None
+abbrev pub outcome_text : Bool → Outcome → Option (List ℕ)
+outcome_text in_columns (Answered answer) = answer_text in_columns answer
+outcome_text in_columns (Failed fault) = None
 
 -- an answer is written as its text, or else as the line of its reply
-abbrev pub shown : Answer → List ℕ
-shown answer = unwrap_or (answer_text answer) (outcome_line (Answered answer))
+abbrev pub shown : Bool → Answer → List ℕ
+shown in_columns answer = unwrap_or (answer_text in_columns answer) (outcome_line (Answered answer))
 
-module _ (is_right : Readings → Type 0) (tells : StoreFault → Type 0) {Left : Type 0} (query : Query) (before after : Seen Left) where
+module _ (is_right : Readings → Type 0) (tells : StoreFault → Type 0) {Left : Type 0} (stands : Left → Tables → Type 0) (query : Query) (before after : Seen Left) where
   -- the question comes to this on a desk, as a script's request does
   abbrev pub Asks : Outcome → Type 0
-  Asks outcome = Replies is_right tells before (Ask query) (Became outcome) after
+  Asks outcome = Replies is_right tells stands before (Ask query) (Became outcome) after
 
   -- the desk answers the question, the answer is written, and the status is the answer's
-  abbrev pub IsShown : Option (List ℕ) → Option (List ℕ) → ℕ → Type 0
-  IsShown old new status = (answer : Answer) × Asks (Answered answer) × Appends old new (shown answer) × (status ≡ answer_status answer)
+  abbrev pub IsShown : Bool → Option (List ℕ) → Option (List ℕ) → ℕ → Type 0
+  IsShown in_columns old new status =
+      (answer : Answer) × Asks (Answered answer) × Appends old new (shown in_columns answer) × (status ≡ answer_status answer)
 
   -- the desk fails by a fault, which the reply says
   abbrev pub HasFailed : Option (List ℕ) → Option (List ℕ) → Fault → Type 0

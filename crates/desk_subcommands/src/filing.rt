@@ -98,14 +98,14 @@ pub(crate) fn tell<W: Write>(
 
 // Imports a document.
 fn imported<D: Desk>(desk: &mut D, bytes: Items<u8>, profile: Profile) -> Outcome
-    ensures { Comes D.are_right D.tells (Import bytes profile) (D.seen desk.old) (D.seen desk.new) result }
+    ensures { Comes D.are_right D.tells D.stands (Import bytes profile) (D.seen desk.old) (D.seen desk.new) result }
 {
     Outcome::from(desk.import(bytes, profile))
 }
 
 // Loads a catalogue.
 fn loaded<D: Desk>(desk: &mut D, text: Text) -> Outcome
-    ensures { Comes D.are_right D.tells (LoadCatalogue text) (D.seen desk.old) (D.seen desk.new) result }
+    ensures { Comes D.are_right D.tells D.stands (LoadCatalogue text) (D.seen desk.old) (D.seen desk.new) result }
 {
     let command = Command::LoadCatalogue { text };
     Outcome::from(desk.apply(&command))
@@ -120,11 +120,11 @@ pub fn import<D: Desk, W: Write>(
     profile: Profile,
     writer: &mut W,
 ) -> Result<u8, Failure>
-    ensures done { IfOk result (IsAnswered D.are_right D.tells (Import bytes profile) (D.seen desk.old) (D.seen desk.new)
+    ensures done { IfOk result (IsAnswered D.are_right D.tells D.stands (Import bytes profile) (D.seen desk.old) (D.seen desk.new)
         (W.contents writer.old) (W.contents writer.new)) }
     ensures failed { IfErr result (OfRequest
-        (HasFailed D.are_right D.tells (Import bytes profile) (D.seen desk.old) (D.seen desk.new) (W.contents writer.old) (W.contents writer.new))
-        (IsUntold D.are_right D.tells (Import bytes profile) (D.seen desk.old) (D.seen desk.new))) }
+        (HasFailed D.are_right D.tells D.stands (Import bytes profile) (D.seen desk.old) (D.seen desk.new) (W.contents writer.old) (W.contents writer.new))
+        (IsUntold D.are_right D.tells D.stands (Import bytes profile) (D.seen desk.old) (D.seen desk.new))) }
     ensures memory { IfErr result (IfMemory (Keeps (W.contents writer.old) (W.contents writer.new))) }
 {
     let outcome = imported(desk, bytes, profile);
@@ -139,11 +139,11 @@ pub fn catalogue<D: Desk, W: Write>(
     text: Text,
     writer: &mut W,
 ) -> Result<u8, Failure>
-    ensures done { IfOk result (IsAnswered D.are_right D.tells (LoadCatalogue text) (D.seen desk.old) (D.seen desk.new)
+    ensures done { IfOk result (IsAnswered D.are_right D.tells D.stands (LoadCatalogue text) (D.seen desk.old) (D.seen desk.new)
         (W.contents writer.old) (W.contents writer.new)) }
     ensures failed { IfErr result (OfRequest
-        (HasFailed D.are_right D.tells (LoadCatalogue text) (D.seen desk.old) (D.seen desk.new) (W.contents writer.old) (W.contents writer.new))
-        (IsUntold D.are_right D.tells (LoadCatalogue text) (D.seen desk.old) (D.seen desk.new))) }
+        (HasFailed D.are_right D.tells D.stands (LoadCatalogue text) (D.seen desk.old) (D.seen desk.new) (W.contents writer.old) (W.contents writer.new))
+        (IsUntold D.are_right D.tells D.stands (LoadCatalogue text) (D.seen desk.old) (D.seen desk.new))) }
     ensures memory { IfErr result (IfMemory (Keeps (W.contents writer.old) (W.contents writer.new))) }
 {
     let outcome = loaded(desk, text);

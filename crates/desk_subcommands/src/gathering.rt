@@ -10,7 +10,7 @@ ghost use Rattle.desk_subcommands.specs.Gathering.{gathering_status, Gathers};
 use crate::failure::Failure;
 use desk_gather::SourceFile;
 use desk_tree_texts::{Gathering, TextFault, document_of};
-use std::alloc::Global;
+use std::alloc::{AllocError, Global};
 use std::io::Write;
 
 fn status_of(answer: &Gathering) -> u8
@@ -41,15 +41,45 @@ fn gathered(
     }
 }
 
+// How many lines of a text are this one.
+fn line_count(text: &str, line: &str) -> usize {
+    text.lines().filter(|one| *one == line).count()
+}
+
+// What is told beside the document of a tree: how many of its files state no licence or no notice.
+fn gaps(alloc: Global, text: &str) -> Result<Option<String>, AllocError> {
+    let licences = line_count(text, "LicenseConcluded: NOASSERTION");
+    let notices = line_count(text, "FileCopyrightText: NOASSERTION");
+    if licences == 0 && notices == 0 {
+        return Ok(None);
+    }
+    let told = format!(in alloc;
+        "files without a licence: {licences}, without a notice: {notices}; the document says NOASSERTION of them\n"
+    )?;
+    Ok(Some(told))
+}
+
+// Tells what was gathered beside what is written, which may go into a file: a fault, or what the document lacks.
+fn tell<T: Write>(alloc: Global, status: u8, text: &str, teller: &mut T) -> Result<(), Failure> {
+    if status != 0 {
+        teller.write_all(text.as_bytes())?;
+    } else if let Some(told) = gaps(alloc, text)? {
+        teller.write_all(told.as_bytes())?;
+    }
+    Ok(())
+}
+
 /// Writes the document of a tree of files, or one line with the fault for which it has none, and answers the program's status.
-/// Where memory is wanting, or some value can't stand in its field, nothing is written.
-pub fn gather<W: Write>(
+/// Where memory is wanting, or some value can't stand in its field, nothing is written. A fault, and how many files state no licence or
+/// no notice, is told a second time to another writer.
+pub fn gather<W: Write, T: Write>(
     alloc: Global,
     files: Vec<SourceFile>,
     name: &str,
     namespace: &str,
     created: &str,
     writer: &mut W,
+    teller: &mut T,
 ) -> Result<u8, Failure>
     ensures told { (r : Reader) → IsRightReader r → IfOk result (λ status. (text : List ℕ)
         × Gathers r files.items (record { name = name.now; namespace = namespace.now; created = created.now }) text status
@@ -64,5 +94,7 @@ pub fn gather<W: Write>(
     let text = answer.text(alloc)?;
     writer.write_all(text.as_bytes())?;
     writer.flush()?;
+    // Where that can't be told, what is written still says it.
+    let _told = tell(alloc, status, text.as_str(), teller);
     Ok(status)
 }

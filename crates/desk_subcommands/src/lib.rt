@@ -5,20 +5,23 @@
 //! reader and writer the contracts are the same, so they speak of the desk in memory as of the one in a file.
 //!
 //! - `check` judges a choice of terms (`specs/Report.antt`), `alternatives` lists the choices that there are (`specs/Listing.antt`).
-//! - `script` replies to requests, `import` and `catalogue` do one each (`specs/Filing.antt`).
+//! - `script` replies to requests, and `Explainer` says in words which lines aren't done. `import` and `catalogue` do one each (`specs/Filing.antt`).
 //! - `show` writes the text of an answer: notices, the table of duties, totals, changes (`specs/Showing.antt`).
-//! - `tell_report` writes what an audit reports (`specs/Auditing.antt`).
+//! - `tell_report` writes what an audit reports (`specs/Auditing.antt`), `tell_migration` which versions a migration went from and to
+//!   (`specs/Migrating.antt`).
 //! - `gather` writes the document of a tree of files (`specs/Gathering.antt`), `lint` what is wrong in it (`specs/Linting.antt`).
 //! - `Failure` and `Trouble` say in words what failed, and what to do.
 #![tactic(auto)]
 
 mod auditing;
 mod checking;
+mod explaining;
 mod failure;
 mod filing;
 mod gathering;
 mod linting;
 mod listing;
+mod migrating;
 mod report;
 mod scripting;
 mod showing;
@@ -26,11 +29,13 @@ mod trouble;
 
 pub use auditing::tell_report;
 pub use checking::check;
+pub use explaining::Explainer;
 pub use failure::Failure;
 pub use filing::{NoDesk, catalogue, import, refuse_catalogue, refuse_database, text_of};
 pub use gathering::gather;
 pub use linting::lint;
 pub use listing::alternatives;
+pub use migrating::tell_migration;
 pub use scripting::script;
 pub use showing::show;
 pub use trouble::{PortTrouble, Trouble};

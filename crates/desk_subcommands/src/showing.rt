@@ -1,7 +1,9 @@
 //! The texts that an office hands out: the notices of a release, the table of its duties, their totals, and the changes of a duty.
 
-ghost use Rattle.std.specs.Prelude.{◌≡◌, IfOk, IfErr, OnOk, option_map};
+ghost use Rattle.std.specs.Prelude.{◌≡◌, IfOk, IfErr, OnOk, option_map, if◌then◌else◌};
 ghost use Rattle.std.specs.Io.KnownBytes.{Appends, Keeps};
+ghost use Rattle.desk_report.specs.Columns.{columns_text};
+ghost use Rattle.desk_report.specs.CsvTable.{table_text};
 ghost use Rattle.desk_report.specs.Lines.{totals_line};
 ghost use Rattle.desk_rows.specs.declared.command.Answer.{Answer};
 ghost use Rattle.desk_rows.specs.declared.command.Outcome.TheVariants.{Answered, Failed};
@@ -12,8 +14,8 @@ ghost use Rattle.desk_subcommands.specs.Showing.{answer_text, Asks, HasFailed, I
 use crate::failure::Failure;
 use crate::filing::tell;
 use desk_core::desk::Desk;
-use desk_report::{changes_text, duties_csv, notices, totals_text};
-use desk_rows::{Answer, Outcome, Query, Totals};
+use desk_report::{changes_text, duties_columns, duties_csv, notices, totals_text};
+use desk_rows::{Answer, DutyLine, Outcome, Query, Totals};
 use std::alloc::{AllocError, Global};
 use std::io::Write;
 
@@ -23,24 +25,43 @@ fn totals_bytes(alloc: Global, totals: &Totals) -> Result<Vec<u8>, AllocError>
     Ok(totals_text(alloc, totals)?.into_bytes())
 }
 
+// The table of duties.
+fn duties_table(alloc: Global, lines: &[DutyLine], in_columns: bool) -> Result<Vec<u8>, AllocError>
+    ensures { IfOk result (λ text. text.items ≡ (if in_columns then columns_text lines.now else table_text lines.now)) }
+{
+    if in_columns {
+        duties_columns(alloc, lines)
+    } else {
+        duties_csv(alloc, lines)
+    }
+}
+
 // The text of an answer, if it has one.
-fn answer_text(alloc: Global, answer: &Answer) -> Result<Option<Vec<u8>>, AllocError>
-    ensures { IfOk result (λ found. option_map (λ text. text.items) found ≡ answer_text answer.now) }
+fn answer_text(
+    alloc: Global,
+    answer: &Answer,
+    in_columns: bool,
+) -> Result<Option<Vec<u8>>, AllocError>
+    ensures { IfOk result (λ found. option_map (λ text. text.items) found ≡ answer_text in_columns answer.now) }
 {
     match answer {
         Answer::Bill(bill) => Ok(Some(notices(alloc, bill)?)),
-        Answer::Duties(lines) => Ok(Some(duties_csv(alloc, lines.as_slice())?)),
+        Answer::Duties(lines) => Ok(Some(duties_table(alloc, lines.as_slice(), in_columns)?)),
         Answer::Totals(totals) => Ok(Some(totals_bytes(alloc, totals)?)),
         Answer::Changes(rows) => Ok(Some(changes_text(alloc, rows.as_slice())?)),
         _ => Ok(None),
     }
 }
 
-fn outcome_text(alloc: Global, outcome: &Outcome) -> Result<Option<Vec<u8>>, AllocError>
-    ensures { IfOk result (λ found. option_map (λ text. text.items) found ≡ outcome_text outcome.now) }
+fn outcome_text(
+    alloc: Global,
+    outcome: &Outcome,
+    in_columns: bool,
+) -> Result<Option<Vec<u8>>, AllocError>
+    ensures { IfOk result (λ found. option_map (λ text. text.items) found ≡ outcome_text in_columns outcome.now) }
 {
     match outcome {
-        Outcome::Answered(answer) => answer_text(alloc, answer),
+        Outcome::Answered(answer) => answer_text(alloc, answer, in_columns),
         Outcome::Failed(_) => Ok(None),
     }
 }
@@ -56,14 +77,19 @@ fn write_text<W: Write>(writer: &mut W, text: &[u8]) -> Result<(), Failure>
 }
 
 // Writes what an outcome is shown as, and returns the status.
-fn write_outcome<W: Write>(alloc: Global, outcome: &Outcome, writer: &mut W) -> Result<u8, Failure>
+fn write_outcome<W: Write>(
+    alloc: Global,
+    outcome: &Outcome,
+    in_columns: bool,
+    writer: &mut W,
+) -> Result<u8, Failure>
     ensures done { IfOk result (λ status. (answer : Answer) × (outcome.now ≡ Answered answer)
-        × Appends (W.contents writer.old) (W.contents writer.new) (shown answer) × (status ≡ answer_status answer)) }
+        × Appends (W.contents writer.old) (W.contents writer.new) (shown in_columns answer) × (status ≡ answer_status answer)) }
     ensures failed { IfErr result (OfRequest
         (λ fault. (outcome.now ≡ Failed fault) × Appends (W.contents writer.old) (W.contents writer.new) (outcome_line outcome.now)) (Unit {0})) }
     ensures memory { IfErr result (IfMemory (Keeps (W.contents writer.old) (W.contents writer.new))) }
 {
-    match outcome_text(alloc, outcome)? {
+    match outcome_text(alloc, outcome, in_columns)? {
         Some(text) => {
             write_text(writer, text.as_slice())?;
             Ok(0)
@@ -74,27 +100,28 @@ fn write_outcome<W: Write>(alloc: Global, outcome: &Outcome, writer: &mut W) -> 
 
 // Asks a question.
 fn asked<D: Desk>(desk: &mut D, query: &Query) -> Outcome
-    ensures { Asks D.are_right D.tells query.now (D.seen desk.old) (D.seen desk.new) result }
+    ensures { Asks D.are_right D.tells D.stands query.now (D.seen desk.old) (D.seen desk.new) result }
 {
     Outcome::from(desk.ask(query))
 }
 
-/// Asks a desk a question and writes the text of its answer: the notices of a bill, the table of duties, the line of totals, the lines
-/// of changes; any other answer, a refusal among them, is written as the line of its reply. It returns the program's status. If the
-/// desk fails, the reply says so and so does the failure. The desk is as it was.
+/// Asks a desk a question and writes the text of its answer: the notices of a bill, the table of duties, in columns if that is wanted,
+/// the line of totals, the lines of changes; any other answer, a refusal among them, is written as the line of its reply. It returns
+/// the program's status. If the desk fails, the reply says so and so does the failure. The desk is as it was.
 pub fn show<D: Desk, W: Write>(
     alloc: Global,
     desk: &mut D,
     query: &Query,
+    in_columns: bool,
     writer: &mut W,
 ) -> Result<u8, Failure>
-    ensures done { IfOk result (IsShown D.are_right D.tells query.now (D.seen desk.old) (D.seen desk.new)
+    ensures done { IfOk result (IsShown D.are_right D.tells D.stands query.now (D.seen desk.old) (D.seen desk.new) in_columns
         (W.contents writer.old) (W.contents writer.new)) }
     ensures failed { IfErr result (OfRequest
-        (HasFailed D.are_right D.tells query.now (D.seen desk.old) (D.seen desk.new) (W.contents writer.old) (W.contents writer.new))
-        (IsUntold D.are_right D.tells query.now (D.seen desk.old) (D.seen desk.new))) }
+        (HasFailed D.are_right D.tells D.stands query.now (D.seen desk.old) (D.seen desk.new) (W.contents writer.old) (W.contents writer.new))
+        (IsUntold D.are_right D.tells D.stands query.now (D.seen desk.old) (D.seen desk.new))) }
     ensures memory { IfErr result (IfMemory (Keeps (W.contents writer.old) (W.contents writer.new))) }
 {
     let outcome = asked(desk, query);
-    write_outcome(alloc, &outcome, writer)
+    write_outcome(alloc, &outcome, in_columns, writer)
 }

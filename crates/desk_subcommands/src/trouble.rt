@@ -10,8 +10,16 @@ pub enum Trouble {
     Memory,
     #[error("another program has it open; end that one, then try again")]
     Busy,
-    #[error("it is no file that may be read and written, or its folder is not there")]
+    #[error("it is no file that can be made or opened here; name another file")]
     CannotOpen,
+    #[error("it is a folder; name a file")]
+    Folder,
+    #[error("its folder is not there; make it first, or name another file")]
+    NoFolder,
+    #[error("it may be read and not written; copy it to a folder of your own")]
+    ReadOnly,
+    #[error("it may not be read; see to its permissions")]
+    Unreadable,
     #[error("it is no database, or it is damaged; name another file, or put back a copy of it")]
     Damaged,
     #[error("its disk is full; make room, then try again")]

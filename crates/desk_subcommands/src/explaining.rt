@@ -1,0 +1,152 @@
+//! The lines of a script that aren't done, told in words.
+
+ghost use Rattle.std.specs.Prelude.{◌≡◌};
+
+use crate::failure::Failure;
+use desk_rows::{Answer, Outcome};
+use desk_script::{Reply, Watch};
+use desk_words::{RefusalWords, RequestTrouble, request_trouble};
+use std::alloc::{AllocError, Global};
+use std::io::Write;
+
+// How many lines there were, but for blank ones.
+#[derive(Clone, Copy)]
+struct Counts {
+    done: u64,
+    refused: u64,
+    no_request: u64,
+    failed: u64,
+}
+
+impl Counts {
+    fn add(&mut self, reply: &Reply) {
+        let count = match reply {
+            Reply::NoRequest => &mut self.no_request,
+            Reply::Became(Outcome::Failed(_)) => &mut self.failed,
+            Reply::Became(Outcome::Answered(Answer::Refused(_))) => &mut self.refused,
+            Reply::Became(Outcome::Answered(_)) => &mut self.done,
+        };
+        *count = count.saturating_add(1);
+    }
+
+    fn line(&self, alloc: Global) -> Result<String, AllocError> {
+        let Counts {
+            done,
+            refused,
+            no_request,
+            failed,
+        } = self;
+        format!(in alloc;
+            "done: {done}, refused: {refused}, no request: {no_request}, failed: {failed}\n"
+        )
+    }
+}
+
+/// One who watches a script, and tells of each line that isn't done which it is and why, and at the end how many there were.
+#[derive(Drop)]
+pub struct Explainer<E: Write> {
+    alloc: Global,
+    writer: E,
+    /// Whether anything is told.
+    is_told: bool,
+    /// Whether the script ends with the first line that isn't done.
+    is_stopped: bool,
+    /// The number of the line that came.
+    line: u64,
+    /// Why it is no request.
+    trouble: Option<RequestTrouble>,
+    counts: Counts,
+}
+
+impl<E: Write> Explainer<E> {
+    /// One who tells what isn't done or keeps silent, and has the script end there or go on.
+    pub fn new(alloc: Global, writer: E, is_told: bool, is_stopped: bool) -> Explainer<E>
+        ensures { result.is_stopped ≡ is_stopped }
+    {
+        let counts = Counts {
+            done: 0,
+            refused: 0,
+            no_request: 0,
+            failed: 0,
+        };
+        Explainer {
+            alloc,
+            writer,
+            is_told,
+            is_stopped,
+            line: 0,
+            trouble: None,
+            counts,
+        }
+    }
+
+    // The words for the line that came, where it isn't done.
+    fn words(&self, reply: &Reply) -> Result<Option<String>, AllocError> {
+        let (alloc, line) = (self.alloc, self.line);
+        match reply {
+            Reply::NoRequest => match &self.trouble {
+                Some(trouble) => Ok(Some(format!(in alloc;
+                    "line {line}: no request: {trouble}\n"
+                )?)),
+                None => Ok(Some(format!(in alloc; "line {line}: no request\n")?)),
+            },
+            Reply::Became(Outcome::Failed(fault)) => {
+                Ok(Some(format!(in alloc; "line {line}: the request failed: {fault}\n")?))
+            }
+            Reply::Became(Outcome::Answered(Answer::Refused(refusal))) => {
+                let words = RefusalWords::of(refusal);
+                Ok(Some(format!(in alloc; "line {line}: {words}\n")?))
+            }
+            Reply::Became(Outcome::Answered(_)) => Ok(None),
+        }
+    }
+
+    fn tell(&mut self, reply: &Reply) -> Result<(), Failure>
+        ensures { self.new.is_stopped ≡ self.old.is_stopped }
+    {
+        if let Some(words) = self.words(reply)? {
+            self.writer.write_all(words.as_bytes())?;
+        }
+        Ok(())
+    }
+
+    /// Tells how many lines were done and how many not.
+    pub fn tell_counts(&mut self) -> Result<(), Failure> {
+        if self.is_told {
+            let line = self.counts.line(self.alloc)?;
+            self.writer.write_all(line.as_bytes())?;
+        }
+        Ok(())
+    }
+}
+
+impl<E: Write> Watch for Explainer<E> {
+    ghost stops = { λ explainer. explainer.is_stopped };
+
+    fn stops(&self) -> bool {
+        self.is_stopped
+    }
+
+    fn came(&mut self) {
+        self.line = self.line.saturating_add(1);
+    }
+
+    fn no_request(&mut self, text: Option<&[u8]>) {
+        if !self.is_told {
+            return;
+        }
+        self.trouble = match text {
+            // Where memory is wanting, the line is told without its cause.
+            Some(text) => request_trouble(self.alloc, text).unwrap_or(None),
+            None => Some(RequestTrouble::TooLong),
+        };
+    }
+
+    fn replied(&mut self, reply: &Reply) {
+        self.counts.add(reply);
+        if self.is_told {
+            // Where it can't be told, there is nobody left to tell.
+            let _told = self.tell(reply);
+        }
+    }
+}
