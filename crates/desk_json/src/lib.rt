@@ -9,15 +9,23 @@
 //! | `import` | `text`, and perhaps `profile` |
 //! | `open` | `release`, `form` |
 //! | `attach` | `release`, `document` |
+//! | `conclude` | `document`, `package`, `expression` |
+//! | `adopt` | `document`, `reference`, `licence` |
 //! | `choose` | `release`, `document`, `package`, `terms` |
+//! | `unchoose` | `release`, `document`, `package` |
 //! | `freeze` | `release`, `day` |
-//! | `meet` | `duty`, `day`, `text` |
+//! | `meet`, `reopen` | `duty`, `day`, `text` |
+//! | `waive` | `duty`, `day`, `text`, and perhaps `until` |
+//! | `close` | `day` |
+//! | `withdraw` | `release`, `day`, `text` |
 //!
 //! | `ask` | Other members |
 //! |---|---|
-//! | `duties`, `totals` | `release` |
+//! | `release`, `duties`, `totals` | `release` |
 //! | `changes` | `duty` |
 //! | `findings` | `document` |
+//! | `alternatives` | `document`, `package` |
+//! | `cheapest` | `document`, `package`, `form` |
 //!
 //! `document` and `duty` are whole numbers from 0 to 9,223,372,036,854,775,807, `profile` is 1 or 2 (`desk_base::Profile`), and 1
 //! where it is absent, `terms` is a list of texts, the others are texts.

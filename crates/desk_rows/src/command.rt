@@ -98,7 +98,7 @@ pub enum Command {
         /// Why, 1 to 1,024 bytes.
         text: Text,
     },
-    /// A frozen release is withdrawn.
+    /// A release is withdrawn, frozen or still open.
     Withdraw {
         /// The name of a release.
         release: Text,
@@ -118,7 +118,7 @@ pub enum Command {
         document: u64,
         /// The SPDXID of a package of it.
         package_id: Text,
-        /// The expression, written by the document's profile.
+        /// The expression, with operators in capitals whatever the document's profile.
         expression: Text,
     },
     /// A reference of a document is adopted as a licence, in place of an earlier one.
@@ -127,7 +127,7 @@ pub enum Command {
         document: u64,
         /// A reference, byte for byte.
         reference: Text,
-        /// The term that stands in its place.
+        /// A plain licence id, without plus and exception.
         licence: Text,
     },
 }
