@@ -7,6 +7,9 @@ PREFIX = /usr/local
 DESTDIR =
 ARGS = check MIT mit
 CRATES =
+MINUTES = 10
+SEED = 1
+TIMES = 1000
 
 program = crates/desk_program
 
@@ -37,7 +40,8 @@ needs:
 	    || { echo "There is no $$program." >&2; exit 1; }; done
 	@python3 -c 'import sys; sys.exit(sys.version_info < (3, 11))' || { echo 'This Python is older.' >&2; exit 1; }
 
-# The merge gate: quick checks of texts, every proof, and then the cases, stops, large inputs and refused allocations on the built program.
+# The merge gate: quick checks of texts, every proof, and then the cases, stops, large inputs, refused allocations and hostile inputs on the
+# built program.
 test: needs
 	@python3 tests/gate.py
 
@@ -52,6 +56,10 @@ database: needs build
 # What an audit says of files of desks, and of files that others wrote.
 auditing: needs build
 	@python3 tests/auditing.py build/desk
+
+# What becomes of files of older versions, and of migrations that are stopped.
+migrating: needs build
+	@python3 tests/migrating.py build/desk
 
 # What a desk that is served over HTTP replies.
 serving: needs build
@@ -80,6 +88,22 @@ ample: needs build
 allocations: needs build
 	@python3 tests/allocations/sweep.py build/desk
 
+# Hostile inputs of a seed for some minutes, each beside a second reader: make hostile MINUTES=10 SEED=1
+hostile: needs build
+	@python3 tests/hostile/hostile.py build/desk --minutes $(MINUTES) --seed $(SEED)
+
+# Kills at random moments, so many of each command that writes: make kills TIMES=1000
+kills: needs build
+	@python3 tests/hostile/kills.py build/desk --times $(TIMES) --seed $(SEED)
+
+# A million requests over HTTP and ten million lines: an hour or so.
+soak: needs build
+	@python3 tests/hostile/soak.py build/desk
+
+# What the slowest known inputs within the limits cost.
+cost: needs build
+	@python3 tests/hostile/cost.py build/desk
+
 # Edits that the prover must refuse, all of some crates: make edits CRATES='desk_expr'. Records the crates whose edits were all refused.
 edits:
 	@echo 'Trying edits that turn a meaning: minutes for each crate.'
@@ -103,17 +127,24 @@ bench: build
 	@python3 bench/reports.py build/desk
 	@python3 bench/trees.py build/desk
 	@echo 'Building the programs that only the benches run.'
-	@sh bench/programs/build.sh documents bom globs
+	@sh bench/programs/build.sh documents bom globs texts
 	@python3 bench/documents.py build/bench/documents build/documents
 	@python3 bench/import.py build/desk build/bench/documents build/scripts
 	@python3 bench/bom.py build/bench/bom build/bom
 	@python3 bench/globs.py build/bench/globs
+	@python3 bench/texts.py build/bench/texts build/texts
 
+# The manual page and the completions for bash, zsh and fish, made from the program's help: build/share.
+manual: build
+	@sh manual/manual.sh build/desk build/share
+
+# The program, its manual page and its completions.
 install: build
 	mkdir -p $(DESTDIR)$(PREFIX)/bin
 	cp build/desk $(DESTDIR)$(PREFIX)/bin/desk
+	sh manual/manual.sh build/desk $(DESTDIR)$(PREFIX)/share
 
 clean:
 	rm -rf build
 
-.PHONY: all build demo needs test acceptance database auditing serving units refused lint ample allocations edits try bench install clean
+.PHONY: all build demo needs test acceptance database auditing migrating serving units refused lint ample allocations hostile kills soak cost edits try bench manual install clean

@@ -83,7 +83,10 @@ class Desk:
         is_fault = done.returncode == 3 and re.fullmatch(rb"error: [^\n]+\n", done.stderr)
         if is_fault and done.stdout == b"":
             return "error"
-        if not is_fault and (done.stderr or done.returncode not in (0, 1)):
+        # (of a file that is no desk, those that want one say how its tables differ)
+        has_words = words[0] not in ("audit", "migrate") and done.stdout == b"fault: NotADesk\n"
+        is_told = re.fullmatch(rb'"[^\n]*": (it has|one of its tables) [^\n]+\n' if has_words else b"", done.stderr)
+        if not is_fault and (not is_told or done.returncode not in (0, 1)):
             return f"status {done.returncode}, {done.stdout[:100]!r}, {done.stderr[:100]!r}"
         return f"{done.returncode} {done.stdout.decode(errors='replace')}"
 

@@ -17,6 +17,7 @@ PROOFS = ["rt", "ci"]
 
 STEPS = [
     ("Comparing the tables of the pages with the definitions and the code.", ["python3", "tests/pages.py"]),
+    ("Checking the catalogue of the examples, and its texts.", ["python3", "tests/catalogues/check.py"]),
     ("Comparing the picture of the layers with the crates.", ["python3", "docs/layers.py", "--check"]),
     ("Looking at the layout of the sources.", ["python3", "tests/format.py"]),
     ("Looking for the places of the edits that the prover must refuse.", ["python3", "tests/edits.py", "--texts"]),
@@ -24,14 +25,18 @@ STEPS = [
     ("Running the tests of single calls, compiled with checks and no proof.", ["sh", "tests/units/run.sh"]),
     ("Proving everything from nothing, and trying edits: an hour or two.", PROOFS),
     ("Running the acceptance cases on the program that was proved and built.", ["sh", "tests/acceptance/run.sh", DESK]),
+    ("Comparing the manual page and the completions with its help.", ["python3", "tests/manual.py", DESK]),
     ("Running the scripts among them over files.", ["python3", "tests/database.py", DESK]),
     ("Asking it over HTTP.", ["python3", "tests/serving.py", DESK]),
     ("Reading the tables of a desk by SQLite.", ["python3", "tests/tables.py", DESK]),
     ("Auditing files of desks, sound ones and others.", ["python3", "tests/auditing.py", DESK]),
+    ("Migrating files of older versions, sound ones and others.", ["python3", "tests/migrating.py", DESK]),
     ("Stopping a desk in a file at each write, and failing each call of its disk.", ["python3", "tests/stops/stops.py", DESK]),
     ("Handing it files that are no desk.", ["python3", "tests/stops/places.py", DESK]),
     ("Feeding it large inputs and each fault of each reader.", ["python3", "tests/ample/ample.py", DESK]),
     ("Refusing each of its allocations in turn.", ["python3", "tests/allocations/sweep.py", DESK]),
+    ("Trying hostile inputs for a minute.", ["python3", "tests/hostile/hostile.py", DESK, "--minutes", "1", "--seed", "1"]),
+    ("Killing it at random moments while it writes.", ["python3", "tests/hostile/kills.py", DESK, "--times", "20"]),
     ("Looking for what this tree lacks to be REUSE-compliant.", ["sh", "tests/lint.sh", DESK]),
     ("Changing trees while they are read.", ["python3", "tests/changing.py", DESK]),
 ]

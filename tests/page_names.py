@@ -10,7 +10,7 @@ import re
 import shlex
 
 TREE = os.path.dirname(os.path.dirname(os.path.abspath(__file__)))
-TOP = ("bench", "build", "crates", "docs", "examples", "tests")
+TOP = ("bench", "build", "crates", "docs", "examples", "manual", "tests")
 SOURCES = ("crates/*/src", "crates/*/specs", "crates/*/proofs", "tests", "bench")
 ENDS = (".rt", ".antt", ".py", ".sh", ".c", ".dialogue")
 DECLARED = r"\b(?:fn|struct|enum|trait|type|mod|const)\s+(\w+)"

@@ -20,6 +20,24 @@ TREE = os.path.dirname(HERE)
 CRATES = os.path.join(TREE, "crates")
 HELP = "tests/acceptance/help-of-script/stdout"
 
+# The most words of each page: what has a letter or a digit is a word.
+MOST_WORDS = {
+    "README.md": 700,
+    "docs/ARCHITECTURE.md": 2_000,
+    "docs/CATALOGUE.md": 1_000,
+    "docs/DATABASE.md": 1_000,
+    "docs/DECISIONS.md": 3_500,
+    "docs/DEFINITIONS.md": 4_500,
+    "docs/EXTENDING.md": 1_500,
+    "docs/LINT.md": 1_100,
+    "docs/PROVED.md": 4_000,
+    "docs/REFUSALS.md": 1_500,
+    "docs/REQUESTS.md": 3_000,
+    "docs/SPEED.md": 1_500,
+    "docs/TABLES.md": 1_000,
+    "docs/TRUST.md": 700,
+}
+
 failures = []
 
 
@@ -162,9 +180,19 @@ def forms_of_requests():
     return {word: set(re.findall(r'with_\w+ \(codes "(\w+)"\)', bodies[name])) for word, name in words}
 
 
+def forms_of_head():
+    """The members of each form by the head of the crate that reads them, without those that may be left out."""
+    forms = {}
+    for names, members in re.findall(r"^//! \| (`.*`) \| (`.*) \|$", text_of("crates/desk_json/src/lib.rt"), flags=re.M):
+        needed = members.partition(", and perhaps")[0]
+        forms.update((name, set(re.findall(r"`(\w+)`", needed))) for name in re.findall(r"`(\w+)`", names))
+    return forms
+
+
 def check_requests():
-    """Each form has a section of its own and a place in the help, with requests that have its members."""
+    """Each form has a section of its own and a place in the help, with requests that have its members, and its row in the crate's head."""
     forms = forms_of_requests()
+    compare("the head of desk_json", forms_of_head(), forms)
     page = text_of("docs/REQUESTS.md")
     headings = re.findall(r"^### (\w+): ", page, flags=re.M)
     compare("the sections of docs/REQUESTS.md", {name: name for name in headings}, {name: name for name in forms})
@@ -183,14 +211,34 @@ def check_decisions():
             failures.append(f"docs/DECISIONS.md has a bullet without a name or of more than 300 characters: {line[:60]}")
 
 
+def check_words():
+    """No page grows past what a reader is to be asked for."""
+    for page, most in MOST_WORDS.items():
+        words = sum(1 for word in text_of(page).split() if re.search(r"\w", word))
+        if words > most:
+            failures.append(f"{page} has {words:,} words, and {most:,} at most")
+
+
+def check_tables():
+    """The names by which a file that is no desk is told apart are those of the tables that a desk declares, in their order."""
+    tables = text_of("crates/desk_adopting/src/forms.rt")
+    declared = re.findall(r"^    TableForm \{\n        name: \"(\w+)\",$", tables, flags=re.M)
+    told = re.search(r"^const NAMES: .*?= \[\n(.*?)^\];$", text_of("crates/desk_program/src/differences.rt"), flags=re.M | re.S)
+    names = re.findall(r"\"(\w+)\"", told.group(1)) if told else []
+    if not declared or names != declared:
+        failures.append(f"crates/desk_program/src/differences.rt has the tables {names}, and not {declared}")
+
+
 def main():
     check_names()
+    check_tables()
     check_conditions()
     check_examples()
     check_limits()
     check_texts()
     check_requests()
     check_decisions()
+    check_words()
     failures.extend(page_names.failures())
     for failure in failures:
         print(failure, file=sys.stderr)

@@ -32,6 +32,7 @@ FIXTURES = {
     "catalogue of real documents": "tests/fixtures/real-documents.toml",
     "document of a build": "tests/documents/build.spdx",
     "document of a scanner": "tests/documents/scanner.spdx",
+    "document of reuse": "tests/documents/reuse.spdx",
     "document with every tag": "tests/documents/whole.spdx",
 }
 

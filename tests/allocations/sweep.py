@@ -6,6 +6,8 @@ with its Nth allocation refused, until a run makes fewer. Then
 - a check or a listing tells its answer with its status, or nothing with status 3 and its words;
 - a text of a desk in a file (notices, the table of duties, totals, changes) is written whole, or not at all with status 3 and its words; or
   the reply is {"fault":"memory"};
+- an audit and a migration of a file, behind its opening and once in the midst of that, tell their answer, or nothing but their words; the
+  file is as it was, or, migrated, has the rows of a migration whole;
 - a script over a file does so too, and may fail to open or to close it, with its words;
 - so do the document and the problems of a tree; the words may also be those of a folder or a file that found no memory;
 - a desk that is served, from its first connection on, replies to each as it would, but for one: that is replied 503 with "memory", and the
@@ -20,6 +22,7 @@ Each request of a script or a connection is told want of memory so at least once
 import os
 import re
 import shutil
+import sqlite3
 import subprocess
 import sys
 import tempfile
@@ -39,6 +42,10 @@ FILES = 100
 MANY = 1_000_000
 # (of the allocations that open a file, one in their midst)
 OPENING = 1_000
+# The first release in a file of version 1, and how many allocations before the end of a migration that is refused at once its work begins,
+# at most
+OLDER = "../migrations/first-release-of-version-1.sql"
+REFUSING = 100
 MEMORY = b'{"fault":"memory"}\n'
 
 WANTING = b"error: no memory is left\n"
@@ -289,6 +296,103 @@ def sweep_connections(program):
     return refused - first
 
 
+class OnFile:
+    """A run over a file that is audited or migrated, and what may be told and left where memory is wanting."""
+
+    def __init__(self, program, word, data):
+        self.program, self.words, self.data = program, [word, "--db", "file"], data
+        self.path = os.path.join(program.folder, "file")
+        self.whole = self.run()[:2]
+        self.rows = self.tables()
+
+    def run(self, refused=0):
+        for path in (self.path, self.path + "-wal"):
+            if os.path.exists(path):
+                os.remove(path)
+        with open(self.path, "wb") as file:
+            file.write(self.data)
+        return self.program.run(self.words, b"", refused)
+
+    def tables(self):
+        """The rows of all tables, as SQLite reads a copy of the file and of its log."""
+        for end in ("", "-wal"):
+            if os.path.exists(self.path + end):
+                shutil.copy(self.path + end, self.path + ".copy" + end)
+        connection = sqlite3.connect(self.path + ".copy")
+        names = [name for (name,) in connection.execute("SELECT name FROM sqlite_schema WHERE type = 'table' ORDER BY rowid")]
+        found = {name: connection.execute(f"SELECT * FROM {name} ORDER BY rowid").fetchall() for name in names}
+        connection.close()
+        for end in ("", "-wal", "-shm"):
+            if os.path.exists(self.path + ".copy" + end):
+                os.remove(self.path + ".copy" + end)
+        return found
+
+    def is_kept(self):
+        with open(self.path, "rb") as file:
+            return file.read() == self.data
+
+    def is_right(self, stdout, status, stderr):
+        is_whole = (stdout, status, stderr) == (*self.whole, b"")
+        is_told = status == 3 and stdout in (b"", self.whole[0]) and (stderr in NOT_BEGUN or UNUSED.fullmatch(stderr) is not None)
+        if self.words[0] == "audit":
+            return (is_whole or is_told) and self.is_kept()
+        return is_whole and self.tables() == self.rows or is_told and (self.is_kept() or self.tables() == self.rows)
+
+    def allocations(self):
+        """How many allocations the run makes."""
+        least, most = 0, MANY
+        while least < most:
+            middle = (least + most + 1) // 2
+            least, most = (middle, most) if self.run(middle)[3] else (least, middle - 1)
+        return least
+
+
+def executed(program, data, text):
+    """The bytes of a file with other rows."""
+    path = os.path.join(program.folder, "made")
+    if os.path.exists(path):
+        os.remove(path)
+    with open(path, "wb") as file:
+        file.write(data)
+    connection = sqlite3.connect(path)
+    connection.executescript(text)
+    connection.close()
+    with open(path, "rb") as file:
+        return file.read()
+
+
+def sweep_file(program, word, data, answer):
+    """How many allocations of an audit or a migration were refused, behind those that open the file, and one of these."""
+    run = OnFile(program, word, data)
+    if run.whole != (answer, 0):
+        sys.exit(f"{word} of a file: {run.whole}, with memory")
+    # a file of an unknown version is refused as soon as it is opened
+    unknown = OnFile(program, "migrate", executed(program, data, "UPDATE meta SET version = 9"))
+    first = unknown.allocations() - REFUSING
+    if first <= OPENING:
+        sys.exit(f"{word} of a file: it is opened by fewer allocations than {OPENING + REFUSING}")
+    refused = OPENING
+    while True:
+        stdout, status, stderr, was_refused = run.run(refused)
+        if not was_refused:
+            break
+        if not run.is_right(stdout, status, stderr):
+            sys.exit(f"{word} of a file: allocation {refused}: status {status}, {stdout!r}, {stderr[:200]!r}")
+        refused = refused + 1 if refused >= first else first
+    if refused <= first + REFUSING:
+        sys.exit(f"{word} of a file: no allocation behind its opening was refused")
+    return refused - first + 1
+
+
+def sweep_files(program):
+    """How many allocations of each run over a file that is audited or migrated were refused."""
+    with open(os.path.join(program.folder, "office"), "rb") as file:
+        yield sweep_file(program, "audit", file.read(), b"sound\n")
+    with open(os.path.join(HERE, OLDER), encoding="utf-8") as file:
+        older = executed(program, b"", file.read())
+    yield sweep_file(program, "migrate", older, b"migrated 1 to 3\n")
+
+
 def texts(program):
     """The words of each text of the first release, which is made in a file."""
     with open(os.path.join(HERE, "../../examples/first-release/script.jsonl"), "rb") as file:
@@ -347,6 +451,8 @@ def main():
         program.stand_in(None, None)
         for words in texts(program):
             swept, runs = swept + 1, runs + sweep(program, words[0], words, b"", first_of_texts(program, words))
+        for count in sweep_files(program):
+            swept, runs = swept + 1, runs + count
         swept, runs = swept + 1, runs + sweep_connections(program)
         if swept == 0 or runs == 0:
             sys.exit("nothing was swept")

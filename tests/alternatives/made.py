@@ -110,4 +110,5 @@ def main():
         exchange({"ask": "cheapest", **OF_PACKAGE, "form": "binary"}, {"rows": rows})
 
 
-main()
+if __name__ == "__main__":
+    main()

@@ -4,13 +4,19 @@ The scripts are the first release and the withdrawn release, on a desk in a file
 each write and each sync. Then SQLite opens the files, finds them sound and reads the tables, and so does the desk: they are those after
 the commands that were replied to, or after the one that was being carried out too.
 
-A disk that is lost at a call refuses all from then on, and has afterwards only what was synced before: the same holds.
+A disk that is lost at a call refuses all from then on, and has afterwards only what was synced before: the same holds. So it does where
+each sector that was written since is the old one or the new one by chance, the file as long as before, as now or between, and what lies past
+its old end anything (`docs/DATABASE.md`).
 
 With a call that fails the script goes on or stops: what was replied to is what the script without the other requests gives, the tables
 are those after these, or after the one that failed too where nothing was recorded after it, and a later run serves the desk.
+
+An audit of the file that each script leaves, with each of its reads refused in turn, tells that the file is sound or why it can't be read,
+and leaves the file as it was.
 """
 
 import os
+import random
 import shutil
 import sqlite3
 import subprocess
@@ -26,12 +32,28 @@ import dialogue
 
 SCRIPTS = ("script-first-release", "script-withdrawn-release")
 STOPPED = -9
+SECTOR = 512
+MIXES = 4
 MEMORY = "/dev/shm"
 STORE = b'{"fault":"store"}\n'
 
 
 def is_question(request):
     return request.startswith(b'{"ask"')
+
+
+def read(path):
+    with open(path, "rb") as file:
+        return file.read()
+
+
+def mixed(old, new, turn):
+    """Each sector below the old end is the old one or the new one; past it are bytes that were written, or any others."""
+    end = turn.choice((len(old), len(new), turn.randint(*sorted((len(old), len(new))))))
+    written = new[: len(old)] + old[len(new) :]
+    below = [turn.choice((old, written))[at : at + SECTOR] for at in range(0, len(old), SECTOR)]
+    past = [turn.choice((new[at : at + SECTOR], turn.randbytes(SECTOR), bytes(SECTOR))) for at in range(len(old), end, SECTOR)]
+    return b"".join(below + past)[:end]
 
 
 class Desk:
@@ -48,21 +70,21 @@ class Desk:
         for path in self.files():
             os.remove(path)
 
-    def lose(self):
-        """Has each file hold what it held when it was last synced."""
+    def lose(self, turn):
+        """Has each file hold what it held when it was last synced, or with a turn a mixture of that and of what was written since."""
         for path in self.files():
             kept = os.path.join(self.kept, str(os.stat(path).st_ino))
-            if os.path.exists(kept):
-                shutil.copy(kept, path)
-            else:
-                os.truncate(path, 0)
+            old, new = (read(name) if os.path.exists(name) else b"" for name in (kept, path))
+            with open(path, "r+b") as file:
+                file.write(mixed(old, new, turn) if turn else old)
+                file.truncate()
 
-    def run(self, requests, **disk):
+    def run(self, requests, word="script", **disk):
         """Standard output, the status, standard error, and whether the call of the disk was met."""
         if os.path.exists(self.told):
             os.remove(self.told)
         env = {"LD_PRELOAD": self.library, "DISK_TOLD": self.told, **{"DISK_" + key.upper(): str(value) for key, value in disk.items()}}
-        done = subprocess.run([self.program, "script", "--db", self.file], input=b"".join(requests), capture_output=True,
+        done = subprocess.run([self.program, word, "--db", self.file], input=b"".join(requests), capture_output=True,
                               env=env if disk else {}, timeout=60, check=False)
         return done.stdout.splitlines(keepends=True), done.returncode, done.stderr, os.path.exists(self.told)
 
@@ -116,8 +138,8 @@ class Script:
             self.fail(disk, f"status {status}, {told}")
         return self.stands(told, **disk)
 
-    def lose(self, **disk):
-        """Whether there was such a call at which the disk was lost."""
+    def lose(self, mix=0, **disk):
+        """Whether there was such a call at which the disk was lost, with the mixture of this number, or none."""
         self.desk.clear()
         shutil.rmtree(self.desk.kept, ignore_errors=True)
         os.mkdir(self.desk.kept)
@@ -127,7 +149,7 @@ class Script:
         told = told[: told.index(STORE)] if STORE in told else told
         if status != 3 and len(told) < len(self.requests) or told != self.replies[: len(told)]:
             self.fail(disk, f"status {status}, {told}")
-        self.desk.lose()
+        self.desk.lose(random.Random(f"{mix} {disk['at']}") if mix else None)
         return self.stands(told, **disk)
 
     def stands(self, told, **disk):
@@ -172,6 +194,24 @@ class Script:
             self.fail(disk, f"status {status}, {told}, {words}, {tables}")
         return True
 
+    def audit(self, **disk):
+        """Whether there was such a call to refuse in an audit of what the script leaves."""
+        before = read(self.desk.file)
+        told, status, words, was_met = self.desk.run([], word="audit", **disk)
+        if not was_met:
+            return False
+        is_answered = (told, status, words) == ([b"sound\n"], 0, b"")
+        is_told = told in ([], [b"sound\n"]) and status == 3 and words.startswith(b"error: ")
+        if not (is_answered or is_told) or read(self.desk.file) != before:
+            self.fail(disk, f"audit: status {status}, {told}, {words}")
+        return True
+
+    def audits(self):
+        """How many reads of an audit were refused."""
+        self.desk.clear()
+        self.desk.run(self.requests)
+        return self.each(self.audit, calls="read", does="fail")
+
     def each(self, run, **disk):
         """How many calls there were."""
         count = 0
@@ -185,16 +225,18 @@ def main():
         library = os.path.join(room, "disk.so")
         subprocess.run(["cc", "-O2", "-shared", "-fPIC", "-o", library, os.path.join(HERE, "disk.c"), "-ldl"], check=True)
         desk = Desk(os.path.abspath(sys.argv[1]), library, room)
-        stopped, refused, lost = 0, 0, 0
+        stopped, refused, lost, audits = 0, 0, 0, 0
         for name in SCRIPTS:
             script = Script(desk, name)
             stopped += sum(script.each(script.stop, calls=calls, does=does) for calls in ("write", "sync") for does in ("stop", "half", "after"))
             refused += sum(script.each(script.refuse, calls=calls, does="fail") for calls in ("read", "write", "sync"))
             refused += script.each(script.refuse, calls="write", does="full")
-            lost += sum(script.each(script.lose, calls=calls, does="lose") for calls in ("write", "sync"))
-        if stopped == 0 or refused == 0 or lost == 0:
+            lost += sum(script.each(script.lose, mix=mix, calls=calls, does="lose") for mix in range(MIXES + 1) for calls in ("write", "sync"))
+            audits += script.audits()
+        if stopped == 0 or refused == 0 or lost == 0 or audits == 0:
             sys.exit("no call of the disk was met")
-        print(f"{len(SCRIPTS)} scripts, stopped {stopped} times, refused a call of the disk {refused} times, its disk lost {lost} times: passed")
+        print(f"{len(SCRIPTS)} scripts, stopped {stopped} times, refused a call of the disk {refused} times, its disk lost {lost} times,"
+              f" refused {audits} reads of an audit: passed")
 
 
 if __name__ == "__main__":

@@ -1,0 +1,18 @@
+PRAGMA foreign_keys=OFF;
+BEGIN TRANSACTION;
+CREATE TABLE meta (version INTEGER PRIMARY KEY) STRICT;
+INSERT INTO meta VALUES(1);
+CREATE TABLE catalogue (revision INTEGER PRIMARY KEY, body TEXT NOT NULL) STRICT;
+CREATE TABLE rule (revision INTEGER NOT NULL, term TEXT NOT NULL, form TEXT NOT NULL, spelled TEXT NOT NULL, codes TEXT NOT NULL, PRIMARY KEY (revision, term, form)) STRICT;
+CREATE TABLE document (number INTEGER PRIMARY KEY, namespace TEXT NOT NULL UNIQUE, bytes BLOB NOT NULL) STRICT;
+CREATE TABLE package (document INTEGER NOT NULL, id TEXT NOT NULL, name TEXT NOT NULL, version TEXT, concluded TEXT, copyright TEXT, shipped INTEGER NOT NULL, PRIMARY KEY (document, id)) STRICT;
+CREATE TABLE extracted (document INTEGER NOT NULL, reference TEXT NOT NULL, body TEXT, PRIMARY KEY (document, reference)) STRICT;
+CREATE TABLE conclusion (document INTEGER NOT NULL, package TEXT NOT NULL, expression TEXT NOT NULL, PRIMARY KEY (document, package)) STRICT;
+CREATE TABLE adoption (document INTEGER NOT NULL, reference TEXT NOT NULL, licence TEXT NOT NULL, PRIMARY KEY (document, reference)) STRICT;
+CREATE TABLE releases (name TEXT NOT NULL, place INTEGER NOT NULL UNIQUE, form TEXT NOT NULL, state TEXT NOT NULL, revision INTEGER NOT NULL, PRIMARY KEY (name)) STRICT;
+CREATE TABLE attached (release TEXT NOT NULL, document INTEGER NOT NULL, PRIMARY KEY (release, document)) STRICT;
+CREATE TABLE choice (release TEXT NOT NULL, document INTEGER NOT NULL, package TEXT NOT NULL, term TEXT NOT NULL, PRIMARY KEY (release, document, package, term)) STRICT;
+CREATE TABLE frozen (release TEXT NOT NULL, document INTEGER NOT NULL, package TEXT NOT NULL, term TEXT NOT NULL, rule TEXT NOT NULL, PRIMARY KEY (release, document, package, term)) STRICT;
+CREATE TABLE duty (number INTEGER PRIMARY KEY, release TEXT NOT NULL, document INTEGER NOT NULL, package TEXT NOT NULL, term TEXT NOT NULL, code TEXT NOT NULL, rule TEXT NOT NULL, state TEXT NOT NULL, UNIQUE (release, document, package, term, code)) STRICT;
+CREATE TABLE change (duty INTEGER NOT NULL, step INTEGER NOT NULL, day TEXT NOT NULL, word TEXT NOT NULL, body TEXT NOT NULL, PRIMARY KEY (duty, step)) STRICT;
+COMMIT;
