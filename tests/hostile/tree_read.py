@@ -251,7 +251,7 @@ def key_of_text(path):
 
 def key_of(name):
     """Licences and exceptions are told apart whatever their case, references byte for byte."""
-    return name if name.startswith(("LicenseRef-", "DocumentRef-")) else "".join(letter.lower() if letter.isascii() else letter for letter in name)
+    return name if name.startswith(("LicenseRef-", "DocumentRef-")) else second_lists.folded(name)
 
 
 def first_mention(information, key):
