@@ -189,10 +189,20 @@ def forms_of_head():
     return forms
 
 
+def forms_in_words():
+    """The members by which `desk_words` says why a line is no request, without those that may be left out."""
+    text = text_of("crates/desk_words/src/forms.rt")
+    keys = re.findall(r'^const (\w+): Key = Key \{\n +name: "(\w+)",\n +wanted: .*\n +is_optional: (\w+),', text, flags=re.M)
+    needed = {constant: name for constant, name, is_optional in keys if is_optional == "false"}
+    forms = re.findall(r'word: "(\w+)",\s*keys: &\[([^\]]*)\]', text)
+    return {word: {needed[key] for key in re.findall(r"\w+", listed) if key in needed} for word, listed in forms}
+
+
 def check_requests():
     """Each form has a section of its own and a place in the help, with requests that have its members, and its row in the crate's head."""
     forms = forms_of_requests()
     compare("the head of desk_json", forms_of_head(), forms)
+    compare("the forms of desk_words", forms_in_words(), forms)
     page = text_of("docs/REQUESTS.md")
     headings = re.findall(r"^### (\w+): ", page, flags=re.M)
     compare("the sections of docs/REQUESTS.md", {name: name for name in headings}, {name: name for name in forms})
