@@ -29,33 +29,26 @@ pub(crate) trait Stored: Sized {
         ensures { IfOk result (λ found. columns_of width row.now ≡ cells found) };
 }
 
-/// The rows whose cells these are.
-fn read_all<T: Stored + Drop>(alloc: Global, rows: &[Row]) -> Result<Vec<T>, Fault>
-    ensures { IfOk result (λ found. map (columns_of T.width) rows.now ≡ map T.cells found.items) }
+/// The rows whose cells these are. Each is let go as soon as it is read, so that no table is held twice.
+fn read_all<T: Stored + Drop>(alloc: Global, rows: Vec<Row>) -> Result<Vec<T>, Fault>
+    ensures { IfOk result (λ found. map (columns_of T.width) rows.items ≡ map T.cells found.items) }
 {
-    let mut found = Vec::new(alloc);
+    let mut found = Vec::with_capacity(alloc, rows.len())?;
     for row in rows {
-        found.push(T::read(alloc, row)?)?;
+        found.push(T::read(alloc, &row)?)?;
     }
     Ok(found)
 }
 
-/// The rows that a query shows.
-fn scan<T: Stored + Drop, R: Source>(
-    alloc: Global,
-    source: &mut R,
-    sql: &str,
-) -> Result<Vec<T>, Fault>
-    requires { R.is_ready source.old }
-    ensures shown { HasCleanDisk (R.shows source.new)
-        → IfOk result (λ rows. IsShown sql.now T.width T.cells rows.items (R.shows source.old)
-        (R.shows source.new)) }
-    ensures asked { Asks sql.now → HasAsked (R.shows source.old) (R.shows source.new) result }
-    ensures ready { R.is_ready source.new }
-    ensures same_reference { R.name source.new ≡ R.name source.old }
+/// The same, as a list that is searched by its keys.
+fn read_listed<T: Stored + Keyed + Drop>(alloc: Global, rows: Vec<Row>) -> Result<Listed<T>, Fault>
+    ensures { IfOk result (λ found. map (columns_of T.width) rows.items ≡ map T.cells found) }
 {
-    let rows = source.query(sql)?;
-    read_all(alloc, &rows)
+    let mut found = Listed::new(alloc);
+    for row in rows {
+        found.push(T::read(alloc, &row)?)?;
+    }
+    Ok(found)
 }
 
 /// The rows that a query shows.
@@ -72,21 +65,12 @@ pub(crate) fn items<T: Stored + Drop, R: Source>(
     ensures ready { R.is_ready source.new }
     ensures same_reference { R.name source.new ≡ R.name source.old }
 {
-    Ok(Items::from_vec(scan(alloc, source, sql)?))
+    let rows = source.query(sql)?;
+    let found = read_all(alloc, rows)?;
+    Ok(Items::from_vec(found))
 }
 
-/// Rows as a list that is searched by their keys.
-fn listed_from<T: Keyed + Drop>(alloc: Global, rows: Vec<T>) -> Result<Listed<T>, Fault>
-    ensures { IfOk result (λ listed. listed ≡ rows.items) }
-{
-    let mut listed = Listed::new(alloc);
-    for row in rows {
-        listed.push(row)?;
-    }
-    Ok(listed)
-}
-
-/// The rows that a query shows, as a list that is searched by their keys.
+/// The rows that a query shows, as a list that is searched by its keys.
 pub(crate) fn listed<T: Stored + Keyed + Drop, R: Source>(
     alloc: Global,
     source: &mut R,
@@ -100,6 +84,6 @@ pub(crate) fn listed<T: Stored + Keyed + Drop, R: Source>(
     ensures ready { R.is_ready source.new }
     ensures same_reference { R.name source.new ≡ R.name source.old }
 {
-    let rows = scan(alloc, source, sql)?;
-    listed_from(alloc, rows)
+    let rows = source.query(sql)?;
+    read_listed(alloc, rows)
 }

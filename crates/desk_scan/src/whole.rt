@@ -79,52 +79,28 @@ fn joined(first: FirstPart, second: SecondPart) -> Snapshot
     ensures { result ≡ joined_of first second }
 {
     let FirstPart {
-        catalogues: CataloguePart {
-            meta,
-            catalogue,
-            rule,
-        },
-        documents: DocumentPart {
-            document,
-            reading,
-            packages,
-            extracted,
-        },
-        office: OfficePart {
-            conclusion,
-            adoption,
-        },
+        catalogues,
+        documents,
+        office,
     } = first;
-    let SecondPart {
-        releases: ReleasePart {
-            releases,
-            attached,
-            choice,
-            frozen,
-        },
-        duties: DutyPart {
-            duty,
-            changes,
-            waiver,
-        },
-    } = second;
+    let SecondPart { releases, duties } = second;
     Snapshot {
-        meta,
-        catalogue,
-        rule,
-        document,
-        reading,
-        packages,
-        extracted,
-        conclusion,
-        adoption,
-        releases,
-        attached,
-        choice,
-        frozen,
-        duty,
-        changes,
-        waiver,
+        meta: catalogues.meta,
+        catalogue: catalogues.catalogue,
+        rule: catalogues.rule,
+        document: documents.document,
+        reading: documents.reading,
+        packages: documents.packages,
+        extracted: documents.extracted,
+        conclusion: office.conclusion,
+        adoption: office.adoption,
+        releases: releases.releases,
+        attached: releases.attached,
+        choice: releases.choice,
+        frozen: releases.frozen,
+        duty: duties.duty,
+        changes: duties.changes,
+        waiver: duties.waiver,
     }
 }
 
