@@ -1,6 +1,6 @@
 //! Rows of a table in the order in which they came.
 
-ghost use Rattle.std.specs.Prelude.{◌≡◌, ◌++◌, ◌∷◌, [], filter, find, OnOk, OnErr};
+ghost use Rattle.std.specs.Prelude.{◌≡◌, ◌++◌, ◌∷◌, [], filter, find, OnOk, OnErr, IfErr};
 ghost use Rattle.std.specs.Option.{option_copied};
 
 use desk_rows::Fault;
@@ -37,6 +37,7 @@ impl<R: Keyed + Drop> Listed<R> {
     pub fn push(&mut self, row: R) -> Result<(), Fault>
         ensures ok { OnOk result (self.new ≡ self.old ++ row ∷ []) }
         ensures err { OnErr result (self.new ≡ self.old) }
+        ensures fault { IfErr result (λ fault. fault ≡ Fault.Memory) }
     {
         self.appended.reserve(1)?;
         self.appended.push(row);
