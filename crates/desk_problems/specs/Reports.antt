@@ -10,6 +10,7 @@ use Rattle.desk_gather.specs.Readers.{Reader}
 use Rattle.desk_problems.specs.declared.problems.Problems.{Problems}
 use Rattle.desk_problems.specs.declared.reports.Report.{Report}
 use Rattle.desk_problems.specs.declared.row.Kind.{Kind}
+use Rattle.desk_problems.specs.declared.row.Kind.TheVariants.{BlankAtEnd}
 use Rattle.desk_problems.specs.declared.row.Row.{Row}
 use Rattle.desk_problems.specs.Problems.{AreProblems}
 use Rattle.desk_problems.specs.Rows.{kind_name, kind_number, kinds, AreRows}
@@ -47,6 +48,10 @@ place (Some line) = codes ":" ++ (decimal line ++ codes ": ")
 
 abbrev pub row_line : Row → List ℕ
 row_line row = shown row.path ++ (place row.line ++ (shown row.message ++ codes "\n"))
+
+-- the line of a row, if that is of a kind
+abbrev pub line_of_kind : Kind → Row → List ℕ
+line_of_kind kind row = if nat_eq (kind_number row.kind) (kind_number kind) then row_line row else []
 
 -- how many rows are of a kind
 abbrev pub count_of : Kind → List Row → ℕ
@@ -109,3 +114,11 @@ pub record IsReport (r : Reader) (files : List SourceFile) (json : Bool) (report
   pub are_rows : AreRows problems rows
   pub text : report.text.items ≡ text_of json rows problems.covered
   pub clean : report.is_clean ≡ is_none rows
+
+-- the lines of the licences among the problems of a tree that no document can hold
+pub record AreBlankLines (r : Reader) (files : List SourceFile) (text : List ℕ) : Type 0 where
+  pub problems : Problems
+  pub rows : List Row
+  pub are_problems : AreProblems r files problems
+  pub are_rows : AreRows problems rows
+  pub are_lines : text ≡ flat_map (line_of_kind BlankAtEnd) rows

@@ -19,6 +19,6 @@ mod rows;
 pub use bare::{Bare, Lacking};
 pub use blanks::Blank;
 pub use problems::{Problems, problems_of};
-pub use reports::{Report, report_on};
+pub use reports::{Report, blank_lines, report_on};
 pub use row::{Kind, Row};
 pub use rows::rows_of;

@@ -3,7 +3,7 @@
 ghost use Rattle.std.specs.Prelude.{◌≡◌, ◌++◌, IfOk, OnOk, codes};
 ghost use Rattle.std.specs.List.{flat_map};
 ghost use Rattle.std.specs.String.{string_bytes};
-ghost use Rattle.desk_problems.specs.Reports.{shown_byte, held, shown_at, shown_behind, shown, place, row_line, count_of, some_count, counts_of, counts, summary, lines_text};
+ghost use Rattle.desk_problems.specs.Reports.{shown_byte, held, shown_at, shown_behind, shown, place, row_line, count_of, some_count, counts_of, counts, summary, lines_text, line_of_kind};
 
 use crate::row::{Kind, Row, kinds};
 use std::alloc::{AllocError, Global};
@@ -85,6 +85,27 @@ fn row_lines(alloc: Global, rows: &[Row]) -> Result<Vec<u8>, AllocError>
     let mut text = Vec::new(alloc);
     for row in rows {
         add_line(alloc, &mut text, row)?;
+    }
+    Ok(text)
+}
+
+// Adds the line of a row, if that is of a kind.
+fn add_of_kind(alloc: Global, text: &mut Vec<u8>, row: &Row, kind: Kind) -> Result<(), AllocError>
+    ensures { OnOk result (text.new.items ≡ text.old.items ++ line_of_kind kind row.now) }
+{
+    if row.kind.number() == kind.number() {
+        add_line(alloc, text, row)?;
+    }
+    Ok(())
+}
+
+/// The lines of the rows of a kind.
+pub(crate) fn lines_of_kind(alloc: Global, rows: &[Row], kind: Kind) -> Result<Vec<u8>, AllocError>
+    ensures { IfOk result (λ text. text.items ≡ flat_map (line_of_kind kind) rows.now) }
+{
+    let mut text = Vec::new(alloc);
+    for row in rows {
+        add_of_kind(alloc, &mut text, row, kind)?;
     }
     Ok(text)
 }

@@ -2,12 +2,12 @@
 
 ghost use Rattle.std.specs.Prelude.{◌≡◌, IfOk};
 ghost use Rattle.desk_gather.specs.Readers.{Reader, IsRightReader};
-ghost use Rattle.desk_problems.specs.Reports.{text_of, is_none, IsReport};
+ghost use Rattle.desk_problems.specs.Reports.{text_of, is_none, AreBlankLines, IsReport};
 
 use crate::json::json_text;
-use crate::lines::lines_text;
+use crate::lines::{lines_of_kind, lines_text};
 use crate::problems::problems_of;
-use crate::row::Row;
+use crate::row::{Kind, Row};
 use crate::rows::rows_of;
 use desk_gather::SourceFile;
 use std::alloc::{AllocError, Global};
@@ -51,4 +51,15 @@ pub fn report_on(alloc: Global, files: &[SourceFile], json: bool) -> Result<Repo
         text,
         is_clean: is_none(rows.as_slice()),
     })
+}
+
+/// The lines of the report on a tree that tell of licences in REUSE.toml files which no document can hold. The only error is no memory.
+///
+/// For each right reader they are those of `AreBlankLines`.
+pub fn blank_lines(alloc: Global, files: &[SourceFile]) -> Result<Vec<u8>, AllocError>
+    ensures { (r : Reader) → IsRightReader r → IfOk result (λ text. AreBlankLines r files.now text.items) }
+{
+    let problems = problems_of(alloc, files)?;
+    let rows = rows_of(alloc, &problems)?;
+    lines_of_kind(alloc, rows.as_slice(), Kind::BlankAtEnd)
 }

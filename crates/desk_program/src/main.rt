@@ -17,7 +17,7 @@ use crate::scripts::Course;
 use desk_base::{Profile, Text};
 use desk_core::desk::MemDesk;
 use desk_line::{Call, LineFault, line};
-use desk_subcommands::{Failure, alternatives, lint};
+use desk_subcommands::{Failure, alternatives, lint, tell_blanks};
 use desk_texts::Standard;
 use desk_trees::files_of;
 use std::alloc::{AllocError, Global};
@@ -97,7 +97,7 @@ fn script(rt: &HostRuntime, alloc: Global, course: Course) -> Result<u8, Failure
     scripts::script(rt, &mut *desk, &mut writer, course)
 }
 
-/// Writes the document of a source tree.
+/// Writes the document of a source tree. The licences that it can't hold are looked for in the tree as it stands then.
 fn gather(
     rt: &HostRuntime,
     folder: &str,
@@ -107,7 +107,7 @@ fn gather(
     is_watched: bool,
 ) -> Result<u8, Failure> {
     let files = files_of(rt, folder, is_watched)?;
-    desk_subcommands::gather(
+    let gathered = desk_subcommands::gather(
         rt.alloc(),
         files,
         name,
@@ -115,7 +115,12 @@ fn gather(
         created,
         &mut io::writer(rt),
         &mut rt.stderr(),
-    )
+    );
+    if let Err(Failure::BadValue) = &gathered {
+        let files = files_of(rt, folder, false)?;
+        tell_blanks(rt.alloc(), files.as_slice(), &mut rt.stderr())?;
+    }
+    gathered
 }
 
 fn answer(rt: &HostRuntime, alloc: Global, call: &Call, is_watched: bool) -> Result<u8, Failure> {

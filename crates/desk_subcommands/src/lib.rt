@@ -33,7 +33,7 @@ pub use explaining::Explainer;
 pub use failure::Failure;
 pub use filing::{NoDesk, catalogue, import, refuse_catalogue, refuse_database, text_of};
 pub use gathering::gather;
-pub use linting::lint;
+pub use linting::{lint, tell_blanks};
 pub use listing::alternatives;
 pub use migrating::tell_migration;
 pub use scripting::script;

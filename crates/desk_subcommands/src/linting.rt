@@ -1,14 +1,15 @@
 //! The problems of a source tree, written out.
 
-ghost use Rattle.std.specs.Prelude.{◌≡◌, ℕ, List, IfOk, IfErr};
+ghost use Rattle.std.specs.Prelude.{◌≡◌, ℕ, List, IfOk, IfErr, OnOk};
 ghost use Rattle.std.specs.Io.KnownBytes.{Appends, Keeps};
 ghost use Rattle.desk_gather.specs.Readers.{Reader, IsRightReader};
+ghost use Rattle.desk_problems.specs.Reports.{AreBlankLines};
 ghost use Rattle.desk_subcommands.specs.Failures.{IfMemory, IsOfOutput};
 ghost use Rattle.desk_subcommands.specs.Linting.{lint_status, Lints};
 
 use crate::failure::Failure;
 use desk_gather::SourceFile;
-use desk_problems::{Report, report_on};
+use desk_problems::{Report, blank_lines, report_on};
 use std::alloc::Global;
 use std::io::Write;
 
@@ -36,4 +37,21 @@ pub fn lint<W: Write>(
     writer.write_all(report.text.as_slice())?;
     writer.flush()?;
     Ok(status_of(&report))
+}
+
+/// Tells which licences in REUSE.toml files have a blank at an end, a line each, where a tree's document can't hold them.
+pub fn tell_blanks<T: Write>(
+    alloc: Global,
+    files: &[SourceFile],
+    teller: &mut T,
+) -> Result<(), Failure>
+    ensures told { (r : Reader) → IsRightReader r → OnOk result ((text : List ℕ)
+        × AreBlankLines r files.now text
+        × Appends (T.contents teller.old) (T.contents teller.new) text) }
+    ensures fails { IfErr result IsOfOutput }
+{
+    let text = blank_lines(alloc, files)?;
+    teller.write_all(text.as_slice())?;
+    teller.flush()?;
+    Ok(())
 }
