@@ -97,7 +97,8 @@ def measured(program, name):
 
 def row(name, size, status, seconds, peak):
     """Prints a row, and answers whether it is over what is wanted."""
-    is_over = status not in (0, 1) or seconds > SECONDS or peak > TIMES * size + MORE
+    # 3 is the status of a file that can't be used
+    is_over = status not in (0, 1, 3) or seconds > SECONDS or peak > TIMES * size + MORE
     mark = " OVER" if is_over else ""
     print(f"| {name} | {size:,} | {seconds:.2f} s | {peak / 1e6:.0f} MB |{mark}", flush=True)
     return is_over
