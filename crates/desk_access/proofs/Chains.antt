@@ -1,5 +1,5 @@
 -- One look-up after another.
-use Rattle.std.proofs.Common.{◌≡◌, subst}
+use Rattle.std.proofs.Common.{◌≡◌, inl, inr, subst, arith}
 use Rattle.std.specs.Prelude.{Result, Ok, Err, IfOk}
 use Rattle.std.specs.Result.{IsErr}
 use Rattle.desk_rows.specs.declared.command.Fault.{Fault}
@@ -8,13 +8,35 @@ use Rattle.desk_rows.specs.declared.command.Change.{Change}
 use Rattle.desk_rows.specs.declared.command.Plan.{Plan}
 use Rattle.desk_rows.specs.Tables.{Tables}
 use Rattle.desk_access.specs.Plans.{IsPlan, Plans}
-use Rattle.desk_access.specs.Seen.{Seen, Kept, Same, Looked, OfRows}
+use Rattle.desk_access.specs.Seen.{Seen, Outlasts, Spared, Kept, Same, Looked, OfRows}
 
 module _ {Left : Type 0} where
+  pub outlasts_self : (a : Seen Left) → Outlasts a a
+  outlasts_self a = record { counts = omega arith; closes = λ h o. inl o }
+
+  pub outlasts_then : (a b c : Seen Left) → (c.is_honest → b.is_honest) → Outlasts a b → Outlasts b c → Outlasts a c
+  outlasts_then a b c honest one two = record {
+    counts = omega (arith, one.counts, two.counts);
+    closes = λ h o. elim (one.closes (honest h) o) [
+      | inl still ↦ elim (two.closes h still) [ inl last ↦ inl last | inr fault ↦ inr (omega (arith, one.counts, fault)) ]
+      | inr fault ↦ inr (omega (arith, two.counts, fault))
+    ];
+  }
+
+  pub spared_self : (a : Seen Left) → Spared a a
+  spared_self a = record { honest = λ h. h; holds = λ t h. h; outlasts = outlasts_self a }
+
+  pub spared_then : (a b c : Seen Left) → Spared a b → Spared b c → Spared a c
+  spared_then a b c s r = record {
+    honest = λ h. s.honest (r.honest h);
+    holds = λ t h. r.holds t (s.holds t h);
+    outlasts = outlasts_then a b c r.honest s.outlasts r.outlasts;
+  }
+
   pub same_self : (a : Seen Left) → Same a a
   same_self a = record {
     kept = record {
-      spared = record { honest = λ h. h; holds = λ t h. h };
+      spared = spared_self a;
       leaves = λ h o t held x left. left;
     };
     stays = λ h o. o;
@@ -22,7 +44,7 @@ module _ {Left : Type 0} where
 
   pub same_then_kept : (a b c : Seen Left) → Same a b → Kept b c → Kept a c
   same_then_kept a b c s k = record {
-    spared = record { honest = λ h. s.kept.spared.honest (k.spared.honest h); holds = λ t h. k.spared.holds t (s.kept.spared.holds t h) };
+    spared = spared_then a b c s.kept.spared k.spared;
     leaves = λ h o t held x left. s.kept.leaves (k.spared.honest h) o t held x (k.leaves h (s.stays (k.spared.honest h) o) t (s.kept.spared.holds t held) x left);
   }
 

@@ -1,5 +1,5 @@
 -- What is seen of a store, and what a call may do to it.
-use Rattle.std.specs.Prelude.{◌≡◌, ◌⊎◌, true, false, Result, Ok, Err}
+use Rattle.std.specs.Prelude.{◌≡◌, ◌⊎◌, ℕ, ◌+◌, ◌-◌, ◌^◌, ◌≤◌, min, true, false, Result, Ok, Err}
 use Rattle.desk_rows.specs.Tables.{Tables, applied}
 use Rattle.desk_rows.specs.Answers.{is_recorded}
 use Rattle.desk_rows.specs.declared.command.Change.{Change}
@@ -15,14 +15,26 @@ pub record Seen (Left : Type 0) : Type 1 where
   pub is_honest : Type 0
   -- it shows its rows; a fault of the disk may end that
   pub is_open : Type 0
+  -- how many times its disk has failed
+  pub faults : ℕ
   -- a stop may leave this
   pub leaves : Left → Type 0
 
+-- a disk failed once more, by a count that stays at its greatest, that of 64 bits
+abbrev pub MoreFaults : ℕ → ℕ → Type 0
+MoreFaults old new = min (old + 1) (2 ^ 64 - 1) ≤ new
+
 module _ {Left : Type 0} where
+  -- no fault of the disk is forgotten, and nothing but such a fault shuts the store
+  pub record Outlasts (old new : Seen Left) : Type 0 where
+    pub counts : old.faults ≤ new.faults
+    pub closes : new.is_honest → old.is_open → new.is_open ⊎ MoreFaults old.faults new.faults
+
   -- the rows are as they were, as far as the store still shows any
   pub record Spared (old new : Seen Left) : Type 0 where
     pub honest : new.is_honest → old.is_honest
     pub holds : (t : Tables) → old.holds t → new.holds t
+    pub outlasts : Outlasts old new
 
   -- and a stop leaves nothing that it couldn't leave before
   pub record Kept (old new : Seen Left) : Type 0 where
@@ -47,6 +59,7 @@ module _ {Left : Type 0} where
     -- a change that goes on from the rows is made, and a stop leaves the rows after it and no others
     pub record Made (change : Change) (old new : Seen Left) : Type 0 where
       pub honest : new.is_honest → old.is_honest
+      pub outlasts : Outlasts old new
       pub stays : new.is_honest → new.is_open
       pub holds : new.is_honest → (t : Tables) → old.holds t → Follows change t → new.holds (applied change t)
       pub leaves : new.is_honest → (t : Tables) → old.holds t → Follows change t → (x : Left) → new.leaves x → stands x (applied change t)
@@ -61,9 +74,10 @@ module _ {Left : Type 0} where
     Wrote change old new (Ok done) = Made change old new
     Wrote change old new (Err fault) = Failed change old new
 
-  -- What a command does to a store, whatever texts say: where it isn't recorded, the rows are as they were.
+  -- What a command does to a store, whatever texts say: where it isn't recorded, the rows are as they were, and only a fault of the disk
+  -- shuts it.
   abbrev pub Minds : Seen Left → Seen Left → Result Answer Fault → Type 0
-  Minds old new (Ok a) = (new.is_honest → old.is_honest) × (is_recorded a ≡ false → Same old new)
+  Minds old new (Ok a) = (new.is_honest → old.is_honest) × (is_recorded a ≡ false → Same old new) × Outlasts old new
   Minds old new (Err fault) = Spared old new
 
   -- What a command does to a store for each i whose tables may be its rows: its answer, and the tables after it.

@@ -23,6 +23,7 @@ kept old new s = record {
     holds = λ t holds clean is.
         let shows = holds (clean_before old new (λ _. ⊥) s.survives clean) (s.was_open clean is) in
         record { holds = subst (Holds t) (sym (s.now clean is)) shows.holds; settled = s.committed clean is ∙ shows.settled ∙ sym (s.now clean is) };
+    outlasts = record { counts = s.survives.counts; closes = s.survives.closes };
   };
   leaves = λ clean is t holds x left. one x (s.survives.crash clean x left);
 }

@@ -12,7 +12,7 @@ use Rattle.desk_rows.specs.declared.command.Command.{Command}
 use Rattle.desk_rows.specs.declared.command.Fault.{Fault}
 use Rattle.desk_rows.specs.declared.command.Outcome.{Outcome}
 use Rattle.desk_rows.specs.declared.command.Outcome.TheVariants.{Answered, Failed}
-use Rattle.desk_access.specs.Seen.{Seen, Minds, Spared}
+use Rattle.desk_access.specs.Seen.{Seen, Minds, Outlasts, Spared}
 use Rattle.desk_core.specs.Desks.{AllSpareStore, CarriesOut, IsLeft, Secures, is_answered}
 
 by_match : (b : Bool) {P Q : Type 0} → (b ≡ true → P) → (b ≡ false → Q) → MatchBool b P Q
@@ -57,8 +57,9 @@ module _ {Left : Type 0} where
   keeps_after old new (Ok a) m none = (m.1 none).kept.spared
   keeps_after old new (Err f) m none = m
 
-  pub Spared-then : (a b c : Seen Left) → Spared a b → Spared b c → Spared a c
-  Spared-then a b c s t = record { honest = λ clean. s.honest (t.honest clean); holds = λ x held. t.holds x (s.holds x held) }
+  pub outlasts_after : (old new : Seen Left) (r : Result Answer Fault) → Minds old new r → Outlasts old new
+  outlasts_after old new (Ok a) m = m.2
+  outlasts_after old new (Err f) m = m.outlasts
 
   module _ (stands : Left → Tables → Type 0) (w : Readings) (c : Command) (old new : Seen Left) where
     pub stays_after : (r : Result Answer Fault) → CarriesOut stands w c old new r → is_answered (outcome_of r) ≡ true → new.is_honest → old.is_open → new.is_open

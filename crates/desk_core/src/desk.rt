@@ -8,7 +8,7 @@ ghost use Rattle.desk_rows.specs.Tables.{Tables, tables};
 ghost use Rattle.desk_rows.specs.Answers.{IsHistory, refused_alone};
 ghost use Rattle.desk_rows.specs.Queries.{queried};
 ghost use Rattle.desk_rows.specs.Runs.{AreAnswers, IsAnswer, history_after, history_with, is_kept};
-ghost use Rattle.desk_access.specs.Seen.{Seen, Looked, Minds, Spared};
+ghost use Rattle.desk_access.specs.Seen.{Seen, Looked, Minds, Outlasts, Spared};
 ghost use Rattle.desk_core.specs.Desks.{AllSpareStore, CarriesOut, InHistory, IsLeft, Secures, is_answered};
 ghost use Rattle.desk_memory.specs.Memory.{memory_seen};
 ghost use Rattle.desk_rows.specs.declared.command.Command.TheVariants.{Import};
@@ -156,6 +156,7 @@ fn apply_one<D: Desk>(desk: &mut D, command: &Command) -> Outcome
         (λ w h. (D.seen desk.new).holds (tables w (history_with h command.now result)))
         (D.seen desk.old) (D.seen desk.new) }
     ensures keeps { is_kept result ≡ false → Spared (D.seen desk.old) (D.seen desk.new) }
+    ensures outlasts { Outlasts (D.seen desk.old) (D.seen desk.new) }
     ensures stays { is_answered result ≡ true → InHistory D.are_right
         (λ w h. (D.seen desk.old).is_open → (D.seen desk.new).is_open)
         (D.seen desk.old) (D.seen desk.new) }
@@ -175,7 +176,8 @@ fn apply_one<D: Desk>(desk: &mut D, command: &Command) -> Outcome
 /// command. Whatever recorded history `h` the rows stood for before, each outcome that is no fault is the answer at its place, after
 /// `h` and the commands recorded before it; and at the end the rows are the tables of all recorded commands, which are a
 /// recorded history again. Where none was recorded, the rows are as they were, whatever they are. Where no outcome is a fault and a
-/// stop left the rows before and no others, it leaves those at the end and no others. An outcome is a fault only where `apply` had it:
+/// stop left the rows before and no others, it leaves those at the end and no others. A desk that showed its rows still does, unless
+/// its disk failed. An outcome is a fault only where `apply` had it:
 /// it is one that the desk may tell, and none of the store where the command alone decides.
 pub fn run<D: Desk>(
     alloc: Global,
@@ -199,6 +201,7 @@ pub fn run<D: Desk>(
         → Secures D.stands (tables w (history_after h commands.now outcomes.items)) (D.seen desk.new))
         (D.seen desk.old) (D.seen desk.new)) }
     ensures honest { (D.seen desk.new).is_honest → (D.seen desk.old).is_honest }
+    ensures outlasts { Outlasts (D.seen desk.old) (D.seen desk.new) }
     ensures alone { (w : Readings) → D.are_right w
         → IfOk result (λ outcomes. AllSpareStore w commands.now outcomes.items) }
     ensures faults { IfOk result (λ outcomes. MayAllBecome D.tells outcomes.items) }

@@ -16,7 +16,7 @@ use Rattle.desk_rows.specs.Faults.{MayFail}
 use Rattle.desk_access.specs.Seen.{Seen, Kept, Same, OfRows, Minds}
 use Rattle.desk_decisions.specs.Carrying.{CarriesOutFrom}
 use Rattle.desk_access.specs.Plans.{IsPlan, IsPlanOf, IsSound, SparesStore, Plans, Carries}
-use Rattle.desk_access.proofs.Chains.{same_then_kept, same_then_same}
+use Rattle.desk_access.proofs.Chains.{outlasts_then, same_then_kept, same_then_same, spared_then}
 use Rattle.desk_decisions.proofs.Following.{change_follows}
 use Rattle.desk_base.proofs.Bools.{contrary}
 
@@ -28,17 +28,16 @@ module _ {Left : Type 0} where
   pub minds_carried : (stands : Left → Tables → Type 0) (a b c : Seen Left) (plan : Plan) (r : Result Answer Fault) → Same a b → IsSound plan → Carries stands plan b c r → Minds a c r
   minds_carried stands a b c (Leave x) (Ok y) s sound did = (
     (λ h. s.kept.spared.honest (did.1.kept.spared.honest h)),
-    λ none. same_then_same a b c s did.1,
+    (λ none. same_then_same a b c s did.1),
+    (same_then_same a b c s did.1).kept.spared.outlasts,
   )
   minds_carried stands a b c (Leave x) (Err f) s sound did = absurd did
   minds_carried stands a b c (Make x change) (Ok y) s sound did = (
     (λ h. s.kept.spared.honest (did.1.honest h)),
-    λ none. absurd (contrary (is_recorded x) sound (ap is_recorded (sym did.0) ∙ none)),
+    (λ none. absurd (contrary (is_recorded x) sound (ap is_recorded (sym did.0) ∙ none))),
+    outlasts_then a b c did.1.honest s.kept.spared.outlasts did.1.outlasts,
   )
-  minds_carried stands a b c (Make x change) (Err f) s sound did = record {
-    honest = λ h. s.kept.spared.honest (did.spared.honest h);
-    holds = λ t h. did.spared.holds t (s.kept.spared.holds t h);
-  }
+  minds_carried stands a b c (Make x change) (Err f) s sound did = spared_then a b c s.kept.spared did.spared
 
   pub alone_carried : (stands : Left → Tables → Type 0) (b c : Seen Left) (alone : Bool) (plan : Plan) (r : Result Answer Fault) → SparesStore alone (Ok plan) → Carries stands plan b c r
       → IfErr r (MayFail (λ fault. alone ≡ false))

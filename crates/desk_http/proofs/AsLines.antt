@@ -1,6 +1,7 @@
 -- Connections are lines of a script.
 use Rattle.std.proofs.Common.{◌≡◌, ℕ, Bool, List, [], ◌∷◌, refl, sym, subst}
 use Rattle.desk_access.specs.Seen.{Seen}
+use Rattle.desk_access.proofs.Chains.{outlasts_self, spared_self}
 use Rattle.desk_http_requests.specs.Requests.{request_for}
 use Rattle.desk_http_requests.specs.declared.asking.Reply.{Reply}
 use Rattle.desk_http_requests.specs.declared.asking.Reply.TheVariants.{Became, Bad, NoRoute, BadCommand, NotText, Memory}
@@ -23,7 +24,8 @@ module _ (is_right : Readings → Type 0) (tells : StoreFault → Type 0) {Left 
   nothing s = record {
     fits = tt;
     honest = λ h. h;
-    keeps = λ e. record { honest = λ h. h; holds = λ t x. x };
+    keeps = λ e. spared_self s;
+    outlasts = outlasts_self s;
     answer = λ w right honest h ok holds. tt;
     content = λ w right honest h ok holds. holds;
     alone = λ w right. tt;

@@ -87,6 +87,7 @@ seen_of s = record {
   holds = λ t. HasCleanDisk s → IsTrue s.is_open → Showing s t;
   is_honest = HasCleanDisk s;
   is_open = IsTrue s.is_open;
+  faults = s.faults;
   leaves = s.may_leave;
 }
 
@@ -122,5 +123,6 @@ counted k s = record {
   holds = λ t. (known_of t ≡ k) × s.holds t;
   is_honest = s.is_honest;
   is_open = s.is_open;
+  faults = s.faults;
   leaves = s.leaves;
 }

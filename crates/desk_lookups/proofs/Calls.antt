@@ -69,6 +69,7 @@ module _ (sql : List ℕ) (params : Row) (old new : State) where
         honest = clean_before;
         holds = λ t holds clean is.
             let shows = holds (clean_before clean) (opened clean is) in shows_still t (moves clean t shows is) is shows;
+        outlasts = record { counts = survives.counts; closes = survives.closes };
       };
       leaves = λ clean is t holds x left.
           let shows = holds (clean_before clean) is in

@@ -27,4 +27,4 @@ rows_of s = record {
 }
 
 abbrev pub memory_seen : MemStore → Seen (Unit {0})
-memory_seen s = record { holds = λ t. (rows_of s ≡ t) × AreKept s.tallies t × AreHolders (rows_in s.choices.holders.blocks.items) t; is_honest = Unit {0}; is_open = Unit {0}; leaves = λ x. ⊥ }
+memory_seen s = record { holds = λ t. (rows_of s ≡ t) × AreKept s.tallies t × AreHolders (rows_in s.choices.holders.blocks.items) t; is_honest = Unit {0}; is_open = Unit {0}; faults = 0; leaves = λ x. ⊥ }

@@ -14,7 +14,7 @@ use Rattle.desk_rows.specs.declared.command.Query.{Query}
 use Rattle.desk_rows.specs.declared.command.StoreFault.{StoreFault}
 use Rattle.desk_access.specs.Seen.{Seen, Looked, Minds}
 use Rattle.desk_core.specs.Desks.{CarriesOut, InHistory, is_answered}
-use Rattle.desk_core.proofs.Leaving.{keeps_after, left_after, stays_after}
+use Rattle.desk_core.proofs.Leaving.{keeps_after, left_after, outlasts_after, stays_after}
 use Rattle.desk_json.specs.declared.request.Request.TheVariants.{Act, Ask}
 use Rattle.desk_script.specs.Replies.{Replies, is_recorded_by}
 use Rattle.desk_script.specs.declared.answer.Reply.TheVariants.{Became}
@@ -55,6 +55,7 @@ module _ (is_right : Readings → Type 0) (tells : StoreFault → Type 0) {Left 
     fits = becomes tells r fault;
     honest = minds_honest r m;
     keeps = λ none. keeps_after old new r m (recorded c r none);
+    outlasts = outlasts_after old new r m;
     answer = λ w right clean h ok held. answers_by w c r (carries w right) clean h ok held;
     content = λ w right clean h ok held. content_by w c r m (carries w right) clean h ok held;
     alone = λ w right. becomes (λ fault. refused_alone w c ≡ false) r (alone w right);
@@ -68,6 +69,7 @@ module _ (is_right : Readings → Type 0) (tells : StoreFault → Type 0) {Left 
     fits = tt;
     honest = looked.kept.spared.honest;
     keeps = λ none. looked.kept.spared;
+    outlasts = looked.kept.spared.outlasts;
     answer = answer;
     content = λ w right clean h ok held. looked.kept.spared.holds (tables w h) held;
     alone = λ w right. tt;
@@ -78,6 +80,7 @@ module _ (is_right : Readings → Type 0) (tells : StoreFault → Type 0) {Left 
     fits = fault;
     honest = looked.spared.honest;
     keeps = λ none. looked.spared;
+    outlasts = looked.spared.outlasts;
     answer = λ w right clean h ok held. tt;
     content = λ w right clean h ok held. looked.spared.holds (tables w h) held;
     alone = λ w right. tt;

@@ -14,9 +14,10 @@ use Rattle.desk_rows.specs.declared.command.Outcome.{Outcome}
 use Rattle.desk_rows.specs.declared.command.Outcome.TheVariants.{Answered, Failed}
 use Rattle.desk_rows.specs.declared.command.StoreFault.{StoreFault}
 use Rattle.desk_history.proofs.Running.{IsHistory-with}
-use Rattle.desk_access.specs.Seen.{Seen, Spared}
+use Rattle.desk_access.specs.Seen.{Seen, Outlasts, Spared}
+use Rattle.desk_access.proofs.Chains.{outlasts_self, outlasts_then, spared_self, spared_then}
 use Rattle.desk_core.specs.Desks.{AllSpareStore, Secures, is_answered}
-use Rattle.desk_core.proofs.Leaving.{Spared-then, secures_after}
+use Rattle.desk_core.proofs.Leaving.{secures_after}
 use Rattle.desk_json.specs.declared.request.Request.{Request}
 use Rattle.desk_json.specs.declared.request.Request.TheVariants.{Act, Ask, BadCommand}
 use Rattle.desk_script.specs.Losses.{AreDone, AreToldUntil, IfStop, IsOfLine, LosesLast}
@@ -116,14 +117,21 @@ module _ (is_right : Readings → Type 0) (tells : StoreFault → Type 0) {Left 
 
   replied_keeps : (a b : Desk) (rs : List Request) (ps : List Reply) → AreReplied is_right tells stands seen a rs ps b → is_any_recorded rs ps ≡ false → Spared (seen a) (seen b)
   replied_keeps a b [] [] h none =
-      subst (λ (d : Desk). Spared (seen a) (seen d)) h (record { honest = λ clean. clean; holds = λ t held. held })
+      subst (λ (d : Desk). Spared (seen a) (seen d)) h (spared_self (seen a))
   replied_keeps a b [] (p ∷ ps) h none = absurd h
   replied_keeps a b (r ∷ rs) [] h none = absurd h
   replied_keeps a b (r ∷ rs) (p ∷ ps) h none =
       let both = either_false (is_recorded_by r p) (is_any_recorded rs ps) none in
       let first = h.1.keeps both.0 in
       let second = replied_keeps h.0 b rs ps h.2 both.1 in
-      Spared-then (seen a) (seen h.0) (seen b) first second
+      spared_then (seen a) (seen h.0) (seen b) first second
+
+  replied_outlasts : (a b : Desk) (rs : List Request) (ps : List Reply) → AreReplied is_right tells stands seen a rs ps b → Outlasts (seen a) (seen b)
+  replied_outlasts a b [] [] h = subst (λ (d : Desk). Outlasts (seen a) (seen d)) h (outlasts_self (seen a))
+  replied_outlasts a b [] (p ∷ ps) h = absurd h
+  replied_outlasts a b (r ∷ rs) [] h = absurd h
+  replied_outlasts a b (r ∷ rs) (p ∷ ps) h =
+      outlasts_then (seen a) (seen h.0) (seen b) (replied_honest h.0 b rs ps h.2) h.1.outlasts (replied_outlasts h.0 b rs ps h.2)
 
   -- what is known of the commands among requests that were replied
   abbrev RunsTo : Readings → List Command → List Request → List Reply → Desk → Type 0
@@ -198,6 +206,7 @@ module _ (is_right : Readings → Type 0) (tells : StoreFault → Type 0) {Left 
   IsRun-of a b rs ps r = record {
     honest = replied_honest a b rs ps r;
     keeps = replied_keeps a b rs ps r;
+    outlasts = replied_outlasts a b rs ps r;
     alone = replied_alone a b rs ps r;
     answers = λ w right clean h ok held. (replied_run a b rs ps r w right clean h ok held).0;
     history = λ w right clean h ok held. (replied_run a b rs ps r w right clean h ok held).1;

@@ -5,7 +5,8 @@ use Rattle.std.specs.Io.KnownBytes.{Appends}
 use Rattle.std.proofs.lemmas.List.{take_all}
 use Rattle.desk_rows.specs.Readings.{Readings}
 use Rattle.desk_rows.specs.Tables.{Tables}
-use Rattle.desk_access.specs.Seen.{Seen, Spared}
+use Rattle.desk_access.specs.Seen.{Seen}
+use Rattle.desk_access.proofs.Chains.{outlasts_self, spared_self}
 use Rattle.desk_rows.specs.declared.command.Fault.TheVariants as fault_is
 use Rattle.desk_rows.specs.declared.command.Outcome.TheVariants as outcome_is
 use Rattle.desk_rows.specs.declared.command.StoreFault.{StoreFault}
@@ -52,16 +53,13 @@ pub request_at-one : (line : Line) (text : List ℕ) → HasCome line text → l
 request_at-one line text h blank = ap (λ (b : Bool). if b then [] else request_of text ∷ []) (sym h.blank ∙ blank)
 
 module _ (is_right : Readings → Type 0) (tells : StoreFault → Type 0) {Left : Type 0} (stands : Left → Tables → Type 0) where
-  -- nothing was done
-  same_now : (now : Seen Left) → Spared now now
-  same_now now = record { honest = λ h. h; holds = λ t held. held }
-
   -- memory is wanting to read a request
   pub Replies-memory : (now : Seen Left) (request : Request) → Replies is_right tells stands now request (Became (outcome_is.Failed fault_is.Memory)) now
   Replies-memory now (Act c) = record {
     fits = tt;
     honest = λ h. h;
-    keeps = λ none. same_now now;
+    keeps = λ none. spared_self now;
+    outlasts = outlasts_self now;
     answer = λ w right clean h ok held. tt;
     content = λ w right clean h ok held. held;
     alone = λ w right. tt;
@@ -71,7 +69,8 @@ module _ (is_right : Readings → Type 0) (tells : StoreFault → Type 0) {Left 
   Replies-memory now (Ask q) = record {
     fits = tt;
     honest = λ h. h;
-    keeps = λ none. same_now now;
+    keeps = λ none. spared_self now;
+    outlasts = outlasts_self now;
     answer = λ w right clean h ok held. tt;
     content = λ w right clean h ok held. held;
     alone = λ w right. tt;
@@ -81,7 +80,8 @@ module _ (is_right : Readings → Type 0) (tells : StoreFault → Type 0) {Left 
   Replies-memory now BadCommand = record {
     fits = tt;
     honest = λ h. h;
-    keeps = λ none. same_now now;
+    keeps = λ none. spared_self now;
+    outlasts = outlasts_self now;
     answer = λ w right clean h ok held. tt;
     content = λ w right clean h ok held. held;
     alone = λ w right. tt;
@@ -93,7 +93,8 @@ module _ (is_right : Readings → Type 0) (tells : StoreFault → Type 0) {Left 
   no_request now = record {
     fits = tt;
     honest = λ h. h;
-    keeps = λ none. same_now now;
+    keeps = λ none. spared_self now;
+    outlasts = outlasts_self now;
     answer = λ w right clean h ok held. tt;
     content = λ w right clean h ok held. held;
     alone = λ w right. tt;

@@ -6,7 +6,7 @@ use Rattle.desk_rows.specs.Answers.{IsHistory, is_recorded, refused_alone}
 use Rattle.desk_rows.specs.Queries.{queried}
 use Rattle.desk_rows.specs.Faults.{MayBecome}
 use Rattle.desk_rows.specs.Runs.{IsAnswer, AreAnswers, history_after, history_with}
-use Rattle.desk_access.specs.Seen.{Seen, Spared}
+use Rattle.desk_access.specs.Seen.{Seen, Outlasts, Spared}
 use Rattle.desk_core.specs.Desks.{AllSpareStore, InHistory, IsLeft, Secures}
 use Rattle.desk_rows.specs.declared.command.Command.{Command}
 use Rattle.desk_rows.specs.declared.command.Fault.TheVariants.{Memory}
@@ -66,11 +66,13 @@ IsLeftBy stands w h old _ _ x = old.is_open → old.leaves x
 module _ (is_right : Readings → Type 0) (tells : StoreFault → Type 0) {Left : Type 0} (stands : Left → Tables → Type 0) where
   -- A desk gives a request this reply: whatever its rows are, they are as they were where nothing was recorded; and for each right
   -- reading and each history whose tables they are, it is the answer of the history, and leaves the tables of the history with
-  -- the command. What a stop leaves is told too, and that the desk still shows its rows, unless it had a fault.
+  -- the command. What a stop leaves is told too, and that the desk still shows its rows, unless it had a fault; after a fault too, unless
+  -- its disk failed.
   pub record Replies (old : Seen Left) (request : Request) (reply : Reply) (new : Seen Left) : Type 0 where
     pub fits : Fits tells request reply
     pub honest : new.is_honest → old.is_honest
     pub keeps : is_recorded_by request reply ≡ false → Spared old new
+    pub outlasts : Outlasts old new
     pub answer : InHistory is_right (λ w h. IsReply w h request reply) old new
     pub content : InHistory is_right (λ w h. new.holds (tables w (history_past h request reply))) old new
     pub alone : (w : Readings) → is_right w → SparesStore w request reply
@@ -100,10 +102,11 @@ outcomes_of _ _ = []
 -- The commands among the requests are a run. Whatever the rows were, they stay where no command was recorded. For each right reading
 -- and each history whose tables were the rows before, each outcome that is no fault is the answer at its place, the recorded commands
 -- go on the history, and the rows after it are its tables. Where there was no fault and a stop left the rows before and no others, it
--- leaves those after it and no others.
+-- leaves those after it and no others. Only a fault of its disk shuts the desk.
 pub record IsRun {Left : Type 0} (is_right : Readings → Type 0) (stands : Left → Tables → Type 0) (old : Seen Left) (requests : List Request) (replies : List Reply) (new : Seen Left) : Type 0 where
   pub honest : new.is_honest → old.is_honest
   pub keeps : is_any_recorded requests replies ≡ false → Spared old new
+  pub outlasts : Outlasts old new
   pub alone : (w : Readings) → is_right w → AllSpareStore w (commands_of requests) (outcomes_of requests replies)
   pub answers : InHistory is_right (λ w h. AreAnswers w h (commands_of requests) (outcomes_of requests replies)) old new
   pub history : InHistory is_right (λ w h. IsHistory w (history_after h (commands_of requests) (outcomes_of requests replies))) old new

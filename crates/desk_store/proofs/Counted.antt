@@ -18,16 +18,25 @@ use Rattle.desk_store.specs.Counting.{known_by, counts_after, forms_after, talli
 use Rattle.desk_store.specs.declared.counts.Counts.{Counts}
 use Rattle.desk_rows.specs.declared.command.Fault.{Fault}
 use Rattle.desk_access.specs.Follows.{Follows}
-use Rattle.desk_access.specs.Seen.{Seen, Kept, Same, Looked, OfRows, Made, Failed, Wrote}
+use Rattle.desk_access.specs.Seen.{Seen, Outlasts, Kept, Same, Looked, OfRows, Made, Failed, Wrote}
+use Rattle.desk_access.proofs.Chains.{outlasts_then}
 use Rattle.desk_layout.specs.Held.{Known, Stands, known_of, known_after, seen_of}
 use Rattle.desk_layout.proofs.Counting.{known_kept}
+
+-- what is kept beside its rows says nothing of its disk
+beside : (n m : Tallies) (k l : Known) (a b : Seen Trees) → Outlasts a b → Outlasts (tallied n k a) (tallied m l b)
+beside n m k l a b it = record { counts = it.counts; closes = it.closes }
 
 -- ---- look-ups
 
 module _ (n : Tallies) (k : Known) where
   pub kept : (a b : Seen Trees) → Kept a b → Kept (tallied n k a) (tallied n k b)
   kept a b it = record {
-    spared = record { honest = it.spared.honest; holds = λ t holds. (holds.0, holds.1, it.spared.holds t holds.2) };
+    spared = record {
+      honest = it.spared.honest;
+      holds = λ t holds. (holds.0, holds.1, it.spared.holds t holds.2);
+      outlasts = beside n n k k a b it.spared.outlasts;
+    };
     leaves = λ honest is t holds x left. it.leaves honest is t holds.2 x left;
   }
 
@@ -69,6 +78,8 @@ pub wrote : (c : Change) (counts after : Counts) (forms : List (List ℕ)) (n m 
     → Made Stands c (tallied n (known_by counts forms) (seen_of a)) (tallied m (known_by after (forms_after c forms)) (seen_of d))
 wrote c counts after forms n m a b d are still it leads = record {
   honest = λ clean. still.kept.spared.honest (it.honest clean);
+  outlasts = beside n m (known_by counts forms) (known_by after (forms_after c forms)) (seen_of a) (seen_of d)
+      (outlasts_then (seen_of a) (seen_of b) (seen_of d) it.honest still.kept.spared.outlasts it.outlasts);
   stays = it.stays;
   holds = λ clean t holds follows.
       let shown = it.holds clean t (still.kept.spared.holds t holds.2) follows in (
@@ -84,6 +95,7 @@ failed c k n m a b d kept still it = record {
   spared = record {
     honest = λ honest. still.kept.spared.honest (it.spared.honest honest);
     holds = λ t holds. (holds.0, kept t holds.1, it.spared.holds t (still.kept.spared.holds t holds.2));
+    outlasts = beside n m k k a d (outlasts_then a b d it.spared.honest still.kept.spared.outlasts it.spared.outlasts);
   };
   leaves = λ honest is t holds follows x left.
       let before = it.spared.honest honest in
@@ -97,7 +109,11 @@ failed c k n m a b d kept still it = record {
 -- nothing is written where a look-up failed, or there was no step
 pub left : (c : Change) (k : Known) (n m : Tallies) (a b : Seen Trees) → ((t : Tables) → AreKept n t → AreKept m t) → Kept a b → Failed Stands c (tallied n k a) (tallied m k b)
 left c k n m a b kept it = record {
-  spared = record { honest = it.spared.honest; holds = λ t holds. (holds.0, kept t holds.1, it.spared.holds t holds.2) };
+  spared = record {
+    honest = it.spared.honest;
+    holds = λ t holds. (holds.0, kept t holds.1, it.spared.holds t holds.2);
+    outlasts = beside n m k k a b it.spared.outlasts;
+  };
   leaves = λ honest is t holds follows x left. inl (it.leaves honest is t holds.2 x left);
 }
 

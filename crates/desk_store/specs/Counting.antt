@@ -38,5 +38,6 @@ tallied tallies k s = record {
   holds = λ t. (known_of t ≡ k) × AreKept tallies t × s.holds t;
   is_honest = s.is_honest;
   is_open = s.is_open;
+  faults = s.faults;
   leaves = s.leaves;
 }

@@ -6,7 +6,8 @@ use Rattle.desk_rows.specs.Tables.{Tables, applied}
 use Rattle.desk_rows.specs.declared.command.Change.{Change}
 use Rattle.desk_rows.specs.declared.command.Fault.{Fault}
 use Rattle.desk_access.specs.Follows.{Follows}
-use Rattle.desk_access.specs.Seen.{Made, Failed, Wrote}
+use Rattle.desk_access.specs.Seen.{Outlasts, Made, Failed, Wrote}
+use Rattle.desk_access.proofs.Chains.{spared_self}
 use Rattle.desk_layout.specs.Held.{Holds, Showing, Stands, seen_of}
 use Rattle.desk_layout.specs.Writable.{is_writable}
 use Rattle.desk_layout.proofs.Orderly.{order_kept}
@@ -14,11 +15,14 @@ use Rattle.desk_writing.specs.Written.{Done, Undone, Leaves}
 
 -- nothing was tried
 pub refused : (change : Change) (s : State) → Failed Stands change (seen_of s) (seen_of s)
-refused change s = record { spared = record { honest = λ clean. clean; holds = λ t holds. holds }; leaves = λ clean is t holds follows x left. inl left }
+refused change s = record { spared = spared_self (seen_of s); leaves = λ clean is t holds follows x left. inl left }
 
 module _ (change : Change) (writable : is_writable change ≡ true) (old new : State) (survives : Survives old new (Leaves change old)) where
   before : HasCleanDisk new → HasCleanDisk old
   before clean = omega (arith, survives.clean)
+
+  outlasts : Outlasts (seen_of old) (seen_of new)
+  outlasts = record { counts = survives.counts; closes = survives.closes }
 
   pub made : (HasCleanDisk new → Done change old new) → (IsTrue new.is_open → (trees : Trees) → new.may_leave trees → trees ≡ new.committed.trees) → Made Stands change (seen_of old) (seen_of new)
   made done stop =
@@ -28,6 +32,7 @@ module _ (change : Change) (writable : is_writable change ≡ true) (old new : S
       let now : Holds (applied change t) new.now = record { rows = it.made t held.rows; orderly = order_kept change t follows writable held.orderly } in now in
       record {
         honest = before;
+        outlasts = outlasts;
         stays = λ clean. (done clean).is_open;
         holds = λ clean t holds follows again is. record { holds = after clean t holds follows; settled = (done clean).settled };
         leaves = λ clean t holds follows x left. (new.now, after clean t holds follows, stop (done clean).is_open x left ∙ (λ i. ((done clean).settled i).trees));
@@ -41,6 +46,7 @@ module _ (change : Change) (writable : is_writable change ≡ true) (old new : S
           let it = undone clean in
           let shows = holds (before clean) (it.was_open is) in
           record { holds = subst (Holds t) (sym (it.now is ∙ shows.settled)) shows.holds; settled = it.committed is ∙ sym (it.now is) };
+      outlasts = outlasts;
     };
     leaves = λ clean is t holds follows x left. one x t ((holds (before clean) is).holds) follows (survives.crash clean x left);
   }

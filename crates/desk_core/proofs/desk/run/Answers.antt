@@ -9,7 +9,8 @@ use Rattle.desk_history.proofs.Running.{history_after-push, AreAnswers-push, IsH
 use Rattle.desk_rows.specs.declared.command.Command.{Command}
 use Rattle.desk_rows.specs.declared.command.Outcome.{Outcome}
 use Rattle.desk_core.specs.Desks.{AllSpareStore, Secures, is_answered}
-use Rattle.desk_core.proofs.Leaving.{AllSpareStore-push, Spared-then, all_pushed, none_pushed, secures_after}
+use Rattle.desk_access.proofs.Chains.{outlasts_then, spared_then}
+use Rattle.desk_core.proofs.Leaving.{AllSpareStore-push, all_pushed, none_pushed, secures_after}
 use Rattle.desk_core.proofs.desk.run.Goals as goal
 
 pub loop-command-preserved : goal.loop-command-preserved
@@ -36,7 +37,8 @@ loop-command-preserved g c =
       honest = λ clean. before.honest (first clean);
       keeps = λ none.
           let parts = none_pushed is_kept os outcome (ap (list_any is_kept) (sym items) ∙ none) in
-          Spared-then old mid new (before.keeps parts.0) (one.keeps parts.1);
+          spared_then old mid new (before.keeps parts.0) (one.keeps parts.1);
+      outlasts = outlasts_then old mid new first before.outlasts one.outlasts;
       alone = λ w right. subst (AllSpareStore w cs) (sym items) (AllSpareStore-push w cs os command outcome lt at (before.alone w right) (one.alone w right));
       faults = subst (MayAllBecome g.D.Desk.tells) (sym items) (MayAllBecome-push g.D.Desk.tells os outcome before.faults one.fault);
       answers = λ w right clean h ok e. subst (AreAnswers w h cs) (sym items) (AreAnswers-push w h cs os command outcome lt at (before.answers w right (first clean) h ok e)

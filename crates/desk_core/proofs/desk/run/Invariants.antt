@@ -6,7 +6,7 @@ use Rattle.desk_rows.specs.Faults.{MayAllBecome}
 use Rattle.desk_rows.specs.Tables.{tables}
 use Rattle.desk_rows.specs.Answers.{IsHistory}
 use Rattle.desk_rows.specs.Runs.{AreAnswers, history_after, is_kept}
-use Rattle.desk_access.specs.Seen.{Spared}
+use Rattle.desk_access.specs.Seen.{Outlasts, Spared}
 use Rattle.desk_core.specs.Desks.{AllSpareStore, InHistory, Secures, is_answered}
 use Rattle.desk_core.proofs.desk.run.Given as goal
 
@@ -20,6 +20,7 @@ invariant-loop-command g l =
       room : length l.commands ≤ vec_capacity l.outcomes;
       honest : new.is_honest → old.is_honest;
       keeps : list_any is_kept l.outcomes.items ≡ false → Spared old new;
+      outlasts : Outlasts old new;
       alone : (w : Readings) → g.D.Desk.are_right w → AllSpareStore w l.commands l.outcomes.items;
       faults : MayAllBecome g.D.Desk.tells l.outcomes.items;
       answers : InHistory g.D.Desk.are_right (λ w h. AreAnswers w h l.commands l.outcomes.items) old new;

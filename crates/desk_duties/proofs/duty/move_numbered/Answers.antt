@@ -5,7 +5,7 @@ use Rattle.desk_rows.specs.declared.state.ReleaseState.TheVariants.{IsOpen}
 use Rattle.desk_history.specs.FromTables.{moved_change, state_found, steps_found}
 use Rattle.desk_duties.specs.Moving.{move_here, move_known}
 use Rattle.desk_duties.proofs.Duties.{here_known, same_change}
-use Rattle.desk_access.proofs.Chains.{plan_after}
+use Rattle.desk_access.proofs.Chains.{plan_after, plans_after}
 use Rattle.desk_duties.proofs.duty.move_numbered.Goals as goal
 
 pub returns-clause-plan : goal.returns-clause-plan
@@ -20,3 +20,6 @@ returns-clause-plan g c =
     c.move_found.result c.in_ok-row.ensures.kept c.move_found.ensures.kept
     (λ h t held. (here_known t m.word q row.number row (sym (c.in_ok-row.ensures.found h t held) ∙ c.in-Some.is) number, same_change t row.number q m number))
     c.move_found.ensures.plan
+
+pub returns-clause-kept : goal.returns-clause-kept
+returns-clause-kept g c = plans_after _ _ _ c.move_found.result c.in_ok-row.ensures.kept c.move_found.ensures.kept

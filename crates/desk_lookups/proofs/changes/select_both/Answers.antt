@@ -3,7 +3,8 @@ use Rattle.sqlite.specs.Held.{state}
 use Rattle.desk_layout.specs.Held.{seen_of}
 use Rattle.desk_rows.specs.Keys.{is_change_of}
 use Rattle.desk_lookups.specs.Waivers.{ending_cells, waivers_in}
-use Rattle.desk_lookups.proofs.Chains.{same_then_same, of_rows_after}
+use Rattle.desk_access.proofs.Chains.{looked_err}
+use Rattle.desk_lookups.proofs.Chains.{same_then_kept, same_then_same, of_rows_after}
 use Rattle.desk_lookups.proofs.changes.select_both.Goals as goal
 
 pub returns-clause-waivers : goal.returns-clause-waivers
@@ -14,3 +15,10 @@ returns-clause-waivers g c =
 pub returns-clause-kept : goal.returns-clause-kept
 returns-clause-kept g c =
     same_then_same (seen_of (state g.S.Store c.args.conn.now)) (seen_of (state g.S.Store c.select_changes_of.new.conn)) (seen_of (state g.S.Store c.select_waivers_of.new.conn)) c.in_ok-changes.ensures.kept c.in_ok-waivers.ensures.kept
+
+pub returns-in_err-waivers-clause-kept : goal.returns-in_err-waivers-clause-kept
+returns-in_err-waivers-clause-kept g c =
+    let old = seen_of (state g.S.Store c.args.conn.now) in
+    let new = seen_of (state g.S.Store c.select_waivers_of.new.conn) in
+    looked_err old new c.from_residual-in_err-waivers.result c.from_residual-in_err-waivers.ensures.0
+    (same_then_kept old (seen_of (state g.S.Store c.select_changes_of.new.conn)) new c.in_ok-changes.ensures.kept c.in_err-waivers.ensures.kept)

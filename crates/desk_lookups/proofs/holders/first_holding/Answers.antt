@@ -5,7 +5,8 @@ use Rattle.sqlite.specs.Held.{state}
 use Rattle.desk_layout.specs.Held.{seen_of}
 use Rattle.desk_rows.specs.Conclusions.{first_opened, holds}
 use Rattle.desk_lookups.specs.Holders.{and_then_opened}
-use Rattle.desk_lookups.proofs.Chains.{same_then_same}
+use Rattle.desk_access.proofs.Chains.{looked_err}
+use Rattle.desk_lookups.proofs.Chains.{same_then_kept, same_then_same}
 use Rattle.desk_lookups.proofs.HolderLemmas.{holder_more}
 use Rattle.desk_lookups.proofs.StandingLemmas.{all_taken}
 use Rattle.desk_lookups.proofs.holders.first_holding.Goals as goal
@@ -27,3 +28,10 @@ loop-row-preserved g c =
 pub returns-clause-found : goal.returns-clause-found
 returns-clause-found g c = λ clean t held.
     c.loop-row.invariant.first clean t held ∙ ap (λ rows. first_opened (filter (holds t.choice c.args.document c.args.id.now) rows)) (all_taken c.args.rows.now c.loop-row.row-index c.loop-row-test.false)
+
+pub returns-in_err-is_holding-clause-kept : goal.returns-in_err-is_holding-clause-kept
+returns-in_err-is_holding-clause-kept g c =
+    let old = seen_of (state g.S.Store c.args.conn.now) in
+    let new = seen_of (state g.S.Store c.is_holding.new.conn) in
+    looked_err old new c.from_residual.result c.from_residual.ensures.0
+    (same_then_kept old (seen_of (state g.S.Store c.loop-row.conn)) new c.loop-row.invariant.same c.in_err-is_holding.ensures.kept)

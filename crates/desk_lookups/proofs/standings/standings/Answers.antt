@@ -2,7 +2,8 @@ use Rattle.std.proofs.Common.{◌++◌, ◌∷◌, [], ap₂, sym, ◌∙◌}
 use Rattle.sqlite.specs.Held.{state}
 use Rattle.desk_history.specs.FromTables.{standing_found}
 use Rattle.desk_layout.specs.Held.{seen_of}
-use Rattle.desk_lookups.proofs.Chains.{same_then_same}
+use Rattle.desk_access.proofs.Chains.{looked_err}
+use Rattle.desk_lookups.proofs.Chains.{same_then_kept, same_then_same}
 use Rattle.desk_lookups.proofs.StandingLemmas.{map_more}
 use Rattle.desk_lookups.proofs.standings.standings.Goals as goal
 
@@ -17,3 +18,17 @@ loop-row-preserved g c =
           ∙ sym (map_more (standing_found t) c.args.rows.now c.loop-row.row-index c.row-item.result c.loop-row-test.true c.row-item.is);
       mode = λ idle. one.mode (was.mode idle);
     }
+
+pub returns-in_err-standing-clause-kept : goal.returns-in_err-standing-clause-kept
+returns-in_err-standing-clause-kept g c =
+    let old = seen_of (state g.S.Store c.args.conn.now) in
+    let new = seen_of (state g.S.Store c.standing.new.conn) in
+    looked_err old new c.from_residual.result c.from_residual.ensures.0
+    (same_then_kept old (seen_of (state g.S.Store c.loop-row.conn)) new c.loop-row.invariant.same c.in_err-standing.ensures.kept)
+
+pub returns-in_err-push-clause-kept : goal.returns-in_err-push-clause-kept
+returns-in_err-push-clause-kept g c =
+    let old = seen_of (state g.S.Store c.args.conn.now) in
+    let new = seen_of (state g.S.Store c.standing.new.conn) in
+    looked_err old new c.from_residual-in_err-push.result c.from_residual-in_err-push.ensures.0
+    (same_then_same old (seen_of (state g.S.Store c.loop-row.conn)) new c.loop-row.invariant.same c.in_ok-standing.ensures.kept).kept

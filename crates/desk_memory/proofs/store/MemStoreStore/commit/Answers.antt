@@ -1,4 +1,4 @@
-use Rattle.std.proofs.Common.{◌∙◌, ap, sym, subst}
+use Rattle.std.proofs.Common.{◌∙◌, inl, ap, sym, subst, arith}
 use Rattle.desk_base.proofs.Bools.{contrary}
 use Rattle.desk_rows.specs.Tables.{Tables, applied}
 use Rattle.desk_rows.specs.Keys.{release_below}
@@ -18,6 +18,7 @@ returns-clause-wrote c =
     let leads = rw c.in-Some.is at c.in_ok-step.ensures.leads in
     record {
       honest = λ h. tt;
+      outlasts = record { counts = omega arith; closes = λ h o. inl tt };
       stays = λ h. tt;
       holds = λ h t held follows. (
         c.in_ok-write.ensures.ok ∙ ap (applied c.args.change) held.0,
@@ -38,6 +39,7 @@ returns-in_default-clause-wrote c =
     let astray = rw c.in_default.is at c.in_ok-step.ensures.none in
     record {
       honest = λ h. tt;
+      outlasts = record { counts = omega arith; closes = λ h o. inl tt };
       stays = λ h. tt;
       holds = λ h t held follows. absurd (astray t (subst (λ (u : Tables). IsPlaceFor c.args.change c.place_for-place.result u) held.0 c.place_for-place.ensures) held.1 follows);
       leaves = λ h t held follows x left. absurd left;
@@ -46,6 +48,7 @@ returns-in_default-clause-wrote c =
 pub returns-then-not-can_take-clause-wrote : goal.returns-then-not-can_take-clause-wrote
 returns-then-not-can_take-clause-wrote c = record {
   honest = λ h. tt;
+  outlasts = record { counts = omega arith; closes = λ h o. inl tt };
   stays = λ h. tt;
   holds = λ h t held follows. absurd (contrary c.can_take.result (c.can_take.ensures.follows t (ap (λ (u : Tables). u.duty) (sym held.0)) (ap (λ (u : Tables). u.changes) (sym held.0)) follows) c.if-not-can_take.true);
   leaves = λ h t held follows x left. absurd left;
