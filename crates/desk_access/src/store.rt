@@ -4,7 +4,7 @@ ghost use Rattle.std.specs.Prelude.{◌≡◌, ℕ, Bool, ◌+◌, ◌<◌, ◌^
 ghost use Rattle.std.specs.Option.{option_map};
 ghost use Rattle.std.specs.List.{list_any};
 ghost use Rattle.std.specs.Str.{bytes_eq};
-ghost use Rattle.desk_rows.specs.Keys.{is_attachment, is_change_of, is_choice_of, is_frozen_of, is_document, is_duty_of, is_package, is_shipped_by, has_namespace};
+ghost use Rattle.desk_rows.specs.Keys.{is_attachment, is_change_of, is_choice_of, is_document, is_duty_of, is_package, is_shipped_by, has_namespace};
 ghost use Rattle.desk_rows.specs.Bills.{extracted_text, revision_text};
 ghost use Rattle.desk_rows.specs.Tables.{Tables};
 ghost use Rattle.desk_access.specs.Seen.{Seen, Looked, OfRows, Wrote};
@@ -168,10 +168,10 @@ pub trait Store {
         ensures kept { Looked (seen self.old) (seen self.new) result }
         ensures fault { IfErr result (MayFail tells) };
 
-    /// The terms that a release was frozen with for a package, in order, each with its rule.
-    fn frozen(&mut self, release: &str, document: u32, id: &str) -> Result<Vec<FrozenRow>, Fault>
+    /// The terms that a release was frozen with, by document and package, each with its rule.
+    fn frozen(&mut self, release: &str) -> Result<Vec<FrozenRow>, Fault>
         ensures found { IfOk result (λ found. OfRows (λ t.
-            found.items ≡ filter (is_frozen_of release.now document id.now) t.frozen) (seen self.old)
+            found.items ≡ filter (λ row. bytes_eq row.release release.now) t.frozen) (seen self.old)
             (seen self.new)) }
         ensures kept { Looked (seen self.old) (seen self.new) result }
         ensures fault { IfErr result (MayFail tells) };

@@ -20,7 +20,7 @@ use Rattle.desk_layout.specs.Held.{Holds, rows_of}
 use Rattle.desk_layout.proofs.Casts.{same, int_test, text_test, and_true}
 use Rattle.desk_layout.proofs.Queries.{query_on}
 use Rattle.desk_rows.specs.Tables.{Tables}
-use Rattle.desk_rows.specs.Keys.{is_release, is_attached_to, is_choice_of, is_frozen_of}
+use Rattle.desk_rows.specs.Keys.{is_release, is_attached_to, is_choice_of}
 use Rattle.desk_rows.specs.declared.row.ReleaseRow.{ReleaseRow}
 use Rattle.desk_rows.specs.declared.row.AttachedRow.{AttachedRow}
 use Rattle.desk_rows.specs.declared.row.ChoiceRow.{ChoiceRow}
@@ -129,12 +129,12 @@ chosen_read release document package_id old new rows t shown holds =
     let this = d.choice_table in
     shows this.name 19 this.columns this.key this.primary this.uniques this.orders 10 refl choice_cells (rows_of t) t.choice refl old.now holds.rows chosen_text (codes "term" ∷ []) (same 1 0 ∷ same 2 1 ∷ same 3 2 ∷ []) (col 1 4 ∷ []) (1 ∷ 2 ∷ 3 ∷ 4 ∷ []) chosen_is chosen_plain (Text release ∷ number document ∷ Text package_id ∷ []) (chosen_test release document package_id) (λ (cs : Row). (column cs 0 ∷ column cs 1 ∷ column cs 2 ∷ column cs 3 ∷ [], column cs 3 ∷ [])) (is_choice_of release document package_id) (λ r. refl) (λ r. refl) (chosen_picks release document package_id) old new rows shown refl (by_unique this.name 19 this.columns this.key this.primary this.uniques this.orders 10 refl choice_cells (rows_of t) t.choice refl old.now holds.rows 0 (1 ∷ 2 ∷ 3 ∷ 4 ∷ []) refl refl (λ (cs : Row). is_key (column cs 0) && (is_key (column cs 1) && (is_key (column cs 2) && (is_key (column cs 3) && true)))) (λ r. refl) (λ x. refl)) (ascending-filter _ (is_choice_of release document package_id) t.choice (choices_sorted t.choice holds.orderly.sorted.choice))
 
--- ---- the terms that a release was frozen with for a package
+-- ---- the terms that a release was frozen with
 
 abbrev pub frozen_text : List ℕ
-frozen_text = codes "SELECT release, document, package, term, rule FROM frozen WHERE release = ?1 AND document = ?2 AND package = ?3 ORDER BY release, document, package, term"
+frozen_text = codes "SELECT release, document, package, term, rule FROM frozen WHERE release = ?1 ORDER BY release, document, package, term"
 
-frozen_is : (command_of (understood d.desk_schema frozen_text) ≡ Select (record { lets = []; body = query_on 21 (same 1 0 ∷ same 2 1 ∷ same 3 2 ∷ []) (col 1 1 ∷ col 1 2 ∷ col 1 3 ∷ col 1 4 ∷ col 1 5 ∷ []) (order_by (1 ∷ 2 ∷ 3 ∷ 4 ∷ [])) }) (codes "release" ∷ codes "document" ∷ codes "package" ∷ codes "term" ∷ codes "rule" ∷ [])) × (reads_listing d.desk_schema frozen_text ≡ false)
+frozen_is : (command_of (understood d.desk_schema frozen_text) ≡ Select (record { lets = []; body = query_on 21 (same 1 0 ∷ []) (col 1 1 ∷ col 1 2 ∷ col 1 3 ∷ col 1 4 ∷ col 1 5 ∷ []) (order_by (1 ∷ 2 ∷ 3 ∷ 4 ∷ [])) }) (codes "release" ∷ codes "document" ∷ codes "package" ∷ codes "term" ∷ codes "rule" ∷ [])) × (reads_listing d.desk_schema frozen_text ≡ false)
 unfolding understood everything
 frozen_is = (refl, refl)
 
@@ -142,16 +142,16 @@ pub frozen_plain : IsPlain (understood d.desk_schema frozen_text)
 unfolding understood everything
 frozen_plain = (refl, refl)
 
-abbrev frozen_test : List ℕ → ℕ → List ℕ → Row → Bool
-frozen_test release document package_id cs = is_true (binary (Compare Eq Binary) (column cs 0) (Text release)) && (is_true (binary (Compare Eq Binary) (column cs 1) (number document)) && (is_true (binary (Compare Eq Binary) (column cs 2) (Text package_id)) && true))
+abbrev frozen_test : List ℕ → Row → Bool
+frozen_test release cs = is_true (binary (Compare Eq Binary) (column cs 0) (Text release)) && true
 
-frozen_picks : (release : List ℕ) (document : ℕ) (package_id : List ℕ) (x : FrozenRow) → frozen_test release document package_id (frozen_cells x) ≡ (is_frozen_of release document package_id) x
-frozen_picks release document package_id x = rw (text_test x.release release, int_test x.document document, text_test x.package_id package_id, and_true (bytes_eq x.package_id package_id)) (together (bytes_eq x.release release) (x.document == document) (bytes_eq x.package_id package_id))
+frozen_picks : (release : List ℕ) (x : FrozenRow) → frozen_test release (frozen_cells x) ≡ bytes_eq x.release release
+frozen_picks release x = rw (text_test x.release release, and_true (bytes_eq x.release release)) refl
 
-pub frozen_read : (release : List ℕ) (document : ℕ) (package_id : List ℕ) (old new : State) (rows : List Row) (t : Tables) → Shown frozen_text (Text release ∷ number document ∷ Text package_id ∷ []) old new rows → Holds t old.now → rows ≡ map frozen_cells (filter (is_frozen_of release document package_id) t.frozen)
-frozen_read release document package_id old new rows t shown holds =
+pub frozen_read : (release : List ℕ) (old new : State) (rows : List Row) (t : Tables) → Shown frozen_text (Text release ∷ []) old new rows → Holds t old.now → rows ≡ map frozen_cells (filter (λ row. bytes_eq row.release release) t.frozen)
+frozen_read release old new rows t shown holds =
     let this = d.frozen_table in
-    shows this.name 21 this.columns this.key this.primary this.uniques this.orders 11 refl frozen_cells (rows_of t) t.frozen refl old.now holds.rows frozen_text (codes "release" ∷ codes "document" ∷ codes "package" ∷ codes "term" ∷ codes "rule" ∷ []) (same 1 0 ∷ same 2 1 ∷ same 3 2 ∷ []) (col 1 1 ∷ col 1 2 ∷ col 1 3 ∷ col 1 4 ∷ col 1 5 ∷ []) (1 ∷ 2 ∷ 3 ∷ 4 ∷ []) frozen_is frozen_plain (Text release ∷ number document ∷ Text package_id ∷ []) (frozen_test release document package_id) (λ (cs : Row). (column cs 0 ∷ column cs 1 ∷ column cs 2 ∷ column cs 3 ∷ [], column cs 0 ∷ column cs 1 ∷ column cs 2 ∷ column cs 3 ∷ column cs 4 ∷ [])) (is_frozen_of release document package_id) (λ r. refl) (λ r. refl) (frozen_picks release document package_id) old new rows shown refl (by_unique this.name 21 this.columns this.key this.primary this.uniques this.orders 11 refl frozen_cells (rows_of t) t.frozen refl old.now holds.rows 0 (1 ∷ 2 ∷ 3 ∷ 4 ∷ []) refl refl (λ (cs : Row). is_key (column cs 0) && (is_key (column cs 1) && (is_key (column cs 2) && (is_key (column cs 3) && true)))) (λ r. refl) (λ x. refl)) (ascending-filter _ (is_frozen_of release document package_id) t.frozen (frozen_sorted t.frozen holds.orderly.sorted.frozen))
+    shows this.name 21 this.columns this.key this.primary this.uniques this.orders 11 refl frozen_cells (rows_of t) t.frozen refl old.now holds.rows frozen_text (codes "release" ∷ codes "document" ∷ codes "package" ∷ codes "term" ∷ codes "rule" ∷ []) (same 1 0 ∷ []) (col 1 1 ∷ col 1 2 ∷ col 1 3 ∷ col 1 4 ∷ col 1 5 ∷ []) (1 ∷ 2 ∷ 3 ∷ 4 ∷ []) frozen_is frozen_plain (Text release ∷ []) (frozen_test release) (λ (cs : Row). (column cs 0 ∷ column cs 1 ∷ column cs 2 ∷ column cs 3 ∷ [], column cs 0 ∷ column cs 1 ∷ column cs 2 ∷ column cs 3 ∷ column cs 4 ∷ [])) (λ row. bytes_eq row.release release) (λ r. refl) (λ r. refl) (frozen_picks release) old new rows shown refl (by_unique this.name 21 this.columns this.key this.primary this.uniques this.orders 11 refl frozen_cells (rows_of t) t.frozen refl old.now holds.rows 0 (1 ∷ 2 ∷ 3 ∷ 4 ∷ []) refl refl (λ (cs : Row). is_key (column cs 0) && (is_key (column cs 1) && (is_key (column cs 2) && (is_key (column cs 3) && true)))) (λ r. refl) (λ x. refl)) (ascending-filter _ (λ row. bytes_eq row.release release) t.frozen (frozen_sorted t.frozen holds.orderly.sorted.frozen))
 
 -- ---- all releases
 

@@ -2,13 +2,14 @@
 
 ghost use Rattle.std.specs.Prelude.{◌≡◌, ◌==◌, false, IfOk, filter, map, length};
 ghost use Rattle.std.specs.List.{list_any};
+ghost use Rattle.std.specs.Str.{bytes_eq};
 ghost use Rattle.sqlite.specs.Held.{state};
 ghost use Rattle.desk_access.specs.Seen.{Looked, OfRows};
 ghost use Rattle.desk_layout.specs.Held.{seen_of};
 ghost use Rattle.desk_history.specs.FromTables.{release_found};
 ghost use Rattle.desk_layout.specs.Cells.{attached_cells, frozen_cells, release_cells};
 ghost use Rattle.desk_rows.specs.History.{attached_to};
-ghost use Rattle.desk_rows.specs.Keys.{is_attachment, is_choice_of, is_frozen_of, is_release};
+ghost use Rattle.desk_rows.specs.Keys.{is_attachment, is_choice_of, is_release};
 ghost use Rattle.desk_lookups.specs.Shown.{text_cells};
 
 use crate::query::{query, text};
@@ -171,39 +172,32 @@ pub fn chosen<S: Alter>(
     read_all(alloc, &rows)
 }
 
-fn select_frozen<S: Alter>(
-    conn: &mut Connection<S>,
-    release: &str,
-    document: u32,
-    id: &str,
-) -> Result<Vec<Row>, Fault>
+fn select_frozen<S: Alter>(conn: &mut Connection<S>, release: &str) -> Result<Vec<Row>, Fault>
     ensures found { IfOk result (λ rows. OfRows (λ t.
-        rows.items ≡ map frozen_cells (filter (is_frozen_of release.now document id.now) t.frozen))
+        rows.items ≡ map frozen_cells (filter (λ row. bytes_eq row.release release.now) t.frozen))
         (seen_of (state S.Store conn.old)) (seen_of (state S.Store conn.new))) }
     ensures kept { Looked (seen_of (state S.Store conn.old)) (seen_of (state S.Store conn.new)) result }
     ensures mode { conn.old.in_transaction ≡ false → conn.new.in_transaction ≡ false }
 {
     query(
         conn,
-        "SELECT release, document, package, term, rule FROM frozen WHERE release = ?1 AND document = ?2 AND package = ?3 ORDER BY release, document, package, term",
-        &[text(release), number(document), text(id)],
+        "SELECT release, document, package, term, rule FROM frozen WHERE release = ?1 ORDER BY release, document, package, term",
+        &[text(release)],
     )
 }
 
-/// The terms that a release was frozen with for a package, in order, each with its rule.
+/// The terms that a release was frozen with, by document and package, each with its rule.
 pub fn frozen<S: Alter>(
     alloc: Global,
     conn: &mut Connection<S>,
     release: &str,
-    document: u32,
-    id: &str,
 ) -> Result<Vec<FrozenRow>, Fault>
     ensures found { IfOk result (λ found. OfRows (λ t.
-        found.items ≡ filter (is_frozen_of release.now document id.now) t.frozen)
+        found.items ≡ filter (λ row. bytes_eq row.release release.now) t.frozen)
         (seen_of (state S.Store conn.old)) (seen_of (state S.Store conn.new))) }
     ensures kept { Looked (seen_of (state S.Store conn.old)) (seen_of (state S.Store conn.new)) result }
     ensures mode { conn.old.in_transaction ≡ false → conn.new.in_transaction ≡ false }
 {
-    let rows = select_frozen(conn, release, document, id)?;
+    let rows = select_frozen(conn, release)?;
     read_all(alloc, &rows)
 }

@@ -38,9 +38,5 @@ is_frozen_in release row = bytes_eq row.release release
 abbrev pub frozen_side : List ℕ → FrozenRow → Ordering
 frozen_side release row = slice_cmp nat_cmp row.release release
 
-abbrev pub frozen_package_side : List ℕ → ℕ → List ℕ → FrozenRow → Ordering
-frozen_package_side release document id row =
-    ordering_then (ordering_then (slice_cmp nat_cmp row.release release) (nat_cmp row.document document)) (slice_cmp nat_cmp row.package_id id)
-
 abbrev pub extracted_side : ℕ → List ℕ → ExtractedRow → Ordering
 extracted_side document reference row = ordering_then (nat_cmp row.document document) (slice_cmp nat_cmp row.reference reference)

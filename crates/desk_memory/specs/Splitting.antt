@@ -7,7 +7,7 @@ use Rattle.std.specs.Str.{bytes_eq}
 use Rattle.std.specs.declared.cmp.Ordering.{Ordering}
 use Rattle.std.specs.declared.cmp.Ordering.TheVariants.{Less, Equal, Greater}
 use Rattle.std.proofs.lemmas.Cmp.{on_total, then_total, nat_list_cmp_total, nat_cmp_total}
-use Rattle.desk_rows.specs.Keys.{attached_order, frozen_order, is_extracted, is_frozen_of, is_package, is_attachment, package_order}
+use Rattle.desk_rows.specs.Keys.{attached_order, frozen_order, is_extracted, is_package, is_attachment, package_order}
 use Rattle.desk_rows.specs.declared.row.PackageRow.{PackageRow}
 use Rattle.desk_rows.specs.declared.row.AttachedRow.{AttachedRow}
 use Rattle.desk_rows.specs.declared.row.ExtractedRow.{ExtractedRow}
@@ -15,7 +15,7 @@ use Rattle.desk_rows.specs.declared.row.FrozenRow.{FrozenRow}
 use Rattle.desk_sorted.specs.Sorted.{IsSideOf}
 use Rattle.desk_sorted.specs.Sides.{side_by, first_less, texts_meet, numbers_meet, then_meets, number_cmp, number_total}
 use Rattle.desk_sorted.specs.Orders.{document_order, extracted_order, release_order}
-use Rattle.desk_memory.specs.Sides.{document_side, packages_side, package_side, release_side, attached_side, attachment_side, extracted_side, frozen_package_side, frozen_side}
+use Rattle.desk_memory.specs.Sides.{document_side, packages_side, package_side, release_side, attached_side, attachment_side, extracted_side, frozen_side}
 
 -- What keys begin with
 
@@ -48,23 +48,6 @@ pub frozen_splits : (release : List ℕ) → IsSideOf frozen_order (frozen_side 
 frozen_splits release =
     side_by frozen_order (λ row. row.release) (slice_cmp nat_cmp) nat_list_cmp_total (λ x y e. first_less (slice_cmp nat_cmp y.release x.release) _ e) release
 
-three_less : (a b c d : Ordering) → is_lt (ordering_then (ordering_then a b) c) ≡ true → is_lt (ordering_then a (ordering_then b (ordering_then c d))) ≡ true
-three_less Less b c d e = refl
-three_less Equal Less c d e = refl
-three_less Equal Equal c d e = first_less c d e
-three_less Equal Greater c d e = cc
-three_less Greater b c d e = cc
-
-abbrev three_cmp : List ℕ × ℕ × List ℕ → List ℕ × ℕ × List ℕ → Ordering
-three_cmp = then_cmp (then_cmp (on (λ p. p.0) (slice_cmp nat_cmp)) (on (λ p. p.1) nat_cmp)) (on (λ p. p.2) (slice_cmp nat_cmp))
-
-pub frozen_package_splits : (release : List ℕ) (document : ℕ) (id : List ℕ) → IsSideOf frozen_order (frozen_package_side release document id)
-frozen_package_splits release document id =
-    side_by frozen_order (λ row. (row.release, row.document, row.package_id)) three_cmp
-    (then_total (then_total (on_total (λ p. p.0) nat_list_cmp_total) (on_total (λ p. p.1) nat_cmp_total)) (on_total (λ p. p.2) nat_list_cmp_total))
-    (λ x y e. three_less (slice_cmp nat_cmp y.release x.release) (nat_cmp y.document x.document) (slice_cmp nat_cmp y.package_id x.package_id) (slice_cmp nat_cmp y.term x.term) e)
-    (release, document, id)
-
 pub extracted_splits : (document : ℕ) (reference : List ℕ) → IsSideOf extracted_order (extracted_side document reference)
 extracted_splits document reference =
     side_by extracted_order (λ row. (row.document, row.reference)) number_cmp number_total (λ x y e. e) (document, reference)
@@ -78,13 +61,6 @@ package_meets document id row =
 pub attachment_meets : (release : List ℕ) (document : ℕ) (row : AttachedRow) → is_attachment release document row ≡ is_eq (attachment_side release document row)
 attachment_meets release document row =
     then_meets (slice_cmp nat_cmp row.release release) (nat_cmp row.document document) (bytes_eq row.release release) (row.document == document) (texts_meet row.release release) (numbers_meet row.document document)
-
-pub frozen_package_meets : (release : List ℕ) (document : ℕ) (id : List ℕ) (row : FrozenRow) → is_frozen_of release document id row ≡ is_eq (frozen_package_side release document id row)
-frozen_package_meets release document id row =
-    then_meets (ordering_then (slice_cmp nat_cmp row.release release) (nat_cmp row.document document)) (slice_cmp nat_cmp row.package_id id)
-    (bytes_eq row.release release && (row.document == document)) (bytes_eq row.package_id id)
-    (then_meets (slice_cmp nat_cmp row.release release) (nat_cmp row.document document) (bytes_eq row.release release) (row.document == document) (texts_meet row.release release) (numbers_meet row.document document))
-    (texts_meet row.package_id id)
 
 pub extracted_meets : (document : ℕ) (reference : List ℕ) (row : ExtractedRow) → is_extracted document reference row ≡ is_eq (extracted_side document reference row)
 extracted_meets document reference row =

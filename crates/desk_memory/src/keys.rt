@@ -1,8 +1,8 @@
 //! What rows are looked up by.
 
-ghost use Rattle.desk_rows.specs.Keys.{is_document, is_extracted, is_frozen_of, is_package, is_release, is_attached_to, is_attachment};
-ghost use Rattle.desk_memory.specs.Sides.{document_side, is_package_of, packages_side, package_side, release_side, attached_side, attachment_side, extracted_side, frozen_package_side, frozen_side, is_frozen_in};
-ghost use Rattle.desk_memory.specs.Splitting.{document_splits, packages_splits, package_splits, package_meets, release_splits, attached_splits, attachment_splits, attachment_meets, extracted_meets, extracted_splits, frozen_package_meets, frozen_package_splits, frozen_splits};
+ghost use Rattle.desk_rows.specs.Keys.{is_document, is_extracted, is_package, is_release, is_attached_to, is_attachment};
+ghost use Rattle.desk_memory.specs.Sides.{document_side, is_package_of, packages_side, package_side, release_side, attached_side, attachment_side, extracted_side, frozen_side, is_frozen_in};
+ghost use Rattle.desk_memory.specs.Splitting.{document_splits, packages_splits, package_splits, package_meets, release_splits, attached_splits, attachment_splits, attachment_meets, extracted_meets, extracted_splits, frozen_splits};
 ghost use Rattle.desk_sorted.specs.Sides.{texts_meet, numbers_meet};
 ghost use Rattle.desk_memory.specs.Namespaces.{is_named, namespace_order, namespace_side};
 ghost use Rattle.desk_memory.specs.NamespaceLaws.{namespace_total, namespace_splits};
@@ -242,32 +242,6 @@ impl Sought<FrozenRow> for ByFrozen<'_> {
 
     fn side_of(&self, row: &FrozenRow) -> Ordering {
         row.release.as_str().cmp(self.release)
-    }
-}
-
-/// The terms that a release was frozen with for a package.
-#[derive(Clone, Copy)]
-pub(crate) struct ByFrozenPackage<'a> {
-    pub(crate) release: &'a str,
-    pub(crate) document: u32,
-    pub(crate) id: &'a str,
-}
-
-impl Sought<FrozenRow> for ByFrozenPackage<'_> {
-    ghost side = { λ key. frozen_package_side key.release.now key.document key.id.now };
-
-    ghost is_at = { λ key. is_frozen_of key.release.now key.document key.id.now };
-
-    ghost splits = { λ key. frozen_package_splits key.release.now key.document key.id.now };
-
-    ghost meets = { λ key row. frozen_package_meets key.release.now key.document key.id.now row };
-
-    fn side_of(&self, row: &FrozenRow) -> Ordering {
-        row.release
-            .as_str()
-            .cmp(self.release)
-            .then(row.document.cmp(&self.document))
-            .then(row.package_id.as_str().cmp(self.id))
     }
 }
 

@@ -6,7 +6,7 @@ ghost use Rattle.std.specs.Option.{option_copied, option_map};
 ghost use Rattle.std.specs.List.{list_any};
 ghost use Rattle.std.specs.Str.{bytes_eq};
 ghost use Rattle.desk_rows.specs.Lists.{updated};
-ghost use Rattle.desk_rows.specs.Keys.{is_release, is_document, is_frozen_of, is_revision, has_namespace, is_package, is_adoption, is_adoption_in, is_conclusion, is_shipped_by, is_attached_to, is_attachment, is_choice_of, is_duty, is_duty_of, is_change_of, is_rule, is_rule_of};
+ghost use Rattle.desk_rows.specs.Keys.{is_release, is_document, is_revision, has_namespace, is_package, is_adoption, is_adoption_in, is_conclusion, is_shipped_by, is_attached_to, is_attachment, is_choice_of, is_duty, is_duty_of, is_change_of, is_rule, is_rule_of};
 ghost use Rattle.desk_rows.specs.Tables.{Tables, applied, with_release_state, withdrawn_release};
 ghost use Rattle.desk_rows.specs.declared.state.ReleaseState.TheVariants.{Frozen};
 ghost use Rattle.desk_tally.specs.Kept.{place_found, AreKept, IsPlaceFor};
@@ -18,8 +18,7 @@ ghost use Rattle.desk_history.specs.FromTables.{rule_of};
 
 use crate::documents::Documents;
 use crate::keys::{
-    ByAttachment, ByDocument, ByExtracted, ByFrozen, ByFrozenPackage, ById, ByName, ByNumber,
-    ByRelease,
+    ByAttachment, ByDocument, ByExtracted, ByFrozen, ById, ByName, ByNumber, ByRelease,
 };
 use crate::rules::Rules;
 use desk_access::store::Store;
@@ -602,12 +601,8 @@ impl Store for MemStore {
         Ok(terms_of(self.alloc, rows.as_slice())?)
     }
 
-    fn frozen(&mut self, release: &str, document: u32, id: &str) -> Result<Vec<FrozenRow>, Fault> {
-        let rows = self.frozen.run(&ByFrozenPackage {
-            release,
-            document,
-            id,
-        })?;
+    fn frozen(&mut self, release: &str) -> Result<Vec<FrozenRow>, Fault> {
+        let rows = self.frozen.run(&ByFrozen { release })?;
         Ok(frozen_copies(self.alloc, rows.as_slice())?)
     }
 

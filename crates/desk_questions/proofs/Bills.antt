@@ -1,20 +1,21 @@
 -- The bill of a release, put together of what was looked up.
 use Rattle.std.proofs.Common.{◌≡◌, ◌∙◌, inl, inr, ℕ, Bool, true, false, cond, List, [], ◌∷◌, map, Option, Some, None, sym, ap, refl, subst}
-use Rattle.std.specs.Prelude.{find, IfSome}
+use Rattle.std.specs.Prelude.{◌==◌, ◌&&◌, filter, find, IfSome}
 use Rattle.std.specs.List.{flat_map}
 use Rattle.std.specs.Option.{option_map_or}
 use Rattle.std.specs.Str.{bytes_eq}
 use Rattle.std.proofs.lemmas.Bool.{cases_Bool}
-use Rattle.std.proofs.lemmas.List.Folds.{flat_map-map}
-use Rattle.std.proofs.lemmas.Simd.{map-map}
 use Rattle.std.proofs.lemmas.Slice.Eq.{bytes_eq-Decides}
+use Rattle.desk_base.proofs.Bools.{contrary}
 use Rattle.desk_rows.specs.Readings.{Readings}
 use Rattle.desk_rows.specs.Tables.{Tables}
-use Rattle.desk_rows.specs.Bills.{bill_answer, bill_line, bill_of, bill_text, first_uses, package_texts, revision_text}
-use Rattle.desk_rows.specs.Keys.{is_release}
+use Rattle.desk_rows.specs.Bills.{bill_answer, bill_line, bill_of, bill_text, first_uses, frozen_terms, package_texts, revision_text, texts_named}
+use Rattle.desk_rows.specs.Keys.{is_frozen_of, is_release}
 use Rattle.desk_rows.specs.declared.bill.Bill.{Bill}
 use Rattle.desk_rows.specs.declared.bill.BillLine.{BillLine}
 use Rattle.desk_rows.specs.declared.bill.BillText.{BillText}
+use Rattle.desk_rows.specs.declared.bill.TextOf.{TextOf}
+use Rattle.desk_rows.specs.declared.row.FrozenRow.{FrozenRow}
 use Rattle.desk_rows.specs.declared.row.PackageRow.{PackageRow}
 use Rattle.desk_rows.specs.declared.row.ReleaseRow.{ReleaseRow}
 use Rattle.desk_rows.specs.declared.state.ReleaseState.{ReleaseState}
@@ -24,22 +25,48 @@ use Rattle.desk_rows.specs.declared.command.Answer.{Answer}
 use Rattle.desk_rows.specs.declared.command.Answer.TheVariants as answered
 use Rattle.desk_rows.specs.declared.command.Query.TheVariants as query
 use Rattle.desk_history.specs.FromTables.{queried_from, release_found, shipped_found}
-use Rattle.desk_questions.specs.Billing.{frozen_package, package_bill, terms_texts}
-use Rattle.desk_questions.specs.declared.bill.FrozenPackage.{FrozenPackage}
 
-pub bill_found : (w : Readings) (t : Tables) (ps : List PackageRow) (row : ReleaseRow) (packages : List FrozenPackage) (lines : List BillLine) (texts : List BillText)
-    → packages ≡ map (frozen_package t.frozen row.name) ps
-    → lines ≡ map package_bill packages
-    → texts ≡ map (bill_text w (revision_text t.catalogue row.revision) t.extracted) (first_uses (flat_map (λ p. terms_texts w p.terms) packages))
+-- what passes the second test is left by the first
+filter_after : {A : Type 0} (p q : A → Bool) → ((x : A) → q x ≡ true → p x ≡ true) → (xs : List A) → filter q (filter p xs) ≡ filter q xs
+filter_after p q within [] = refl
+filter_after {A} p q within (x ∷ xs) = go (filter_after p q within xs) (p x) refl (q x) refl
+  where
+    go : filter q (filter p xs) ≡ filter q xs → (a : Bool) → p x ≡ a → (b : Bool) → q x ≡ b → filter q (cond a (x ∷ filter p xs) (filter p xs)) ≡ cond b (x ∷ filter q xs) (filter q xs)
+    go rest true pe b qe = ap (λ (c : Bool). cond c (x ∷ filter q (filter p xs)) (filter q (filter p xs))) qe ∙ ap (λ (l : List A). cond b (x ∷ l) l) rest
+    go rest false pe true qe = absurd (contrary (p x) (within x qe) pe)
+    go rest false pe false qe = rest
+
+-- the terms of a package are among those of its release
+among : (frozen : List FrozenRow) (r : List ℕ) (p : PackageRow) → frozen_terms (filter (λ row. bytes_eq row.release r) frozen) r p ≡ frozen_terms frozen r p
+among frozen r p = filter_after (λ row. bytes_eq row.release r) (is_frozen_of r p.document p.id) (λ row is. first (bytes_eq row.release r) (row.document == p.document) (first (bytes_eq row.release r && (row.document == p.document)) (bytes_eq row.package_id p.id) is)) frozen
+  where
+    first : (a b : Bool) → (a && b) ≡ true → a ≡ true
+    first true b e = refl
+    first false b e = e
+
+-- the bill by the terms of the release alone
+pub bill_among : (w : Readings) (t : Tables) (ps : List PackageRow) (row : ReleaseRow)
+    → bill_of w t.catalogue t.extracted (filter (λ f. bytes_eq f.release row.name) t.frozen) ps row ≡ bill_of w t.catalogue t.extracted t.frozen ps row
+bill_among w t ps row = λ i. record {
+  release = row.name;
+  form = row.form;
+  lines = map (λ p. record { name = p.name; version = p.version; rules = map (λ (f : FrozenRow). f.rule) (among t.frozen row.name p i); copyright = p.copyright }) ps;
+  texts = map (bill_text w (revision_text t.catalogue row.revision) t.extracted) (first_uses (flat_map (λ p. flat_map (λ (f : FrozenRow). texts_named w f.document f.term) (among t.frozen row.name p i)) ps));
+}
+
+pub bill_found : (w : Readings) (t : Tables) (row : ReleaseRow) (frozen : List FrozenRow) (packages ps : List PackageRow) (uses : List TextOf) (lines : List BillLine) (texts : List BillText)
+    → frozen ≡ filter (λ f. bytes_eq f.release row.name) t.frozen → packages ≡ ps
+    → lines ≡ map (bill_line frozen row.name) packages
+    → uses ≡ first_uses (flat_map (package_texts w frozen row.name) packages)
+    → texts ≡ map (bill_text w (revision_text t.catalogue row.revision) t.extracted) uses
     → (let bill : Bill = record { release = row.name; form = row.form; lines = lines; texts = texts } in bill) ≡ bill_of w t.catalogue t.extracted t.frozen ps row
-bill_found w t ps row packages lines texts found has names =
-    let all_lines : lines ≡ map (bill_line t.frozen row.name) ps =
-    has ∙ ap (map package_bill) found ∙ map-map package_bill (frozen_package t.frozen row.name) ps in
-    let all_texts : texts ≡ map (bill_text w (revision_text t.catalogue row.revision) t.extracted) (first_uses (flat_map (package_texts w t.frozen row.name) ps)) =
-    names
-    ∙ ap (λ all. map (bill_text w (revision_text t.catalogue row.revision) t.extracted) (first_uses (flat_map (λ p. terms_texts w p.terms) all))) found
-    ∙ ap (λ all. map (bill_text w (revision_text t.catalogue row.revision) t.extracted) (first_uses all)) (flat_map-map (λ p. terms_texts w p.terms) (frozen_package t.frozen row.name) ps) in
-    λ i. record { release = row.name; form = row.form; lines = all_lines i; texts = all_texts i }
+bill_found w t row frozen packages ps uses lines texts found ships has names are =
+    let told = bill_text w (revision_text t.catalogue row.revision) t.extracted in
+    let all_lines : lines ≡ map (bill_line (filter (λ f. bytes_eq f.release row.name) t.frozen) row.name) ps =
+    has ∙ (λ i. map (bill_line (found i) row.name) (ships i)) in
+    let all_texts : texts ≡ map told (first_uses (flat_map (package_texts w (filter (λ f. bytes_eq f.release row.name) t.frozen) row.name) ps)) =
+    are ∙ (ap (map told) names ∙ (λ i. map told (first_uses (flat_map (package_texts w (found i) row.name) (ships i))))) in
+    (λ i. record { release = row.name; form = row.form; lines = all_lines i; texts = all_texts i }) ∙ bill_among w t ps row
 
 -- a release that is found has the name that it was looked up by
 named_by : (rows : List ReleaseRow) (r : List ℕ) → IfSome (find (is_release r) rows) (λ row. row.name ≡ r)

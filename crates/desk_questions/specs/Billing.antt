@@ -1,42 +1,20 @@
 -- What the bill of a release is made of, over looked-up rows.
-use Rattle.std.specs.Prelude.{◌≡◌, ⊤, ℕ, ◌+◌, List, map, Option, Some, None}
-use Rattle.std.specs.List.{flat_map, list_any}
+use Rattle.std.specs.Prelude.{◌≡◌, ⊤, ℕ, ◌+◌, List, Option, Some, None}
+use Rattle.std.specs.List.{list_any}
 use Rattle.std.specs.Option.{option_map_or, option_and_then}
 use Rattle.std.specs.Ordering.{nat_cmp, is_eq, on, then_cmp}
 use Rattle.std.specs.Cmp.Lexicographic.{slice_cmp}
 use Rattle.std.specs.BTreeSet.{BTreeSet, contains_by}
 use Rattle.std.specs.declared.cmp.Ordering.{Ordering}
 use Rattle.desk_rows.specs.Readings.{Readings}
-use Rattle.desk_rows.specs.Bills.{frozen_terms, texts_named}
-use Rattle.desk_rows.specs.declared.bill.BillLine.{BillLine}
 use Rattle.desk_rows.specs.declared.bill.TextOf.{TextOf}
 use Rattle.desk_rows.specs.declared.bill.TextOf.TheVariants.{Licence, Reference}
 use Rattle.desk_rows.specs.declared.reading.LicenceText.{LicenceText}
-use Rattle.desk_rows.specs.declared.row.FrozenRow.{FrozenRow}
-use Rattle.desk_rows.specs.declared.row.PackageRow.{PackageRow}
-use Rattle.desk_questions.specs.declared.bill.FrozenPackage.{FrozenPackage}
 use Rattle.desk_questions.specs.declared.texts.TextKey.{TextKey}
-
--- a package with the terms that it was frozen with
-abbrev pub frozen_package : List FrozenRow → List ℕ → PackageRow → FrozenPackage
-frozen_package frozen r p = record { row = p; terms = frozen_terms frozen r p }
-
--- its line
-abbrev pub package_bill : FrozenPackage → BillLine
-package_bill p = record {
-  name = p.row.name;
-  version = p.row.version;
-  rules = map (λ row. row.rule) p.terms;
-  copyright = p.row.copyright;
-}
 
 -- the text of a term's reference, or else of its licence
 abbrev pub main_text : Readings → ℕ → List ℕ → TextOf
 main_text w d term = option_map_or (λ reference. Reference d reference) (w.reference term) (Licence (w.licence_id term))
-
--- the texts that terms name
-abbrev pub terms_texts : Readings → List FrozenRow → List TextOf
-terms_texts w rows = flat_map (λ row. texts_named w row.document row.term) rows
 
 -- what a text is known by
 abbrev pub text_key : TextOf → TextKey

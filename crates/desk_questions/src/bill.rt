@@ -2,13 +2,13 @@
 
 ghost use Rattle.std.specs.Prelude.{◌≡◌, IfOk, IfErr, map};
 ghost use Rattle.desk_rows.specs.Readings.{Readings};
-ghost use Rattle.desk_rows.specs.Bills.{bill_of};
+ghost use Rattle.desk_rows.specs.Bills.{bill_line, bill_of};
 ghost use Rattle.desk_rows.specs.Faults.{MayFail};
 ghost use Rattle.desk_access.specs.Seen.{Looked, OfRows};
 ghost use Rattle.desk_history.specs.FromTables.{queried_from, shipped_found};
-ghost use Rattle.desk_questions.specs.Billing.{frozen_package, package_bill};
 
-use crate::texts::texts_for;
+use crate::frozen::{frozen_rows, terms_of};
+use crate::texts::{bill_texts_of, texts_used};
 use desk_access::store::Store;
 use desk_access::texts::Texts;
 use desk_base::{Items, Text};
@@ -16,96 +16,64 @@ use desk_packages::shipped_packages;
 use desk_rows::{
     Answer, Bill, BillLine, Fault, FrozenRow, PackageRow, Query, Refusal, ReleaseRow, ReleaseState,
 };
+use desk_sorted::Appended;
 use std::alloc::{AllocError, Global};
-
-/// A package with the terms that it was frozen with.
-#[derive(Drop)]
-pub(crate) struct FrozenPackage {
-    pub(crate) row: PackageRow,
-    pub(crate) terms: Items<FrozenRow>,
-}
-
-fn frozen_package<S: Store>(
-    store: &mut S,
-    release: &Text,
-    row: PackageRow,
-) -> Result<FrozenPackage, Fault>
-    ensures found { IfOk result (λ frozen.
-        OfRows (λ t. frozen ≡ frozen_package t.frozen release.now row) (S.seen store.old) (S.seen store.new)) }
-    ensures kept { Looked (S.seen store.old) (S.seen store.new) result }
-    ensures fault { IfErr result (MayFail S.tells) }
-{
-    let terms = store.frozen(release.as_str(), row.document, row.id.as_str())?;
-    let terms = Items::from_vec(terms);
-    Ok(FrozenPackage { row, terms })
-}
-
-#[tactic(auto, using(desk_access::proofs::Chains::same_then_kept, desk_access::proofs::Chains::same_then_same))]
-fn frozen_packages<S: Store>(
-    alloc: Global,
-    store: &mut S,
-    release: &Text,
-    rows: Vec<PackageRow>,
-) -> Result<Vec<FrozenPackage>, Fault>
-    ensures found { IfOk result (λ packages.
-        OfRows (λ t. packages.items ≡ map (frozen_package t.frozen release.now) rows.items)
-        (S.seen store.old) (S.seen store.new)) }
-    ensures kept { Looked (S.seen store.old) (S.seen store.new) result }
-    ensures fault { IfErr result (MayFail S.tells) }
-{
-    let mut packages = Vec::new(alloc);
-    for row in rows {
-        let frozen = frozen_package(store, release, row)?;
-        packages.push(frozen)?;
-    }
-    Ok(packages)
-}
 
 /// The packages that a release ships, by document and id.
 fn packages_of<S: Store>(
     alloc: Global,
     store: &mut S,
     release: &Text,
-) -> Result<Vec<FrozenPackage>, Fault>
+) -> Result<Vec<PackageRow>, Fault>
     ensures found { IfOk result (λ packages.
-        OfRows (λ t. packages.items ≡ map (frozen_package t.frozen release.now) (shipped_found t release.now))
-        (S.seen store.old) (S.seen store.new)) }
+        OfRows (λ t. packages.items ≡ shipped_found t release.now) (S.seen store.old) (S.seen store.new)) }
     ensures kept { Looked (S.seen store.old) (S.seen store.new) result }
     ensures fault { IfErr result (MayFail S.tells) }
 {
     let attached = store.attached(release.as_str())?;
-    let rows = shipped_packages(alloc, store, attached.as_slice())?;
-    frozen_packages(alloc, store, release, rows)
+    shipped_packages(alloc, store, attached.as_slice())
 }
 
-fn rules_of(alloc: Global, terms: Items<FrozenRow>) -> Result<Items<Text>, AllocError>
-    ensures { IfOk result (λ rules. rules ≡ map (λ row. row.rule) terms) }
+fn rules_of(alloc: Global, terms: &[&FrozenRow]) -> Result<Items<Text>, AllocError>
+    ensures { IfOk result (λ rules. rules ≡ map (λ row. row.now.rule) terms.now) }
 {
     let mut rules = Items::new(alloc);
-    for row in terms.into_vec() {
-        rules.push(row.rule)?;
+    for row in terms {
+        rules.push(row.rule.clone()?)?;
     }
     Ok(rules)
 }
 
-fn package_bill(alloc: Global, frozen: FrozenPackage) -> Result<BillLine, AllocError>
-    ensures { IfOk result (λ line. line ≡ package_bill frozen) }
+fn bill_line(
+    alloc: Global,
+    frozen: &Appended<FrozenRow>,
+    release: &Text,
+    row: PackageRow,
+) -> Result<BillLine, AllocError>
+    ensures { IfOk result (λ line. line ≡ bill_line frozen.now.rows.items release.now row) }
 {
-    let rules = rules_of(alloc, frozen.terms)?;
+    let terms = terms_of(alloc, frozen, release, &row)?;
+    let rules = rules_of(alloc, terms.as_slice())?;
     Ok(BillLine {
-        name: frozen.row.name,
-        version: frozen.row.version,
+        name: row.name,
+        version: row.version,
         rules,
-        copyright: frozen.row.copyright,
+        copyright: row.copyright,
     })
 }
 
-fn bill_lines(alloc: Global, packages: Vec<FrozenPackage>) -> Result<Items<BillLine>, AllocError>
-    ensures { IfOk result (λ lines. lines ≡ map package_bill packages.items) }
+fn bill_lines(
+    alloc: Global,
+    frozen: &Appended<FrozenRow>,
+    release: &Text,
+    packages: Vec<PackageRow>,
+) -> Result<Items<BillLine>, AllocError>
+    ensures { IfOk result (λ lines.
+        lines ≡ map (bill_line frozen.now.rows.items release.now) packages.items) }
 {
     let mut lines = Items::new(alloc);
-    for frozen in packages {
-        let line = package_bill(alloc, frozen)?;
+    for row in packages {
+        let line = bill_line(alloc, frozen, release, row)?;
         lines.push(line)?;
     }
     Ok(lines)
@@ -125,8 +93,10 @@ fn bill_of<T: Texts, S: Store>(
     ensures fault { IfErr result (MayFail S.tells) }
 {
     let packages = packages_of(alloc, store, &row.name)?;
-    let bodies = texts_for(alloc, texts, store, row.revision, packages.as_slice())?;
-    let lines = bill_lines(alloc, packages)?;
+    let frozen = frozen_rows(alloc, store, &row.name)?;
+    let uses = texts_used(alloc, texts, &frozen, &row.name, packages.as_slice())?;
+    let bodies = bill_texts_of(alloc, texts, store, row.revision, uses)?;
+    let lines = bill_lines(alloc, &frozen, &row.name, packages)?;
     Ok(Bill {
         release: row.name,
         form: row.form,

@@ -11,6 +11,7 @@
 pub mod ask;
 pub mod bill;
 pub mod findings;
+mod frozen;
 pub mod listing;
 pub mod packages;
 mod texts;

@@ -9,16 +9,17 @@ ghost use Rattle.std.specs.Cmp.Rules.{comparing};
 ghost use Rattle.std.specs.Cmp.Lexicographic.{slice_cmp};
 ghost use Rattle.std.proofs.Common.{rules};
 ghost use Rattle.desk_rows.specs.Readings.{Readings};
-ghost use Rattle.desk_rows.specs.Bills.{bill_text, first_uses, licence_bill, revision_text, texts_named};
+ghost use Rattle.desk_rows.specs.Bills.{bill_text, first_uses, licence_bill, package_texts, revision_text, texts_named};
 ghost use Rattle.desk_rows.specs.Faults.{MayFail};
 ghost use Rattle.desk_access.specs.Seen.{Looked, OfRows};
-ghost use Rattle.desk_questions.specs.Billing.{AreIn, licence_found, main_text, terms_texts, text_key};
+ghost use Rattle.desk_questions.specs.Billing.{AreIn, licence_found, main_text, text_key};
 
-use crate::bill::FrozenPackage;
+use crate::frozen::terms_of;
 use desk_access::store::Store;
 use desk_access::texts::Texts;
 use desk_base::{Items, Text};
-use desk_rows::{BillText, Fault, FrozenRow, LicenceText, TextOf};
+use desk_rows::{BillText, Fault, FrozenRow, LicenceText, PackageRow, TextOf};
+use desk_sorted::Appended;
 use std::alloc::{AllocError, Global};
 use std::cmp::Ordering;
 use std::collections::BTreeSet;
@@ -62,14 +63,14 @@ fn add_texts<T: Texts>(
 }
 
 /// Adds the texts that the terms of a package name.
-fn add_package<T: Texts>(
+fn add_terms<T: Texts>(
     alloc: Global,
     texts: &T,
-    terms: &[FrozenRow],
+    terms: &[&FrozenRow],
     named: &mut Vec<TextOf>,
 ) -> Result<(), AllocError>
-    ensures { (w : Readings) → T.are_right w
-        → OnOk result (named.new.items ≡ named.old.items ++ terms_texts w terms.now) }
+    ensures { (w : Readings) → T.are_right w → OnOk result (named.new.items ≡ named.old.items
+        ++ flat_map (λ row. texts_named w row.now.document row.now.term) terms.now) }
 {
     for row in terms {
         add_texts(alloc, texts, row, named)?;
@@ -81,14 +82,17 @@ fn add_package<T: Texts>(
 fn named_texts<T: Texts>(
     alloc: Global,
     texts: &T,
-    packages: &[FrozenPackage],
+    frozen: &Appended<FrozenRow>,
+    release: &Text,
+    packages: &[PackageRow],
 ) -> Result<Vec<TextOf>, AllocError>
-    ensures { (w : Readings) → T.are_right w → IfOk result (λ named.
-        named.items ≡ flat_map (λ frozen. terms_texts w frozen.terms) packages.now) }
+    ensures { (w : Readings) → T.are_right w → IfOk result (λ named. named.items
+        ≡ flat_map (package_texts w frozen.now.rows.items release.now) packages.now) }
 {
     let mut named = Vec::new(alloc);
-    for frozen in packages {
-        add_package(alloc, texts, frozen.terms.as_slice(), &mut named)?;
+    for row in packages {
+        let terms = terms_of(alloc, frozen, release, row)?;
+        add_terms(alloc, texts, terms.as_slice(), &mut named)?;
     }
     Ok(named)
 }
@@ -264,23 +268,35 @@ fn bill_texts<T: Texts, S: Store>(
     Ok(bodies)
 }
 
-/// The texts of the terms of packages, by a revision of the catalogue, each once in the order of first use.
-pub(crate) fn texts_for<T: Texts, S: Store>(
+/// Which texts the terms of packages name, each once in the order of first use.
+pub(crate) fn texts_used<T: Texts>(
+    alloc: Global,
+    texts: &T,
+    frozen: &Appended<FrozenRow>,
+    release: &Text,
+    packages: &[PackageRow],
+) -> Result<Vec<TextOf>, AllocError>
+    ensures { (w : Readings) → T.are_right w → IfOk result (λ uses. uses.items
+        ≡ first_uses (flat_map (package_texts w frozen.now.rows.items release.now) packages.now)) }
+{
+    let named = named_texts(alloc, texts, frozen, release, packages)?;
+    first_uses(alloc, named)
+}
+
+/// The texts themselves, by a revision of the catalogue.
+pub(crate) fn bill_texts_of<T: Texts, S: Store>(
     alloc: Global,
     texts: &T,
     store: &mut S,
     revision: u64,
-    packages: &[FrozenPackage],
+    uses: Vec<TextOf>,
 ) -> Result<Items<BillText>, Fault>
     ensures found { (w : Readings) → T.are_right w → IfOk result (λ found.
-        OfRows (λ t. found ≡ map (bill_text w (revision_text t.catalogue revision) t.extracted)
-        (first_uses (flat_map (λ frozen. terms_texts w frozen.terms) packages.now)))
+        OfRows (λ t. found ≡ map (bill_text w (revision_text t.catalogue revision) t.extracted) uses.items)
         (S.seen store.old) (S.seen store.new)) }
     ensures kept { Looked (S.seen store.old) (S.seen store.new) result }
     ensures fault { IfErr result (MayFail S.tells) }
 {
     let licences = licences_of(alloc, texts, store, revision)?;
-    let named = named_texts(alloc, texts, packages)?;
-    let uses = first_uses(alloc, named)?;
     bill_texts(alloc, texts, store, &licences, uses)
 }

@@ -260,8 +260,8 @@ impl<S: Alter> Store for SqlStore<S> {
         desk_lookups::chosen(self.alloc, &mut self.conn, release, document, id)
     }
 
-    fn frozen(&mut self, release: &str, document: u32, id: &str) -> Result<Vec<FrozenRow>, Fault> {
-        desk_lookups::frozen(self.alloc, &mut self.conn, release, document, id)
+    fn frozen(&mut self, release: &str) -> Result<Vec<FrozenRow>, Fault> {
+        desk_lookups::frozen(self.alloc, &mut self.conn, release)
     }
 
     fn conclusion(&mut self, document: u32, id: &str) -> Result<Option<Text>, Fault> {

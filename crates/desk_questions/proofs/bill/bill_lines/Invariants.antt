@@ -1,6 +1,6 @@
 use Rattle.std.proofs.Common.{◌≡◌, map}
-use Rattle.desk_questions.specs.Billing.{package_bill}
+use Rattle.desk_rows.specs.Bills.{bill_line}
 use Rattle.desk_questions.proofs.bill.bill_lines.Given as goal
 
-abbrev pub invariant-loop-frozen : goal.invariant-loop-frozen
-invariant-loop-frozen l = l.lines ≡ map package_bill l.yielded
+abbrev pub invariant-loop-row : goal.invariant-loop-row
+invariant-loop-row l = l.lines ≡ map (bill_line l.frozen.rows.items l.release) l.yielded

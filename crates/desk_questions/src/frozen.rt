@@ -1,0 +1,93 @@
+//! The terms that a release was frozen with, found by row.
+
+ghost use Rattle.std.specs.Prelude.{◌≡◌, IfOk, IfErr, OnOk, filter, map};
+ghost use Rattle.std.specs.Str.{bytes_eq};
+ghost use Rattle.desk_rows.specs.Bills.{frozen_terms};
+ghost use Rattle.desk_rows.specs.Faults.{MayFail};
+ghost use Rattle.desk_rows.specs.Keys.{is_frozen_of};
+ghost use Rattle.desk_access.specs.Seen.{Looked, OfRows};
+ghost use Rattle.desk_questions.specs.Sides.{package_meets, package_side, package_splits};
+
+use desk_access::store::Store;
+use desk_base::Text;
+use desk_rows::{Fault, FrozenRow, PackageRow};
+use desk_sorted::{Appended, Sought};
+use std::alloc::{AllocError, Global};
+use std::cmp::Ordering;
+
+/// The terms that a release was frozen with for a row.
+#[derive(Clone, Copy)]
+pub(crate) struct ByPackage<'a> {
+    release: &'a str,
+    document: u32,
+    id: &'a str,
+}
+
+impl Sought<FrozenRow> for ByPackage<'_> {
+    ghost side = { λ key. package_side key.release.now key.document key.id.now };
+
+    ghost is_at = { λ key. is_frozen_of key.release.now key.document key.id.now };
+
+    ghost splits = { λ key. package_splits key.release.now key.document key.id.now };
+
+    ghost meets = { λ key row. package_meets key.release.now key.document key.id.now row };
+
+    fn side_of(&self, row: &FrozenRow) -> Ordering {
+        row.release
+            .as_str()
+            .cmp(self.release)
+            .then(row.document.cmp(&self.document))
+            .then(row.package_id.as_str().cmp(self.id))
+    }
+}
+
+/// Rows in the order in which they came.
+fn appended(alloc: Global, rows: Vec<FrozenRow>) -> Result<Appended<FrozenRow>, Fault>
+    ensures same { IfOk result (λ frozen. frozen.rows.items ≡ rows.items) }
+    ensures fault { IfErr result (λ fault. fault ≡ Fault.Memory) }
+{
+    let mut frozen = Appended::new(alloc);
+    frozen.reserve(rows.len())?;
+    frozen.append(rows);
+    Ok(frozen)
+}
+
+/// The terms that a release was frozen with, looked up once for all its packages.
+pub(crate) fn frozen_rows<S: Store>(
+    alloc: Global,
+    store: &mut S,
+    release: &Text,
+) -> Result<Appended<FrozenRow>, Fault>
+    ensures found { IfOk result (λ frozen. OfRows (λ t.
+        frozen.rows.items ≡ filter (λ row. bytes_eq row.release release.now) t.frozen)
+        (S.seen store.old) (S.seen store.new)) }
+    ensures kept { Looked (S.seen store.old) (S.seen store.new) result }
+    ensures fault { IfErr result (MayFail S.tells) }
+{
+    let rows = store.frozen(release.as_str())?;
+    appended(alloc, rows)
+}
+
+/// The terms that a release was frozen with for a row, in their order.
+pub(crate) fn terms_of<'a>(
+    alloc: Global,
+    frozen: &'a Appended<FrozenRow>,
+    release: &Text,
+    row: &PackageRow,
+) -> Result<Vec<&'a FrozenRow>, AllocError>
+    ensures { IfOk result (λ terms.
+        map (λ row. row.now) terms.items ≡ frozen_terms frozen.now.rows.items release.now row.now) }
+{
+    let key = ByPackage {
+        release: release.as_str(),
+        document: row.document,
+        id: row.id.as_str(),
+    };
+    let mut terms = Vec::new(alloc);
+    for term in frozen.among(&key) {
+        if key.side_of(term).is_eq() {
+            terms.push(term)?;
+        }
+    }
+    Ok(terms)
+}
