@@ -10,9 +10,9 @@ use Rattle.desk_scan.specs.Parts.{HasCatalogues, HasDocuments, HasDuties, HasOff
 use Rattle.desk_scan.specs.Scans.{IsSnapshot}
 
 pub joined_has : (first : FirstPart) (second : SecondPart) (db : Database)
-    → (HasCatalogues first.catalogues db × (HasDocuments first.documents db × HasOffice first.office db)) × (HasReleases second.releases db × HasDuties second.duties db)
+    → (HasDocuments first.documents db × HasDuties first.duties db) × (HasCatalogues second.catalogues db × (HasOffice second.office db × HasReleases second.releases db))
     → IsSnapshot (joined_of first second) db
-joined_has first second db ((c, (d, o)), (r, q)) = record {
+joined_has first second db ((d, q), (c, (o, r))) = record {
   meta = c.0;
   catalogue = c.1.0;
   rule = c.1.1;
@@ -26,15 +26,15 @@ joined_has first second db ((c, (d, o)), (r, q)) = record {
   attached = r.1.0;
   choice = r.1.1.0;
   frozen = r.1.1.1;
-  duty = q.0;
-  changes = q.1.0;
+  duty = q.1.0;
+  changes = q.0;
   waiver = q.1.1;
 }
 
 pub joined_is : (first : FirstPart) (second : SecondPart) (t : Tables)
-    → (OfCatalogues first.catalogues t × (OfDocuments first.documents t × OfOffice first.office t)) × (OfReleases second.releases t × OfDuties second.duties t)
+    → (OfDocuments first.documents t × OfDuties first.duties t) × (OfCatalogues second.catalogues t × (OfOffice second.office t × OfReleases second.releases t))
     → AreSortedAsListed t → joined_of first second ≡ snapshot_of t
-joined_is first second t ((c, (d, o)), (r, q)) sorted = λ i. record {
+joined_is first second t ((d, q), (c, (o, r))) sorted = λ i. record {
   meta = c.0 i;
   catalogue = c.1.0 i;
   rule = c.1.1 sorted i;
@@ -48,7 +48,7 @@ joined_is first second t ((c, (d, o)), (r, q)) sorted = λ i. record {
   attached = r.1.0 i;
   choice = r.1.1.0 i;
   frozen = r.1.1.1 i;
-  duty = q.0 i;
-  changes = q.1.0 i;
+  duty = q.1.0 i;
+  changes = q.0 i;
   waiver = q.1.1 i;
 }

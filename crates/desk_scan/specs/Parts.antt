@@ -62,30 +62,30 @@ OfReleases part t = (part.releases ≡ map release_stored t.releases) × ((part.
 -- duties with their changes, and the last days of waivers
 abbrev pub HasDuties : DutyPart → Database → Type 0
 HasDuties part db =
-    IsScan duty_table stored_duty_cells duty_order part.duty db
-    × (IsScan change_table stored_change_cells change_order part.changes db
+    IsScan change_table stored_change_cells change_order part.changes db
+    × (IsScan duty_table stored_duty_cells duty_order part.duty db
     × (IsScan waiver_table stored_waiver_cells waiver_order part.waiver db))
 
 abbrev pub OfDuties : DutyPart → Tables → Type 0
-OfDuties part t = (part.duty ≡ map duty_stored t.duty) × ((part.changes ≡ map change_stored t.changes) × ((part.waiver ≡ map waiver_stored (filter is_waiver t.changes))))
+OfDuties part t = (part.changes ≡ map change_stored t.changes) × ((part.duty ≡ map duty_stored t.duty) × ((part.waiver ≡ map waiver_stored (filter is_waiver t.changes))))
 
 -- the snapshot of two parts
 abbrev pub joined_of : FirstPart → SecondPart → Snapshot
 joined_of first second = record {
-  meta = first.catalogues.meta;
-  catalogue = first.catalogues.catalogue;
-  rule = first.catalogues.rule;
+  meta = second.catalogues.meta;
+  catalogue = second.catalogues.catalogue;
+  rule = second.catalogues.rule;
   document = first.documents.document;
   reading = first.documents.reading;
   packages = first.documents.packages;
   extracted = first.documents.extracted;
-  conclusion = first.office.conclusion;
-  adoption = first.office.adoption;
+  conclusion = second.office.conclusion;
+  adoption = second.office.adoption;
   releases = second.releases.releases;
   attached = second.releases.attached;
   choice = second.releases.choice;
   frozen = second.releases.frozen;
-  duty = second.duties.duty;
-  changes = second.duties.changes;
-  waiver = second.duties.waiver;
+  duty = first.duties.duty;
+  changes = first.duties.changes;
+  waiver = first.duties.waiver;
 }

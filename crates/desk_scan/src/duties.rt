@@ -122,8 +122,8 @@ fn waiver_rows<R: Source>(alloc: Global, source: &mut R) -> Result<Listed<Stored
 /// Duties with their changes, and the last days of waivers.
 #[derive(Drop)]
 pub(crate) struct DutyPart {
-    pub(crate) duty: Items<StoredDuty>,
     pub(crate) changes: Listed<StoredChange>,
+    pub(crate) duty: Items<StoredDuty>,
     pub(crate) waiver: Listed<StoredWaiver>,
 }
 
@@ -137,8 +137,8 @@ pub(crate) fn duties<R: Source>(alloc: Global, source: &mut R) -> Result<DutyPar
     ensures same_reference { R.name source.new ≡ R.name source.old }
 {
     Ok(DutyPart {
-        duty: duty_rows(alloc, source)?,
         changes: change_rows(alloc, source)?,
+        duty: duty_rows(alloc, source)?,
         waiver: waiver_rows(alloc, source)?,
     })
 }

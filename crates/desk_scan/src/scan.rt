@@ -44,7 +44,7 @@ fn read_all<T: Stored + Drop>(alloc: Global, rows: Vec<Row>) -> Result<Vec<T>, F
 fn read_listed<T: Stored + Keyed + Drop>(alloc: Global, rows: Vec<Row>) -> Result<Listed<T>, Fault>
     ensures { IfOk result (λ found. map (columns_of T.width) rows.items ≡ map T.cells found) }
 {
-    let mut found = Listed::new(alloc);
+    let mut found = Listed::with_capacity(alloc, rows.len())?;
     for row in rows {
         found.push(T::read(alloc, &row)?)?;
     }

@@ -24,53 +24,54 @@ use desk_snapshot::Snapshot;
 use sqlite::{Alter, Connection, Transaction};
 use std::alloc::Global;
 
-/// The catalogue, the documents, and what the office decided of them.
+/// The documents, whose bytes are the largest cells, and the duties with their changes, which are most of a desk's rows. Each table is
+/// held twice while its rows are read, so these come first, while little else is held.
 #[derive(Drop)]
 struct FirstPart {
-    catalogues: CataloguePart,
     documents: DocumentPart,
-    office: OfficePart,
+    duties: DutyPart,
 }
 
-/// The releases, and the duties that they raised.
+/// The catalogue, what the office decided of documents, and the releases.
 #[derive(Drop)]
 struct SecondPart {
+    catalogues: CataloguePart,
+    office: OfficePart,
     releases: ReleasePart,
-    duties: DutyPart,
 }
 
 /// The tables of the first part, read.
 fn first_part<R: Source>(alloc: Global, source: &mut R) -> Result<FirstPart, Fault>
     requires { R.is_ready source.old }
-    ensures ok { IfOk result (λ part. IsRead (λ db. HasCatalogues part.catalogues db
-        × (HasDocuments part.documents db × HasOffice part.office db))
-        (λ t. OfCatalogues part.catalogues t
-        × (OfDocuments part.documents t × OfOffice part.office t)) (R.shows source.old)
+    ensures ok { IfOk result (λ part. IsRead (λ db. HasDocuments part.documents db × HasDuties part.duties db)
+        (λ t. OfDocuments part.documents t × OfDuties part.duties t) (R.shows source.old)
         (R.shows source.new)) }
     ensures asked { HasAsked (R.shows source.old) (R.shows source.new) result }
     ensures ready { R.is_ready source.new }
     ensures same_reference { R.name source.new ≡ R.name source.old }
 {
     Ok(FirstPart {
-        catalogues: catalogues(alloc, source)?,
         documents: documents(alloc, source)?,
-        office: office(alloc, source)?,
+        duties: duties(alloc, source)?,
     })
 }
 
 /// The tables of the second part, read.
 fn second_part<R: Source>(alloc: Global, source: &mut R) -> Result<SecondPart, Fault>
     requires { R.is_ready source.old }
-    ensures ok { IfOk result (λ part. IsRead (λ db. HasReleases part.releases db × HasDuties part.duties db)
-        (λ t. OfReleases part.releases t × OfDuties part.duties t) (R.shows source.old)
+    ensures ok { IfOk result (λ part. IsRead (λ db. HasCatalogues part.catalogues db
+        × (HasOffice part.office db × HasReleases part.releases db))
+        (λ t. OfCatalogues part.catalogues t
+        × (OfOffice part.office t × OfReleases part.releases t)) (R.shows source.old)
         (R.shows source.new)) }
     ensures asked { HasAsked (R.shows source.old) (R.shows source.new) result }
     ensures ready { R.is_ready source.new }
     ensures same_reference { R.name source.new ≡ R.name source.old }
 {
     Ok(SecondPart {
+        catalogues: catalogues(alloc, source)?,
+        office: office(alloc, source)?,
         releases: releases(alloc, source)?,
-        duties: duties(alloc, source)?,
     })
 }
 
@@ -78,12 +79,12 @@ fn second_part<R: Source>(alloc: Global, source: &mut R) -> Result<SecondPart, F
 fn joined(first: FirstPart, second: SecondPart) -> Snapshot
     ensures { result ≡ joined_of first second }
 {
-    let FirstPart {
+    let FirstPart { documents, duties } = first;
+    let SecondPart {
         catalogues,
-        documents,
         office,
-    } = first;
-    let SecondPart { releases, duties } = second;
+        releases,
+    } = second;
     Snapshot {
         meta: catalogues.meta,
         catalogue: catalogues.catalogue,

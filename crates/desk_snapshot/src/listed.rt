@@ -1,6 +1,6 @@
 //! Rows of a table in the order in which they came.
 
-ghost use Rattle.std.specs.Prelude.{◌≡◌, ◌++◌, ◌∷◌, [], filter, find, OnOk, OnErr, IfErr};
+ghost use Rattle.std.specs.Prelude.{◌≡◌, ◌++◌, ◌∷◌, [], filter, find, IfOk, OnOk, OnErr, IfErr};
 ghost use Rattle.std.specs.Option.{option_copied};
 
 use desk_rows::Fault;
@@ -24,13 +24,14 @@ impl<R: Keyed> Model for Listed<R> {
 }
 
 impl<R: Keyed + Drop> Listed<R> {
-    /// The list of no row.
-    pub fn new(alloc: Global) -> Listed<R>
-        ensures { result ≡ [] }
+    /// The list of no row, with room for so many.
+    pub fn with_capacity(alloc: Global, count: usize) -> Result<Listed<R>, Fault>
+        ensures none { IfOk result (λ rows. rows ≡ []) }
+        ensures fault { IfErr result (λ fault. fault ≡ Fault.Memory) }
     {
-        Listed {
-            appended: Appended::new(alloc),
-        }
+        let mut appended = Appended::new(alloc);
+        appended.reserve(count)?;
+        Ok(Listed { appended })
     }
 
     /// Adds a row at the end.
