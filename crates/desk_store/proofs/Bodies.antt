@@ -7,14 +7,14 @@ use Rattle.std.proofs.lemmas.Bool.Decides.{nat_tests}
 use Rattle.desk_rows.specs.History.{revisions, loaded, forms_in}
 use Rattle.desk_rows.specs.Lists.{latest}
 use Rattle.desk_rows.specs.Readings.{Readings}
-use Rattle.desk_rows.specs.Tables.{tables}
+use Rattle.desk_rows.specs.Tables.{Tables, tables}
 use Rattle.desk_rows.specs.declared.row.CatalogueRow.{CatalogueRow}
 use Rattle.desk_rows.specs.declared.command.Command.{Command}
 use Rattle.desk_rows.specs.declared.command.Command.TheVariants.{LoadCatalogue}
 use Rattle.desk_history.proofs.Lookups.{length-push}
 use Rattle.desk_layout.specs.Held.{known_of}
 use Rattle.desk_adopting.specs.Revisions.{is_revision, body_of}
-use Rattle.desk_store.specs.Adopting.{HasCounts}
+use Rattle.desk_store.specs.Adopting.{HasCounts, HasForms}
 use Rattle.desk_store.specs.Counting.{known_by}
 use Rattle.desk_store.specs.declared.counts.Counts.{Counts}
 
@@ -51,9 +51,14 @@ last_body (LoadCatalogue text ∷ h) n is =
     ap (option_map (λ row. row.body)) (found_behind (is_revision n) (revisions h) last (none_higher h n before)) ∙ rw same refl
 last_body (_ ∷ h) n is = last_body h n is
 
--- what is read of the tables of a history is what a store knows of them
-pub known : (w : Readings) (h : List Command) (counts : Counts) (forms : List (List ℕ)) (body : Option (List ℕ)) → HasCounts counts (tables w h) → body ≡ body_of (tables w h) counts.revisions
-    → forms ≡ forms_in (option_and_then (λ text. result_ok (w.catalogue text)) body) → known_of (tables w h) ≡ known_by counts forms
-known w h counts forms body has read are =
-    let in_force : (tables w h).forms ≡ forms = sym (are ∙ ap (λ b. forms_in (option_and_then (λ text. result_ok (w.catalogue text)) b)) (read ∙ last_body h counts.revisions has.revisions)) in
+-- what is read of tables is what a store knows of them
+pub known : (w : Readings) (t : Tables) (counts : Counts) (forms : List (List ℕ)) (body : Option (List ℕ)) → HasCounts counts t → body ≡ body_of t counts.revisions
+    → forms ≡ forms_in (option_and_then (λ text. result_ok (w.catalogue text)) body) → HasForms w t → known_of t ≡ known_by counts forms
+known w t counts forms body has read are right =
+    let told : Option (List ℕ) → List (List ℕ) = λ b. forms_in (option_and_then (λ text. result_ok (w.catalogue text)) b) in
+    let in_force : t.forms ≡ forms = right ∙ (ap (λ n. told (body_of t n)) has.revisions ∙ sym (are ∙ ap told read)) in
     rw (has.revisions, has.documents, has.releases, has.duties, in_force) refl
+
+-- the forms of the tables of a history are those of the catalogue that was loaded last
+pub history_forms : (w : Readings) (h : List Command) → HasForms w (tables w h)
+history_forms w h = ap (λ b. forms_in (option_and_then (λ text. result_ok (w.catalogue text)) b)) (sym (last_body h (length (revisions h)) refl))

@@ -2,12 +2,16 @@
 use Rattle.std.specs.Prelude.{◌≡◌, ◌⊎◌, true, false, [], length, IsTrue}
 use Rattle.sqlite_trees.specs.Tree.{Trees}
 use Rattle.sqlite.specs.State.{State}
+use Rattle.std.specs.Option.{option_and_then}
+use Rattle.std.specs.Result.{result_ok}
+use Rattle.desk_rows.specs.History.{forms_in}
 use Rattle.desk_rows.specs.Readings.{Readings}
 use Rattle.desk_rows.specs.Tables.{Tables, tables}
 use Rattle.desk_access.specs.Seen.{Seen}
 use Rattle.desk_layout.specs.Held.{Stands, seen_of}
 use Rattle.desk_tally.specs.Kept.{are_countable}
 use Rattle.desk_adopting.specs.Reading.{IsSpared, HasStayed}
+use Rattle.desk_adopting.specs.Revisions.{body_of}
 use Rattle.desk_adopting.specs.declared.version.Content.TheVariants as content
 use Rattle.desk_adopting.specs.Version.{IsContent}
 use Rattle.desk_snapshot.specs.declared.fault.AuditReport.TheVariants as report
@@ -32,6 +36,10 @@ pub record HasCounts (counts : Counts) (t : Tables) : Type 0 where
   pub documents : length t.document ≡ counts.documents
   pub releases : length t.releases ≡ counts.releases
   pub duties : length t.duty ≡ counts.duties
+
+-- the forms of tables, which stand in no table but a text, are those that a reading gives the catalogue in force
+abbrev pub HasForms : Readings → Tables → Type 0
+HasForms w t = t.forms ≡ forms_in (option_and_then (λ text. result_ok (w.catalogue text)) (body_of t (length t.catalogue)))
 
 -- memory was wanting, or the store failed
 abbrev pub IsFault : AdoptFault → Type 0

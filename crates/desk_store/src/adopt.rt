@@ -7,7 +7,6 @@ ghost use Rattle.sqlite.specs.Held.{state};
 ghost use Rattle.sqlite.specs.State.{HasCleanDisk};
 ghost use Rattle.desk_rows.specs.History.{forms_in};
 ghost use Rattle.desk_rows.specs.Readings.{Readings};
-ghost use Rattle.desk_rows.specs.Tables.{tables};
 ghost use Rattle.desk_access.specs.Seen.{OfRows};
 ghost use Rattle.desk_core.specs.Desks.{InHistory};
 ghost use Rattle.desk_layout.specs.Held.{known_of, seen_of};
@@ -15,7 +14,7 @@ ghost use Rattle.desk_layout.specs.Layout.{desk_schema};
 ghost use Rattle.desk_texts.specs.Right.{AreRight};
 ghost use Rattle.desk_adopting.specs.Reading.{HasRead, HasStayed};
 ghost use Rattle.desk_adopting.specs.Version.{IsContent};
-ghost use Rattle.desk_store.specs.Adopting.{HasCounts, IsFault, IsFinding, IsLeft, IsOfAudit, IsReason, IsUncountable};
+ghost use Rattle.desk_store.specs.Adopting.{HasCounts, HasForms, IsFault, IsFinding, IsLeft, IsOfAudit, IsReason, IsUncountable};
 ghost use Rattle.desk_store.specs.Auditing.{Reports};
 ghost use Rattle.desk_store.specs.Counting.{known_by};
 ghost use Rattle.desk_tally.specs.Kept.{AreKept};
@@ -72,8 +71,8 @@ fn read_known<S: Alter>(
     conn: &mut Connection<S>,
 ) -> Result<(Counts, Items<Text>), Fault>
     requires { conn.old.in_transaction ≡ false }
-    ensures known { IfOk result (λ known. InHistory AreRight (λ w h.
-        known_of (tables w h) ≡ known_by known.0 known.1) (seen_of (state S.Store conn.old))
+    ensures known { IfOk result (λ known. (w : Readings) → AreRight w → OfRows (λ t.
+        HasForms w t → known_of t ≡ known_by known.0 known.1) (seen_of (state S.Store conn.old))
         (seen_of (state S.Store conn.new))) }
     ensures read { HasRead (state S.Store conn.old) (state S.Store conn.new) result }
     ensures mode { conn.new.in_transaction ≡ false }
@@ -107,8 +106,8 @@ pub(crate) fn read_beside<S: Alter>(
     conn: &mut Connection<S>,
 ) -> Result<Option<(Counts, Items<Text>, Tallies)>, Fault>
     requires { conn.old.in_transaction ≡ false }
-    ensures known { IfOk result (λ found. IfSome found (λ beside.
-        InHistory AreRight (λ w h. known_of (tables w h) ≡ known_by beside.0 beside.1)
+    ensures known { IfOk result (λ found. IfSome found (λ beside. (w : Readings) → AreRight w
+        → OfRows (λ t. HasForms w t → known_of t ≡ known_by beside.0 beside.1)
         (seen_of (state S.Store conn.old)) (seen_of (state S.Store conn.new)))) }
     ensures kept { IfOk result (λ found. IfSome found (λ beside.
         OfRows (AreKept beside.2) (seen_of (state S.Store conn.old))
@@ -196,8 +195,8 @@ pub(crate) fn examine_desk<S: Alter>(
     requires { conn.old.in_transaction ≡ false }
     ensures kept { IfOk result (λ beside. OfRows (AreKept beside.2) (seen_of (state S.Store conn.old))
         (seen_of (state S.Store conn.new))) }
-    ensures known { IfOk result (λ known. InHistory AreRight (λ w h.
-        known_of (tables w h) ≡ known_by known.0 known.1) (seen_of (state S.Store conn.old))
+    ensures known { IfOk result (λ known. (w : Readings) → AreRight w → OfRows (λ t.
+        HasForms w t → known_of t ≡ known_by known.0 known.1) (seen_of (state S.Store conn.old))
         (seen_of (state S.Store conn.new))) }
     ensures sound { IfErr result (λ fault. IsTrue (state S.Store conn.old).is_open
         → InHistory AreRight (λ w h. IsFault fault) (seen_of (state S.Store conn.old))

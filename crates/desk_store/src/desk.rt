@@ -4,8 +4,9 @@ ghost use Rattle.std.specs.Prelude.{◌≡◌, true, false, IfOk, IfErr, IsTrue,
 ghost use Rattle.sqlite_trees.specs.Tree.{Trees};
 ghost use Rattle.sqlite.specs.Held.{state};
 ghost use Rattle.sqlite.specs.State.{HasCleanDisk, Survives};
+ghost use Rattle.desk_rows.specs.Readings.{Readings};
 ghost use Rattle.desk_rows.specs.Tables.{Tables, tables};
-ghost use Rattle.desk_access.specs.Seen.{Looked, Same};
+ghost use Rattle.desk_access.specs.Seen.{Looked, OfRows, Same};
 ghost use Rattle.desk_core.specs.Desks.{InHistory};
 ghost use Rattle.desk_layout.specs.Held.{Stands, known_of, seen_of};
 ghost use Rattle.desk_tally.specs.Kept.{AreKept};
@@ -17,7 +18,7 @@ ghost use Rattle.desk_adopting.specs.Older.{IsOlderContent};
 ghost use Rattle.desk_adopting.specs.Version.{IsContent};
 ghost use Rattle.desk_adopting.specs.declared.older.OlderVersion.{OlderVersion as Version};
 ghost use Rattle.desk_migrating.specs.Migrating.{InOlderHistory, IsFault as IsMigrateFault, IsReason as IsMigrateReason, LeavesSome, Migrated};
-ghost use Rattle.desk_store.specs.Adopting.{IsEmpty, IsFault, IsLeft, IsReason, StandsEmpty};
+ghost use Rattle.desk_store.specs.Adopting.{HasForms, IsEmpty, IsFault, IsLeft, IsReason, StandsEmpty};
 ghost use Rattle.desk_store.specs.Auditing.{IsAudit, Reports};
 ghost use Rattle.desk_store.specs.Counting.{known_by};
 ghost use Rattle.desk_store.specs.Migrating.{IsLeftBy};
@@ -113,12 +114,16 @@ impl<S: Alter> SqlDesk<S> {
     /// tables aren't sound. After these the connection is as it was. A fault tells that memory was wanting, that the database failed,
     /// or that it gave rows that no desk has.
     ///
-    /// The tables of a recorded history are sound, so of them a fault alone is answered.
+    /// The tables of a recorded history are sound, so of them a fault alone is answered. Whatever rows the connection shows, sound as
+    /// they are, are the desk's rows, so that a refusal or a fault leaves them.
     pub fn adopt_connection(
         alloc: Global,
         conn: Connection<S>,
     ) -> Result<SqlDesk<S>, (AdoptFault, Connection<S>)>
         requires { conn.in_transaction ≡ false }
+        ensures rows { IfOk result (λ desk. (w : Readings) → AreRight w → OfRows (λ t.
+            HasForms w t → (⟦<SqlDesk<S> as Desk>⟧.seen desk).holds t) (seen_of (state S.Store conn))
+            (⟦<SqlDesk<S> as Desk>⟧.seen desk)) }
         ensures holds { IfOk result (λ desk. InHistory AreRight (λ w h.
             (⟦<SqlDesk<S> as Desk>⟧.seen desk).holds (tables w h)) (seen_of (state S.Store conn))
             (⟦<SqlDesk<S> as Desk>⟧.seen desk)) }

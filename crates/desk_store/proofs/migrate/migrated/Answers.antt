@@ -3,6 +3,7 @@ use Rattle.sqlite.specs.Held.{state}
 use Rattle.desk_rows.specs.Tables.{tables}
 use Rattle.desk_layout.specs.Held.{seen_of}
 use Rattle.desk_adopting.proofs.Spared.{clean_before, kept}
+use Rattle.desk_store.proofs.Bodies.{history_forms}
 use Rattle.desk_store.proofs.Migrated.{leaves_after, left_by, migrated_after, moved_after, shows_migrated}
 use Rattle.desk_store.proofs.migrate.migrated.Goals as goal
 
@@ -31,7 +32,7 @@ returns-in-Ok-Some-clause-holds g c = λ version w right clean is h ok older.
     let seen : (seen_of s1).holds (tables w h) = λ _ _. shows_migrated c.in-Ok.version version (tables w h) s0 s1 same older made.1 in
     let known = rw c.in-Ok-Some.field-0-is at c.in-Ok-Some.ensures.known in
     let tallies = rw c.in-Ok-Some.field-0-is at c.in-Ok-Some.ensures.kept in
-    (same, ((kept s1 s2 stayed.0).spared.holds (tables w h) seen, (known w right clean h ok seen, tallies clean (tables w h) seen)))
+    (same, ((kept s1 s2 stayed.0).spared.holds (tables w h) seen, (known w right clean (tables w h) seen (history_forms w h), tallies clean (tables w h) seen)))
 
 pub returns-in-Ok-None-clause-left : goal.returns-in-Ok-None-clause-left
 returns-in-Ok-None-clause-left g c =
