@@ -26,6 +26,7 @@ STEPS = [
     ("Proving everything from nothing, and trying edits: an hour or two.", PROOFS),
     ("Running the acceptance cases on the program that was proved and built.", ["sh", "tests/acceptance/run.sh", DESK]),
     ("Comparing the manual page and the completions with its help.", ["python3", "tests/manual.py", DESK]),
+    ("Comparing what it explains with the pages.", ["python3", "tests/explain.py", DESK]),
     ("Running the scripts among them over files.", ["python3", "tests/database.py", DESK]),
     ("Asking it over HTTP.", ["python3", "tests/serving.py", DESK]),
     ("Reading the tables of a desk by SQLite.", ["python3", "tests/tables.py", DESK]),

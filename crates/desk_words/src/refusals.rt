@@ -1,10 +1,14 @@
 //! Refusals in words.
 
-use desk_base::limits;
+use desk_base::{Text, limits};
 use desk_rows::{CatalogueFault, DocumentFault, ExpressionFault, Limit, Refusal};
 use std::fmt;
 
 const MEBIBYTE: usize = 1_048_576;
+
+const ID_WANTED: &str = ": wanted are letters, digits, . and - behind SPDXRef- or LicenseRef-";
+
+const WORDS_WANTED: &str = ": wanted are an id, a type in capitals and an id";
 
 /// A refusal that prints as its name with what is wrong and where.
 #[derive(Clone, Copy)]
@@ -46,60 +50,53 @@ fn write_large<W: fmt::Write>(most: usize, f: &mut fmt::Formatter<W>) -> fmt::Re
     write!(f, "TooLarge, more than {most} MiB")
 }
 
+fn write_many<W: fmt::Write>(line: u64, f: &mut fmt::Formatter<W>) -> fmt::Result {
+    let most = limits::DOCUMENT_ELEMENTS;
+    write!(
+        f,
+        "TooManyElements on line {line}, more than {most} elements"
+    )
+}
+
+fn write_missing<W: fmt::Write>(line: u64, tag: &Text, f: &mut fmt::Formatter<W>) -> fmt::Result {
+    let tag = tag.as_str();
+    write!(f, "Missing on line {line}, where {tag} is wanted")
+}
+
+fn write_repeated<W: fmt::Write>(line: u64, tag: &Text, f: &mut fmt::Formatter<W>) -> fmt::Result {
+    let tag = tag.as_str();
+    write!(f, "Repeated on line {line}, where {tag} appears again")
+}
+
 impl fmt::Display for DocumentWords<'_> {
     fn fmt<W: fmt::Write>(&self, f: &mut fmt::Formatter<W>) -> fmt::Result {
-        match self.fault {
-            DocumentFault::NotUtf8 => f.write_str("NotUtf8, bytes that are not UTF-8"),
-            DocumentFault::NoColon(line) => {
-                write!(f, "NoColon on line {line}, which has no tag and colon")
-            }
-            DocumentFault::OpenText(line) => {
-                write!(f, "OpenText on line {line}, a <text> that is not closed")
-            }
-            DocumentFault::AfterText(line) => {
-                write!(
-                    f,
-                    "AfterText on line {line}, where something follows </text>"
-                )
-            }
-            DocumentFault::BadVersion(line) => {
-                write!(
-                    f,
-                    "BadVersion on line {line}, not SPDX-2.1, SPDX-2.2 or SPDX-2.3"
-                )
-            }
-            DocumentFault::Missing { line, tag } => {
-                let tag = tag.as_str();
-                write!(f, "Missing on line {line}, where {tag} is wanted")
-            }
-            DocumentFault::BadId(line) => {
-                write!(
-                    f,
-                    "BadId on line {line}: wanted are letters, digits, . and - behind SPDXRef- or LicenseRef-"
-                )
-            }
-            DocumentFault::DuplicateId(line) => {
-                write!(f, "DuplicateId on line {line}, which another element has")
-            }
-            DocumentFault::Repeated { line, tag } => {
-                let tag = tag.as_str();
-                write!(f, "Repeated on line {line}, where {tag} appears again")
-            }
-            DocumentFault::BadRelationship(line) => {
-                write!(
-                    f,
-                    "BadRelationship on line {line}: wanted are an id, a type in capitals and an id"
-                )
-            }
-            DocumentFault::TooLarge => write_large(limits::DOCUMENT_BYTES, f),
-            DocumentFault::TooManyElements(line) => {
-                let most = limits::DOCUMENT_ELEMENTS;
-                write!(
-                    f,
-                    "TooManyElements on line {line}, more than {most} elements"
-                )
-            }
-        }
+        let (name, line, what) = match self.fault {
+            DocumentFault::NotUtf8 => return f.write_str("NotUtf8, bytes that are not UTF-8"),
+            DocumentFault::TooLarge => return write_large(limits::DOCUMENT_BYTES, f),
+            DocumentFault::TooManyElements(line) => return write_many(*line, f),
+            DocumentFault::Missing { line, tag } => return write_missing(*line, tag, f),
+            DocumentFault::Repeated { line, tag } => return write_repeated(*line, tag, f),
+            DocumentFault::NoColon(line) => ("NoColon", line, ", which has no tag and colon"),
+            DocumentFault::OpenText(line) => ("OpenText", line, ", a <text> that is not closed"),
+            DocumentFault::AfterText(line) => (
+                "AfterText",
+                line,
+                ", where something follows </text>",
+            ),
+            DocumentFault::BadVersion(line) => (
+                "BadVersion",
+                line,
+                ", not SPDX-2.1, SPDX-2.2 or SPDX-2.3",
+            ),
+            DocumentFault::BadId(line) => ("BadId", line, ID_WANTED),
+            DocumentFault::DuplicateId(line) => (
+                "DuplicateId",
+                line,
+                ", which another element has",
+            ),
+            DocumentFault::BadRelationship(line) => ("BadRelationship", line, WORDS_WANTED),
+        };
+        write!(f, "{name} on line {line}{what}")
     }
 }
 

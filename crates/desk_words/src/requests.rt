@@ -1,8 +1,10 @@
 //! Why a line is no request.
 
-ghost use Rattle.std.specs.Prelude.{◌≡◌, IfOk, IfSome, Some, codes, option_map};
-ghost use Rattle.serde_json.specs.View.{view};
-ghost use Rattle.desk_words.specs.Troubles.{IsSo, IsSoOf, text_in};
+ghost use Rattle.std.specs.Prelude.{◌≡◌, ◌≢◌, IfOk, IfSome, None, Some, codes, option_map};
+ghost use Rattle.std.specs.String.{string_bytes};
+ghost use Rattle.serde_json.specs.Find.{as_array, get};
+ghost use Rattle.serde_json.specs.View.{items_view, view};
+ghost use Rattle.desk_words.specs.Troubles.{IsFound, IsFoundIn, IsSoOf, are_texts, are_texts_in, is_wanted, number_of, text_in};
 
 pub use crate::forms::Wanted;
 use crate::forms::{COMMANDS, Form, Key, QUERIES, form_named};
@@ -63,20 +65,38 @@ fn text_at<'a>(value: &'a Value, key: &str) -> Option<&'a str>
     }
 }
 
-// Whether a value is a whole number that a request may have.
-fn number_of(value: &Value) -> Option<u64> {
+// The whole number that a value is, if a request may have it.
+fn number_of(value: &Value) -> Option<u64>
+    ensures { result ≡ number_of (view value.now) }
+{
     value.as_u64().filter(|number| *number <= limits::NUMBER)
 }
 
+// Whether a list holds nothing but texts.
+fn are_texts(items: &[Value]) -> bool
+    ensures { result ≡ are_texts (items_view items.now) }
+{
+    for item in items {
+        if item.as_str().is_none() {
+            return false;
+        }
+    }
+    true
+}
+
 // Whether a value is a list of texts.
-fn are_texts(value: &Value) -> bool {
+fn is_list(value: &Value) -> bool
+    ensures { result ≡ are_texts_in (as_array (view value.now)) }
+{
     match value.as_array() {
-        Some(items) => items.iter().all(|item| item.as_str().is_some()),
+        Some(items) => are_texts(items.as_slice()),
         None => false,
     }
 }
 
-fn is_wanted(value: &Value, wanted: Wanted) -> bool {
+fn is_wanted(value: &Value, wanted: Wanted) -> bool
+    ensures { result ≡ is_wanted wanted (view value.now) }
+{
     match wanted {
         Wanted::Text => value.as_str().is_some(),
         Wanted::Number => number_of(value).is_some(),
@@ -84,7 +104,7 @@ fn is_wanted(value: &Value, wanted: Wanted) -> bool {
             Some(number) => Profile::numbered(number).is_some(),
             None => false,
         },
-        Wanted::Texts => are_texts(value),
+        Wanted::Texts => is_list(value),
     }
 }
 
@@ -118,7 +138,9 @@ fn unknown_key(
     value: &Value,
     form: &Form,
     own: &str,
-) -> Result<Option<String>, AllocError> {
+) -> Result<Option<String>, AllocError>
+    ensures { IfOk result (λ found. IfSome found (λ name. get (string_bytes name) (view value.now) ≢ None)) }
+{
     let Some(members) = value.as_object() else {
         return Ok(None);
     };
@@ -152,7 +174,7 @@ fn command_trouble(
     word: &str,
 ) -> Result<Option<RequestTrouble>, AllocError>
     requires { text_in (codes "do") (view value.now) ≡ Some word.now }
-    ensures { IfOk result (λ found. IfSome found (IsSoOf (view value.now))) }
+    ensures { IfOk result (IsFoundIn (view value.now)) }
 {
     match form_named(word, &COMMANDS) {
         Some(form) => form_trouble(alloc, value, form, "do"),
@@ -165,8 +187,9 @@ fn question_trouble(
     value: &Value,
     word: &str,
 ) -> Result<Option<RequestTrouble>, AllocError>
-    requires { text_in (codes "ask") (view value.now) ≡ Some word.now }
-    ensures { IfOk result (λ found. IfSome found (IsSoOf (view value.now))) }
+    requires other { text_in (codes "do") (view value.now) ≡ None }
+    requires word { text_in (codes "ask") (view value.now) ≡ Some word.now }
+    ensures { IfOk result (IsFoundIn (view value.now)) }
 {
     match form_named(word, &QUERIES) {
         Some(form) => form_trouble(alloc, value, form, "ask"),
@@ -175,7 +198,7 @@ fn question_trouble(
 }
 
 fn value_trouble(alloc: Global, value: &Value) -> Result<Option<RequestTrouble>, AllocError>
-    ensures { IfOk result (λ found. IfSome found (IsSoOf (view value.now))) }
+    ensures { IfOk result (IsFoundIn (view value.now)) }
 {
     if value.as_object().is_none() {
         return Ok(Some(RequestTrouble::NotObject));
@@ -191,7 +214,7 @@ fn value_trouble(alloc: Global, value: &Value) -> Result<Option<RequestTrouble>,
 
 /// Why the text of a line is no request, or `None` where nothing is found.
 pub fn request_trouble(alloc: Global, bytes: &[u8]) -> Result<Option<RequestTrouble>, AllocError>
-    ensures { IfOk result (λ found. IfSome found (IsSo bytes.now)) }
+    ensures { IfOk result (IsFound bytes.now) }
 {
     match Value::from_slice(alloc, bytes) {
         Ok(value) => value_trouble(alloc, &value),

@@ -1,0 +1,60 @@
+//! A row of a page's table.
+
+use std::fmt;
+
+/// What a name is the name of. Numbers are those of the pages.
+#[derive(Clone, Copy)]
+pub enum Kind {
+    /// A refusal, with the requests that have it.
+    Refusal { number: u8, requests: &'static str },
+    DocumentFault { number: u8 },
+    ExpressionFault { number: u8 },
+    /// A fault of a file or a tree, with what prints it.
+    OtherFault { place: &'static str },
+    /// What in a document isn't as the standard has it, with the clauses of the standard.
+    Finding { number: u8, clauses: &'static str },
+    CatalogueFault { number: u8 },
+    /// A condition that an audit tests.
+    Condition { number: u8 },
+    /// What is wrong in a source tree.
+    Problem,
+}
+
+/// What a page says of a name.
+#[derive(Clone, Copy)]
+pub struct Entry {
+    pub name: &'static str,
+    pub kind: Kind,
+    /// What is wrong, or for a condition what must hold.
+    pub meaning: Option<&'static str>,
+    pub cause: Option<&'static str>,
+}
+
+impl fmt::Display for Kind {
+    ghost use Rattle.std.specs.Prelude.{Some};
+    ghost use Rattle.desk_explain.specs.Explanations.{kind_text};
+
+    ghost output = { λ kind. Some (kind_text kind) };
+
+    fn fmt<W: fmt::Write>(&self, f: &mut fmt::Formatter<W>) -> fmt::Result {
+        match self {
+            Kind::Refusal { number, requests } => write!(f, "refusal {number} ({requests})"),
+            Kind::DocumentFault { number } => {
+                write!(f, "fault {number} of a document (BadDocument)")
+            }
+            Kind::ExpressionFault { number } => {
+                write!(f, "fault {number} of an expression (BadExpression)")
+            }
+            Kind::OtherFault { place } => write!(f, "fault ({place})"),
+            Kind::Finding { number, clauses } => write!(
+                f,
+                "finding {number} (SPDX 2.3: {clauses})"
+            ),
+            Kind::CatalogueFault { number } => {
+                write!(f, "fault {number} of a catalogue (BadCatalogue)")
+            }
+            Kind::Condition { number } => write!(f, "condition {number} of an audit"),
+            Kind::Problem => f.write_str("problem of a source tree"),
+        }
+    }
+}

@@ -1,0 +1,223 @@
+//! The faults, with the words of docs/REFUSALS.md, and of docs/CATALOGUE.md for those of catalogues.
+
+use crate::entry::{Entry, Kind};
+
+/// The faults of documents, by number.
+pub(crate) const DOCUMENT_FAULTS: [Entry; 12] = [
+    Entry {
+        name: "NotUtf8",
+        kind: Kind::DocumentFault { number: 1 },
+        meaning: Some("the bytes aren't UTF-8"),
+        cause: Some(
+            "Latin-1 names or notices: iconv -f latin1 -t utf-8. A request is always text, so only desk import reports this",
+        ),
+    },
+    Entry {
+        name: "NoColon",
+        kind: Kind::DocumentFault { number: 2 },
+        meaning: Some("a line without a colon, or with no tag before it"),
+        cause: Some(
+            "a value over several lines without <text> and </text> round it; JSON, XML or a spreadsheet: convert it",
+        ),
+    },
+    Entry {
+        name: "OpenText",
+        kind: Kind::DocumentFault { number: 3 },
+        meaning: Some("<text> without </text>, at the line of its field"),
+        cause: Some("a document cut short"),
+    },
+    Entry {
+        name: "AfterText",
+        kind: Kind::DocumentFault { number: 4 },
+        meaning: Some("something follows </text>, at that line"),
+        cause: Some("a notice that holds </text> itself; the next field on the same line"),
+    },
+    Entry {
+        name: "BadVersion",
+        kind: Kind::DocumentFault { number: 5 },
+        meaning: Some("SPDXVersion is not SPDX-2.1, SPDX-2.2 or SPDX-2.3"),
+        cause: Some(
+            "SPDX-2.0, SPDX-1.2, or 2.3 alone: have the tool write a newer version, or convert it",
+        ),
+    },
+    Entry {
+        name: "Missing",
+        kind: Kind::DocumentFault { number: 6 },
+        meaning: Some(
+            "SPDXVersion, SPDXID, DocumentName or DocumentNamespace of the document (line 1), or the SPDXID of a package or file (the line where it begins)",
+        ),
+        cause: Some("a tool that leaves out ids or the namespace"),
+    },
+    Entry {
+        name: "BadId",
+        kind: Kind::DocumentFault { number: 7 },
+        meaning: Some("an SPDXID, SnippetSPDXID or LicenseID of another form"),
+        cause: Some(
+            "_, +, / or @ from a package's name or version: wanted is SPDXRef- or LicenseRef-, then letters, digits, . and -; for the document itself SPDXRef-DOCUMENT",
+        ),
+    },
+    Entry {
+        name: "DuplicateId",
+        kind: Kind::DocumentFault { number: 8 },
+        meaning: Some("an id that another element has"),
+        cause: Some("two packages with one name; a document put together from two"),
+    },
+    Entry {
+        name: "Repeated",
+        kind: Kind::DocumentFault { number: 9 },
+        meaning: Some("a field that is allowed once appears again"),
+        cause: Some("two PackageVersion lines; a PackageName that is missing between two packages"),
+    },
+    Entry {
+        name: "BadRelationship",
+        kind: Kind::DocumentFault { number: 10 },
+        meaning: Some("not three words A TYPE B of the right form"),
+        cause: Some(
+            "wanted: an id as in 7, perhaps behind DocumentRef-NAME:; a type in capitals and _; such an id, NONE or NOASSERTION. Not: describes in small letters, as reuse writes it, dependsOn, a package's name for its id, a comment behind",
+        ),
+    },
+    Entry {
+        name: "TooLarge",
+        kind: Kind::DocumentFault { number: 11 },
+        meaning: Some("more than 4 MiB"),
+        cause: Some("a list of each file: write documents for parts of it"),
+    },
+    Entry {
+        name: "TooManyElements",
+        kind: Kind::DocumentFault { number: 12 },
+        meaning: Some("the 10,001st package, file, snippet or extracted licence"),
+        cause: Some("the same"),
+    },
+];
+
+/// The faults of expressions, by number.
+pub(crate) const EXPRESSION_FAULTS: [Entry; 7] = [
+    Entry {
+        name: "Empty",
+        kind: Kind::ExpressionFault { number: 1 },
+        meaning: Some("there is nothing (at 0)"),
+        cause: None,
+    },
+    Entry {
+        name: "BadToken",
+        kind: Kind::ExpressionFault { number: 2 },
+        meaning: Some("a run of characters that is no word of an expression"),
+        cause: None,
+    },
+    Entry {
+        name: "Unexpected",
+        kind: Kind::ExpressionFault { number: 3 },
+        meaning: Some("a word or parenthesis that isn't allowed there, or the text ends too early"),
+        cause: None,
+    },
+    Entry {
+        name: "Unclosed",
+        kind: Kind::ExpressionFault { number: 4 },
+        meaning: Some("a parenthesis that isn't closed: the last one that was opened"),
+        cause: None,
+    },
+    Entry {
+        name: "TooDeep",
+        kind: Kind::ExpressionFault { number: 5 },
+        meaning: Some("the 65th parenthesis that is open at once"),
+        cause: None,
+    },
+    Entry {
+        name: "TooLong",
+        kind: Kind::ExpressionFault { number: 6 },
+        meaning: Some("more than 16,384 bytes (at 0)"),
+        cause: None,
+    },
+    Entry {
+        name: "TooManyTerms",
+        kind: Kind::ExpressionFault { number: 7 },
+        meaning: Some("the 1,025th term"),
+        cause: None,
+    },
+];
+
+/// The faults of files and trees beside those.
+pub(crate) const OTHER_FAULTS: [Entry; 3] = [
+    Entry {
+        name: "BadVersion",
+        kind: Kind::OtherFault { place: "--db FILE" },
+        meaning: Some("its tables are of another version than 3"),
+        cause: Some("an older desk: desk migrate; or a newer one"),
+    },
+    Entry {
+        name: "NotADesk",
+        kind: Kind::OtherFault { place: "--db FILE" },
+        meaning: Some("a table, index or view too many, too few or of another form"),
+        cause: Some("a database of something else"),
+    },
+    Entry {
+        name: "ExpressionTooLong",
+        kind: Kind::OtherFault {
+            place: "desk gather",
+        },
+        meaning: Some("a file's licences can't be joined to one expression"),
+        cause: Some("a limit of expressions"),
+    },
+];
+
+/// The faults of catalogues, by number.
+pub(crate) const CATALOGUE_FAULTS: [Entry; 8] = [
+    Entry {
+        name: "NotToml",
+        kind: Kind::CatalogueFault { number: 1 },
+        meaning: Some("the text is no TOML document; neither part nor index"),
+        cause: Some("a quote or bracket that isn't closed, a key that appears twice"),
+    },
+    Entry {
+        name: "Missing",
+        kind: Kind::CatalogueFault { number: 2 },
+        meaning: Some("forms, or a key of a table, is absent"),
+        cause: Some(
+            "a rule without duties: a rule that owes nothing has duties = []; a text without body",
+        ),
+    },
+    Entry {
+        name: "BadKind",
+        kind: Kind::CatalogueFault { number: 3 },
+        meaning: Some("a value of another kind, or outside its limits"),
+        cause: Some(
+            "one form that is no list, a blank or underscore in a code, an empty title, [duty] for [[duty]], [text] for [[text]]",
+        ),
+    },
+    Entry {
+        name: "BadTerm",
+        kind: Kind::CatalogueFault { number: 4 },
+        meaning: Some(
+            "the term of a rule can't be read, or is a reference; the licence of a text is no such id",
+        ),
+        cause: Some(
+            "an expression with AND or OR: a rule is for one term; a text for GPL-2.0+, which is that of GPL-2.0",
+        ),
+    },
+    Entry {
+        name: "UnknownForm",
+        kind: Kind::CatalogueFault { number: 5 },
+        meaning: Some("the form of a rule isn't in forms"),
+        cause: Some("another spelling; forms compare byte for byte"),
+    },
+    Entry {
+        name: "UnknownDuty",
+        kind: Kind::CatalogueFault { number: 6 },
+        meaning: Some("a code of a rule has no [[duty]]"),
+        cause: Some("a slip in the code"),
+    },
+    Entry {
+        name: "Twice",
+        kind: Kind::CatalogueFault { number: 7 },
+        meaning: Some(
+            "a form, a code, a term with its form, a code within a rule or the licence of a text appears twice; reported at the later one",
+        ),
+        cause: Some("a rule that was copied to be changed, MIT beside mit"),
+    },
+    Entry {
+        name: "TooLarge",
+        kind: Kind::CatalogueFault { number: 8 },
+        meaning: Some("more than 4 MiB; neither part nor index"),
+        cause: None,
+    },
+];
