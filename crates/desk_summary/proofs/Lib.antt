@@ -1,1 +1,2 @@
 mod Standings
+mod Lines

@@ -1,5 +1,5 @@
 -- How one more package of a list stands.
-use Rattle.std.proofs.Common.{◌≡◌, ◌∙◌, ◌+◌, ◌<◌, ℕ, suc, Bool, false, List, [], ◌∷◌, ◌++◌, Option, length, drop, drop-cons, get_or, add-one, append_assoc, sym, ap}
+use Rattle.std.proofs.Common.{◌≡◌, ◌∙◌, ◌+◌, ◌<◌, ℕ, Bool, false, List, [], ◌∷◌, ◌++◌, Option, length, drop, drop-cons, get_or, add-one, append_assoc, sym, ap}
 use Rattle.std.specs.Prelude.{map, slice_index_or}
 use Rattle.desk_expr.specs.Tree.{Tree}
 use Rattle.desk_tagvalue.specs.Parts.{PackageText}

@@ -7,7 +7,7 @@ ghost use Rattle.desk_tagvalue.specs.Entries.{value_text};
 ghost use Rattle.desk_summary.specs.Summaries.{is_licence};
 
 use desk_base::Profile;
-use desk_expr::{ParseFault, parse_in};
+use desk_expr::{Expr, ParseFault, parse_in};
 use desk_findings::is_no_licence;
 use std::alloc::{AllocError, Global};
 
@@ -21,17 +21,28 @@ fn told(fault: ParseFault) -> Result<(), AllocError>
     }
 }
 
+/// The expression that a value is by the profile of operators, if it is one.
+pub(crate) fn expression_in(
+    alloc: Global,
+    text: &str,
+    profile: Profile,
+) -> Result<Option<Expr>, AllocError>
+    ensures { (reads : List ℕ → Option Tree) → IsReading profile reads → IfOk result (λ tree. tree ≡ reads text.now) }
+{
+    match parse_in(alloc, text, profile) {
+        Ok(expression) => Ok(Some(expression)),
+        Err(fault) => {
+            told(fault)?;
+            Ok(None)
+        }
+    }
+}
+
 // Whether a value is an expression by the profile of operators.
 fn is_read(alloc: Global, text: &str, profile: Profile) -> Result<bool, AllocError>
     ensures { (reads : List ℕ → Option Tree) → IsReading profile reads → IfOk result (λ is. is ≡ is_some (reads text.now)) }
 {
-    match parse_in(alloc, text, profile) {
-        Ok(_expression) => Ok(true),
-        Err(fault) => {
-            told(fault)?;
-            Ok(false)
-        }
-    }
+    Ok(expression_in(alloc, text, profile)?.is_some())
 }
 
 /// Whether a field tells of a licence: it is an expression by the profile of operators, and neither `NONE` nor `NOASSERTION`.

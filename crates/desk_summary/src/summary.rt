@@ -1,6 +1,6 @@
 //! How the packages of a document stand, and its findings.
 
-ghost use Rattle.std.specs.Prelude.{◌≡◌, ℕ, List, IfOk, Option, Bool, false, drop, map, slice_index_or};
+ghost use Rattle.std.specs.Prelude.{◌≡◌, ℕ, List, IfOk, Option, Bool, false, count_by, drop, map, slice_index_or};
 ghost use Rattle.desk_expr.specs.Tree.{Tree};
 ghost use Rattle.desk_findings.specs.Fields.{IsReading};
 ghost use Rattle.desk_tagvalue.specs.Documents.{document_text};
@@ -51,7 +51,7 @@ const KINDS: [FindingKind; 11] = [
 ];
 
 impl Standing {
-    fn is(self, other: Standing) -> bool
+    pub(crate) fn is(self, other: Standing) -> bool
         ensures { result ≡ same_standing self other }
     {
         match (self, other) {
@@ -64,15 +64,19 @@ impl Standing {
     }
 }
 
+/// How many of some packages stand so.
+pub(crate) fn count_of(standings: &[Standing], standing: Standing) -> usize
+    ensures { result ≡ count_by (same_standing standing) standings.now }
+{
+    standings.iter().filter(|one| standing.is(**one)).count()
+}
+
 impl Summary {
     /// How many packages stand so.
     pub fn standing_count(&self, standing: Standing) -> usize
         ensures { result ≡ standing_count standing self.now }
     {
-        self.standings
-            .iter()
-            .filter(|one| standing.is(**one))
-            .count()
+        count_of(self.standings.as_slice(), standing)
     }
 
     /// How many findings are of the kind with a number.
@@ -87,7 +91,7 @@ impl Summary {
 }
 
 // The first of some marks, and those behind it.
-fn first_of(marks: &[bool]) -> (bool, &[bool])
+pub(crate) fn first_of(marks: &[bool]) -> (bool, &[bool])
     ensures first { result.0 ≡ slice_index_or marks.now 0 false }
     ensures behind { result.1.now ≡ drop 1 marks.now }
 {
@@ -97,7 +101,8 @@ fn first_of(marks: &[bool]) -> (bool, &[bool])
     }
 }
 
-fn standing_of(
+// How a package stands.
+pub(crate) fn standing_of(
     alloc: Global,
     text: &Package<'_>,
     ships: bool,
