@@ -9,7 +9,8 @@ with its Nth allocation refused, until a run makes fewer. Then
 - an audit and a migration of a file, behind its opening and once in the midst of that, tell their answer, or nothing but their words; the
   file is as it was, or, migrated, has the rows of a migration whole;
 - a script over a file does so too, and may fail to open or to close it, with its words;
-- so do the document and the problems of a tree; the words may also be those of a folder or a file that found no memory;
+- so do the proposals for a document, and the document and the problems of a tree; the words may also be those of a folder or a file that found
+  no memory;
 - a desk that is served, from its first connection on, replies to each as it would, but for one: that is replied 503 with "memory", and the
   others as without its request; or, if it isn't GET, with "reply", and the others as with it. It may fail to close its file, with its words;
 - a script tells its replies with its status; or one reply is {"fault":"memory"}, the status is 3 with its words, and the other replies
@@ -139,7 +140,7 @@ class Check:
 
 
 class Tree(Check):
-    """A run of `gather` or `lint`, and what may be told where memory is wanting."""
+    """A run of `propose`, `gather` or `lint`, and what may be told where memory is wanting."""
 
     def is_right(self, stdout, status, stderr):
         return super().is_right(stdout, status, stderr) or (stdout, status) == (b"", 3) and UNREAD.fullmatch(stderr)
@@ -229,7 +230,7 @@ class Serve:
         return [place for place in range(len(self.requests)) if place not in self.told]
 
 
-KINDS = {"script": Script, "check": Check, "alternatives": Check, "gather": Tree, "lint": Tree}
+KINDS = {"script": Script, "check": Check, "alternatives": Check, "propose": Tree, "gather": Tree, "lint": Tree}
 TEXTS = {"notices": "r1", "duties": "r1", "totals": "r1", "changes": "1"}
 KINDS.update((word, Shown) for word in TEXTS)
 
@@ -431,7 +432,7 @@ def cases():
         words = words_of(listed) if os.path.isfile(listed) and os.path.getsize(listed) <= BYTES else []
         if words[:1] in (["check"], ["alternatives"]):
             yield name, words, b"", None, None
-        elif words[:1] in (["gather"], ["lint"]):
+        elif words[:1] in (["propose"], ["gather"], ["lint"]):
             yield name, words, b"", data, None
         elif os.path.isfile(script) and is_of_tree(script):
             yield name, [], b"", data, script

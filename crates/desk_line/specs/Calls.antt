@@ -11,7 +11,8 @@ use Rattle.desk_line.specs.Fields.{if_stands}
 use Rattle.desk_line.specs.Numbers.{number_written}
 use Rattle.desk_line.specs.Words.{desk_app}
 use Rattle.desk_line.specs.declared.call.Call.{Call}
-use Rattle.desk_line.specs.declared.call.Call.TheVariants.{Check, Alternatives, Script, Import, Catalogue, Notices, Duties, Totals, Changes, Audit, Migrate, Gather, Lint, Serve}
+use Rattle.desk_line.specs.declared.call.Call.TheVariants.{Check, Alternatives, Script, File, Gather, Lint, Explain, Propose}
+use Rattle.desk_line.specs.declared.call.FileCall.TheVariants.{Import, Catalogue, Notices, Duties, Totals, Changes, Audit, Migrate, Serve}
 use Rattle.desk_line.specs.declared.reports.Release.{Release}
 use Rattle.desk_line.specs.declared.call.LineFault.{LineFault}
 use Rattle.desk_line.specs.declared.call.LineFault.TheVariants.{Memory, Usage}
@@ -44,12 +45,12 @@ script_in rows = Script (first_of (codes "FILE") rows) (is_true (first_of (codes
 
 -- the call of `import` with these values
 abbrev pub import_in : List Row → Option Call
-import_in rows = option_and_then (λ database. option_and_then (λ document. option_map (λ profile. Import database document profile)
+import_in rows = option_and_then (λ database. option_and_then (λ document. option_map (λ profile. File database (Import document profile))
     (profile_in rows)) (first_of (codes "DOC") rows)) (first_of (codes "FILE") rows)
 
 -- the call of `catalogue` with these values
 abbrev pub catalogue_in : List Row → Option Call
-catalogue_in rows = option_and_then (λ database. option_map (λ catalogue. Catalogue database catalogue) (first_of (codes "TOML") rows)) (first_of (codes "FILE") rows)
+catalogue_in rows = option_and_then (λ database. option_map (λ catalogue. File database (Catalogue catalogue)) (first_of (codes "TOML") rows)) (first_of (codes "FILE") rows)
 
 -- a value that can stand in a field
 abbrev pub field_in : Text → List Row → Option Text
@@ -70,7 +71,7 @@ number_in bits id rows = option_and_then (number_written bits) (one_of id rows)
 
 -- the call of `serve` with these values
 abbrev pub serve_in : List Row → Option Call
-serve_in rows = option_and_then (λ database. option_and_then (λ port. option_map (λ limit. Serve database port limit)
+serve_in rows = option_and_then (λ database. option_and_then (λ port. option_map (λ limit. File database (Serve port limit))
     (number_in 32 (codes "N") rows)) (number_in 16 (codes "PORT") rows)) (first_of (codes "FILE") rows)
 
 -- the file that keeps the desk, and the release
@@ -80,26 +81,35 @@ release_in rows = option_and_then (λ database. option_map (λ release. let foun
 
 -- the calls of those that hand out a text about a release
 abbrev pub notices_in : List Row → Option Call
-notices_in rows = option_map (λ found. Notices found.database found.release) (release_in rows)
+notices_in rows = option_map (λ found. File found.database (Notices found.release)) (release_in rows)
 
 abbrev pub duties_in : List Row → Option Call
-duties_in rows = option_map (λ found. Duties found.database found.release) (release_in rows)
+duties_in rows = option_map (λ found. File found.database (Duties found.release)) (release_in rows)
 
 abbrev pub totals_in : List Row → Option Call
-totals_in rows = option_map (λ found. Totals found.database found.release) (release_in rows)
+totals_in rows = option_map (λ found. File found.database (Totals found.release)) (release_in rows)
 
 -- the call of `changes` with these values
 abbrev pub changes_in : List Row → Option Call
-changes_in rows = option_and_then (λ database. option_map (λ duty. Changes database duty)
+changes_in rows = option_and_then (λ database. option_map (λ duty. File database (Changes duty))
     (number_in 32 (codes "DUTY") rows)) (first_of (codes "FILE") rows)
 
 -- the call of `audit` with these values
 abbrev pub audit_in : List Row → Option Call
-audit_in rows = option_map Audit (first_of (codes "FILE") rows)
+audit_in rows = option_map (λ database. File database Audit) (first_of (codes "FILE") rows)
 
 -- the call of `migrate` with these values
 abbrev pub migrate_in : List Row → Option Call
-migrate_in rows = option_map Migrate (first_of (codes "FILE") rows)
+migrate_in rows = option_map (λ database. File database Migrate) (first_of (codes "FILE") rows)
+
+-- the call of `explain` with these values
+abbrev pub explain_in : List Row → Option Call
+explain_in rows = option_map Explain (first_of (codes "NAME") rows)
+
+-- the call of `propose` with these values
+abbrev pub propose_in : List Row → Option Call
+propose_in rows = option_and_then (λ document. option_and_then (λ number. option_map (λ profile. Propose document number profile)
+    (profile_in rows)) (number_in 32 (codes "N") rows)) (first_of (codes "DOC") rows)
 
 -- the call of a subcommand with these values
 abbrev pub call_in : Text → List Row → Option Call
@@ -118,6 +128,8 @@ call_in name rows =
     else if bytes_eq name (codes "gather") then gather_in rows
     else if bytes_eq name (codes "lint") then lint_in rows
     else if bytes_eq name (codes "serve") then serve_in rows
+    else if bytes_eq name (codes "explain") then explain_in rows
+    else if bytes_eq name (codes "propose") then propose_in rows
     else None
 
 -- the call of the subcommand that was met, if any

@@ -130,5 +130,24 @@ abbrev pub reading_app : App
 reading_app = with_subcommand (with_subcommand auditing_app gather_app.top) lint_app.top
 
 -- and with the one that replies over HTTP
+abbrev pub serving_app : App
+serving_app = with_subcommand reading_app serve_app.top
+
+-- `explain NAME`
+abbrev pub explain_app : App
+explain_app = with_rule (new_app (codes "explain")) (word (codes "NAME"))
+
+-- and with the one that says what a name means
+abbrev pub explaining_app : App
+explaining_app = with_subcommand serving_app explain_app.top
+
+-- `propose [--profile PROFILE] --document N DOC`, by the numbers that a document may have
+abbrev pub numbered_app : App
+numbered_app = with_rule (with_rule (new_app (codes "propose")) profile_option) (number_option (codes "N") (codes "document") 4294967295)
+
+abbrev pub propose_app : App
+propose_app = with_rule numbered_app (word (codes "DOC"))
+
+-- and with the one that proposes conclusions
 abbrev pub desk_app : App
-desk_app = with_subcommand reading_app serve_app.top
+desk_app = with_subcommand explaining_app propose_app.top

@@ -5,7 +5,7 @@ ghost use Rattle.clap.specs.Words.{found_of, rows_of};
 ghost use Rattle.desk_line.specs.Calls.{audit_in};
 
 use crate::arguments::{Argument, DATABASE};
-use crate::call::Call;
+use crate::call::{Call, FileCall};
 use crate::subcommands::Help;
 use crate::values::text_in;
 use clap::ArgMatches;
@@ -64,8 +64,9 @@ pub(crate) fn audit_from(
     ensures { IfOk result (λ r. r ≡ audit_in (rows_of (found_of matches.now))) }
 {
     match text_in(matches, "FILE") {
-        Some(database) => Ok(Some(Call::Audit {
+        Some(database) => Ok(Some(Call::File {
             database: Text::of(alloc, database)?,
+            call: FileCall::Audit,
         })),
         None => Ok(None),
     }

@@ -27,17 +27,10 @@ pub enum Call {
         explain: bool,
         stop: bool,
     },
-    /// The import of a document, the file of which has this path, by the desk that is kept in a file. Operators of its licence
-    /// expressions are written by the profile.
-    Import {
+    /// What the desk that is kept in a file is to do, or what is to be done with the file.
+    File {
         database: Text,
-        document: Text,
-        profile: Profile,
-    },
-    /// The loading of a catalogue, the file of which has this path, by the desk that is kept in a file.
-    Catalogue {
-        database: Text,
-        catalogue: Text,
+        call: FileCall,
     },
     /// The document of the tree of files in a folder, with its name, its namespace and when it was made.
     Gather {
@@ -46,46 +39,45 @@ pub enum Call {
         namespace: Text,
         created: Text,
     },
-    /// Replies over HTTP by the desk that is kept in a file, at a port of this machine's own address, to so many connections. Port 0
-    /// is one that is free.
-    Serve {
-        database: Text,
-        port: u16,
-        limit: u32,
-    },
-    /// The notices of a release of the desk that is kept in a file.
-    Notices {
-        database: Text,
-        release: Text,
-    },
-    /// The table of the duties of a release of the desk that is kept in a file.
-    Duties {
-        database: Text,
-        release: Text,
-    },
-    /// How many duties of a release of the desk that is kept in a file are in which state.
-    Totals {
-        database: Text,
-        release: Text,
-    },
-    /// The changes of a duty of the desk that is kept in a file.
-    Changes {
-        database: Text,
-        duty: u32,
-    },
-    /// The audit of the tables of a file.
-    Audit {
-        database: Text,
-    },
-    /// The migration of a file of an older version to this one's tables.
-    Migrate {
-        database: Text,
-    },
     /// The problems of the tree of files in a folder, as one JSON object or as lines.
     Lint {
         folder: Text,
         json: bool,
     },
+    /// What a name that the desk prints means.
+    Explain {
+        name: Text,
+    },
+    /// The conclusions that are proposed for the document with a number, the file of which has this path. Operators of its licence
+    /// expressions are written by the profile.
+    Propose {
+        document: Text,
+        number: u32,
+        profile: Profile,
+    },
+}
+
+/// A subcommand for the file that keeps a desk, with its other values.
+#[derive(Drop)]
+pub enum FileCall {
+    /// The import of a document, the file of which has this path. Operators of its licence expressions are written by the profile.
+    Import { document: Text, profile: Profile },
+    /// The loading of a catalogue, the file of which has this path.
+    Catalogue { catalogue: Text },
+    /// The notices of a release.
+    Notices { release: Text },
+    /// The table of the duties of a release.
+    Duties { release: Text },
+    /// How many duties of a release are in which state.
+    Totals { release: Text },
+    /// The changes of a duty.
+    Changes { duty: u32 },
+    /// The audit of its tables.
+    Audit,
+    /// The migration of a file of an older version to this one's tables.
+    Migrate,
+    /// Replies over HTTP, at a port of this machine's own address, to so many connections. Port 0 is one that is free.
+    Serve { port: u16, limit: u32 },
 }
 
 /// Why a command line gave no call.

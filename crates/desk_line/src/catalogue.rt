@@ -5,7 +5,7 @@ ghost use Rattle.clap.specs.Words.{found_of, rows_of};
 ghost use Rattle.desk_line.specs.Calls.{catalogue_in};
 
 use crate::arguments::{Argument, DATABASE, Form};
-use crate::call::Call;
+use crate::call::{Call, FileCall};
 use crate::subcommands::Help;
 use crate::values::text_in;
 use clap::ArgMatches;
@@ -74,8 +74,10 @@ pub(crate) fn catalogue_from(
     let Some(catalogue) = text_in(matches, "TOML") else {
         return Ok(None);
     };
-    Ok(Some(Call::Catalogue {
-        database: Text::of(alloc, database)?,
-        catalogue: Text::of(alloc, catalogue)?,
+    let database = Text::of(alloc, database)?;
+    let catalogue = Text::of(alloc, catalogue)?;
+    Ok(Some(Call::File {
+        database,
+        call: FileCall::Catalogue { catalogue },
     }))
 }

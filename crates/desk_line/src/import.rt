@@ -5,7 +5,7 @@ ghost use Rattle.clap.specs.Words.{found_of, rows_of};
 ghost use Rattle.desk_line.specs.Calls.{import_in};
 
 use crate::arguments::{Argument, DATABASE, Form, PROFILE};
-use crate::call::Call;
+use crate::call::{Call, FileCall};
 use crate::subcommands::Help;
 use crate::values::{profile_in, text_in};
 use clap::ArgMatches;
@@ -82,9 +82,10 @@ pub(crate) fn import_from(
     let Some(profile) = profile_in(matches) else {
         return Ok(None);
     };
-    Ok(Some(Call::Import {
-        database: Text::of(alloc, database)?,
-        document: Text::of(alloc, document)?,
-        profile,
+    let database = Text::of(alloc, database)?;
+    let document = Text::of(alloc, document)?;
+    Ok(Some(Call::File {
+        database,
+        call: FileCall::Import { document, profile },
     }))
 }

@@ -5,7 +5,7 @@ ghost use Rattle.clap.specs.Words.{found_of, rows_of};
 ghost use Rattle.desk_line.specs.Calls.{changes_in, duties_in, notices_in, number_in, release_in, totals_in};
 
 use crate::arguments::{Argument, DATABASE, Form};
-use crate::call::Call;
+use crate::call::{Call, FileCall};
 use crate::subcommands::Help;
 use crate::values::text_in;
 use clap::ArgMatches;
@@ -153,7 +153,10 @@ pub(crate) fn notices_from(
     ensures { IfOk result (λ r. r ≡ notices_in (rows_of (found_of matches.now))) }
 {
     match release_in(alloc, matches)? {
-        Some(Release { database, release }) => Ok(Some(Call::Notices { database, release })),
+        Some(Release { database, release }) => Ok(Some(Call::File {
+            database,
+            call: FileCall::Notices { release },
+        })),
         None => Ok(None),
     }
 }
@@ -166,7 +169,10 @@ pub(crate) fn duties_from(
     ensures { IfOk result (λ r. r ≡ duties_in (rows_of (found_of matches.now))) }
 {
     match release_in(alloc, matches)? {
-        Some(Release { database, release }) => Ok(Some(Call::Duties { database, release })),
+        Some(Release { database, release }) => Ok(Some(Call::File {
+            database,
+            call: FileCall::Duties { release },
+        })),
         None => Ok(None),
     }
 }
@@ -179,7 +185,10 @@ pub(crate) fn totals_from(
     ensures { IfOk result (λ r. r ≡ totals_in (rows_of (found_of matches.now))) }
 {
     match release_in(alloc, matches)? {
-        Some(Release { database, release }) => Ok(Some(Call::Totals { database, release })),
+        Some(Release { database, release }) => Ok(Some(Call::File {
+            database,
+            call: FileCall::Totals { release },
+        })),
         None => Ok(None),
     }
 }
@@ -198,5 +207,8 @@ pub(crate) fn changes_from(
         return Ok(None);
     };
     let database = Text::of(alloc, database)?;
-    Ok(Some(Call::Changes { database, duty }))
+    Ok(Some(Call::File {
+        database,
+        call: FileCall::Changes { duty },
+    }))
 }

@@ -5,7 +5,7 @@ ghost use Rattle.clap.specs.Words.{found_of, rows_of};
 ghost use Rattle.desk_line.specs.Calls.{number_in, serve_in};
 
 use crate::arguments::{Argument, DATABASE, Form};
-use crate::call::Call;
+use crate::call::{Call, FileCall};
 use crate::subcommands::Help;
 use crate::values::text_in;
 use clap::ArgMatches;
@@ -102,9 +102,8 @@ pub(crate) fn serve_from(
         return Ok(None);
     };
     let database = Text::of(alloc, database)?;
-    Ok(Some(Call::Serve {
+    Ok(Some(Call::File {
         database,
-        port,
-        limit,
+        call: FileCall::Serve { port, limit },
     }))
 }

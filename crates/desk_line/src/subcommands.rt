@@ -9,7 +9,8 @@ ghost use Rattle.desk_line.specs.Words.{desk_alone, desk_app};
 
 use crate::arguments::{Argument, args};
 use crate::{
-    alternatives, audit, catalogue, check, gather, import, lint, migrate, reports, script, serve,
+    alternatives, audit, catalogue, check, explain, gather, import, lint, migrate, propose,
+    reports, script, serve,
 };
 use clap::Command;
 use std::alloc::{AllocError, Global};
@@ -42,6 +43,8 @@ pub(crate) enum Kind {
     Gather,
     Lint,
     Serve,
+    Explain,
+    Propose,
 }
 
 /// A subcommand: its name and its arguments.
@@ -53,7 +56,7 @@ pub(crate) struct Subcommand {
 }
 
 /// The subcommands.
-pub(crate) const SUBCOMMANDS: [Subcommand; 14] = [
+pub(crate) const SUBCOMMANDS: [Subcommand; 16] = [
     Subcommand {
         kind: Kind::Check,
         name: "check",
@@ -124,6 +127,16 @@ pub(crate) const SUBCOMMANDS: [Subcommand; 14] = [
         name: "serve",
         arguments: &serve::ARGUMENTS,
     },
+    Subcommand {
+        kind: Kind::Explain,
+        name: "explain",
+        arguments: &explain::ARGUMENTS,
+    },
+    Subcommand {
+        kind: Kind::Propose,
+        name: "propose",
+        arguments: &propose::ARGUMENTS,
+    },
 ];
 
 /// The help of a subcommand.
@@ -150,6 +163,8 @@ fn help_of(kind: Kind) -> Help {
         Kind::Gather => gather::HELP,
         Kind::Lint => lint::HELP,
         Kind::Serve => serve::HELP,
+        Kind::Explain => explain::HELP,
+        Kind::Propose => propose::HELP,
     }
 }
 

@@ -9,10 +9,12 @@ use crate::audit::audit_from;
 use crate::call::Call;
 use crate::catalogue::catalogue_from;
 use crate::check::check_from;
+use crate::explain::explain_from;
 use crate::gather::gather_from;
 use crate::import::import_from;
 use crate::lint::lint_from;
 use crate::migrate::migrate_from;
+use crate::propose::propose_from;
 use crate::reports::{changes_from, duties_from, notices_from, totals_from};
 use crate::script::script_from;
 use crate::serve::serve_from;
@@ -100,6 +102,8 @@ pub fn call_from(
         Some(Kind::Gather) => gather_from(alloc, matches),
         Some(Kind::Lint) => lint_from(alloc, matches),
         Some(Kind::Serve) => serve_from(alloc, matches),
+        Some(Kind::Explain) => explain_from(alloc, matches),
+        Some(Kind::Propose) => propose_from(alloc, matches),
         None => Ok(None),
     }
 }

@@ -13,11 +13,13 @@ mod serving;
 mod summaries;
 mod trouble;
 
+use crate::input::bytes_at;
 use crate::scripts::Course;
 use desk_base::{Profile, Text};
 use desk_core::desk::MemDesk;
-use desk_line::{Call, LineFault, line};
-use desk_subcommands::{Failure, alternatives, lint, tell_blanks};
+use desk_explain::TABLES;
+use desk_line::{Call, FileCall, LineFault, line};
+use desk_subcommands::{Failure, alternatives, tell_blanks};
 use desk_texts::Standard;
 use desk_trees::files_of;
 use std::alloc::{AllocError, Global};
@@ -89,7 +91,7 @@ fn check<R: Print>(
 }
 
 /// Replies to the requests of standard input on a desk in memory.
-fn script(rt: &HostRuntime, alloc: Global, course: Course) -> Result<u8, Failure> {
+fn script_in_memory(rt: &HostRuntime, alloc: Global, course: Course) -> Result<u8, Failure> {
     keep_large_blocks(alloc);
     // The process ends with the script, so the desk is left to the system and not freed row by row.
     let mut desk = ManuallyDrop::new(MemDesk::new(alloc, Standard));
@@ -97,30 +99,97 @@ fn script(rt: &HostRuntime, alloc: Global, course: Course) -> Result<u8, Failure
     scripts::script(rt, &mut *desk, &mut writer, course)
 }
 
-/// Writes the document of a source tree. The licences that it can't hold are looked for in the tree as it stands then.
+/// Replies to the requests of standard input on the desk that a file keeps, or on one in memory.
+fn script(
+    rt: &HostRuntime,
+    alloc: Global,
+    database: &Option<Text>,
+    course: Course,
+) -> Result<u8, Failure> {
+    match database {
+        Some(path) => database::script(rt, path.as_str(), course),
+        None => script_in_memory(rt, alloc, course),
+    }
+}
+
+/// Says which licences the document of a source tree can't hold. They are looked for in the tree as it is by now.
+fn tell_blanks_in(rt: &HostRuntime, folder: &str) -> Result<(), Failure> {
+    let files = files_of(rt, folder, false)?;
+    tell_blanks(rt.alloc(), files.as_slice(), &mut rt.stderr())
+}
+
+/// Writes the document of a source tree.
 fn gather(
     rt: &HostRuntime,
-    folder: &str,
-    name: &str,
-    namespace: &str,
-    created: &str,
+    folder: &Text,
+    name: &Text,
+    namespace: &Text,
+    created: &Text,
     is_watched: bool,
 ) -> Result<u8, Failure> {
-    let files = files_of(rt, folder, is_watched)?;
+    let files = files_of(rt, folder.as_str(), is_watched)?;
     let gathered = desk_subcommands::gather(
         rt.alloc(),
         files,
-        name,
-        namespace,
-        created,
+        name.as_str(),
+        namespace.as_str(),
+        created.as_str(),
         &mut io::writer(rt),
         &mut rt.stderr(),
     );
     if let Err(Failure::BadValue) = &gathered {
-        let files = files_of(rt, folder, false)?;
-        tell_blanks(rt.alloc(), files.as_slice(), &mut rt.stderr())?;
+        // Where they can't be named, the failure still says what is wrong.
+        let _told = tell_blanks_in(rt, folder.as_str());
     }
     gathered
+}
+
+/// Writes what is wrong in a source tree.
+fn lint(
+    rt: &HostRuntime,
+    alloc: Global,
+    folder: &str,
+    json: bool,
+    is_watched: bool,
+) -> Result<u8, Failure> {
+    let files = files_of(rt, folder, is_watched)?;
+    desk_subcommands::lint(alloc, files.as_slice(), json, &mut io::writer(rt))
+}
+
+/// Writes what a name means.
+fn explain<R: Print>(rt: &R, alloc: Global, name: &str) -> Result<u8, Failure> {
+    desk_subcommands::explain(alloc, &TABLES, name, &mut io::writer(rt))
+}
+
+/// Writes the conclusions that are proposed for a document, which the desk knows by a number.
+fn propose(rt: &HostRuntime, path: &str, number: u32, profile: Profile) -> Result<u8, Failure> {
+    let bytes = bytes_at(rt, path)?;
+    desk_subcommands::propose(
+        rt.alloc(),
+        &Standard,
+        number,
+        bytes.as_slice(),
+        profile,
+        &mut io::writer(rt),
+        &mut rt.stderr(),
+    )
+}
+
+/// Does what is asked of the desk that a file keeps.
+fn answer_of_file(rt: &HostRuntime, path: &str, call: &FileCall) -> Result<u8, Failure> {
+    match call {
+        FileCall::Import { document, profile } => {
+            database::import(rt, path, document.as_str(), *profile)
+        }
+        FileCall::Catalogue { catalogue } => database::load(rt, path, catalogue.as_str()),
+        FileCall::Notices { release } => database::notices(rt, path, release),
+        FileCall::Duties { release } => database::duties(rt, path, release),
+        FileCall::Totals { release } => database::totals(rt, path, release),
+        FileCall::Changes { duty } => database::changes(rt, path, *duty),
+        FileCall::Audit => database::audit(rt, path),
+        FileCall::Migrate => database::migrate(rt, path),
+        FileCall::Serve { port, limit } => database::serve(rt, path, *port, *limit),
+    }
 }
 
 fn answer(rt: &HostRuntime, alloc: Global, call: &Call, is_watched: bool) -> Result<u8, Failure> {
@@ -143,44 +212,22 @@ fn answer(rt: &HostRuntime, alloc: Global, call: &Call, is_watched: bool) -> Res
                 is_explained: *explain || is_watched,
                 is_stopped: *stop,
             };
-            match database {
-                Some(path) => database::script(rt, path.as_str(), course),
-                None => script(rt, alloc, course),
-            }
+            script(rt, alloc, database, course)
         }
-        Call::Import {
-            database,
-            document,
-            profile,
-        } => database::import(rt, database.as_str(), document.as_str(), *profile),
-        Call::Catalogue {
-            database,
-            catalogue,
-        } => { database::load(rt, database.as_str(), catalogue.as_str()) }
-        Call::Notices { database, release } => database::notices(rt, database.as_str(), release),
-        Call::Duties { database, release } => database::duties(rt, database.as_str(), release),
-        Call::Totals { database, release } => database::totals(rt, database.as_str(), release),
-        Call::Changes { database, duty } => database::changes(rt, database.as_str(), *duty),
-        Call::Audit { database } => database::audit(rt, database.as_str()),
-        Call::Migrate { database } => database::migrate(rt, database.as_str()),
-        Call::Serve {
-            database,
-            port,
-            limit,
-        } => database::serve(rt, database.as_str(), *port, *limit),
+        Call::File { database, call } => answer_of_file(rt, database.as_str(), call),
         Call::Gather {
             folder,
             name,
             namespace,
             created,
-        } => {
-            let (name, namespace, created) = (name.as_str(), namespace.as_str(), created.as_str());
-            gather(rt, folder.as_str(), name, namespace, created, is_watched)
-        }
-        Call::Lint { folder, json } => {
-            let files = files_of(rt, folder.as_str(), is_watched)?;
-            lint(alloc, files.as_slice(), *json, &mut io::writer(rt))
-        }
+        } => gather(rt, folder, name, namespace, created, is_watched),
+        Call::Lint { folder, json } => lint(rt, alloc, folder.as_str(), *json, is_watched),
+        Call::Explain { name } => explain(rt, alloc, name.as_str()),
+        Call::Propose {
+            document,
+            number,
+            profile,
+        } => propose(rt, document.as_str(), *number, *profile),
     }
 }
 

@@ -5,7 +5,6 @@ use Rattle.std.specs.Io.KnownBytes.{Appends}
 use Rattle.desk_rows.specs.declared.command.Answer.{Answer}
 use Rattle.desk_rows.specs.declared.command.Outcome.{Outcome}
 use Rattle.desk_rows.specs.declared.command.Outcome.TheVariants as outcome_is
-use Rattle.desk_rows.specs.declared.command.Fault.{Fault}
 use Rattle.desk_subcommands.specs.Failures.{OfRequest}
 use Rattle.desk_subcommands.specs.Filing.{answer_status, outcome_line}
 use Rattle.desk_subcommands.specs.declared.failure.Failure.{Failure}
@@ -33,4 +32,5 @@ module _ (Comes : Outcome → Type 0) (line : Answer → List ℕ) (old new : Op
   failed outcome (Err (failure.Listen port trouble)) comes told = absurd told
   failed outcome (Err (failure.Connections count)) comes told = absurd told
   failed outcome (Err (failure.Tree fault)) comes told = absurd told
+  failed outcome (Err (failure.UnknownName name)) comes told = absurd told
   failed outcome (Err failure.BadValue) comes told = absurd told

@@ -1,9 +1,10 @@
 -- What holds after a failure.
-use Rattle.std.specs.Prelude.{ℕ}
+use Rattle.std.specs.Prelude.{◌≡◌, ℕ, List}
+use Rattle.std.specs.String.{string_bytes}
 use Rattle.desk_rows.specs.declared.command.Fault.{Fault}
 use Rattle.desk_script.specs.declared.serving.ScriptFault.{ScriptFault}
 use Rattle.desk_subcommands.specs.declared.failure.Failure.{Failure}
-use Rattle.desk_subcommands.specs.declared.failure.Failure.TheVariants.{Memory, Write, Script, Failed, Request, BadValue}
+use Rattle.desk_subcommands.specs.declared.failure.Failure.TheVariants.{Memory, Write, Script, Failed, Request, BadValue, UnknownName}
 
 -- the fact holds where memory was wanting
 abbrev pub IfMemory : Type 0 → Failure → Type 0
@@ -19,11 +20,13 @@ IfBadValue fact _ = Unit {0}
 abbrev pub IfUntold : Type 0 → Failure → Type 0
 IfUntold fact (Memory error) = fact
 IfUntold fact BadValue = fact
+IfUntold fact (UnknownName name) = fact
 IfUntold fact _ = Unit {0}
 
--- the program's status: the command line is wrong, where a value can't stand; or a fault
+-- the program's status: the command line is wrong, where a value can't stand or is no name; or a fault
 abbrev pub failure_status : Failure → ℕ
 failure_status BadValue = 2
+failure_status (UnknownName name) = 2
 failure_status _ = 3
 
 -- what holds where a script stopped by a fault, which the failure tells, and where so many of its requests failed; it has no other
@@ -50,3 +53,8 @@ IsOfOutput _ = ⊥
 abbrev pub IsOfDocument : Failure → Type 0
 IsOfDocument BadValue = Unit {0}
 IsOfDocument failure = IsOfOutput failure
+
+-- and of a name: nothing has it
+abbrev pub IsOfName : List ℕ → Type 0 → Failure → Type 0
+IsOfName name nothing (UnknownName told) = (string_bytes told ≡ name) × nothing
+IsOfName name nothing failure = IsOfOutput failure

@@ -8,3 +8,5 @@ pub mod Troubles
 pub mod Showing
 pub mod Auditing
 pub mod Migrating
+pub mod Meaning
+pub mod Proposing

@@ -42,6 +42,9 @@ pub enum Failure {
     /// The files of a tree can't be had.
     #[error("{0}")]
     Tree(TreeFault),
+    /// Nothing that the desk prints has this name.
+    #[error("nothing is named {0:?}; see docs/REFUSALS.md and the pages that it cites")]
+    UnknownName(String),
     /// Some value of a document can't be read back from its field.
     #[error("a value cannot stand in its field of the document: a licence of a REUSE.toml has blanks at its ends")]
     BadValue,
@@ -51,12 +54,12 @@ impl Failure {
     ghost use Rattle.std.specs.Prelude.{◌≡◌};
     ghost use Rattle.desk_subcommands.specs.Failures.{failure_status};
 
-    /// The program's status: 2 where a value can't stand in its field, and else 3.
+    /// The program's status: 2 where a value can't stand in its field or is no name, and else 3.
     pub fn status(&self) -> u8
         ensures { result ≡ failure_status self.now }
     {
         match self {
-            Failure::BadValue => 2,
+            Failure::BadValue | Failure::UnknownName(_) => 2,
             _ => 3,
         }
     }

@@ -10,6 +10,8 @@
 //! - `tell_report` writes what an audit reports (`specs/Auditing.antt`), `tell_migration` which versions a migration went from and to
 //!   (`specs/Migrating.antt`).
 //! - `gather` writes the document of a tree of files (`specs/Gathering.antt`), `lint` what is wrong in it (`specs/Linting.antt`).
+//! - `propose` writes the conclusions that are proposed for a document (`specs/Proposing.antt`).
+//! - `explain` writes what a name means (`specs/Meaning.antt`).
 //! - `Failure` and `Trouble` say in words what failed, and what to do.
 #![tactic(auto)]
 
@@ -21,7 +23,9 @@ mod filing;
 mod gathering;
 mod linting;
 mod listing;
+mod meaning;
 mod migrating;
+mod proposing;
 mod report;
 mod scripting;
 mod showing;
@@ -35,7 +39,9 @@ pub use filing::{NoDesk, catalogue, import, refuse_catalogue, refuse_database, t
 pub use gathering::gather;
 pub use linting::{lint, tell_blanks};
 pub use listing::alternatives;
+pub use meaning::explain;
 pub use migrating::tell_migration;
+pub use proposing::propose;
 pub use scripting::script;
 pub use showing::show;
 pub use trouble::{PortTrouble, Trouble};

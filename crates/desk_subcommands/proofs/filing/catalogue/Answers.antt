@@ -1,4 +1,3 @@
-use Rattle.desk_rows.specs.declared.command.Answer.{Answer}
 use Rattle.desk_rows.specs.declared.command.Command.TheVariants.{LoadCatalogue}
 use Rattle.desk_rows.specs.declared.command.Outcome.TheVariants.{Answered}
 use Rattle.desk_subcommands.specs.Filing.{Comes, outcome_line}

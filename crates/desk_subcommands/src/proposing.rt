@@ -1,0 +1,103 @@
+//! The conclusions that are proposed for a document, written out.
+
+ghost use Rattle.std.specs.Prelude.{◌≡◌, ℕ, List, Option, IfOk, IfErr};
+ghost use Rattle.std.specs.Io.KnownBytes.{Appends, Keeps};
+ghost use Rattle.desk_expr.specs.Tree.{Tree};
+ghost use Rattle.desk_findings.specs.Fields.{IsReading};
+ghost use Rattle.desk_rows.specs.Readings.{Readings};
+ghost use Rattle.desk_tagvalue.specs.Documents.{document_text};
+ghost use Rattle.desk_subcommands.specs.Failures.{IfMemory, IsOfOutput};
+ghost use Rattle.desk_subcommands.specs.Proposing.{HasLines, IsRefused, Proposes};
+
+use crate::failure::Failure;
+use crate::filing::tell;
+use desk_access::texts::Texts;
+use desk_base::Profile;
+use desk_rows::{Answer, Outcome, Refusal};
+use desk_summary::{Proposals, proposals_of};
+use desk_tagvalue::{Document, read};
+use std::alloc::{AllocError, Global};
+use std::io::Write;
+
+// Tells how many conclusions are proposed beside the lines, which may go into a file.
+fn tell_counts<T: Write>(
+    alloc: Global,
+    profile: Profile,
+    proposals: &Proposals,
+    teller: &mut T,
+) -> Result<(), Failure> {
+    let profile = profile.number();
+    let told = format!(in alloc; "read by profile {profile}: {proposals}\n")?;
+    teller.write_all(told.as_bytes())?;
+    Ok(())
+}
+
+// Writes the lines of a document.
+fn write_lines<W: Write, T: Write>(
+    alloc: Global,
+    number: u32,
+    document: &Document<'_>,
+    profile: Profile,
+    writer: &mut W,
+    teller: &mut T,
+) -> Result<u8, Failure>
+    ensures told { (reads : List ℕ → Option Tree) → IsReading profile reads → IfOk result (λ status. (text : List ℕ)
+        × HasLines reads number (document_text document.now) text status
+        × Appends (W.contents writer.old) (W.contents writer.new) text) }
+    ensures fails { IfErr result IsOfOutput }
+    ensures memory { IfErr result (IfMemory (Keeps (W.contents writer.old) (W.contents writer.new))) }
+{
+    let proposals = proposals_of(alloc, number, document, profile)?;
+    writer.write_all(proposals.lines.as_bytes())?;
+    writer.flush()?;
+    // Where that can't be told, the lines are written all the same.
+    let _told = tell_counts(alloc, profile, &proposals, teller);
+    Ok(0)
+}
+
+// Writes the reply to an import of bytes that are no document.
+fn refuse<X: Texts, W: Write>(
+    alloc: Global,
+    texts: &X,
+    bytes: &[u8],
+    writer: &mut W,
+) -> Result<u8, Failure>
+    ensures told { (w : Readings) → X.are_right w → IfOk result (λ status. (text : List ℕ)
+        × IsRefused w bytes.now text status × Appends (W.contents writer.old) (W.contents writer.new) text) }
+    ensures fails { IfErr result IsOfOutput }
+    ensures memory { IfErr result (IfMemory (Keeps (W.contents writer.old) (W.contents writer.new))) }
+{
+    match texts.document(alloc, bytes)? {
+        Err(fault) => {
+            let refusal = Refusal::BadDocument(fault);
+            tell(alloc, &Outcome::Answered(Answer::Refused(refusal)), writer)
+        }
+        // It is a document, and there was no memory to read it.
+        Ok(_document) => Err(Failure::Memory(AllocError)),
+    }
+}
+
+/// Writes the requests that conclude, for each package of a document that ships without a conclusion, its declared licence, and returns
+/// the program's status. The desk knows the document by a number, and its licence expressions are read by the profile. Bytes that are no
+/// document get the reply that an import of them has. How many conclusions are proposed, and how many packages are left out, is told to
+/// another writer.
+pub fn propose<X: Texts, W: Write, T: Write>(
+    alloc: Global,
+    texts: &X,
+    number: u32,
+    bytes: &[u8],
+    profile: Profile,
+    writer: &mut W,
+    teller: &mut T,
+) -> Result<u8, Failure>
+    ensures told { (w : Readings) (reads : List ℕ → Option Tree) → X.are_right w → IsReading profile reads
+        → IfOk result (λ status. (text : List ℕ) × Proposes w reads number bytes.now text status
+        × Appends (W.contents writer.old) (W.contents writer.new) text) }
+    ensures fails { IfErr result IsOfOutput }
+    ensures memory { IfErr result (IfMemory (Keeps (W.contents writer.old) (W.contents writer.new))) }
+{
+    match read(alloc, bytes) {
+        Ok(document) => write_lines(alloc, number, &document, profile, writer, teller),
+        Err(_fault) => refuse(alloc, texts, bytes, writer),
+    }
+}
