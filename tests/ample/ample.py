@@ -9,6 +9,7 @@ import json
 import os
 import subprocess
 import sys
+import tempfile
 
 SECONDS = 120
 KIB, MIB = 1_024, 1_048_576
@@ -430,6 +431,20 @@ def a_hundred_thousand_duties():
     yield "100,000 duties", steps
 
 
+def opened_again():
+    """50 packages of a thousand duties each in a file, and what it tells once it is opened again."""
+    codes = sorted(f"duty-{n:03}" for n in range(1_000))
+    ids = sorted(f"SPDXRef-{n:02}" for n in range(50))
+    steps = [load(catalogue(codes=codes)), take(HEAD + "".join(map(package, ids))), opened(), attached()]
+    yield "50,000 duties in a file", steps + [choose(["MIT"], spdx_id=spdx_id) for spdx_id in ids] + [frozen(50_000)]
+    rows = ((spdx_id, code) for spdx_id in ids for code in codes)
+    told = [[n, 1, spdx_id, "mit", "MIT", code, "open", "2025-03-03"] for n, (spdx_id, code) in enumerate(rows, 1)]
+    steps = [duties(told), (line(do="meet", duty=50_000, day="2025-03-04", text="t"), DONE)]
+    yield "50,000 duties in a file that is opened again", steps
+    told[-1][6:] = ["met", "2025-03-04"]
+    yield "and once more", [(line(ask="totals", release="r"), line(rows=[[50_000, 49_999, 1, 0, 0]])), duties(told)]
+
+
 def long_lines():
     asked = line(ask="totals", release="r").rstrip("\n")
     unknown = refused(12, "UnknownRelease")
@@ -490,12 +505,13 @@ def checks():
         yield [expression, "MIT"], f"fault: {told}"
 
 
-def cases():
-    for table in SCRIPTS:
+def cases(path):
+    for table in SCRIPTS + (opened_again,):
+        words = ["script", "--db", path] if table is opened_again else ["script"]
         for name, steps in table():
             requests, replies = "".join(step[0] for step in steps), "".join(step[1] for step in steps)
             status = 1 if '"refused":' in replies or NO_REQUEST in replies else 0
-            yield name, ["script"], requests, replies, status
+            yield name, words, requests, replies, status
     for words, told in checks():
         yield f"check {words[0]:.20} {words[-1]:.20} ..", ["check", *words], "", told + "\n", 0 if told == "minimal" else 1
 
@@ -525,13 +541,14 @@ def failure(program, words, requests, wanted, status):
 def main():
     program = os.path.abspath(sys.argv[1])
     passed, failed = 0, 0
-    for name, words, requests, wanted, status in cases():
-        wrong = failure(program, words, requests, wanted, status)
-        if wrong is None:
-            passed += 1
-        else:
-            failed += 1
-            print(f"{name}: {wrong}")
+    with tempfile.TemporaryDirectory() as room:
+        for name, words, requests, wanted, status in cases(os.path.join(room, "desk.db")):
+            wrong = failure(program, words, requests, wanted, status)
+            if wrong is None:
+                passed += 1
+            else:
+                failed += 1
+                print(f"{name}: {wrong}")
     print(f"{passed} passed, {failed} failed")
     sys.exit(1 if failed or not passed else 0)
 
