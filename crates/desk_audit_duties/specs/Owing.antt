@@ -6,12 +6,19 @@ use Rattle.std.specs.Cmp.{IsTotalOrder}
 use Rattle.std.specs.Cmp.Lexicographic.{slice_cmp}
 use Rattle.std.specs.declared.cmp.Ordering.{Ordering}
 use Rattle.std.proofs.lemmas.Cmp.{int_cmp_total, on_total, then_total, nat_list_cmp_total}
-use Rattle.desk_snapshot.specs.Conditions.{Owed}
+use Rattle.desk_snapshot.specs.Conditions.{Owed, owed_for, owed_of}
 use Rattle.desk_audit_duties.specs.declared.owed.OwedFor.{OwedFor}
+use Rattle.desk_audit_duties.specs.declared.owed.OwedFor.TheVariants.{Code, Duty}
+use Rattle.desk_audit_duties.specs.declared.owed.Reason.{Reason}
 
--- what a duty is owed for, by texts that are borrowed
+-- what a duty is owed for, by the row that says so
 abbrev pub owed_in : OwedFor → Owed
-owed_in x = record {
+owed_in (Code row code) = owed_for row.now code.now
+owed_in (Duty row) = owed_of row.now
+
+-- and by texts that are borrowed
+abbrev pub reason_in : Reason → Owed
+reason_in x = record {
   release = x.release.now;
   document = x.document;
   package_id = x.package_id.now;

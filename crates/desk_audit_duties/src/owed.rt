@@ -4,16 +4,23 @@ ghost use Rattle.std.specs.Prelude.{◌≡◌, ◌==◌, ◌<◌, ◌++◌, ℕ,
 ghost use Rattle.std.specs.List.{slice_split};
 ghost use Rattle.std.specs.List.Sorted.{IsSorted};
 ghost use Rattle.desk_snapshot.specs.Conditions.{codes_in, owed_by, owed_for, owed_of};
-ghost use Rattle.desk_audit_duties.specs.Owing.{are_alike, owed_in, owed_order, texts};
+ghost use Rattle.desk_audit_duties.specs.Owing.{are_alike, owed_in, owed_order, reason_in, texts};
 
 use crate::rules::Ruling;
 use desk_snapshot::{StoredDuty, StoredFrozen};
 use std::alloc::{AllocError, Global};
 use std::cmp::Ordering;
 
-/// What a duty is owed for.
+/// What a duty is owed for, by the row that says so: one of the codes of a frozen term, or the duty itself.
 #[derive(Clone, Copy)]
-pub(crate) struct OwedFor<'a> {
+pub(crate) enum OwedFor<'a> {
+    Code(&'a StoredFrozen, &'a str),
+    Duty(&'a StoredDuty),
+}
+
+/// The same, in full.
+#[derive(Clone, Copy)]
+struct Reason<'a> {
     release: &'a str,
     document: i64,
     package_id: &'a str,
@@ -22,12 +29,11 @@ pub(crate) struct OwedFor<'a> {
     rule: &'a str,
 }
 
-impl<'a> OwedFor<'a> {
-    /// What a frozen term owes by one of its codes.
-    fn by(row: &'a StoredFrozen, code: &'a str) -> OwedFor<'a>
-        ensures { owed_in result ≡ owed_for row.now code.now }
+impl<'a> Reason<'a> {
+    fn by_code(row: &'a StoredFrozen, code: &'a str) -> Reason<'a>
+        ensures { reason_in result ≡ owed_for row.now code.now }
     {
-        OwedFor {
+        Reason {
             release: row.release.as_str(),
             document: row.document,
             package_id: row.package_id.as_str(),
@@ -37,11 +43,10 @@ impl<'a> OwedFor<'a> {
         }
     }
 
-    /// What a duty is owed for.
-    fn of(row: &'a StoredDuty) -> OwedFor<'a>
-        ensures { owed_in result ≡ owed_of row.now }
+    fn of_duty(row: &'a StoredDuty) -> Reason<'a>
+        ensures { reason_in result ≡ owed_of row.now }
     {
-        OwedFor {
+        Reason {
             release: row.release.as_str(),
             document: row.document,
             package_id: row.package_id.as_str(),
@@ -51,8 +56,8 @@ impl<'a> OwedFor<'a> {
         }
     }
 
-    fn compare(&self, other: &OwedFor<'_>) -> Ordering
-        ensures { result ≡ owed_order (owed_in self.now) (owed_in other.now) }
+    fn compare(&self, other: &Reason<'_>) -> Ordering
+        ensures { result ≡ owed_order (reason_in self.now) (reason_in other.now) }
     {
         let reason = self
             .term
@@ -63,6 +68,23 @@ impl<'a> OwedFor<'a> {
             .cmp(&other.document)
             .then(self.package_id.cmp(other.package_id).then(reason));
         self.release.cmp(other.release).then(package)
+    }
+}
+
+impl<'a> OwedFor<'a> {
+    fn reason(&self) -> Reason<'a>
+        ensures { reason_in result ≡ owed_in self.now }
+    {
+        match self {
+            OwedFor::Code(row, code) => Reason::by_code(row, code),
+            OwedFor::Duty(row) => Reason::of_duty(row),
+        }
+    }
+
+    fn compare(&self, other: &OwedFor<'_>) -> Ordering
+        ensures { result ≡ owed_order (owed_in self.now) (owed_in other.now) }
+    {
+        self.reason().compare(&other.reason())
     }
 }
 
@@ -84,7 +106,7 @@ fn push_codes<'a>(
 {
     for code in codes {
         if !code.is_empty() {
-            owed.push(OwedFor::by(row, code))?;
+            owed.push(OwedFor::Code(row, code))?;
         }
     }
     Ok(())
@@ -137,7 +159,7 @@ pub(crate) fn owed_of_all(
 {
     let mut owed = Vec::new(alloc);
     for duty in duties {
-        owed.push(OwedFor::of(duty))?;
+        owed.push(OwedFor::Duty(duty))?;
     }
     Ok(owed)
 }
