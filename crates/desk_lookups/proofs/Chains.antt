@@ -1,5 +1,5 @@
 -- One call after another.
-use Rattle.std.proofs.Common.{Result, Ok, Err, IfOk}
+use Rattle.std.proofs.Common.{Result, Ok, Err}
 use Rattle.sqlite_trees.specs.Tree.{Trees}
 use Rattle.desk_rows.specs.Tables.{Tables}
 use Rattle.desk_access.specs.Seen.{Seen, Kept, Same, Looked, OfRows}
@@ -27,11 +27,6 @@ module _ (a b c : Seen Trees) (first : Same a b) where
   pub then_looked : {A : Type 0} (r : Result A Fault) → Looked b c r → Looked a c r
   then_looked (Ok x) looked = same_then_same looked
   then_looked (Err e) looked = same_then_kept looked
-
--- what follows from what is known of a value
-pub if_ok : {A E : Type 0} (P Q : A → Type 0) (r : Result A E) → ((x : A) → P x → Q x) → IfOk r P → IfOk r Q
-if_ok P Q (Ok x) f p = f x p
-if_ok P Q (Err e) f p = tt
 
 pub looked_honest : (b c : Seen Trees) {A : Type 0} (r : Result A Fault) → Looked b c r → c.is_honest → b.is_honest
 looked_honest b c (Ok x) looked clean = looked.kept.spared.honest clean

@@ -1,4 +1,4 @@
-use Rattle.std.proofs.Common.{◌≡◌, ap, not, ◌∙◌}
+use Rattle.std.proofs.Common.{ap, not, ◌∙◌}
 use Rattle.desk_rows.specs.Keys.{is_choice_of}
 use Rattle.desk_lookups.proofs.HolderLemmas.{holding}
 use Rattle.desk_lookups.proofs.holders.is_holding.Goals as goal

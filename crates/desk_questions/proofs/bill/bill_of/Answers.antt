@@ -1,4 +1,4 @@
-use Rattle.std.proofs.Common.{◌≡◌, ◌∙◌, ap}
+use Rattle.std.proofs.Common.{◌∙◌, ap}
 use Rattle.std.specs.List.{flat_map}
 use Rattle.desk_rows.specs.Bills.{first_uses, package_texts}
 use Rattle.desk_history.specs.FromTables.{shipped_found}
