@@ -112,22 +112,22 @@ LIMITS = [
 def check_names():
     refusals = text_of("docs/REFUSALS.md")
     first = refusals.split("\n## ", 1)[0]
-    compare("docs/REFUSALS.md", rows_of(first), defined("desk_rows", "Numbers", "refusal_number"))
-    names = defined("desk_rows", "Names", "refusal_name")
+    compare("docs/REFUSALS.md", rows_of(first), defined("desk_model", "Numbers", "refusal_number"))
+    names = defined("desk_model", "Names", "refusal_name")
     compare("the names of refusals", {name: name for name in rows_of(first)}, names)
     for heading, function in (
         ("## Faults of a document, in BadDocument", "document_fault_number"),
         ("## Faults of an expression", "expression_fault_number"),
     ):
-        compare(heading, rows_of(section(refusals, heading)), defined("desk_rows", "FaultNumbers", function))
+        compare(heading, rows_of(section(refusals, heading)), defined("desk_model", "FaultNumbers", function))
     faults = rows_of(section(text_of("docs/CATALOGUE.md"), "## Faults"))
-    compare("docs/CATALOGUE.md", faults, defined("desk_rows", "FaultNumbers", "catalogue_fault_number"))
+    compare("docs/CATALOGUE.md", faults, defined("desk_model", "FaultNumbers", "catalogue_fault_number"))
     requests = text_of("docs/REQUESTS.md")
     findings = section(requests, "### findings: what in a document isn't as the standard has it")
     compare("the kinds of findings", rows_of(findings), defined("desk_findings", "Kinds", "kind_number"))
     words = re.search(r"^\| 27 \| Full \| the limit: (.*?) \|", first, flags=re.M).group(1)
     listed = {word: word for word in re.findall(r"`(\w+)`", words)}
-    compare("the limits that Full names", listed, {n: n for n in defined("desk_rows", "Names", "limit_name").values()})
+    compare("the limits that Full names", listed, {n: n for n in defined("desk_model", "Names", "limit_name").values()})
 
 
 def check_examples():
@@ -231,7 +231,7 @@ def check_words():
 
 def check_tables():
     """The names by which a file that is no desk is told apart are those of the tables that a desk declares, in their order."""
-    tables = text_of("crates/desk_adopting/src/forms.rt")
+    tables = text_of("crates/desk_sql_adopt/src/forms.rt")
     declared = re.findall(r"^    TableForm \{\n        name: \"(\w+)\",$", tables, flags=re.M)
     told = re.search(r"^const NAMES: .*?= \[\n(.*?)^\];$", text_of("crates/desk_program/src/differences.rt"), flags=re.M | re.S)
     names = re.findall(r"\"(\w+)\"", told.group(1)) if told else []

@@ -2,11 +2,11 @@
 use Rattle.std.proofs.Common.{◌≡◌, inl, inr, subst, arith}
 use Rattle.std.specs.Prelude.{Result, Ok, Err, IfOk}
 use Rattle.std.specs.Result.{IsErr}
-use Rattle.desk_rows.specs.declared.command.Fault.{Fault}
-use Rattle.desk_rows.specs.declared.command.Answer.{Answer}
-use Rattle.desk_rows.specs.declared.command.Change.{Change}
-use Rattle.desk_rows.specs.declared.command.Plan.{Plan}
-use Rattle.desk_rows.specs.Tables.{Tables}
+use Rattle.desk_model.specs.declared.command.Fault.{Fault}
+use Rattle.desk_model.specs.declared.command.Answer.{Answer}
+use Rattle.desk_model.specs.declared.command.Change.{Change}
+use Rattle.desk_model.specs.declared.command.Plan.{Plan}
+use Rattle.desk_model.specs.Tables.{Tables}
 use Rattle.desk_access.specs.Plans.{IsPlan, Plans}
 use Rattle.desk_access.specs.Seen.{Seen, Outlasts, Spared, Kept, Same, Looked, OfRows}
 

@@ -1,14 +1,14 @@
 -- Which changes go on from the rows of some tables. A store owes nothing to any other change.
 use Rattle.std.specs.Prelude.{◌≡◌, ℕ, ◌+◌, ◌≤◌, Bool, true, false, ◌==◌, ◌&&◌, nat_lt, List, [], ◌∷◌, length, map, is_some}
 use Rattle.std.specs.List.{list_all}
-use Rattle.desk_rows.specs.Tables.{Tables}
-use Rattle.desk_rows.specs.declared.row.DutyRow.{DutyRow}
-use Rattle.desk_rows.specs.declared.row.ChangeRow.{ChangeRow}
-use Rattle.desk_rows.specs.declared.command.Change.{Change}
-use Rattle.desk_rows.specs.declared.command.Change.TheVariants as change
+use Rattle.desk_model.specs.Tables.{Tables}
+use Rattle.desk_model.specs.declared.row.DutyRow.{DutyRow}
+use Rattle.desk_model.specs.declared.row.ChangeRow.{ChangeRow}
+use Rattle.desk_model.specs.declared.command.Change.{Change}
+use Rattle.desk_model.specs.declared.command.Change.TheVariants as change
 use Rattle.desk_base.specs.Limits as most
-use Rattle.desk_rows.specs.Keys.{is_choice_of, is_duty_of}
-use Rattle.desk_rows.specs.States.{is_open}
+use Rattle.desk_model.specs.Keys.{is_choice_of, is_duty_of}
+use Rattle.desk_model.specs.States.{is_open}
 use Rattle.desk_history.specs.FromTables.{steps_found, duty_found, release_found}
 
 -- the duties are numbered on from n

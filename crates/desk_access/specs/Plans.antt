@@ -1,15 +1,15 @@
 -- What a command comes to over the rows of some tables, before anything is written, and the writing of it.
 use Rattle.std.specs.Prelude.{◌≡◌, Bool, true, false, Result, Ok, Err}
-use Rattle.desk_rows.specs.Readings.{Readings}
-use Rattle.desk_rows.specs.Tables.{Tables}
-use Rattle.desk_rows.specs.Answers.{is_recorded}
-use Rattle.desk_rows.specs.declared.command.Answer.{Answer}
-use Rattle.desk_rows.specs.declared.command.Change.{Change}
-use Rattle.desk_rows.specs.declared.command.Command.{Command}
-use Rattle.desk_rows.specs.declared.command.Fault.{Fault}
-use Rattle.desk_rows.specs.declared.command.Fault.TheVariants.{Memory, Store}
-use Rattle.desk_rows.specs.declared.command.Plan.{Plan}
-use Rattle.desk_rows.specs.declared.command.Plan.TheVariants.{Leave, Make}
+use Rattle.desk_model.specs.Readings.{Readings}
+use Rattle.desk_model.specs.Tables.{Tables}
+use Rattle.desk_model.specs.Answers.{is_recorded}
+use Rattle.desk_model.specs.declared.command.Answer.{Answer}
+use Rattle.desk_model.specs.declared.command.Change.{Change}
+use Rattle.desk_model.specs.declared.command.Command.{Command}
+use Rattle.desk_model.specs.declared.command.Fault.{Fault}
+use Rattle.desk_model.specs.declared.command.Fault.TheVariants.{Memory, Store}
+use Rattle.desk_model.specs.declared.command.Plan.{Plan}
+use Rattle.desk_model.specs.declared.command.Plan.TheVariants.{Leave, Make}
 use Rattle.desk_history.specs.FromTables.{answer_from, change_for}
 use Rattle.desk_access.specs.Seen.{Seen, Same, Kept, Made, Failed}
 

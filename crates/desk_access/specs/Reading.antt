@@ -1,8 +1,8 @@
 -- What a reader tells of the text of an expression.
 use Rattle.std.specs.Prelude.{◌≡◌, ℕ, true, false, List, [], Option, Some, None, Ok}
 use Rattle.desk_base.specs.declared.profile.Profile.{Profile}
-use Rattle.desk_rows.specs.Readings.{Readings}
-use Rattle.desk_rows.specs.declared.reading.Verdict.TheVariants.{NotEnough}
+use Rattle.desk_model.specs.Readings.{Readings}
+use Rattle.desk_model.specs.declared.reading.Verdict.TheVariants.{NotEnough}
 
 -- the text is no expression: no terms are enough for it, and it has neither sets of terms nor a cheapest one
 pub record IsNone (w : Readings) (profile : Profile) (text : List ℕ) : Type 0 where

@@ -1,10 +1,10 @@
 -- What is seen of a store, and what a call may do to it.
 use Rattle.std.specs.Prelude.{◌≡◌, ◌⊎◌, ℕ, ◌+◌, ◌-◌, ◌^◌, ◌≤◌, min, true, false, Result, Ok, Err}
-use Rattle.desk_rows.specs.Tables.{Tables, applied}
-use Rattle.desk_rows.specs.Answers.{is_recorded}
-use Rattle.desk_rows.specs.declared.command.Change.{Change}
-use Rattle.desk_rows.specs.declared.command.Answer.{Answer}
-use Rattle.desk_rows.specs.declared.command.Fault.{Fault}
+use Rattle.desk_model.specs.Tables.{Tables, applied}
+use Rattle.desk_model.specs.Answers.{is_recorded}
+use Rattle.desk_model.specs.declared.command.Change.{Change}
+use Rattle.desk_model.specs.declared.command.Answer.{Answer}
+use Rattle.desk_model.specs.declared.command.Fault.{Fault}
 use Rattle.desk_access.specs.Follows.{Follows}
 
 -- What is seen of a store. `Left` is what a stop of the program may leave of it.

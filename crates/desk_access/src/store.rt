@@ -4,20 +4,20 @@ ghost use Rattle.std.specs.Prelude.{◌≡◌, ℕ, Bool, ◌+◌, ◌<◌, ◌^
 ghost use Rattle.std.specs.Option.{option_map};
 ghost use Rattle.std.specs.List.{list_any};
 ghost use Rattle.std.specs.Str.{bytes_eq};
-ghost use Rattle.desk_rows.specs.Keys.{is_attachment, is_change_of, is_choice_of, is_document, is_duty_of, is_package, is_shipped_by, has_namespace};
-ghost use Rattle.desk_rows.specs.Bills.{extracted_text, revision_text};
-ghost use Rattle.desk_rows.specs.Tables.{Tables};
+ghost use Rattle.desk_model.specs.Keys.{is_attachment, is_change_of, is_choice_of, is_document, is_duty_of, is_package, is_shipped_by, has_namespace};
+ghost use Rattle.desk_model.specs.Bills.{extracted_text, revision_text};
+ghost use Rattle.desk_model.specs.Tables.{Tables};
 ghost use Rattle.desk_access.specs.Seen.{Seen, Looked, OfRows, Wrote};
-ghost use Rattle.desk_rows.specs.Faults.{MayFail};
-ghost use Rattle.desk_rows.specs.History.{attached_to, rule_for};
-ghost use Rattle.desk_rows.specs.Queries.{last_day, totals_of};
-ghost use Rattle.desk_rows.specs.Conclusions.{licence_for, office_text};
-ghost use Rattle.desk_rows.specs.Findings.{source_of};
+ghost use Rattle.desk_model.specs.Faults.{MayFail};
+ghost use Rattle.desk_model.specs.History.{attached_to, rule_for};
+ghost use Rattle.desk_model.specs.Queries.{last_day, totals_of};
+ghost use Rattle.desk_model.specs.Conclusions.{licence_for, office_text};
+ghost use Rattle.desk_model.specs.Findings.{source_of};
 ghost use Rattle.desk_history.specs.FromTables.{adoption_count, holder_found, release_found, rules_found, duty_found, steps_found, standings_found, ended_found, known_import, known_document};
-ghost use Rattle.desk_rows.specs.declared.command.StoreFault.{StoreFault};
+ghost use Rattle.desk_model.specs.declared.command.StoreFault.{StoreFault};
 
 use desk_base::{Day, Items, Text};
-use desk_rows::{
+use desk_model::{
     AttachedRow, Change, ChangeRow, DutyRow, Fault, FrozenRow, PackageRow, Profile, ReleaseRow,
     Rule, Standing, Totals,
 };

@@ -1,13 +1,13 @@
 //! What reads the texts that a desk is given.
 
 ghost use Rattle.std.specs.Prelude.{◌≡◌, ℕ, List, Option, IfOk, map};
-ghost use Rattle.desk_rows.specs.Listings.{IsCost};
-ghost use Rattle.desk_rows.specs.Readings.{Readings};
+ghost use Rattle.desk_model.specs.Listings.{IsCost};
+ghost use Rattle.desk_model.specs.Readings.{Readings};
 ghost use Rattle.desk_access.specs.Reading.{TellsExpression};
 ghost use Rattle.desk_base.specs.declared.profile.Profile.{Profile};
 
 use desk_base::{Items, Text};
-use desk_rows::{
+use desk_model::{
     Catalogue, CatalogueFault, Cheapest, Document, DocumentFault, ExpressionFault, FindingRow,
     LicenceText, ListFault, Profile, Verdict,
 };

@@ -1,7 +1,7 @@
 -- The first condition that isn't met: of two lists of conditions one after the other, and of all ten.
 use Rattle.std.proofs.Common.{◌≡◌, ◌⊎◌, ℕ, zero, suc, ◌+◌, ◌<◌, ◌≤◌, List, [], ◌∷◌, ◌++◌, Option, Some, None, Result, Ok, Err, IfOk, inl, inr, refl, sym, ap, subst, ◌∙◌, arith}
 use Rattle.std.specs.Prelude.{◌==◌, if◌then◌else◌}
-use Rattle.desk_rows.specs.Readings.{Readings}
+use Rattle.desk_model.specs.Readings.{Readings}
 use Rattle.desk_snapshot.specs.Reports.{audit_number, IsFirst, IsReport, Meets}
 use Rattle.desk_snapshot.specs.declared.fault.AuditFault.{AuditFault}
 use Rattle.desk_snapshot.specs.declared.fault.AuditFault.TheVariants.{BadMeta, BadRevision, BadRule, BadDocument, BadPackage, BadChoice, BadNumber, BadDuty, BadChange, BadState}

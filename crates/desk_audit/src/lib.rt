@@ -6,7 +6,7 @@
 
 ghost use Rattle.std.specs.Prelude.{◌≡◌, pos, [], ◌∷◌, IfOk};
 ghost use Rattle.std.specs.Bool.{Decides};
-ghost use Rattle.desk_rows.specs.Readings.{Readings};
+ghost use Rattle.desk_model.specs.Readings.{Readings};
 ghost use Rattle.desk_snapshot.specs.Reports.{IsFirst, IsReport};
 ghost use Rattle.desk_snapshot.specs.declared.fault.AuditFault.TheVariants.{BadChange, BadChoice, BadDocument, BadDuty, BadMeta, BadNumber, BadPackage, BadRevision, BadRule, BadState};
 ghost use Rattle.desk_texts.specs.Right.{AreRight};

@@ -5,7 +5,7 @@ use Rattle.std.specs.Ordering.{int_eq}
 use Rattle.std.specs.Str.{bytes_eq}
 use Rattle.std.proofs.lemmas.Bool.Decides.{Decides-int_eq}
 use Rattle.desk_base.proofs.Texts.{texts_equal}
-use Rattle.desk_rows.specs.Readings.{Readings}
+use Rattle.desk_model.specs.Readings.{Readings}
 use Rattle.desk_snapshot.specs.Conditions.{is_choice}
 use Rattle.desk_snapshot.specs.Rows.{is_choice_of}
 use Rattle.desk_snapshot.specs.declared.rows.StoredChoice.{StoredChoice}

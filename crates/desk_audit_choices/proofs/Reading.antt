@@ -3,8 +3,8 @@ use Rattle.std.proofs.Common.{◌≡◌, ℕ, pos, ◌&&◌, false, true, List, 
 use Rattle.std.specs.Option.{option_map_or}
 use Rattle.std.specs.Ordering.{int_eq}
 use Rattle.desk_base.specs.declared.profile.Profile.{Profile}
-use Rattle.desk_rows.specs.Readings.{Readings}
-use Rattle.desk_rows.specs.declared.reading.Conclusion.{Conclusion}
+use Rattle.desk_model.specs.Readings.{Readings}
+use Rattle.desk_model.specs.declared.reading.Conclusion.{Conclusion}
 use Rattle.desk_snapshot.specs.Conditions.{are_minimal, conclusion_at, ships_under}
 use Rattle.desk_snapshot.specs.declared.rows.StoredPackage.{StoredPackage}
 use Rattle.desk_snapshot.specs.declared.snapshot.Snapshot.{Snapshot}

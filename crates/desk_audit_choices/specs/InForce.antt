@@ -1,9 +1,9 @@
 -- What is read of the conclusion in force for a package.
 use Rattle.std.specs.Prelude.{◌≡◌, ℕ, List, Option, Some, None}
 use Rattle.desk_base.specs.declared.profile.Profile.{Profile}
-use Rattle.desk_rows.specs.Readings.{Readings}
-use Rattle.desk_rows.specs.declared.reading.Conclusion.{Conclusion}
-use Rattle.desk_rows.specs.declared.reading.Verdict.TheVariants.{NotEnough}
+use Rattle.desk_model.specs.Readings.{Readings}
+use Rattle.desk_model.specs.declared.reading.Conclusion.{Conclusion}
+use Rattle.desk_model.specs.declared.reading.Verdict.TheVariants.{NotEnough}
 
 module _ {E : Type 0} (is_of : Profile → List ℕ → E → Type 0) where
   -- the expression that the conclusion is; or none, where no terms are enough for the conclusion or there is none

@@ -2,10 +2,10 @@
 
 ghost use Rattle.std.specs.Prelude.{◌≡◌, IfOk};
 ghost use Rattle.std.specs.List.{list_all};
-ghost use Rattle.desk_rows.specs.Readings.{Readings};
+ghost use Rattle.desk_model.specs.Readings.{Readings};
 
 use desk_access::texts::Texts;
-use desk_rows::Profile;
+use desk_model::Profile;
 use desk_snapshot::StoredConclusion;
 use std::alloc::{AllocError, Global};
 

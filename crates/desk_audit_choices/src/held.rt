@@ -4,7 +4,7 @@ ghost use Rattle.std.specs.Prelude.{◌≡◌, ℕ, List, ◌&&◌, IfOk, IfSome
 ghost use Rattle.std.specs.List.{list_all, list_any};
 ghost use Rattle.std.specs.Option.{option_map_or};
 ghost use Rattle.desk_base.specs.declared.profile.Profile.{Profile};
-ghost use Rattle.desk_rows.specs.Readings.{Readings};
+ghost use Rattle.desk_model.specs.Readings.{Readings};
 ghost use Rattle.desk_snapshot.specs.Conditions.{are_minimal, is_choice, is_minimal, is_printed, is_withdrawn, ships_under, terms_at};
 ghost use Rattle.desk_snapshot.specs.Rows.{is_attachment, is_choice_of, is_release};
 
@@ -12,7 +12,7 @@ use crate::in_force::in_force;
 use crate::printed::is_printed;
 use desk_access::texts::Texts;
 use desk_base::Text;
-use desk_rows::{ReleaseState, Verdict};
+use desk_model::{ReleaseState, Verdict};
 use desk_snapshot::{
     ByAttachment, ByChoice, ById, ByName, Snapshot, StoredChoice, StoredPackage, StoredRelease,
 };

@@ -1,12 +1,12 @@
 //! The conclusion in force for a package.
 
 ghost use Rattle.std.specs.Prelude.{◌≡◌, IfOk};
-ghost use Rattle.desk_rows.specs.Readings.{Readings};
+ghost use Rattle.desk_model.specs.Readings.{Readings};
 ghost use Rattle.desk_snapshot.specs.Conditions.{profile_at, conclusion_at};
 ghost use Rattle.desk_audit_choices.specs.InForce.{IsRead};
 
 use desk_access::texts::Texts;
-use desk_rows::Profile;
+use desk_model::Profile;
 use desk_snapshot::{ByDocument, ByPackage, Snapshot, StoredPackage};
 use std::alloc::{AllocError, Global};
 

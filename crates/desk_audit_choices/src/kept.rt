@@ -7,7 +7,7 @@ ghost use Rattle.desk_snapshot.specs.Conditions.{is_frozen, chosen_in, frozen_in
 ghost use Rattle.desk_snapshot.specs.Rows.{is_choice_in, is_frozen_in};
 ghost use Rattle.desk_audit_choices.specs.HeldAs.{StartsOtherwise, chosen_as, frozen_as, held_in};
 
-use desk_rows::ReleaseState;
+use desk_model::ReleaseState;
 use desk_snapshot::{ByFrozen, ByHolder, Snapshot, StoredChoice, StoredFrozen, StoredRelease};
 
 /// The first frozen term of a release among some, and those behind it.

@@ -1,7 +1,7 @@
 //! Texts that are printed as they stand.
 
 ghost use Rattle.std.specs.Prelude.{◌≡◌, IfOk};
-ghost use Rattle.desk_rows.specs.Readings.{Readings};
+ghost use Rattle.desk_model.specs.Readings.{Readings};
 ghost use Rattle.desk_snapshot.specs.Conditions.{is_that, is_printed};
 
 use desk_access::texts::Texts;

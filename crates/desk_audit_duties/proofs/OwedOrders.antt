@@ -10,8 +10,8 @@ use Rattle.std.proofs.lemmas.List.Sorted.{IsPermutation-map, IsPermutation-trans
 use Rattle.std.proofs.lemmas.Map.Text.{is_eq-slice_cmp}
 use Rattle.desk_base.proofs.Bools.{and_left, and_right, both, contrary}
 use Rattle.desk_base.proofs.Texts.{texts_equal}
-use Rattle.desk_rows.specs.Keys.{below_by}
-use Rattle.desk_rows.specs.Lists.{ascends, over}
+use Rattle.desk_model.specs.Keys.{below_by}
+use Rattle.desk_model.specs.Lists.{ascends, over}
 use Rattle.desk_snapshot.specs.Conditions.{Owed}
 use Rattle.desk_audit_duties.specs.Owing.{are_alike, owed_in, owed_order, owed_total}
 use Rattle.desk_audit_duties.specs.declared.owed.OwedFor.{OwedFor}

@@ -8,7 +8,7 @@ use Rattle.std.specs.Cmp.{IsTotalOrder}
 use Rattle.std.specs.Ordering.{is_lt, is_eq, ordering_reverse}
 use Rattle.std.proofs.lemmas.List.Elements.{filter_agree}
 use Rattle.std.proofs.lemmas.List.Sorted.{list_any-IsPermutation}
-use Rattle.desk_rows.specs.Keys.{below_by}
+use Rattle.desk_model.specs.Keys.{below_by}
 use Rattle.desk_snapshot.specs.Rows.{is_rule_spelled}
 use Rattle.desk_snapshot.specs.declared.rows.StoredRule.{StoredRule}
 use Rattle.desk_audit_duties.specs.Spelled.{FindsAs, is_spelled, spelled_meets, spelled_order, spelled_total, spelling, spelling_cmp, spelling_total}

@@ -9,9 +9,9 @@ use Rattle.std.proofs.lemmas.Cmp.{tied_itself}
 use Rattle.std.proofs.lemmas.List.Sums.{sum_by-cons}
 use Rattle.std.proofs.lemmas.List.Sorted.{sorted_far, sum_by-IsPermutation}
 use Rattle.desk_base.proofs.Bools.{and_left, and_right, both, not_true}
-use Rattle.desk_rows.specs.Keys.{below_by}
-use Rattle.desk_rows.specs.Lists.{ascends, over}
-use Rattle.desk_rows.proofs.Orders.{order_of}
+use Rattle.desk_model.specs.Keys.{below_by}
+use Rattle.desk_model.specs.Lists.{ascends, over}
+use Rattle.desk_model.proofs.Orders.{order_of}
 
 over_each : {A : Type 0} (lt : A → A → Bool) (x : A) (ys : List A)
     → ((k : ℕ) (d : A) → k < length ys → lt (get_or ys k d) x ≡ false) → over lt x ys ≡ true

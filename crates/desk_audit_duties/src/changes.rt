@@ -4,7 +4,7 @@ ghost use Rattle.std.specs.Prelude.{◌≡◌, true, ℕ, ◌∷◌, [], MatchBo
 ghost use Rattle.std.specs.List.{list_all};
 ghost use Rattle.std.specs.Option.{option_copied};
 ghost use Rattle.std.specs.declared.option.Option.TheVariants.{None};
-ghost use Rattle.desk_rows.specs.Readings.{Readings};
+ghost use Rattle.desk_model.specs.Readings.{Readings};
 ghost use Rattle.desk_snapshot.specs.Changes.{goes_on, is_waived, is_within, last_day_at};
 ghost use Rattle.desk_snapshot.specs.Conditions.{AreChanges};
 ghost use Rattle.desk_snapshot.specs.Reports.{IsFirst};

@@ -2,7 +2,7 @@
 
 ghost use Rattle.std.specs.Prelude.{◌≡◌, ◌∷◌, [], MatchBool, IfOk, IsPermutation, map, flat_map};
 ghost use Rattle.std.specs.List.{list_all};
-ghost use Rattle.desk_rows.specs.Readings.{Readings};
+ghost use Rattle.desk_model.specs.Readings.{Readings};
 ghost use Rattle.desk_snapshot.specs.Conditions.{AreDuties, is_ruled, owed_by, owed_of};
 ghost use Rattle.desk_snapshot.specs.Reports.{IsFirst};
 ghost use Rattle.desk_snapshot.specs.declared.fault.AuditFault.TheVariants.{BadDuty};

@@ -3,12 +3,12 @@
 ghost use Rattle.std.specs.Prelude.{◌≡◌, pos, int_le};
 ghost use Rattle.std.specs.Option.{option_copied};
 ghost use Rattle.desk_base.specs.Day.{is_day};
-ghost use Rattle.desk_rows.specs.Texts.{is_before, is_note};
+ghost use Rattle.desk_model.specs.Texts.{is_before, is_note};
 ghost use Rattle.desk_snapshot.specs.Changes.{has_room, is_body, is_formed, is_raising, is_waiver_of, leaves, may_move};
 
 use crate::words::word_named;
 use desk_base::{Day, are_shown, limits};
-use desk_rows::{DutyState, Word};
+use desk_model::{DutyState, Word};
 use desk_snapshot::StoredChange;
 
 fn is_day(text: &str) -> bool

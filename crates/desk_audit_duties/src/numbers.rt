@@ -3,7 +3,7 @@
 ghost use Rattle.std.specs.Prelude.{◌≡◌, pos, ◌∷◌, [], MatchBool};
 ghost use Rattle.std.specs.List.{list_all};
 ghost use Rattle.std.specs.Ordering.{int_eq};
-ghost use Rattle.desk_rows.specs.Readings.{Readings};
+ghost use Rattle.desk_model.specs.Readings.{Readings};
 ghost use Rattle.desk_snapshot.specs.Conditions.{AreNumbered, was_frozen};
 ghost use Rattle.desk_snapshot.specs.Reports.{IsFirst};
 ghost use Rattle.desk_snapshot.specs.declared.fault.AuditFault.TheVariants.{BadNumber};

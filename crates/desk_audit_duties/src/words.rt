@@ -4,7 +4,7 @@ ghost use Rattle.std.specs.Prelude.{◌≡◌, is_some};
 ghost use Rattle.desk_snapshot.specs.Conditions.{is_in_state, is_withdrawn};
 ghost use Rattle.desk_snapshot.specs.Rows.{release_state_named, word_named};
 
-use desk_rows::{DutyState, ReleaseState, Word};
+use desk_model::{DutyState, ReleaseState, Word};
 use desk_snapshot::{StoredDuty, StoredRelease};
 
 /// The word that is printed so.

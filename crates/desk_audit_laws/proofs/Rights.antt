@@ -9,13 +9,13 @@ use Rattle.desk_expr.specs.Spelling.{SpellsTermWithin}
 use Rattle.desk_expr.specs.Tree.{Tree}
 use Rattle.desk_expr.specs.Words.{is_term}
 use Rattle.desk_expr.specs.declared.term.Term.{Term}
-use Rattle.desk_rows.specs.Lists.{IsIn}
-use Rattle.desk_rows.specs.Readings.{Readings}
-use Rattle.desk_rows.specs.Texts.{sorted_set}
-use Rattle.desk_rows.specs.declared.reading.Catalogue.{Catalogue}
-use Rattle.desk_rows.specs.declared.reading.Rule.{Rule}
-use Rattle.desk_rows.specs.declared.reading.Verdict.TheVariants.{Minimal}
-use Rattle.desk_rows.specs.declared.refusal.CatalogueFault.{CatalogueFault}
+use Rattle.desk_model.specs.Lists.{IsIn}
+use Rattle.desk_model.specs.Readings.{Readings}
+use Rattle.desk_model.specs.Texts.{sorted_set}
+use Rattle.desk_model.specs.declared.reading.Catalogue.{Catalogue}
+use Rattle.desk_model.specs.declared.reading.Rule.{Rule}
+use Rattle.desk_model.specs.declared.reading.Verdict.TheVariants.{Minimal}
+use Rattle.desk_model.specs.declared.refusal.CatalogueFault.{CatalogueFault}
 use Rattle.desk_history.specs.Laws.{ListsInOrder, ListsOnce}
 use Rattle.desk_history_laws.specs.Ids.{ListsIds}
 use Rattle.desk_catalogue.specs.Reading.{catalogue_of}
@@ -25,9 +25,9 @@ use Rattle.desk_texts.specs.Catalogues.{kept_catalogue}
 use Rattle.desk_texts.specs.Expressions.{IsExpression}
 use Rattle.desk_texts.specs.Right.{AreRight}
 use Rattle.desk_texts.specs.Terms.{AreTerms}
-use Rattle.desk_right.proofs.Sets.{minimal_alike, set_spells}
-use Rattle.desk_duty_laws.specs.Premises.{ReadsRules}
-use Rattle.desk_choice_laws.specs.Premises.{ReadsChoices}
+use Rattle.desk_texts_laws.proofs.Sets.{minimal_alike, set_spells}
+use Rattle.desk_snapshot_laws.specs.Premises.{ReadsRules}
+use Rattle.desk_snapshot_laws.specs.ChoicePremises.{ReadsChoices}
 use Rattle.desk_audit_laws.proofs.Printed.{spells_itself}
 use Rattle.desk_audit_laws.proofs.Spelled.{rule_spells}
 

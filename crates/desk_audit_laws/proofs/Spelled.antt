@@ -14,13 +14,13 @@ use Rattle.desk_catalogue.specs.Terms.{if_licence, licence_of}
 use Rattle.desk_catalogue.specs.Values.{is_among}
 use Rattle.desk_catalogue.specs.declared.catalogue.Catalogue.{Catalogue as WholeCatalogue}
 use Rattle.desk_expr.specs.Words.{begins_like_reference}
-use Rattle.desk_rows.specs.Keys.{rule_order}
-use Rattle.desk_rows.specs.Lists.{IsIn}
-use Rattle.desk_rows.specs.Texts.{sorted_set}
-use Rattle.desk_rows.specs.declared.reading.Rule.{Rule}
-use Rattle.desk_rows.specs.declared.refusal.CatalogueFault.{CatalogueFault}
-use Rattle.desk_rows.specs.declared.refusal.CatalogueFault.TheVariants.{BadTerm, Twice, UnknownDuty, UnknownForm}
-use Rattle.desk_rows.specs.declared.refusal.CataloguePart.TheVariants as part
+use Rattle.desk_model.specs.Keys.{rule_order}
+use Rattle.desk_model.specs.Lists.{IsIn}
+use Rattle.desk_model.specs.Texts.{sorted_set}
+use Rattle.desk_model.specs.declared.reading.Rule.{Rule}
+use Rattle.desk_model.specs.declared.refusal.CatalogueFault.{CatalogueFault}
+use Rattle.desk_model.specs.declared.refusal.CatalogueFault.TheVariants.{BadTerm, Twice, UnknownDuty, UnknownForm}
+use Rattle.desk_model.specs.declared.refusal.CataloguePart.TheVariants as part
 
 abbrev Spells : (List ℕ → Option (List ℕ)) → Rule → Type 0
 Spells terms rule = terms rule.spelled ≡ Some rule.term

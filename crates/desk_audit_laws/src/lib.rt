@@ -1,21 +1,21 @@
 //! The tables of every recorded history are sound: they meet all ten conditions of an audit (`desk_snapshot`). So an audit finds nothing
 //! in what a desk wrote, whatever was recorded, and what it finds was written by something else.
 //!
-//! The ten conditions are laws of `desk_snapshot_laws`, `desk_duty_laws` and `desk_choice_laws`. Two of them ask something of the reading
+//! The ten conditions are laws of `desk_snapshot_laws`. Two of them ask something of the reading
 //! of texts; here stands that each right reading keeps it.
 #![tactic(auto)]
 
 ghost use Rattle.std.specs.Prelude.{List};
-ghost use Rattle.desk_rows.specs.Answers.{IsHistory};
-ghost use Rattle.desk_rows.specs.Readings.{Readings};
-ghost use Rattle.desk_rows.specs.Tables.{tables};
-ghost use Rattle.desk_rows.specs.declared.command.Command.{Command};
+ghost use Rattle.desk_model.specs.Answers.{IsHistory};
+ghost use Rattle.desk_model.specs.Readings.{Readings};
+ghost use Rattle.desk_model.specs.Tables.{tables};
+ghost use Rattle.desk_model.specs.declared.command.Command.{Command};
 ghost use Rattle.desk_texts.specs.Right.{AreRight};
 ghost use Rattle.desk_snapshot.specs.Reports.{Meets};
 ghost use Rattle.desk_snapshot.specs.Tables.{snapshot_of};
 ghost use Rattle.desk_snapshot.specs.declared.fault.AuditFault.{AuditFault};
-ghost use Rattle.desk_duty_laws.specs.Premises.{ReadsRules};
-ghost use Rattle.desk_choice_laws.specs.Premises.{ReadsChoices};
+ghost use Rattle.desk_snapshot_laws.specs.Premises.{ReadsRules};
+ghost use Rattle.desk_snapshot_laws.specs.ChoicePremises.{ReadsChoices};
 
 /// A right reading tells of catalogues, documents and expressions what an audit rests on: rules are listed in order and their terms are
 /// those that their spellings spell, a printed term spells itself, and a minimal list of terms is minimal as a set.
@@ -23,12 +23,12 @@ pub fn right_readings_tell_what_audits_ask()
     ensures rules { (w : Readings) → AreRight w → ReadsRules w }
     ensures choices { (w : Readings) → AreRight w → ReadsChoices w }
 {
-    desk_right::right_readings_list_in_order();
-    desk_right::right_readings_list_ids();
-    desk_right::right_readings_list_once();
-    desk_right::expressions_have_no_fault();
-    desk_right::choices_are_minimal_sets();
-    desk_right::readings_speak_of_terms();
+    desk_texts_laws::right_readings_list_in_order();
+    desk_texts_laws::right_readings_list_ids();
+    desk_texts_laws::right_readings_list_once();
+    desk_texts_laws::expressions_have_no_fault();
+    desk_texts_laws::choices_are_minimal_sets();
+    desk_texts_laws::readings_speak_of_terms();
 }
 
 /// The tables of every recorded history meet all ten conditions of an audit, by each right reading of texts. A condition that asked more
@@ -46,7 +46,7 @@ pub fn histories_are_sound()
     desk_snapshot_laws::packages_are_those_of_their_documents();
     desk_snapshot_laws::duties_are_numbered_and_few();
     desk_snapshot_laws::duties_stand_as_their_releases();
-    desk_duty_laws::changes_are_the_moves_of_duties();
-    desk_duty_laws::duties_are_what_frozen_terms_owe();
-    desk_choice_laws::choices_are_minimal_and_kept();
+    desk_snapshot_laws::duty_rows::changes_are_the_moves_of_duties();
+    desk_snapshot_laws::duty_rows::duties_are_what_frozen_terms_owe();
+    desk_snapshot_laws::choice_rows::choices_are_minimal_and_kept();
 }

@@ -3,10 +3,10 @@ use Rattle.std.proofs.Common.{◌≡◌, [], map, Some, Ok, sym, ap}
 use Rattle.std.specs.Prelude.{is_some, true}
 use Rattle.std.specs.Option.{option_map_or}
 use Rattle.std.specs.Result.{result_ok}
-use Rattle.desk_rows.specs.History.{rules_in}
-use Rattle.desk_rows.specs.Readings.{Readings}
-use Rattle.desk_rows.specs.declared.reading.Catalogue.{Catalogue}
-use Rattle.desk_rows.specs.declared.reading.Document.{Document}
+use Rattle.desk_model.specs.History.{rules_in}
+use Rattle.desk_model.specs.Readings.{Readings}
+use Rattle.desk_model.specs.declared.reading.Catalogue.{Catalogue}
+use Rattle.desk_model.specs.declared.reading.Document.{Document}
 use Rattle.desk_snapshot.specs.Conditions.{document_in, extracted_by, packages_by, rules_by, stored_extracted, stored_package, stored_rule}
 use Rattle.desk_snapshot.specs.declared.rows.StoredCatalogue.{StoredCatalogue}
 use Rattle.desk_snapshot.specs.declared.rows.StoredDocument.{StoredDocument}

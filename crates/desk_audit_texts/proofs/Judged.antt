@@ -3,7 +3,7 @@ use Rattle.std.proofs.Common.{◌≡◌, ◌≢◌, List, [], ◌∷◌, map, So
 use Rattle.std.specs.Prelude.{Option, is_some, true}
 use Rattle.std.specs.List.{flat_map, list_all}
 use Rattle.std.specs.Result.{result_ok}
-use Rattle.desk_rows.specs.Readings.{Readings}
+use Rattle.desk_model.specs.Readings.{Readings}
 use Rattle.desk_snapshot.specs.Conditions.{AreDocuments, extracted_by, is_read, packages_by, rules_by}
 use Rattle.desk_snapshot.specs.Reports.{IsFirst}
 use Rattle.desk_snapshot.specs.Rows.{AreFrom}

@@ -1,8 +1,8 @@
 -- What of the conditions of documents is said without reading one, and what is said of each.
 use Rattle.std.specs.Prelude.{◌≡◌, true, false, map, Option, Some, None}
 use Rattle.std.specs.List.{list_all}
-use Rattle.desk_rows.specs.Readings.{Readings}
-use Rattle.desk_rows.specs.declared.reading.Document.{Document}
+use Rattle.desk_model.specs.Readings.{Readings}
+use Rattle.desk_model.specs.declared.reading.Document.{Document}
 use Rattle.desk_snapshot.specs.Conditions.{document_in, is_profile, is_read}
 use Rattle.desk_snapshot.specs.Rows.{AreFrom}
 use Rattle.desk_snapshot.specs.declared.rows.StoredDocument.{StoredDocument}

@@ -1,7 +1,7 @@
 //! Whether the revisions of the catalogue and their rules are such as a desk holds.
 
 ghost use Rattle.std.specs.Prelude.{◌≡◌, ◌∷◌, [], IfOk};
-ghost use Rattle.desk_rows.specs.Readings.{Readings};
+ghost use Rattle.desk_model.specs.Readings.{Readings};
 ghost use Rattle.desk_snapshot.specs.Reports.{IsFirst};
 ghost use Rattle.desk_snapshot.specs.declared.fault.AuditFault.TheVariants.{BadRevision, BadRule};
 

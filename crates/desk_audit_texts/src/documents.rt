@@ -4,7 +4,7 @@ ghost use Rattle.std.specs.Prelude.{◌≡◌, ◌∷◌, [], IfOk, map, true, f
 ghost use Rattle.std.specs.Bool.{Decides};
 ghost use Rattle.std.specs.List.{list_all};
 ghost use Rattle.std.specs.Option.{MatchOption};
-ghost use Rattle.desk_rows.specs.Readings.{Readings};
+ghost use Rattle.desk_model.specs.Readings.{Readings};
 ghost use Rattle.desk_audit_texts.specs.Listed.{AreListed, IsReadAs};
 ghost use Rattle.desk_snapshot.specs.Conditions.{is_profile};
 ghost use Rattle.desk_snapshot.specs.Reports.{IsFirst};
@@ -13,7 +13,7 @@ ghost use Rattle.desk_snapshot.specs.declared.fault.AuditFault.TheVariants.{BadD
 use crate::left::{are_used_up, left_behind};
 use crate::numbering::{Numbered, are_numbered};
 use desk_access::texts::Texts;
-use desk_rows::Document;
+use desk_model::Document;
 use desk_snapshot::{AuditFault, Snapshot, StoredDocument, StoredReading};
 use std::alloc::{AllocError, Global};
 

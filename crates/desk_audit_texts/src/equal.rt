@@ -9,7 +9,7 @@ ghost use Rattle.desk_snapshot.specs.Conditions.{stored_extracted, stored_packag
 
 use crate::left::Stored;
 use desk_base::Text;
-use desk_rows::{Package, Reference, Rule};
+use desk_model::{Package, Reference, Rule};
 use desk_snapshot::{StoredExtracted, StoredPackage, StoredRule};
 
 /// What is behind a blank and a code, if a text begins with these.

@@ -4,7 +4,11 @@
 //! texts so joined. `code_exists` says that digests have such a code. The state of a package's code is a relation too, of some list
 //! of the package's files: `state_exists` says that it has one. That there is no other is said by the laws of `desk_bom`. What a
 //! document ships is said by the least set of elements: `what_ships_is_one_list` says that there is one and no other.
+//!
+//! The sections of a document are one cutting, whichever definition cuts (`sections_are_one_cutting`).
 #![tactic(auto)]
+
+pub mod cutting;
 
 ghost use Rattle.std.specs.Prelude.{◌≡◌, ℕ, ◌<◌, Bool, List, length, map};
 ghost use Rattle.desk_bom.specs.Codes.{IsCode, IsState};

@@ -5,7 +5,7 @@ use Rattle.std.proofs.lemmas.List.{drop_more, drop_all}
 use Rattle.toml.specs.Data.{Data}
 use Rattle.toml.specs.View.{view, items_view}
 use Rattle.toml.specs.declared.value.Value.{Value}
-use Rattle.desk_rows.specs.declared.refusal.CatalogueFault.{CatalogueFault}
+use Rattle.desk_model.specs.declared.refusal.CatalogueFault.{CatalogueFault}
 use Rattle.desk_catalogue.specs.Reading.{Read, each, count}
 use Rattle.desk_base.specs.Results.{then_read}
 

@@ -9,15 +9,15 @@ use Rattle.std.specs.List.Sorted.{IsStrictlySortedBy}
 use Rattle.std.specs.Ordering.{match_ordering, ordering_reverse}
 use Rattle.toml.specs.Data.{Data, Items, no_items, item, Members, get_member}
 use Rattle.toml.specs.Parse.{parse_document}
-use Rattle.desk_rows.specs.declared.reading.Rule.{Rule}
-use Rattle.desk_rows.specs.declared.refusal.CataloguePart.TheVariants as part
-use Rattle.desk_rows.specs.declared.refusal.CatalogueFault.{CatalogueFault}
-use Rattle.desk_rows.specs.declared.refusal.CatalogueFault.TheVariants.{NotToml, TooLarge, Twice}
+use Rattle.desk_model.specs.declared.reading.Rule.{Rule}
+use Rattle.desk_model.specs.declared.refusal.CataloguePart.TheVariants as part
+use Rattle.desk_model.specs.declared.refusal.CatalogueFault.{CatalogueFault}
+use Rattle.desk_model.specs.declared.refusal.CatalogueFault.TheVariants.{NotToml, TooLarge, Twice}
 use Rattle.desk_catalogue.specs.declared.catalogue.Catalogue.{Catalogue}
 use Rattle.desk_base.specs.Limits as limit
 use Rattle.desk_catalogue.specs.Kept.{put_rule, has_rule}
 use Rattle.desk_catalogue.specs.Reading.{Read, each, tables_of, forms_of, duties_of, rule_at, with_one, with_rule, rules_of, licence_texts_of, catalogue_of_table, catalogue_of}
-use Rattle.desk_rows.specs.Keys.{rule_order}
+use Rattle.desk_model.specs.Keys.{rule_order}
 use Rattle.desk_base.specs.Results.{then_read}
 
 pub rule_order_total : IsTotalOrder rule_order

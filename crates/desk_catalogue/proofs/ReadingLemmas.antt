@@ -5,10 +5,10 @@ use Rattle.std.specs.Option.{ok_or}
 use Rattle.toml.specs.Data.{Data, get_member, Members}
 use Rattle.toml.specs.View.{items_view}
 use Rattle.toml.specs.declared.value.Value.{Value}
-use Rattle.desk_rows.specs.declared.reading.Rule.{Rule}
-use Rattle.desk_rows.specs.declared.refusal.CatalogueFault.{CatalogueFault}
-use Rattle.desk_rows.specs.declared.refusal.CatalogueFault.TheVariants.{BadKind, BadTerm}
-use Rattle.desk_rows.specs.declared.refusal.CataloguePart.TheVariants as part
+use Rattle.desk_model.specs.declared.reading.Rule.{Rule}
+use Rattle.desk_model.specs.declared.refusal.CatalogueFault.{CatalogueFault}
+use Rattle.desk_model.specs.declared.refusal.CatalogueFault.TheVariants.{BadKind, BadTerm}
+use Rattle.desk_model.specs.declared.refusal.CataloguePart.TheVariants as part
 use Rattle.desk_catalogue.specs.declared.catalogue.Catalogue.{Catalogue}
 use Rattle.desk_catalogue.specs.declared.catalogue.LicenceText.{LicenceText}
 use Rattle.desk_catalogue.specs.Terms.{licence_of}

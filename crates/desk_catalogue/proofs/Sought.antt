@@ -15,8 +15,8 @@ use Rattle.std.proofs.lemmas.Map.Text.{is_eq-slice_cmp}
 use Rattle.std.proofs.lemmas.Map.Keys.{Less-from_sorted, sorted_tail}
 use Rattle.desk_expr.specs.declared.term.Term.{Term}
 use Rattle.desk_expr.specs.Printing.{printed_term, printed_exception}
-use Rattle.desk_rows.specs.Keys.{is_rule, rule_order}
-use Rattle.desk_rows.specs.declared.reading.Rule.{Rule}
+use Rattle.desk_model.specs.Keys.{is_rule, rule_order}
+use Rattle.desk_model.specs.declared.reading.Rule.{Rule}
 use Rattle.desk_catalogue.specs.Lookup.{sought}
 use Rattle.desk_catalogue.specs.declared.order.Subject.{Subject}
 use Rattle.desk_catalogue.specs.declared.order.Said.{Said}

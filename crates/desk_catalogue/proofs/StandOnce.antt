@@ -6,8 +6,8 @@ use Rattle.std.specs.Option.{ok_or}
 use Rattle.std.specs.Str.{bytes_eq}
 use Rattle.toml.specs.Data.{Data, as_array, get_member}
 use Rattle.toml.specs.Parse.{parse_document}
-use Rattle.desk_rows.specs.declared.refusal.CataloguePart.TheVariants as part
-use Rattle.desk_rows.specs.declared.refusal.CatalogueFault.TheVariants.{NotToml, TooLarge, Twice}
+use Rattle.desk_model.specs.declared.refusal.CataloguePart.TheVariants as part
+use Rattle.desk_model.specs.declared.refusal.CatalogueFault.TheVariants.{NotToml, TooLarge, Twice}
 use Rattle.desk_catalogue.specs.declared.catalogue.Catalogue.{Catalogue}
 use Rattle.desk_catalogue.specs.declared.catalogue.LicenceText.{LicenceText}
 use Rattle.desk_base.specs.Limits as limit

@@ -4,9 +4,9 @@ use Rattle.std.specs.List.{list_any}
 use Rattle.std.specs.Ordering.{match_ordering}
 use Rattle.std.specs.Str.{bytes_eq}
 use Rattle.desk_base.specs.Folded.{folded}
-use Rattle.desk_rows.specs.Keys.{is_rule, rule_order}
-use Rattle.desk_rows.specs.Texts.{sorted_set}
-use Rattle.desk_rows.specs.declared.reading.Rule.{Rule}
+use Rattle.desk_model.specs.Keys.{is_rule, rule_order}
+use Rattle.desk_model.specs.Texts.{sorted_set}
+use Rattle.desk_model.specs.declared.reading.Rule.{Rule}
 use Rattle.desk_catalogue.specs.declared.catalogue.LicenceText.{LicenceText}
 
 -- none of the texts stands twice: as a set they are as many

@@ -2,8 +2,8 @@
 use Rattle.std.specs.Prelude.{ℕ, List, [], Bool, Option, option_map, find}
 use Rattle.desk_expr.specs.declared.term.Term.{Term}
 use Rattle.desk_expr.specs.Printing.{printed_term}
-use Rattle.desk_rows.specs.Keys.{is_rule}
-use Rattle.desk_rows.specs.declared.reading.Rule.{Rule}
+use Rattle.desk_model.specs.Keys.{is_rule}
+use Rattle.desk_model.specs.declared.reading.Rule.{Rule}
 use Rattle.desk_catalogue.specs.declared.catalogue.Catalogue.{Catalogue}
 use Rattle.desk_catalogue.specs.declared.catalogue.LicenceText.{LicenceText}
 use Rattle.desk_catalogue.specs.Values.{is_among}

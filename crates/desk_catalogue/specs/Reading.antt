@@ -5,12 +5,12 @@ use Rattle.std.specs.Option.{ok_or}
 use Rattle.std.specs.List.{list_all, list_any}
 use Rattle.toml.specs.Data.{Data, as_str, as_array, as_table, get_member, Items, no_items, item, Members}
 use Rattle.toml.specs.Parse.{parse_document}
-use Rattle.desk_rows.specs.Texts.{put_new, sorted_set}
-use Rattle.desk_rows.specs.declared.reading.Rule.{Rule}
-use Rattle.desk_rows.specs.declared.refusal.CataloguePart.{CataloguePart}
-use Rattle.desk_rows.specs.declared.refusal.CataloguePart.TheVariants as part
-use Rattle.desk_rows.specs.declared.refusal.CatalogueFault.{CatalogueFault}
-use Rattle.desk_rows.specs.declared.refusal.CatalogueFault.TheVariants.{NotToml, Missing, BadKind, BadTerm, UnknownForm, UnknownDuty, Twice, TooLarge}
+use Rattle.desk_model.specs.Texts.{put_new, sorted_set}
+use Rattle.desk_model.specs.declared.reading.Rule.{Rule}
+use Rattle.desk_model.specs.declared.refusal.CataloguePart.{CataloguePart}
+use Rattle.desk_model.specs.declared.refusal.CataloguePart.TheVariants as part
+use Rattle.desk_model.specs.declared.refusal.CatalogueFault.{CatalogueFault}
+use Rattle.desk_model.specs.declared.refusal.CatalogueFault.TheVariants.{NotToml, Missing, BadKind, BadTerm, UnknownForm, UnknownDuty, Twice, TooLarge}
 use Rattle.desk_catalogue.specs.declared.catalogue.Catalogue.{Catalogue}
 use Rattle.desk_catalogue.specs.declared.catalogue.LicenceText.{LicenceText}
 use Rattle.desk_base.specs.Limits as limit

@@ -7,8 +7,8 @@ use Rattle.std.specs.BTreeMap.{BTreeMap}
 use Rattle.std.specs.BTreeSet.{BTreeSet, contains_by}
 use denote.Ref.{Bor}
 use Rattle.desk_base.specs.Folded.{folded}
-use Rattle.desk_rows.specs.declared.reading.Rule.{Rule}
-use Rattle.desk_rows.specs.declared.refusal.CatalogueFault.{CatalogueFault}
+use Rattle.desk_model.specs.declared.reading.Rule.{Rule}
+use Rattle.desk_model.specs.declared.refusal.CatalogueFault.{CatalogueFault}
 use Rattle.desk_catalogue.specs.declared.rules.Written.{Written}
 use Rattle.desk_catalogue.specs.declared.fault.CatFault.{CatFault}
 use Rattle.desk_catalogue.specs.declared.fault.CatFault.TheVariants.{Refused, Memory}

@@ -8,7 +8,7 @@ ghost use Rattle.desk_catalogue.specs.Shown.{Gives, codes_in};
 
 use crate::entries::tables_of;
 use crate::values::{id_of, member, title_of};
-use desk_rows::{CatalogueFault, CataloguePart};
+use desk_model::{CatalogueFault, CataloguePart};
 use std::alloc::{AllocError, Global};
 use std::collections::BTreeSet;
 use toml::{Table, Value};

@@ -7,7 +7,7 @@ ghost use Rattle.desk_catalogue.specs.Reading.{tables_of};
 ghost use Rattle.desk_catalogue.specs.Shown.{Gives};
 
 use crate::values::member;
-use desk_rows::{CatalogueFault, CataloguePart};
+use desk_model::{CatalogueFault, CataloguePart};
 use toml::{Table, Value};
 
 /// The entries of a part; a part that is absent has none.

@@ -1,6 +1,6 @@
 //! Why a text is not read as a catalogue.
 
-use desk_rows::CatalogueFault;
+use desk_model::CatalogueFault;
 use std::alloc::AllocError;
 use thiserror::Error;
 

@@ -10,7 +10,7 @@ ghost use Rattle.desk_base.specs.Borrowed.{texts, texts_in};
 use crate::order::is_kept;
 use crate::values::{id_of, member};
 use desk_base::{Items, Text, limits};
-use desk_rows::{CatalogueFault, CataloguePart};
+use desk_model::{CatalogueFault, CataloguePart};
 use std::alloc::{AllocError, Global};
 use toml::{Table, Value};
 

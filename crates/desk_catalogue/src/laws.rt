@@ -8,7 +8,7 @@ ghost use Rattle.desk_catalogue.specs.declared.catalogue.Catalogue.{Catalogue};
 ghost use Rattle.desk_catalogue.specs.Terms.{ReadsTerms};
 ghost use Rattle.desk_catalogue.specs.Kept.{same_licence};
 ghost use Rattle.desk_catalogue.specs.Reading.{catalogue_of};
-ghost use Rattle.desk_rows.specs.Keys.{rule_order};
+ghost use Rattle.desk_model.specs.Keys.{rule_order};
 
 /// Some function gives the printed term of each text that spells one, and none of any other text.
 pub fn terms_are_read()

@@ -6,7 +6,7 @@ ghost use Rattle.std.specs.Cmp.{partial_order_from_own_ties};
 ghost use Rattle.std.specs.Cmp.Rules.{comparing};
 ghost use Rattle.std.specs.Cmp.Lexicographic.{slice_cmp};
 ghost use Rattle.std.proofs.Common.{rules};
-ghost use Rattle.desk_rows.specs.Texts.{sorted_set};
+ghost use Rattle.desk_model.specs.Texts.{sorted_set};
 ghost use Rattle.desk_catalogue.specs.Kept.{stand_once, put_rule, has_rule};
 ghost use Rattle.desk_catalogue.specs.Shown.{rules_in};
 ghost use Rattle.desk_catalogue.specs.Values.{is_among};
@@ -14,7 +14,7 @@ ghost use Rattle.desk_base.specs.Borrowed.{texts_in};
 
 use crate::ordered::OrderedRules;
 use desk_base::{Items, Text};
-use desk_rows::Rule;
+use desk_model::Rule;
 use std::alloc::{AllocError, Global};
 use std::cmp::Ordering;
 use std::collections::{BTreeMap, BTreeSet};

@@ -5,12 +5,12 @@ ghost use Rattle.std.specs.List.Sorted.{IsStrictlySortedBy};
 ghost use Rattle.std.specs.Ordering.{nat_cmp};
 ghost use Rattle.std.specs.Cmp.Lexicographic.{slice_cmp};
 ghost use Rattle.desk_expr.specs.Printing.{printed_term, printed_exception};
-ghost use Rattle.desk_rows.specs.Keys.{is_rule, rule_order};
+ghost use Rattle.desk_model.specs.Keys.{is_rule, rule_order};
 ghost use Rattle.desk_catalogue.specs.Lookup.{sought};
 
 use desk_base::{Items, Key};
 use desk_expr::Term;
-use desk_rows::Rule;
+use desk_model::Rule;
 use std::cmp::Ordering;
 use std::marker::Model;
 
@@ -80,8 +80,8 @@ pub struct OrderedRules {
 impl Model for OrderedRules {
     ghost use Rattle.std.specs.Prelude.{List};
     ghost use Rattle.std.specs.List.Sorted.{IsStrictlySortedBy};
-    ghost use Rattle.desk_rows.specs.declared.reading.Rule.{Rule};
-    ghost use Rattle.desk_rows.specs.Keys.{rule_order};
+    ghost use Rattle.desk_model.specs.declared.reading.Rule.{Rule};
+    ghost use Rattle.desk_model.specs.Keys.{rule_order};
 
     ghost Value = { List Rule };
 

@@ -14,7 +14,7 @@ use crate::order::rules_in;
 use crate::rules::{Known, rules_of};
 use crate::texts::texts_of;
 use desk_base::limits;
-use desk_rows::CatalogueFault;
+use desk_model::CatalogueFault;
 use std::alloc::{AllocError, Global};
 use toml::Table;
 

@@ -15,7 +15,7 @@ use crate::order::{Said, Subject, add_rule, codes_once, is_kept};
 use crate::values::{begins_like_reference, member, texts_of};
 use desk_base::{Items, Text};
 use desk_expr::{ParseFault, parse_term, print_term};
-use desk_rows::{CatalogueFault, CataloguePart, Rule};
+use desk_model::{CatalogueFault, CataloguePart, Rule};
 use std::alloc::{AllocError, Global};
 use std::collections::{BTreeMap, BTreeSet};
 use toml::{Table, Value};

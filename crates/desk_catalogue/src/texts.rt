@@ -10,7 +10,7 @@ use crate::catalogue::LicenceText;
 use crate::entries::tables_of;
 use crate::values::{is_text_id, member};
 use desk_base::{Items, Key, Text};
-use desk_rows::{CatalogueFault, CataloguePart};
+use desk_model::{CatalogueFault, CataloguePart};
 use std::alloc::{AllocError, Global};
 use std::collections::BTreeSet;
 use toml::{Table, Value};

@@ -1,14 +1,14 @@
 -- What a store does over tables, a desk does over the histories whose tables they are.
 use Rattle.std.proofs.Common.{◌≡◌, inl, inr, true, Result, Ok, Err, sym, ap, subst, ◌∙◌}
 use Rattle.std.specs.Prelude.{IfOk}
-use Rattle.desk_rows.specs.Readings.{Readings}
-use Rattle.desk_rows.specs.Tables.{Tables, tables, applied}
-use Rattle.desk_rows.specs.Answers.{answer, is_recorded}
-use Rattle.desk_rows.specs.Queries.{queried}
-use Rattle.desk_rows.specs.declared.command.Answer.{Answer}
-use Rattle.desk_rows.specs.declared.command.Command.{Command}
-use Rattle.desk_rows.specs.declared.command.Fault.{Fault}
-use Rattle.desk_rows.specs.declared.command.Query.{Query}
+use Rattle.desk_model.specs.Readings.{Readings}
+use Rattle.desk_model.specs.Tables.{Tables, tables, applied}
+use Rattle.desk_model.specs.Answers.{answer, is_recorded}
+use Rattle.desk_model.specs.Queries.{queried}
+use Rattle.desk_model.specs.declared.command.Answer.{Answer}
+use Rattle.desk_model.specs.declared.command.Command.{Command}
+use Rattle.desk_model.specs.declared.command.Fault.{Fault}
+use Rattle.desk_model.specs.declared.command.Query.{Query}
 use Rattle.desk_history.specs.FromTables.{answer_from, change_for, queried_from}
 use Rattle.desk_history.proofs.Steps.{step-answer, recorded-rows}
 use Rattle.desk_history.proofs.Queries.{query-answer}

@@ -2,16 +2,16 @@
 use Rattle.std.proofs.Common.{◌≡◌, ◌<◌, arith, Bool, true, false, List, [], ◌∷◌, ◌++◌, length, get_or, refl, sym, ap, subst, ◌∙◌, Result, Ok, Err}
 use Rattle.std.specs.Prelude.{◌&&◌, ◌||◌, if◌then◌else◌, MatchBool}
 use Rattle.std.specs.List.{list_all, list_any}
-use Rattle.desk_rows.specs.Readings.{Readings}
-use Rattle.desk_rows.specs.Tables.{Tables, tables}
-use Rattle.desk_rows.specs.Answers.{IsHistory, is_recorded, refused_alone}
-use Rattle.desk_rows.specs.Faults.{MayBecome, outcome_of}
-use Rattle.desk_rows.specs.Runs.{history_with, is_kept}
-use Rattle.desk_rows.specs.declared.command.Answer.{Answer}
-use Rattle.desk_rows.specs.declared.command.Command.{Command}
-use Rattle.desk_rows.specs.declared.command.Fault.{Fault}
-use Rattle.desk_rows.specs.declared.command.Outcome.{Outcome}
-use Rattle.desk_rows.specs.declared.command.Outcome.TheVariants.{Answered, Failed}
+use Rattle.desk_model.specs.Readings.{Readings}
+use Rattle.desk_model.specs.Tables.{Tables, tables}
+use Rattle.desk_model.specs.Answers.{IsHistory, is_recorded, refused_alone}
+use Rattle.desk_model.specs.Faults.{MayBecome, outcome_of}
+use Rattle.desk_model.specs.Runs.{history_with, is_kept}
+use Rattle.desk_model.specs.declared.command.Answer.{Answer}
+use Rattle.desk_model.specs.declared.command.Command.{Command}
+use Rattle.desk_model.specs.declared.command.Fault.{Fault}
+use Rattle.desk_model.specs.declared.command.Outcome.{Outcome}
+use Rattle.desk_model.specs.declared.command.Outcome.TheVariants.{Answered, Failed}
 use Rattle.desk_access.specs.Seen.{Seen, Minds, Outlasts, Spared}
 use Rattle.desk_core.specs.Desks.{AllSpareStore, CarriesOut, IsLeft, Secures, is_answered}
 

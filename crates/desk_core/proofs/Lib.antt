@@ -1,2 +1,4 @@
+mod Following
+pub mod Chains
 mod AtHistory
 pub mod Leaving

@@ -2,25 +2,25 @@
 
 ghost use Rattle.std.specs.Prelude.{◌≡◌, true, false, List, [], IfOk, IfErr, OnErr, length};
 ghost use Rattle.std.specs.List.{list_all, list_any};
-ghost use Rattle.desk_rows.specs.Readings.{Readings};
-ghost use Rattle.desk_rows.specs.Faults.{MayFail, MayBecome, MayAllBecome};
-ghost use Rattle.desk_rows.specs.Tables.{Tables, tables};
-ghost use Rattle.desk_rows.specs.Answers.{IsHistory, refused_alone};
-ghost use Rattle.desk_rows.specs.Queries.{queried};
-ghost use Rattle.desk_rows.specs.Runs.{AreAnswers, IsAnswer, history_after, history_with, is_kept};
+ghost use Rattle.desk_model.specs.Readings.{Readings};
+ghost use Rattle.desk_model.specs.Faults.{MayFail, MayBecome, MayAllBecome};
+ghost use Rattle.desk_model.specs.Tables.{Tables, tables};
+ghost use Rattle.desk_model.specs.Answers.{IsHistory, refused_alone};
+ghost use Rattle.desk_model.specs.Queries.{queried};
+ghost use Rattle.desk_model.specs.Runs.{AreAnswers, IsAnswer, history_after, history_with, is_kept};
 ghost use Rattle.desk_access.specs.Seen.{Seen, Looked, Minds, Outlasts, Spared};
 ghost use Rattle.desk_core.specs.Desks.{AllSpareStore, CarriesOut, InHistory, IsLeft, Secures, is_answered};
 ghost use Rattle.desk_memory.specs.Memory.{memory_seen};
-ghost use Rattle.desk_rows.specs.declared.command.Command.TheVariants.{Import};
-ghost use Rattle.desk_rows.specs.declared.command.StoreFault.{StoreFault};
+ghost use Rattle.desk_model.specs.declared.command.Command.TheVariants.{Import};
+ghost use Rattle.desk_model.specs.declared.command.StoreFault.{StoreFault};
 
+use crate::carry::{carry_import, carry_out};
 use desk_access::store::Store;
 use desk_access::texts::Texts;
 use desk_base::Items;
-use desk_decisions::carry::{carry_import, carry_out};
 use desk_memory::MemStore;
+use desk_model::{Answer, Command, Fault, Outcome, Profile, Query};
 use desk_questions::ask::answer_to;
-use desk_rows::{Answer, Command, Fault, Outcome, Profile, Query};
 use std::alloc::{AllocError, Global};
 
 /// A desk, seen as its store is: which tables are its rows, and what a stop could leave of them.

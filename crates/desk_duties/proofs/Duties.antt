@@ -3,23 +3,23 @@ use Rattle.std.proofs.Common.{◌≡◌, ℕ, Bool, true, false, List, Option, S
 use Rattle.std.specs.Prelude.{◌&&◌, [], ◌∷◌, not, nat_lt, is_some, unwrap_or}
 use Rattle.std.specs.Option.{option_map, option_map_or, option_and_then}
 use Rattle.desk_base.specs.Day.{is_day}
-use Rattle.desk_rows.specs.Texts.{is_note}
-use Rattle.desk_rows.specs.Tables.{Tables}
-use Rattle.desk_rows.specs.Answers.{is_over, refused_by, refused_first, unless, gone, settled}
-use Rattle.desk_rows.specs.declared.refusal.Refusal.TheVariants as why
-use Rattle.desk_rows.specs.declared.refusal.Limit.TheVariants as limit
-use Rattle.desk_rows.specs.declared.command.Answer.TheVariants as answered
-use Rattle.desk_rows.specs.declared.row.DutyRow.{DutyRow}
-use Rattle.desk_rows.specs.declared.state.ReleaseState.{ReleaseState}
-use Rattle.desk_rows.specs.declared.state.ReleaseState.TheVariants.{IsOpen}
-use Rattle.desk_rows.specs.declared.state.Word.{Word}
+use Rattle.desk_model.specs.Texts.{is_note}
+use Rattle.desk_model.specs.Tables.{Tables}
+use Rattle.desk_model.specs.Answers.{is_over, refused_by, refused_first, unless, gone, settled}
+use Rattle.desk_model.specs.declared.refusal.Refusal.TheVariants as why
+use Rattle.desk_model.specs.declared.refusal.Limit.TheVariants as limit
+use Rattle.desk_model.specs.declared.command.Answer.TheVariants as answered
+use Rattle.desk_model.specs.declared.row.DutyRow.{DutyRow}
+use Rattle.desk_model.specs.declared.state.ReleaseState.{ReleaseState}
+use Rattle.desk_model.specs.declared.state.ReleaseState.TheVariants.{IsOpen}
+use Rattle.desk_model.specs.declared.state.Word.{Word}
 use Rattle.desk_history.specs.FromTables.{duty_found, release_state_found, state_found, steps_found, moved_found, moved_change}
-use Rattle.desk_rows.specs.declared.row.Move.{Move}
+use Rattle.desk_model.specs.declared.row.Move.{Move}
 use Rattle.std.specs.Prelude.{IfOk, Result, Ok, Err}
 use Rattle.std.proofs.Common.{subst}
-use Rattle.desk_rows.specs.declared.command.Answer.{Answer}
-use Rattle.desk_rows.specs.declared.command.Fault.{Fault}
-use Rattle.desk_rows.specs.declared.command.Plan.{Plan}
+use Rattle.desk_model.specs.declared.command.Answer.{Answer}
+use Rattle.desk_model.specs.declared.command.Fault.{Fault}
+use Rattle.desk_model.specs.declared.command.Plan.{Plan}
 use Rattle.desk_access.specs.Seen.{Seen, OfRows}
 use Rattle.desk_access.specs.Plans.{IsPlan}
 use Rattle.desk_duties.specs.declared.duty.Read.TheVariants as read

@@ -4,20 +4,20 @@ use Rattle.std.specs.Prelude.{◌==◌, nat_lt, unwrap_or}
 use Rattle.std.specs.Option.{option_map}
 use Rattle.std.proofs.lemmas.Bool.Decides.{nat_tests}
 use Rattle.desk_base.specs.Day.{is_day}
-use Rattle.desk_rows.specs.Readings.{Readings}
-use Rattle.desk_rows.specs.Tables.{Tables}
-use Rattle.desk_rows.specs.History.{attached_to}
-use Rattle.desk_rows.specs.Raised.{frozen_for, owed_for}
-use Rattle.desk_rows.specs.Answers.{walk, unready}
+use Rattle.desk_model.specs.Readings.{Readings}
+use Rattle.desk_model.specs.Tables.{Tables}
+use Rattle.desk_model.specs.History.{attached_to}
+use Rattle.desk_model.specs.Raised.{frozen_for, owed_for}
+use Rattle.desk_model.specs.Answers.{walk, unready}
 use Rattle.desk_history.specs.FromTables.{answer_from, change_for, froze_as, conclusion_found, rules_found, choice_found, shipped_found, release_found, freeze_change_found}
 use Rattle.desk_duties.specs.Freezing.{GathersAll, freeze_fits, freeze_open_found}
 use Rattle.desk_duties.specs.declared.gathering.Gathered.{Gathered}
-use Rattle.desk_rows.specs.declared.row.PackageRow.{PackageRow}
-use Rattle.desk_rows.specs.declared.row.ReleaseRow.{ReleaseRow}
-use Rattle.desk_rows.specs.declared.refusal.Refusal.{Refusal}
-use Rattle.desk_rows.specs.declared.refusal.Refusal.TheVariants as why
-use Rattle.desk_rows.specs.declared.command.Answer.TheVariants as answered
-use Rattle.desk_rows.specs.declared.command.Command.TheVariants.{Freeze}
+use Rattle.desk_model.specs.declared.row.PackageRow.{PackageRow}
+use Rattle.desk_model.specs.declared.row.ReleaseRow.{ReleaseRow}
+use Rattle.desk_model.specs.declared.refusal.Refusal.{Refusal}
+use Rattle.desk_model.specs.declared.refusal.Refusal.TheVariants as why
+use Rattle.desk_model.specs.declared.command.Answer.TheVariants as answered
+use Rattle.desk_model.specs.declared.command.Command.TheVariants.{Freeze}
 
 pub filled : (n : ℕ) → (n == 0) ≡ false → nat_lt 0 n ≡ true
 filled n some = grind (arith, nat_tests)

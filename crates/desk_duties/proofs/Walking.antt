@@ -1,22 +1,22 @@
 -- One more term, and one more package, of a walk.
 use Rattle.std.proofs.Common.{◌≡◌, ℕ, ◌+◌, ◌<◌, List, [], ◌∷◌, ◌++◌, length, map, drop, get_or, Option, Some, None, sym, refl, ap, ◌∙◌, subst, add-one, add-zero, drop-cons, append_assoc, suc, arith}
-use Rattle.desk_rows.specs.Readings.{Readings}
+use Rattle.desk_model.specs.Readings.{Readings}
 use Rattle.std.specs.List.{enumerate_from}
 use Rattle.std.proofs.lemmas.List.{map-append}
-use Rattle.desk_rows.specs.Tables.{Tables}
+use Rattle.desk_model.specs.Tables.{Tables}
 use Rattle.desk_history.specs.FromTables.{new_duty, conclusion_found, rules_found, choice_found}
 use Rattle.desk_duties.specs.Freezing.{GathersPackage, unfit_package}
 use Rattle.desk_duties.specs.declared.gathering.Gathered.{Gathered}
-use Rattle.desk_rows.specs.declared.refusal.Refusal.{Refusal}
-use Rattle.desk_rows.specs.declared.row.DutyRow.{DutyRow}
-use Rattle.desk_rows.specs.declared.row.AdoptionRow.{AdoptionRow}
-use Rattle.desk_rows.specs.declared.row.Owed.{Owed}
-use Rattle.desk_rows.specs.Raised.{owed_for, frozen_for, owed_for_terms, frozen_for_terms, owed_code, frozen_term, rule_adopted}
-use Rattle.desk_rows.specs.Answers.{first_unruled, first_unadopted, package_fault, unchosen, unconcluded, walk}
-use Rattle.desk_rows.specs.Lists.{or_else}
-use Rattle.desk_rows.specs.declared.reading.Conclusion.{Conclusion}
-use Rattle.desk_rows.specs.declared.reading.Rule.{Rule}
-use Rattle.desk_rows.specs.declared.row.PackageRow.{PackageRow}
+use Rattle.desk_model.specs.declared.refusal.Refusal.{Refusal}
+use Rattle.desk_model.specs.declared.row.DutyRow.{DutyRow}
+use Rattle.desk_model.specs.declared.row.AdoptionRow.{AdoptionRow}
+use Rattle.desk_model.specs.declared.row.Owed.{Owed}
+use Rattle.desk_model.specs.Raised.{owed_for, frozen_for, owed_for_terms, frozen_for_terms, owed_code, frozen_term, rule_adopted}
+use Rattle.desk_model.specs.Answers.{first_unruled, first_unadopted, package_fault, unchosen, unconcluded, walk}
+use Rattle.desk_model.specs.Lists.{or_else}
+use Rattle.desk_model.specs.declared.reading.Conclusion.{Conclusion}
+use Rattle.desk_model.specs.declared.reading.Rule.{Rule}
+use Rattle.desk_model.specs.declared.row.PackageRow.{PackageRow}
 
 -- an item and those after it
 pub drop_item : {A : Type 0} (xs : List A) (i : ℕ) (x : A) → i < length xs → x ≡ get_or xs i x → drop i xs ≡ x ∷ drop (i + 1) xs

@@ -1,18 +1,18 @@
 -- What a withdrawal of a release comes to.
 use Rattle.std.proofs.Common.{◌≡◌, ◌∙◌, Bool, true, false, List, ℕ, Ok, Some, None, refl, sym, ap, subst, rules}
 use Rattle.desk_base.specs.Day.{is_day}
-use Rattle.desk_rows.specs.Texts.{is_note}
-use Rattle.desk_rows.specs.Answers.{Withdrawing, withdraw_answer, gone, refused_by}
-use Rattle.desk_rows.specs.declared.command.Answer.{Answer}
-use Rattle.desk_rows.specs.declared.command.Answer.TheVariants as answered
-use Rattle.desk_rows.specs.declared.command.Change.{Change}
-use Rattle.desk_rows.specs.declared.command.Plan.{Plan}
-use Rattle.desk_rows.specs.declared.command.Plan.TheVariants.{Leave, Make}
-use Rattle.desk_rows.specs.declared.refusal.Refusal.{Refusal}
-use Rattle.desk_rows.specs.declared.refusal.Refusal.TheVariants as why
-use Rattle.desk_rows.specs.declared.state.ReleaseState.{ReleaseState}
-use Rattle.desk_rows.specs.declared.row.Standing.{Standing}
-use Rattle.desk_rows.specs.declared.command.Change.TheVariants.{Withdrew}
+use Rattle.desk_model.specs.Texts.{is_note}
+use Rattle.desk_model.specs.Answers.{Withdrawing, withdraw_answer, gone, refused_by}
+use Rattle.desk_model.specs.declared.command.Answer.{Answer}
+use Rattle.desk_model.specs.declared.command.Answer.TheVariants as answered
+use Rattle.desk_model.specs.declared.command.Change.{Change}
+use Rattle.desk_model.specs.declared.command.Plan.{Plan}
+use Rattle.desk_model.specs.declared.command.Plan.TheVariants.{Leave, Make}
+use Rattle.desk_model.specs.declared.refusal.Refusal.{Refusal}
+use Rattle.desk_model.specs.declared.refusal.Refusal.TheVariants as why
+use Rattle.desk_model.specs.declared.state.ReleaseState.{ReleaseState}
+use Rattle.desk_model.specs.declared.row.Standing.{Standing}
+use Rattle.desk_model.specs.declared.command.Change.TheVariants.{Withdrew}
 use Rattle.desk_history.specs.FromTables.{withdrawn_rows}
 use Rattle.desk_access.specs.Seen.{Seen, Same}
 use Rattle.desk_access.specs.Plans.{IsPlan, Plans, SparesStore}

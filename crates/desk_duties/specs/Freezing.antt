@@ -1,26 +1,26 @@
 -- What the steps of a freeze have found.
 use Rattle.std.specs.Prelude.{◌≡◌, ◌+◌, ℕ, List, [], ◌∷◌, length, nat_lt, nat_le, Option, Some, None}
 use Rattle.desk_base.specs.Limits as most
-use Rattle.desk_rows.specs.Readings.{Readings}
+use Rattle.desk_model.specs.Readings.{Readings}
 use Rattle.std.specs.Prelude.{◌++◌}
-use Rattle.desk_rows.specs.History.{attached_to}
-use Rattle.desk_rows.specs.Lists.{or_else}
-use Rattle.desk_rows.specs.Tables.{Tables}
+use Rattle.desk_model.specs.History.{attached_to}
+use Rattle.desk_model.specs.Lists.{or_else}
+use Rattle.desk_model.specs.Tables.{Tables}
 use Rattle.desk_history.specs.FromTables.{conclusion_found, rules_found, choice_found, shipped_found}
 use Rattle.desk_duties.specs.declared.gathering.Gathered.{Gathered}
-use Rattle.desk_rows.specs.declared.command.Answer.{Answer}
-use Rattle.desk_rows.specs.declared.command.Answer.TheVariants as answered
-use Rattle.desk_rows.specs.Answers.{refused_first, unless, unconcluded, unchosen, first_unadopted, first_unruled, walk}
-use Rattle.desk_rows.specs.Raised.{owed_for, frozen_for, owed_for_terms, frozen_for_terms}
-use Rattle.desk_rows.specs.declared.reading.Conclusion.{Conclusion}
-use Rattle.desk_rows.specs.declared.reading.Rule.{Rule}
-use Rattle.desk_rows.specs.declared.row.AdoptionRow.{AdoptionRow}
-use Rattle.desk_rows.specs.declared.refusal.Limit.TheVariants as limit
-use Rattle.desk_rows.specs.declared.refusal.Refusal.{Refusal}
-use Rattle.desk_rows.specs.declared.refusal.Refusal.TheVariants as why
-use Rattle.desk_rows.specs.declared.row.PackageRow.{PackageRow}
-use Rattle.desk_rows.specs.declared.row.FrozenRow.{FrozenRow}
-use Rattle.desk_rows.specs.declared.row.Owed.{Owed}
+use Rattle.desk_model.specs.declared.command.Answer.{Answer}
+use Rattle.desk_model.specs.declared.command.Answer.TheVariants as answered
+use Rattle.desk_model.specs.Answers.{refused_first, unless, unconcluded, unchosen, first_unadopted, first_unruled, walk}
+use Rattle.desk_model.specs.Raised.{owed_for, frozen_for, owed_for_terms, frozen_for_terms}
+use Rattle.desk_model.specs.declared.reading.Conclusion.{Conclusion}
+use Rattle.desk_model.specs.declared.reading.Rule.{Rule}
+use Rattle.desk_model.specs.declared.row.AdoptionRow.{AdoptionRow}
+use Rattle.desk_model.specs.declared.refusal.Limit.TheVariants as limit
+use Rattle.desk_model.specs.declared.refusal.Refusal.{Refusal}
+use Rattle.desk_model.specs.declared.refusal.Refusal.TheVariants as why
+use Rattle.desk_model.specs.declared.row.PackageRow.{PackageRow}
+use Rattle.desk_model.specs.declared.row.FrozenRow.{FrozenRow}
+use Rattle.desk_model.specs.declared.row.Owed.{Owed}
 
 -- a step of a freeze: the refusal that is due, or none and these rows and duties more
 abbrev pub Gathers : Option Refusal → List FrozenRow → List Owed → Gathered → Gathered → Option Refusal → Type 0

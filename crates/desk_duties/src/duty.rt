@@ -2,24 +2,24 @@
 
 ghost use Rattle.std.specs.Prelude.{◌≡◌, ◌≤◌, ◌<◌, ◌+◌, ◌∷◌, [], IfOk, IfErr, MatchOption, Option, unwrap_or, true, false};
 ghost use Rattle.desk_base.specs.Day.{is_day};
-ghost use Rattle.desk_rows.specs.Readings.{Readings};
-ghost use Rattle.desk_rows.specs.Faults.{MayFail};
-ghost use Rattle.desk_rows.specs.States.{goes_from};
-ghost use Rattle.desk_rows.specs.Texts.{is_before, is_note};
-ghost use Rattle.desk_rows.specs.Moves.{change_row};
-ghost use Rattle.desk_rows.specs.Answers.{gone, settled, is_over, refused_by, refused_alone};
+ghost use Rattle.desk_model.specs.Readings.{Readings};
+ghost use Rattle.desk_model.specs.Faults.{MayFail};
+ghost use Rattle.desk_model.specs.States.{goes_from};
+ghost use Rattle.desk_model.specs.Texts.{is_before, is_note};
+ghost use Rattle.desk_model.specs.Moves.{change_row};
+ghost use Rattle.desk_model.specs.Answers.{gone, settled, is_over, refused_by, refused_alone};
 ghost use Rattle.desk_history.specs.FromTables.{moved_change, moved_found, state_found};
 ghost use Rattle.desk_access.specs.Seen.{Looked, OfRows};
 ghost use Rattle.desk_access.specs.Plans.{IsPlan, IsPlanOf, Plans, SparesStore};
 ghost use Rattle.desk_duties.specs.Moving.{AreDays, IsRead, move_as, move_from, move_known};
-ghost use Rattle.desk_rows.specs.declared.command.Command.TheVariants.{Meet, Waive, Reopen};
+ghost use Rattle.desk_model.specs.declared.command.Command.TheVariants.{Meet, Waive, Reopen};
 
 use desk_access::store::Store;
 use desk_base::{Day, Items, Text, are_shown, limits};
-use desk_packages::{done, refused};
-use desk_rows::{
+use desk_model::{
     Change, ChangeRow, DutyRow, DutyState, Fault, Limit, Move, Plan, Refusal, ReleaseState, Word,
 };
+use desk_packages::{done, refused};
 use std::alloc::{AllocError, Global};
 
 /// Whether the text may stand at a change: 1 to 1,024 bytes without control bytes.

@@ -2,24 +2,24 @@
 
 ghost use Rattle.std.specs.Prelude.{◌≡◌, ◌≤◌, ◌<◌, ◌+◌, ◌^◌, IfOk, IfErr, map, length};
 ghost use Rattle.std.specs.List.{enumerate_from};
-ghost use Rattle.desk_rows.specs.Readings.{Readings};
-ghost use Rattle.desk_rows.specs.Faults.{MayFail};
-ghost use Rattle.desk_rows.specs.Answers.{refused_alone};
+ghost use Rattle.desk_model.specs.Readings.{Readings};
+ghost use Rattle.desk_model.specs.Faults.{MayFail};
+ghost use Rattle.desk_model.specs.Answers.{refused_alone};
 ghost use Rattle.desk_history.specs.FromTables.{new_duty, raised_row, froze_rows, froze_as, freeze_change_found};
 ghost use Rattle.desk_access.specs.Seen.{Looked, OfRows};
 ghost use Rattle.desk_access.specs.Plans.{IsPlan, IsPlanOf, Plans, SparesStore};
 ghost use Rattle.desk_duties.specs.Freezing.{freeze_fits, freeze_open_found};
-ghost use Rattle.desk_rows.specs.declared.command.Command.TheVariants.{Freeze};
+ghost use Rattle.desk_model.specs.declared.command.Command.TheVariants.{Freeze};
 
 use crate::duty::read_day;
 use crate::gathering::{Freezing, Gathered, freeze_packages};
 use desk_access::store::Store;
 use desk_access::texts::Texts;
 use desk_base::{Day, Items, Text, limits};
-use desk_packages::{refused, shipped_packages, unready};
-use desk_rows::{
+use desk_model::{
     Answer, Change, ChangeRow, DutyRow, DutyState, Fault, Limit, Owed, Plan, Refusal, Word,
 };
+use desk_packages::{refused, shipped_packages, unready};
 use std::alloc::{AllocError, Global};
 
 /// The rows of new duties.

@@ -1,10 +1,10 @@
 //! What the packages of a release owe, gathered for its freeze.
 
 ghost use Rattle.std.specs.Prelude.{◌≡◌, ◌++◌, ◌∷◌, [], IfOk, IfErr, OnOk, map};
-ghost use Rattle.desk_rows.specs.Readings.{Readings};
-ghost use Rattle.desk_rows.specs.Faults.{MayFail};
-ghost use Rattle.desk_rows.specs.Raised.{owed_code, frozen_term};
-ghost use Rattle.desk_rows.specs.Answers.{first_unadopted, unadopted};
+ghost use Rattle.desk_model.specs.Readings.{Readings};
+ghost use Rattle.desk_model.specs.Faults.{MayFail};
+ghost use Rattle.desk_model.specs.Raised.{owed_code, frozen_term};
+ghost use Rattle.desk_model.specs.Answers.{first_unadopted, unadopted};
 ghost use Rattle.desk_history.specs.FromTables.{rules_found};
 ghost use Rattle.desk_access.specs.Seen.{Looked, OfRows};
 ghost use Rattle.desk_duties.specs.Freezing.{GathersTerms, GathersPackage, GathersAll, unready_package};
@@ -12,8 +12,8 @@ ghost use Rattle.desk_duties.specs.Freezing.{GathersTerms, GathersPackage, Gathe
 use desk_access::store::Store;
 use desk_access::texts::Texts;
 use desk_base::Text;
+use desk_model::{Conclusion, Fault, FrozenRow, Owed, PackageRow, Refusal, Rule};
 use desk_packages::{conclusion_of, rule_adopted};
-use desk_rows::{Conclusion, Fault, FrozenRow, Owed, PackageRow, Refusal, Rule};
 use std::alloc::{AllocError, Global};
 
 /// What a freeze has gathered: the frozen terms, and the duties that they owe.

@@ -1,19 +1,21 @@
 //! Releases are withdrawn, and waivers end.
 
 ghost use Rattle.std.specs.Prelude.{◌≡◌, ◌+◌, IfOk, IfErr, length, filter, map, false};
-ghost use Rattle.desk_rows.specs.Readings.{Readings};
-ghost use Rattle.desk_rows.specs.Faults.{MayFail};
-ghost use Rattle.desk_rows.specs.Answers.{refused_alone};
+ghost use Rattle.desk_model.specs.Readings.{Readings};
+ghost use Rattle.desk_model.specs.Faults.{MayFail};
+ghost use Rattle.desk_model.specs.Answers.{refused_alone};
 ghost use Rattle.desk_history.specs.FromTables.{ended_rows, is_unmet, next_row, withdrawn_rows};
 ghost use Rattle.desk_access.specs.Seen.{OfRows};
 ghost use Rattle.desk_access.specs.Plans.{IsPlanOf, Plans, SparesStore};
-ghost use Rattle.desk_rows.specs.declared.command.Command.TheVariants.{Withdraw, CloseDay};
+ghost use Rattle.desk_model.specs.declared.command.Command.TheVariants.{Withdraw, CloseDay};
 
 use crate::duty::{gone, is_note, read_day};
 use desk_access::store::Store;
 use desk_base::{Day, Items, Text};
+use desk_model::{
+    Answer, Change, ChangeRow, DutyState, Fault, Move, Plan, Refusal, Standing, Word,
+};
 use desk_packages::{done, refused};
-use desk_rows::{Answer, Change, ChangeRow, DutyState, Fault, Move, Plan, Refusal, Standing, Word};
 use std::alloc::{AllocError, Global};
 
 /// The number of the step after so many. A duty of a recorded history has at most 1,001 changes

@@ -13,3 +13,9 @@ pub mod TermStops
 pub mod TreeOrStop
 pub mod Order
 pub mod Formed
+pub mod Ordered
+pub mod Subsets
+pub mod Alternatives
+pub mod Widths
+pub mod Listings
+pub mod Cheapest

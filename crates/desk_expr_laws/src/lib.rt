@@ -14,9 +14,13 @@
 //! Each term that a text spells is well formed (`spelled_terms_are_well_formed`), and well-formed terms sort as their texts
 //! (`terms_sort_as_their_texts`).
 //!
+//! A tree has one listing of its minimal sets, and one cheapest or none (`minimal_sets`).
+//!
 //! A tree and a verdict have no second answer: that a text spells one tree at most is the clause `only` of
 //! `desk_expr::parse_in`, and that a choice has one verdict is `one_verdict`.
 #![tactic(auto)]
+
+pub mod minimal_sets;
 
 ghost use Rattle.std.specs.Prelude.{◌≡◌, ◌⊎◌, ◌<◌, ℕ, List, Contains, IsTrue};
 ghost use Rattle.std.specs.Ordering.{nat_cmp};

@@ -3,12 +3,12 @@ use Rattle.std.proofs.Common.{[], ⊎_elim}
 use Rattle.std.specs.Prelude.{IsTrue}
 use Rattle.sqlite_trees.specs.Tree.{Trees}
 use Rattle.sqlite.specs.State.{State, HasCleanDisk}
-use Rattle.desk_rows.specs.Readings.{Readings}
-use Rattle.desk_rows.specs.Tables.{Tables, tables}
+use Rattle.desk_model.specs.Readings.{Readings}
+use Rattle.desk_model.specs.Tables.{Tables, tables}
 use Rattle.desk_access.specs.Seen.{Seen}
 use Rattle.desk_core.specs.Desks.{Secures}
-use Rattle.desk_layout.specs.Held.{Stands, seen_of}
-use Rattle.desk_adopting.specs.Reading.{HasStayed}
+use Rattle.desk_sql_layout.specs.Held.{Stands, seen_of}
+use Rattle.desk_sql_adopt.specs.Reading.{HasStayed}
 use Rattle.desk_store.specs.Adopting.{IsEmpty}
 
 pub secure_empty : (s : Seen Trees) → IsEmpty s → s.is_honest → (w : Readings) → Secures Stands (tables w []) s

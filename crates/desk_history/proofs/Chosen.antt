@@ -11,20 +11,20 @@ use Rattle.std.proofs.lemmas.Cmp.{nat_list_cmp_total, nat_cmp_total, tied_itself
 use Rattle.std.proofs.lemmas.Map.Text.{is_eq-slice_cmp}
 use Rattle.std.proofs.lemmas.List.Elements.{filter-append}
 use Rattle.std.proofs.Math.Path.{fun_ext}
-use Rattle.desk_rows.specs.Lists.{latest, or_else, in_order}
-use Rattle.desk_rows.specs.Texts.{text_below, put_new, sorted_set}
-use Rattle.desk_rows.specs.Readings.{Readings}
-use Rattle.desk_rows.specs.Keys.{is_choice_of, is_choice_in, below_by, choice_order}
-use Rattle.desk_rows.specs.History.{term_set, terms_given, choice, is_package_of}
-use Rattle.desk_rows.specs.Raised.{chosen_in}
-use Rattle.desk_rows.specs.Tables.{tables, standing, choice_row, is_other_choice, is_choice_elsewhere}
+use Rattle.desk_model.specs.Lists.{latest, or_else, in_order}
+use Rattle.desk_model.specs.Texts.{text_below, put_new, sorted_set}
+use Rattle.desk_model.specs.Readings.{Readings}
+use Rattle.desk_model.specs.Keys.{is_choice_of, is_choice_in, below_by, choice_order}
+use Rattle.desk_model.specs.History.{term_set, terms_given, choice, is_package_of}
+use Rattle.desk_model.specs.Raised.{chosen_in}
+use Rattle.desk_model.specs.Tables.{tables, standing, choice_row, is_other_choice, is_choice_elsewhere}
 use Rattle.desk_history.specs.FromTables.{choice_found, terms_found}
 use Rattle.desk_history.proofs.Orders.{filter-in_order, choice_is_order, under, put_first}
-use Rattle.desk_rows.specs.declared.row.PackageRow.{PackageRow}
-use Rattle.desk_rows.specs.declared.row.ChoiceRow.{ChoiceRow}
-use Rattle.desk_rows.specs.declared.command.Command.{Command}
-use Rattle.desk_rows.specs.declared.command.Command.TheVariants.{Choose, Unchoose, Withdraw}
-use Rattle.desk_rows.proofs.Orders.{IsOrder, order_of}
+use Rattle.desk_model.specs.declared.row.PackageRow.{PackageRow}
+use Rattle.desk_model.specs.declared.row.ChoiceRow.{ChoiceRow}
+use Rattle.desk_model.specs.declared.command.Command.{Command}
+use Rattle.desk_model.specs.declared.command.Command.TheVariants.{Choose, Unchoose, Withdraw}
+use Rattle.desk_model.proofs.Orders.{IsOrder, order_of}
 use Rattle.desk_base.proofs.Bools.{both, and_left, and_right}
 use Rattle.desk_base.proofs.Texts.{texts_equal, same_text}
 use Rattle.desk_base.proofs.Numbers.{numbers_equal, same_number}

@@ -5,15 +5,15 @@ use Rattle.std.specs.List.{list_any}
 use Rattle.std.specs.Option.{option_map}
 use Rattle.std.specs.Str.{bytes_eq}
 use Rattle.std.proofs.lemmas.Cmp.{on_total, then_total, nat_list_cmp_total, nat_cmp_total}
-use Rattle.desk_rows.specs.Lists.{latest, or_else, put, replaced, ascends, over}
-use Rattle.desk_rows.specs.Readings.{Readings}
-use Rattle.desk_rows.specs.Keys.{below_by, conclusion_order, adoption_order, is_conclusion, is_adoption}
-use Rattle.desk_rows.specs.Conclusions.{conclusions, conclusion_row, office_text, text_given, adoptions, adoption_row, licence_for, licence_given}
-use Rattle.desk_rows.specs.declared.row.AdoptionRow.{AdoptionRow}
-use Rattle.desk_rows.specs.declared.row.ConclusionRow.{ConclusionRow}
-use Rattle.desk_rows.specs.declared.command.Command.{Command}
-use Rattle.desk_rows.specs.declared.command.Command.TheVariants.{Conclude, Adopt}
-use Rattle.desk_rows.proofs.Orders.{IsOrder, order_of, ascends-put}
+use Rattle.desk_model.specs.Lists.{latest, or_else, put, replaced, ascends, over}
+use Rattle.desk_model.specs.Readings.{Readings}
+use Rattle.desk_model.specs.Keys.{below_by, conclusion_order, adoption_order, is_conclusion, is_adoption}
+use Rattle.desk_model.specs.Conclusions.{conclusions, conclusion_row, office_text, text_given, adoptions, adoption_row, licence_for, licence_given}
+use Rattle.desk_model.specs.declared.row.AdoptionRow.{AdoptionRow}
+use Rattle.desk_model.specs.declared.row.ConclusionRow.{ConclusionRow}
+use Rattle.desk_model.specs.declared.command.Command.{Command}
+use Rattle.desk_model.specs.declared.command.Command.TheVariants.{Conclude, Adopt}
+use Rattle.desk_model.proofs.Orders.{IsOrder, order_of, ascends-put}
 use Rattle.desk_base.proofs.Bools.{and_left, and_right, both}
 use Rattle.desk_base.proofs.Texts.{texts_equal, same_text}
 use Rattle.desk_base.proofs.Numbers.{numbers_equal, same_number}

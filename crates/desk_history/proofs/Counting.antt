@@ -2,10 +2,10 @@
 use Rattle.std.proofs.Common.{◌≡◌, ◌+◌, cond, List, [], ◌∷◌, length, refl, arith}
 use Rattle.std.specs.Prelude.{count_by}
 use Rattle.std.proofs.lemmas.List.Sums.{sum_by-cons}
-use Rattle.desk_rows.specs.States.{is_open, is_met, is_waived, is_withdrawn}
-use Rattle.desk_rows.specs.declared.row.DutyRow.{DutyRow}
-use Rattle.desk_rows.specs.declared.state.DutyState.{DutyState}
-use Rattle.desk_rows.specs.declared.state.DutyState.TheVariants as stands
+use Rattle.desk_model.specs.States.{is_open, is_met, is_waived, is_withdrawn}
+use Rattle.desk_model.specs.declared.row.DutyRow.{DutyRow}
+use Rattle.desk_model.specs.declared.state.DutyState.{DutyState}
+use Rattle.desk_model.specs.declared.state.DutyState.TheVariants as stands
 
 one_place : (s : DutyState) → cond (is_open s) 1 0 + cond (is_met s) 1 0 + cond (is_waived s) 1 0 + cond (is_withdrawn s) 1 0 ≡ 1
 one_place stands.IsOpen = refl

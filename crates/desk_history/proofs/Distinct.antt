@@ -3,7 +3,7 @@ use Rattle.std.proofs.Common.{◌≡◌, Bool, true, false, cond, List, [], ◌�
 use Rattle.std.specs.Prelude.{filter, if◌then◌else◌}
 use Rattle.std.specs.List.{flat_map}
 use Rattle.std.proofs.lemmas.List.{map-append}
-use Rattle.desk_rows.specs.Lists.{IsIn, put}
+use Rattle.desk_model.specs.Lists.{IsIn, put}
 use Rattle.desk_history.specs.Laws.{AreDistinct}
 use Rattle.desk_history.proofs.Members.{in_cases, in_map, from_map, from_flat_map}
 

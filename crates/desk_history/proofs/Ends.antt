@@ -2,19 +2,19 @@
 use Rattle.std.proofs.Common.{◌≡◌, ◌⊎◌, ℕ, Bool, true, false, List, [], ◌∷◌, Option, Some, None, refl, ap, ◌∙◌, inl, inr}
 use Rattle.std.specs.Prelude.{◌&&◌, not, if◌then◌else◌, unwrap_or}
 use Rattle.std.specs.Option.{option_map_or}
-use Rattle.desk_rows.specs.Lists.{latest, or_else}
-use Rattle.desk_rows.specs.Texts.{is_before}
-use Rattle.desk_rows.specs.Readings.{Readings}
-use Rattle.desk_rows.specs.History.{choice, terms_given}
-use Rattle.desk_rows.specs.States.{is_met, is_waived, state_after}
-use Rattle.desk_rows.specs.Moves.{moves, place, place_after, end_after, has_ended, is_raised_for, move_if, with_move}
-use Rattle.desk_rows.specs.declared.row.Move.{Move}
-use Rattle.desk_rows.specs.declared.state.DutyState.{DutyState}
-use Rattle.desk_rows.specs.declared.state.DutyState.TheVariants as stands
-use Rattle.desk_rows.specs.declared.state.Word.{Word}
-use Rattle.desk_rows.specs.declared.state.Word.TheVariants as word
-use Rattle.desk_rows.specs.declared.command.Command.{Command}
-use Rattle.desk_rows.specs.declared.command.Command.TheVariants.{CloseDay, Withdraw}
+use Rattle.desk_model.specs.Lists.{latest, or_else}
+use Rattle.desk_model.specs.Texts.{is_before}
+use Rattle.desk_model.specs.Readings.{Readings}
+use Rattle.desk_model.specs.History.{choice, terms_given}
+use Rattle.desk_model.specs.States.{is_met, is_waived, state_after}
+use Rattle.desk_model.specs.Moves.{moves, place, place_after, end_after, has_ended, is_raised_for, move_if, with_move}
+use Rattle.desk_model.specs.declared.row.Move.{Move}
+use Rattle.desk_model.specs.declared.state.DutyState.{DutyState}
+use Rattle.desk_model.specs.declared.state.DutyState.TheVariants as stands
+use Rattle.desk_model.specs.declared.state.Word.{Word}
+use Rattle.desk_model.specs.declared.state.Word.TheVariants as word
+use Rattle.desk_model.specs.declared.command.Command.{Command}
+use Rattle.desk_model.specs.declared.command.Command.TheVariants.{CloseDay, Withdraw}
 use Rattle.desk_history.specs.Laws.{IsOver}
 use Rattle.desk_base.proofs.Texts.{same_text}
 use Rattle.desk_base.proofs.Bools.{and_left, and_right}

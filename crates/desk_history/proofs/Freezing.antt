@@ -7,30 +7,30 @@ use Rattle.std.specs.Str.{bytes_eq}
 use Rattle.std.proofs.lemmas.List.{length-map, map-append}
 use Rattle.std.proofs.lemmas.List.Concat.{flat_map-append, flat_map_single}
 use Rattle.std.proofs.lemmas.Bool.Decides.{nat_tests}
-use Rattle.desk_rows.specs.Lists.{put_all, in_order, updated}
-use Rattle.desk_rows.specs.Readings.{Readings}
-use Rattle.desk_rows.specs.Keys.{is_release, below_by, frozen_order}
-use Rattle.desk_rows.specs.History.{revisions, in_force, rules_in, attached, names, form_of}
-use Rattle.desk_rows.specs.declared.row.Owed.{Owed}
-use Rattle.desk_rows.specs.Conclusions.{adoptions}
-use Rattle.desk_rows.specs.Raised.{raised, owed_at, owed_for, numbered, shipped, chosen_in, frozen, frozen_at, frozen_for}
-use Rattle.desk_rows.specs.declared.row.Move.{Move}
-use Rattle.desk_rows.specs.Moves.{duties, duty_row, changes, moves, place, move_by, raises, duty_at, is_raised_for, all_changes}
-use Rattle.desk_rows.specs.declared.state.Word.TheVariants as word
+use Rattle.desk_model.specs.Lists.{put_all, in_order, updated}
+use Rattle.desk_model.specs.Readings.{Readings}
+use Rattle.desk_model.specs.Keys.{is_release, below_by, frozen_order}
+use Rattle.desk_model.specs.History.{revisions, in_force, rules_in, attached, names, form_of}
+use Rattle.desk_model.specs.declared.row.Owed.{Owed}
+use Rattle.desk_model.specs.Conclusions.{adoptions}
+use Rattle.desk_model.specs.Raised.{raised, owed_at, owed_for, numbered, shipped, chosen_in, frozen, frozen_at, frozen_for}
+use Rattle.desk_model.specs.declared.row.Move.{Move}
+use Rattle.desk_model.specs.Moves.{duties, duty_row, changes, moves, place, move_by, raises, duty_at, is_raised_for, all_changes}
+use Rattle.desk_model.specs.declared.state.Word.TheVariants as word
 use Rattle.desk_history.proofs.Moving.{in_range, known_at}
-use Rattle.desk_rows.specs.Tables.{tables, release_row, with_release_state}
-use Rattle.desk_rows.specs.Answers.{Freezing, freezing, walk, conclusion}
+use Rattle.desk_model.specs.Tables.{tables, release_row, with_release_state}
+use Rattle.desk_model.specs.Answers.{Freezing, freezing, walk, conclusion}
 use Rattle.desk_history.specs.FromTables.{freezing_found, rules_found, form_found, choice_found, owed_found, frozen_found, new_duty, raised_row, new_duties}
 use Rattle.desk_history.proofs.Rows.{updated-map, texts_turned, in_order-append, map-map}
 use Rattle.desk_history.proofs.Lookups.{state-found, form-found, rules-found}
 use Rattle.desk_history.proofs.Chosen.{choice-found}
-use Rattle.desk_rows.specs.declared.row.DutyRow.{DutyRow}
-use Rattle.desk_rows.specs.declared.row.ChangeRow.{ChangeRow}
-use Rattle.desk_rows.specs.declared.refusal.Refusal.{Refusal}
-use Rattle.desk_rows.specs.declared.state.ReleaseState.{ReleaseState}
-use Rattle.desk_rows.specs.declared.state.ReleaseState.TheVariants.{Frozen}
-use Rattle.desk_rows.specs.declared.command.Command.{Command}
-use Rattle.desk_rows.specs.declared.command.Command.TheVariants.{Freeze, Meet, Waive, Reopen, Withdraw}
+use Rattle.desk_model.specs.declared.row.DutyRow.{DutyRow}
+use Rattle.desk_model.specs.declared.row.ChangeRow.{ChangeRow}
+use Rattle.desk_model.specs.declared.refusal.Refusal.{Refusal}
+use Rattle.desk_model.specs.declared.state.ReleaseState.{ReleaseState}
+use Rattle.desk_model.specs.declared.state.ReleaseState.TheVariants.{Frozen}
+use Rattle.desk_model.specs.declared.command.Command.{Command}
+use Rattle.desk_model.specs.declared.command.Command.TheVariants.{Freeze, Meet, Waive, Reopen, Withdraw}
 use Rattle.desk_base.proofs.Texts.{text_tells}
 
 -- What is looked up

@@ -5,26 +5,26 @@ use Rattle.std.specs.List.{filter_map}
 use Rattle.std.specs.Option.{option_or}
 use Rattle.std.specs.Result.{result_ok}
 use Rattle.std.proofs.lemmas.List.Folds.{find-append}
-use Rattle.desk_rows.specs.Lists.{latest, or_else, IsIn}
+use Rattle.desk_model.specs.Lists.{latest, or_else, IsIn}
 use Rattle.std.specs.Str.{bytes_eq}
-use Rattle.desk_rows.specs.Readings.{Readings}
-use Rattle.desk_rows.specs.Keys.{is_document, is_package, is_conclusion}
-use Rattle.desk_rows.specs.Conclusions.{adoptions, conclusion_row, text_given}
+use Rattle.desk_model.specs.Readings.{Readings}
+use Rattle.desk_model.specs.Keys.{is_document, is_package, is_conclusion}
+use Rattle.desk_model.specs.Conclusions.{adoptions, conclusion_row, text_given}
 use Rattle.desk_history.proofs.Concluding.{key_number, key_text}
 use Rattle.desk_history.proofs.Holding.{conclusion_stays, unheld}
-use Rattle.desk_rows.specs.History.{choice, documents, form_of, in_force, namespace_in, package_row, packages, packages_in, rules_in, is_package_of, term_set, terms_given}
-use Rattle.desk_rows.specs.Raised.{chosen_in, frozen, frozen_at, frozen_for_terms, frozen_under, rule_adopted, shipped}
-use Rattle.desk_rows.specs.Answers.{answer, is_recorded, IsHistory}
+use Rattle.desk_model.specs.History.{choice, documents, form_of, in_force, namespace_in, package_row, packages, packages_in, rules_in, is_package_of, term_set, terms_given}
+use Rattle.desk_model.specs.Raised.{chosen_in, frozen, frozen_at, frozen_for_terms, frozen_under, rule_adopted, shipped}
+use Rattle.desk_model.specs.Answers.{answer, is_recorded, IsHistory}
 use Rattle.desk_history.specs.Laws.{IsFrozenTerm, IsHeldMinimal}
 use Rattle.desk_history.proofs.Members.{in_cases, from_flat_map}
 use Rattle.desk_history.proofs.Chosen.{same_package}
 use Rattle.desk_history.proofs.Minimal.{history_before, recorded_is_minimal}
-use Rattle.desk_rows.specs.declared.reading.Rule.{Rule}
-use Rattle.desk_rows.specs.declared.row.DocumentRow.{DocumentRow}
-use Rattle.desk_rows.specs.declared.row.FrozenRow.{FrozenRow}
-use Rattle.desk_rows.specs.declared.row.PackageRow.{PackageRow}
-use Rattle.desk_rows.specs.declared.command.Command.{Command}
-use Rattle.desk_rows.specs.declared.command.Command.TheVariants.{Import, Choose, Unchoose, Freeze, Withdraw, Conclude}
+use Rattle.desk_model.specs.declared.reading.Rule.{Rule}
+use Rattle.desk_model.specs.declared.row.DocumentRow.{DocumentRow}
+use Rattle.desk_model.specs.declared.row.FrozenRow.{FrozenRow}
+use Rattle.desk_model.specs.declared.row.PackageRow.{PackageRow}
+use Rattle.desk_model.specs.declared.command.Command.{Command}
+use Rattle.desk_model.specs.declared.command.Command.TheVariants.{Import, Choose, Unchoose, Freeze, Withdraw, Conclude}
 
 -- what is found stays found when more comes behind it
 found_before : {A : Type 0} (test : A → Bool) (xs ys : List A) (x : A) → find test xs ≡ Some x → find test (xs ++ ys) ≡ Some x

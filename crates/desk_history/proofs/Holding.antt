@@ -4,21 +4,21 @@ use Rattle.std.specs.Prelude.{if◌then◌else◌, filter, find, ◌||◌, nat_l
 use Rattle.std.specs.List.{list_any}
 use Rattle.std.specs.Option.{option_map}
 use Rattle.std.specs.Str.{bytes_eq}
-use Rattle.desk_rows.specs.Lists.{latest, or_else}
-use Rattle.desk_rows.specs.Readings.{Readings}
-use Rattle.desk_rows.specs.Keys.{is_choice_of, is_document, is_package, below_by, choice_order}
-use Rattle.desk_rows.specs.History.{documents, packages, choice, form_of, state_of, names, is_package_of, profile_of, term_set, terms_given}
-use Rattle.desk_rows.specs.Conclusions.{conclusions, office_text, text_given, conclusion_by, holds, sooner, first_opened, holder}
-use Rattle.desk_rows.specs.Tables.{release_row, release_rows, standing, choices, choice_row}
-use Rattle.desk_rows.specs.Answers.{answer, conclusion, Concluding, conclude_answer, concluding, Choosing, choose_answer, choosing, first_bad, is_recorded, IsHistory, unless}
+use Rattle.desk_model.specs.Lists.{latest, or_else}
+use Rattle.desk_model.specs.Readings.{Readings}
+use Rattle.desk_model.specs.Keys.{is_choice_of, is_document, is_package, below_by, choice_order}
+use Rattle.desk_model.specs.History.{documents, packages, choice, form_of, state_of, names, is_package_of, profile_of, term_set, terms_given}
+use Rattle.desk_model.specs.Conclusions.{conclusions, office_text, text_given, conclusion_by, holds, sooner, first_opened, holder}
+use Rattle.desk_model.specs.Tables.{release_row, release_rows, standing, choices, choice_row}
+use Rattle.desk_model.specs.Answers.{answer, conclusion, Concluding, conclude_answer, concluding, Choosing, choose_answer, choosing, first_bad, is_recorded, IsHistory, unless}
 use Rattle.desk_history.proofs.Recorded.{past, is_so}
-use Rattle.desk_rows.specs.declared.refusal.Refusal.TheVariants as why
-use Rattle.desk_rows.specs.declared.row.ChoiceRow.{ChoiceRow}
-use Rattle.desk_rows.specs.declared.row.DocumentRow.{DocumentRow}
-use Rattle.desk_rows.specs.declared.row.PackageRow.{PackageRow}
-use Rattle.desk_rows.specs.declared.row.ReleaseRow.{ReleaseRow}
-use Rattle.desk_rows.specs.declared.command.Command.{Command}
-use Rattle.desk_rows.specs.declared.command.Command.TheVariants.{Choose, Unchoose, Withdraw, OpenRelease, Conclude}
+use Rattle.desk_model.specs.declared.refusal.Refusal.TheVariants as why
+use Rattle.desk_model.specs.declared.row.ChoiceRow.{ChoiceRow}
+use Rattle.desk_model.specs.declared.row.DocumentRow.{DocumentRow}
+use Rattle.desk_model.specs.declared.row.PackageRow.{PackageRow}
+use Rattle.desk_model.specs.declared.row.ReleaseRow.{ReleaseRow}
+use Rattle.desk_model.specs.declared.command.Command.{Command}
+use Rattle.desk_model.specs.declared.command.Command.TheVariants.{Choose, Unchoose, Withdraw, OpenRelease, Conclude}
 use Rattle.desk_history.proofs.Chosen.{same_package, standing-choice}
 use Rattle.desk_history.proofs.Concluding.{office_text_after, key_number, key_text}
 use Rattle.desk_history.proofs.Lookups.{names-form}

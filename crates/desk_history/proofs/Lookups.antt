@@ -8,18 +8,18 @@ use Rattle.std.specs.Str.{bytes_eq}
 use Rattle.std.proofs.lemmas.List.{length-map}
 use Rattle.std.proofs.lemmas.List.Elements.{filter-append}
 use Rattle.std.proofs.lemmas.Bool.Decides.{nat_tests}
-use Rattle.desk_rows.specs.Texts.{text_below}
-use Rattle.desk_rows.specs.Readings.{Readings}
-use Rattle.desk_rows.specs.Keys.{is_release, is_rule_of, is_choice_of}
-use Rattle.desk_rows.specs.History.{revisions, in_force, rules_in, rule_row, rule_rows, opened, names, form_of, state_of, is_package_of}
-use Rattle.desk_rows.specs.Tables.{tables, release_row, choice_row}
-use Rattle.desk_rows.specs.Answers.{release_state}
+use Rattle.desk_model.specs.Texts.{text_below}
+use Rattle.desk_model.specs.Readings.{Readings}
+use Rattle.desk_model.specs.Keys.{is_release, is_rule_of, is_choice_of}
+use Rattle.desk_model.specs.History.{revisions, in_force, rules_in, rule_row, rule_rows, opened, names, form_of, state_of, is_package_of}
+use Rattle.desk_model.specs.Tables.{tables, release_row, choice_row}
+use Rattle.desk_model.specs.Answers.{release_state}
 use Rattle.desk_history.specs.FromTables.{release_found, state_found, form_found, rules_found, rule_of}
 use Rattle.desk_history.proofs.Rows.{find-map, find_text, list_any-in_order, length-in_order}
-use Rattle.desk_rows.specs.declared.reading.Rule.{Rule}
-use Rattle.desk_rows.specs.declared.row.ReleaseRow.{ReleaseRow}
-use Rattle.desk_rows.specs.declared.command.Command.{Command}
-use Rattle.desk_rows.specs.declared.command.Command.TheVariants.{LoadCatalogue, OpenRelease}
+use Rattle.desk_model.specs.declared.reading.Rule.{Rule}
+use Rattle.desk_model.specs.declared.row.ReleaseRow.{ReleaseRow}
+use Rattle.desk_model.specs.declared.command.Command.{Command}
+use Rattle.desk_model.specs.declared.command.Command.TheVariants.{LoadCatalogue, OpenRelease}
 use Rattle.desk_base.proofs.Texts.{text_tells}
 
 -- Releases

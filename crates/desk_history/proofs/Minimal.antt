@@ -3,20 +3,20 @@ use Rattle.std.proofs.Common.{◌≡◌, ℕ, true, List, [], ◌∷◌, ◌++�
 use Rattle.std.specs.Prelude.{find, is_some, IsTrue}
 use Rattle.std.specs.List.{filter_map}
 use Rattle.std.specs.Option.{option_map, option_and_then}
-use Rattle.desk_rows.specs.Readings.{Readings}
-use Rattle.desk_rows.specs.Keys.{is_document}
-use Rattle.desk_rows.specs.History.{documents}
-use Rattle.desk_rows.specs.Answers.{answer, is_recorded, IsHistory, conclusion, Choosing, choosing, first_bad, is_shipped, not_enough, not_minimal, unconcluded, unless, unready, verdict_on}
+use Rattle.desk_model.specs.Readings.{Readings}
+use Rattle.desk_model.specs.Keys.{is_document}
+use Rattle.desk_model.specs.History.{documents}
+use Rattle.desk_model.specs.Answers.{answer, is_recorded, IsHistory, conclusion, Choosing, choosing, first_bad, is_shipped, not_enough, not_minimal, unconcluded, unless, unready, verdict_on}
 use Rattle.desk_history.specs.Laws.{IsMinimalChoice}
 use Rattle.desk_history.proofs.Recorded.{past, is_so}
-use Rattle.desk_rows.specs.declared.reading.Conclusion.{Conclusion}
-use Rattle.desk_rows.specs.declared.reading.Verdict.{Verdict}
-use Rattle.desk_rows.specs.declared.reading.Verdict.TheVariants.{NotEnough, Superfluous, Minimal}
-use Rattle.desk_rows.specs.declared.refusal.Refusal.TheVariants as why
-use Rattle.desk_rows.specs.declared.row.DocumentRow.{DocumentRow}
-use Rattle.desk_rows.specs.declared.row.PackageRow.{PackageRow}
-use Rattle.desk_rows.specs.declared.command.Command.{Command}
-use Rattle.desk_rows.specs.declared.command.Command.TheVariants.{Choose}
+use Rattle.desk_model.specs.declared.reading.Conclusion.{Conclusion}
+use Rattle.desk_model.specs.declared.reading.Verdict.{Verdict}
+use Rattle.desk_model.specs.declared.reading.Verdict.TheVariants.{NotEnough, Superfluous, Minimal}
+use Rattle.desk_model.specs.declared.refusal.Refusal.TheVariants as why
+use Rattle.desk_model.specs.declared.row.DocumentRow.{DocumentRow}
+use Rattle.desk_model.specs.declared.row.PackageRow.{PackageRow}
+use Rattle.desk_model.specs.declared.command.Command.{Command}
+use Rattle.desk_model.specs.declared.command.Command.TheVariants.{Choose}
 
 minimal_by : (terms : List (List ℕ)) (v : Verdict) → not_enough v ≡ None → not_minimal terms v ≡ None → v ≡ Minimal
 minimal_by terms NotEnough e f = cc

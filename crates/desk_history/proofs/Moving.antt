@@ -7,30 +7,30 @@ use Rattle.std.proofs.lemmas.List.Elements.{filter-append}
 use Rattle.std.proofs.lemmas.List.Folds.{list_any-append, list_all-append}
 use Rattle.std.proofs.lemmas.Bool.Decides.{nat_tests, eqb_tells}
 use Rattle.desk_base.specs.Day.{is_day}
-use Rattle.desk_rows.specs.Lists.{put, put_all, updated}
-use Rattle.desk_rows.specs.Texts.{is_note}
-use Rattle.desk_rows.specs.Readings.{Readings}
-use Rattle.desk_rows.specs.Keys.{is_duty, is_change_of, change_below}
-use Rattle.desk_rows.specs.declared.row.Owed.{Owed}
-use Rattle.desk_rows.specs.Raised.{raised, numbered}
-use Rattle.desk_rows.specs.States.{state_after}
-use Rattle.desk_rows.specs.declared.row.Move.{Move}
-use Rattle.desk_rows.specs.Moves.{move_if, is_known, with_move, duties, duty_row, duty_at, changes, change_rows, change_row, moves, place, place_after, all_changes}
-use Rattle.desk_rows.specs.Tables.{tables, with_duty_state, moved_by}
-use Rattle.desk_rows.specs.Answers.{is_recorded, is_over, unless, release_state_of, Moving, move_answer, moving}
+use Rattle.desk_model.specs.Lists.{put, put_all, updated}
+use Rattle.desk_model.specs.Texts.{is_note}
+use Rattle.desk_model.specs.Readings.{Readings}
+use Rattle.desk_model.specs.Keys.{is_duty, is_change_of, change_below}
+use Rattle.desk_model.specs.declared.row.Owed.{Owed}
+use Rattle.desk_model.specs.Raised.{raised, numbered}
+use Rattle.desk_model.specs.States.{state_after}
+use Rattle.desk_model.specs.declared.row.Move.{Move}
+use Rattle.desk_model.specs.Moves.{move_if, is_known, with_move, duties, duty_row, duty_at, changes, change_rows, change_row, moves, place, place_after, all_changes}
+use Rattle.desk_model.specs.Tables.{tables, with_duty_state, moved_by}
+use Rattle.desk_model.specs.Answers.{is_recorded, is_over, unless, release_state_of, Moving, move_answer, moving}
 use Rattle.desk_history.proofs.Recorded.{past, is_so}
 use Rattle.desk_history.specs.FromTables.{duty_found, steps_found, release_state_found, moved_found}
 use Rattle.desk_history.proofs.Rows.{find-map, put-past}
 use Rattle.desk_history.proofs.Lookups.{state-found}
 use Rattle.desk_history.proofs.Orders.{put_first}
-use Rattle.desk_rows.specs.declared.row.ChangeRow.{ChangeRow}
-use Rattle.desk_rows.specs.declared.row.DutyRow.{DutyRow}
-use Rattle.desk_rows.specs.declared.state.ReleaseState.{ReleaseState}
-use Rattle.desk_rows.specs.declared.state.ReleaseState.TheVariants as release
-use Rattle.desk_rows.specs.declared.state.DutyState.{DutyState}
-use Rattle.desk_rows.specs.declared.state.Word.{Word}
-use Rattle.desk_rows.specs.declared.refusal.Refusal.TheVariants as why
-use Rattle.desk_rows.specs.declared.command.Command.{Command}
+use Rattle.desk_model.specs.declared.row.ChangeRow.{ChangeRow}
+use Rattle.desk_model.specs.declared.row.DutyRow.{DutyRow}
+use Rattle.desk_model.specs.declared.state.ReleaseState.{ReleaseState}
+use Rattle.desk_model.specs.declared.state.ReleaseState.TheVariants as release
+use Rattle.desk_model.specs.declared.state.DutyState.{DutyState}
+use Rattle.desk_model.specs.declared.state.Word.{Word}
+use Rattle.desk_model.specs.declared.refusal.Refusal.TheVariants as why
+use Rattle.desk_model.specs.declared.command.Command.{Command}
 use Rattle.desk_base.proofs.Numbers.{same_number}
 use Rattle.desk_base.proofs.Bools.{and_left, and_right}
 

@@ -1,15 +1,15 @@
 -- The number of a duty, by the freeze that raises it; and that it stays.
 use Rattle.std.proofs.Common.{◌≡◌, ℕ, ◌+◌, List, [], ◌∷◌, ◌++◌, length, sym, refl, ap, subst, inl, inr}
 use Rattle.std.specs.List.{enumerate_from}
-use Rattle.desk_rows.specs.Lists.{IsIn}
-use Rattle.desk_rows.specs.Readings.{Readings}
-use Rattle.desk_rows.specs.Raised.{raised, owed_at, numbered}
+use Rattle.desk_model.specs.Lists.{IsIn}
+use Rattle.desk_model.specs.Readings.{Readings}
+use Rattle.desk_model.specs.Raised.{raised, owed_at, numbered}
 use Rattle.desk_history.specs.Laws.{IsNumbered}
 use Rattle.desk_history.proofs.Members.{in_left, in_right, in_cases}
 use Rattle.desk_history.proofs.Freezing.{numbered-append}
-use Rattle.desk_rows.specs.declared.row.Owed.{Owed}
-use Rattle.desk_rows.specs.declared.command.Command.{Command}
-use Rattle.desk_rows.specs.declared.command.Command.TheVariants.{Freeze}
+use Rattle.desk_model.specs.declared.row.Owed.{Owed}
+use Rattle.desk_model.specs.declared.command.Command.{Command}
+use Rattle.desk_model.specs.declared.command.Command.TheVariants.{Freeze}
 
 -- a freeze numbers its duties on from those before it
 numbered-freeze : (w : Readings) (h : List Command) (r day : List ℕ) → numbered w (Freeze r day ∷ h) ≡ numbered w h ++ enumerate_from (1 + length (raised w h)) (owed_at w h r)

@@ -5,21 +5,21 @@ use Rattle.std.specs.List.{list_any}
 use Rattle.std.specs.Option.{option_map, option_and_then}
 use Rattle.std.specs.Str.{bytes_eq}
 use Rattle.desk_base.specs.Day.{is_day}
-use Rattle.desk_rows.specs.Lists.{latest, or_else, put}
-use Rattle.desk_rows.specs.Texts.{text_below, is_release_name, is_note}
-use Rattle.desk_rows.specs.Readings.{Readings}
-use Rattle.desk_rows.specs.Keys.{release_below}
-use Rattle.desk_rows.specs.History.{opened, names, form_of, state_given, state_of, revision_of}
-use Rattle.desk_rows.specs.Tables.{release_row}
-use Rattle.desk_rows.specs.Answers.{IsHistory, is_recorded, release_state, Opening, open_answer, Freezing, freeze_answer, freezing, unready, unless, Withdrawing, withdrawing, withdraw_answer}
+use Rattle.desk_model.specs.Lists.{latest, or_else, put}
+use Rattle.desk_model.specs.Texts.{text_below, is_release_name, is_note}
+use Rattle.desk_model.specs.Readings.{Readings}
+use Rattle.desk_model.specs.Keys.{release_below}
+use Rattle.desk_model.specs.History.{opened, names, form_of, state_given, state_of, revision_of}
+use Rattle.desk_model.specs.Tables.{release_row}
+use Rattle.desk_model.specs.Answers.{IsHistory, is_recorded, release_state, Opening, open_answer, Freezing, freeze_answer, freezing, unready, unless, Withdrawing, withdrawing, withdraw_answer}
 use Rattle.desk_history.proofs.Recorded.{past, is_so, is_ready}
 use Rattle.desk_history.proofs.Rows.{map-put, map_others, texts_turned}
 use Rattle.desk_history.proofs.Lookups.{names-form, length-releases}
-use Rattle.desk_rows.specs.declared.state.ReleaseState.{ReleaseState}
-use Rattle.desk_rows.specs.declared.state.ReleaseState.TheVariants.{IsOpen}
-use Rattle.desk_rows.specs.declared.refusal.Refusal.TheVariants as why
-use Rattle.desk_rows.specs.declared.command.Command.{Command}
-use Rattle.desk_rows.specs.declared.command.Command.TheVariants.{OpenRelease, Freeze, Withdraw}
+use Rattle.desk_model.specs.declared.state.ReleaseState.{ReleaseState}
+use Rattle.desk_model.specs.declared.state.ReleaseState.TheVariants.{IsOpen}
+use Rattle.desk_model.specs.declared.refusal.Refusal.TheVariants as why
+use Rattle.desk_model.specs.declared.command.Command.{Command}
+use Rattle.desk_model.specs.declared.command.Command.TheVariants.{OpenRelease, Freeze, Withdraw}
 use Rattle.desk_base.proofs.Texts.{text_tells, same_text}
 
 -- a release that is not opened yet has no state and no revision

@@ -3,10 +3,10 @@ use Rattle.std.proofs.Common.{◌≡◌, Bool, true, false, cond, List, [], ◌�
 use Rattle.std.specs.Prelude.{if◌then◌else◌, filter, not}
 use Rattle.std.specs.List.{list_all}
 use Rattle.std.proofs.lemmas.Cmp.{on_total, then_total, nat_list_cmp_total, nat_cmp_total}
-use Rattle.desk_rows.specs.Lists.{put, in_order, over, ascends}
-use Rattle.desk_rows.specs.Keys.{below_by, attached_order, choice_order}
+use Rattle.desk_model.specs.Lists.{put, in_order, over, ascends}
+use Rattle.desk_model.specs.Keys.{below_by, attached_order, choice_order}
 use Rattle.desk_base.proofs.Bools.{and_left, and_right, both, not_true}
-use Rattle.desk_rows.proofs.Orders.{IsOrder, order_of, ascends-put}
+use Rattle.desk_model.proofs.Orders.{IsOrder, order_of, ascends-put}
 
 pub ascends-in_order : {A : Type 0} (below : A → A → Bool) → IsOrder below → (xs : List A) → ascends below (in_order below xs) ≡ true
 ascends-in_order below o [] = refl

@@ -9,15 +9,15 @@ use Rattle.std.specs.Ordering.{is_lt}
 use Rattle.std.proofs.lemmas.Cmp.{nat_list_cmp_total, tied_itself}
 use Rattle.std.proofs.lemmas.List.{map-append}
 use Rattle.std.proofs.lemmas.Bool.Decides.{nat_tests}
-use Rattle.desk_rows.specs.Lists.{IsIn, latest, or_else}
-use Rattle.desk_rows.specs.Texts.{text_below}
-use Rattle.desk_rows.specs.Readings.{Readings}
-use Rattle.desk_rows.specs.Keys.{is_shipped_by, is_attached_to, is_attachment, below_by, attached_order, is_rule}
-use Rattle.desk_rows.specs.History.{loaded, namespace_in, in_force, rules_in, rule_for, documents, packages, packages_in, package_row, form_of, state_of, state_given, attached, attached_to}
-use Rattle.desk_rows.specs.Conclusions.{adopted, adoptions}
-use Rattle.desk_rows.specs.Raised.{raised, owed_at, owed_for_terms, owed_under, owed_code, rule_adopted, shipped, chosen_in}
-use Rattle.desk_rows.specs.Moves.{duties, duty_row, place}
-use Rattle.desk_rows.specs.Answers.{answer, is_recorded, IsHistory, Attaching, attach_answer, attaching, freezing, unless, unready}
+use Rattle.desk_model.specs.Lists.{IsIn, latest, or_else}
+use Rattle.desk_model.specs.Texts.{text_below}
+use Rattle.desk_model.specs.Readings.{Readings}
+use Rattle.desk_model.specs.Keys.{is_shipped_by, is_attached_to, is_attachment, below_by, attached_order, is_rule}
+use Rattle.desk_model.specs.History.{loaded, namespace_in, in_force, rules_in, rule_for, documents, packages, packages_in, package_row, form_of, state_of, state_given, attached, attached_to}
+use Rattle.desk_model.specs.Conclusions.{adopted, adoptions}
+use Rattle.desk_model.specs.Raised.{raised, owed_at, owed_for_terms, owed_under, owed_code, rule_adopted, shipped, chosen_in}
+use Rattle.desk_model.specs.Moves.{duties, duty_row, place}
+use Rattle.desk_model.specs.Answers.{answer, is_recorded, IsHistory, Attaching, attach_answer, attaching, freezing, unless, unready}
 use Rattle.desk_history.proofs.Recorded.{past, is_so}
 use Rattle.desk_history.proofs.Opening.{frozen_open, not_so}
 use Rattle.desk_history.specs.Laws.{AreDistinct, ListsOnce, key_of}
@@ -26,20 +26,20 @@ use Rattle.desk_history.proofs.Orders.{under}
 use Rattle.desk_history.proofs.Chosen.{rises, rises-choice}
 use Rattle.desk_history.proofs.Members.{in_cases, in_map, from_map, from_flat_map}
 use Rattle.desk_history.proofs.Distinct.{distinct-append, distinct-map, from_filter, distinct-filter, distinct-flat_map, distinct-put}
-use Rattle.desk_rows.specs.declared.reading.Catalogue.{Catalogue}
-use Rattle.desk_rows.specs.declared.reading.Document.{Document}
-use Rattle.desk_rows.specs.declared.reading.Package.{Package}
-use Rattle.desk_rows.specs.declared.reading.Rule.{Rule}
-use Rattle.desk_rows.specs.declared.refusal.CatalogueFault.{CatalogueFault}
-use Rattle.desk_rows.specs.declared.refusal.DocumentFault.{DocumentFault}
-use Rattle.desk_rows.specs.declared.refusal.Refusal.TheVariants as why
-use Rattle.desk_rows.specs.declared.row.AttachedRow.{AttachedRow}
-use Rattle.desk_rows.specs.declared.row.PackageRow.{PackageRow}
-use Rattle.desk_rows.specs.declared.row.Owed.{Owed}
-use Rattle.desk_rows.specs.declared.state.ReleaseState.{ReleaseState}
-use Rattle.desk_rows.specs.declared.state.ReleaseState.TheVariants.{IsOpen, Frozen, Withdrawn}
-use Rattle.desk_rows.specs.declared.command.Command.{Command}
-use Rattle.desk_rows.specs.declared.command.Command.TheVariants.{Import, Attach, Freeze, Withdraw}
+use Rattle.desk_model.specs.declared.reading.Catalogue.{Catalogue}
+use Rattle.desk_model.specs.declared.reading.Document.{Document}
+use Rattle.desk_model.specs.declared.reading.Package.{Package}
+use Rattle.desk_model.specs.declared.reading.Rule.{Rule}
+use Rattle.desk_model.specs.declared.refusal.CatalogueFault.{CatalogueFault}
+use Rattle.desk_model.specs.declared.refusal.DocumentFault.{DocumentFault}
+use Rattle.desk_model.specs.declared.refusal.Refusal.TheVariants as why
+use Rattle.desk_model.specs.declared.row.AttachedRow.{AttachedRow}
+use Rattle.desk_model.specs.declared.row.PackageRow.{PackageRow}
+use Rattle.desk_model.specs.declared.row.Owed.{Owed}
+use Rattle.desk_model.specs.declared.state.ReleaseState.{ReleaseState}
+use Rattle.desk_model.specs.declared.state.ReleaseState.TheVariants.{IsOpen, Frozen, Withdrawn}
+use Rattle.desk_model.specs.declared.command.Command.{Command}
+use Rattle.desk_model.specs.declared.command.Command.TheVariants.{Import, Attach, Freeze, Withdraw}
 use Rattle.desk_base.proofs.Bools.{and_left, and_right}
 use Rattle.desk_base.proofs.Texts.{same_text, texts_equal}
 

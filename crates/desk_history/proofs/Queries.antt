@@ -4,35 +4,35 @@ use Rattle.std.specs.Prelude.{if◌then◌else◌, filter, is_some, cond}
 use Rattle.std.specs.List.{enumerate_from}
 use Rattle.std.specs.Option.{option_map, option_map_or}
 use Rattle.std.proofs.lemmas.Bool.Decides.{nat_tests}
-use Rattle.desk_rows.specs.Readings.{Readings}
+use Rattle.desk_model.specs.Readings.{Readings}
 use Rattle.std.specs.List.{list_any}
 use Rattle.std.specs.Str.{bytes_eq}
-use Rattle.desk_rows.specs.Keys.{is_change_of, is_duty_of}
-use Rattle.desk_rows.specs.History.{form_of, forms_in, in_force}
-use Rattle.desk_rows.specs.Conclusions.{adoptions}
-use Rattle.desk_rows.specs.Listings.{cheapest_answer, term_cost}
-use Rattle.desk_rows.specs.declared.row.Owed.{Owed}
-use Rattle.desk_rows.specs.Raised.{raised, chosen_in, shipped}
-use Rattle.desk_rows.specs.Moves.{duty_row, changes, place, all_changes}
-use Rattle.desk_rows.specs.Tables.{Tables, tables, release_row}
-use Rattle.desk_rows.specs.Answers.{conclusion}
-use Rattle.desk_rows.specs.Bills.{bill_answer, bill_of}
-use Rattle.desk_rows.specs.Queries.{queried, listing, duty_line, package_line, duties_of, totals_of}
-use Rattle.desk_rows.specs.Moves.{duty_at}
+use Rattle.desk_model.specs.Keys.{is_change_of, is_duty_of}
+use Rattle.desk_model.specs.History.{form_of, forms_in, in_force}
+use Rattle.desk_model.specs.Conclusions.{adoptions}
+use Rattle.desk_model.specs.Listings.{cheapest_answer, term_cost}
+use Rattle.desk_model.specs.declared.row.Owed.{Owed}
+use Rattle.desk_model.specs.Raised.{raised, chosen_in, shipped}
+use Rattle.desk_model.specs.Moves.{duty_row, changes, place, all_changes}
+use Rattle.desk_model.specs.Tables.{Tables, tables, release_row}
+use Rattle.desk_model.specs.Answers.{conclusion}
+use Rattle.desk_model.specs.Bills.{bill_answer, bill_of}
+use Rattle.desk_model.specs.Queries.{queried, listing, duty_line, package_line, duties_of, totals_of}
+use Rattle.desk_model.specs.Moves.{duty_at}
 use Rattle.desk_history.specs.FromTables.{queried_from, choice_found, duty_found}
 use Rattle.desk_history.proofs.Lookups.{is_found, release_found-tables, rules-found}
 use Rattle.desk_history.proofs.Chosen.{choice-found}
 use Rattle.desk_history.proofs.Moving.{changes-numbered, in_range, duty-found, known_at}
-use Rattle.desk_rows.specs.declared.row.DutyRow.{DutyRow}
-use Rattle.desk_rows.specs.declared.row.PackageRow.{PackageRow}
-use Rattle.desk_rows.specs.declared.row.ReleaseRow.{ReleaseRow}
-use Rattle.desk_rows.specs.declared.command.Answer.{Answer}
-use Rattle.desk_rows.specs.declared.row.ChangeRow.{ChangeRow}
-use Rattle.desk_rows.specs.declared.refusal.Refusal.TheVariants as why
-use Rattle.desk_rows.specs.declared.command.Answer.TheVariants as answered
-use Rattle.desk_rows.specs.declared.command.Query.{Query}
-use Rattle.desk_rows.specs.declared.command.Query.TheVariants as query
-use Rattle.desk_rows.specs.declared.command.Command.{Command}
+use Rattle.desk_model.specs.declared.row.DutyRow.{DutyRow}
+use Rattle.desk_model.specs.declared.row.PackageRow.{PackageRow}
+use Rattle.desk_model.specs.declared.row.ReleaseRow.{ReleaseRow}
+use Rattle.desk_model.specs.declared.command.Answer.{Answer}
+use Rattle.desk_model.specs.declared.row.ChangeRow.{ChangeRow}
+use Rattle.desk_model.specs.declared.refusal.Refusal.TheVariants as why
+use Rattle.desk_model.specs.declared.command.Answer.TheVariants as answered
+use Rattle.desk_model.specs.declared.command.Query.{Query}
+use Rattle.desk_model.specs.declared.command.Query.TheVariants as query
+use Rattle.desk_model.specs.declared.command.Command.{Command}
 
 in_all : (n l k : ℕ) → 1 ≤ n → n + (k + 1) ≡ 1 + l → in_range 1 n l ≡ true
 in_all n l k le e = grind (arith, nat_tests)

@@ -1,17 +1,17 @@
 -- A duty is raised exactly where a freeze of its release raises it.
 use Rattle.std.proofs.Common.{◌≡◌, ℕ, List, [], ◌∷◌, ◌++◌, map, Option, Some, None, sym, refl, ap, ◌∙◌, subst, inl, inr}
 use Rattle.std.specs.Prelude.{unwrap_or}
-use Rattle.desk_rows.specs.Lists.{IsIn}
-use Rattle.desk_rows.specs.Readings.{Readings}
-use Rattle.desk_rows.specs.History.{in_force, rules_in, form_of, choice}
-use Rattle.desk_rows.specs.Conclusions.{adoptions}
-use Rattle.desk_rows.specs.Raised.{IsRaised, raised, owed_at, owed_for_terms, owed_under, owed_code, rule_adopted, shipped, chosen_in}
+use Rattle.desk_model.specs.Lists.{IsIn}
+use Rattle.desk_model.specs.Readings.{Readings}
+use Rattle.desk_model.specs.History.{in_force, rules_in, form_of, choice}
+use Rattle.desk_model.specs.Conclusions.{adoptions}
+use Rattle.desk_model.specs.Raised.{IsRaised, raised, owed_at, owed_for_terms, owed_under, owed_code, rule_adopted, shipped, chosen_in}
 use Rattle.desk_history.proofs.Members.{in_left, in_right, in_cases, in_map, from_map, in_flat_map, from_flat_map}
-use Rattle.desk_rows.specs.declared.reading.Rule.{Rule}
-use Rattle.desk_rows.specs.declared.row.PackageRow.{PackageRow}
-use Rattle.desk_rows.specs.declared.row.Owed.{Owed}
-use Rattle.desk_rows.specs.declared.command.Command.{Command}
-use Rattle.desk_rows.specs.declared.command.Command.TheVariants.{Freeze}
+use Rattle.desk_model.specs.declared.reading.Rule.{Rule}
+use Rattle.desk_model.specs.declared.row.PackageRow.{PackageRow}
+use Rattle.desk_model.specs.declared.row.Owed.{Owed}
+use Rattle.desk_model.specs.declared.command.Command.{Command}
+use Rattle.desk_model.specs.declared.command.Command.TheVariants.{Freeze}
 
 -- what is raised stays raised
 raised_grows : (w : Readings) (c : Command) (h : List Command) (d : Owed) → IsIn d (raised w h) → IsIn d (raised w (c ∷ h))

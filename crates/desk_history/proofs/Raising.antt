@@ -11,15 +11,15 @@ use Rattle.std.specs.declared.cmp.Ordering.{Ordering}
 use Rattle.std.specs.declared.cmp.Ordering.TheVariants.{Less, Equal, Greater}
 use Rattle.std.proofs.lemmas.Cmp.{nat_cmp_total, nat_list_cmp_total, on_total, then_total, tied_itself}
 use Rattle.std.proofs.lemmas.Bool.Decides.{nat_tests}
-use Rattle.desk_rows.specs.Lists.{IsIn, latest}
-use Rattle.desk_rows.specs.Texts.{text_below}
-use Rattle.desk_rows.specs.Readings.{Readings}
-use Rattle.desk_rows.specs.Keys.{below_by, attached_order, is_attached_to, is_shipped_by, package_order}
-use Rattle.desk_rows.specs.History.{attached, attached_to, attachment, form_of, in_force, loaded, packages, rules_in, state_of}
-use Rattle.desk_rows.specs.Conclusions.{adopted, adoptions}
-use Rattle.desk_rows.specs.Raised.{raised, owed_at, owed_for_terms, owed_under, owed_code, rule_adopted, shipped, chosen_in, numbered}
-use Rattle.desk_rows.specs.Moves.{duties, duty_row, place}
-use Rattle.desk_rows.specs.Answers.{IsHistory}
+use Rattle.desk_model.specs.Lists.{IsIn, latest}
+use Rattle.desk_model.specs.Texts.{text_below}
+use Rattle.desk_model.specs.Readings.{Readings}
+use Rattle.desk_model.specs.Keys.{below_by, attached_order, is_attached_to, is_shipped_by, package_order}
+use Rattle.desk_model.specs.History.{attached, attached_to, attachment, form_of, in_force, loaded, packages, rules_in, state_of}
+use Rattle.desk_model.specs.Conclusions.{adopted, adoptions}
+use Rattle.desk_model.specs.Raised.{raised, owed_at, owed_for_terms, owed_under, owed_code, rule_adopted, shipped, chosen_in, numbered}
+use Rattle.desk_model.specs.Moves.{duties, duty_row, place}
+use Rattle.desk_model.specs.Answers.{IsHistory}
 use Rattle.desk_history.specs.Laws.{AreNumberedInOrder, Ascends, IsCounted, IsNumbered, ListsInOrder, Rises, duty_order, owed_order}
 use Rattle.desk_history.proofs.Orders.{under, attached_is_order, filter-in_order}
 use Rattle.desk_history.proofs.Chosen.{rises, rises-choice}
@@ -31,16 +31,16 @@ use Rattle.desk_history.proofs.Numbers.{numbered_in}
 use Rattle.desk_history.proofs.OwnKeys.{under_all, rule_in, owed_key, key_under, place_of, package_of, key_for_terms, distinct-documents, shipped_document, owed_release, raised_closed, open_at}
 use Rattle.desk_history.proofs.Rising.{first_less, rest_less, rises-append, rises-apart, rises-by, rises-filter, rises-flat_map, rises-map, in_numbered, smaller_first, counted}
 use Rattle.desk_history.proofs.Sorting.{ordered}
-use Rattle.desk_rows.specs.declared.reading.Catalogue.{Catalogue}
-use Rattle.desk_rows.specs.declared.reading.Rule.{Rule}
-use Rattle.desk_rows.specs.declared.refusal.CatalogueFault.{CatalogueFault}
-use Rattle.desk_rows.specs.declared.row.AttachedRow.{AttachedRow}
-use Rattle.desk_rows.specs.declared.row.DutyRow.{DutyRow}
-use Rattle.desk_rows.specs.declared.row.Owed.{Owed}
-use Rattle.desk_rows.specs.declared.row.PackageRow.{PackageRow}
-use Rattle.desk_rows.specs.declared.command.Command.{Command}
-use Rattle.desk_rows.specs.declared.command.Command.TheVariants.{Freeze}
-use Rattle.desk_rows.proofs.Orders.{IsOrder, order_of, less_by}
+use Rattle.desk_model.specs.declared.reading.Catalogue.{Catalogue}
+use Rattle.desk_model.specs.declared.reading.Rule.{Rule}
+use Rattle.desk_model.specs.declared.refusal.CatalogueFault.{CatalogueFault}
+use Rattle.desk_model.specs.declared.row.AttachedRow.{AttachedRow}
+use Rattle.desk_model.specs.declared.row.DutyRow.{DutyRow}
+use Rattle.desk_model.specs.declared.row.Owed.{Owed}
+use Rattle.desk_model.specs.declared.row.PackageRow.{PackageRow}
+use Rattle.desk_model.specs.declared.command.Command.{Command}
+use Rattle.desk_model.specs.declared.command.Command.TheVariants.{Freeze}
+use Rattle.desk_model.proofs.Orders.{IsOrder, order_of, less_by}
 use Rattle.desk_base.proofs.Bools.{and_left, and_right}
 use Rattle.desk_base.proofs.Texts.{same_text, texts_equal}
 

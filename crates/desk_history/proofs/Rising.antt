@@ -6,11 +6,11 @@ use Rattle.std.specs.Ordering.{is_lt, nat_cmp, ordering_then}
 use Rattle.std.specs.declared.cmp.Ordering.{Ordering}
 use Rattle.std.specs.declared.cmp.Ordering.TheVariants.{Less, Equal}
 use Rattle.std.proofs.lemmas.Bool.Decides.{nat_tests}
-use Rattle.desk_rows.specs.Lists.{IsIn}
+use Rattle.desk_model.specs.Lists.{IsIn}
 use Rattle.desk_history.specs.Laws.{Ascends, AreDistinct, Rises}
 use Rattle.desk_history.proofs.Members.{in_cases, in_map, from_map, from_flat_map}
 use Rattle.desk_history.proofs.Distinct.{from_filter}
-use Rattle.desk_rows.proofs.Orders.{IsOrder}
+use Rattle.desk_model.proofs.Orders.{IsOrder}
 
 -- ---- orders
 

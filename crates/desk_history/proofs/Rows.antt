@@ -5,7 +5,7 @@ use Rattle.std.specs.List.{list_any}
 use Rattle.std.specs.Option.{option_map}
 use Rattle.std.specs.Str.{bytes_eq}
 use Rattle.std.proofs.lemmas.Slice.Eq.{bytes_eq-Decides}
-use Rattle.desk_rows.specs.Lists.{put, put_all, in_order, updated}
+use Rattle.desk_model.specs.Lists.{put, put_all, in_order, updated}
 use Rattle.desk_base.proofs.Bools.{or_left, or_right}
 use Rattle.desk_base.proofs.Texts.{text_tells, texts_equal}
 

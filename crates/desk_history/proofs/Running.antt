@@ -1,15 +1,15 @@
 -- One more command of a run.
-use Rattle.desk_rows.specs.Faults.{MayBecome, MayAllBecome}
-use Rattle.desk_rows.specs.declared.command.StoreFault.{StoreFault}
+use Rattle.desk_model.specs.Faults.{MayBecome, MayAllBecome}
+use Rattle.desk_model.specs.declared.command.StoreFault.{StoreFault}
 use Rattle.std.proofs.Common.{◌≡◌, ◌<◌, List, [], ◌∷◌, ◌++◌, length, get_or, sym, ap, subst, arith}
 use Rattle.std.specs.Prelude.{if◌then◌else◌}
-use Rattle.desk_rows.specs.Readings.{Readings}
-use Rattle.desk_rows.specs.Answers.{IsHistory, is_recorded}
-use Rattle.desk_rows.specs.Runs.{AreAnswers, IsAnswer, history_after, history_with}
+use Rattle.desk_model.specs.Readings.{Readings}
+use Rattle.desk_model.specs.Answers.{IsHistory, is_recorded}
+use Rattle.desk_model.specs.Runs.{AreAnswers, IsAnswer, history_after, history_with}
 use Rattle.desk_history.proofs.Steps.{IsHistory-noted}
-use Rattle.desk_rows.specs.declared.command.Command.{Command}
-use Rattle.desk_rows.specs.declared.command.Outcome.{Outcome}
-use Rattle.desk_rows.specs.declared.command.Outcome.TheVariants.{Answered, Failed}
+use Rattle.desk_model.specs.declared.command.Command.{Command}
+use Rattle.desk_model.specs.declared.command.Outcome.{Outcome}
+use Rattle.desk_model.specs.declared.command.Outcome.TheVariants.{Answered, Failed}
 
 pub history_after-push : (h cs : List Command) (os : List Outcome) (c : Command) (o : Outcome) → length os < length cs → c ≡ get_or cs (length os) c → history_after h cs (os ++ o ∷ []) ≡ history_with (history_after h cs os) c o
 history_after-push h [] os c o lt at = absurd (omega arith)

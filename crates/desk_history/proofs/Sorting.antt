@@ -5,28 +5,28 @@ use Rattle.std.specs.List.{enumerate_from, flat_map, filter_map}
 use Rattle.std.specs.Result.{result_ok}
 use Rattle.std.proofs.lemmas.Bool.Decides.{nat_tests}
 use Rattle.std.proofs.lemmas.Cmp.{on_total, then_total, nat_list_cmp_total, nat_cmp_total}
-use Rattle.desk_rows.specs.Lists.{IsIn, in_order, over, ascends}
-use Rattle.desk_rows.specs.Readings.{Readings}
-use Rattle.desk_rows.specs.Texts.{text_below}
-use Rattle.desk_rows.specs.Keys.{below_by, release_below, attached_order, choice_order, frozen_order, change_below, conclusion_order, adoption_order}
-use Rattle.desk_rows.specs.History.{revisions, documents, names, opened, namespace_in, attachment}
-use Rattle.desk_rows.specs.Conclusions.{conclusions, adoptions}
+use Rattle.desk_model.specs.Lists.{IsIn, in_order, over, ascends}
+use Rattle.desk_model.specs.Readings.{Readings}
+use Rattle.desk_model.specs.Texts.{text_below}
+use Rattle.desk_model.specs.Keys.{below_by, release_below, attached_order, choice_order, frozen_order, change_below, conclusion_order, adoption_order}
+use Rattle.desk_model.specs.History.{revisions, documents, names, opened, namespace_in, attachment}
+use Rattle.desk_model.specs.Conclusions.{conclusions, adoptions}
 use Rattle.desk_history.proofs.Concluding.{ascends_conclusions, ascends_adoptions}
-use Rattle.desk_rows.specs.Raised.{raised, frozen}
-use Rattle.desk_rows.specs.declared.row.Move.{Move}
-use Rattle.desk_rows.specs.Moves.{duty_row, place, moves, changes, change_row, change_rows}
-use Rattle.desk_rows.specs.Tables.{tables, release_row, standing}
+use Rattle.desk_model.specs.Raised.{raised, frozen}
+use Rattle.desk_model.specs.declared.row.Move.{Move}
+use Rattle.desk_model.specs.Moves.{duty_row, place, moves, changes, change_row, change_rows}
+use Rattle.desk_model.specs.Tables.{tables, release_row, standing}
 use Rattle.desk_history.specs.Laws.{Ascends, AreSorted, revision_below, document_below, duty_below}
 use Rattle.desk_history.proofs.Members.{in_cases, from_map}
 use Rattle.desk_history.proofs.Orders.{ascends-in_order, attached_is_order, choice_is_order}
-use Rattle.desk_rows.specs.declared.row.CatalogueRow.{CatalogueRow}
-use Rattle.desk_rows.specs.declared.row.DocumentRow.{DocumentRow}
-use Rattle.desk_rows.specs.declared.row.DutyRow.{DutyRow}
-use Rattle.desk_rows.specs.declared.row.ChangeRow.{ChangeRow}
-use Rattle.desk_rows.specs.declared.row.Owed.{Owed}
-use Rattle.desk_rows.specs.declared.command.Command.{Command}
-use Rattle.desk_rows.specs.declared.command.Command.TheVariants.{LoadCatalogue, Import}
-use Rattle.desk_rows.proofs.Orders.{IsOrder, order_of}
+use Rattle.desk_model.specs.declared.row.CatalogueRow.{CatalogueRow}
+use Rattle.desk_model.specs.declared.row.DocumentRow.{DocumentRow}
+use Rattle.desk_model.specs.declared.row.DutyRow.{DutyRow}
+use Rattle.desk_model.specs.declared.row.ChangeRow.{ChangeRow}
+use Rattle.desk_model.specs.declared.row.Owed.{Owed}
+use Rattle.desk_model.specs.declared.command.Command.{Command}
+use Rattle.desk_model.specs.declared.command.Command.TheVariants.{LoadCatalogue, Import}
+use Rattle.desk_model.proofs.Orders.{IsOrder, order_of}
 use Rattle.desk_base.proofs.Bools.{and_left, and_right, not_true}
 use Rattle.desk_base.proofs.Numbers.{not_less}
 

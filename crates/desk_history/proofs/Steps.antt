@@ -1,15 +1,15 @@
 -- The tables of a history answer and change as the history does.
 use Rattle.std.proofs.Common.{◌≡◌, ℕ, Bool, true, false, List, ◌∷◌, Option, None, ◌++◌, length, map, sym, refl, ap, ◌∙◌}
 use Rattle.std.specs.Prelude.{if◌then◌else◌, IsTrue, is_some, filter}
-use Rattle.desk_rows.specs.Lists.{put_all}
-use Rattle.desk_rows.specs.Readings.{Readings}
-use Rattle.desk_rows.specs.Keys.{below_by, choice_order}
-use Rattle.desk_rows.specs.History.{opened, form_of, forms_in, in_force, term_set}
-use Rattle.desk_rows.specs.declared.row.Move.{Move}
-use Rattle.desk_rows.specs.Moves.{duties, all_changes}
-use Rattle.desk_rows.specs.declared.state.Word.TheVariants as word
-use Rattle.desk_rows.specs.Tables.{Tables, tables, applied, standing, choice_row, is_other_choice, is_choice_elsewhere}
-use Rattle.desk_rows.specs.Answers.{answer, IsHistory, is_recorded, noted, opening, open_answer, attach_answer, attaching, choose_answer, choosing, unchoose_answer, unchoosing, freeze_answer, withdraw_answer, close_answer, move_answer, moving}
+use Rattle.desk_model.specs.Lists.{put_all}
+use Rattle.desk_model.specs.Readings.{Readings}
+use Rattle.desk_model.specs.Keys.{below_by, choice_order}
+use Rattle.desk_model.specs.History.{opened, form_of, forms_in, in_force, term_set}
+use Rattle.desk_model.specs.declared.row.Move.{Move}
+use Rattle.desk_model.specs.Moves.{duties, all_changes}
+use Rattle.desk_model.specs.declared.state.Word.TheVariants as word
+use Rattle.desk_model.specs.Tables.{Tables, tables, applied, standing, choice_row, is_other_choice, is_choice_elsewhere}
+use Rattle.desk_model.specs.Answers.{answer, IsHistory, is_recorded, noted, opening, open_answer, attach_answer, attaching, choose_answer, choosing, unchoose_answer, unchoosing, freeze_answer, withdraw_answer, close_answer, move_answer, moving}
 use Rattle.desk_history.specs.FromTables.{answer_from, change_for, rows_noted, raised_row, opening_found, unchoosing_found}
 use Rattle.desk_history.proofs.Same.{same_tables}
 use Rattle.desk_history.proofs.Rows.{in_order-append}
@@ -20,8 +20,8 @@ use Rattle.desk_history.proofs.Freezing.{freezing-found, freeze-releases, freeze
 use Rattle.desk_history.proofs.Moving.{move-answer, recorded_known, named-duties, named-changes}
 use Rattle.desk_history.proofs.Withdrawing.{withdrawn-releases, withdrawn-duties, withdrawn-changes, ended-duties, ended-changes, ended-count}
 use Rattle.desk_history.proofs.Chosen.{terms-found}
-use Rattle.desk_rows.specs.declared.command.Command.{Command}
-use Rattle.desk_rows.specs.declared.command.Command.TheVariants.{LoadCatalogue, Import, OpenRelease, Attach, Choose, Unchoose, Freeze, Meet, Waive, Reopen, Withdraw, CloseDay, Conclude, Adopt}
+use Rattle.desk_model.specs.declared.command.Command.{Command}
+use Rattle.desk_model.specs.declared.command.Command.TheVariants.{LoadCatalogue, Import, OpenRelease, Attach, Choose, Unchoose, Freeze, Meet, Waive, Reopen, Withdraw, CloseDay, Conclude, Adopt}
 
 open-answer : (w : Readings) (h : List Command) (r f : List ℕ) → answer_from w (tables w h) (OpenRelease r f) ≡ answer w h (OpenRelease r f)
 open-answer w h r f =

@@ -4,20 +4,20 @@ use Rattle.std.specs.Prelude.{◌&&◌, nat_lt, nat_le}
 use Rattle.std.specs.List.{enumerate_from, last_or}
 use Rattle.std.specs.Option.{option_map}
 use Rattle.std.proofs.lemmas.Bool.Decides.{nat_tests}
-use Rattle.desk_rows.specs.Lists.{IsIn}
-use Rattle.desk_rows.specs.Readings.{Readings}
-use Rattle.desk_rows.specs.declared.row.Owed.{Owed}
-use Rattle.desk_rows.specs.Raised.{raised, owed_at, numbered}
-use Rattle.desk_rows.specs.declared.row.Move.{Move}
-use Rattle.desk_rows.specs.Moves.{duties, duty_row, change_rows, change_row, move_by, moves, place, place_after, raises, with_move, all_changes}
-use Rattle.desk_rows.specs.States.{state_after}
+use Rattle.desk_model.specs.Lists.{IsIn}
+use Rattle.desk_model.specs.Readings.{Readings}
+use Rattle.desk_model.specs.declared.row.Owed.{Owed}
+use Rattle.desk_model.specs.Raised.{raised, owed_at, numbered}
+use Rattle.desk_model.specs.declared.row.Move.{Move}
+use Rattle.desk_model.specs.Moves.{duties, duty_row, change_rows, change_row, move_by, moves, place, place_after, raises, with_move, all_changes}
+use Rattle.desk_model.specs.States.{state_after}
 use Rattle.desk_history.specs.Laws.{IsToldBy}
 use Rattle.desk_history.proofs.Members.{from_map}
 use Rattle.desk_history.proofs.Moving.{in_range}
 use Rattle.desk_history.proofs.Queries.{changes-found}
-use Rattle.desk_rows.specs.declared.row.DutyRow.{DutyRow}
-use Rattle.desk_rows.specs.declared.command.Command.{Command}
-use Rattle.desk_rows.specs.declared.command.Command.TheVariants.{Freeze}
+use Rattle.desk_model.specs.declared.row.DutyRow.{DutyRow}
+use Rattle.desk_model.specs.declared.command.Command.{Command}
+use Rattle.desk_model.specs.declared.command.Command.TheVariants.{Freeze}
 
 last_or-end : {A : Type 0} (o : Option A) (xs : List A) (x : A) → last_or o (xs ++ x ∷ []) ≡ Some x
 last_or-end o [] x = refl

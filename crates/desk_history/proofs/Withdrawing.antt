@@ -5,22 +5,22 @@ use Rattle.std.specs.List.{enumerate_from, last_or}
 use Rattle.std.specs.Option.{option_and_then, option_map_or}
 use Rattle.std.specs.Str.{bytes_eq}
 use Rattle.std.proofs.lemmas.Bool.Decides.{nat_tests}
-use Rattle.desk_rows.specs.Lists.{put_all, updated}
-use Rattle.desk_rows.specs.Readings.{Readings}
-use Rattle.desk_rows.specs.Keys.{is_release, is_duty_of, is_change_of, change_below}
-use Rattle.desk_rows.specs.History.{names}
-use Rattle.desk_rows.specs.Raised.{raised, numbered}
-use Rattle.desk_rows.specs.States.{is_met}
-use Rattle.desk_rows.specs.declared.row.Move.{Move}
-use Rattle.desk_rows.specs.Moves.{move_if, duties, duty_row, change_row, change_rows, moves, place, end_after, has_ended, is_raised_for, all_changes}
-use Rattle.desk_rows.specs.Tables.{tables, release_row, withdrawn_release, moved_by}
-use Rattle.desk_rows.specs.declared.row.Owed.{Owed}
-use Rattle.desk_rows.specs.declared.row.DutyRow.{DutyRow}
-use Rattle.desk_rows.specs.declared.row.ChangeRow.{ChangeRow}
-use Rattle.desk_rows.specs.declared.row.Standing.{Standing}
-use Rattle.desk_rows.specs.declared.state.Word.TheVariants as word
-use Rattle.desk_rows.specs.declared.command.Command.{Command}
-use Rattle.desk_rows.specs.declared.command.Command.TheVariants.{Withdraw, CloseDay}
+use Rattle.desk_model.specs.Lists.{put_all, updated}
+use Rattle.desk_model.specs.Readings.{Readings}
+use Rattle.desk_model.specs.Keys.{is_release, is_duty_of, is_change_of, change_below}
+use Rattle.desk_model.specs.History.{names}
+use Rattle.desk_model.specs.Raised.{raised, numbered}
+use Rattle.desk_model.specs.States.{is_met}
+use Rattle.desk_model.specs.declared.row.Move.{Move}
+use Rattle.desk_model.specs.Moves.{move_if, duties, duty_row, change_row, change_rows, moves, place, end_after, has_ended, is_raised_for, all_changes}
+use Rattle.desk_model.specs.Tables.{tables, release_row, withdrawn_release, moved_by}
+use Rattle.desk_model.specs.declared.row.Owed.{Owed}
+use Rattle.desk_model.specs.declared.row.DutyRow.{DutyRow}
+use Rattle.desk_model.specs.declared.row.ChangeRow.{ChangeRow}
+use Rattle.desk_model.specs.declared.row.Standing.{Standing}
+use Rattle.desk_model.specs.declared.state.Word.TheVariants as word
+use Rattle.desk_model.specs.declared.command.Command.{Command}
+use Rattle.desk_model.specs.declared.command.Command.TheVariants.{Withdraw, CloseDay}
 use Rattle.desk_history.specs.FromTables.{steps_found, end_found, standing_found, standings_found, ended_found, is_unmet, ends, next_row, withdrawn_rows, ended_rows}
 use Rattle.std.proofs.lemmas.List.{length-map}
 use Rattle.desk_history.proofs.Rows.{updated-map, texts_turned}

@@ -3,51 +3,51 @@ use Rattle.std.specs.Prelude.{ℕ, ◌+◌, Bool, not, List, [], ◌∷◌, leng
 use Rattle.std.specs.List.{list_any, enumerate_from, last_or}
 use Rattle.std.specs.Option.{option_map, option_map_or, option_and_then}
 use Rattle.std.specs.Result.{result_ok}
-use Rattle.desk_rows.specs.Readings.{Readings}
-use Rattle.desk_rows.specs.Keys.{is_document, is_package, is_release, is_attachment, is_choice_of, is_duty, is_duty_of, is_change_of, is_rule_of, is_adoption_in}
-use Rattle.desk_rows.specs.History.{rules_in, forms_in, rule_row, namespace_in, packages_in, references_in, package_row, extracted_row, attached_to, term_set}
-use Rattle.desk_rows.specs.Conclusions.{conclusion_in, conclusion_row, adoption_row, licence_for, is_reference, is_plain, holder}
-use Rattle.desk_rows.specs.declared.row.Owed.{Owed}
-use Rattle.desk_rows.specs.Raised.{shipped_of, owed_for, frozen_for}
-use Rattle.desk_rows.specs.declared.row.Move.{Move}
-use Rattle.desk_rows.specs.Moves.{duty_row, change_row, has_ended}
-use Rattle.desk_rows.specs.States.{is_met}
-use Rattle.desk_rows.specs.declared.row.Standing.{Standing}
-use Rattle.desk_rows.specs.declared.state.Word.{Word}
-use Rattle.desk_rows.specs.Tables.{Tables, applied, choice_row}
-use Rattle.desk_rows.specs.Answers.{load_answer, import_answer, open_answer, attach_answer, choose_answer, freeze_answer, unchoose_answer, Loading, Importing, Opening, Attaching, Choosing, Unchoosing, Freezing, Withdrawing, Closing, Moving, Concluding, Adopting, move_answer, withdraw_answer, close_answer, conclude_answer, adopt_answer, walk, is_recorded}
-use Rattle.desk_rows.specs.Queries.{duty_line, package_line, totals_of}
-use Rattle.desk_rows.specs.Bills.{bill_answer, bill_of}
-use Rattle.desk_rows.specs.Findings.{findings_answer}
-use Rattle.desk_rows.specs.Listings.{Listing, alternatives_answer, cheapest_answer, term_cost}
-use Rattle.desk_rows.specs.declared.reading.Catalogue.{Catalogue}
-use Rattle.desk_rows.specs.declared.reading.Document.{Document}
+use Rattle.desk_model.specs.Readings.{Readings}
+use Rattle.desk_model.specs.Keys.{is_document, is_package, is_release, is_attachment, is_choice_of, is_duty, is_duty_of, is_change_of, is_rule_of, is_adoption_in}
+use Rattle.desk_model.specs.History.{rules_in, forms_in, rule_row, namespace_in, packages_in, references_in, package_row, extracted_row, attached_to, term_set}
+use Rattle.desk_model.specs.Conclusions.{conclusion_in, conclusion_row, adoption_row, licence_for, is_reference, is_plain, holder}
+use Rattle.desk_model.specs.declared.row.Owed.{Owed}
+use Rattle.desk_model.specs.Raised.{shipped_of, owed_for, frozen_for}
+use Rattle.desk_model.specs.declared.row.Move.{Move}
+use Rattle.desk_model.specs.Moves.{duty_row, change_row, has_ended}
+use Rattle.desk_model.specs.States.{is_met}
+use Rattle.desk_model.specs.declared.row.Standing.{Standing}
+use Rattle.desk_model.specs.declared.state.Word.{Word}
+use Rattle.desk_model.specs.Tables.{Tables, applied, choice_row}
+use Rattle.desk_model.specs.Answers.{load_answer, import_answer, open_answer, attach_answer, choose_answer, freeze_answer, unchoose_answer, Loading, Importing, Opening, Attaching, Choosing, Unchoosing, Freezing, Withdrawing, Closing, Moving, Concluding, Adopting, move_answer, withdraw_answer, close_answer, conclude_answer, adopt_answer, walk, is_recorded}
+use Rattle.desk_model.specs.Queries.{duty_line, package_line, totals_of}
+use Rattle.desk_model.specs.Bills.{bill_answer, bill_of}
+use Rattle.desk_model.specs.Findings.{findings_answer}
+use Rattle.desk_model.specs.Listings.{Listing, alternatives_answer, cheapest_answer, term_cost}
+use Rattle.desk_model.specs.declared.reading.Catalogue.{Catalogue}
+use Rattle.desk_model.specs.declared.reading.Document.{Document}
 use Rattle.desk_base.specs.declared.profile.Profile.{Profile}
 use Rattle.desk_base.specs.declared.profile.Profile.TheVariants.{Capitals}
-use Rattle.desk_rows.specs.declared.reading.Conclusion.{Conclusion}
-use Rattle.desk_rows.specs.declared.reading.Rule.{Rule}
-use Rattle.desk_rows.specs.declared.refusal.Refusal.TheVariants as why
+use Rattle.desk_model.specs.declared.reading.Conclusion.{Conclusion}
+use Rattle.desk_model.specs.declared.reading.Rule.{Rule}
+use Rattle.desk_model.specs.declared.refusal.Refusal.TheVariants as why
 use Rattle.std.specs.Str.{bytes_eq}
-use Rattle.desk_rows.specs.declared.row.DocumentRow.{DocumentRow}
-use Rattle.desk_rows.specs.declared.row.RuleRow.{RuleRow}
-use Rattle.desk_rows.specs.declared.row.PackageRow.{PackageRow}
-use Rattle.desk_rows.specs.declared.row.ReleaseRow.{ReleaseRow}
-use Rattle.desk_rows.specs.declared.row.FrozenRow.{FrozenRow}
-use Rattle.desk_rows.specs.declared.row.DutyRow.{DutyRow}
-use Rattle.desk_rows.specs.declared.row.ChangeRow.{ChangeRow}
-use Rattle.desk_rows.specs.declared.state.ReleaseState.{ReleaseState}
-use Rattle.desk_rows.specs.declared.state.ReleaseState.TheVariants as release
-use Rattle.desk_rows.specs.declared.state.DutyState.TheVariants as stands
-use Rattle.desk_rows.specs.declared.state.Word.TheVariants as word
-use Rattle.desk_rows.specs.declared.command.Answer.{Answer}
-use Rattle.desk_rows.specs.declared.command.Answer.TheVariants as answered
-use Rattle.desk_rows.specs.declared.command.Change.{Change}
-use Rattle.desk_rows.specs.declared.command.Change.TheVariants as change
-use Rattle.desk_rows.specs.declared.command.Command.{Command}
-use Rattle.desk_rows.specs.declared.command.Command.TheVariants.{LoadCatalogue, Import, OpenRelease, Attach, Choose, Unchoose, Freeze, Meet, Waive, Reopen, Withdraw, CloseDay, Conclude, Adopt}
-use Rattle.desk_rows.specs.declared.command.DutyLine.{DutyLine}
-use Rattle.desk_rows.specs.declared.command.Query.{Query}
-use Rattle.desk_rows.specs.declared.command.Query.TheVariants as query
+use Rattle.desk_model.specs.declared.row.DocumentRow.{DocumentRow}
+use Rattle.desk_model.specs.declared.row.RuleRow.{RuleRow}
+use Rattle.desk_model.specs.declared.row.PackageRow.{PackageRow}
+use Rattle.desk_model.specs.declared.row.ReleaseRow.{ReleaseRow}
+use Rattle.desk_model.specs.declared.row.FrozenRow.{FrozenRow}
+use Rattle.desk_model.specs.declared.row.DutyRow.{DutyRow}
+use Rattle.desk_model.specs.declared.row.ChangeRow.{ChangeRow}
+use Rattle.desk_model.specs.declared.state.ReleaseState.{ReleaseState}
+use Rattle.desk_model.specs.declared.state.ReleaseState.TheVariants as release
+use Rattle.desk_model.specs.declared.state.DutyState.TheVariants as stands
+use Rattle.desk_model.specs.declared.state.Word.TheVariants as word
+use Rattle.desk_model.specs.declared.command.Answer.{Answer}
+use Rattle.desk_model.specs.declared.command.Answer.TheVariants as answered
+use Rattle.desk_model.specs.declared.command.Change.{Change}
+use Rattle.desk_model.specs.declared.command.Change.TheVariants as change
+use Rattle.desk_model.specs.declared.command.Command.{Command}
+use Rattle.desk_model.specs.declared.command.Command.TheVariants.{LoadCatalogue, Import, OpenRelease, Attach, Choose, Unchoose, Freeze, Meet, Waive, Reopen, Withdraw, CloseDay, Conclude, Adopt}
+use Rattle.desk_model.specs.declared.command.DutyLine.{DutyLine}
+use Rattle.desk_model.specs.declared.command.Query.{Query}
+use Rattle.desk_model.specs.declared.command.Query.TheVariants as query
 
 -- What is looked up
 

@@ -1,28 +1,28 @@
 //! The laws of the recorded history, each as the contract of a function with an empty body: they say in the subject's own words
-//! what the definitions of `desk_rows` come to. In `proofs/` stand the lemmas by which the desk's code, which sees rows alone, keeps
+//! what the definitions of `desk_model` come to. In `proofs/` stand the lemmas by which the desk's code, which sees rows alone, keeps
 //! the tables of a history.
 #![tactic(auto)]
 
 ghost use Rattle.std.specs.Prelude.{◌≡◌, ◌⊎◌, true, false, ℕ, ◌+◌, ◌++◌, [], ◌∷◌, List, map, filter};
-ghost use Rattle.desk_rows.specs.Conclusions.{adoptions, conclusions, licence_for, licence_given, office_text, text_given};
-ghost use Rattle.desk_rows.specs.Lists.{IsIn, latest};
-ghost use Rattle.desk_rows.specs.Readings.{Readings};
-ghost use Rattle.desk_rows.specs.Keys.{below_by, is_choice_of};
-ghost use Rattle.desk_rows.specs.History.{choice};
-ghost use Rattle.desk_rows.specs.Raised.{frozen, numbered, owed_at, raised, IsRaised};
-ghost use Rattle.desk_rows.specs.Tables.{tables, standing, choice_row};
-ghost use Rattle.desk_rows.specs.Answers.{answer, noted, IsHistory};
-ghost use Rattle.desk_rows.specs.Queries.{duties_of, totals_of};
+ghost use Rattle.desk_model.specs.Conclusions.{adoptions, conclusions, licence_for, licence_given, office_text, text_given};
+ghost use Rattle.desk_model.specs.Lists.{IsIn, latest};
+ghost use Rattle.desk_model.specs.Readings.{Readings};
+ghost use Rattle.desk_model.specs.Keys.{below_by, is_choice_of};
+ghost use Rattle.desk_model.specs.History.{choice};
+ghost use Rattle.desk_model.specs.Raised.{frozen, numbered, owed_at, raised, IsRaised};
+ghost use Rattle.desk_model.specs.Tables.{tables, standing, choice_row};
+ghost use Rattle.desk_model.specs.Answers.{answer, noted, IsHistory};
+ghost use Rattle.desk_model.specs.Queries.{duties_of, totals_of};
 ghost use Rattle.desk_history.specs.Laws.{AreSorted, IsFrozenTerm, IsHeldMinimal, IsMinimalChoice, IsNumbered, AreDistinct, key_of, ListsOnce, IsToldBy};
-ghost use Rattle.desk_rows.specs.declared.row.Owed.{Owed};
-ghost use Rattle.desk_rows.specs.declared.row.DutyRow.{DutyRow};
-ghost use Rattle.desk_rows.specs.declared.row.FrozenRow.{FrozenRow};
-ghost use Rattle.desk_rows.specs.declared.command.Command.{Command};
-ghost use Rattle.desk_rows.specs.Moves.{moves, place, is_raised_for};
-ghost use Rattle.desk_rows.specs.States.{is_met};
+ghost use Rattle.desk_model.specs.declared.row.Owed.{Owed};
+ghost use Rattle.desk_model.specs.declared.row.DutyRow.{DutyRow};
+ghost use Rattle.desk_model.specs.declared.row.FrozenRow.{FrozenRow};
+ghost use Rattle.desk_model.specs.declared.command.Command.{Command};
+ghost use Rattle.desk_model.specs.Moves.{moves, place, is_raised_for};
+ghost use Rattle.desk_model.specs.States.{is_met};
 ghost use Rattle.desk_history.specs.Laws.{IsOver, AreNumberedInOrder, AreSortedAsListed, IsCounted, ListsInOrder, Rises, duty_order, owed_order};
-ghost use Rattle.desk_rows.specs.declared.state.DutyState.TheVariants.{IsOpen, Met, Withdrawn};
-ghost use Rattle.desk_rows.specs.declared.command.Command.TheVariants.{Choose, CloseDay, Withdraw};
+ghost use Rattle.desk_model.specs.declared.state.DutyState.TheVariants.{IsOpen, Met, Withdrawn};
+ghost use Rattle.desk_model.specs.declared.command.Command.TheVariants.{Choose, CloseDay, Withdraw};
 
 /// A duty is raised exactly where a freeze of its release stands in the history, and before it a document that ships the package
 /// was attached, the term was chosen for it, and the catalogue in force owed the code for the term's adopted form.

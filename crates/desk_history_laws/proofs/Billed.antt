@@ -11,31 +11,31 @@ use Rattle.std.proofs.lemmas.List.Folds.{find-append}
 use Rattle.desk_base.proofs.Bools.{and_left, and_right}
 use Rattle.desk_base.proofs.Numbers.{numbers_equal, same_number}
 use Rattle.desk_base.proofs.Texts.{same_text, texts_equal}
-use Rattle.desk_rows.specs.Lists.{IsIn, in_order, latest, or_else, put}
-use Rattle.desk_rows.specs.Readings.{Readings}
-use Rattle.desk_rows.specs.Keys.{below_by, frozen_order, is_frozen_of, is_revision}
-use Rattle.desk_rows.specs.History.{choice, form_of, in_force, is_package_of, loaded, references, revision_of, revisions, rules_in, state_given, state_of, term_set, terms_given}
-use Rattle.desk_rows.specs.Conclusions.{adoptions}
-use Rattle.desk_rows.specs.Raised.{chosen_in, frozen, frozen_at, frozen_for_terms, frozen_term, frozen_under, rule_adopted, shipped}
-use Rattle.desk_rows.specs.Answers.{IsHistory}
-use Rattle.desk_rows.specs.Bills.{bill_answer, bill_line, bill_text, first_uses, package_texts, revision_text, texts_named}
-use Rattle.desk_rows.specs.Queries.{queried}
-use Rattle.desk_rows.specs.Texts.{text_below}
-use Rattle.desk_rows.specs.declared.bill.Bill.{Bill}
-use Rattle.desk_rows.specs.declared.bill.BillLine.{BillLine}
-use Rattle.desk_rows.specs.declared.bill.BillText.{BillText}
-use Rattle.desk_rows.specs.declared.bill.TextOf.{TextOf}
-use Rattle.desk_rows.specs.declared.command.Answer.TheVariants as answered
-use Rattle.desk_rows.specs.declared.command.Command.{Command}
-use Rattle.desk_rows.specs.declared.command.Command.TheVariants.{LoadCatalogue, Choose, Unchoose, Freeze, Withdraw}
-use Rattle.desk_rows.specs.declared.command.Query.TheVariants as query
-use Rattle.desk_rows.specs.declared.reading.Rule.{Rule}
-use Rattle.desk_rows.specs.declared.row.CatalogueRow.{CatalogueRow}
-use Rattle.desk_rows.specs.declared.row.FrozenRow.{FrozenRow}
-use Rattle.desk_rows.specs.declared.row.PackageRow.{PackageRow}
-use Rattle.desk_rows.specs.declared.state.ReleaseState.{ReleaseState}
-use Rattle.desk_rows.specs.declared.state.ReleaseState.TheVariants.{IsOpen, Frozen, Withdrawn}
-use Rattle.desk_rows.specs.declared.refusal.Refusal.TheVariants as why
+use Rattle.desk_model.specs.Lists.{IsIn, in_order, latest, or_else, put}
+use Rattle.desk_model.specs.Readings.{Readings}
+use Rattle.desk_model.specs.Keys.{below_by, frozen_order, is_frozen_of, is_revision}
+use Rattle.desk_model.specs.History.{choice, form_of, in_force, is_package_of, loaded, references, revision_of, revisions, rules_in, state_given, state_of, term_set, terms_given}
+use Rattle.desk_model.specs.Conclusions.{adoptions}
+use Rattle.desk_model.specs.Raised.{chosen_in, frozen, frozen_at, frozen_for_terms, frozen_term, frozen_under, rule_adopted, shipped}
+use Rattle.desk_model.specs.Answers.{IsHistory}
+use Rattle.desk_model.specs.Bills.{bill_answer, bill_line, bill_text, first_uses, package_texts, revision_text, texts_named}
+use Rattle.desk_model.specs.Queries.{queried}
+use Rattle.desk_model.specs.Texts.{text_below}
+use Rattle.desk_model.specs.declared.bill.Bill.{Bill}
+use Rattle.desk_model.specs.declared.bill.BillLine.{BillLine}
+use Rattle.desk_model.specs.declared.bill.BillText.{BillText}
+use Rattle.desk_model.specs.declared.bill.TextOf.{TextOf}
+use Rattle.desk_model.specs.declared.command.Answer.TheVariants as answered
+use Rattle.desk_model.specs.declared.command.Command.{Command}
+use Rattle.desk_model.specs.declared.command.Command.TheVariants.{LoadCatalogue, Choose, Unchoose, Freeze, Withdraw}
+use Rattle.desk_model.specs.declared.command.Query.TheVariants as query
+use Rattle.desk_model.specs.declared.reading.Rule.{Rule}
+use Rattle.desk_model.specs.declared.row.CatalogueRow.{CatalogueRow}
+use Rattle.desk_model.specs.declared.row.FrozenRow.{FrozenRow}
+use Rattle.desk_model.specs.declared.row.PackageRow.{PackageRow}
+use Rattle.desk_model.specs.declared.state.ReleaseState.{ReleaseState}
+use Rattle.desk_model.specs.declared.state.ReleaseState.TheVariants.{IsOpen, Frozen, Withdrawn}
+use Rattle.desk_model.specs.declared.refusal.Refusal.TheVariants as why
 use Rattle.desk_history.specs.Laws.{AreDistinct, Rises}
 use Rattle.desk_history.proofs.Members.{from_flat_map, in_map}
 use Rattle.desk_history.proofs.Orders.{filter-in_order}

@@ -12,42 +12,42 @@ use Rattle.std.proofs.lemmas.List.Elements.{filter-append}
 use Rattle.desk_base.proofs.Bools.{and_left, and_right, not_true}
 use Rattle.desk_base.proofs.Numbers.{numbers_equal}
 use Rattle.desk_base.proofs.Texts.{text_tells}
-use Rattle.desk_rows.specs.Lists.{IsIn, in_order, latest, or_else}
-use Rattle.desk_rows.specs.Readings.{Readings}
-use Rattle.desk_rows.specs.Keys.{attached_order, below_by, frozen_order, is_attached_to, is_document, is_extracted, is_frozen_of, is_revision, is_shipped_by}
-use Rattle.desk_rows.specs.History.{attached, attached_to, attachment, documents, extracted_row, form_of, in_force, namespace_in, package_row, packages, packages_in, references, references_in, revision_of, revisions, rules_in, state_given, state_of}
-use Rattle.desk_rows.specs.Conclusions.{adoptions}
-use Rattle.desk_rows.specs.Raised.{chosen_in, frozen, frozen_at, frozen_for_terms, frozen_term, frozen_under, rule_adopted, shipped, shipped_of}
-use Rattle.desk_rows.specs.Answers.{answer, attaching, freezing, has_document, IsHistory, is_recorded, opening, unless, unready}
-use Rattle.desk_rows.specs.Bills.{bill_answer, bill_of, bill_text, extracted_text, first_uses, frozen_terms, is_same_text, revision_text, texts_named}
-use Rattle.desk_rows.specs.Queries.{queried}
-use Rattle.desk_rows.specs.Tables.{release_row}
-use Rattle.desk_rows.specs.Texts.{is_release_name}
+use Rattle.desk_model.specs.Lists.{IsIn, in_order, latest, or_else}
+use Rattle.desk_model.specs.Readings.{Readings}
+use Rattle.desk_model.specs.Keys.{attached_order, below_by, frozen_order, is_attached_to, is_document, is_extracted, is_frozen_of, is_revision, is_shipped_by}
+use Rattle.desk_model.specs.History.{attached, attached_to, attachment, documents, extracted_row, form_of, in_force, namespace_in, package_row, packages, packages_in, references, references_in, revision_of, revisions, rules_in, state_given, state_of}
+use Rattle.desk_model.specs.Conclusions.{adoptions}
+use Rattle.desk_model.specs.Raised.{chosen_in, frozen, frozen_at, frozen_for_terms, frozen_term, frozen_under, rule_adopted, shipped, shipped_of}
+use Rattle.desk_model.specs.Answers.{answer, attaching, freezing, has_document, IsHistory, is_recorded, opening, unless, unready}
+use Rattle.desk_model.specs.Bills.{bill_answer, bill_of, bill_text, extracted_text, first_uses, frozen_terms, is_same_text, revision_text, texts_named}
+use Rattle.desk_model.specs.Queries.{queried}
+use Rattle.desk_model.specs.Tables.{release_row}
+use Rattle.desk_model.specs.Texts.{is_release_name}
 use Rattle.desk_base.specs.Day.{is_day}
 use Rattle.desk_base.specs.declared.profile.Profile.{Profile}
-use Rattle.desk_rows.specs.declared.bill.Bill.{Bill}
-use Rattle.desk_rows.specs.declared.bill.BillLine.{BillLine}
-use Rattle.desk_rows.specs.declared.bill.BillText.{BillText}
-use Rattle.desk_rows.specs.declared.bill.TextOf.{TextOf}
-use Rattle.desk_rows.specs.declared.bill.TextOf.TheVariants.{Licence, Reference}
-use Rattle.desk_rows.specs.declared.command.Answer.TheVariants as answered
-use Rattle.desk_rows.specs.declared.command.Command.{Command}
-use Rattle.desk_rows.specs.declared.command.Command.TheVariants.{LoadCatalogue, Import, OpenRelease, Attach, Freeze, Withdraw}
-use Rattle.desk_rows.specs.declared.command.Query.TheVariants as query
-use Rattle.desk_rows.specs.declared.reading.Package.{Package}
-use Rattle.desk_rows.specs.declared.reading.Reference.{Reference as Extract}
-use Rattle.desk_rows.specs.declared.reading.Rule.{Rule}
-use Rattle.desk_rows.specs.declared.refusal.Refusal.TheVariants as why
-use Rattle.desk_rows.specs.declared.row.AdoptionRow.{AdoptionRow}
-use Rattle.desk_rows.specs.declared.row.AttachedRow.{AttachedRow}
-use Rattle.desk_rows.specs.declared.row.CatalogueRow.{CatalogueRow}
-use Rattle.desk_rows.specs.declared.row.DocumentRow.{DocumentRow}
-use Rattle.desk_rows.specs.declared.row.ExtractedRow.{ExtractedRow}
-use Rattle.desk_rows.specs.declared.row.FrozenRow.{FrozenRow}
-use Rattle.desk_rows.specs.declared.row.PackageRow.{PackageRow}
-use Rattle.desk_rows.specs.declared.state.ReleaseState.{ReleaseState}
-use Rattle.desk_rows.specs.declared.state.ReleaseState.TheVariants.{IsOpen, Frozen, Withdrawn}
-use Rattle.desk_rows.proofs.Orders.{IsOrder, order_of}
+use Rattle.desk_model.specs.declared.bill.Bill.{Bill}
+use Rattle.desk_model.specs.declared.bill.BillLine.{BillLine}
+use Rattle.desk_model.specs.declared.bill.BillText.{BillText}
+use Rattle.desk_model.specs.declared.bill.TextOf.{TextOf}
+use Rattle.desk_model.specs.declared.bill.TextOf.TheVariants.{Licence, Reference}
+use Rattle.desk_model.specs.declared.command.Answer.TheVariants as answered
+use Rattle.desk_model.specs.declared.command.Command.{Command}
+use Rattle.desk_model.specs.declared.command.Command.TheVariants.{LoadCatalogue, Import, OpenRelease, Attach, Freeze, Withdraw}
+use Rattle.desk_model.specs.declared.command.Query.TheVariants as query
+use Rattle.desk_model.specs.declared.reading.Package.{Package}
+use Rattle.desk_model.specs.declared.reading.Reference.{Reference as Extract}
+use Rattle.desk_model.specs.declared.reading.Rule.{Rule}
+use Rattle.desk_model.specs.declared.refusal.Refusal.TheVariants as why
+use Rattle.desk_model.specs.declared.row.AdoptionRow.{AdoptionRow}
+use Rattle.desk_model.specs.declared.row.AttachedRow.{AttachedRow}
+use Rattle.desk_model.specs.declared.row.CatalogueRow.{CatalogueRow}
+use Rattle.desk_model.specs.declared.row.DocumentRow.{DocumentRow}
+use Rattle.desk_model.specs.declared.row.ExtractedRow.{ExtractedRow}
+use Rattle.desk_model.specs.declared.row.FrozenRow.{FrozenRow}
+use Rattle.desk_model.specs.declared.row.PackageRow.{PackageRow}
+use Rattle.desk_model.specs.declared.state.ReleaseState.{ReleaseState}
+use Rattle.desk_model.specs.declared.state.ReleaseState.TheVariants.{IsOpen, Frozen, Withdrawn}
+use Rattle.desk_model.proofs.Orders.{IsOrder, order_of}
 use Rattle.desk_history.proofs.Members.{from_flat_map}
 use Rattle.desk_history.proofs.Orders.{ascends-in_order, attached_is_order, filter-in_order, filter-put, put_if}
 use Rattle.desk_history.proofs.OwnKeys.{open_at}

@@ -4,16 +4,16 @@ use Rattle.std.specs.Prelude.{filter, IsTrue, is_some, Result, Ok, Err}
 use Rattle.std.specs.List.{enumerate_from, flat_map}
 use Rattle.std.specs.Option.{option_and_then}
 use Rattle.std.specs.Result.{result_ok}
-use Rattle.desk_rows.specs.Lists.{latest}
-use Rattle.desk_rows.specs.Readings.{Readings}
-use Rattle.desk_rows.specs.History.{revisions, loaded, in_force, rules_in, rule_rows}
-use Rattle.desk_rows.specs.Keys.{is_rule_of}
-use Rattle.desk_rows.specs.Answers.{IsHistory, is_recorded, Loading, load_answer, loading}
-use Rattle.desk_rows.specs.declared.reading.Catalogue.{Catalogue}
-use Rattle.desk_rows.specs.declared.refusal.CatalogueFault.{CatalogueFault}
-use Rattle.desk_rows.specs.declared.row.CatalogueRow.{CatalogueRow}
-use Rattle.desk_rows.specs.declared.command.Command.{Command}
-use Rattle.desk_rows.specs.declared.command.Command.TheVariants.{LoadCatalogue}
+use Rattle.desk_model.specs.Lists.{latest}
+use Rattle.desk_model.specs.Readings.{Readings}
+use Rattle.desk_model.specs.History.{revisions, loaded, in_force, rules_in, rule_rows}
+use Rattle.desk_model.specs.Keys.{is_rule_of}
+use Rattle.desk_model.specs.Answers.{IsHistory, is_recorded, Loading, load_answer, loading}
+use Rattle.desk_model.specs.declared.reading.Catalogue.{Catalogue}
+use Rattle.desk_model.specs.declared.refusal.CatalogueFault.{CatalogueFault}
+use Rattle.desk_model.specs.declared.row.CatalogueRow.{CatalogueRow}
+use Rattle.desk_model.specs.declared.command.Command.{Command}
+use Rattle.desk_model.specs.declared.command.Command.TheVariants.{LoadCatalogue}
 use Rattle.desk_history.specs.FromTables.{rule_of}
 use Rattle.desk_history.proofs.Lookups.{rules-found}
 use Rattle.desk_history_laws.specs.Filters.{given, last_given, revision_row, rules_of}

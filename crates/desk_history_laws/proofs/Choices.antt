@@ -2,14 +2,14 @@
 use Rattle.std.proofs.Common.{◌≡◌, ℕ, Bool, true, false, List, [], ◌∷◌, map, Option, Some, None, sym, refl, ap, ◌∙◌, subst}
 use Rattle.std.specs.Prelude.{filter, unwrap_or, if◌then◌else◌}
 use Rattle.std.specs.Str.{bytes_eq}
-use Rattle.desk_rows.specs.Lists.{IsIn, latest, or_else}
-use Rattle.desk_rows.specs.Readings.{Readings}
-use Rattle.desk_rows.specs.Keys.{below_by, choice_order, is_choice_of}
-use Rattle.desk_rows.specs.History.{choice, term_set, terms_given, is_package_of}
-use Rattle.desk_rows.specs.Tables.{standing, choices, choice_row}
-use Rattle.desk_rows.specs.declared.row.ChoiceRow.{ChoiceRow}
-use Rattle.desk_rows.specs.declared.command.Command.{Command}
-use Rattle.desk_rows.specs.declared.command.Command.TheVariants.{Choose, Unchoose, Withdraw}
+use Rattle.desk_model.specs.Lists.{IsIn, latest, or_else}
+use Rattle.desk_model.specs.Readings.{Readings}
+use Rattle.desk_model.specs.Keys.{below_by, choice_order, is_choice_of}
+use Rattle.desk_model.specs.History.{choice, term_set, terms_given, is_package_of}
+use Rattle.desk_model.specs.Tables.{standing, choices, choice_row}
+use Rattle.desk_model.specs.declared.row.ChoiceRow.{ChoiceRow}
+use Rattle.desk_model.specs.declared.command.Command.{Command}
+use Rattle.desk_model.specs.declared.command.Command.TheVariants.{Choose, Unchoose, Withdraw}
 use Rattle.desk_base.proofs.Numbers.{same_number}
 use Rattle.desk_base.proofs.Texts.{same_text}
 use Rattle.desk_history.proofs.Members.{in_map, from_map}

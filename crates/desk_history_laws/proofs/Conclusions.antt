@@ -2,14 +2,14 @@
 use Rattle.std.proofs.Common.{◌≡◌, ◌⊎◌, ℕ, Bool, true, false, List, [], ◌∷◌, Option, Some, None, sym, refl, ap, ◌∙◌, subst, inl, inr}
 use Rattle.std.specs.Prelude.{◌&&◌, ◌==◌, unwrap_or, if◌then◌else◌}
 use Rattle.std.specs.Str.{bytes_eq}
-use Rattle.desk_rows.specs.Lists.{IsIn, latest, or_else}
-use Rattle.desk_rows.specs.Readings.{Readings}
-use Rattle.desk_rows.specs.Keys.{below_by, conclusion_order, adoption_order, is_conclusion, is_adoption}
-use Rattle.desk_rows.specs.Conclusions.{conclusions, conclusion_row, text_given, adoptions, adoption_row, licence_given}
-use Rattle.desk_rows.specs.declared.row.AdoptionRow.{AdoptionRow}
-use Rattle.desk_rows.specs.declared.row.ConclusionRow.{ConclusionRow}
-use Rattle.desk_rows.specs.declared.command.Command.{Command}
-use Rattle.desk_rows.specs.declared.command.Command.TheVariants.{Conclude, Adopt}
+use Rattle.desk_model.specs.Lists.{IsIn, latest, or_else}
+use Rattle.desk_model.specs.Readings.{Readings}
+use Rattle.desk_model.specs.Keys.{below_by, conclusion_order, adoption_order, is_conclusion, is_adoption}
+use Rattle.desk_model.specs.Conclusions.{conclusions, conclusion_row, text_given, adoptions, adoption_row, licence_given}
+use Rattle.desk_model.specs.declared.row.AdoptionRow.{AdoptionRow}
+use Rattle.desk_model.specs.declared.row.ConclusionRow.{ConclusionRow}
+use Rattle.desk_model.specs.declared.command.Command.{Command}
+use Rattle.desk_model.specs.declared.command.Command.TheVariants.{Conclude, Adopt}
 use Rattle.desk_base.proofs.Bools.{both, contrary}
 use Rattle.desk_base.proofs.Numbers.{same_number}
 use Rattle.desk_base.proofs.Texts.{same_text}

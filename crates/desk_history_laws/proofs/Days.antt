@@ -11,8 +11,8 @@ use Rattle.std.proofs.lemmas.Bool.Decides.{nat_tests}
 use Rattle.desk_base.proofs.Numbers.{three, numbers_equal}
 use Rattle.desk_base.proofs.Bools.{and_left, and_right}
 use Rattle.desk_base.specs.Day.{is_day, exists, number_from, writes_day}
-use Rattle.desk_rows.specs.Texts.{is_before}
-use Rattle.desk_rows.specs.Keys.{below_by}
+use Rattle.desk_model.specs.Texts.{is_before}
+use Rattle.desk_model.specs.Keys.{below_by}
 use Rattle.desk_history_laws.specs.Dates.{date_order, year_of, month_of, day_of}
 
 assoc : (a b c : Ordering) → ordering_then (ordering_then a b) c ≡ ordering_then a (ordering_then b c)

@@ -3,11 +3,11 @@ use Rattle.std.proofs.Common.{◌≡◌, ℕ, ◌+◌, List, [], ◌∷◌, ◌+
 use Rattle.std.specs.List.{enumerate_from, flat_map}
 use Rattle.std.specs.Result.{result_ok}
 use Rattle.desk_base.specs.declared.profile.Profile.{Profile}
-use Rattle.desk_rows.specs.Readings.{Readings}
-use Rattle.desk_rows.specs.History.{documents, packages, references, namespace_in}
-use Rattle.desk_rows.specs.declared.row.DocumentRow.{DocumentRow}
-use Rattle.desk_rows.specs.declared.command.Command.{Command}
-use Rattle.desk_rows.specs.declared.command.Command.TheVariants.{Import}
+use Rattle.desk_model.specs.Readings.{Readings}
+use Rattle.desk_model.specs.History.{documents, packages, references, namespace_in}
+use Rattle.desk_model.specs.declared.row.DocumentRow.{DocumentRow}
+use Rattle.desk_model.specs.declared.command.Command.{Command}
+use Rattle.desk_model.specs.declared.command.Command.TheVariants.{Import}
 use Rattle.desk_history_laws.specs.Filters.{given, imported, document_row, packages_of, references_of}
 use Rattle.desk_history_laws.proofs.Given.{given-cons, given_nothing, rows-push, length-rows, flat_map-push}
 

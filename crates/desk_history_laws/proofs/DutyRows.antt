@@ -1,13 +1,13 @@
 -- The rows of the duty table are those of the duties that were raised.
 use Rattle.std.proofs.Common.{◌≡◌, ℕ, ◌+◌, List, [], ◌∷◌, sym, refl, ap, subst, inl, inr}
 use Rattle.std.specs.List.{enumerate_from}
-use Rattle.desk_rows.specs.Lists.{IsIn}
-use Rattle.desk_rows.specs.Readings.{Readings}
-use Rattle.desk_rows.specs.Raised.{IsRaised, raised, numbered}
-use Rattle.desk_rows.specs.Moves.{duties, duty_row, place}
-use Rattle.desk_rows.specs.declared.row.Owed.{Owed}
-use Rattle.desk_rows.specs.declared.row.DutyRow.{DutyRow}
-use Rattle.desk_rows.specs.declared.command.Command.{Command}
+use Rattle.desk_model.specs.Lists.{IsIn}
+use Rattle.desk_model.specs.Readings.{Readings}
+use Rattle.desk_model.specs.Raised.{IsRaised, raised, numbered}
+use Rattle.desk_model.specs.Moves.{duties, duty_row, place}
+use Rattle.desk_model.specs.declared.row.Owed.{Owed}
+use Rattle.desk_model.specs.declared.row.DutyRow.{DutyRow}
+use Rattle.desk_model.specs.declared.command.Command.{Command}
 use Rattle.desk_history.specs.Laws.{IsNumbered}
 use Rattle.desk_history.proofs.Members.{in_map, from_map}
 use Rattle.desk_history_laws.specs.Standing.{IsDutyRow}

@@ -8,23 +8,23 @@ use Rattle.desk_base.specs.Day.{is_day}
 use Rattle.desk_base.proofs.Bools.{and_left, and_right}
 use Rattle.desk_base.proofs.Numbers.{numbers_equal}
 use Rattle.desk_base.proofs.Texts.{texts_equal, text_tells}
-use Rattle.desk_rows.specs.Lists.{IsIn, latest, or_else}
-use Rattle.desk_rows.specs.Readings.{Readings}
-use Rattle.desk_rows.specs.Keys.{below_by, attached_order, is_attachment, is_package}
-use Rattle.desk_rows.specs.History.{attached, attachment, choice, form_of, in_force, is_package_of, package_row, packages, packages_in, documents, rules_in, state_of, state_given, term_set, terms_given}
-use Rattle.desk_rows.specs.Conclusions.{adoptions}
-use Rattle.desk_rows.specs.Raised.{chosen_in, rule_adopted, shipped}
-use Rattle.desk_rows.specs.Answers.{answer, choosing, conclusion, freeze_answer, first_bad, first_refusal, first_unadopted, first_unruled, Freezing, freezing, IsHistory, is_recorded, is_shipped, package_at, package_fault, unchosen, unchoosing, unconcluded, unless, unready, unruled}
-use Rattle.desk_rows.specs.declared.reading.Rule.{Rule}
-use Rattle.desk_rows.specs.declared.refusal.Refusal.{Refusal}
-use Rattle.desk_rows.specs.declared.refusal.Refusal.TheVariants as why
-use Rattle.desk_rows.specs.declared.row.AttachedRow.{AttachedRow}
-use Rattle.desk_rows.specs.declared.row.FrozenRow.{FrozenRow}
-use Rattle.desk_rows.specs.declared.row.PackageRow.{PackageRow}
-use Rattle.desk_rows.specs.declared.state.ReleaseState.{ReleaseState}
-use Rattle.desk_rows.specs.declared.state.ReleaseState.TheVariants.{IsOpen, Frozen, Withdrawn}
-use Rattle.desk_rows.specs.declared.command.Command.{Command}
-use Rattle.desk_rows.specs.declared.command.Command.TheVariants.{Import, Attach, Choose, Unchoose, Freeze, Withdraw}
+use Rattle.desk_model.specs.Lists.{IsIn, latest, or_else}
+use Rattle.desk_model.specs.Readings.{Readings}
+use Rattle.desk_model.specs.Keys.{below_by, attached_order, is_attachment, is_package}
+use Rattle.desk_model.specs.History.{attached, attachment, choice, form_of, in_force, is_package_of, package_row, packages, packages_in, documents, rules_in, state_of, state_given, term_set, terms_given}
+use Rattle.desk_model.specs.Conclusions.{adoptions}
+use Rattle.desk_model.specs.Raised.{chosen_in, rule_adopted, shipped}
+use Rattle.desk_model.specs.Answers.{answer, choosing, conclusion, freeze_answer, first_bad, first_refusal, first_unadopted, first_unruled, Freezing, freezing, IsHistory, is_recorded, is_shipped, package_at, package_fault, unchosen, unchoosing, unconcluded, unless, unready, unruled}
+use Rattle.desk_model.specs.declared.reading.Rule.{Rule}
+use Rattle.desk_model.specs.declared.refusal.Refusal.{Refusal}
+use Rattle.desk_model.specs.declared.refusal.Refusal.TheVariants as why
+use Rattle.desk_model.specs.declared.row.AttachedRow.{AttachedRow}
+use Rattle.desk_model.specs.declared.row.FrozenRow.{FrozenRow}
+use Rattle.desk_model.specs.declared.row.PackageRow.{PackageRow}
+use Rattle.desk_model.specs.declared.state.ReleaseState.{ReleaseState}
+use Rattle.desk_model.specs.declared.state.ReleaseState.TheVariants.{IsOpen, Frozen, Withdrawn}
+use Rattle.desk_model.specs.declared.command.Command.{Command}
+use Rattle.desk_model.specs.declared.command.Command.TheVariants.{Import, Attach, Choose, Unchoose, Freeze, Withdraw}
 use Rattle.std.specs.Result.{result_ok}
 use Rattle.desk_history.specs.Laws.{IsFrozenTerm}
 use Rattle.desk_history.proofs.Members.{in_left, in_map}

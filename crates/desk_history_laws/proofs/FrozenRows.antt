@@ -3,20 +3,20 @@ use Rattle.std.proofs.Common.{◌≡◌, ◌≢◌, ℕ, Bool, true, false, List
 use Rattle.std.specs.Prelude.{unwrap_or, IsTrue, if◌then◌else◌}
 use Rattle.std.specs.Str.{bytes_eq}
 use Rattle.desk_base.proofs.Texts.{same_text}
-use Rattle.desk_rows.specs.Lists.{IsIn, latest, or_else}
-use Rattle.desk_rows.specs.Readings.{Readings}
-use Rattle.desk_rows.specs.Keys.{below_by, frozen_order}
-use Rattle.desk_rows.specs.History.{in_force, rules_in, form_of, state_of, state_given}
-use Rattle.desk_rows.specs.Conclusions.{adoptions}
-use Rattle.desk_rows.specs.Raised.{frozen, frozen_at, frozen_for_terms, frozen_under, frozen_term, rule_adopted, shipped, chosen_in}
-use Rattle.desk_rows.specs.Answers.{answer, is_recorded, IsHistory}
-use Rattle.desk_rows.specs.Tables.{tables}
-use Rattle.desk_rows.specs.declared.row.FrozenRow.{FrozenRow}
-use Rattle.desk_rows.specs.declared.row.PackageRow.{PackageRow}
-use Rattle.desk_rows.specs.declared.state.ReleaseState.{ReleaseState}
-use Rattle.desk_rows.specs.declared.state.ReleaseState.TheVariants.{IsOpen, Frozen, Withdrawn}
-use Rattle.desk_rows.specs.declared.command.Command.{Command}
-use Rattle.desk_rows.specs.declared.command.Command.TheVariants.{Freeze, Withdraw}
+use Rattle.desk_model.specs.Lists.{IsIn, latest, or_else}
+use Rattle.desk_model.specs.Readings.{Readings}
+use Rattle.desk_model.specs.Keys.{below_by, frozen_order}
+use Rattle.desk_model.specs.History.{in_force, rules_in, form_of, state_of, state_given}
+use Rattle.desk_model.specs.Conclusions.{adoptions}
+use Rattle.desk_model.specs.Raised.{frozen, frozen_at, frozen_for_terms, frozen_under, frozen_term, rule_adopted, shipped, chosen_in}
+use Rattle.desk_model.specs.Answers.{answer, is_recorded, IsHistory}
+use Rattle.desk_model.specs.Tables.{tables}
+use Rattle.desk_model.specs.declared.row.FrozenRow.{FrozenRow}
+use Rattle.desk_model.specs.declared.row.PackageRow.{PackageRow}
+use Rattle.desk_model.specs.declared.state.ReleaseState.{ReleaseState}
+use Rattle.desk_model.specs.declared.state.ReleaseState.TheVariants.{IsOpen, Frozen, Withdrawn}
+use Rattle.desk_model.specs.declared.command.Command.{Command}
+use Rattle.desk_model.specs.declared.command.Command.TheVariants.{Freeze, Withdraw}
 use Rattle.desk_history.specs.Laws.{IsFrozenTerm}
 use Rattle.desk_history.proofs.Members.{in_left, in_right, in_flat_map}
 use Rattle.desk_history.proofs.OwnKeys.{open_at}

@@ -4,8 +4,8 @@ use Rattle.std.specs.Prelude.{reverse, filter, cond, Bool, true, false, if◌the
 use Rattle.std.specs.List.{filter_map, cons_option, last_or, enumerate_from, flat_map}
 use Rattle.std.proofs.lemmas.List.{reverse-append, map-append}
 use Rattle.std.proofs.lemmas.List.Elements.{filter_map-append, filter-append}
-use Rattle.desk_rows.specs.Lists.{latest, or_else}
-use Rattle.desk_rows.specs.declared.command.Command.{Command}
+use Rattle.desk_model.specs.Lists.{latest, or_else}
+use Rattle.desk_model.specs.declared.command.Command.{Command}
 use Rattle.desk_history_laws.specs.Filters.{given, last_given}
 
 -- what the newest command gives stands last

@@ -2,7 +2,7 @@
 use Rattle.std.proofs.Common.{◌≡◌, Bool, true, false, cond, List, [], ◌∷◌, Option, Some, None, sym, refl, ap, ◌∙◌, subst, inl, inr}
 use Rattle.std.specs.Prelude.{◌⊎◌, filter, not, if◌then◌else◌}
 use Rattle.std.specs.List.{filter_map, cons_option}
-use Rattle.desk_rows.specs.Lists.{IsIn, put, in_order, replaced}
+use Rattle.desk_model.specs.Lists.{IsIn, put, in_order, replaced}
 
 in_kept : {A : Type 0} (x y : A) (xs : List A) (b : Bool) → b ≡ true → y ≡ x → IsIn x (cond b (y ∷ xs) xs)
 in_kept x y xs true e same = inl same

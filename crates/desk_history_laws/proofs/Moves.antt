@@ -3,11 +3,11 @@ use Rattle.std.proofs.Common.{◌≡◌, ℕ, ◌+◌, List, [], ◌∷◌, ◌+
 use Rattle.std.specs.Prelude.{reverse}
 use Rattle.std.specs.List.{filter_map, cons_option, enumerate_from, last_or}
 use Rattle.std.proofs.lemmas.List.{reverse-append, length-reverse}
-use Rattle.desk_rows.specs.Lists.{IsIn}
-use Rattle.desk_rows.specs.Readings.{Readings}
-use Rattle.desk_rows.specs.Moves.{move_by, moves, with_move, place, place_after, change_row, change_rows, changes}
-use Rattle.desk_rows.specs.declared.row.Move.{Move}
-use Rattle.desk_rows.specs.declared.command.Command.{Command}
+use Rattle.desk_model.specs.Lists.{IsIn}
+use Rattle.desk_model.specs.Readings.{Readings}
+use Rattle.desk_model.specs.Moves.{move_by, moves, with_move, place, place_after, change_row, change_rows, changes}
+use Rattle.desk_model.specs.declared.row.Move.{Move}
+use Rattle.desk_model.specs.declared.command.Command.{Command}
 use Rattle.desk_history_laws.specs.Moved.{with_rest, moved, moves_given, step_row, left_by, IsMove}
 use Rattle.desk_history_laws.proofs.Given.{filter_map-reverse, last-reverse, rows-push}
 

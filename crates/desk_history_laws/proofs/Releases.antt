@@ -3,16 +3,16 @@ use Rattle.std.proofs.Common.{◌≡◌, ℕ, ◌+◌, false, List, [], ◌∷�
 use Rattle.std.specs.Prelude.{filter, unwrap_or, ◌==◌}
 use Rattle.std.specs.List.{list_any, filter_map}
 use Rattle.std.specs.Str.{bytes_eq}
-use Rattle.desk_rows.specs.Lists.{IsIn}
-use Rattle.desk_rows.specs.Readings.{Readings}
-use Rattle.desk_rows.specs.Keys.{below_by, attached_order, is_attached_to, is_shipped_by}
-use Rattle.desk_rows.specs.History.{opened, place_in, form_of, form_given, state_of, state_given, revision_of, revisions, attachment, attached, attached_to, packages}
-use Rattle.desk_rows.specs.Raised.{shipped}
-use Rattle.desk_rows.specs.declared.row.AttachedRow.{AttachedRow}
-use Rattle.desk_rows.specs.declared.row.PackageRow.{PackageRow}
-use Rattle.desk_rows.specs.declared.state.ReleaseState.TheVariants.{IsOpen}
-use Rattle.desk_rows.specs.declared.command.Command.{Command}
-use Rattle.desk_rows.specs.declared.command.Command.TheVariants.{OpenRelease, Attach, Freeze}
+use Rattle.desk_model.specs.Lists.{IsIn}
+use Rattle.desk_model.specs.Readings.{Readings}
+use Rattle.desk_model.specs.Keys.{below_by, attached_order, is_attached_to, is_shipped_by}
+use Rattle.desk_model.specs.History.{opened, place_in, form_of, form_given, state_of, state_given, revision_of, revisions, attachment, attached, attached_to, packages}
+use Rattle.desk_model.specs.Raised.{shipped}
+use Rattle.desk_model.specs.declared.row.AttachedRow.{AttachedRow}
+use Rattle.desk_model.specs.declared.row.PackageRow.{PackageRow}
+use Rattle.desk_model.specs.declared.state.ReleaseState.TheVariants.{IsOpen}
+use Rattle.desk_model.specs.declared.command.Command.{Command}
+use Rattle.desk_model.specs.declared.command.Command.TheVariants.{OpenRelease, Attach, Freeze}
 use Rattle.desk_base.proofs.Bools.{and_left, and_right, both, or_left, or_right}
 use Rattle.desk_base.proofs.Numbers.{same_number, numbers_equal}
 use Rattle.desk_base.proofs.Texts.{same_text, texts_equal}

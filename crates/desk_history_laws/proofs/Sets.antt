@@ -8,9 +8,9 @@ use Rattle.std.specs.declared.cmp.Ordering.{Ordering}
 use Rattle.std.specs.declared.cmp.Ordering.TheVariants.{Less, Equal, Greater}
 use Rattle.std.proofs.lemmas.Cmp.{nat_list_cmp_total}
 use Rattle.std.proofs.lemmas.Map.Text.{is_eq-slice_cmp}
-use Rattle.desk_rows.specs.Lists.{IsIn}
-use Rattle.desk_rows.specs.Texts.{text_below, put_new, sorted_set}
-use Rattle.desk_rows.proofs.Orders.{IsOrder, order_of}
+use Rattle.desk_model.specs.Lists.{IsIn}
+use Rattle.desk_model.specs.Texts.{text_below, put_new, sorted_set}
+use Rattle.desk_model.proofs.Orders.{IsOrder, order_of}
 use Rattle.desk_base.proofs.Texts.{texts_equal}
 use Rattle.desk_history.specs.Laws.{Rises}
 

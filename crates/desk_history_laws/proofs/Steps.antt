@@ -10,28 +10,28 @@ use Rattle.desk_base.specs.Limits as most
 use Rattle.desk_base.proofs.Bools.{and_left, and_right}
 use Rattle.desk_base.proofs.Numbers.{numbers_equal}
 use Rattle.desk_base.proofs.Texts.{text_tells, texts_equal, same_text}
-use Rattle.desk_rows.specs.Lists.{latest, or_else}
-use Rattle.desk_rows.specs.Texts.{is_before, is_note}
-use Rattle.desk_rows.specs.Readings.{Readings}
-use Rattle.desk_rows.specs.History.{form_of, state_of, state_given}
-use Rattle.desk_rows.specs.Raised.{raised, owed_at}
-use Rattle.desk_rows.specs.States.{is_met, is_waived, state_after}
-use Rattle.desk_rows.specs.Moves.{duty_at, is_raised_for, raises, is_known, has_ended, end_after, move_if, with_move, moves, place, place_after, change_row, change_rows, changes}
-use Rattle.desk_rows.specs.Answers.{answer, IsHistory, is_recorded, refused_or, unless, gone, settled, is_over, Moving, move_answer, moving}
-use Rattle.desk_rows.specs.declared.row.Owed.{Owed}
-use Rattle.desk_rows.specs.declared.row.Move.{Move}
-use Rattle.desk_rows.specs.declared.state.DutyState.{DutyState}
-use Rattle.desk_rows.specs.declared.state.DutyState.TheVariants as stands
-use Rattle.desk_rows.specs.declared.state.ReleaseState.{ReleaseState}
-use Rattle.desk_rows.specs.declared.state.ReleaseState.TheVariants as release
-use Rattle.desk_rows.specs.declared.state.Word.{Word}
-use Rattle.desk_rows.specs.declared.state.Word.TheVariants as word
-use Rattle.desk_rows.specs.declared.refusal.Limit.TheVariants as limit
-use Rattle.desk_rows.specs.declared.refusal.Refusal.{Refusal}
-use Rattle.desk_rows.specs.declared.refusal.Refusal.TheVariants as why
-use Rattle.desk_rows.specs.declared.command.Answer.{Answer}
-use Rattle.desk_rows.specs.declared.command.Command.{Command}
-use Rattle.desk_rows.specs.declared.command.Command.TheVariants.{Freeze, Meet, Waive, Reopen, Withdraw, CloseDay}
+use Rattle.desk_model.specs.Lists.{latest, or_else}
+use Rattle.desk_model.specs.Texts.{is_before, is_note}
+use Rattle.desk_model.specs.Readings.{Readings}
+use Rattle.desk_model.specs.History.{form_of, state_of, state_given}
+use Rattle.desk_model.specs.Raised.{raised, owed_at}
+use Rattle.desk_model.specs.States.{is_met, is_waived, state_after}
+use Rattle.desk_model.specs.Moves.{duty_at, is_raised_for, raises, is_known, has_ended, end_after, move_if, with_move, moves, place, place_after, change_row, change_rows, changes}
+use Rattle.desk_model.specs.Answers.{answer, IsHistory, is_recorded, refused_or, unless, gone, settled, is_over, Moving, move_answer, moving}
+use Rattle.desk_model.specs.declared.row.Owed.{Owed}
+use Rattle.desk_model.specs.declared.row.Move.{Move}
+use Rattle.desk_model.specs.declared.state.DutyState.{DutyState}
+use Rattle.desk_model.specs.declared.state.DutyState.TheVariants as stands
+use Rattle.desk_model.specs.declared.state.ReleaseState.{ReleaseState}
+use Rattle.desk_model.specs.declared.state.ReleaseState.TheVariants as release
+use Rattle.desk_model.specs.declared.state.Word.{Word}
+use Rattle.desk_model.specs.declared.state.Word.TheVariants as word
+use Rattle.desk_model.specs.declared.refusal.Limit.TheVariants as limit
+use Rattle.desk_model.specs.declared.refusal.Refusal.{Refusal}
+use Rattle.desk_model.specs.declared.refusal.Refusal.TheVariants as why
+use Rattle.desk_model.specs.declared.command.Answer.{Answer}
+use Rattle.desk_model.specs.declared.command.Command.{Command}
+use Rattle.desk_model.specs.declared.command.Command.TheVariants.{Freeze, Meet, Waive, Reopen, Withdraw, CloseDay}
 use Rattle.desk_history.proofs.OwnKeys.{open_at}
 
 -- What a recorded command looked up

@@ -2,17 +2,17 @@
 use Rattle.std.specs.Prelude.{◌≡◌, ℕ, List, [], map, Ok, Option, unwrap_or}
 use Rattle.std.specs.List.{filter_map, flat_map}
 use Rattle.std.specs.Option.{option_map}
-use Rattle.desk_rows.specs.Readings.{Readings}
-use Rattle.desk_rows.specs.History.{choice, form_of, in_force, loaded, references, rules_in}
-use Rattle.desk_rows.specs.Conclusions.{adoptions}
-use Rattle.desk_rows.specs.Raised.{rule_adopted, shipped}
-use Rattle.desk_rows.specs.Bills.{bill_text, first_uses, texts_named}
-use Rattle.desk_rows.specs.declared.bill.Bill.{Bill}
-use Rattle.desk_rows.specs.declared.bill.BillLine.{BillLine}
-use Rattle.desk_rows.specs.declared.bill.TextOf.{TextOf}
-use Rattle.desk_rows.specs.declared.reading.Document.{Document}
-use Rattle.desk_rows.specs.declared.row.PackageRow.{PackageRow}
-use Rattle.desk_rows.specs.declared.command.Command.{Command}
+use Rattle.desk_model.specs.Readings.{Readings}
+use Rattle.desk_model.specs.History.{choice, form_of, in_force, loaded, references, rules_in}
+use Rattle.desk_model.specs.Conclusions.{adoptions}
+use Rattle.desk_model.specs.Raised.{rule_adopted, shipped}
+use Rattle.desk_model.specs.Bills.{bill_text, first_uses, texts_named}
+use Rattle.desk_model.specs.declared.bill.Bill.{Bill}
+use Rattle.desk_model.specs.declared.bill.BillLine.{BillLine}
+use Rattle.desk_model.specs.declared.bill.TextOf.{TextOf}
+use Rattle.desk_model.specs.declared.reading.Document.{Document}
+use Rattle.desk_model.specs.declared.row.PackageRow.{PackageRow}
+use Rattle.desk_model.specs.declared.command.Command.{Command}
 use Rattle.desk_history.specs.Laws.{AreDistinct}
 use Rattle.desk_history_laws.specs.Filters.{last_given}
 

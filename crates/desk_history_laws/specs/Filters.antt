@@ -3,16 +3,16 @@ use Rattle.std.specs.Prelude.{ℕ, Bool, false, List, [], map, filter, reverse, 
 use Rattle.std.specs.List.{filter_map, last_or}
 use Rattle.std.specs.Result.{result_ok}
 use Rattle.std.specs.Str.{bytes_eq}
-use Rattle.desk_rows.specs.Readings.{Readings}
-use Rattle.desk_rows.specs.History.{rules_in, rule_row, namespace_in, packages_in, references_in, package_row, extracted_row, is_package_of, term_set}
+use Rattle.desk_model.specs.Readings.{Readings}
+use Rattle.desk_model.specs.History.{rules_in, rule_row, namespace_in, packages_in, references_in, package_row, extracted_row, is_package_of, term_set}
 use Rattle.desk_base.specs.declared.profile.Profile.{Profile}
-use Rattle.desk_rows.specs.declared.row.CatalogueRow.{CatalogueRow}
-use Rattle.desk_rows.specs.declared.row.RuleRow.{RuleRow}
-use Rattle.desk_rows.specs.declared.row.DocumentRow.{DocumentRow}
-use Rattle.desk_rows.specs.declared.row.PackageRow.{PackageRow}
-use Rattle.desk_rows.specs.declared.row.ExtractedRow.{ExtractedRow}
-use Rattle.desk_rows.specs.declared.command.Command.{Command}
-use Rattle.desk_rows.specs.declared.command.Command.TheVariants.{Import, OpenRelease, Choose, Unchoose, Freeze, Withdraw}
+use Rattle.desk_model.specs.declared.row.CatalogueRow.{CatalogueRow}
+use Rattle.desk_model.specs.declared.row.RuleRow.{RuleRow}
+use Rattle.desk_model.specs.declared.row.DocumentRow.{DocumentRow}
+use Rattle.desk_model.specs.declared.row.PackageRow.{PackageRow}
+use Rattle.desk_model.specs.declared.row.ExtractedRow.{ExtractedRow}
+use Rattle.desk_model.specs.declared.command.Command.{Command}
+use Rattle.desk_model.specs.declared.command.Command.TheVariants.{Import, OpenRelease, Choose, Unchoose, Freeze, Withdraw}
 
 -- what the commands give, in the order in which they were recorded
 abbrev pub given : {A : Type 0} → (Command → Option A) → List Command → List A

@@ -2,14 +2,14 @@
 use Rattle.std.specs.Prelude.{◌≡◌, ℕ, List, [], ◌∷◌, ◌++◌, reverse, Option, Some}
 use Rattle.std.specs.List.{filter_map}
 use Rattle.std.specs.Option.{option_map_or}
-use Rattle.desk_rows.specs.Readings.{Readings}
-use Rattle.desk_rows.specs.Moves.{move_by, moves, change_row}
-use Rattle.desk_rows.specs.States.{state_after}
-use Rattle.desk_rows.specs.declared.row.ChangeRow.{ChangeRow}
-use Rattle.desk_rows.specs.declared.row.Move.{Move}
-use Rattle.desk_rows.specs.declared.state.DutyState.{DutyState}
-use Rattle.desk_rows.specs.declared.state.DutyState.TheVariants.{IsOpen}
-use Rattle.desk_rows.specs.declared.command.Command.{Command}
+use Rattle.desk_model.specs.Readings.{Readings}
+use Rattle.desk_model.specs.Moves.{move_by, moves, change_row}
+use Rattle.desk_model.specs.States.{state_after}
+use Rattle.desk_model.specs.declared.row.ChangeRow.{ChangeRow}
+use Rattle.desk_model.specs.declared.row.Move.{Move}
+use Rattle.desk_model.specs.declared.state.DutyState.{DutyState}
+use Rattle.desk_model.specs.declared.state.DutyState.TheVariants.{IsOpen}
+use Rattle.desk_model.specs.declared.command.Command.{Command}
 
 -- each of some with those behind it: of a history, each command with those recorded before it
 abbrev pub with_rest : {A : Type 0} → List A → List (A × List A)

@@ -1,12 +1,12 @@
 -- The rows of the duty table and of the frozen terms, in the subject's own words.
 use Rattle.std.specs.Prelude.{◌≡◌, ℕ, List}
-use Rattle.desk_rows.specs.Readings.{Readings}
-use Rattle.desk_rows.specs.Raised.{IsRaised}
-use Rattle.desk_rows.specs.Moves.{place}
-use Rattle.desk_rows.specs.declared.row.Owed.{Owed}
-use Rattle.desk_rows.specs.declared.row.DutyRow.{DutyRow}
-use Rattle.desk_rows.specs.declared.row.FrozenRow.{FrozenRow}
-use Rattle.desk_rows.specs.declared.command.Command.{Command}
+use Rattle.desk_model.specs.Readings.{Readings}
+use Rattle.desk_model.specs.Raised.{IsRaised}
+use Rattle.desk_model.specs.Moves.{place}
+use Rattle.desk_model.specs.declared.row.Owed.{Owed}
+use Rattle.desk_model.specs.declared.row.DutyRow.{DutyRow}
+use Rattle.desk_model.specs.declared.row.FrozenRow.{FrozenRow}
+use Rattle.desk_model.specs.declared.command.Command.{Command}
 use Rattle.desk_history.specs.Laws.{IsNumbered}
 
 -- A row of the duty table: a freeze raised this duty, and it has the row's number. The row names the duty's release, document, package,

@@ -1,6 +1,6 @@
 //! Laws of the recorded history beside its definitions, each the contract of a function with an empty body.
 //!
-//! The definitions of `desk_rows` go over the commands from the newest to the oldest. Here the same is said by filters and last
+//! The definitions of `desk_model` go over the commands from the newest to the oldest. Here the same is said by filters and last
 //! entries, with the commands in the order in which they were recorded: which documents, revisions and rules there are, which choices,
 //! conclusions and adoptions stand, and how each duty was moved. The rows of duties and of frozen terms are said both ways, each field
 //! named, a frozen release's choices are its frozen terms, and its bill stays as its freeze made it. Beside it stands that a set of texts has the texts that are listed, that a
@@ -14,29 +14,29 @@ ghost use Rattle.std.specs.Result.{result_ok};
 ghost use Rattle.std.specs.Ordering.{nat_cmp};
 ghost use Rattle.std.specs.Cmp.Lexicographic.{slice_cmp};
 ghost use Rattle.desk_base.specs.Day.{is_day};
-ghost use Rattle.desk_rows.specs.Answers.{IsHistory};
-ghost use Rattle.desk_rows.specs.Conclusions.{adoptions, conclusions, licence_given, text_given};
-ghost use Rattle.desk_rows.specs.History.{choice, documents, form_given, form_of, in_force, loaded, opened, packages, place_in, references, revision_of, revisions, rule_rows, rules_in, state_given, state_of};
-ghost use Rattle.desk_rows.specs.Keys.{below_by, is_rule_of};
-ghost use Rattle.desk_rows.specs.Lists.{IsIn};
-ghost use Rattle.desk_rows.specs.Moves.{changes, moves, place};
-ghost use Rattle.desk_rows.specs.Queries.{queried};
-ghost use Rattle.desk_rows.specs.Raised.{shipped};
-ghost use Rattle.desk_rows.specs.Readings.{Readings};
-ghost use Rattle.desk_rows.specs.Tables.{choices, tables};
-ghost use Rattle.desk_rows.specs.Texts.{is_before, sorted_set, text_below};
-ghost use Rattle.desk_rows.specs.declared.command.Answer.TheVariants as answered;
-ghost use Rattle.desk_rows.specs.declared.command.Command.{Command};
-ghost use Rattle.desk_rows.specs.declared.command.Command.TheVariants.{Freeze, OpenRelease};
-ghost use Rattle.desk_rows.specs.declared.command.Query.TheVariants.{Bill};
-ghost use Rattle.desk_rows.specs.declared.row.AdoptionRow.{AdoptionRow};
-ghost use Rattle.desk_rows.specs.declared.row.ChoiceRow.{ChoiceRow};
-ghost use Rattle.desk_rows.specs.declared.row.ConclusionRow.{ConclusionRow};
-ghost use Rattle.desk_rows.specs.declared.row.DutyRow.{DutyRow};
-ghost use Rattle.desk_rows.specs.declared.row.FrozenRow.{FrozenRow};
-ghost use Rattle.desk_rows.specs.declared.row.Move.{Move};
-ghost use Rattle.desk_rows.specs.declared.row.PackageRow.{PackageRow};
-ghost use Rattle.desk_rows.specs.declared.state.ReleaseState.TheVariants.{Frozen, IsOpen};
+ghost use Rattle.desk_model.specs.Answers.{IsHistory};
+ghost use Rattle.desk_model.specs.Conclusions.{adoptions, conclusions, licence_given, text_given};
+ghost use Rattle.desk_model.specs.History.{choice, documents, form_given, form_of, in_force, loaded, opened, packages, place_in, references, revision_of, revisions, rule_rows, rules_in, state_given, state_of};
+ghost use Rattle.desk_model.specs.Keys.{below_by, is_rule_of};
+ghost use Rattle.desk_model.specs.Lists.{IsIn};
+ghost use Rattle.desk_model.specs.Moves.{changes, moves, place};
+ghost use Rattle.desk_model.specs.Queries.{queried};
+ghost use Rattle.desk_model.specs.Raised.{shipped};
+ghost use Rattle.desk_model.specs.Readings.{Readings};
+ghost use Rattle.desk_model.specs.Tables.{choices, tables};
+ghost use Rattle.desk_model.specs.Texts.{is_before, sorted_set, text_below};
+ghost use Rattle.desk_model.specs.declared.command.Answer.TheVariants as answered;
+ghost use Rattle.desk_model.specs.declared.command.Command.{Command};
+ghost use Rattle.desk_model.specs.declared.command.Command.TheVariants.{Freeze, OpenRelease};
+ghost use Rattle.desk_model.specs.declared.command.Query.TheVariants.{Bill};
+ghost use Rattle.desk_model.specs.declared.row.AdoptionRow.{AdoptionRow};
+ghost use Rattle.desk_model.specs.declared.row.ChoiceRow.{ChoiceRow};
+ghost use Rattle.desk_model.specs.declared.row.ConclusionRow.{ConclusionRow};
+ghost use Rattle.desk_model.specs.declared.row.DutyRow.{DutyRow};
+ghost use Rattle.desk_model.specs.declared.row.FrozenRow.{FrozenRow};
+ghost use Rattle.desk_model.specs.declared.row.Move.{Move};
+ghost use Rattle.desk_model.specs.declared.row.PackageRow.{PackageRow};
+ghost use Rattle.desk_model.specs.declared.state.ReleaseState.TheVariants.{Frozen, IsOpen};
 ghost use Rattle.desk_history.specs.FromTables.{rule_of};
 ghost use Rattle.desk_history.specs.Laws.{IsFrozenTerm, Rises};
 ghost use Rattle.desk_history_laws.specs.Billed.{bill_for, ListsPackagesOnce};

@@ -11,9 +11,9 @@ use Rattle.desk_http.specs.Connections.{Connection, line_of, line_reply, IsLineO
 use Rattle.desk_http.specs.Serving.{Answers, IsReply, is_get}
 use Rattle.desk_json.specs.declared.request.Request as json_request
 use Rattle.desk_json.specs.declared.request.Request.TheVariants as line
-use Rattle.desk_rows.specs.Readings.{Readings}
-use Rattle.desk_rows.specs.Tables.{Tables}
-use Rattle.desk_rows.specs.declared.command.StoreFault.{StoreFault}
+use Rattle.desk_model.specs.Readings.{Readings}
+use Rattle.desk_model.specs.Tables.{Tables}
+use Rattle.desk_model.specs.declared.command.StoreFault.{StoreFault}
 use Rattle.desk_script.specs.Replies.{Replies, AreReplied}
 use Rattle.desk_script.specs.declared.answer.Reply as script_reply
 use Rattle.desk_script.specs.declared.answer.Reply.TheVariants as script

@@ -9,9 +9,9 @@ use Rattle.desk_http_requests.specs.declared.asking.Reply.TheVariants.{Became, B
 use Rattle.desk_http_requests.specs.declared.asking.Request.{Request}
 use Rattle.desk_http.specs.Serving.{Wants, Answers, IsReply, is_get}
 use Rattle.desk_http.specs.declared.answering.Wanted.TheVariants as wanted
-use Rattle.desk_rows.specs.Readings.{Readings}
-use Rattle.desk_rows.specs.Tables.{Tables}
-use Rattle.desk_rows.specs.declared.command.StoreFault.{StoreFault}
+use Rattle.desk_model.specs.Readings.{Readings}
+use Rattle.desk_model.specs.Tables.{Tables}
+use Rattle.desk_model.specs.declared.command.StoreFault.{StoreFault}
 
 module _ (is_right : Readings → Type 0) (tells : StoreFault → Type 0) {Left Desk : Type 0} (stands : Left → Tables → Type 0) (seen : Desk → Seen Left) where
   moved : (before after : Desk) (r : Reply) (request : Request) (get : Bool) (method target body : List ℕ) → request ≡ request_for method target body → get ≡ is_get method

@@ -11,7 +11,7 @@ ghost use Rattle.desk_script.specs.declared.answer.Reply.TheVariants as script;
 use desk_core::desk::Desk;
 use desk_http_head::{Framing, Received, Status, frame};
 use desk_http_requests::{Reply, Request, RouteTable, Shape, request_of};
-use desk_rows::{Command, Outcome, Query};
+use desk_model::{Command, Outcome, Query};
 use std::alloc::Global;
 
 /// What is wanted of the desk.

@@ -4,7 +4,7 @@ use Rattle.std.specs.Prelude.{Bool, true, false, if◌then◌else◌}
 use Rattle.desk_http_requests.specs.Replies.{IsTold, no_memory, no_text}
 use Rattle.desk_http_requests.specs.declared.asking.Reply.TheVariants.{Became}
 use Rattle.desk_http_requests.specs.declared.asking.Shape.{Shape}
-use Rattle.desk_rows.specs.declared.command.Outcome.{Outcome}
+use Rattle.desk_model.specs.declared.command.Outcome.{Outcome}
 
 pub IsTold-short : (o : Outcome) (s : Shape) (get : Bool) → IsTold (Became o s get) (if get then no_memory else no_text)
 IsTold-short o s true = inr refl

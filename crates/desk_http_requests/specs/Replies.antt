@@ -14,12 +14,12 @@ use Rattle.desk_http_requests.specs.declared.replies.Message.TheVariants as mess
 use Rattle.desk_json.specs.Replies.{reply_text, bad_command_text, fault_reply}
 use Rattle.desk_report.specs.CsvTable.{table_text}
 use Rattle.desk_report.specs.Notices.{notices_text}
-use Rattle.desk_rows.specs.declared.command.Answer.TheVariants.{Bill, Duties, Refused}
-use Rattle.desk_rows.specs.declared.command.Fault.TheVariants as fault
-use Rattle.desk_rows.specs.declared.command.Outcome.{Outcome}
-use Rattle.desk_rows.specs.declared.command.Outcome.TheVariants.{Answered, Failed}
-use Rattle.desk_rows.specs.declared.refusal.CatalogueFault.TheVariants.{NotToml}
-use Rattle.desk_rows.specs.declared.refusal.Refusal.TheVariants.{BadCatalogue}
+use Rattle.desk_model.specs.declared.command.Answer.TheVariants.{Bill, Duties, Refused}
+use Rattle.desk_model.specs.declared.command.Fault.TheVariants as fault
+use Rattle.desk_model.specs.declared.command.Outcome.{Outcome}
+use Rattle.desk_model.specs.declared.command.Outcome.TheVariants.{Answered, Failed}
+use Rattle.desk_model.specs.declared.refusal.CatalogueFault.TheVariants.{NotToml}
+use Rattle.desk_model.specs.declared.refusal.Refusal.TheVariants.{BadCatalogue}
 use Rattle.serde_json.specs.Written.{compact_text}
 
 -- a media type (RFC 9110, section 8.3) and a body

@@ -4,20 +4,20 @@ use Rattle.std.specs.Str.{is_utf8}
 use Rattle.desk_base.specs.declared.profile.Profile.TheVariants.{Capitals}
 use Rattle.desk_http_head.specs.Fields.{number_text}
 use Rattle.desk_http_head.specs.Framings.{Framed, part, bad, whole}
-use Rattle.desk_http_routes.specs.Paths.{path_of, part_at}
-use Rattle.desk_http_routes.specs.Routes.{route_of}
-use Rattle.desk_http_routes.specs.declared.table.Posted.{Posted}
-use Rattle.desk_http_routes.specs.declared.table.Posted.TheVariants as posted
-use Rattle.desk_http_routes.specs.declared.table.Route.{Route}
-use Rattle.desk_http_routes.specs.declared.table.Route.TheVariants.{Post, Get}
-use Rattle.desk_http_routes.specs.declared.table.Shown.{Shown}
-use Rattle.desk_http_routes.specs.declared.table.Shown.TheVariants as shown
+use Rattle.desk_http_requests.specs.Paths.{path_of, part_at}
+use Rattle.desk_http_requests.specs.Routes.{route_of}
+use Rattle.desk_http_requests.specs.declared.table.Posted.{Posted}
+use Rattle.desk_http_requests.specs.declared.table.Posted.TheVariants as posted
+use Rattle.desk_http_requests.specs.declared.table.Route.{Route}
+use Rattle.desk_http_requests.specs.declared.table.Route.TheVariants.{Post, Get}
+use Rattle.desk_http_requests.specs.declared.table.Shown.{Shown}
+use Rattle.desk_http_requests.specs.declared.table.Shown.TheVariants as shown
 use Rattle.desk_json.specs.Requests.{request_in}
 use Rattle.desk_json.specs.declared.request.Request.TheVariants as json
 use Rattle.desk_json.specs.declared.request.Request as line
-use Rattle.desk_rows.specs.declared.command.Command.TheVariants as command
-use Rattle.desk_rows.specs.declared.command.Query.{Query}
-use Rattle.desk_rows.specs.declared.command.Query.TheVariants as query
+use Rattle.desk_model.specs.declared.command.Command.TheVariants as command
+use Rattle.desk_model.specs.declared.command.Query.{Query}
+use Rattle.desk_model.specs.declared.command.Query.TheVariants as query
 use Rattle.desk_http_requests.specs.declared.asking.Reading.{Reading}
 use Rattle.desk_http_requests.specs.declared.asking.Reading.TheVariants as reading
 use Rattle.desk_http_requests.specs.declared.asking.Request.{Request}

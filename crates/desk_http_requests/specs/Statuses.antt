@@ -2,11 +2,11 @@
 use Rattle.std.specs.Prelude.{ℕ, Bool, ◌==◌, ◌||◌, if◌then◌else◌}
 use Rattle.desk_http_head.specs.declared.status.Status.{Status}
 use Rattle.desk_http_head.specs.declared.status.Status.TheVariants as status
-use Rattle.desk_rows.specs.Numbers.{refusal_number}
-use Rattle.desk_rows.specs.declared.command.Answer.TheVariants.{Refused}
-use Rattle.desk_rows.specs.declared.command.Fault.TheVariants.{Memory, Store}
-use Rattle.desk_rows.specs.declared.command.Outcome.{Outcome}
-use Rattle.desk_rows.specs.declared.command.Outcome.TheVariants.{Answered, Failed}
+use Rattle.desk_model.specs.Numbers.{refusal_number}
+use Rattle.desk_model.specs.declared.command.Answer.TheVariants.{Refused}
+use Rattle.desk_model.specs.declared.command.Fault.TheVariants.{Memory, Store}
+use Rattle.desk_model.specs.declared.command.Outcome.{Outcome}
+use Rattle.desk_model.specs.declared.command.Outcome.TheVariants.{Answered, Failed}
 
 -- what isn't there: a document, a package, a release, a duty
 abbrev pub is_absent : ℕ → Bool

@@ -1,7 +1,7 @@
 //! What a client asks for over HTTP, and what it is replied.
 
 use desk_http_head::Status;
-use desk_rows::{Command, Outcome, Query};
+use desk_model::{Command, Outcome, Query};
 
 /// The form in which an answer is written.
 #[derive(Clone, Copy, Debug, PartialEq, Eq)]

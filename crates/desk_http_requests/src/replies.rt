@@ -9,8 +9,8 @@ use crate::asking::{Reply, Shape};
 use crate::statuses::status_of;
 use desk_http_head::Status;
 use desk_json::{bad_command_line, reply_line};
+use desk_model::{Answer, Fault, Outcome};
 use desk_report::{duties_csv, notices};
-use desk_rows::{Answer, Fault, Outcome};
 use std::alloc::{AllocError, Global};
 
 /// What is written of a reply: its bytes, or one of those that take no memory.

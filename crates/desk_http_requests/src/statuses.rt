@@ -4,7 +4,7 @@ ghost use Rattle.std.specs.Prelude.{◌≡◌};
 ghost use Rattle.desk_http_requests.specs.Statuses.{is_absent, is_conflict, refusal_status, outcome_status};
 
 use desk_http_head::Status;
-use desk_rows::{Answer, Fault, Outcome};
+use desk_model::{Answer, Fault, Outcome};
 
 /// Whether a refusal with this number is for what isn't there: a document, a package, a release, a duty.
 fn is_absent(number: u8) -> bool

@@ -7,20 +7,20 @@ use Rattle.serde_json.specs.Written.{has_float, items_have_float}
 use Rattle.desk_json.specs.Parts.{duty_row, change_values, ending, change_line, finding_line, package_values, term_list}
 use Rattle.desk_json.specs.Refusals.{document_fault_values, catalogue_fault_values, refusal_values}
 use Rattle.desk_json.specs.Replies.{answer_reply, reply_of}
-use Rattle.desk_rows.specs.declared.command.Answer.{Answer}
-use Rattle.desk_rows.specs.declared.command.Answer.TheVariants as answer
-use Rattle.desk_rows.specs.declared.row.ChangeRow.{ChangeRow}
-use Rattle.desk_rows.specs.declared.command.DutyLine.{DutyLine}
-use Rattle.desk_rows.specs.declared.command.PackageLine.{PackageLine}
-use Rattle.desk_rows.specs.declared.finding.FindingRow.{FindingRow}
-use Rattle.desk_rows.specs.declared.command.Outcome.{Outcome}
-use Rattle.desk_rows.specs.declared.command.Outcome.TheVariants as outcome
-use Rattle.desk_rows.specs.declared.refusal.CatalogueFault.{CatalogueFault}
-use Rattle.desk_rows.specs.declared.refusal.CatalogueFault.TheVariants as catalogue
-use Rattle.desk_rows.specs.declared.refusal.DocumentFault.{DocumentFault}
-use Rattle.desk_rows.specs.declared.refusal.DocumentFault.TheVariants as document
-use Rattle.desk_rows.specs.declared.refusal.Refusal.{Refusal}
-use Rattle.desk_rows.specs.declared.refusal.Refusal.TheVariants as why
+use Rattle.desk_model.specs.declared.command.Answer.{Answer}
+use Rattle.desk_model.specs.declared.command.Answer.TheVariants as answer
+use Rattle.desk_model.specs.declared.row.ChangeRow.{ChangeRow}
+use Rattle.desk_model.specs.declared.command.DutyLine.{DutyLine}
+use Rattle.desk_model.specs.declared.command.PackageLine.{PackageLine}
+use Rattle.desk_model.specs.declared.finding.FindingRow.{FindingRow}
+use Rattle.desk_model.specs.declared.command.Outcome.{Outcome}
+use Rattle.desk_model.specs.declared.command.Outcome.TheVariants as outcome
+use Rattle.desk_model.specs.declared.refusal.CatalogueFault.{CatalogueFault}
+use Rattle.desk_model.specs.declared.refusal.CatalogueFault.TheVariants as catalogue
+use Rattle.desk_model.specs.declared.refusal.DocumentFault.{DocumentFault}
+use Rattle.desk_model.specs.declared.refusal.DocumentFault.TheVariants as document
+use Rattle.desk_model.specs.declared.refusal.Refusal.{Refusal}
+use Rattle.desk_model.specs.declared.refusal.Refusal.TheVariants as why
 
 duties_have_no_float : (lines : List DutyLine) → items_have_float (items_of (map duty_row lines)) ≡ false
 duties_have_no_float [] = refl

@@ -3,14 +3,14 @@ use Rattle.std.specs.Prelude.{ℕ, List, [], ◌∷◌, ◌++◌, map, unwrap_or
 use Rattle.std.specs.Str.{is_utf8}
 use Rattle.serde_json.specs.Data.{Data, number, unsigned, string, array}
 use Rattle.serde_json.specs.View.{items_of}
-use Rattle.desk_rows.specs.Names.{duty_state_name, release_state_name, word_name}
-use Rattle.desk_rows.specs.declared.row.ChangeRow.{ChangeRow}
-use Rattle.desk_rows.specs.declared.row.ReleaseRow.{ReleaseRow}
-use Rattle.desk_rows.specs.declared.command.DutyLine.{DutyLine}
-use Rattle.desk_rows.specs.declared.command.PackageLine.{PackageLine}
-use Rattle.desk_rows.specs.declared.command.Totals.{Totals}
-use Rattle.desk_rows.specs.declared.finding.FindingRow.{FindingRow}
-use Rattle.desk_rows.specs.declared.reading.Cheapest.{Cheapest}
+use Rattle.desk_model.specs.Names.{duty_state_name, release_state_name, word_name}
+use Rattle.desk_model.specs.declared.row.ChangeRow.{ChangeRow}
+use Rattle.desk_model.specs.declared.row.ReleaseRow.{ReleaseRow}
+use Rattle.desk_model.specs.declared.command.DutyLine.{DutyLine}
+use Rattle.desk_model.specs.declared.command.PackageLine.{PackageLine}
+use Rattle.desk_model.specs.declared.command.Totals.{Totals}
+use Rattle.desk_model.specs.declared.finding.FindingRow.{FindingRow}
+use Rattle.desk_model.specs.declared.reading.Cheapest.{Cheapest}
 
 abbrev pub whole : ℕ → Data
 whole n = number (unsigned n)

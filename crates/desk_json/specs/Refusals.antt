@@ -2,16 +2,16 @@
 use Rattle.std.specs.Prelude.{ℕ, List, [], ◌∷◌}
 use Rattle.serde_json.specs.Data.{Data, string}
 use Rattle.desk_json.specs.Parts.{whole}
-use Rattle.desk_rows.specs.FaultNumbers.{expression_fault_number, document_fault_number, catalogue_fault_number}
-use Rattle.desk_rows.specs.Names.{release_state_name, duty_state_name, limit_name, part_name}
-use Rattle.desk_rows.specs.declared.refusal.CatalogueFault.{CatalogueFault}
-use Rattle.desk_rows.specs.declared.refusal.CatalogueFault.TheVariants as catalogue
-use Rattle.desk_rows.specs.declared.refusal.DocumentFault.{DocumentFault}
-use Rattle.desk_rows.specs.declared.refusal.DocumentFault.TheVariants as document
-use Rattle.desk_rows.specs.declared.refusal.ExpressionFault.{ExpressionFault}
-use Rattle.desk_rows.specs.declared.refusal.ExpressionFault.TheVariants as expression
-use Rattle.desk_rows.specs.declared.refusal.Refusal.{Refusal}
-use Rattle.desk_rows.specs.declared.refusal.Refusal.TheVariants as why
+use Rattle.desk_model.specs.FaultNumbers.{expression_fault_number, document_fault_number, catalogue_fault_number}
+use Rattle.desk_model.specs.Names.{release_state_name, duty_state_name, limit_name, part_name}
+use Rattle.desk_model.specs.declared.refusal.CatalogueFault.{CatalogueFault}
+use Rattle.desk_model.specs.declared.refusal.CatalogueFault.TheVariants as catalogue
+use Rattle.desk_model.specs.declared.refusal.DocumentFault.{DocumentFault}
+use Rattle.desk_model.specs.declared.refusal.DocumentFault.TheVariants as document
+use Rattle.desk_model.specs.declared.refusal.ExpressionFault.{ExpressionFault}
+use Rattle.desk_model.specs.declared.refusal.ExpressionFault.TheVariants as expression
+use Rattle.desk_model.specs.declared.refusal.Refusal.{Refusal}
+use Rattle.desk_model.specs.declared.refusal.Refusal.TheVariants as why
 
 -- the byte at which the text stops
 abbrev pub expression_fault_place : ExpressionFault → ℕ

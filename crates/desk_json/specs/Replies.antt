@@ -4,16 +4,16 @@ use Rattle.serde_json.specs.Data.{Data, boolean, string, object, no_members, mem
 use Rattle.serde_json.specs.Written.{compact_text}
 use Rattle.desk_json.specs.Parts.{whole, list, duty_row, totals_row, change_line, finding_line, release_line, package_values, term_list, cheapest_rows}
 use Rattle.desk_json.specs.Refusals.{refusal_values}
-use Rattle.desk_rows.specs.Names.{refusal_name}
-use Rattle.desk_rows.specs.Numbers.{refusal_number}
-use Rattle.desk_rows.specs.declared.bill.Bill.{Bill}
-use Rattle.desk_rows.specs.declared.command.Answer.{Answer}
-use Rattle.desk_rows.specs.declared.command.Answer.TheVariants as answer
-use Rattle.desk_rows.specs.declared.command.Fault.{Fault}
-use Rattle.desk_rows.specs.declared.command.Fault.TheVariants as fault
-use Rattle.desk_rows.specs.declared.command.Outcome.{Outcome}
-use Rattle.desk_rows.specs.declared.command.Outcome.TheVariants as outcome
-use Rattle.desk_rows.specs.declared.refusal.Refusal.{Refusal}
+use Rattle.desk_model.specs.Names.{refusal_name}
+use Rattle.desk_model.specs.Numbers.{refusal_number}
+use Rattle.desk_model.specs.declared.bill.Bill.{Bill}
+use Rattle.desk_model.specs.declared.command.Answer.{Answer}
+use Rattle.desk_model.specs.declared.command.Answer.TheVariants as answer
+use Rattle.desk_model.specs.declared.command.Fault.{Fault}
+use Rattle.desk_model.specs.declared.command.Fault.TheVariants as fault
+use Rattle.desk_model.specs.declared.command.Outcome.{Outcome}
+use Rattle.desk_model.specs.declared.command.Outcome.TheVariants as outcome
+use Rattle.desk_model.specs.declared.refusal.Refusal.{Refusal}
 
 abbrev pub revision_reply : ℕ → Data
 revision_reply n = object (member (codes "revision") (whole n) no_members)

@@ -4,8 +4,8 @@ use Rattle.std.specs.Str.{bytes_eq, is_utf8}
 use Rattle.serde_json.specs.Data.{Data}
 use Rattle.serde_json.specs.Read.{read}
 use Rattle.desk_json.specs.Fields.{size, text_in, number_in, profile_in, texts_in}
-use Rattle.desk_rows.specs.declared.command.Command.TheVariants as command
-use Rattle.desk_rows.specs.declared.command.Query.TheVariants as query
+use Rattle.desk_model.specs.declared.command.Command.TheVariants as command
+use Rattle.desk_model.specs.declared.command.Query.TheVariants as query
 use Rattle.desk_base.specs.declared.profile.Profile.{Profile}
 use Rattle.desk_base.specs.declared.profile.Profile.TheVariants.{Capitals}
 use Rattle.desk_json.specs.declared.request.Request.{Request}

@@ -9,7 +9,7 @@ use crate::fields::{number_at, profile_at, size_of, take_text, text_at, texts_at
 use crate::forms::{COMMANDS, Form, QUERIES, form_named};
 use crate::request::Request;
 use desk_base::{Items, Text};
-use desk_rows::{Command, Profile, Query};
+use desk_model::{Command, Profile, Query};
 use serde_json::Value;
 use std::alloc::{AllocError, Global};
 

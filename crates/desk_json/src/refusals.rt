@@ -3,13 +3,13 @@
 ghost use Rattle.std.specs.Prelude.{◌≡◌, ◌∷◌, [], IfOk};
 ghost use Rattle.serde_json.specs.Data.{string};
 ghost use Rattle.serde_json.specs.View.{view};
-ghost use Rattle.desk_rows.specs.Names.{part_name};
-ghost use Rattle.desk_rows.specs.FaultNumbers.{expression_fault_number, document_fault_number, catalogue_fault_number};
+ghost use Rattle.desk_model.specs.Names.{part_name};
+ghost use Rattle.desk_model.specs.FaultNumbers.{expression_fault_number, document_fault_number, catalogue_fault_number};
 ghost use Rattle.desk_json.specs.Parts.{whole, list};
 ghost use Rattle.desk_json.specs.Refusals.{expression_fault_place, document_fault_values, catalogue_fault_values, refusal_values};
 
 use crate::cells::{Cell, list};
-use desk_rows::{CatalogueFault, CataloguePart, DocumentFault, ExpressionFault, Refusal};
+use desk_model::{CatalogueFault, CataloguePart, DocumentFault, ExpressionFault, Refusal};
 use serde_json::Value;
 use std::alloc::{AllocError, Global};
 

@@ -4,15 +4,15 @@ ghost use Rattle.std.specs.Prelude.{◌≡◌, ◌∷◌, [], IfOk, codes, strin
 ghost use Rattle.serde_json.specs.Data.{array, object, member, no_members};
 ghost use Rattle.serde_json.specs.View.{view, items_view};
 ghost use Rattle.desk_json.specs.Replies.{revision_reply, document_reply, done_reply, frozen_reply, closed_reply, bill_reply, refusal_reply, answer_reply, fault_reply, reply_of, reply_text, bad_command_text, fault_word};
-ghost use Rattle.desk_rows.specs.declared.command.Fault.TheVariants.{Memory};
-ghost use Rattle.desk_rows.specs.declared.command.Outcome.TheVariants.{Failed};
+ghost use Rattle.desk_model.specs.declared.command.Fault.TheVariants.{Memory};
+ghost use Rattle.desk_model.specs.declared.command.Outcome.TheVariants.{Failed};
 ghost use Rattle.desk_json.specs.Parts.{list};
 
 use crate::refusals::refusal_values;
 use crate::rows::{
     change_rows, cheapest_rows, duty_rows, finding_rows, release_rows, set_rows, totals_row,
 };
-use desk_rows::{Answer, Bill, Fault, Outcome, Refusal};
+use desk_model::{Answer, Bill, Fault, Outcome, Refusal};
 use serde_json::{Value, json};
 use std::alloc::{AllocError, Global};
 

@@ -1,6 +1,6 @@
 //! What a client asks for.
 
-use desk_rows::{Command, Query};
+use desk_model::{Command, Query};
 
 /// What a text asks of the desk.
 #[derive(Debug, Drop)]

@@ -7,7 +7,7 @@ ghost use Rattle.desk_json.specs.Parts.{day_text, duty_row, change_line, totals_
 
 use crate::cells::{Cell, list, texts};
 use desk_base::{Day, Items, Text};
-use desk_rows::{ChangeRow, Cheapest, DutyLine, FindingRow, PackageLine, ReleaseRow, Totals};
+use desk_model::{ChangeRow, Cheapest, DutyLine, FindingRow, PackageLine, ReleaseRow, Totals};
 use serde_json::Value;
 use std::alloc::{AllocError, Global};
 

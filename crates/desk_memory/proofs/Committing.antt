@@ -1,9 +1,9 @@
 -- Releases that ascend, as tallies want them.
 use Rattle.std.proofs.Common.{◌≡◌, Bool, true, false, List, [], ◌∷◌, refl, subst, inl, inr}
 use Rattle.std.specs.Prelude.{not}
-use Rattle.desk_rows.specs.Lists.{IsIn, over, ascends}
-use Rattle.desk_rows.specs.Keys.{below_by, release_below}
-use Rattle.desk_rows.specs.declared.row.ReleaseRow.{ReleaseRow}
+use Rattle.desk_model.specs.Lists.{IsIn, over, ascends}
+use Rattle.desk_model.specs.Keys.{below_by, release_below}
+use Rattle.desk_model.specs.declared.row.ReleaseRow.{ReleaseRow}
 use Rattle.desk_history.specs.Laws.{Ascends}
 use Rattle.desk_sorted.specs.Orders.{release_order}
 use Rattle.desk_base.proofs.Bools.{and_left, and_right}

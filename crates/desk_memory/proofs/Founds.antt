@@ -1,9 +1,9 @@
 -- What a search finds passes its test.
 use Rattle.std.proofs.Common.{◌≡◌, ℕ, Bool, true, false, cond, List, [], ◌∷◌, Some, refl, ap, ◌∙◌, sym}
 use Rattle.std.specs.Prelude.{find}
-use Rattle.desk_rows.specs.Keys.{is_document, is_duty}
-use Rattle.desk_rows.specs.declared.row.DocumentRow.{DocumentRow}
-use Rattle.desk_rows.specs.declared.row.DutyRow.{DutyRow}
+use Rattle.desk_model.specs.Keys.{is_document, is_duty}
+use Rattle.desk_model.specs.declared.row.DocumentRow.{DocumentRow}
+use Rattle.desk_model.specs.declared.row.DutyRow.{DutyRow}
 use Rattle.desk_base.proofs.Numbers.{numbers_equal}
 
 passes : {A : Type 0} (test : A → Bool) (y : A) (ys : List A) (x : A) (b : Bool) → test y ≡ b → cond b (Some y) (find test ys) ≡ Some x → (find test ys ≡ Some x → test x ≡ true) → test x ≡ true

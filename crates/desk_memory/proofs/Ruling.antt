@@ -4,16 +4,16 @@ use Rattle.std.specs.Prelude.{find, filter, ◌==◌, ◌&&◌}
 use Rattle.std.specs.List.{position_from}
 use Rattle.std.specs.Option.{option_map}
 use Rattle.std.specs.Str.{bytes_eq}
-use Rattle.desk_rows.specs.Lists.{put, ascends}
-use Rattle.desk_rows.specs.Keys.{below_by, is_rule, is_rule_of}
-use Rattle.desk_rows.specs.declared.row.RuleRow.{RuleRow}
+use Rattle.desk_model.specs.Lists.{put, ascends}
+use Rattle.desk_model.specs.Keys.{below_by, is_rule, is_rule_of}
+use Rattle.desk_model.specs.declared.row.RuleRow.{RuleRow}
 use Rattle.desk_history.specs.FromTables.{rule_of}
 use Rattle.desk_memory.specs.declared.keys.RulePlace.{RulePlace}
 use Rattle.desk_sorted.specs.Sorted.{put_in_turn}
 use Rattle.desk_memory.specs.RulePlaces.{is_placed, is_rule_row, rule_order, rule_places}
 use Rattle.desk_memory.specs.RuleLaws.{rule_total, placed_alike}
 use Rattle.desk_sorted.proofs.Placing.{place_kept}
-use Rattle.desk_rows.proofs.Orders.{order_of, ascends-put}
+use Rattle.desk_model.proofs.Orders.{order_of, ascends-put}
 
 and_assoc : (a b c : Bool) → ((a && b) && c) ≡ (a && (b && c))
 and_assoc true b c = refl

@@ -1,6 +1,6 @@
 -- The terms of choices that are lent.
 use Rattle.std.proofs.Common.{◌≡◌, List, [], ◌∷◌, Bor, map, refl, ap}
-use Rattle.desk_rows.specs.declared.row.ChoiceRow.{ChoiceRow}
+use Rattle.desk_model.specs.declared.row.ChoiceRow.{ChoiceRow}
 
 pub terms_read : (rows : List (Bor ChoiceRow)) → map (λ row. row.now.term) rows ≡ map (λ row. row.term) (map (λ row. row.now) rows)
 terms_read [] = refl

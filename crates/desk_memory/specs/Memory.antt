@@ -1,10 +1,10 @@
 -- What is seen of a store in memory: its rows, always, and tallies and holders that are theirs; nothing outlives a stop.
 use Rattle.std.specs.Prelude.{◌≡◌}
-use Rattle.desk_rows.specs.Tables.{Tables}
+use Rattle.desk_model.specs.Tables.{Tables}
 use Rattle.desk_access.specs.Seen.{Seen}
 use Rattle.desk_tally.specs.Kept.{AreKept}
-use Rattle.desk_ledger.specs.Books.{changes_in, duties_in}
-use Rattle.desk_office.specs.Holders.{AreHolders}
+use Rattle.desk_memory_rows.specs.Books.{changes_in, duties_in}
+use Rattle.desk_memory_rows.specs.Holders.{AreHolders}
 use Rattle.desk_sorted.specs.Blocks.{rows_in}
 use Rattle.desk_memory.specs.declared.store.MemStore.{MemStore}
 

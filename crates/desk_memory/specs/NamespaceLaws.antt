@@ -5,7 +5,7 @@ use Rattle.std.specs.Cmp.{IsTotalOrder}
 use Rattle.std.specs.Cmp.Lexicographic.{slice_cmp}
 use Rattle.std.proofs.Common.{sym, ◌∙◌}
 use Rattle.std.proofs.lemmas.Cmp.{on_total, nat_list_cmp_total}
-use Rattle.desk_rows.specs.Keys.{below_by}
+use Rattle.desk_model.specs.Keys.{below_by}
 use Rattle.desk_memory.specs.declared.keys.NamespacePlace.{NamespacePlace}
 use Rattle.desk_sorted.specs.Sorted.{IsSideOf}
 use Rattle.desk_sorted.specs.Sides.{side_by, alike, texts_meet}

@@ -7,7 +7,7 @@ use Rattle.std.specs.Str.{bytes_eq}
 use Rattle.std.specs.declared.cmp.Ordering.{Ordering}
 use Rattle.std.proofs.Common.{sym, ◌∙◌}
 use Rattle.std.proofs.lemmas.Cmp.{on_total, then_total, nat_list_cmp_total, nat_cmp_total}
-use Rattle.desk_rows.specs.Keys.{below_by}
+use Rattle.desk_model.specs.Keys.{below_by}
 use Rattle.desk_memory.specs.declared.keys.RulePlace.{RulePlace}
 use Rattle.desk_sorted.specs.Sorted.{IsSideOf}
 use Rattle.desk_sorted.specs.Sides.{side_by, alike, texts_meet, numbers_meet, then_meets}

@@ -4,7 +4,7 @@ use Rattle.std.specs.Ordering.{nat_cmp, ordering_then, on, then_cmp}
 use Rattle.std.specs.Cmp.Lexicographic.{slice_cmp}
 use Rattle.std.specs.Str.{bytes_eq}
 use Rattle.std.specs.declared.cmp.Ordering.{Ordering}
-use Rattle.desk_rows.specs.declared.row.RuleRow.{RuleRow}
+use Rattle.desk_model.specs.declared.row.RuleRow.{RuleRow}
 use Rattle.desk_memory.specs.declared.keys.RulePlace.{RulePlace}
 
 abbrev pub is_placed : ℕ → List ℕ → List ℕ → RulePlace → Bool

@@ -4,12 +4,12 @@ use Rattle.std.specs.Ordering.{nat_cmp, ordering_then}
 use Rattle.std.specs.Cmp.Lexicographic.{slice_cmp}
 use Rattle.std.specs.Str.{bytes_eq}
 use Rattle.std.specs.declared.cmp.Ordering.{Ordering}
-use Rattle.desk_rows.specs.declared.row.DocumentRow.{DocumentRow}
-use Rattle.desk_rows.specs.declared.row.ExtractedRow.{ExtractedRow}
-use Rattle.desk_rows.specs.declared.row.PackageRow.{PackageRow}
-use Rattle.desk_rows.specs.declared.row.ReleaseRow.{ReleaseRow}
-use Rattle.desk_rows.specs.declared.row.AttachedRow.{AttachedRow}
-use Rattle.desk_rows.specs.declared.row.FrozenRow.{FrozenRow}
+use Rattle.desk_model.specs.declared.row.DocumentRow.{DocumentRow}
+use Rattle.desk_model.specs.declared.row.ExtractedRow.{ExtractedRow}
+use Rattle.desk_model.specs.declared.row.PackageRow.{PackageRow}
+use Rattle.desk_model.specs.declared.row.ReleaseRow.{ReleaseRow}
+use Rattle.desk_model.specs.declared.row.AttachedRow.{AttachedRow}
+use Rattle.desk_model.specs.declared.row.FrozenRow.{FrozenRow}
 
 abbrev pub document_side : ℕ → DocumentRow → Ordering
 document_side number row = nat_cmp row.number number

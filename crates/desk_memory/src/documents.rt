@@ -3,11 +3,11 @@
 ghost use Rattle.std.specs.Prelude.{◌≡◌, ℕ, ◌++◌, [], ◌∷◌, List, find, IfErr, OnOk, OnErr, length};
 ghost use Rattle.std.specs.List.{position_from};
 ghost use Rattle.std.specs.Option.{option_copied, option_map};
-ghost use Rattle.desk_rows.specs.Keys.{has_namespace};
+ghost use Rattle.desk_model.specs.Keys.{has_namespace};
 ghost use Rattle.desk_memory.specs.Namespaces.{is_named};
 
 use crate::keys::{ByNamespace, NamespacePlace};
-use desk_rows::{DocumentRow, Fault};
+use desk_model::{DocumentRow, Fault};
 use desk_sorted::{Appended, Sorted, item_at};
 use std::alloc::Global;
 

@@ -1,6 +1,6 @@
 //! What rows are looked up by.
 
-ghost use Rattle.desk_rows.specs.Keys.{is_document, is_extracted, is_package, is_release, is_attached_to, is_attachment};
+ghost use Rattle.desk_model.specs.Keys.{is_document, is_extracted, is_package, is_release, is_attached_to, is_attachment};
 ghost use Rattle.desk_memory.specs.Sides.{document_side, is_package_of, packages_side, package_side, release_side, attached_side, attachment_side, extracted_side, frozen_side, is_frozen_in};
 ghost use Rattle.desk_memory.specs.Splitting.{document_splits, packages_splits, package_splits, package_meets, release_splits, attached_splits, attachment_splits, attachment_meets, extracted_meets, extracted_splits, frozen_splits};
 ghost use Rattle.desk_sorted.specs.Sides.{texts_meet, numbers_meet};
@@ -10,7 +10,7 @@ ghost use Rattle.desk_memory.specs.RulePlaces.{is_placed, rule_order, rule_side}
 ghost use Rattle.desk_memory.specs.RuleLaws.{rule_total, rule_splits, rule_meets};
 
 use desk_base::Text;
-use desk_rows::{AttachedRow, DocumentRow, ExtractedRow, FrozenRow, PackageRow, ReleaseRow};
+use desk_model::{AttachedRow, DocumentRow, ExtractedRow, FrozenRow, PackageRow, ReleaseRow};
 use desk_sorted::{Keyed, Sought};
 use std::cmp::Ordering;
 

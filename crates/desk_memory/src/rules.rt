@@ -3,12 +3,12 @@
 ghost use Rattle.std.specs.Prelude.{◌≡◌, ℕ, ◌+◌, ◌<◌, ◌^◌, ◌++◌, [], List, find, filter, map, IfOk, IfErr, OnOk, OnErr, length};
 ghost use Rattle.std.specs.List.{position_from};
 ghost use Rattle.std.specs.Option.{option_copied, option_map};
-ghost use Rattle.desk_rows.specs.Keys.{is_rule, is_rule_of};
+ghost use Rattle.desk_model.specs.Keys.{is_rule, is_rule_of};
 ghost use Rattle.desk_history.specs.FromTables.{rule_of};
 ghost use Rattle.desk_memory.specs.RulePlaces.{is_placed, is_rule_row, rule_places};
 
 use crate::keys::{ByRule, RulePlace};
-use desk_rows::{Fault, RuleRow};
+use desk_model::{Fault, RuleRow};
 use desk_sorted::{Sorted, item_at};
 use std::alloc::{AllocError, Global};
 

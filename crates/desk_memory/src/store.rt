@@ -5,13 +5,13 @@ ghost use Rattle.std.specs.Vec.{vec_capacity};
 ghost use Rattle.std.specs.Option.{option_copied, option_map};
 ghost use Rattle.std.specs.List.{list_any};
 ghost use Rattle.std.specs.Str.{bytes_eq};
-ghost use Rattle.desk_rows.specs.Lists.{updated};
-ghost use Rattle.desk_rows.specs.Keys.{is_release, is_document, is_revision, has_namespace, is_package, is_adoption, is_adoption_in, is_conclusion, is_shipped_by, is_attached_to, is_attachment, is_choice_of, is_duty, is_duty_of, is_change_of, is_rule, is_rule_of};
-ghost use Rattle.desk_rows.specs.Tables.{Tables, applied, with_release_state, withdrawn_release};
-ghost use Rattle.desk_rows.specs.declared.state.ReleaseState.TheVariants.{Frozen};
+ghost use Rattle.desk_model.specs.Lists.{updated};
+ghost use Rattle.desk_model.specs.Keys.{is_release, is_document, is_revision, has_namespace, is_package, is_adoption, is_adoption_in, is_conclusion, is_shipped_by, is_attached_to, is_attachment, is_choice_of, is_duty, is_duty_of, is_change_of, is_rule, is_rule_of};
+ghost use Rattle.desk_model.specs.Tables.{Tables, applied, with_release_state, withdrawn_release};
+ghost use Rattle.desk_model.specs.declared.state.ReleaseState.TheVariants.{Frozen};
 ghost use Rattle.desk_tally.specs.Kept.{place_found, AreKept, IsPlaceFor};
-ghost use Rattle.desk_ledger.specs.Books.{takes};
-ghost use Rattle.desk_office.specs.Holders.{holders_after};
+ghost use Rattle.desk_memory_rows.specs.Books.{takes};
+ghost use Rattle.desk_memory_rows.specs.Holders.{holders_after};
 ghost use Rattle.desk_sorted.specs.Blocks.{rows_in};
 ghost use Rattle.desk_memory.specs.Memory.{rows_of, memory_seen};
 ghost use Rattle.desk_history.specs.FromTables.{rule_of};
@@ -23,9 +23,8 @@ use crate::keys::{
 use crate::rules::Rules;
 use desk_access::store::Store;
 use desk_base::{Day, Items, Text};
-use desk_ledger::Ledger;
-use desk_office::{ByAdopting, ByConcluded, ByPackage, ByReference, Choices, Office};
-use desk_rows::{
+use desk_memory_rows::{ByAdopting, ByConcluded, ByPackage, ByReference, Choices, Ledger, Office};
+use desk_model::{
     AttachedRow, CatalogueRow, Change, ChangeRow, ChoiceRow, DocumentRow, DutyRow, ExtractedRow,
     Fault, FrozenRow, PackageRow, Profile, ReleaseRow, ReleaseState, Rule, RuleRow, Standing,
     Totals,
@@ -275,8 +274,8 @@ pub struct MemStore {
 }
 
 impl MemStore {
-    ghost use Rattle.desk_rows.specs.Readings.{Readings};
-    ghost use Rattle.desk_rows.specs.Tables.{tables};
+    ghost use Rattle.desk_model.specs.Readings.{Readings};
+    ghost use Rattle.desk_model.specs.Tables.{tables};
 
     /// The tables of the empty history.
     pub fn new(alloc: Global) -> MemStore

@@ -1,8 +1,8 @@
 -- What may be the conclusion in force for a package.
 use Rattle.std.specs.Prelude.{◌≡◌, ℕ, List, Option, Some, None, if◌then◌else◌}
 use Rattle.desk_base.specs.declared.profile.Profile.{Profile}
-use Rattle.desk_rows.specs.Readings.{Readings}
-use Rattle.desk_rows.specs.declared.reading.Conclusion.{Conclusion}
+use Rattle.desk_model.specs.Readings.{Readings}
+use Rattle.desk_model.specs.declared.reading.Conclusion.{Conclusion}
 use Rattle.desk_packages.specs.declared.conclusion.Claim.{Claim}
 use Rattle.desk_packages.specs.declared.conclusion.Claim.TheVariants.{Office, Field, Nothing}
 use Rattle.desk_packages.specs.declared.conclusion.InForce.{InForce}

@@ -1,16 +1,16 @@
 //! The conclusion in force for a package.
 
 ghost use Rattle.std.specs.Prelude.{◌≡◌, IfOk, IfErr};
-ghost use Rattle.desk_rows.specs.Readings.{Readings};
-ghost use Rattle.desk_rows.specs.Faults.{MayFail};
-ghost use Rattle.desk_rows.specs.Conclusions.{profile_in};
+ghost use Rattle.desk_model.specs.Readings.{Readings};
+ghost use Rattle.desk_model.specs.Faults.{MayFail};
+ghost use Rattle.desk_model.specs.Conclusions.{profile_in};
 ghost use Rattle.desk_history.specs.FromTables.{conclusion_found};
 ghost use Rattle.desk_access.specs.Seen.{Looked, OfRows};
 ghost use Rattle.desk_packages.specs.Claims.{read_claim, InForceOf};
 
 use desk_access::store::Store;
 use desk_access::texts::Texts;
-use desk_rows::{Conclusion, Fault, PackageRow, Profile};
+use desk_model::{Conclusion, Fault, PackageRow, Profile};
 use std::alloc::{AllocError, Global};
 
 /// What may be the conclusion in force for a package.

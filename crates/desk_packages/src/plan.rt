@@ -1,9 +1,9 @@
 //! What commands come to alike: a refusal, a change, and what stands against work on a release.
 
 ghost use Rattle.std.specs.Prelude.{◌≡◌};
-ghost use Rattle.desk_rows.specs.Answers.{unready};
+ghost use Rattle.desk_model.specs.Answers.{unready};
 
-use desk_rows::{Answer, Change, Plan, Refusal, ReleaseState};
+use desk_model::{Answer, Change, Plan, Refusal, ReleaseState};
 
 /// The command is refused.
 pub fn refused(refusal: Refusal) -> Plan

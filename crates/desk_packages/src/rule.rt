@@ -1,17 +1,17 @@
 //! The rule for a term of a document.
 
 ghost use Rattle.std.specs.Prelude.{◌≡◌, IfOk, IfErr};
-ghost use Rattle.desk_rows.specs.Readings.{Readings};
-ghost use Rattle.desk_rows.specs.Faults.{MayFail};
-ghost use Rattle.desk_rows.specs.Conclusions.{adopted};
-ghost use Rattle.desk_rows.specs.Raised.{rule_adopted};
+ghost use Rattle.desk_model.specs.Readings.{Readings};
+ghost use Rattle.desk_model.specs.Faults.{MayFail};
+ghost use Rattle.desk_model.specs.Conclusions.{adopted};
+ghost use Rattle.desk_model.specs.Raised.{rule_adopted};
 ghost use Rattle.desk_history.specs.FromTables.{rules_found};
 ghost use Rattle.desk_access.specs.Seen.{Looked, OfRows};
 
 use desk_access::store::Store;
 use desk_access::texts::Texts;
 use desk_base::Text;
-use desk_rows::{Fault, Rule};
+use desk_model::{Fault, Rule};
 use std::alloc::Global;
 
 /// The form in which a term of a document is looked up: a reference as the licence that it is adopted as, if it is.

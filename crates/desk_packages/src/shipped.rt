@@ -1,12 +1,12 @@
 //! The packages that a release ships.
 
 ghost use Rattle.std.specs.Prelude.{◌≡◌, IfOk, IfErr};
-ghost use Rattle.desk_rows.specs.Faults.{MayFail};
-ghost use Rattle.desk_rows.specs.Raised.{shipped_of};
+ghost use Rattle.desk_model.specs.Faults.{MayFail};
+ghost use Rattle.desk_model.specs.Raised.{shipped_of};
 ghost use Rattle.desk_access.specs.Seen.{Looked, OfRows};
 
 use desk_access::store::Store;
-use desk_rows::{AttachedRow, Fault, PackageRow};
+use desk_model::{AttachedRow, Fault, PackageRow};
 use std::alloc::Global;
 
 #[tactic(auto, using(desk_access::proofs::Chains::same_then_kept, desk_access::proofs::Chains::same_then_same))]

@@ -4,19 +4,19 @@ use Rattle.std.specs.Prelude.{find, is_some, nat_lt}
 use Rattle.std.specs.List.{list_any}
 use Rattle.std.specs.Option.{option_map}
 use Rattle.std.proofs.lemmas.Bool.Decides.{nat_tests}
-use Rattle.desk_rows.specs.Readings.{Readings}
-use Rattle.desk_rows.specs.Keys.{is_document, is_attachment}
-use Rattle.desk_rows.specs.History.{attached_to}
-use Rattle.desk_rows.specs.Tables.{Tables}
-use Rattle.desk_rows.specs.Answers.{unready}
-use Rattle.desk_rows.specs.declared.reading.Profile.{Profile}
-use Rattle.desk_rows.specs.declared.row.DocumentRow.{DocumentRow}
-use Rattle.desk_rows.specs.declared.row.ReleaseRow.{ReleaseRow}
-use Rattle.desk_rows.specs.declared.refusal.Limit.TheVariants as limit
-use Rattle.desk_rows.specs.declared.refusal.Refusal.TheVariants as why
-use Rattle.desk_rows.specs.declared.command.Answer.TheVariants as answered
-use Rattle.desk_rows.specs.declared.command.Change.TheVariants as change
-use Rattle.desk_rows.specs.declared.command.Command.TheVariants.{Attach}
+use Rattle.desk_model.specs.Readings.{Readings}
+use Rattle.desk_model.specs.Keys.{is_document, is_attachment}
+use Rattle.desk_model.specs.History.{attached_to}
+use Rattle.desk_model.specs.Tables.{Tables}
+use Rattle.desk_model.specs.Answers.{unready}
+use Rattle.desk_model.specs.declared.reading.Profile.{Profile}
+use Rattle.desk_model.specs.declared.row.DocumentRow.{DocumentRow}
+use Rattle.desk_model.specs.declared.row.ReleaseRow.{ReleaseRow}
+use Rattle.desk_model.specs.declared.refusal.Limit.TheVariants as limit
+use Rattle.desk_model.specs.declared.refusal.Refusal.TheVariants as why
+use Rattle.desk_model.specs.declared.command.Answer.TheVariants as answered
+use Rattle.desk_model.specs.declared.command.Change.TheVariants as change
+use Rattle.desk_model.specs.declared.command.Command.TheVariants.{Attach}
 use Rattle.desk_history.specs.FromTables.{release_found, answer_from, known_document}
 
 known_is : (o : Option DocumentRow) (k : ℕ × Profile) → Some k ≡ option_map known_document o → is_some o ≡ true

@@ -3,31 +3,31 @@ use Rattle.std.proofs.Common.{◌≡◌, ℕ, Bool, List, Option, Some, None, sy
 use Rattle.std.specs.Prelude.{find, is_some, true, IfOk, IfSome, Result, Ok, Err}
 use Rattle.std.specs.List.{filter_map, list_any}
 use Rattle.std.specs.Option.{option_map}
-use Rattle.desk_rows.specs.Readings.{Readings}
-use Rattle.desk_rows.specs.Keys.{is_document, is_package, is_attachment}
-use Rattle.desk_rows.specs.Tables.{Tables}
+use Rattle.desk_model.specs.Readings.{Readings}
+use Rattle.desk_model.specs.Keys.{is_document, is_package, is_attachment}
+use Rattle.desk_model.specs.Tables.{Tables}
 use Rattle.desk_history.specs.FromTables.{answer_from, change_for, chosen_change, release_found, conclusion_found, known_document}
-use Rattle.desk_rows.specs.declared.reading.Conclusion.{Conclusion}
+use Rattle.desk_model.specs.declared.reading.Conclusion.{Conclusion}
 use Rattle.desk_packages.specs.Claims.{read_claim}
 use Rattle.desk_packages.specs.declared.conclusion.Claim.{Claim}
 use Rattle.desk_access.specs.Seen.{Seen, OfRows}
 use Rattle.desk_access.specs.Plans.{IsPlan, IsPlanOf}
-use Rattle.desk_rows.specs.Answers.{first_bad}
-use Rattle.desk_rows.specs.Texts.{sorted_set}
-use Rattle.desk_rows.specs.declared.command.Answer.{Answer}
-use Rattle.desk_rows.specs.declared.command.Command.TheVariants.{Choose}
-use Rattle.desk_rows.specs.declared.command.Fault.{Fault}
-use Rattle.desk_rows.specs.declared.command.Plan.{Plan}
+use Rattle.desk_model.specs.Answers.{first_bad}
+use Rattle.desk_model.specs.Texts.{sorted_set}
+use Rattle.desk_model.specs.declared.command.Answer.{Answer}
+use Rattle.desk_model.specs.declared.command.Command.TheVariants.{Choose}
+use Rattle.desk_model.specs.declared.command.Fault.{Fault}
+use Rattle.desk_model.specs.declared.command.Plan.{Plan}
 use Rattle.desk_preparing.specs.Choosing.{AreTermsOf, choose_found, choose_for, choose_shipped, IsFound, IsOpenPlace}
 use Rattle.desk_preparing.specs.declared.choice.TermsRead.TheVariants.{Terms}
 use Rattle.desk_preparing.specs.declared.choice.Place.{Place}
 use Rattle.desk_preparing.specs.declared.choice.Found.{Found}
 use Rattle.desk_preparing.specs.declared.choice.Found.TheVariants.{Here, Nowhere}
 use Rattle.desk_base.specs.declared.profile.Profile.{Profile}
-use Rattle.desk_rows.specs.declared.row.DocumentRow.{DocumentRow}
-use Rattle.desk_rows.specs.declared.row.PackageRow.{PackageRow}
-use Rattle.desk_rows.specs.declared.row.ReleaseRow.{ReleaseRow}
-use Rattle.desk_rows.specs.declared.state.ReleaseState.{ReleaseState}
+use Rattle.desk_model.specs.declared.row.DocumentRow.{DocumentRow}
+use Rattle.desk_model.specs.declared.row.PackageRow.{PackageRow}
+use Rattle.desk_model.specs.declared.row.ReleaseRow.{ReleaseRow}
+use Rattle.desk_model.specs.declared.state.ReleaseState.{ReleaseState}
 
 inner : {A : Type 0} (x y : A) → Some x ≡ Some y → x ≡ y
 inner x y e = cc

@@ -1,6 +1,6 @@
 -- A sorted set, one text after the other.
 use Rattle.std.proofs.Common.{◌≡◌, ℕ, List, [], ◌∷◌, ◌++◌, refl, ap}
-use Rattle.desk_rows.specs.Texts.{put_new, sorted_set}
+use Rattle.desk_model.specs.Texts.{put_new, sorted_set}
 
 abbrev pub put_all_new : List (List ℕ) → List (List ℕ) → List (List ℕ)
 put_all_new [] set = set

@@ -2,25 +2,25 @@
 use Rattle.std.specs.Prelude.{◌≡◌, ◌&&◌, ℕ, List, [], ◌∷◌, is_some, Option, Some, None}
 use Rattle.std.specs.List.{filter_map}
 use Rattle.std.specs.Option.{option_map_or, option_and_then}
-use Rattle.desk_rows.specs.Readings.{Readings}
+use Rattle.desk_model.specs.Readings.{Readings}
 use Rattle.std.specs.Prelude.{Bool, false}
-use Rattle.desk_rows.specs.declared.state.ReleaseState.{ReleaseState}
+use Rattle.desk_model.specs.declared.state.ReleaseState.{ReleaseState}
 use Rattle.std.specs.List.{list_any}
-use Rattle.desk_rows.specs.Keys.{is_attachment}
-use Rattle.desk_rows.specs.Tables.{Tables}
+use Rattle.desk_model.specs.Keys.{is_attachment}
+use Rattle.desk_model.specs.Tables.{Tables}
 use Rattle.desk_history.specs.FromTables.{state_found, stands_document, package_found, conclusion_found}
-use Rattle.desk_rows.specs.declared.command.Answer.{Answer}
-use Rattle.desk_rows.specs.declared.command.Answer.TheVariants as answered
+use Rattle.desk_model.specs.declared.command.Answer.{Answer}
+use Rattle.desk_model.specs.declared.command.Answer.TheVariants as answered
 use Rattle.desk_preparing.specs.declared.choice.Place.{Place}
 use Rattle.desk_preparing.specs.declared.choice.Found.{Found}
 use Rattle.desk_preparing.specs.declared.choice.Found.TheVariants.{Here, Nowhere}
 use Rattle.desk_preparing.specs.declared.choice.TermsRead.{TermsRead}
 use Rattle.desk_preparing.specs.declared.choice.TermsRead.TheVariants.{Terms, BadTerm}
-use Rattle.desk_rows.specs.Answers.{refused_first, unless, first_bad, unready, unconcluded, verdict_on, not_enough, not_minimal}
-use Rattle.desk_rows.specs.declared.reading.Conclusion.{Conclusion}
-use Rattle.desk_rows.specs.declared.refusal.Refusal.TheVariants as why
-use Rattle.desk_rows.specs.declared.reading.Verdict.{Verdict}
-use Rattle.desk_rows.specs.declared.row.PackageRow.{PackageRow}
+use Rattle.desk_model.specs.Answers.{refused_first, unless, first_bad, unready, unconcluded, verdict_on, not_enough, not_minimal}
+use Rattle.desk_model.specs.declared.reading.Conclusion.{Conclusion}
+use Rattle.desk_model.specs.declared.refusal.Refusal.TheVariants as why
+use Rattle.desk_model.specs.declared.reading.Verdict.{Verdict}
+use Rattle.desk_model.specs.declared.row.PackageRow.{PackageRow}
 
 -- each text was read as a term, or the first that is none was found
 abbrev pub AreTermsOf : Readings → List (List ℕ) → TermsRead → Type 0

@@ -2,17 +2,17 @@
 use Rattle.std.specs.Prelude.{◌≡◌, ◌||◌, ℕ, true, List, [], ◌∷◌, nat_lt, find, is_some, Option, Some, None, if◌then◌else◌}
 use Rattle.std.specs.Option.{option_map}
 use Rattle.desk_base.specs.Limits as most
-use Rattle.desk_rows.specs.Readings.{Readings}
-use Rattle.desk_rows.specs.Keys.{is_document, is_package}
-use Rattle.desk_rows.specs.Conclusions.{is_reference, is_plain, licence_for}
-use Rattle.desk_rows.specs.Tables.{Tables}
-use Rattle.desk_rows.specs.Answers.{refused_first, unless}
+use Rattle.desk_model.specs.Readings.{Readings}
+use Rattle.desk_model.specs.Keys.{is_document, is_package}
+use Rattle.desk_model.specs.Conclusions.{is_reference, is_plain, licence_for}
+use Rattle.desk_model.specs.Tables.{Tables}
+use Rattle.desk_model.specs.Answers.{refused_first, unless}
 use Rattle.desk_history.specs.FromTables.{adoption_count, holder_found}
-use Rattle.desk_rows.specs.declared.row.AdoptionRow.{AdoptionRow}
-use Rattle.desk_rows.specs.declared.refusal.Limit.TheVariants as limit
-use Rattle.desk_rows.specs.declared.refusal.Refusal.TheVariants as why
-use Rattle.desk_rows.specs.declared.command.Answer.{Answer}
-use Rattle.desk_rows.specs.declared.command.Answer.TheVariants as answered
+use Rattle.desk_model.specs.declared.row.AdoptionRow.{AdoptionRow}
+use Rattle.desk_model.specs.declared.refusal.Limit.TheVariants as limit
+use Rattle.desk_model.specs.declared.refusal.Refusal.TheVariants as why
+use Rattle.desk_model.specs.declared.command.Answer.{Answer}
+use Rattle.desk_model.specs.declared.command.Answer.TheVariants as answered
 use Rattle.desk_preparing.specs.declared.conclusion.AdoptionRead.{AdoptionRead}
 use Rattle.desk_preparing.specs.declared.conclusion.AdoptionRead.TheVariants.{Pair, BadTerm}
 

@@ -1,12 +1,12 @@
 -- What the steps of dropping a choice have found.
 use Rattle.std.specs.Prelude.{ℕ, List, [], ◌∷◌, length, nat_lt, find, is_some}
-use Rattle.desk_rows.specs.Keys.{is_package}
-use Rattle.desk_rows.specs.Tables.{Tables}
-use Rattle.desk_rows.specs.Answers.{refused_first, unless, unready}
-use Rattle.desk_rows.specs.declared.state.ReleaseState.{ReleaseState}
-use Rattle.desk_rows.specs.declared.refusal.Refusal.TheVariants as why
-use Rattle.desk_rows.specs.declared.command.Answer.{Answer}
-use Rattle.desk_rows.specs.declared.command.Answer.TheVariants as answered
+use Rattle.desk_model.specs.Keys.{is_package}
+use Rattle.desk_model.specs.Tables.{Tables}
+use Rattle.desk_model.specs.Answers.{refused_first, unless, unready}
+use Rattle.desk_model.specs.declared.state.ReleaseState.{ReleaseState}
+use Rattle.desk_model.specs.declared.refusal.Refusal.TheVariants as why
+use Rattle.desk_model.specs.declared.command.Answer.{Answer}
+use Rattle.desk_model.specs.declared.command.Answer.TheVariants as answered
 use Rattle.desk_history.specs.FromTables.{terms_found}
 
 -- with these terms chosen

@@ -1,22 +1,22 @@
 //! Catalogues are loaded.
 
 ghost use Rattle.std.specs.Prelude.{◌≡◌, ◌≤◌, ◌<◌, ◌+◌, ◌^◌, IfOk, IfErr, map, length, Ok, Some, false};
-ghost use Rattle.desk_rows.specs.Readings.{Readings};
-ghost use Rattle.desk_rows.specs.Faults.{MayFail};
-ghost use Rattle.desk_rows.specs.History.{rule_row};
-ghost use Rattle.desk_rows.specs.Answers.{load_answer, refused_alone};
+ghost use Rattle.desk_model.specs.Readings.{Readings};
+ghost use Rattle.desk_model.specs.Faults.{MayFail};
+ghost use Rattle.desk_model.specs.History.{rule_row};
+ghost use Rattle.desk_model.specs.Answers.{load_answer, refused_alone};
 ghost use Rattle.desk_history.specs.FromTables.{loaded_change, loading_found};
 ghost use Rattle.desk_access.specs.Seen.{OfRows};
 ghost use Rattle.desk_access.specs.Plans.{IsPlan, IsPlanOf, Plans, SparesStore};
-ghost use Rattle.desk_rows.specs.declared.command.Command.TheVariants.{LoadCatalogue};
+ghost use Rattle.desk_model.specs.declared.command.Command.TheVariants.{LoadCatalogue};
 
 use desk_access::store::Store;
 use desk_access::texts::Texts;
 use desk_base::{Items, Text, limits};
-use desk_packages::refused;
-use desk_rows::{
+use desk_model::{
     Answer, Catalogue, CatalogueRow, Change, Fault, Limit, Plan, Refusal, Rule, RuleRow,
 };
+use desk_packages::refused;
 use std::alloc::{AllocError, Global};
 
 fn rule_rows(alloc: Global, revision: u32, rules: Vec<Rule>) -> Result<Items<RuleRow>, AllocError>

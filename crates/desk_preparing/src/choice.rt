@@ -1,27 +1,27 @@
 //! Terms are chosen for the packages of a release, and choices dropped.
 
 ghost use Rattle.std.specs.Prelude.{◌≡◌, ℕ, List, ◌≤◌, ◌<◌, ◌+◌, ◌++◌, ◌∷◌, [], IfOk, IfErr, OnOk, false, MatchOption, insert, map, length, Ok, Some, None, Option, filter};
-ghost use Rattle.desk_rows.specs.Readings.{Readings};
+ghost use Rattle.desk_model.specs.Readings.{Readings};
 ghost use Rattle.desk_base.specs.declared.profile.Profile.{Profile};
-ghost use Rattle.desk_rows.specs.Faults.{MayFail};
-ghost use Rattle.desk_rows.specs.Texts.{put_new, sorted_set};
-ghost use Rattle.desk_rows.specs.Tables.{choice_row};
-ghost use Rattle.desk_rows.specs.Answers.{refused_or};
+ghost use Rattle.desk_model.specs.Faults.{MayFail};
+ghost use Rattle.desk_model.specs.Texts.{put_new, sorted_set};
+ghost use Rattle.desk_model.specs.Tables.{choice_row};
+ghost use Rattle.desk_model.specs.Answers.{refused_or};
 ghost use Rattle.desk_history.specs.FromTables.{chosen_change};
 ghost use Rattle.desk_access.specs.Seen.{Looked, OfRows};
 ghost use Rattle.desk_packages.specs.Claims.{read_claim};
 ghost use Rattle.desk_access.specs.Plans.{IsPlan, IsPlanOf, IsSound, Plans, SparesStore};
 ghost use Rattle.desk_preparing.specs.Choosing.{AreTermsOf, choose_for, choose_found, judged, IsFound, IsOpenPlace};
 ghost use Rattle.desk_preparing.specs.Dropping.{drop_answer, unchoose_in};
-ghost use Rattle.desk_rows.specs.Answers.{refused_alone};
-ghost use Rattle.desk_rows.specs.declared.command.Answer.TheVariants.{Done};
-ghost use Rattle.desk_rows.specs.declared.command.Command.TheVariants.{Choose, Unchoose};
+ghost use Rattle.desk_model.specs.Answers.{refused_alone};
+ghost use Rattle.desk_model.specs.declared.command.Answer.TheVariants.{Done};
+ghost use Rattle.desk_model.specs.declared.command.Command.TheVariants.{Choose, Unchoose};
 
 use desk_access::store::Store;
 use desk_access::texts::Texts;
 use desk_base::{Items, Text};
+use desk_model::{Change, ChoiceRow, Fault, PackageRow, Plan, Refusal, ReleaseState, Verdict};
 use desk_packages::{Claim, InForce, claim_of, done, read_claim, refused, unready};
-use desk_rows::{Change, ChoiceRow, Fault, PackageRow, Plan, Refusal, ReleaseState, Verdict};
 use std::alloc::{AllocError, Global};
 
 /// The terms that texts spell, or the place of the first that spells none.

@@ -1,21 +1,21 @@
 //! Packages are concluded for, and references adopted as licences.
 
 ghost use Rattle.std.specs.Prelude.{◌≡◌, ◌&&◌, IfOk, IfErr, is_some};
-ghost use Rattle.desk_rows.specs.Readings.{Readings};
-ghost use Rattle.desk_rows.specs.Faults.{MayFail};
-ghost use Rattle.desk_rows.specs.Conclusions.{conclusion_row};
-ghost use Rattle.desk_rows.specs.Answers.{refused_alone};
+ghost use Rattle.desk_model.specs.Readings.{Readings};
+ghost use Rattle.desk_model.specs.Faults.{MayFail};
+ghost use Rattle.desk_model.specs.Conclusions.{conclusion_row};
+ghost use Rattle.desk_model.specs.Answers.{refused_alone};
 ghost use Rattle.desk_access.specs.Seen.{Looked, OfRows};
 ghost use Rattle.desk_access.specs.Plans.{IsPlan, IsPlanOf, IsSound, Plans, SparesStore};
 ghost use Rattle.desk_preparing.specs.Concluding.{AreAdopted, adopt_known, adopted_row, conclude_known, licence_alone, reference_alone};
-ghost use Rattle.desk_rows.specs.declared.command.Answer.TheVariants.{Done};
-ghost use Rattle.desk_rows.specs.declared.command.Command.TheVariants.{Adopt, Conclude};
+ghost use Rattle.desk_model.specs.declared.command.Answer.TheVariants.{Done};
+ghost use Rattle.desk_model.specs.declared.command.Command.TheVariants.{Adopt, Conclude};
 
 use desk_access::store::Store;
 use desk_access::texts::Texts;
 use desk_base::{Text, limits};
+use desk_model::{AdoptionRow, Change, ConclusionRow, Fault, Limit, Plan, Profile, Refusal};
 use desk_packages::{done, refused};
-use desk_rows::{AdoptionRow, Change, ConclusionRow, Fault, Limit, Plan, Profile, Refusal};
 use std::alloc::{AllocError, Global};
 
 fn concluded(document: u32, package_id: &Text, expression: &Text) -> Result<Plan, AllocError>

@@ -1,23 +1,23 @@
 //! Documents are imported.
 
 ghost use Rattle.std.specs.Prelude.{◌≡◌, ◌≤◌, ◌<◌, ◌+◌, ◌^◌, IfOk, IfErr, map, length, Ok, Some, false};
-ghost use Rattle.desk_rows.specs.Readings.{Readings};
-ghost use Rattle.desk_rows.specs.Faults.{MayFail};
-ghost use Rattle.desk_rows.specs.History.{package_row, extracted_row};
-ghost use Rattle.desk_rows.specs.Answers.{import_answer, refused_alone};
+ghost use Rattle.desk_model.specs.Readings.{Readings};
+ghost use Rattle.desk_model.specs.Faults.{MayFail};
+ghost use Rattle.desk_model.specs.History.{package_row, extracted_row};
+ghost use Rattle.desk_model.specs.Answers.{import_answer, refused_alone};
 ghost use Rattle.desk_history.specs.FromTables.{imported_as, imported_change, importing_found};
 ghost use Rattle.desk_access.specs.Seen.{OfRows};
 ghost use Rattle.desk_access.specs.Plans.{IsPlan, IsPlanOf, Plans, SparesStore};
-ghost use Rattle.desk_rows.specs.declared.command.Command.TheVariants.{Import};
+ghost use Rattle.desk_model.specs.declared.command.Command.TheVariants.{Import};
 
 use desk_access::store::Store;
 use desk_access::texts::Texts;
 use desk_base::{Items, limits};
-use desk_packages::refused;
-use desk_rows::{
+use desk_model::{
     Answer, Change, Document, DocumentRow, ExtractedRow, Fault, Limit, Package, PackageRow, Plan,
     Profile, Reference, Refusal,
 };
+use desk_packages::refused;
 use std::alloc::{AllocError, Global};
 
 fn package_rows(

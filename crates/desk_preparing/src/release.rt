@@ -2,20 +2,20 @@
 
 ghost use Rattle.std.specs.Prelude.{◌≡◌, ◌≤◌, ◌<◌, ◌+◌, ◌^◌, ◌↔◌, IsTrue, IfOk, IfErr, map, length, Ok, Some, false};
 ghost use Rattle.std.specs.List.{list_any, list_all};
-ghost use Rattle.desk_rows.specs.Readings.{Readings};
-ghost use Rattle.desk_rows.specs.Faults.{MayFail};
-ghost use Rattle.desk_rows.specs.Texts.{is_release_name};
-ghost use Rattle.desk_rows.specs.Keys.{is_attachment, is_document};
-ghost use Rattle.desk_rows.specs.Answers.{unready, refused_alone};
+ghost use Rattle.desk_model.specs.Readings.{Readings};
+ghost use Rattle.desk_model.specs.Faults.{MayFail};
+ghost use Rattle.desk_model.specs.Texts.{is_release_name};
+ghost use Rattle.desk_model.specs.Keys.{is_attachment, is_document};
+ghost use Rattle.desk_model.specs.Answers.{unready, refused_alone};
 ghost use Rattle.desk_history.specs.FromTables.{opened_change, state_found};
 ghost use Rattle.desk_access.specs.Seen.{OfRows};
 ghost use Rattle.desk_access.specs.Plans.{IsPlanOf, Plans, SparesStore};
-ghost use Rattle.desk_rows.specs.declared.command.Command.TheVariants.{OpenRelease, Attach};
+ghost use Rattle.desk_model.specs.declared.command.Command.TheVariants.{OpenRelease, Attach};
 
 use desk_access::store::Store;
 use desk_base::{Text, is_idstring, limits};
+use desk_model::{AttachedRow, Change, Fault, Limit, Plan, Refusal, ReleaseRow, ReleaseState};
 use desk_packages::{done, refused, unready};
-use desk_rows::{AttachedRow, Change, Fault, Limit, Plan, Refusal, ReleaseRow, ReleaseState};
 
 /// Whether the text is a name for a release: an idstring of at most 64 bytes.
 pub fn is_release_name(text: &str) -> bool

@@ -9,7 +9,7 @@ use crate::trouble::{trouble_at, trouble_of};
 use crate::{serving, summaries};
 use desk_base::{Items, Profile, Text};
 use desk_core::Desk;
-use desk_rows::Query;
+use desk_model::Query;
 use desk_store::{AdoptFault, CreateFault, MigrateFault, SqlDesk, audit_connection};
 use desk_subcommands::{
     Failure, NoDesk, Trouble, catalogue, refuse_catalogue, refuse_database, show, tell_migration,

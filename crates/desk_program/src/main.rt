@@ -21,7 +21,7 @@ use desk_explain::TABLES;
 use desk_line::{Call, FileCall, LineFault, line};
 use desk_subcommands::{Failure, alternatives, tell_blanks};
 use desk_texts::Standard;
-use desk_trees::files_of;
+use desk_tree_files::files_of;
 use std::alloc::{AllocError, Global};
 use std::io::{BufWriter, IsTerminal};
 use std::mem::ManuallyDrop;

@@ -7,22 +7,22 @@ use Rattle.std.specs.Str.{bytes_eq}
 use Rattle.std.proofs.lemmas.Bool.{cases_Bool}
 use Rattle.std.proofs.lemmas.Slice.Eq.{bytes_eq-Decides}
 use Rattle.desk_base.proofs.Bools.{contrary}
-use Rattle.desk_rows.specs.Readings.{Readings}
-use Rattle.desk_rows.specs.Tables.{Tables}
-use Rattle.desk_rows.specs.Bills.{bill_answer, bill_line, bill_of, bill_text, first_uses, frozen_terms, package_texts, revision_text, texts_named}
-use Rattle.desk_rows.specs.Keys.{is_frozen_of, is_release}
-use Rattle.desk_rows.specs.declared.bill.Bill.{Bill}
-use Rattle.desk_rows.specs.declared.bill.BillLine.{BillLine}
-use Rattle.desk_rows.specs.declared.bill.BillText.{BillText}
-use Rattle.desk_rows.specs.declared.bill.TextOf.{TextOf}
-use Rattle.desk_rows.specs.declared.row.FrozenRow.{FrozenRow}
-use Rattle.desk_rows.specs.declared.row.PackageRow.{PackageRow}
-use Rattle.desk_rows.specs.declared.row.ReleaseRow.{ReleaseRow}
-use Rattle.desk_rows.specs.declared.state.ReleaseState.TheVariants.{Frozen}
-use Rattle.desk_rows.specs.declared.refusal.Refusal.TheVariants as why
-use Rattle.desk_rows.specs.declared.command.Answer.{Answer}
-use Rattle.desk_rows.specs.declared.command.Answer.TheVariants as answered
-use Rattle.desk_rows.specs.declared.command.Query.TheVariants as query
+use Rattle.desk_model.specs.Readings.{Readings}
+use Rattle.desk_model.specs.Tables.{Tables}
+use Rattle.desk_model.specs.Bills.{bill_answer, bill_line, bill_of, bill_text, first_uses, frozen_terms, package_texts, revision_text, texts_named}
+use Rattle.desk_model.specs.Keys.{is_frozen_of, is_release}
+use Rattle.desk_model.specs.declared.bill.Bill.{Bill}
+use Rattle.desk_model.specs.declared.bill.BillLine.{BillLine}
+use Rattle.desk_model.specs.declared.bill.BillText.{BillText}
+use Rattle.desk_model.specs.declared.bill.TextOf.{TextOf}
+use Rattle.desk_model.specs.declared.row.FrozenRow.{FrozenRow}
+use Rattle.desk_model.specs.declared.row.PackageRow.{PackageRow}
+use Rattle.desk_model.specs.declared.row.ReleaseRow.{ReleaseRow}
+use Rattle.desk_model.specs.declared.state.ReleaseState.TheVariants.{Frozen}
+use Rattle.desk_model.specs.declared.refusal.Refusal.TheVariants as why
+use Rattle.desk_model.specs.declared.command.Answer.{Answer}
+use Rattle.desk_model.specs.declared.command.Answer.TheVariants as answered
+use Rattle.desk_model.specs.declared.command.Query.TheVariants as query
 use Rattle.desk_history.specs.FromTables.{queried_from, release_found, shipped_found}
 
 -- what passes the second test is left by the first

@@ -4,15 +4,15 @@ use Rattle.std.specs.Prelude.{Result, Ok, Err, find, is_some, IfOk}
 use Rattle.std.specs.List.{list_any}
 use Rattle.std.specs.Option.{option_and_then}
 use Rattle.std.specs.Str.{bytes_eq}
-use Rattle.desk_rows.specs.Readings.{Readings}
-use Rattle.desk_rows.specs.Keys.{is_document, is_package}
-use Rattle.desk_rows.specs.Tables.{Tables}
-use Rattle.desk_rows.specs.Listings.{Listing, alternatives_answer, cheapest_answer, term_cost}
-use Rattle.desk_rows.specs.declared.reading.Cheapest.{Cheapest}
-use Rattle.desk_rows.specs.declared.reading.Conclusion.{Conclusion}
-use Rattle.desk_rows.specs.declared.reading.ListFault.{ListFault}
-use Rattle.desk_rows.specs.declared.row.PackageRow.{PackageRow}
-use Rattle.desk_rows.specs.declared.command.Query.TheVariants as query
+use Rattle.desk_model.specs.Readings.{Readings}
+use Rattle.desk_model.specs.Keys.{is_document, is_package}
+use Rattle.desk_model.specs.Tables.{Tables}
+use Rattle.desk_model.specs.Listings.{Listing, alternatives_answer, cheapest_answer, term_cost}
+use Rattle.desk_model.specs.declared.reading.Cheapest.{Cheapest}
+use Rattle.desk_model.specs.declared.reading.Conclusion.{Conclusion}
+use Rattle.desk_model.specs.declared.reading.ListFault.{ListFault}
+use Rattle.desk_model.specs.declared.row.PackageRow.{PackageRow}
+use Rattle.desk_model.specs.declared.command.Query.TheVariants as query
 use Rattle.desk_history.specs.FromTables.{conclusion_found, queried_from, rules_found}
 use Rattle.desk_questions.specs.Found.{listed, priced, told_of, of_package, told_found, listed_found, priced_found}
 use Rattle.desk_access.specs.Seen.{Seen, Same, Looked, OfRows}
@@ -20,9 +20,9 @@ use Rattle.desk_base.specs.declared.profile.Profile.{Profile}
 use Rattle.desk_packages.specs.Claims.{InForceOf}
 use Rattle.desk_packages.specs.declared.conclusion.InForce.{InForce}
 use Rattle.desk_packages.specs.declared.conclusion.InForce.TheVariants.{Expression}
-use Rattle.desk_rows.specs.declared.command.Answer.{Answer}
-use Rattle.desk_rows.specs.declared.command.Fault.{Fault}
-use Rattle.desk_rows.specs.declared.refusal.Refusal.{Refusal}
+use Rattle.desk_model.specs.declared.command.Answer.{Answer}
+use Rattle.desk_model.specs.declared.command.Fault.{Fault}
+use Rattle.desk_model.specs.declared.refusal.Refusal.{Refusal}
 
 abbrev looked : Bool → Option PackageRow → Option Conclusion → Listing
 looked known row_found conclusion = record { has_document = known; row = row_found; conclusion = conclusion }

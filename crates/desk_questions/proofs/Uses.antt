@@ -16,9 +16,9 @@ use Rattle.std.proofs.lemmas.Slice.Eq.{bytes_eq-Decides}
 use Rattle.std.proofs.lemmas.Map.Text.{is_eq-slice_cmp}
 use Rattle.std.proofs.lemmas.List.Elements.{filter-append}
 use Rattle.std.proofs.lemmas.List.Folds.{list_any-append}
-use Rattle.desk_rows.specs.Bills.{first_uses, is_same_text}
-use Rattle.desk_rows.specs.declared.bill.TextOf.{TextOf}
-use Rattle.desk_rows.specs.declared.bill.TextOf.TheVariants.{Licence, Reference}
+use Rattle.desk_model.specs.Bills.{first_uses, is_same_text}
+use Rattle.desk_model.specs.declared.bill.TextOf.{TextOf}
+use Rattle.desk_model.specs.declared.bill.TextOf.TheVariants.{Licence, Reference}
 use Rattle.desk_questions.specs.Billing.{HasTexts, key_order, text_key}
 use Rattle.desk_questions.specs.declared.texts.TextKey.{TextKey}
 

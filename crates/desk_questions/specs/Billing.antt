@@ -6,10 +6,10 @@ use Rattle.std.specs.Ordering.{nat_cmp, is_eq, on, then_cmp}
 use Rattle.std.specs.Cmp.Lexicographic.{slice_cmp}
 use Rattle.std.specs.BTreeSet.{BTreeSet, contains_by}
 use Rattle.std.specs.declared.cmp.Ordering.{Ordering}
-use Rattle.desk_rows.specs.Readings.{Readings}
-use Rattle.desk_rows.specs.declared.bill.TextOf.{TextOf}
-use Rattle.desk_rows.specs.declared.bill.TextOf.TheVariants.{Licence, Reference}
-use Rattle.desk_rows.specs.declared.reading.LicenceText.{LicenceText}
+use Rattle.desk_model.specs.Readings.{Readings}
+use Rattle.desk_model.specs.declared.bill.TextOf.{TextOf}
+use Rattle.desk_model.specs.declared.bill.TextOf.TheVariants.{Licence, Reference}
+use Rattle.desk_model.specs.declared.reading.LicenceText.{LicenceText}
 use Rattle.desk_questions.specs.declared.texts.TextKey.{TextKey}
 
 -- the text of a term's reference, or else of its licence

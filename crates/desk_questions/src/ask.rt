@@ -1,10 +1,10 @@
 //! Questions are answered.
 
 ghost use Rattle.std.specs.Prelude.{◌≡◌, ℕ, IfOk, IfErr, map, filter};
-ghost use Rattle.desk_rows.specs.Readings.{Readings};
-ghost use Rattle.desk_rows.specs.Faults.{MayFail};
-ghost use Rattle.desk_rows.specs.Keys.{is_change_of};
-ghost use Rattle.desk_rows.specs.Queries.{duty_line};
+ghost use Rattle.desk_model.specs.Readings.{Readings};
+ghost use Rattle.desk_model.specs.Faults.{MayFail};
+ghost use Rattle.desk_model.specs.Keys.{is_change_of};
+ghost use Rattle.desk_model.specs.Queries.{duty_line};
 ghost use Rattle.desk_access.specs.Seen.{Looked, OfRows};
 ghost use Rattle.desk_history.specs.FromTables.{queried_from, line_found};
 
@@ -15,7 +15,7 @@ use crate::packages::release;
 use desk_access::store::Store;
 use desk_access::texts::Texts;
 use desk_base::{Items, Text};
-use desk_rows::{Answer, DutyLine, DutyRow, Fault, Query, Refusal};
+use desk_model::{Answer, DutyLine, DutyRow, Fault, Query, Refusal};
 use std::alloc::Global;
 
 #[tactic(auto, using(desk_access::proofs::Chains::same_then_kept, desk_access::proofs::Chains::same_then_same))]

@@ -1,9 +1,9 @@
 //! The bill of a frozen release: its packages with the rules that they were frozen by.
 
 ghost use Rattle.std.specs.Prelude.{◌≡◌, IfOk, IfErr, map};
-ghost use Rattle.desk_rows.specs.Readings.{Readings};
-ghost use Rattle.desk_rows.specs.Bills.{bill_line, bill_of};
-ghost use Rattle.desk_rows.specs.Faults.{MayFail};
+ghost use Rattle.desk_model.specs.Readings.{Readings};
+ghost use Rattle.desk_model.specs.Bills.{bill_line, bill_of};
+ghost use Rattle.desk_model.specs.Faults.{MayFail};
 ghost use Rattle.desk_access.specs.Seen.{Looked, OfRows};
 ghost use Rattle.desk_history.specs.FromTables.{queried_from, shipped_found};
 
@@ -12,10 +12,10 @@ use crate::texts::{bill_texts_of, texts_used};
 use desk_access::store::Store;
 use desk_access::texts::Texts;
 use desk_base::{Items, Text};
-use desk_packages::shipped_packages;
-use desk_rows::{
+use desk_model::{
     Answer, Bill, BillLine, Fault, FrozenRow, PackageRow, Query, Refusal, ReleaseRow, ReleaseState,
 };
+use desk_packages::shipped_packages;
 use desk_sorted::Appended;
 use std::alloc::{AllocError, Global};
 

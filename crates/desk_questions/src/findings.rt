@@ -1,14 +1,14 @@
 //! What in a document isn't as its standard has it.
 
 ghost use Rattle.std.specs.Prelude.{◌≡◌, IfOk, IfErr};
-ghost use Rattle.desk_rows.specs.Readings.{Readings};
-ghost use Rattle.desk_rows.specs.Faults.{MayFail};
+ghost use Rattle.desk_model.specs.Readings.{Readings};
+ghost use Rattle.desk_model.specs.Faults.{MayFail};
 ghost use Rattle.desk_access.specs.Seen.{Looked, OfRows};
 ghost use Rattle.desk_history.specs.FromTables.{queried_from};
 
 use desk_access::store::Store;
 use desk_access::texts::Texts;
-use desk_rows::{Answer, Fault, Query, Refusal};
+use desk_model::{Answer, Fault, Query, Refusal};
 use std::alloc::Global;
 
 /// The findings of a document, by line and kind, read by the profile that it was imported with.

@@ -2,15 +2,15 @@
 
 ghost use Rattle.std.specs.Prelude.{◌≡◌, IfOk, IfErr, OnOk, filter, map};
 ghost use Rattle.std.specs.Str.{bytes_eq};
-ghost use Rattle.desk_rows.specs.Bills.{frozen_terms};
-ghost use Rattle.desk_rows.specs.Faults.{MayFail};
-ghost use Rattle.desk_rows.specs.Keys.{is_frozen_of};
+ghost use Rattle.desk_model.specs.Bills.{frozen_terms};
+ghost use Rattle.desk_model.specs.Faults.{MayFail};
+ghost use Rattle.desk_model.specs.Keys.{is_frozen_of};
 ghost use Rattle.desk_access.specs.Seen.{Looked, OfRows};
 ghost use Rattle.desk_questions.specs.Sides.{package_meets, package_side, package_splits};
 
 use desk_access::store::Store;
 use desk_base::Text;
-use desk_rows::{Fault, FrozenRow, PackageRow};
+use desk_model::{Fault, FrozenRow, PackageRow};
 use desk_sorted::{Appended, Sought};
 use std::alloc::{AllocError, Global};
 use std::cmp::Ordering;

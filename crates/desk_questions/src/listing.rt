@@ -2,9 +2,9 @@
 
 ghost use Rattle.std.specs.Prelude.{◌≡◌, ℕ, List, IfOk, IfErr, map};
 ghost use Rattle.desk_base.specs.declared.profile.Profile.{Profile};
-ghost use Rattle.desk_rows.specs.Readings.{Readings};
-ghost use Rattle.desk_rows.specs.Faults.{MayFail};
-ghost use Rattle.desk_rows.specs.Listings.{list_refusal, rule_cost, term_cost};
+ghost use Rattle.desk_model.specs.Readings.{Readings};
+ghost use Rattle.desk_model.specs.Faults.{MayFail};
+ghost use Rattle.desk_model.specs.Listings.{list_refusal, rule_cost, term_cost};
 ghost use Rattle.desk_access.specs.Seen.{Looked, OfRows};
 ghost use Rattle.desk_history.specs.FromTables.{conclusion_found, queried_from, rules_found};
 ghost use Rattle.desk_questions.specs.Found.{IsFound, listed, listed_found, priced, priced_by, priced_found};
@@ -12,8 +12,8 @@ ghost use Rattle.desk_questions.specs.Found.{IsFound, listed, listed_found, pric
 use desk_access::store::Store;
 use desk_access::texts::Texts;
 use desk_base::{Items, Text, limits};
+use desk_model::{Answer, Fault, ListFault, PackageRow, Query, Refusal, Rule};
 use desk_packages::{InForce, in_force, rule_adopted};
-use desk_rows::{Answer, Fault, ListFault, PackageRow, Query, Refusal, Rule};
 use std::alloc::{AllocError, Global};
 
 fn list_refusal(fault: ListFault) -> Refusal

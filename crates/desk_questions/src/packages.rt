@@ -2,17 +2,17 @@
 
 ghost use Rattle.std.specs.Prelude.{◌≡◌, IfOk, IfErr, map};
 ghost use Rattle.std.specs.Option.{option_map};
-ghost use Rattle.desk_rows.specs.Readings.{Readings};
-ghost use Rattle.desk_rows.specs.Faults.{MayFail};
-ghost use Rattle.desk_rows.specs.Queries.{package_line};
+ghost use Rattle.desk_model.specs.Readings.{Readings};
+ghost use Rattle.desk_model.specs.Faults.{MayFail};
+ghost use Rattle.desk_model.specs.Queries.{package_line};
 ghost use Rattle.desk_access.specs.Seen.{Looked, OfRows};
 ghost use Rattle.desk_history.specs.FromTables.{choice_found, conclusion_found, queried_from};
 
 use desk_access::store::Store;
 use desk_access::texts::Texts;
 use desk_base::{Items, Text};
+use desk_model::{Answer, Conclusion, Fault, PackageLine, PackageRow, Query, Refusal};
 use desk_packages::{conclusion_of, shipped_packages};
-use desk_rows::{Answer, Conclusion, Fault, PackageLine, PackageRow, Query, Refusal};
 use std::alloc::Global;
 
 fn text_of(conclusion: Option<Conclusion>) -> Option<Text>

@@ -2,8 +2,8 @@
 use Rattle.std.specs.Prelude.{ℕ, ◌-◌, ◌+◌, false, ◌==◌, ◌||◌, nat_lt, List, [], ◌∷◌, ◌++◌, map, max, chars, codes, decimal, replicate, unwrap_or, if◌then◌else◌}
 use Rattle.std.specs.List.{flat_map}
 use Rattle.unicode_width.specs.Width.{str_width}
-use Rattle.desk_rows.specs.Names.{duty_state_name}
-use Rattle.desk_rows.specs.declared.command.DutyLine.{DutyLine}
+use Rattle.desk_model.specs.Names.{duty_state_name}
+use Rattle.desk_model.specs.declared.command.DutyLine.{DutyLine}
 
 -- a question mark stands for a control byte
 abbrev pub shown_byte : ℕ → ℕ

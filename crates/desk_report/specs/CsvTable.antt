@@ -3,8 +3,8 @@ use Rattle.std.specs.Prelude.{◌≡◌, ℕ, false, List, [], ◌∷◌, ◌++�
 use Rattle.std.specs.List.{flat_map}
 use Rattle.csv.specs.Writing.{default_writer, fields_written, has_written, row_text, writer_setup}
 use Rattle.csv.specs.declared.writer.Writer.{Writer}
-use Rattle.desk_rows.specs.Names.{duty_state_name}
-use Rattle.desk_rows.specs.declared.command.DutyLine.{DutyLine}
+use Rattle.desk_model.specs.Names.{duty_state_name}
+use Rattle.desk_model.specs.declared.command.DutyLine.{DutyLine}
 
 -- a record of these fields: commas between them, quotes where a field needs them, and LF
 unfoldable pub record_text : List (List ℕ) → List ℕ

@@ -1,8 +1,8 @@
 -- The lines of totals and of changes. 10 is the line feed, 32 the blank.
 use Rattle.std.specs.Prelude.{ℕ, List, [], ◌∷◌, ◌++◌, codes, decimal, Option, Some, None}
-use Rattle.desk_rows.specs.Names.{word_name}
-use Rattle.desk_rows.specs.declared.command.Totals.{Totals}
-use Rattle.desk_rows.specs.declared.row.ChangeRow.{ChangeRow}
+use Rattle.desk_model.specs.Names.{word_name}
+use Rattle.desk_model.specs.declared.command.Totals.{Totals}
+use Rattle.desk_model.specs.declared.row.ChangeRow.{ChangeRow}
 
 -- a word, a blank and a number
 abbrev pub counted : List ℕ → ℕ → List ℕ

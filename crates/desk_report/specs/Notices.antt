@@ -3,9 +3,9 @@ use Rattle.std.specs.Prelude.{ℕ, nat_eq, List, [], ◌++◌, codes, if◌then�
 use Rattle.std.specs.List.{ends_with, flat_map}
 use Rattle.std.specs.Option.{option_map_or}
 use Rattle.desk_report.specs.Lines.{spaced}
-use Rattle.desk_rows.specs.declared.bill.Bill.{Bill}
-use Rattle.desk_rows.specs.declared.bill.BillLine.{BillLine}
-use Rattle.desk_rows.specs.declared.bill.BillText.{BillText}
+use Rattle.desk_model.specs.declared.bill.Bill.{Bill}
+use Rattle.desk_model.specs.declared.bill.BillLine.{BillLine}
+use Rattle.desk_model.specs.declared.bill.BillText.{BillText}
 
 -- a value between words
 unfoldable pub framed : List ℕ → List ℕ → List ℕ → List ℕ

@@ -6,7 +6,7 @@ ghost use Rattle.std.specs.String.{string_bytes};
 ghost use Rattle.desk_report.specs.Lines.{spaced, until, behind, front, change_text};
 
 use desk_base::{Day, Text};
-use desk_rows::ChangeRow;
+use desk_model::ChangeRow;
 use std::alloc::{AllocError, Global};
 
 // Adds a blank and a word.

@@ -4,7 +4,7 @@ ghost use Rattle.std.specs.Prelude.{◌≡◌, ◌++◌, ◌∷◌, decimal, map
 ghost use Rattle.desk_report.specs.Columns.{shown_byte, width, front_names, front_cells, widened, widths, filled, front_text, row_line, duty_row, columns_text};
 
 use crate::table::day_cell;
-use desk_rows::DutyLine;
+use desk_model::DutyLine;
 use std::alloc::{AllocError, Global};
 use unicode_width::UnicodeWidthStr;
 

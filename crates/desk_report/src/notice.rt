@@ -5,7 +5,7 @@ ghost use Rattle.std.specs.List.{flat_map};
 ghost use Rattle.desk_report.specs.Notices.{framed, heading, name_line, rule_line, copyright_line, package_notice, ended, body_text, text_notice, notices_text};
 
 use desk_base::Text;
-use desk_rows::{Bill, BillLine, BillText};
+use desk_model::{Bill, BillLine, BillText};
 use std::alloc::{AllocError, Global};
 
 // Adds a value between words.

@@ -8,7 +8,7 @@ ghost use Rattle.desk_report.specs.CsvTable.{cells_behind, column_names, duty_re
 
 use csv::{Writer, WriterBuilder};
 use desk_base::Day;
-use desk_rows::DutyLine;
+use desk_model::DutyLine;
 use std::alloc::{AllocError, Global};
 use std::io::Write;
 

@@ -4,7 +4,7 @@ ghost use Rattle.std.specs.Prelude.{◌≡◌, ◌++◌, IfOk, OnOk};
 ghost use Rattle.std.specs.String.{string_bytes};
 ghost use Rattle.desk_report.specs.Lines.{counted, totals_line};
 
-use desk_rows::Totals;
+use desk_model::Totals;
 use std::alloc::{AllocError, Global};
 
 // Adds a word and a count.

@@ -1,17 +1,17 @@
 -- What a desk does for a command and for a question, it does for a request.
 use Rattle.std.proofs.Common.{◌≡◌, Bool, true, false, List, ◌∷◌, Result, Ok, Err, refl, arith}
 use Rattle.std.specs.Prelude.{IfOk, IfErr, if◌then◌else◌}
-use Rattle.desk_rows.specs.Readings.{Readings}
-use Rattle.desk_rows.specs.Tables.{Tables, tables}
-use Rattle.desk_rows.specs.Answers.{IsHistory, is_recorded, refused_alone}
-use Rattle.desk_rows.specs.Faults.{MayBecome, MayFail, outcome_of}
-use Rattle.desk_rows.specs.Queries.{queried}
-use Rattle.desk_rows.specs.Runs.{IsAnswer, history_with, is_kept}
-use Rattle.desk_rows.specs.declared.command.Answer.{Answer}
-use Rattle.desk_rows.specs.declared.command.Command.{Command}
-use Rattle.desk_rows.specs.declared.command.Fault.{Fault}
-use Rattle.desk_rows.specs.declared.command.Query.{Query}
-use Rattle.desk_rows.specs.declared.command.StoreFault.{StoreFault}
+use Rattle.desk_model.specs.Readings.{Readings}
+use Rattle.desk_model.specs.Tables.{Tables, tables}
+use Rattle.desk_model.specs.Answers.{IsHistory, is_recorded, refused_alone}
+use Rattle.desk_model.specs.Faults.{MayBecome, MayFail, outcome_of}
+use Rattle.desk_model.specs.Queries.{queried}
+use Rattle.desk_model.specs.Runs.{IsAnswer, history_with, is_kept}
+use Rattle.desk_model.specs.declared.command.Answer.{Answer}
+use Rattle.desk_model.specs.declared.command.Command.{Command}
+use Rattle.desk_model.specs.declared.command.Fault.{Fault}
+use Rattle.desk_model.specs.declared.command.Query.{Query}
+use Rattle.desk_model.specs.declared.command.StoreFault.{StoreFault}
 use Rattle.desk_access.specs.Seen.{Seen, Looked, Minds}
 use Rattle.desk_core.specs.Desks.{CarriesOut, InHistory, is_answered}
 use Rattle.desk_core.proofs.Leaving.{keeps_after, left_after, outlasts_after, stays_after}

@@ -5,14 +5,14 @@ use Rattle.std.specs.Io.KnownBytes.{Appends}
 use Rattle.std.proofs.KnownBytes.{Appends-nil, Appends-trans}
 use Rattle.std.proofs.lemmas.Grind.{flat_map-append}
 use Rattle.std.proofs.lemmas.List.Sums.{sum_by-append, sum_by-cons}
-use Rattle.desk_rows.specs.Readings.{Readings}
-use Rattle.desk_rows.specs.Tables.{Tables, tables}
-use Rattle.desk_rows.specs.Answers.{IsHistory}
-use Rattle.desk_rows.specs.Runs.{AreAnswers, history_after, history_with}
-use Rattle.desk_rows.specs.declared.command.Command.{Command}
-use Rattle.desk_rows.specs.declared.command.Outcome.{Outcome}
-use Rattle.desk_rows.specs.declared.command.Outcome.TheVariants.{Answered, Failed}
-use Rattle.desk_rows.specs.declared.command.StoreFault.{StoreFault}
+use Rattle.desk_model.specs.Readings.{Readings}
+use Rattle.desk_model.specs.Tables.{Tables, tables}
+use Rattle.desk_model.specs.Answers.{IsHistory}
+use Rattle.desk_model.specs.Runs.{AreAnswers, history_after, history_with}
+use Rattle.desk_model.specs.declared.command.Command.{Command}
+use Rattle.desk_model.specs.declared.command.Outcome.{Outcome}
+use Rattle.desk_model.specs.declared.command.Outcome.TheVariants.{Answered, Failed}
+use Rattle.desk_model.specs.declared.command.StoreFault.{StoreFault}
 use Rattle.desk_history.proofs.Running.{IsHistory-with}
 use Rattle.desk_access.specs.Seen.{Seen, Outlasts, Spared}
 use Rattle.desk_access.proofs.Chains.{outlasts_self, outlasts_then, spared_self, spared_then}

@@ -1,19 +1,19 @@
 -- What requests are replied, one after the other.
 use Rattle.std.specs.Prelude.{◌≡◌, Bool, false, ◌||◌, List, [], ◌∷◌, sum_by}
-use Rattle.desk_rows.specs.Readings.{Readings}
-use Rattle.desk_rows.specs.Tables.{Tables, tables}
-use Rattle.desk_rows.specs.Answers.{IsHistory, is_recorded, refused_alone}
-use Rattle.desk_rows.specs.Queries.{queried}
-use Rattle.desk_rows.specs.Faults.{MayBecome}
-use Rattle.desk_rows.specs.Runs.{IsAnswer, AreAnswers, history_after, history_with}
+use Rattle.desk_model.specs.Readings.{Readings}
+use Rattle.desk_model.specs.Tables.{Tables, tables}
+use Rattle.desk_model.specs.Answers.{IsHistory, is_recorded, refused_alone}
+use Rattle.desk_model.specs.Queries.{queried}
+use Rattle.desk_model.specs.Faults.{MayBecome}
+use Rattle.desk_model.specs.Runs.{IsAnswer, AreAnswers, history_after, history_with}
 use Rattle.desk_access.specs.Seen.{Seen, Outlasts, Spared}
 use Rattle.desk_core.specs.Desks.{AllSpareStore, InHistory, IsLeft, Secures}
-use Rattle.desk_rows.specs.declared.command.Command.{Command}
-use Rattle.desk_rows.specs.declared.command.Fault.TheVariants.{Memory}
-use Rattle.desk_rows.specs.declared.command.Outcome.{Outcome}
-use Rattle.desk_rows.specs.declared.command.Outcome.TheVariants.{Answered, Failed}
-use Rattle.desk_rows.specs.declared.command.Query.{Query}
-use Rattle.desk_rows.specs.declared.command.StoreFault.{StoreFault}
+use Rattle.desk_model.specs.declared.command.Command.{Command}
+use Rattle.desk_model.specs.declared.command.Fault.TheVariants.{Memory}
+use Rattle.desk_model.specs.declared.command.Outcome.{Outcome}
+use Rattle.desk_model.specs.declared.command.Outcome.TheVariants.{Answered, Failed}
+use Rattle.desk_model.specs.declared.command.Query.{Query}
+use Rattle.desk_model.specs.declared.command.StoreFault.{StoreFault}
 use Rattle.desk_json.specs.declared.request.Request.{Request}
 use Rattle.desk_json.specs.declared.request.Request.TheVariants.{Act, Ask, BadCommand}
 use Rattle.desk_script.specs.Texts.{count_failed}

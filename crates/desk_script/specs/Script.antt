@@ -3,9 +3,9 @@ use Rattle.std.specs.Prelude.{◌≡◌, ◌≢◌, ℕ, ◌+◌, List, Option, 
 use Rattle.std.specs.Io.KnownBytes.{Appends}
 use Rattle.desk_base.specs.Lines.{CutsInto, LineText}
 use Rattle.desk_base.specs.declared.lines.LineEnd.TheVariants.{Nothing}
-use Rattle.desk_rows.specs.Readings.{Readings}
-use Rattle.desk_rows.specs.Tables.{Tables}
-use Rattle.desk_rows.specs.declared.command.StoreFault.{StoreFault}
+use Rattle.desk_model.specs.Readings.{Readings}
+use Rattle.desk_model.specs.Tables.{Tables}
+use Rattle.desk_model.specs.declared.command.StoreFault.{StoreFault}
 use Rattle.desk_access.specs.Seen.{Seen}
 use Rattle.desk_json.specs.declared.request.Request.{Request}
 use Rattle.desk_script.specs.Gathered.{Shows}

@@ -1,8 +1,8 @@
 -- What is written and counted.
 use Rattle.std.specs.Prelude.{ℕ, List, [], ◌∷◌, ◌++◌, flat_map}
-use Rattle.desk_rows.specs.declared.command.Answer.TheVariants.{Refused}
-use Rattle.desk_rows.specs.declared.command.Fault.TheVariants.{Memory}
-use Rattle.desk_rows.specs.declared.command.Outcome.TheVariants.{Answered, Failed}
+use Rattle.desk_model.specs.declared.command.Answer.TheVariants.{Refused}
+use Rattle.desk_model.specs.declared.command.Fault.TheVariants.{Memory}
+use Rattle.desk_model.specs.declared.command.Outcome.TheVariants.{Answered, Failed}
 use Rattle.desk_json.specs.Replies.{reply_text, bad_command_text}
 use Rattle.desk_script.specs.declared.answer.Reply.{Reply}
 use Rattle.desk_script.specs.declared.answer.Reply.TheVariants.{Became, NoRequest}

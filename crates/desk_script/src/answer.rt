@@ -1,10 +1,10 @@
 //! Answers the request of a line.
 
 ghost use Rattle.std.specs.Prelude.{◌≡◌, List};
-ghost use Rattle.desk_rows.specs.Readings.{Readings};
-ghost use Rattle.desk_rows.specs.Tables.{tables};
-ghost use Rattle.desk_rows.specs.Answers.{IsHistory};
-ghost use Rattle.desk_rows.specs.declared.command.Command.{Command};
+ghost use Rattle.desk_model.specs.Readings.{Readings};
+ghost use Rattle.desk_model.specs.Tables.{tables};
+ghost use Rattle.desk_model.specs.Answers.{IsHistory};
+ghost use Rattle.desk_model.specs.declared.command.Command.{Command};
 ghost use Rattle.desk_json.specs.Requests.{request_in};
 ghost use Rattle.desk_json.specs.declared.request.Request.TheVariants.{Act, Ask};
 ghost use Rattle.desk_script.specs.Replies.{Replies};
@@ -12,7 +12,7 @@ ghost use Rattle.desk_script.specs.Replies.{Replies};
 use crate::watch::Watch;
 use desk_core::desk::Desk;
 use desk_json::{Request, read_command};
-use desk_rows::{Command, Fault, Outcome, Query};
+use desk_model::{Command, Fault, Outcome, Query};
 use std::alloc::Global;
 
 /// What a line is replied.

@@ -16,7 +16,7 @@ use crate::line::Line;
 use crate::watch::Watch;
 use desk_core::desk::Desk;
 use desk_json::{bad_command_line, memory_line, reply_line};
-use desk_rows::{Answer, Fault, Outcome};
+use desk_model::{Answer, Fault, Outcome};
 use std::alloc::{AllocError, Global};
 use std::io::{ErrorKind, Write};
 use std::mem;

@@ -1,5 +1,5 @@
 -- The ten conditions that the tables of a desk meet (schema version 3), each said of a snapshot whose lists stand in the order of their
--- tables' keys. What texts say is told by a reading (`desk_rows`): licence expressions by SPDX 2.3, Annex D, documents by its tag-value
+-- tables' keys. What texts say is told by a reading (`desk_model`): licence expressions by SPDX 2.3, Annex D, documents by its tag-value
 -- form, catalogues by their own form.
 use Rattle.std.specs.Prelude.{◌≡◌, ℕ, ℤ, pos, ◌&&◌, ◌||◌, not, nat_le, nat_lt, ◌==◌, Bool, true, false, List, [], ◌∷◌, length, map, filter, find, flat_map, Option, is_some, IsPermutation, if◌then◌else◌}
 use Rattle.std.specs.List.{list_all, list_any, AllByRecursion, join_with_byte, range_with_len, slice_split}
@@ -9,20 +9,20 @@ use Rattle.std.specs.Result.{result_ok}
 use Rattle.std.specs.Str.{bytes_eq}
 use Rattle.desk_base.specs.declared.profile.Profile.{Profile}
 use Rattle.desk_base.specs.declared.profile.Profile.TheVariants.{Capitals, Either}
-use Rattle.desk_rows.specs.Conclusions.{conclusion_by}
-use Rattle.desk_rows.specs.History.{rules_in}
-use Rattle.desk_rows.specs.Names.{release_state_name, duty_state_name}
-use Rattle.desk_rows.specs.Readings.{Readings}
-use Rattle.desk_rows.specs.declared.reading.Conclusion.{Conclusion}
-use Rattle.desk_rows.specs.declared.reading.Document.{Document}
-use Rattle.desk_rows.specs.declared.reading.Package.{Package}
-use Rattle.desk_rows.specs.declared.reading.Reference.{Reference}
-use Rattle.desk_rows.specs.declared.reading.Rule.{Rule}
-use Rattle.desk_rows.specs.declared.reading.Verdict.{Verdict}
-use Rattle.desk_rows.specs.declared.reading.Verdict.TheVariants as verdict
-use Rattle.desk_rows.specs.declared.state.DutyState.{DutyState}
-use Rattle.desk_rows.specs.declared.state.DutyState.TheVariants as duty
-use Rattle.desk_rows.specs.declared.state.ReleaseState.TheVariants as release
+use Rattle.desk_model.specs.Conclusions.{conclusion_by}
+use Rattle.desk_model.specs.History.{rules_in}
+use Rattle.desk_model.specs.Names.{release_state_name, duty_state_name}
+use Rattle.desk_model.specs.Readings.{Readings}
+use Rattle.desk_model.specs.declared.reading.Conclusion.{Conclusion}
+use Rattle.desk_model.specs.declared.reading.Document.{Document}
+use Rattle.desk_model.specs.declared.reading.Package.{Package}
+use Rattle.desk_model.specs.declared.reading.Reference.{Reference}
+use Rattle.desk_model.specs.declared.reading.Rule.{Rule}
+use Rattle.desk_model.specs.declared.reading.Verdict.{Verdict}
+use Rattle.desk_model.specs.declared.reading.Verdict.TheVariants as verdict
+use Rattle.desk_model.specs.declared.state.DutyState.{DutyState}
+use Rattle.desk_model.specs.declared.state.DutyState.TheVariants as duty
+use Rattle.desk_model.specs.declared.state.ReleaseState.TheVariants as release
 use Rattle.desk_snapshot.specs.Changes.{AreChangesOf, is_waived, is_within}
 use Rattle.desk_snapshot.specs.Rows.{AreFrom, is_attachment, is_choice_in, is_choice_of, is_conclusion, is_frozen_in, is_package, is_reading_of, is_release, is_rule_spelled, release_state_named}
 use Rattle.desk_snapshot.specs.declared.rows.StoredAdoption.{StoredAdoption}

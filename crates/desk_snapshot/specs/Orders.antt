@@ -1,4 +1,4 @@
--- The orders of rows by the keys of their tables (`desk_layout`).
+-- The orders of rows by the keys of their tables (`desk_sql_layout`).
 use Rattle.std.specs.Prelude.{ℕ, ℤ, List}
 use Rattle.std.specs.Cmp.{IsTotalOrder}
 use Rattle.std.specs.Cmp.Lexicographic.{slice_cmp}

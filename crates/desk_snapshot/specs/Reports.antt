@@ -1,6 +1,6 @@
 -- What an audit reports: the ten conditions in their order, and the first that isn't met.
 use Rattle.std.specs.Prelude.{◌≡◌, ◌⊎◌, ℕ, ◌<◌, List, [], ◌∷◌, Option, Some, None, codes}
-use Rattle.desk_rows.specs.Readings.{Readings}
+use Rattle.desk_model.specs.Readings.{Readings}
 use Rattle.desk_snapshot.specs.Conditions.{HasVersion, AreRevisions, AreRules, AreDocuments, ArePackages, AreChoices, AreNumbered, AreDuties, AreChanges, AreStates}
 use Rattle.desk_snapshot.specs.declared.fault.AuditFault.{AuditFault}
 use Rattle.desk_snapshot.specs.declared.fault.AuditFault.TheVariants.{BadMeta, BadRevision, BadRule, BadDocument, BadPackage, BadChoice, BadNumber, BadDuty, BadChange, BadState}

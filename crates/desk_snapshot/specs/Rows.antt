@@ -2,13 +2,13 @@
 use Rattle.std.specs.Prelude.{◌≡◌, ℕ, ◌+◌, ℤ, pos, ◌&&◌, Bool, List, [], ◌∷◌, Option, find}
 use Rattle.std.specs.Ordering.{int_eq}
 use Rattle.std.specs.Str.{bytes_eq}
-use Rattle.desk_rows.specs.Names.{release_state_name, duty_state_name, word_name}
-use Rattle.desk_rows.specs.declared.state.DutyState.{DutyState}
-use Rattle.desk_rows.specs.declared.state.DutyState.TheVariants as duty
-use Rattle.desk_rows.specs.declared.state.ReleaseState.{ReleaseState}
-use Rattle.desk_rows.specs.declared.state.ReleaseState.TheVariants as release
-use Rattle.desk_rows.specs.declared.state.Word.{Word}
-use Rattle.desk_rows.specs.declared.state.Word.TheVariants as word
+use Rattle.desk_model.specs.Names.{release_state_name, duty_state_name, word_name}
+use Rattle.desk_model.specs.declared.state.DutyState.{DutyState}
+use Rattle.desk_model.specs.declared.state.DutyState.TheVariants as duty
+use Rattle.desk_model.specs.declared.state.ReleaseState.{ReleaseState}
+use Rattle.desk_model.specs.declared.state.ReleaseState.TheVariants as release
+use Rattle.desk_model.specs.declared.state.Word.{Word}
+use Rattle.desk_model.specs.declared.state.Word.TheVariants as word
 use Rattle.desk_snapshot.specs.declared.rows.StoredAttached.{StoredAttached}
 use Rattle.desk_snapshot.specs.declared.rows.StoredChange.{StoredChange}
 use Rattle.desk_snapshot.specs.declared.rows.StoredChoice.{StoredChoice}

@@ -3,7 +3,7 @@
 ghost use Rattle.std.specs.Prelude.{◌≡◌, ◌++◌, ◌∷◌, [], filter, find, IfOk, OnOk, OnErr, IfErr};
 ghost use Rattle.std.specs.Option.{option_copied};
 
-use desk_rows::Fault;
+use desk_model::Fault;
 use desk_sorted::{Appended, Keyed, Sought};
 use std::alloc::Global;
 use std::marker::Model;

@@ -10,30 +10,30 @@ use Rattle.std.proofs.lemmas.List.{length-map}
 use Rattle.desk_base.proofs.Bools.{and_left}
 use Rattle.desk_base.proofs.Numbers.{numbers_equal}
 use Rattle.desk_base.proofs.Texts.{text_tells, same_text}
-use Rattle.desk_rows.specs.Lists.{IsIn, latest, or_else}
-use Rattle.desk_rows.specs.Texts.{is_before}
-use Rattle.desk_rows.specs.Readings.{Readings}
-use Rattle.desk_rows.specs.History.{form_of, form_given, forms_in, in_force, opened, revisions, revision_of, state_of, state_given}
-use Rattle.desk_rows.specs.Raised.{numbered, owed_at, raised}
-use Rattle.desk_rows.specs.States.{is_met, is_waived, state_after}
-use Rattle.desk_rows.specs.Moves.{duties, duty_at, duty_row, end_after, has_ended, is_known, is_raised_for, move_if, moves, place, place_after, raises, with_move}
-use Rattle.desk_rows.specs.Answers.{answer, gone, is_recorded, IsHistory, moving, move_answer, release_state, release_state_of}
-use Rattle.desk_rows.specs.Tables.{release_row, release_rows, tables}
-use Rattle.desk_rows.specs.declared.row.Move.{Move}
-use Rattle.desk_rows.specs.declared.row.Owed.{Owed}
-use Rattle.desk_rows.specs.declared.row.ReleaseRow.{ReleaseRow}
-use Rattle.desk_rows.specs.declared.state.DutyState.{DutyState}
-use Rattle.desk_rows.specs.declared.state.DutyState.TheVariants as stands
-use Rattle.desk_rows.specs.declared.state.ReleaseState.{ReleaseState}
-use Rattle.desk_rows.specs.declared.state.ReleaseState.TheVariants as release
-use Rattle.desk_rows.specs.declared.state.Word.{Word}
-use Rattle.desk_rows.specs.declared.state.Word.TheVariants as word
-use Rattle.desk_rows.specs.declared.command.Command.{Command}
-use Rattle.desk_rows.specs.declared.command.Command.TheVariants.{LoadCatalogue, OpenRelease, Freeze, Meet, Waive, Reopen, Withdraw, CloseDay}
+use Rattle.desk_model.specs.Lists.{IsIn, latest, or_else}
+use Rattle.desk_model.specs.Texts.{is_before}
+use Rattle.desk_model.specs.Readings.{Readings}
+use Rattle.desk_model.specs.History.{form_of, form_given, forms_in, in_force, opened, revisions, revision_of, state_of, state_given}
+use Rattle.desk_model.specs.Raised.{numbered, owed_at, raised}
+use Rattle.desk_model.specs.States.{is_met, is_waived, state_after}
+use Rattle.desk_model.specs.Moves.{duties, duty_at, duty_row, end_after, has_ended, is_known, is_raised_for, move_if, moves, place, place_after, raises, with_move}
+use Rattle.desk_model.specs.Answers.{answer, gone, is_recorded, IsHistory, moving, move_answer, release_state, release_state_of}
+use Rattle.desk_model.specs.Tables.{release_row, release_rows, tables}
+use Rattle.desk_model.specs.declared.row.Move.{Move}
+use Rattle.desk_model.specs.declared.row.Owed.{Owed}
+use Rattle.desk_model.specs.declared.row.ReleaseRow.{ReleaseRow}
+use Rattle.desk_model.specs.declared.state.DutyState.{DutyState}
+use Rattle.desk_model.specs.declared.state.DutyState.TheVariants as stands
+use Rattle.desk_model.specs.declared.state.ReleaseState.{ReleaseState}
+use Rattle.desk_model.specs.declared.state.ReleaseState.TheVariants as release
+use Rattle.desk_model.specs.declared.state.Word.{Word}
+use Rattle.desk_model.specs.declared.state.Word.TheVariants as word
+use Rattle.desk_model.specs.declared.command.Command.{Command}
+use Rattle.desk_model.specs.declared.command.Command.TheVariants.{LoadCatalogue, OpenRelease, Freeze, Meet, Waive, Reopen, Withdraw, CloseDay}
 use Rattle.desk_history.proofs.Lookups.{length-push, release_found-tables}
 use Rattle.desk_history.proofs.Members.{in_cases, from_map}
 use Rattle.desk_history.proofs.OwnKeys.{open_at, owed_release, raised_closed}
-use Rattle.desk_rows.specs.Names.{duty_state_name, release_state_name}
+use Rattle.desk_model.specs.Names.{duty_state_name, release_state_name}
 use Rattle.desk_snapshot.specs.Conditions.{AreNumbered, AreStates, stands_as, was_frozen}
 use Rattle.desk_snapshot.specs.Rows as stored
 use Rattle.desk_snapshot.specs.Rows.{AreFrom, release_state_named}

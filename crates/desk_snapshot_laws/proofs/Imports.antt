@@ -10,17 +10,17 @@ use Rattle.std.proofs.lemmas.List.Folds.{list_all-append}
 use Rattle.desk_base.specs.declared.profile.Profile.{Profile}
 use Rattle.desk_base.specs.declared.profile.Profile.TheVariants.{Capitals, Either}
 use Rattle.desk_base.proofs.Texts.{same_text}
-use Rattle.desk_rows.specs.Readings.{Readings}
-use Rattle.desk_rows.specs.History.{documents, packages, references, namespace_in, packages_in, references_in, package_row, extracted_row}
-use Rattle.desk_rows.specs.Answers.{IsHistory, is_recorded, Importing, import_answer, importing}
-use Rattle.desk_rows.specs.Tables.{tables}
-use Rattle.desk_rows.specs.declared.reading.Document.{Document}
-use Rattle.desk_rows.specs.declared.reading.Package.{Package}
-use Rattle.desk_rows.specs.declared.reading.Reference.{Reference}
-use Rattle.desk_rows.specs.declared.refusal.DocumentFault.{DocumentFault}
-use Rattle.desk_rows.specs.declared.row.DocumentRow.{DocumentRow}
-use Rattle.desk_rows.specs.declared.command.Command.{Command}
-use Rattle.desk_rows.specs.declared.command.Command.TheVariants.{Import}
+use Rattle.desk_model.specs.Readings.{Readings}
+use Rattle.desk_model.specs.History.{documents, packages, references, namespace_in, packages_in, references_in, package_row, extracted_row}
+use Rattle.desk_model.specs.Answers.{IsHistory, is_recorded, Importing, import_answer, importing}
+use Rattle.desk_model.specs.Tables.{tables}
+use Rattle.desk_model.specs.declared.reading.Document.{Document}
+use Rattle.desk_model.specs.declared.reading.Package.{Package}
+use Rattle.desk_model.specs.declared.reading.Reference.{Reference}
+use Rattle.desk_model.specs.declared.refusal.DocumentFault.{DocumentFault}
+use Rattle.desk_model.specs.declared.row.DocumentRow.{DocumentRow}
+use Rattle.desk_model.specs.declared.command.Command.{Command}
+use Rattle.desk_model.specs.declared.command.Command.TheVariants.{Import}
 use Rattle.desk_snapshot.specs.Conditions.{AreDocuments, ArePackages, is_read, is_profile, packages_by, stored_package, extracted_by, stored_extracted}
 use Rattle.desk_snapshot.specs.Rows.{AreFrom}
 use Rattle.desk_snapshot.specs.Tables.{snapshot_of, document_stored, reading_stored, package_stored, extracted_stored}

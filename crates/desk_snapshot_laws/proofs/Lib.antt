@@ -6,3 +6,13 @@ pub mod Loads
 pub mod Imports
 pub mod Duties
 pub mod Later
+mod Runs
+mod Changes
+mod Words
+mod Rules
+mod Owed
+mod Orders
+mod Concluded
+mod Held
+mod Kept
+mod Choices

@@ -5,7 +5,7 @@ use Rattle.std.specs.List.{list_all, enumerate_from, AllByRecursion}
 use Rattle.std.specs.Option.{option_map}
 use Rattle.std.specs.Ordering.{int_eq}
 use Rattle.std.proofs.lemmas.Bool.Decides.{nat_tests}
-use Rattle.desk_rows.specs.Lists.{IsIn}
+use Rattle.desk_model.specs.Lists.{IsIn}
 
 pub pos_eq : (a b : ℕ) → int_eq (pos a) (pos b) ≡ (a == b)
 pos_eq a b = grind (arith, nat_tests)

@@ -3,7 +3,7 @@ use Rattle.std.proofs.Common.{◌≡◌, Bool, true, false, List, [], ◌∷◌,
 use Rattle.std.specs.Prelude.{IsPermutation, if◌then◌else◌}
 use Rattle.std.specs.List.{flat_map}
 use Rattle.std.proofs.lemmas.List.Sorted.{IsPermutation-append_comm, IsPermutation-append_left, IsPermutation-append_right, IsPermutation-refl, IsPermutation-trans}
-use Rattle.desk_rows.specs.Lists.{put, in_order}
+use Rattle.desk_model.specs.Lists.{put, in_order}
 
 pub from_same : {A : Type 0} (xs ys zs : List A) → xs ≡ ys → IsPermutation ys zs → IsPermutation xs zs
 from_same xs ys zs e p = subst (λ us. IsPermutation us zs) (sym e) p

@@ -8,18 +8,18 @@ use Rattle.std.proofs.lemmas.Bool.Decides.{nat_tests}
 use Rattle.desk_base.specs.Day.{is_day}
 use Rattle.desk_base.specs.Limits as most
 use Rattle.desk_base.proofs.Bools.{and_left, and_right, not_true}
-use Rattle.desk_rows.specs.Texts.{is_note, is_release_name}
-use Rattle.desk_rows.specs.Readings.{Readings}
-use Rattle.desk_rows.specs.History.{form_of, state_of}
-use Rattle.desk_rows.specs.Answers.{answer, is_recorded, refused_or, unless, unready, gone, settled, is_over, Moving, move_answer, freezing, opening}
-use Rattle.desk_rows.specs.declared.command.Answer.{Answer}
-use Rattle.desk_rows.specs.declared.command.Command.{Command}
-use Rattle.desk_rows.specs.declared.command.Command.TheVariants.{CloseDay, Freeze, OpenRelease, Withdraw}
-use Rattle.desk_rows.specs.declared.refusal.Limit.TheVariants as limit
-use Rattle.desk_rows.specs.declared.refusal.Refusal.{Refusal}
-use Rattle.desk_rows.specs.declared.refusal.Refusal.TheVariants as why
-use Rattle.desk_rows.specs.declared.state.ReleaseState.{ReleaseState}
-use Rattle.desk_rows.specs.declared.state.Word.{Word}
+use Rattle.desk_model.specs.Texts.{is_note, is_release_name}
+use Rattle.desk_model.specs.Readings.{Readings}
+use Rattle.desk_model.specs.History.{form_of, state_of}
+use Rattle.desk_model.specs.Answers.{answer, is_recorded, refused_or, unless, unready, gone, settled, is_over, Moving, move_answer, freezing, opening}
+use Rattle.desk_model.specs.declared.command.Answer.{Answer}
+use Rattle.desk_model.specs.declared.command.Command.{Command}
+use Rattle.desk_model.specs.declared.command.Command.TheVariants.{CloseDay, Freeze, OpenRelease, Withdraw}
+use Rattle.desk_model.specs.declared.refusal.Limit.TheVariants as limit
+use Rattle.desk_model.specs.declared.refusal.Refusal.{Refusal}
+use Rattle.desk_model.specs.declared.refusal.Refusal.TheVariants as why
+use Rattle.desk_model.specs.declared.state.ReleaseState.{ReleaseState}
+use Rattle.desk_model.specs.declared.state.Word.{Word}
 
 pub past : (o : Option Refusal) (a : Answer) → IsTrue (is_recorded (refused_or o a)) → (o ≡ None) × IsTrue (is_recorded a)
 past None a e = (refl, e)

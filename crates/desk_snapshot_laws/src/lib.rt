@@ -1,13 +1,17 @@
 //! Laws of the tables of a recorded history as a snapshot, each the contract of a function with an empty body: by any reading of texts
 //! revisions and documents are numbered and were read, rules and packages are theirs, and duties are numbered and stand as the states of
-//! their releases have it. These are seven of the ten conditions of an audit (`desk_snapshot`).
+//! their releases have it. These are seven of the ten conditions of an audit (`desk_snapshot`);
+//! the laws of `duty_rows` are two more, and that of `choice_rows` is the last.
 #![tactic(auto)]
 
+pub mod choice_rows;
+pub mod duty_rows;
+
 ghost use Rattle.std.specs.Prelude.{List};
-ghost use Rattle.desk_rows.specs.Answers.{IsHistory};
-ghost use Rattle.desk_rows.specs.Readings.{Readings};
-ghost use Rattle.desk_rows.specs.Tables.{tables};
-ghost use Rattle.desk_rows.specs.declared.command.Command.{Command};
+ghost use Rattle.desk_model.specs.Answers.{IsHistory};
+ghost use Rattle.desk_model.specs.Readings.{Readings};
+ghost use Rattle.desk_model.specs.Tables.{tables};
+ghost use Rattle.desk_model.specs.declared.command.Command.{Command};
 ghost use Rattle.desk_snapshot.specs.Conditions.{AreDocuments, AreNumbered, ArePackages, AreRevisions, AreRules, AreStates, HasVersion};
 ghost use Rattle.desk_snapshot.specs.Tables.{snapshot_of};
 

@@ -3,11 +3,11 @@ use Rattle.std.proofs.Common.{◌≡◌, ℕ, zero, suc, ◌<◌, ◌≤◌, Boo
 use Rattle.std.specs.Prelude.{if◌then◌else◌, filter, not}
 use Rattle.std.specs.Ordering.{ordering_index}
 use Rattle.std.specs.declared.cmp.Ordering.{Ordering}
-use Rattle.desk_rows.specs.Lists.{put_all, updated, over, ascends}
-use Rattle.desk_rows.specs.Keys.{below_by}
+use Rattle.desk_model.specs.Lists.{put_all, updated, over, ascends}
+use Rattle.desk_model.specs.Keys.{below_by}
 use Rattle.desk_sorted.specs.Sorted.{IsSideOf}
 use Rattle.desk_base.proofs.Bools.{and_left, and_right, both, not_true}
-use Rattle.desk_rows.proofs.Orders.{IsOrder, ascends-put}
+use Rattle.desk_model.proofs.Orders.{IsOrder, ascends-put}
 
 -- a row that is put in its place
 

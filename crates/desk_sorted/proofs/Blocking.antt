@@ -7,7 +7,7 @@ use Rattle.std.specs.declared.alloc.Global.{Global}
 use Rattle.std.proofs.lemmas.List.{take-append-drop}
 use Rattle.std.proofs.lemmas.List.Folds.{list_any-append, list_all-append}
 use Rattle.std.proofs.lemmas.Grind.{flat_map-append}
-use Rattle.desk_rows.specs.Lists.{over, ascends}
+use Rattle.desk_model.specs.Lists.{over, ascends}
 use Rattle.desk_sorted.specs.Blocks.{are_filled, ends_in, has_rows, last_of, rows_in, IsSplit}
 use Rattle.desk_sorted.proofs.Halving.{last_at}
 use Rattle.desk_base.proofs.Bools.{and_left, and_right, both, not_true, contrary}

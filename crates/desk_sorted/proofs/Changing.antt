@@ -5,7 +5,7 @@ use Rattle.std.specs.List.{list_all, list_any}
 use Rattle.std.specs.declared.alloc.Global.{Global}
 use Rattle.std.proofs.lemmas.List.{append-nil, append_assoc, take-map, drop-map, map-append}
 use Rattle.std.proofs.lemmas.List.Folds.{flat_map-map, list_all-append}
-use Rattle.desk_rows.specs.Lists.{put, put_all}
+use Rattle.desk_model.specs.Lists.{put, put_all}
 use Rattle.desk_sorted.specs.Blocks.{are_all_filled, are_filled, has_rows, is_between, rows_in}
 use Rattle.desk_sorted.proofs.Halving.{put_first, put_past, some_left}
 use Rattle.desk_sorted.proofs.Blocking.{all_drop, all_take}

@@ -4,7 +4,7 @@ use Rattle.std.specs.Prelude.{filter, not, Vec}
 use Rattle.std.specs.declared.alloc.Global.{Global}
 use Rattle.std.proofs.lemmas.List.{length-append}
 use Rattle.std.proofs.lemmas.List.Filters.{length-filter_both}
-use Rattle.desk_rows.specs.Lists.{put, put_all}
+use Rattle.desk_model.specs.Lists.{put, put_all}
 use Rattle.desk_sorted.specs.Blocks.{rows_in}
 use Rattle.desk_sorted.proofs.Walking.{drop_one, filter_split}
 

@@ -9,12 +9,12 @@ use Rattle.std.specs.declared.cmp.Ordering.{Ordering}
 use Rattle.std.specs.declared.cmp.Ordering.TheVariants.{Less, Equal, Greater}
 use Rattle.std.proofs.lemmas.Bool.Decides.{nat_tests}
 use Rattle.std.proofs.lemmas.List.{take-append-drop}
-use Rattle.desk_rows.specs.Lists.{put, put_all, updated, ascends}
-use Rattle.desk_rows.specs.Keys.{below_by}
+use Rattle.desk_model.specs.Lists.{put, put_all, updated, ascends}
+use Rattle.desk_model.specs.Keys.{below_by}
 use Rattle.desk_sorted.specs.Blocks.{last_of}
 use Rattle.desk_sorted.specs.Sorted.{Rises, Climbs, IsRun, IsPlace}
 use Rattle.desk_base.proofs.Bools.{and_left, both, or_left, or_right}
-use Rattle.desk_rows.proofs.Orders.{IsOrder, ascends-put}
+use Rattle.desk_model.proofs.Orders.{IsOrder, ascends-put}
 
 -- sides that do not fall
 

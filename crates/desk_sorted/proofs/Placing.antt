@@ -3,11 +3,11 @@ use Rattle.std.proofs.Common.{◌≡◌, ℕ, zero, suc, ◌+◌, ◌-◌, Bool,
 use Rattle.std.specs.Prelude.{if◌then◌else◌, find, filter, not, slice_get, Option}
 use Rattle.std.specs.List.{position_from}
 use Rattle.std.specs.Option.{option_map}
-use Rattle.desk_rows.specs.Lists.{put, or_else, over, ascends}
+use Rattle.desk_model.specs.Lists.{put, or_else, over, ascends}
 use Rattle.std.proofs.lemmas.List.Elements.{filter_agree}
 use Rattle.desk_sorted.specs.Blocks.{last_of}
 use Rattle.desk_sorted.proofs.Halving.{first_found, last_at}
-use Rattle.desk_rows.proofs.Orders.{IsOrder}
+use Rattle.desk_model.proofs.Orders.{IsOrder}
 use Rattle.desk_base.proofs.Bools.{and_left, and_right, both, not_true}
 
 -- one more row behind the others

@@ -1,6 +1,6 @@
 -- Rows that are put one after another.
 use Rattle.std.proofs.Common.{◌≡◌, Bool, List, [], ◌∷◌, ◌++◌, refl, ap}
-use Rattle.desk_rows.specs.Lists.{put, put_all}
+use Rattle.desk_model.specs.Lists.{put, put_all}
 use Rattle.desk_sorted.specs.Sorted.{put_in_turn}
 
 pub put_all-push : {A : Type 0} (below : A → A → Bool) (xs : List A) (x : A) (ys : List A) → put_all below (xs ++ x ∷ []) ys ≡ put_all below xs (put below x ys)

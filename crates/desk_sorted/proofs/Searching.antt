@@ -10,7 +10,7 @@ use Rattle.std.specs.declared.cmp.Ordering.TheVariants.{Less, Equal, Greater}
 use Rattle.std.proofs.lemmas.List.{append-nil, drop_all}
 use Rattle.std.proofs.lemmas.List.Elements.{filter-append}
 use Rattle.std.proofs.lemmas.List.Folds.{list_all-append}
-use Rattle.desk_rows.specs.Keys.{below_by}
+use Rattle.desk_model.specs.Keys.{below_by}
 use Rattle.desk_sorted.specs.Blocks.{is_between, rows_in, IsBlockRun}
 use Rattle.desk_sorted.proofs.Halving.{turned_le, turned_gt}
 use Rattle.desk_sorted.proofs.Blocking.{rows_split}

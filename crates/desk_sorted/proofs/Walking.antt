@@ -11,9 +11,9 @@ use Rattle.std.proofs.lemmas.List.{append-nil, append_assoc, take_at, length-app
 use Rattle.std.proofs.lemmas.List.Elements.{filter-append}
 use Rattle.std.proofs.lemmas.List.Folds.{find-append}
 use Rattle.std.proofs.lemmas.Grind.{flat_map-append, take-set_at}
-use Rattle.desk_rows.specs.Lists.{ascends}
-use Rattle.desk_rows.specs.Keys.{below_by}
-use Rattle.desk_rows.proofs.Orders.{IsOrder}
+use Rattle.desk_model.specs.Lists.{ascends}
+use Rattle.desk_model.specs.Keys.{below_by}
+use Rattle.desk_model.proofs.Orders.{IsOrder}
 use Rattle.desk_sorted.specs.Blocks.{is_between, rows_in}
 use Rattle.desk_sorted.specs.Sorted.{IsSideOf}
 use Rattle.desk_sorted.proofs.Halving.{first_found}

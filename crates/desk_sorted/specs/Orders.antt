@@ -4,10 +4,10 @@ use Rattle.std.specs.Cmp.{IsTotalOrder}
 use Rattle.std.specs.Cmp.Lexicographic.{slice_cmp}
 use Rattle.std.specs.declared.cmp.Ordering.{Ordering}
 use Rattle.std.proofs.lemmas.Cmp.{on_total, then_total, nat_list_cmp_total, nat_cmp_total}
-use Rattle.desk_rows.specs.Keys.{adoption_order, attached_order, choice_order, conclusion_order, frozen_order, package_order}
-use Rattle.desk_rows.specs.declared.row.DocumentRow.{DocumentRow}
-use Rattle.desk_rows.specs.declared.row.ExtractedRow.{ExtractedRow}
-use Rattle.desk_rows.specs.declared.row.ReleaseRow.{ReleaseRow}
+use Rattle.desk_model.specs.Keys.{adoption_order, attached_order, choice_order, conclusion_order, frozen_order, package_order}
+use Rattle.desk_model.specs.declared.row.DocumentRow.{DocumentRow}
+use Rattle.desk_model.specs.declared.row.ExtractedRow.{ExtractedRow}
+use Rattle.desk_model.specs.declared.row.ReleaseRow.{ReleaseRow}
 
 abbrev pub document_order : DocumentRow → DocumentRow → Ordering
 document_order = on (λ row. row.number) nat_cmp

@@ -4,11 +4,11 @@ ghost use Rattle.std.specs.Prelude.{◌≡◌, ℕ, true, ◌+◌, ◌<◌, ◌�
 ghost use Rattle.std.specs.Vec.{vec_capacity};
 ghost use Rattle.std.specs.Option.{option_copied};
 ghost use Rattle.std.specs.Ordering.{is_eq};
-ghost use Rattle.desk_rows.specs.Keys.{below_by};
-ghost use Rattle.desk_rows.specs.Lists.{ascends};
+ghost use Rattle.desk_model.specs.Keys.{below_by};
+ghost use Rattle.desk_model.specs.Lists.{ascends};
 
 use crate::sorted::{Keyed, Sought, reserve, run_of};
-use desk_rows::Fault;
+use desk_model::Fault;
 use std::alloc::Global;
 
 /// Whether a row goes on behind rows that ascend.

@@ -7,8 +7,8 @@ ghost use Rattle.std.specs.List.{list_any, list_all};
 ghost use Rattle.std.specs.Option.{option_copied};
 ghost use Rattle.std.specs.Ordering.{is_lt, is_le};
 ghost use Rattle.std.specs.declared.cmp.Ordering.TheVariants.{Less};
-ghost use Rattle.desk_rows.specs.Lists.{put, put_all, replaced, ascends};
-ghost use Rattle.desk_rows.specs.Keys.{below_by};
+ghost use Rattle.desk_model.specs.Lists.{put, put_all, replaced, ascends};
+ghost use Rattle.desk_model.specs.Keys.{below_by};
 ghost use Rattle.desk_sorted.specs.Blocks.{are_all_filled, are_filled, ends_in, is_between, rows_in, HasRoom, IsBlockRun, IsSplit};
 ghost use Rattle.desk_sorted.specs.Sides.{none_splits};
 

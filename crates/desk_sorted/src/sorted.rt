@@ -6,11 +6,11 @@ ghost use Rattle.std.specs.Cmp.{IsTotalOrder};
 ghost use Rattle.std.specs.Option.{option_copied};
 ghost use Rattle.std.specs.Ordering.{is_eq, is_lt};
 ghost use Rattle.std.specs.declared.cmp.Ordering.{Ordering};
-ghost use Rattle.desk_rows.specs.Lists.{put, put_all, ascends};
-ghost use Rattle.desk_rows.specs.Keys.{below_by};
+ghost use Rattle.desk_model.specs.Lists.{put, put_all, ascends};
+ghost use Rattle.desk_model.specs.Keys.{below_by};
 ghost use Rattle.desk_sorted.specs.Sorted.{put_in_turn, Climbs, IsSideOf, IsRun, IsPlace, Rises};
 
-use desk_rows::Fault;
+use desk_model::Fault;
 use std::alloc::Global;
 use std::cmp::Ordering;
 

@@ -1,20 +1,20 @@
 //! The desk in memory that reads texts by their standards: its main contract with nothing left open.
 //!
 //! `run_commands` hands a list of commands to an empty desk. Its contract speaks of each right reading of texts (`AreRight`, of which
-//! `desk_right` proves that there is one and no other), of the definitions of the recorded history, and of nothing else.
+//! `desk_texts_laws` proves that there is one and no other), of the definitions of the recorded history, and of nothing else.
 #![tactic(auto)]
 
 ghost use Rattle.std.specs.Prelude.{◌≡◌, [], IfOk, length};
-ghost use Rattle.desk_rows.specs.Readings.{Readings};
-ghost use Rattle.desk_rows.specs.Answers.{IsHistory};
-ghost use Rattle.desk_rows.specs.Faults.{MayAllBecome};
-ghost use Rattle.desk_rows.specs.Runs.{AreAnswers, history_after};
-ghost use Rattle.desk_rows.specs.Tables.{tables};
+ghost use Rattle.desk_model.specs.Readings.{Readings};
+ghost use Rattle.desk_model.specs.Answers.{IsHistory};
+ghost use Rattle.desk_model.specs.Faults.{MayAllBecome};
+ghost use Rattle.desk_model.specs.Runs.{AreAnswers, history_after};
+ghost use Rattle.desk_model.specs.Tables.{tables};
 ghost use Rattle.desk_texts.specs.Right.{AreRight};
 
 use desk_core::desk::{Desk, MemDesk, TableDesk, run_in_memory};
 use desk_memory::MemStore;
-use desk_rows::{Command, Outcome};
+use desk_model::{Command, Outcome};
 use desk_texts::Standard;
 use std::alloc::{AllocError, Global};
 

@@ -2,13 +2,13 @@
 use Rattle.std.proofs.Common.{◌≡◌, List, Ok, Err, Result, refl, sym, subst}
 use Rattle.std.specs.Prelude.{IfOk}
 use Rattle.sqlite_trees.specs.Tree.{Trees}
-use Rattle.desk_rows.specs.Readings.{Readings}
-use Rattle.desk_rows.specs.Tables.{tables}
-use Rattle.desk_rows.specs.Answers.{IsHistory}
-use Rattle.desk_rows.specs.declared.command.Command.{Command}
+use Rattle.desk_model.specs.Readings.{Readings}
+use Rattle.desk_model.specs.Tables.{tables}
+use Rattle.desk_model.specs.Answers.{IsHistory}
+use Rattle.desk_model.specs.declared.command.Command.{Command}
 use Rattle.desk_access.specs.Seen.{Seen}
 use Rattle.desk_core.specs.Desks.{InHistory}
-use Rattle.desk_layout.specs.Held.{Known}
+use Rattle.desk_sql_layout.specs.Held.{Known}
 use Rattle.desk_snapshot.specs.Reports.{IsReport, Meets}
 use Rattle.desk_snapshot.specs.declared.fault.AuditFault.{AuditFault}
 use Rattle.desk_snapshot.specs.declared.fault.AuditReport.{AuditReport}

@@ -4,16 +4,16 @@ use Rattle.std.specs.Prelude.{◌==◌}
 use Rattle.std.specs.Option.{option_map, option_and_then}
 use Rattle.std.specs.Result.{result_ok}
 use Rattle.std.proofs.lemmas.Bool.Decides.{nat_tests}
-use Rattle.desk_rows.specs.History.{revisions, loaded, forms_in}
-use Rattle.desk_rows.specs.Lists.{latest}
-use Rattle.desk_rows.specs.Readings.{Readings}
-use Rattle.desk_rows.specs.Tables.{Tables, tables}
-use Rattle.desk_rows.specs.declared.row.CatalogueRow.{CatalogueRow}
-use Rattle.desk_rows.specs.declared.command.Command.{Command}
-use Rattle.desk_rows.specs.declared.command.Command.TheVariants.{LoadCatalogue}
+use Rattle.desk_model.specs.History.{revisions, loaded, forms_in}
+use Rattle.desk_model.specs.Lists.{latest}
+use Rattle.desk_model.specs.Readings.{Readings}
+use Rattle.desk_model.specs.Tables.{Tables, tables}
+use Rattle.desk_model.specs.declared.row.CatalogueRow.{CatalogueRow}
+use Rattle.desk_model.specs.declared.command.Command.{Command}
+use Rattle.desk_model.specs.declared.command.Command.TheVariants.{LoadCatalogue}
 use Rattle.desk_history.proofs.Lookups.{length-push}
-use Rattle.desk_layout.specs.Held.{known_of}
-use Rattle.desk_adopting.specs.Revisions.{is_revision, body_of}
+use Rattle.desk_sql_layout.specs.Held.{known_of}
+use Rattle.desk_sql_adopt.specs.Revisions.{is_revision, body_of}
 use Rattle.desk_store.specs.Adopting.{HasCounts, HasForms}
 use Rattle.desk_store.specs.Counting.{known_by}
 use Rattle.desk_store.specs.declared.counts.Counts.{Counts}

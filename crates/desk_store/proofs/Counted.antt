@@ -4,24 +4,24 @@ use Rattle.std.specs.Prelude.{IsTrue, IfSome, IfNone}
 use Rattle.std.specs.Result.{IsErr}
 use Rattle.sqlite_trees.specs.Tree.{Trees}
 use Rattle.sqlite.specs.State.{State, HasCleanDisk}
-use Rattle.desk_rows.specs.Keys.{release_below}
-use Rattle.desk_rows.specs.Tables.{Tables, applied}
+use Rattle.desk_model.specs.Keys.{release_below}
+use Rattle.desk_model.specs.Tables.{Tables, applied}
 use Rattle.desk_history.specs.Laws.{Ascends}
-use Rattle.desk_rows.specs.declared.row.DutyRow.{DutyRow}
-use Rattle.desk_rows.specs.declared.row.ReleaseRow.{ReleaseRow}
+use Rattle.desk_model.specs.declared.row.DutyRow.{DutyRow}
+use Rattle.desk_model.specs.declared.row.ReleaseRow.{ReleaseRow}
 use Rattle.desk_tally.specs.Kept.{AreKept, are_countable}
 use Rattle.desk_store.specs.Adopting.{IsUncountable}
 use Rattle.desk_tally.specs.declared.tallies.Tallies.{Tallies}
-use Rattle.desk_rows.specs.declared.command.Change.{Change}
-use Rattle.desk_rows.specs.declared.command.Change.TheVariants as change
+use Rattle.desk_model.specs.declared.command.Change.{Change}
+use Rattle.desk_model.specs.declared.command.Change.TheVariants as change
 use Rattle.desk_store.specs.Counting.{known_by, counts_after, forms_after, tallied}
 use Rattle.desk_store.specs.declared.counts.Counts.{Counts}
-use Rattle.desk_rows.specs.declared.command.Fault.{Fault}
+use Rattle.desk_model.specs.declared.command.Fault.{Fault}
 use Rattle.desk_access.specs.Follows.{Follows}
 use Rattle.desk_access.specs.Seen.{Seen, Outlasts, Kept, Same, Looked, OfRows, Made, Failed, Wrote}
 use Rattle.desk_access.proofs.Chains.{outlasts_then}
-use Rattle.desk_layout.specs.Held.{Known, Stands, known_of, known_after, seen_of}
-use Rattle.desk_layout.proofs.Counting.{known_kept}
+use Rattle.desk_sql_layout.specs.Held.{Known, Stands, known_of, known_after, seen_of}
+use Rattle.desk_sql_layout.proofs.Counting.{known_kept}
 
 -- what is kept beside its rows says nothing of its disk
 beside : (n m : Tallies) (k l : Known) (a b : Seen Trees) → Outlasts a b → Outlasts (tallied n k a) (tallied m l b)

@@ -4,18 +4,18 @@ use Rattle.sqlite_trees.specs.Tree.{Trees}
 use Rattle.sqlite.specs.Effect.{Database}
 use Rattle.sqlite.specs.State.{State, HasCleanDisk, Survives}
 use Rattle.sqlite.proofs.StateLemmas.{survives_then}
-use Rattle.desk_rows.specs.Tables.{Tables}
-use Rattle.desk_layout.specs.Held.{HasRows, Showing}
-use Rattle.desk_adopting.specs.Older.{HoldsOlder, migrated}
-use Rattle.desk_adopting.specs.Reading.{IsSpared, HasStayed}
-use Rattle.desk_adopting.specs.declared.older.OlderVersion.{OlderVersion}
-use Rattle.desk_adopting.proofs.Spared.{clean_before}
+use Rattle.desk_model.specs.Tables.{Tables}
+use Rattle.desk_sql_layout.specs.Held.{HasRows, Showing}
+use Rattle.desk_sql_adopt.specs.Older.{HoldsOlder, migrated}
+use Rattle.desk_sql_adopt.specs.Reading.{IsSpared, HasStayed}
+use Rattle.desk_sql_adopt.specs.declared.older.OlderVersion.{OlderVersion}
+use Rattle.desk_sql_adopt.proofs.Spared.{clean_before}
 use Rattle.desk_snapshot.specs.declared.fault.AuditReport.TheVariants.{Sound}
-use Rattle.desk_migrating.specs.Migrating.{IsLeft, IsReportOn, LeavesSome, Migrated}
-use Rattle.desk_migrating.specs.Steps.{Becomes}
-use Rattle.desk_migrating.specs.declared.fault.MigrateFault.{MigrateFault}
-use Rattle.desk_migrating.specs.declared.fault.MigrateFault.TheVariants.{NotADesk, BadVersion, Unsound, Fault}
-use Rattle.desk_migrating.proofs.Ends.{holds_migrated}
+use Rattle.desk_sql_migrate.specs.Migrating.{IsLeft, IsReportOn, LeavesSome, Migrated}
+use Rattle.desk_sql_migrate.specs.Steps.{Becomes}
+use Rattle.desk_sql_migrate.specs.declared.fault.MigrateFault.{MigrateFault}
+use Rattle.desk_sql_migrate.specs.declared.fault.MigrateFault.TheVariants.{NotADesk, BadVersion, Unsound, Fault}
+use Rattle.desk_sql_migrate.proofs.Ends.{holds_migrated}
 use Rattle.desk_store.specs.Migrating.{IsLeftBy, IsMoved}
 
 pub left_by : (old new : State) (fault : MigrateFault) → IsLeft old new fault → IsLeftBy old new fault

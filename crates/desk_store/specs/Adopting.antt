@@ -4,16 +4,16 @@ use Rattle.sqlite_trees.specs.Tree.{Trees}
 use Rattle.sqlite.specs.State.{State}
 use Rattle.std.specs.Option.{option_and_then}
 use Rattle.std.specs.Result.{result_ok}
-use Rattle.desk_rows.specs.History.{forms_in}
-use Rattle.desk_rows.specs.Readings.{Readings}
-use Rattle.desk_rows.specs.Tables.{Tables, tables}
+use Rattle.desk_model.specs.History.{forms_in}
+use Rattle.desk_model.specs.Readings.{Readings}
+use Rattle.desk_model.specs.Tables.{Tables, tables}
 use Rattle.desk_access.specs.Seen.{Seen}
-use Rattle.desk_layout.specs.Held.{Stands, seen_of}
+use Rattle.desk_sql_layout.specs.Held.{Stands, seen_of}
 use Rattle.desk_tally.specs.Kept.{are_countable}
-use Rattle.desk_adopting.specs.Reading.{IsSpared, HasStayed}
-use Rattle.desk_adopting.specs.Revisions.{body_of}
-use Rattle.desk_adopting.specs.declared.version.Content.TheVariants as content
-use Rattle.desk_adopting.specs.Version.{IsContent}
+use Rattle.desk_sql_adopt.specs.Reading.{IsSpared, HasStayed}
+use Rattle.desk_sql_adopt.specs.Revisions.{body_of}
+use Rattle.desk_sql_adopt.specs.declared.version.Content.TheVariants as content
+use Rattle.desk_sql_adopt.specs.Version.{IsContent}
 use Rattle.desk_snapshot.specs.declared.fault.AuditReport.TheVariants as report
 use Rattle.desk_store.specs.Auditing.{Reports}
 use Rattle.desk_store.specs.declared.counts.Counts.{Counts}

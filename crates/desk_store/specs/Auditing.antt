@@ -1,12 +1,12 @@
 -- What an audit of a database tells.
 use Rattle.std.specs.Prelude.{◌≡◌}
 use Rattle.sqlite.specs.State.{State, HasCleanDisk}
-use Rattle.desk_rows.specs.Readings.{Readings}
-use Rattle.desk_layout.specs.Layout.{desk_schema}
+use Rattle.desk_model.specs.Readings.{Readings}
+use Rattle.desk_sql_layout.specs.Layout.{desk_schema}
 use Rattle.desk_snapshot.specs.Reports.{IsReport}
 use Rattle.desk_snapshot.specs.declared.fault.AuditReport.{AuditReport}
 use Rattle.desk_snapshot.specs.declared.snapshot.Snapshot.{Snapshot}
-use Rattle.desk_scan.specs.Scans.{IsSnapshot}
+use Rattle.desk_sql_scan.specs.Scans.{IsSnapshot}
 use Rattle.desk_texts.specs.Right.{AreRight}
 
 -- of the rows of a database, by each right reading

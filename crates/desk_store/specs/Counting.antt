@@ -2,10 +2,10 @@
 -- releases.
 use Rattle.std.specs.Prelude.{◌≡◌, ℕ, ◌+◌, List, length}
 use Rattle.sqlite_trees.specs.Tree.{Trees}
-use Rattle.desk_rows.specs.declared.command.Change.{Change}
-use Rattle.desk_rows.specs.declared.command.Change.TheVariants as change
+use Rattle.desk_model.specs.declared.command.Change.{Change}
+use Rattle.desk_model.specs.declared.command.Change.TheVariants as change
 use Rattle.desk_access.specs.Seen.{Seen}
-use Rattle.desk_layout.specs.Held.{Known, known_of}
+use Rattle.desk_sql_layout.specs.Held.{Known, known_of}
 use Rattle.desk_tally.specs.Kept.{AreKept}
 use Rattle.desk_tally.specs.declared.tallies.Tallies.{Tallies}
 use Rattle.desk_store.specs.declared.counts.Counts.{Counts}

@@ -1,10 +1,10 @@
 -- What a migration leaves that was followed by an adoption.
 use Rattle.std.specs.Prelude.{◌⊎◌, IsTrue}
 use Rattle.sqlite.specs.State.{State, HasCleanDisk, Survives}
-use Rattle.desk_adopting.specs.declared.older.OlderVersion.{OlderVersion}
-use Rattle.desk_migrating.specs.Migrating.{IsLeft, LeavesSome, Migrated}
-use Rattle.desk_migrating.specs.declared.fault.MigrateFault.{MigrateFault}
-use Rattle.desk_migrating.specs.declared.fault.MigrateFault.TheVariants.{Fault}
+use Rattle.desk_sql_adopt.specs.declared.older.OlderVersion.{OlderVersion}
+use Rattle.desk_sql_migrate.specs.Migrating.{IsLeft, LeavesSome, Migrated}
+use Rattle.desk_sql_migrate.specs.declared.fault.MigrateFault.{MigrateFault}
+use Rattle.desk_sql_migrate.specs.declared.fault.MigrateFault.TheVariants.{Fault}
 
 -- the tables were migrated, and are shown, as far as the connection still shows anything
 pub record IsMoved (old new : State) : Type 0 where

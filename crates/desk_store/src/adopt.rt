@@ -5,15 +5,15 @@ ghost use Rattle.std.specs.Option.{option_and_then};
 ghost use Rattle.std.specs.Result.{result_ok};
 ghost use Rattle.sqlite.specs.Held.{state};
 ghost use Rattle.sqlite.specs.State.{HasCleanDisk};
-ghost use Rattle.desk_rows.specs.History.{forms_in};
-ghost use Rattle.desk_rows.specs.Readings.{Readings};
+ghost use Rattle.desk_model.specs.History.{forms_in};
+ghost use Rattle.desk_model.specs.Readings.{Readings};
 ghost use Rattle.desk_access.specs.Seen.{OfRows};
 ghost use Rattle.desk_core.specs.Desks.{InHistory};
-ghost use Rattle.desk_layout.specs.Held.{known_of, seen_of};
-ghost use Rattle.desk_layout.specs.Layout.{desk_schema};
+ghost use Rattle.desk_sql_layout.specs.Held.{known_of, seen_of};
+ghost use Rattle.desk_sql_layout.specs.Layout.{desk_schema};
 ghost use Rattle.desk_texts.specs.Right.{AreRight};
-ghost use Rattle.desk_adopting.specs.Reading.{HasRead, HasStayed};
-ghost use Rattle.desk_adopting.specs.Version.{IsContent};
+ghost use Rattle.desk_sql_adopt.specs.Reading.{HasRead, HasStayed};
+ghost use Rattle.desk_sql_adopt.specs.Version.{IsContent};
 ghost use Rattle.desk_store.specs.Adopting.{HasCounts, HasForms, IsFault, IsFinding, IsLeft, IsOfAudit, IsReason, IsUncountable};
 ghost use Rattle.desk_store.specs.Auditing.{Reports};
 ghost use Rattle.desk_store.specs.Counting.{known_by};
@@ -23,13 +23,13 @@ use crate::audit::audit_connection;
 use crate::counts::Counts;
 use crate::fault::AdoptFault;
 use desk_access::texts::Texts;
-use desk_adopting::{
+use desk_base::{Items, Text};
+use desk_model::{Fault, StoreFault};
+use desk_snapshot::AuditReport;
+use desk_sql_adopt::{
     Content, body_of, document_count, duties, duty_count, examine, release_count, releases,
     revision_count,
 };
-use desk_base::{Items, Text};
-use desk_rows::{Fault, StoreFault};
-use desk_snapshot::AuditReport;
 use desk_tally::Tallies;
 use desk_texts::Standard;
 use sqlite::{Alter, Connection};

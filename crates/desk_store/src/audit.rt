@@ -3,13 +3,13 @@
 ghost use Rattle.std.specs.Prelude.{◌≡◌, false, IfOk};
 ghost use Rattle.sqlite.specs.Held.{state};
 ghost use Rattle.desk_core.specs.Desks.{InHistory};
-ghost use Rattle.desk_layout.specs.Held.{seen_of};
-ghost use Rattle.desk_adopting.specs.Reading.{HasRead};
+ghost use Rattle.desk_sql_layout.specs.Held.{seen_of};
+ghost use Rattle.desk_sql_adopt.specs.Reading.{HasRead};
 ghost use Rattle.desk_store.specs.Auditing.{IsAudit};
 ghost use Rattle.desk_texts.specs.Right.{AreRight};
 
 use desk_audit::judge;
-use desk_rows::Fault;
+use desk_model::Fault;
 use desk_snapshot::AuditReport;
 use sqlite::{Alter, Connection};
 use std::alloc::Global;
@@ -31,9 +31,9 @@ pub fn audit_connection<S: Alter>(
     ensures mode { conn.new.in_transaction ≡ false }
 {
     desk_history::listed_tables_are_sorted();
-    desk_right::right_readings_list_in_order();
+    desk_texts_laws::right_readings_list_in_order();
     desk_audit_laws::histories_are_sound();
-    let snapshot = desk_scan::snapshot(alloc, conn)?;
+    let snapshot = desk_sql_scan::snapshot(alloc, conn)?;
     let report = judge(alloc, &snapshot)?;
     Ok(report)
 }

@@ -3,7 +3,7 @@
 ghost use Rattle.std.specs.Prelude.{◌≡◌, IfSome};
 ghost use Rattle.desk_store.specs.Counting.{counts_after};
 
-use desk_rows::Change;
+use desk_model::Change;
 
 /// How many revisions, documents, releases and duties there are.
 #[derive(Clone, Copy, Debug, PartialEq, Eq)]

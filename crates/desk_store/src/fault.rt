@@ -1,6 +1,6 @@
 //! Why a database isn't taken for a desk.
 
-use desk_rows::Fault;
+use desk_model::Fault;
 use desk_snapshot::AuditFault;
 use thiserror::Error;
 

@@ -1,6 +1,6 @@
 //! The desk in a SQL database.
 //!
-//! `SqlStore` is a store of rows over a connection: it looks them up by `desk_lookups`, writes a change by `desk_writing`, and keeps in
+//! `SqlStore` is a store of rows over a connection: it looks them up by `desk_sql_lookup`, writes a change by `desk_sql_write`, and keeps in
 //! its own value how many rows some tables have and the forms of the catalogue in force (`specs/Counting.antt`).
 //!
 //! `SqlDesk` is the desk over such a store, with the reader of texts by their standards. `create` makes the tables of an empty desk in
@@ -21,6 +21,6 @@ mod store;
 pub use audit::audit_connection;
 pub use counts::Counts;
 pub use desk::SqlDesk;
-pub use desk_migrating::MigrateFault;
+pub use desk_sql_migrate::MigrateFault;
 pub use fault::{AdoptFault, CreateFault};
 pub use store::SqlStore;

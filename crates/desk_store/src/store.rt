@@ -5,12 +5,12 @@ ghost use Rattle.std.specs.List.{list_any};
 ghost use Rattle.std.specs.Str.{bytes_eq};
 ghost use Rattle.sqlite_trees.specs.Tree.{Trees};
 ghost use Rattle.sqlite.specs.Held.{state};
-ghost use Rattle.desk_rows.specs.Tables.{Tables, applied};
+ghost use Rattle.desk_model.specs.Tables.{Tables, applied};
 ghost use Rattle.desk_access.specs.Seen.{Looked, OfRows};
 ghost use Rattle.desk_history.specs.Laws.{Ascends};
 ghost use Rattle.desk_core.specs.Desks.{InHistory};
-ghost use Rattle.desk_layout.specs.Held.{Stands, known_of, seen_of};
-ghost use Rattle.desk_rows.specs.Keys.{release_below};
+ghost use Rattle.desk_sql_layout.specs.Held.{Stands, known_of, seen_of};
+ghost use Rattle.desk_model.specs.Keys.{release_below};
 ghost use Rattle.desk_tally.specs.Kept.{AreKept, Fits, IsPlaceFor, LeadsTo};
 ghost use Rattle.desk_store.specs.Auditing.{IsAudit};
 ghost use Rattle.desk_store.specs.Counting.{forms_after, known_by, tallied};
@@ -20,7 +20,7 @@ use crate::audit::audit_connection;
 use crate::counts::{Counts, counts_after};
 use desk_access::store::Store;
 use desk_base::{Day, Items, Text};
-use desk_rows::{
+use desk_model::{
     AttachedRow, Change, ChangeRow, DutyRow, Fault, FrozenRow, PackageRow, Profile, ReleaseRow,
     Rule, Standing, StoreFault, Totals,
 };
@@ -126,7 +126,7 @@ fn place_for<S: Alter>(
     let Change::Froze { release, .. } = change else {
         return Ok(None);
     };
-    match desk_lookups::release(alloc, conn, release.as_str())? {
+    match desk_sql_lookup::release(alloc, conn, release.as_str())? {
         Some(row) => Ok(Some(row.place)),
         None => Ok(None),
     }
@@ -190,7 +190,7 @@ impl<S: Alter> Store for SqlStore<S> {
     }
 
     fn catalogue_text(&mut self, revision: u64) -> Result<Option<Text>, Fault> {
-        desk_lookups::catalogue_text(self.alloc, &mut self.conn, self.counts.revisions, revision)
+        desk_sql_lookup::catalogue_text(self.alloc, &mut self.conn, self.counts.revisions, revision)
     }
 
     fn has_form(&mut self, form: &str) -> Result<bool, Fault> {
@@ -198,7 +198,7 @@ impl<S: Alter> Store for SqlStore<S> {
     }
 
     fn rule(&mut self, term: &str, form: &str) -> Result<Option<Rule>, Fault> {
-        desk_lookups::rule(
+        desk_sql_lookup::rule(
             self.alloc,
             &mut self.conn,
             self.counts.revisions,
@@ -212,32 +212,32 @@ impl<S: Alter> Store for SqlStore<S> {
     }
 
     fn import_of(&mut self, namespace: &str, bytes: &[u8]) -> Result<Option<(u32, bool)>, Fault> {
-        desk_lookups::import_of(&mut self.conn, namespace, bytes)
+        desk_sql_lookup::import_of(&mut self.conn, namespace, bytes)
     }
 
     fn document(&mut self, number: u64) -> Result<Option<(u32, Profile)>, Fault> {
-        desk_lookups::document(self.alloc, &mut self.conn, self.counts.documents, number)
+        desk_sql_lookup::document(self.alloc, &mut self.conn, self.counts.documents, number)
     }
 
     fn document_source(&mut self, number: u64) -> Result<Option<(Items<u8>, Profile)>, Fault> {
-        desk_lookups::document_source(self.alloc, &mut self.conn, self.counts.documents, number)
+        desk_sql_lookup::document_source(self.alloc, &mut self.conn, self.counts.documents, number)
     }
 
     fn package_row(&mut self, document: u64, id: &str) -> Result<Option<PackageRow>, Fault> {
         let documents = self.counts.documents;
-        desk_lookups::package_row(self.alloc, &mut self.conn, documents, document, id)
+        desk_sql_lookup::package_row(self.alloc, &mut self.conn, documents, document, id)
     }
 
     fn shipped(&mut self, document: u32) -> Result<Vec<PackageRow>, Fault> {
-        desk_lookups::shipped(self.alloc, &mut self.conn, document)
+        desk_sql_lookup::shipped(self.alloc, &mut self.conn, document)
     }
 
     fn extracted_text(&mut self, document: u32, reference: &str) -> Result<Option<Text>, Fault> {
-        desk_lookups::extracted_text(self.alloc, &mut self.conn, document, reference)
+        desk_sql_lookup::extracted_text(self.alloc, &mut self.conn, document, reference)
     }
 
     fn release(&mut self, name: &str) -> Result<Option<ReleaseRow>, Fault> {
-        desk_lookups::release(self.alloc, &mut self.conn, name)
+        desk_sql_lookup::release(self.alloc, &mut self.conn, name)
     }
 
     fn release_count(&mut self) -> Result<u64, Fault> {
@@ -245,43 +245,43 @@ impl<S: Alter> Store for SqlStore<S> {
     }
 
     fn attached(&mut self, release: &str) -> Result<Vec<AttachedRow>, Fault> {
-        desk_lookups::attached(self.alloc, &mut self.conn, release)
+        desk_sql_lookup::attached(self.alloc, &mut self.conn, release)
     }
 
     fn is_attached(&mut self, release: &str, document: u64) -> Result<bool, Fault> {
-        desk_lookups::is_attached(self.alloc, &mut self.conn, release, document)
+        desk_sql_lookup::is_attached(self.alloc, &mut self.conn, release, document)
     }
 
     fn attached_count(&mut self, release: &str) -> Result<u64, Fault> {
-        desk_lookups::attached_count(&mut self.conn, release)
+        desk_sql_lookup::attached_count(&mut self.conn, release)
     }
 
     fn chosen(&mut self, release: &str, document: u32, id: &str) -> Result<Vec<Text>, Fault> {
-        desk_lookups::chosen(self.alloc, &mut self.conn, release, document, id)
+        desk_sql_lookup::chosen(self.alloc, &mut self.conn, release, document, id)
     }
 
     fn frozen(&mut self, release: &str) -> Result<Vec<FrozenRow>, Fault> {
-        desk_lookups::frozen(self.alloc, &mut self.conn, release)
+        desk_sql_lookup::frozen(self.alloc, &mut self.conn, release)
     }
 
     fn conclusion(&mut self, document: u32, id: &str) -> Result<Option<Text>, Fault> {
-        desk_lookups::conclusion(self.alloc, &mut self.conn, document, id)
+        desk_sql_lookup::conclusion(self.alloc, &mut self.conn, document, id)
     }
 
     fn holder(&mut self, document: u32, id: &str) -> Result<Option<Text>, Fault> {
-        desk_lookups::holder(self.alloc, &mut self.conn, document, id)
+        desk_sql_lookup::holder(self.alloc, &mut self.conn, document, id)
     }
 
     fn adoption(&mut self, document: u32, reference: &str) -> Result<Option<Text>, Fault> {
-        desk_lookups::adoption(self.alloc, &mut self.conn, document, reference)
+        desk_sql_lookup::adoption(self.alloc, &mut self.conn, document, reference)
     }
 
     fn adoption_count(&mut self, document: u32) -> Result<u64, Fault> {
-        desk_lookups::adoption_count(&mut self.conn, document)
+        desk_sql_lookup::adoption_count(&mut self.conn, document)
     }
 
     fn duty(&mut self, number: u64) -> Result<Option<DutyRow>, Fault> {
-        desk_lookups::duty(self.alloc, &mut self.conn, self.counts.duties, number)
+        desk_sql_lookup::duty(self.alloc, &mut self.conn, self.counts.duties, number)
     }
 
     fn duty_count(&mut self) -> Result<u64, Fault> {
@@ -289,34 +289,34 @@ impl<S: Alter> Store for SqlStore<S> {
     }
 
     fn duties_of(&mut self, release: &str) -> Result<Vec<DutyRow>, Fault> {
-        desk_lookups::duties_of(self.alloc, &mut self.conn, release)
+        desk_sql_lookup::duties_of(self.alloc, &mut self.conn, release)
     }
 
     fn tally(&mut self, release: &str) -> Result<Option<Totals>, Fault> {
-        match desk_lookups::release(self.alloc, &mut self.conn, release)? {
+        match desk_sql_lookup::release(self.alloc, &mut self.conn, release)? {
             Some(row) => Ok(self.tallies.totals(row.place)),
             None => Ok(None),
         }
     }
 
     fn standings_of(&mut self, release: &str) -> Result<Vec<Standing>, Fault> {
-        desk_lookups::standings_of(self.alloc, &mut self.conn, self.counts.duties, release)
+        desk_sql_lookup::standings_of(self.alloc, &mut self.conn, self.counts.duties, release)
     }
 
     fn ended(&mut self, day: Day) -> Result<Vec<Standing>, Fault> {
-        desk_lookups::ended(self.alloc, &mut self.conn, self.counts.duties, day)
+        desk_sql_lookup::ended(self.alloc, &mut self.conn, self.counts.duties, day)
     }
 
     fn steps(&mut self, duty: u64) -> Result<u64, Fault> {
-        desk_lookups::steps(&mut self.conn, self.counts.duties, duty)
+        desk_sql_lookup::steps(&mut self.conn, self.counts.duties, duty)
     }
 
     fn changes_of(&mut self, duty: u64) -> Result<Vec<ChangeRow>, Fault> {
-        desk_lookups::changes_of(self.alloc, &mut self.conn, self.counts.duties, duty)
+        desk_sql_lookup::changes_of(self.alloc, &mut self.conn, self.counts.duties, duty)
     }
 
     fn last_day(&mut self, duty: u32) -> Result<Option<Day>, Fault> {
-        desk_lookups::last_day(&mut self.conn, duty)
+        desk_sql_lookup::last_day(&mut self.conn, duty)
     }
 
     fn commit(&mut self, change: Change) -> Result<(), Fault> {
@@ -324,7 +324,7 @@ impl<S: Alter> Store for SqlStore<S> {
             return Err(Fault::Store(StoreFault::Rows));
         };
         let step = self.plan(&change)?;
-        match desk_writing::commit(self.alloc, &mut self.conn, &change) {
+        match desk_sql_write::commit(self.alloc, &mut self.conn, &change) {
             Ok(()) => {
                 self.counts = counts;
                 self.tallies.take(step);

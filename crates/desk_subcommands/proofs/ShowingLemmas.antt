@@ -4,10 +4,10 @@ use Rattle.std.specs.Prelude.{Result, Ok, Err, IfOk, unwrap_or}
 use Rattle.std.specs.Io.KnownBytes.{Appends}
 use Rattle.std.proofs.lemmas.Option.{none-some}
 use Rattle.std.proofs.Common.{◌∙◌, sym, subst}
-use Rattle.desk_rows.specs.declared.command.Answer.{Answer}
-use Rattle.desk_rows.specs.declared.command.Answer.TheVariants as answer
-use Rattle.desk_rows.specs.declared.command.Outcome.{Outcome}
-use Rattle.desk_rows.specs.declared.command.Outcome.TheVariants as outcome_is
+use Rattle.desk_model.specs.declared.command.Answer.{Answer}
+use Rattle.desk_model.specs.declared.command.Answer.TheVariants as answer
+use Rattle.desk_model.specs.declared.command.Outcome.{Outcome}
+use Rattle.desk_model.specs.declared.command.Outcome.TheVariants as outcome_is
 use Rattle.desk_subcommands.specs.Filing.{answer_status, outcome_line}
 use Rattle.desk_subcommands.specs.Showing.{answer_text, outcome_text, shown}
 use Rattle.desk_subcommands.specs.declared.failure.Failure.{Failure}

@@ -1,7 +1,7 @@
 -- What holds after a failure.
 use Rattle.std.specs.Prelude.{◌≡◌, ℕ, List}
 use Rattle.std.specs.String.{string_bytes}
-use Rattle.desk_rows.specs.declared.command.Fault.{Fault}
+use Rattle.desk_model.specs.declared.command.Fault.{Fault}
 use Rattle.desk_script.specs.declared.serving.ScriptFault.{ScriptFault}
 use Rattle.desk_subcommands.specs.declared.failure.Failure.{Failure}
 use Rattle.desk_subcommands.specs.declared.failure.Failure.TheVariants.{Memory, Write, Script, Failed, Request, BadValue, UnknownName}

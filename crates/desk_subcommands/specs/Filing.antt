@@ -1,17 +1,17 @@
 -- What `import` and `catalogue` write, and the status that they answer; and what is told of a file that keeps no desk.
 use Rattle.std.specs.Prelude.{◌≡◌, ◌++◌, ℕ, List, [], ◌∷◌, Option, codes}
 use Rattle.std.specs.Io.KnownBytes.{Appends}
-use Rattle.desk_rows.specs.Readings.{Readings}
-use Rattle.desk_rows.specs.Tables.{Tables}
-use Rattle.desk_rows.specs.declared.command.Answer.{Answer}
-use Rattle.desk_rows.specs.declared.command.Answer.TheVariants.{Refused}
-use Rattle.desk_rows.specs.declared.command.Command.{Command}
-use Rattle.desk_rows.specs.declared.command.Fault.{Fault}
-use Rattle.desk_rows.specs.declared.command.Outcome.{Outcome}
-use Rattle.desk_rows.specs.declared.command.Outcome.TheVariants.{Answered, Failed}
-use Rattle.desk_rows.specs.declared.command.StoreFault.{StoreFault}
-use Rattle.desk_rows.specs.declared.refusal.CatalogueFault.TheVariants.{NotToml}
-use Rattle.desk_rows.specs.declared.refusal.Refusal.TheVariants.{BadCatalogue}
+use Rattle.desk_model.specs.Readings.{Readings}
+use Rattle.desk_model.specs.Tables.{Tables}
+use Rattle.desk_model.specs.declared.command.Answer.{Answer}
+use Rattle.desk_model.specs.declared.command.Answer.TheVariants.{Refused}
+use Rattle.desk_model.specs.declared.command.Command.{Command}
+use Rattle.desk_model.specs.declared.command.Fault.{Fault}
+use Rattle.desk_model.specs.declared.command.Outcome.{Outcome}
+use Rattle.desk_model.specs.declared.command.Outcome.TheVariants.{Answered, Failed}
+use Rattle.desk_model.specs.declared.command.StoreFault.{StoreFault}
+use Rattle.desk_model.specs.declared.refusal.CatalogueFault.TheVariants.{NotToml}
+use Rattle.desk_model.specs.declared.refusal.Refusal.TheVariants.{BadCatalogue}
 use Rattle.desk_access.specs.Seen.{Seen}
 use Rattle.desk_json.specs.declared.request.Request.TheVariants.{Act}
 use Rattle.desk_script.specs.Replies.{Replies}

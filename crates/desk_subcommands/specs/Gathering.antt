@@ -1,10 +1,10 @@
 -- What `gather` writes, and the status that it answers.
 use Rattle.std.specs.Prelude.{◌≡◌, ℕ, List, if◌then◌else◌}
-use Rattle.desk_gather.specs.declared.files.SourceFile.{SourceFile}
-use Rattle.desk_gather.specs.Readers.{Reader}
-use Rattle.desk_draft.specs.Drafts.{Named}
-use Rattle.desk_tree_texts.specs.declared.document.Gathering.{Gathering}
-use Rattle.desk_tree_texts.specs.Gathering.{IsGathering, gathering_text, is_document}
+use Rattle.desk_tree_gather.specs.declared.files.SourceFile.{SourceFile}
+use Rattle.desk_tree_gather.specs.Readers.{Reader}
+use Rattle.desk_tree_document.specs.Drafts.{Named}
+use Rattle.desk_tree_document.specs.declared.document.Gathering.{Gathering}
+use Rattle.desk_tree_document.specs.Gathering.{IsGathering, gathering_text, is_document}
 
 -- the program's status: done where there is a document, or refused
 abbrev pub gathering_status : Gathering → ℕ

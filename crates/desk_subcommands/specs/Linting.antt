@@ -1,9 +1,9 @@
 -- What `lint` writes, and the status that it answers.
 use Rattle.std.specs.Prelude.{◌≡◌, ℕ, Bool, List, if◌then◌else◌}
-use Rattle.desk_gather.specs.declared.files.SourceFile.{SourceFile}
-use Rattle.desk_gather.specs.Readers.{Reader}
-use Rattle.desk_problems.specs.declared.reports.Report.{Report}
-use Rattle.desk_problems.specs.Reports.{IsReport}
+use Rattle.desk_tree_gather.specs.declared.files.SourceFile.{SourceFile}
+use Rattle.desk_tree_gather.specs.Readers.{Reader}
+use Rattle.desk_tree_problems.specs.declared.reports.Report.{Report}
+use Rattle.desk_tree_problems.specs.Reports.{IsReport}
 
 -- the program's status: done where the tree has no problem, or refused
 abbrev pub lint_status : Report → ℕ

@@ -2,11 +2,11 @@
 use Rattle.std.specs.Prelude.{◌≡◌, ◌⊎◌, ℕ, List, Option, Ok, Err}
 use Rattle.std.specs.String.{string_bytes}
 use Rattle.desk_expr.specs.Tree.{Tree}
-use Rattle.desk_rows.specs.Readings.{Readings}
-use Rattle.desk_rows.specs.declared.command.Answer.TheVariants.{Refused}
-use Rattle.desk_rows.specs.declared.command.Outcome.TheVariants.{Answered}
-use Rattle.desk_rows.specs.declared.refusal.DocumentFault.{DocumentFault}
-use Rattle.desk_rows.specs.declared.refusal.Refusal.TheVariants.{BadDocument}
+use Rattle.desk_model.specs.Readings.{Readings}
+use Rattle.desk_model.specs.declared.command.Answer.TheVariants.{Refused}
+use Rattle.desk_model.specs.declared.command.Outcome.TheVariants.{Answered}
+use Rattle.desk_model.specs.declared.refusal.DocumentFault.{DocumentFault}
+use Rattle.desk_model.specs.declared.refusal.Refusal.TheVariants.{BadDocument}
 use Rattle.desk_summary.specs.Proposals.{AreProposals}
 use Rattle.desk_summary.specs.declared.proposals.Proposals.{Proposals}
 use Rattle.desk_tagvalue.specs.Documents.{Spells}

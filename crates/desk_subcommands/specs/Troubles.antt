@@ -1,7 +1,7 @@
 -- Why the database of a file can't be used, by what the desk tells.
-use Rattle.desk_rows.specs.declared.command.Fault.{Fault}
-use Rattle.desk_rows.specs.declared.command.Fault.TheVariants as fault
-use Rattle.desk_rows.specs.declared.command.StoreFault.TheVariants as store
+use Rattle.desk_model.specs.declared.command.Fault.{Fault}
+use Rattle.desk_model.specs.declared.command.Fault.TheVariants as fault
+use Rattle.desk_model.specs.declared.command.StoreFault.TheVariants as store
 use Rattle.desk_subcommands.specs.declared.trouble.Trouble.{Trouble}
 use Rattle.desk_subcommands.specs.declared.trouble.Trouble.TheVariants as trouble
 

@@ -3,7 +3,7 @@
 ghost use Rattle.std.specs.Prelude.{◌≡◌};
 
 use crate::failure::Failure;
-use desk_rows::{Answer, Outcome};
+use desk_model::{Answer, Outcome};
 use desk_script::{Reply, Watch};
 use desk_words::{RefusalWords, RequestTrouble, request_trouble};
 use std::alloc::{AllocError, Global};

@@ -1,9 +1,9 @@
 //! Why a subcommand could not do its work.
 
 use crate::trouble::{PortTrouble, Trouble};
-use desk_rows::Fault;
+use desk_model::Fault;
 use desk_script::ScriptFault;
-use desk_trees::TreeFault;
+use desk_tree_files::TreeFault;
 use std::alloc::AllocError;
 use std::io;
 use thiserror::Error;

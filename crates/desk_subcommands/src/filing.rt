@@ -4,9 +4,9 @@ ghost use Rattle.std.specs.Prelude.{◌≡◌, ◌++◌, ◌∷◌, [], IfOk, If
 ghost use Rattle.std.specs.String.{string_bytes};
 ghost use Rattle.std.specs.Io.KnownBytes.{Appends, Keeps};
 ghost use Rattle.std.specs.Str.{IsUtf8};
-ghost use Rattle.desk_rows.specs.declared.command.Answer.{Answer};
-ghost use Rattle.desk_rows.specs.declared.command.Command.TheVariants.{Import, LoadCatalogue};
-ghost use Rattle.desk_rows.specs.declared.command.Outcome.TheVariants.{Answered, Failed};
+ghost use Rattle.desk_model.specs.declared.command.Answer.{Answer};
+ghost use Rattle.desk_model.specs.declared.command.Command.TheVariants.{Import, LoadCatalogue};
+ghost use Rattle.desk_model.specs.declared.command.Outcome.TheVariants.{Answered, Failed};
 ghost use Rattle.desk_subcommands.specs.Failures.{IfMemory, IsOfOutput, OfRequest};
 ghost use Rattle.desk_subcommands.specs.Filing.{answer_status, Comes, HasFailed, IsAnswered, IsUntold, no_desk_line, no_desk_name, no_text, outcome_line};
 
@@ -14,7 +14,7 @@ use crate::failure::Failure;
 use desk_base::{Items, Text};
 use desk_core::desk::Desk;
 use desk_json::{memory_line, reply_line};
-use desk_rows::{Answer, CatalogueFault, Command, Fault, Outcome, Profile, Refusal};
+use desk_model::{Answer, CatalogueFault, Command, Fault, Outcome, Profile, Refusal};
 use desk_snapshot::AuditFault;
 use std::alloc::{AllocError, Global};
 use std::io::Write;

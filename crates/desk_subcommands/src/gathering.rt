@@ -2,14 +2,14 @@
 
 ghost use Rattle.std.specs.Prelude.{◌≡◌, ℕ, List, IfOk, IfErr};
 ghost use Rattle.std.specs.Io.KnownBytes.{Appends, Keeps};
-ghost use Rattle.desk_gather.specs.Readers.{Reader, IsRightReader};
-ghost use Rattle.desk_tree_texts.specs.Gathering.{IsGathering, IsUnwritable};
+ghost use Rattle.desk_tree_gather.specs.Readers.{Reader, IsRightReader};
+ghost use Rattle.desk_tree_document.specs.Gathering.{IsGathering, IsUnwritable};
 ghost use Rattle.desk_subcommands.specs.Failures.{IfBadValue, IfUntold, IsOfDocument};
 ghost use Rattle.desk_subcommands.specs.Gathering.{gathering_status, Gathers};
 
 use crate::failure::Failure;
-use desk_gather::SourceFile;
-use desk_tree_texts::{Gathering, TextFault, document_of};
+use desk_tree_document::{Gathering, TextFault, document_of};
+use desk_tree_gather::SourceFile;
 use std::alloc::{AllocError, Global};
 use std::io::Write;
 

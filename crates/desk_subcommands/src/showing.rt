@@ -5,8 +5,8 @@ ghost use Rattle.std.specs.Io.KnownBytes.{Appends, Keeps};
 ghost use Rattle.desk_report.specs.Columns.{columns_text};
 ghost use Rattle.desk_report.specs.CsvTable.{table_text};
 ghost use Rattle.desk_report.specs.Lines.{totals_line};
-ghost use Rattle.desk_rows.specs.declared.command.Answer.{Answer};
-ghost use Rattle.desk_rows.specs.declared.command.Outcome.TheVariants.{Answered, Failed};
+ghost use Rattle.desk_model.specs.declared.command.Answer.{Answer};
+ghost use Rattle.desk_model.specs.declared.command.Outcome.TheVariants.{Answered, Failed};
 ghost use Rattle.desk_subcommands.specs.Failures.{IfMemory, IsOfOutput, OfRequest};
 ghost use Rattle.desk_subcommands.specs.Filing.{answer_status, outcome_line};
 ghost use Rattle.desk_subcommands.specs.Showing.{answer_text, Asks, HasFailed, IsShown, IsUntold, outcome_text, shown};
@@ -14,8 +14,8 @@ ghost use Rattle.desk_subcommands.specs.Showing.{answer_text, Asks, HasFailed, I
 use crate::failure::Failure;
 use crate::filing::tell;
 use desk_core::desk::Desk;
+use desk_model::{Answer, DutyLine, Outcome, Query, Totals};
 use desk_report::{changes_text, duties_columns, duties_csv, notices, totals_text};
-use desk_rows::{Answer, DutyLine, Outcome, Query, Totals};
 use std::alloc::{AllocError, Global};
 use std::io::Write;
 

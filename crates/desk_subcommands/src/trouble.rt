@@ -1,6 +1,6 @@
 //! Why a file can't keep a desk, in words that say what to do.
 
-use desk_rows::{Fault, StoreFault};
+use desk_model::{Fault, StoreFault};
 use thiserror::Error;
 
 /// Why the database of a file can't be used.

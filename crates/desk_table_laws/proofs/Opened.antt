@@ -5,8 +5,8 @@ use Rattle.sqlite_catalog.proofs.ReadLemmas.{lists_once}
 use Rattle.sqlite_catalog.specs.Listing.{Lists}
 use Rattle.sqlite_trees.specs.Objects.{catalog_tree}
 use Rattle.sqlite_trees.specs.Tree.{Trees}
-use Rattle.desk_layout.specs.Held.{Holds, seen_of, Stands}
-use Rattle.desk_rows.specs.Tables.{Tables}
+use Rattle.desk_sql_layout.specs.Held.{Holds, seen_of, Stands}
+use Rattle.desk_model.specs.Tables.{Tables}
 use Rattle.desk_table_laws.specs.Opened.{IsOpenedOn}
 
 pub shows : (s : State) (left : Trees) (t : Tables) → IsOpenedOn s left → Stands left t → let seen = seen_of s in seen.holds t

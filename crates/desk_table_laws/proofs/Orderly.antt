@@ -11,30 +11,30 @@ use Rattle.std.proofs.lemmas.List.{length-map}
 use Rattle.std.proofs.lemmas.List.Folds.{list_all-append}
 use Rattle.desk_base.proofs.Bools.{both}
 use Rattle.desk_base.proofs.Numbers.{three}
-use Rattle.desk_rows.specs.Lists.{IsIn}
-use Rattle.desk_rows.specs.Readings.{Readings}
-use Rattle.desk_rows.specs.Keys.{below_by, package_order}
-use Rattle.desk_rows.specs.Texts.{text_below}
-use Rattle.desk_rows.specs.History.{documents, packages, revisions, rule_rows, package_row}
-use Rattle.desk_rows.specs.Raised.{numbered, raised}
-use Rattle.desk_rows.specs.Moves.{all_changes, changes, change_row, change_rows, duties, duty_row, moves, place}
-use Rattle.desk_rows.specs.Tables.{tables}
-use Rattle.desk_rows.specs.declared.row.CatalogueRow.{CatalogueRow}
-use Rattle.desk_rows.specs.declared.row.ChangeRow.{ChangeRow}
-use Rattle.desk_rows.specs.declared.row.DocumentRow.{DocumentRow}
-use Rattle.desk_rows.specs.declared.row.DutyRow.{DutyRow}
-use Rattle.desk_rows.specs.declared.row.Move.{Move}
-use Rattle.desk_rows.specs.declared.row.Owed.{Owed}
-use Rattle.desk_rows.specs.declared.row.PackageRow.{PackageRow}
-use Rattle.desk_rows.specs.declared.command.Command.{Command}
-use Rattle.desk_rows.proofs.Orders.{IsOrder, order_of}
+use Rattle.desk_model.specs.Lists.{IsIn}
+use Rattle.desk_model.specs.Readings.{Readings}
+use Rattle.desk_model.specs.Keys.{below_by, package_order}
+use Rattle.desk_model.specs.Texts.{text_below}
+use Rattle.desk_model.specs.History.{documents, packages, revisions, rule_rows, package_row}
+use Rattle.desk_model.specs.Raised.{numbered, raised}
+use Rattle.desk_model.specs.Moves.{all_changes, changes, change_row, change_rows, duties, duty_row, moves, place}
+use Rattle.desk_model.specs.Tables.{tables}
+use Rattle.desk_model.specs.declared.row.CatalogueRow.{CatalogueRow}
+use Rattle.desk_model.specs.declared.row.ChangeRow.{ChangeRow}
+use Rattle.desk_model.specs.declared.row.DocumentRow.{DocumentRow}
+use Rattle.desk_model.specs.declared.row.DutyRow.{DutyRow}
+use Rattle.desk_model.specs.declared.row.Move.{Move}
+use Rattle.desk_model.specs.declared.row.Owed.{Owed}
+use Rattle.desk_model.specs.declared.row.PackageRow.{PackageRow}
+use Rattle.desk_model.specs.declared.command.Command.{Command}
+use Rattle.desk_model.proofs.Orders.{IsOrder, order_of}
 use Rattle.desk_history.specs.Laws.{Ascends, AreSorted, AreSortedAsListed, Rises}
 use Rattle.desk_history.proofs.Members.{in_cases, in_map, from_map, from_flat_map}
 use Rattle.desk_history_laws.specs.Filters.{document_row, given, imported, packages_of, revision_row, rules_of}
-use Rattle.desk_rows.specs.History.{loaded}
+use Rattle.desk_model.specs.History.{loaded}
 use Rattle.desk_history_laws.specs.Ids.{ListsIds}
-use Rattle.desk_layout.specs.Held.{AreNumbered, AreOrderly, package_below}
-use Rattle.desk_layout.specs.Writable.{have_words}
+use Rattle.desk_sql_layout.specs.Held.{AreNumbered, AreOrderly, package_below}
+use Rattle.desk_sql_layout.specs.Writable.{have_words}
 use Rattle.desk_table_laws.proofs.Writing.{read_have}
 
 -- ---- numbers

@@ -7,24 +7,24 @@ use Rattle.std.proofs.lemmas.Bool.Decides.{nat_tests}
 use Rattle.desk_base.specs.Idstring.{is_idstring, is_idstring_byte}
 use Rattle.desk_base.proofs.Bools.{and_left, and_right, both}
 use Rattle.desk_base.proofs.Numbers.{same_number}
-use Rattle.desk_rows.specs.Lists.{IsIn}
-use Rattle.desk_rows.specs.Readings.{Readings}
-use Rattle.desk_rows.specs.Tables.{Tables}
-use Rattle.desk_rows.specs.Texts.{text_below}
-use Rattle.desk_rows.specs.History.{rules_in, rule_row, packages_in, package_row}
-use Rattle.desk_rows.specs.declared.reading.Catalogue.{Catalogue}
-use Rattle.desk_rows.specs.declared.reading.Document.{Document}
-use Rattle.desk_rows.specs.declared.reading.Package.{Package}
-use Rattle.desk_rows.specs.declared.reading.Rule.{Rule}
-use Rattle.desk_rows.specs.declared.refusal.CatalogueFault.{CatalogueFault}
-use Rattle.desk_rows.specs.declared.refusal.DocumentFault.{DocumentFault}
-use Rattle.desk_rows.specs.declared.command.Command.{Command}
-use Rattle.desk_rows.specs.declared.command.Command.TheVariants.{LoadCatalogue, Import}
+use Rattle.desk_model.specs.Lists.{IsIn}
+use Rattle.desk_model.specs.Readings.{Readings}
+use Rattle.desk_model.specs.Tables.{Tables}
+use Rattle.desk_model.specs.Texts.{text_below}
+use Rattle.desk_model.specs.History.{rules_in, rule_row, packages_in, package_row}
+use Rattle.desk_model.specs.declared.reading.Catalogue.{Catalogue}
+use Rattle.desk_model.specs.declared.reading.Document.{Document}
+use Rattle.desk_model.specs.declared.reading.Package.{Package}
+use Rattle.desk_model.specs.declared.reading.Rule.{Rule}
+use Rattle.desk_model.specs.declared.refusal.CatalogueFault.{CatalogueFault}
+use Rattle.desk_model.specs.declared.refusal.DocumentFault.{DocumentFault}
+use Rattle.desk_model.specs.declared.command.Command.{Command}
+use Rattle.desk_model.specs.declared.command.Command.TheVariants.{LoadCatalogue, Import}
 use Rattle.desk_history.specs.FromTables.{change_for}
 use Rattle.desk_history.specs.Laws.{Rises, ListsInOrder, package_below}
 use Rattle.desk_history_laws.specs.Ids.{ListsIds}
-use Rattle.desk_layout.specs.Cells.{is_word}
-use Rattle.desk_layout.specs.Writable.{rise, are_of, have_words, is_writable}
+use Rattle.desk_sql_layout.specs.Cells.{is_word}
+use Rattle.desk_sql_layout.specs.Writable.{rise, are_of, have_words, is_writable}
 
 -- ---- codes
 

@@ -1,20 +1,20 @@
 //! Laws of a desk's tables as a file keeps them, each the contract of a function with an empty body.
 //!
-//! A database holds tables in the order that look-ups by key and number rest on (`AreOrderly` of `desk_layout`), and of a change it
+//! A database holds tables in the order that look-ups by key and number rest on (`AreOrderly` of `desk_sql_layout`), and of a change it
 //! writes only one that the tables give back as it was (`is_writable`). Here stands that no history leaves tables of another form and
 //! that no command needs another change, where the reading of texts lists in order and names duties by ids, as each right reading does
 //! (`right_readings_give_orderly_tables`). What a stop leaves of a desk, opened again, shows its tables (`what_a_stop_leaves_opens_again`).
 #![tactic(auto)]
 
 ghost use Rattle.std.specs.Prelude.{◌≡◌, true, List};
-ghost use Rattle.desk_rows.specs.Readings.{Readings};
-ghost use Rattle.desk_rows.specs.Tables.{tables, Tables};
-ghost use Rattle.desk_rows.specs.declared.command.Command.{Command};
+ghost use Rattle.desk_model.specs.Readings.{Readings};
+ghost use Rattle.desk_model.specs.Tables.{tables, Tables};
+ghost use Rattle.desk_model.specs.declared.command.Command.{Command};
 ghost use Rattle.desk_history.specs.FromTables.{change_for};
 ghost use Rattle.desk_history.specs.Laws.{ListsInOrder};
 ghost use Rattle.desk_history_laws.specs.Ids.{ListsIds};
-ghost use Rattle.desk_layout.specs.Held.{AreOrderly, seen_of, Stands};
-ghost use Rattle.desk_layout.specs.Writable.{is_writable};
+ghost use Rattle.desk_sql_layout.specs.Held.{AreOrderly, seen_of, Stands};
+ghost use Rattle.desk_sql_layout.specs.Writable.{is_writable};
 ghost use Rattle.desk_texts.specs.Right.{AreRight};
 ghost use Rattle.desk_table_laws.specs.Opened.{IsOpenedOn};
 ghost use Rattle.sqlite.specs.Held.{state};
@@ -46,8 +46,8 @@ pub fn right_readings_give_orderly_tables()
     ensures changes { (w : Readings) (t : Tables) (c : Command) → AreRight w
         → is_writable (change_for w t c) ≡ true }
 {
-    desk_right::right_readings_list_in_order();
-    desk_right::right_readings_list_ids();
+    desk_texts_laws::right_readings_list_in_order();
+    desk_texts_laws::right_readings_list_ids();
     tables_are_orderly();
     changes_can_be_written();
 }

@@ -8,24 +8,24 @@ use Rattle.std.proofs.lemmas.Bool.Decides.{nat_tests}
 use Rattle.std.proofs.lemmas.List.{length-map}
 use Rattle.desk_base.specs.Day.{is_day}
 use Rattle.desk_base.specs.Limits as most
-use Rattle.desk_rows.specs.Lists.{IsIn, or_else}
-use Rattle.desk_rows.specs.Readings.{Readings}
-use Rattle.desk_rows.specs.History.{form_of, form_given, state_of, opened, place_in}
-use Rattle.desk_rows.specs.Raised.{raised, owed_at}
-use Rattle.desk_rows.specs.Moves.{duties, duty_row, place}
-use Rattle.desk_rows.specs.Tables.{tables, release_row, release_rows}
-use Rattle.desk_rows.specs.Answers.{IsHistory, is_recorded, Freezing, freezing, refused_first, unless, unready}
-use Rattle.desk_rows.specs.declared.row.Owed.{Owed}
-use Rattle.desk_rows.specs.declared.row.ReleaseRow.{ReleaseRow}
-use Rattle.desk_rows.specs.declared.state.DutyState.{DutyState}
-use Rattle.desk_rows.specs.declared.state.ReleaseState.{ReleaseState}
-use Rattle.desk_rows.specs.declared.refusal.Limit.TheVariants as limit
-use Rattle.desk_rows.specs.declared.refusal.Refusal.{Refusal}
-use Rattle.desk_rows.specs.declared.refusal.Refusal.TheVariants as why
-use Rattle.desk_rows.specs.declared.command.Answer.{Answer}
-use Rattle.desk_rows.specs.declared.command.Answer.TheVariants as answered
-use Rattle.desk_rows.specs.declared.command.Command.{Command}
-use Rattle.desk_rows.specs.declared.command.Command.TheVariants.{OpenRelease, Freeze}
+use Rattle.desk_model.specs.Lists.{IsIn, or_else}
+use Rattle.desk_model.specs.Readings.{Readings}
+use Rattle.desk_model.specs.History.{form_of, form_given, state_of, opened, place_in}
+use Rattle.desk_model.specs.Raised.{raised, owed_at}
+use Rattle.desk_model.specs.Moves.{duties, duty_row, place}
+use Rattle.desk_model.specs.Tables.{tables, release_row, release_rows}
+use Rattle.desk_model.specs.Answers.{IsHistory, is_recorded, Freezing, freezing, refused_first, unless, unready}
+use Rattle.desk_model.specs.declared.row.Owed.{Owed}
+use Rattle.desk_model.specs.declared.row.ReleaseRow.{ReleaseRow}
+use Rattle.desk_model.specs.declared.state.DutyState.{DutyState}
+use Rattle.desk_model.specs.declared.state.ReleaseState.{ReleaseState}
+use Rattle.desk_model.specs.declared.refusal.Limit.TheVariants as limit
+use Rattle.desk_model.specs.declared.refusal.Refusal.{Refusal}
+use Rattle.desk_model.specs.declared.refusal.Refusal.TheVariants as why
+use Rattle.desk_model.specs.declared.command.Answer.{Answer}
+use Rattle.desk_model.specs.declared.command.Answer.TheVariants as answered
+use Rattle.desk_model.specs.declared.command.Command.{Command}
+use Rattle.desk_model.specs.declared.command.Command.TheVariants.{OpenRelease, Freeze}
 use Rattle.desk_history.proofs.Lookups.{length-releases, release_found-tables}
 use Rattle.desk_history.proofs.Members.{in_cases}
 use Rattle.desk_history.proofs.OwnKeys.{owed_release}

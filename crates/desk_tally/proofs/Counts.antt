@@ -4,10 +4,10 @@ use Rattle.std.specs.Prelude.{count_by, ◌&&◌, ◌==◌, ◌⊎◌, slice_get
 use Rattle.std.proofs.lemmas.List.Sums.{sum_by-cons, sum_by-append, count_by-le-length}
 use Rattle.std.proofs.lemmas.List.Folds.{sum_by-replicate, list_all-append}
 use Rattle.std.proofs.lemmas.Bool.Decides.{nat_tests}
-use Rattle.desk_rows.specs.States.{is_open, is_met, is_waived, is_withdrawn}
-use Rattle.desk_rows.specs.declared.state.DutyState.{DutyState}
-use Rattle.desk_rows.specs.declared.state.DutyState.TheVariants.{IsOpen, Met, Waived, Withdrawn}
-use Rattle.desk_rows.specs.declared.command.Totals.{Totals}
+use Rattle.desk_model.specs.States.{is_open, is_met, is_waived, is_withdrawn}
+use Rattle.desk_model.specs.declared.state.DutyState.{DutyState}
+use Rattle.desk_model.specs.declared.state.DutyState.TheVariants.{IsOpen, Met, Waived, Withdrawn}
+use Rattle.desk_model.specs.declared.command.Totals.{Totals}
 use Rattle.desk_tally.specs.Numbers.{number_of, one_if}
 use Rattle.desk_tally.specs.Totals.{totals_in}
 use Rattle.desk_tally.specs.Stands.{is_of, is_in, totals_at, AreTallied, is_within, are_placed, are_duties, open_at, at_state, shifted}

@@ -3,13 +3,13 @@ use Rattle.std.proofs.Common.{◌≡◌, ◌≢◌, ℕ, ◌+◌, Bool, true, fa
 use Rattle.std.specs.Prelude.{count_by, filter, ◌&&◌, ◌==◌, unwrap_or}
 use Rattle.std.specs.Str.{bytes_eq}
 use Rattle.std.proofs.lemmas.Bool.Decides.{nat_tests}
-use Rattle.desk_rows.specs.Keys.{is_duty_of}
-use Rattle.desk_rows.specs.Queries.{totals_of}
-use Rattle.desk_rows.specs.States.{is_open, is_met, is_waived, is_withdrawn}
-use Rattle.desk_rows.specs.Tables.{Tables}
-use Rattle.desk_rows.specs.declared.row.DutyRow.{DutyRow}
-use Rattle.desk_rows.specs.declared.row.ReleaseRow.{ReleaseRow}
-use Rattle.desk_rows.specs.declared.state.DutyState.{DutyState}
+use Rattle.desk_model.specs.Keys.{is_duty_of}
+use Rattle.desk_model.specs.Queries.{totals_of}
+use Rattle.desk_model.specs.States.{is_open, is_met, is_waived, is_withdrawn}
+use Rattle.desk_model.specs.Tables.{Tables}
+use Rattle.desk_model.specs.declared.row.DutyRow.{DutyRow}
+use Rattle.desk_model.specs.declared.row.ReleaseRow.{ReleaseRow}
+use Rattle.desk_model.specs.declared.state.DutyState.{DutyState}
 use Rattle.desk_tally.specs.Numbers.{one_if}
 use Rattle.desk_tally.specs.Stands.{is_of, is_in, totals_at}
 use Rattle.desk_tally.specs.Kept.{IsKept, ArePlaces, place_found, stand_of}

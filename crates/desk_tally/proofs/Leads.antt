@@ -1,15 +1,15 @@
 -- The step of a change leads to the tables after it.
 use Rattle.std.proofs.Common.{◌≡◌, ℕ, ◌+◌, true, List, ◌++◌, length, map, replicate, Option, Some, refl, sym, ap, ◌∙◌, arith, subst}
 use Rattle.std.proofs.lemmas.List.{map-append, length-map}
-use Rattle.desk_rows.specs.Lists.{put, updated}
-use Rattle.desk_rows.specs.Keys.{is_release, release_below}
-use Rattle.desk_rows.specs.Tables.{Tables, applied, moved_by, with_release_state, withdrawn_release}
-use Rattle.desk_rows.specs.declared.state.ReleaseState.TheVariants.{Frozen}
-use Rattle.desk_rows.specs.declared.row.ReleaseRow.{ReleaseRow}
-use Rattle.desk_rows.specs.declared.row.DutyRow.{DutyRow}
-use Rattle.desk_rows.specs.declared.row.ChangeRow.{ChangeRow}
-use Rattle.desk_rows.specs.declared.command.Change.{Change}
-use Rattle.desk_rows.specs.declared.command.Change.TheVariants as change
+use Rattle.desk_model.specs.Lists.{put, updated}
+use Rattle.desk_model.specs.Keys.{is_release, release_below}
+use Rattle.desk_model.specs.Tables.{Tables, applied, moved_by, with_release_state, withdrawn_release}
+use Rattle.desk_model.specs.declared.state.ReleaseState.TheVariants.{Frozen}
+use Rattle.desk_model.specs.declared.row.ReleaseRow.{ReleaseRow}
+use Rattle.desk_model.specs.declared.row.DutyRow.{DutyRow}
+use Rattle.desk_model.specs.declared.row.ChangeRow.{ChangeRow}
+use Rattle.desk_model.specs.declared.command.Change.{Change}
+use Rattle.desk_model.specs.declared.command.Change.TheVariants as change
 use Rattle.desk_history.specs.Laws.{Ascends}
 use Rattle.desk_access.specs.Follows.{are_numbered}
 use Rattle.desk_tally.specs.Stands.{are_placed, stands_after, count_after, shift_of, are_duties, shifted, open_at}

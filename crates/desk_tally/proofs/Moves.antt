@@ -3,15 +3,15 @@ use Rattle.std.proofs.Common.{◌≡◌, ℕ, zero, suc, ◌+◌, ◌-◌, ◌<�
 use Rattle.std.specs.Prelude.{if◌then◌else◌, ◌&&◌, ◌==◌, unwrap_or}
 use Rattle.std.specs.Str.{bytes_eq}
 use Rattle.std.proofs.lemmas.Bool.Decides.{nat_tests}
-use Rattle.desk_rows.specs.Lists.{updated}
-use Rattle.desk_rows.specs.Keys.{is_duty}
-use Rattle.desk_rows.specs.States.{is_open, state_after}
-use Rattle.desk_rows.specs.Tables.{moved_by, with_duty_state}
-use Rattle.desk_rows.specs.declared.row.ReleaseRow.{ReleaseRow}
-use Rattle.desk_rows.specs.declared.row.DutyRow.{DutyRow}
-use Rattle.desk_rows.specs.declared.row.ChangeRow.{ChangeRow}
-use Rattle.desk_rows.specs.declared.state.DutyState.{DutyState}
-use Rattle.desk_rows.specs.declared.state.DutyState.TheVariants.{IsOpen, Met, Waived, Withdrawn}
+use Rattle.desk_model.specs.Lists.{updated}
+use Rattle.desk_model.specs.Keys.{is_duty}
+use Rattle.desk_model.specs.States.{is_open, state_after}
+use Rattle.desk_model.specs.Tables.{moved_by, with_duty_state}
+use Rattle.desk_model.specs.declared.row.ReleaseRow.{ReleaseRow}
+use Rattle.desk_model.specs.declared.row.DutyRow.{DutyRow}
+use Rattle.desk_model.specs.declared.row.ChangeRow.{ChangeRow}
+use Rattle.desk_model.specs.declared.state.DutyState.{DutyState}
+use Rattle.desk_model.specs.declared.state.DutyState.TheVariants.{IsOpen, Met, Waived, Withdrawn}
 use Rattle.desk_access.specs.Follows.{are_numbered}
 use Rattle.desk_tally.specs.Stands.{is_within, at_state, shifted, are_duties, shift_of, open_at}
 use Rattle.desk_tally.specs.Kept.{place_found, stand_of, are_raised}

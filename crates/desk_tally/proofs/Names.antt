@@ -8,11 +8,11 @@ use Rattle.std.specs.Cmp.Lexicographic.{slice_cmp}
 use Rattle.std.specs.declared.cmp.Ordering.{Ordering}
 use Rattle.std.specs.declared.cmp.Ordering.TheVariants.{Less, Equal, Greater}
 use Rattle.std.proofs.lemmas.Cmp.{nat_list_cmp_total}
-use Rattle.desk_rows.specs.Texts.{text_below}
-use Rattle.desk_rows.specs.Lists.{put, updated, or_else, IsIn}
-use Rattle.desk_rows.specs.Keys.{is_release, release_below}
-use Rattle.desk_rows.specs.declared.row.ReleaseRow.{ReleaseRow}
-use Rattle.desk_rows.specs.declared.row.DutyRow.{DutyRow}
+use Rattle.desk_model.specs.Texts.{text_below}
+use Rattle.desk_model.specs.Lists.{put, updated, or_else, IsIn}
+use Rattle.desk_model.specs.Keys.{is_release, release_below}
+use Rattle.desk_model.specs.declared.row.ReleaseRow.{ReleaseRow}
+use Rattle.desk_model.specs.declared.row.DutyRow.{DutyRow}
 use Rattle.desk_history.specs.Laws.{Ascends}
 use Rattle.desk_tally.specs.Stands.{is_within, are_placed}
 use Rattle.desk_tally.specs.Kept.{place_found, stand_of, ArePlaces}

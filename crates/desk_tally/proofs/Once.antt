@@ -2,16 +2,16 @@
 use Rattle.std.proofs.Common.{◌≡◌, ℕ, ◌+◌, ◌≤◌, Bool, true, false, List, [], ◌∷◌, length, map, refl, sym, ap, ◌∙◌, arith}
 use Rattle.std.specs.Prelude.{if◌then◌else◌, ◌&&◌, ◌||◌, ◌==◌, not}
 use Rattle.std.proofs.lemmas.Bool.Decides.{nat_tests}
-use Rattle.desk_rows.specs.Lists.{put}
-use Rattle.desk_rows.specs.Keys.{release_below}
-use Rattle.desk_rows.specs.Readings.{Readings}
-use Rattle.desk_rows.specs.Tables.{Tables, release_row, release_rows}
-use Rattle.desk_rows.specs.History.{opened, names, place_in}
-use Rattle.desk_rows.specs.Answers.{IsHistory}
-use Rattle.desk_rows.specs.declared.row.ReleaseRow.{ReleaseRow}
-use Rattle.desk_rows.specs.declared.state.ReleaseState.TheVariants.{IsOpen}
-use Rattle.desk_rows.specs.declared.command.Command.{Command}
-use Rattle.desk_rows.specs.declared.command.Command.TheVariants.{OpenRelease}
+use Rattle.desk_model.specs.Lists.{put}
+use Rattle.desk_model.specs.Keys.{release_below}
+use Rattle.desk_model.specs.Readings.{Readings}
+use Rattle.desk_model.specs.Tables.{Tables, release_row, release_rows}
+use Rattle.desk_model.specs.History.{opened, names, place_in}
+use Rattle.desk_model.specs.Answers.{IsHistory}
+use Rattle.desk_model.specs.declared.row.ReleaseRow.{ReleaseRow}
+use Rattle.desk_model.specs.declared.state.ReleaseState.TheVariants.{IsOpen}
+use Rattle.desk_model.specs.declared.command.Command.{Command}
+use Rattle.desk_model.specs.declared.command.Command.TheVariants.{OpenRelease}
 use Rattle.desk_history.proofs.Steps.{recorded-rows}
 use Rattle.desk_history.proofs.Lookups.{length-releases}
 use Rattle.desk_tally.specs.Stands.{is_within, are_places}

@@ -5,9 +5,9 @@ use Rattle.std.specs.Option.{option_map}
 use Rattle.std.specs.Str.{bytes_eq}
 use Rattle.std.proofs.lemmas.Bool.Decides.{nat_tests}
 use Rattle.std.proofs.lemmas.List.{length-map}
-use Rattle.desk_rows.specs.Keys.{is_release}
-use Rattle.desk_rows.specs.Tables.{Tables}
-use Rattle.desk_rows.specs.declared.row.ReleaseRow.{ReleaseRow}
+use Rattle.desk_model.specs.Keys.{is_release}
+use Rattle.desk_model.specs.Tables.{Tables}
+use Rattle.desk_model.specs.declared.row.ReleaseRow.{ReleaseRow}
 use Rattle.desk_tally.specs.Stands.{is_within, are_places}
 use Rattle.desk_tally.specs.Kept.{AreCounted, IsKept, place_found}
 use Rattle.desk_tally.specs.declared.stand.Stand.{Stand}

@@ -1,9 +1,9 @@
 -- A step that is planned leads to the tables after its change.
 use Rattle.std.proofs.Common.{◌≡◌, ℕ, List, length, Option, Some, None, Ok, Err, Result, sym, subst}
 use Rattle.std.specs.Prelude.{IfOk, IfSome}
-use Rattle.desk_rows.specs.Keys.{release_below}
-use Rattle.desk_rows.specs.Tables.{Tables, applied}
-use Rattle.desk_rows.specs.declared.command.Change.{Change}
+use Rattle.desk_model.specs.Keys.{release_below}
+use Rattle.desk_model.specs.Tables.{Tables, applied}
+use Rattle.desk_model.specs.declared.command.Change.{Change}
 use Rattle.desk_history.specs.Laws.{Ascends}
 use Rattle.desk_tally.specs.Stands.{count_after, stands_after}
 use Rattle.desk_tally.specs.Kept.{AreKept, IsKept, IsPlaceFor, IsStep, LeadsTo}

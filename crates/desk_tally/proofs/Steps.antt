@@ -6,14 +6,14 @@ use Rattle.std.specs.Str.{bytes_eq}
 use Rattle.std.proofs.lemmas.Bool.Decides.{nat_tests}
 use Rattle.std.proofs.lemmas.List.{length-map}
 use Rattle.desk_base.proofs.Bools.{and_left, and_right, both}
-use Rattle.desk_rows.specs.Keys.{is_duty, is_duty_of}
-use Rattle.desk_rows.specs.States.{is_open}
-use Rattle.desk_rows.specs.Tables.{Tables}
-use Rattle.desk_rows.specs.declared.row.ChangeRow.{ChangeRow}
-use Rattle.desk_rows.specs.declared.row.DutyRow.{DutyRow}
-use Rattle.desk_rows.specs.declared.row.ReleaseRow.{ReleaseRow}
-use Rattle.desk_rows.specs.declared.command.Change.{Change}
-use Rattle.desk_rows.specs.declared.command.Change.TheVariants as change
+use Rattle.desk_model.specs.Keys.{is_duty, is_duty_of}
+use Rattle.desk_model.specs.States.{is_open}
+use Rattle.desk_model.specs.Tables.{Tables}
+use Rattle.desk_model.specs.declared.row.ChangeRow.{ChangeRow}
+use Rattle.desk_model.specs.declared.row.DutyRow.{DutyRow}
+use Rattle.desk_model.specs.declared.row.ReleaseRow.{ReleaseRow}
+use Rattle.desk_model.specs.declared.command.Change.{Change}
+use Rattle.desk_model.specs.declared.command.Change.TheVariants as change
 use Rattle.desk_history.specs.FromTables.{duty_found, release_found}
 use Rattle.desk_access.specs.Follows.{Follows, are_numbered, are_of_duties, are_open_of}
 use Rattle.desk_tally.specs.Stands.{are_duties, is_within, shift_of}

@@ -4,14 +4,14 @@ use Rattle.std.specs.Vec.{vec_capacity}
 use Rattle.std.specs.Option.{option_map}
 use Rattle.std.specs.Str.{bytes_eq}
 use Rattle.desk_base.specs.Limits as most
-use Rattle.desk_rows.specs.Keys.{is_release}
-use Rattle.desk_rows.specs.States.{is_open}
-use Rattle.desk_rows.specs.Tables.{Tables}
-use Rattle.desk_rows.specs.declared.row.ChangeRow.{ChangeRow}
-use Rattle.desk_rows.specs.declared.row.DutyRow.{DutyRow}
-use Rattle.desk_rows.specs.declared.row.ReleaseRow.{ReleaseRow}
-use Rattle.desk_rows.specs.declared.command.Change.{Change}
-use Rattle.desk_rows.specs.declared.command.Change.TheVariants as change
+use Rattle.desk_model.specs.Keys.{is_release}
+use Rattle.desk_model.specs.States.{is_open}
+use Rattle.desk_model.specs.Tables.{Tables}
+use Rattle.desk_model.specs.declared.row.ChangeRow.{ChangeRow}
+use Rattle.desk_model.specs.declared.row.DutyRow.{DutyRow}
+use Rattle.desk_model.specs.declared.row.ReleaseRow.{ReleaseRow}
+use Rattle.desk_model.specs.declared.command.Change.{Change}
+use Rattle.desk_model.specs.declared.command.Change.TheVariants as change
 use Rattle.desk_access.specs.Follows.{Follows, are_numbered}
 use Rattle.desk_tally.specs.Stands.{are_duties, are_placed, are_places, stands_after, count_after, shift_of}
 use Rattle.desk_tally.specs.declared.stand.Stand.{Stand}

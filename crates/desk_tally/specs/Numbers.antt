@@ -1,8 +1,8 @@
 -- The numbers of duties by state.
 use Rattle.std.specs.Prelude.{ℕ, Bool, if◌then◌else◌}
-use Rattle.desk_rows.specs.declared.state.DutyState.{DutyState}
-use Rattle.desk_rows.specs.declared.state.DutyState.TheVariants as stands
-use Rattle.desk_rows.specs.declared.command.Totals.{Totals}
+use Rattle.desk_model.specs.declared.state.DutyState.{DutyState}
+use Rattle.desk_model.specs.declared.state.DutyState.TheVariants as stands
+use Rattle.desk_model.specs.declared.command.Totals.{Totals}
 
 abbrev pub one_if : Bool → ℕ
 one_if so = if so then 1 else 0

@@ -1,11 +1,11 @@
 -- Where duties stand, by number: what is counted of them, and what each step does to them.
 use Rattle.std.specs.Prelude.{◌≡◌, ℕ, zero, suc, ◌+◌, ◌-◌, ◌==◌, ◌&&◌, ◌||◌, not, nat_le, Bool, true, List, [], ◌∷◌, ◌++◌, replicate, count_by, Some, slice_get}
 use Rattle.std.specs.List.{list_all}
-use Rattle.desk_rows.specs.States.{is_open, is_met, is_waived, is_withdrawn, state_after}
-use Rattle.desk_rows.specs.declared.state.DutyState.{DutyState}
-use Rattle.desk_rows.specs.declared.state.DutyState.TheVariants.{IsOpen}
-use Rattle.desk_rows.specs.declared.row.ChangeRow.{ChangeRow}
-use Rattle.desk_rows.specs.declared.command.Totals.{Totals}
+use Rattle.desk_model.specs.States.{is_open, is_met, is_waived, is_withdrawn, state_after}
+use Rattle.desk_model.specs.declared.state.DutyState.{DutyState}
+use Rattle.desk_model.specs.declared.state.DutyState.TheVariants.{IsOpen}
+use Rattle.desk_model.specs.declared.row.ChangeRow.{ChangeRow}
+use Rattle.desk_model.specs.declared.command.Totals.{Totals}
 use Rattle.desk_tally.specs.Totals.{totals_in}
 use Rattle.desk_tally.specs.declared.stand.Stand.{Stand}
 use Rattle.desk_tally.specs.declared.stand.Shift.{Shift}

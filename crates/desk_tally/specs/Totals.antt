@@ -1,5 +1,5 @@
 -- A tally's numbers.
-use Rattle.desk_rows.specs.declared.command.Totals.{Totals}
+use Rattle.desk_model.specs.declared.command.Totals.{Totals}
 use Rattle.desk_tally.specs.declared.tally.Tally.{Tally}
 
 abbrev pub totals_in : Tally → Totals

@@ -1,13 +1,13 @@
 //! What changes of the rows say of duties.
 
 ghost use Rattle.std.specs.Prelude.{◌≡◌, true, IfNone, IfOk, IfSome, map};
-ghost use Rattle.desk_rows.specs.States.{state_after};
+ghost use Rattle.desk_model.specs.States.{state_after};
 ghost use Rattle.desk_tally.specs.Stands.{are_duties, shift_of};
 ghost use Rattle.desk_tally.specs.Kept.{are_raised};
 
 use crate::stand::Shift;
 use desk_base::Items;
-use desk_rows::{ChangeRow, DutyRow, DutyState, Word};
+use desk_model::{ChangeRow, DutyRow, DutyState, Word};
 use std::alloc::{AllocError, Global};
 
 /// Where a change with this word leaves a duty.

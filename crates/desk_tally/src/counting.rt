@@ -9,7 +9,7 @@ ghost use Rattle.desk_tally.specs.Kept.{place_found, stand_of};
 use crate::lists::{move_at, raise_at};
 use crate::stand::Stand;
 use crate::tally::Tally;
-use desk_rows::{DutyRow, DutyState, ReleaseRow};
+use desk_model::{DutyRow, DutyState, ReleaseRow};
 use std::alloc::{AllocError, Global};
 
 /// Whether these are the places from 1 to their number, in any order.

@@ -9,7 +9,7 @@ ghost use Rattle.desk_tally.specs.Stands.{AreTallied, are_placed, are_duties, at
 
 use crate::stand::{Shift, Stand};
 use crate::tally::Tally;
-use desk_rows::DutyState;
+use desk_model::DutyState;
 
 /// The tally at an index.
 pub(crate) fn tally_at(tallies: &[Tally], index: usize) -> Option<&Tally>

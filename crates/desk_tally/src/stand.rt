@@ -1,7 +1,7 @@
 //! Where duties stand, and where they go.
 
 use desk_base::Items;
-use desk_rows::DutyState;
+use desk_model::DutyState;
 
 /// Where a duty stands: the place of its release, from 1, and its state.
 #[derive(Clone, Copy, Debug, PartialEq, Eq)]

@@ -9,7 +9,7 @@ use crate::lists::{push_open, raise_at, shift_all, tally_at};
 use crate::stand::{Shift, Stand, Step};
 use crate::tally::Tally;
 use desk_base::limits;
-use desk_rows::{Change, ChangeRow, DutyRow, ReleaseRow, Totals};
+use desk_model::{Change, ChangeRow, DutyRow, ReleaseRow, Totals};
 use std::alloc::{AllocError, Global};
 
 /// The tallies of all releases by their places, and where each duty stands by its number, both from 1. There are at most 100,000
@@ -26,9 +26,9 @@ pub struct Tallies {
 
 impl Tallies {
     ghost use Rattle.std.specs.Prelude.{List, [], filter, false, IfOk, IfSome, IfNone};
-    ghost use Rattle.desk_rows.specs.Keys.{is_duty_of};
-    ghost use Rattle.desk_rows.specs.Queries.{totals_of};
-    ghost use Rattle.desk_rows.specs.Tables.{Tables};
+    ghost use Rattle.desk_model.specs.Keys.{is_duty_of};
+    ghost use Rattle.desk_model.specs.Queries.{totals_of};
+    ghost use Rattle.desk_model.specs.Tables.{Tables};
     ghost use Rattle.desk_tally.specs.Kept.{place_found, AreKept, AreCounted, are_countable, can_count};
 
     /// Those of no releases.
@@ -106,8 +106,8 @@ impl Tallies {
 impl Tallies {
     ghost use Rattle.std.specs.Prelude.{◌<◌, ◌++◌, vec_len, List, IfNone, IfOk, IfSome, Option, map, replicate};
     ghost use Rattle.std.specs.Vec.{vec_capacity};
-    ghost use Rattle.desk_rows.specs.Keys.{release_below};
-    ghost use Rattle.desk_rows.specs.Tables.{Tables, applied};
+    ghost use Rattle.desk_model.specs.Keys.{release_below};
+    ghost use Rattle.desk_model.specs.Tables.{Tables, applied};
     ghost use Rattle.desk_history.specs.Laws.{Ascends};
     ghost use Rattle.desk_tally.specs.Stands.{are_duties, count_after, open_at, shift_of, shifted, stands_after};
     ghost use Rattle.desk_tally.specs.Kept.{AreKept, CanRaise, Fits, HasStep, IsAstray, IsPlaceFor, IsStep, IsRaise, IsMove, LeadsTo};

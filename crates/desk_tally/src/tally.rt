@@ -1,10 +1,10 @@
 //! How many duties of one release stand where.
 
 ghost use Rattle.std.specs.Prelude.{◌≡◌, ℕ, ◌+◌, ◌≤◌};
-ghost use Rattle.desk_rows.specs.States.{is_open, is_met, is_waived, is_withdrawn};
+ghost use Rattle.desk_model.specs.States.{is_open, is_met, is_waived, is_withdrawn};
 ghost use Rattle.desk_tally.specs.Numbers.{number_of, one_if};
 
-use desk_rows::{DutyState, Totals};
+use desk_model::{DutyState, Totals};
 
 /// How many duties of a release were raised, and how many of these stand where.
 #[derive(Clone, Copy, Debug, PartialEq, Eq)]

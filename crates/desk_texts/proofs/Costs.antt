@@ -23,7 +23,7 @@ use Rattle.desk_alts.specs.Costs.{HasCosts, set_cost, IsCheapest, HasNoCosts}
 use Rattle.desk_alts.proofs.SetLemmas.{head_below, sorted_consed, sorted_none}
 use Rattle.desk_alts.proofs.CostLemmas.{subset_costs, subset_first, up_to}
 use Rattle.desk_alts.proofs.Choosing.{holds_on_leaves, is_listed}
-use Rattle.desk_rows.specs.Listings.{IsCost, at_most}
+use Rattle.desk_model.specs.Listings.{IsCost, at_most}
 use Rattle.desk_alts.specs.Faults.{IsListable}
 use Rattle.desk_base.specs.declared.profile.Profile.{Profile}
 use Rattle.desk_texts.specs.Expressions.{IsExpression}

@@ -5,7 +5,7 @@ use Rattle.std.specs.Str.{bytes_eq}
 use Rattle.std.proofs.lemmas.List.{take-append-drop, map-append, length-map}
 use Rattle.std.proofs.Math.ListN.{get_or-map}
 use Rattle.std.proofs.lemmas.Slice.Eq.{bytes_eq-Decides}
-use Rattle.desk_rows.specs.Texts.{text_below}
+use Rattle.desk_model.specs.Texts.{text_below}
 use Rattle.desk_texts.specs.Documents.{put_by, sorted_by}
 use Rattle.desk_texts.specs.Rising.{Each, Rises, IsLower, is_below_first}
 use Rattle.desk_texts.proofs.Orders.{below_trans, below_asym, same_text, below_self}

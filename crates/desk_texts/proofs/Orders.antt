@@ -6,8 +6,8 @@ use Rattle.std.specs.declared.cmp.Ordering.{Ordering}
 use Rattle.std.specs.declared.cmp.Ordering.TheVariants.{Less, Equal, Greater}
 use Rattle.std.proofs.lemmas.Cmp.{nat_list_cmp_total}
 use Rattle.std.proofs.lemmas.Map.Lookups.{exact_bytes}
-use Rattle.desk_rows.specs.Texts.{text_below}
-use Rattle.desk_rows.proofs.Orders.{less_by}
+use Rattle.desk_model.specs.Texts.{text_below}
+use Rattle.desk_model.proofs.Orders.{less_by}
 
 pub below_trans : (x y z : List ℕ) → text_below x y ≡ true → text_below y z ≡ true → text_below x z ≡ true
 below_trans x y z e f = ap is_lt (nat_list_cmp_total.trans x y z (less_by (slice_cmp nat_cmp x y) e) (less_by (slice_cmp nat_cmp y z) f))

@@ -4,11 +4,11 @@ use Rattle.std.specs.Prelude.{Result}
 use Rattle.desk_base.specs.declared.profile.Profile.{Profile}
 use Rattle.desk_expr.specs.Tree.{Tree}
 use Rattle.desk_access.specs.Reading.{TellsExpression}
-use Rattle.desk_rows.specs.Readings.{Readings}
-use Rattle.desk_rows.specs.declared.reading.Cheapest.{Cheapest}
-use Rattle.desk_rows.specs.declared.reading.ListFault.{ListFault}
-use Rattle.desk_rows.specs.declared.reading.Verdict.{Verdict}
-use Rattle.desk_rows.specs.declared.reading.Verdict.TheVariants.{NotEnough}
+use Rattle.desk_model.specs.Readings.{Readings}
+use Rattle.desk_model.specs.declared.reading.Cheapest.{Cheapest}
+use Rattle.desk_model.specs.declared.reading.ListFault.{ListFault}
+use Rattle.desk_model.specs.declared.reading.Verdict.{Verdict}
+use Rattle.desk_model.specs.declared.reading.Verdict.TheVariants.{NotEnough}
 use Rattle.desk_texts.specs.Expressions.{IsExpression, IsRead, Judges, JudgesTerms}
 use Rattle.desk_texts.specs.Listings.{AreTermTexts, IsListing, IsPriced}
 use Rattle.desk_texts.specs.Right.{AreRight}

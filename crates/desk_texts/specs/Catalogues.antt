@@ -2,10 +2,10 @@
 use Rattle.std.specs.Prelude.{◌≡◌, ℕ, List, Option, Result, Ok, Err}
 use Rattle.std.specs.Option.{option_map, option_and_then}
 use Rattle.std.specs.Result.{result_ok}
-use Rattle.desk_rows.specs.Readings.{Readings}
-use Rattle.desk_rows.specs.declared.reading.Catalogue.{Catalogue}
-use Rattle.desk_rows.specs.declared.reading.LicenceText.{LicenceText}
-use Rattle.desk_rows.specs.declared.refusal.CatalogueFault.{CatalogueFault}
+use Rattle.desk_model.specs.Readings.{Readings}
+use Rattle.desk_model.specs.declared.reading.Catalogue.{Catalogue}
+use Rattle.desk_model.specs.declared.reading.LicenceText.{LicenceText}
+use Rattle.desk_model.specs.declared.refusal.CatalogueFault.{CatalogueFault}
 use Rattle.desk_catalogue.specs.Lookup.{text_for}
 use Rattle.desk_catalogue.specs.Reading.{catalogue_of}
 use Rattle.desk_catalogue.specs.declared.catalogue.Catalogue.{Catalogue as WholeCatalogue}

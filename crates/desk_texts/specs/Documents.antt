@@ -5,12 +5,12 @@ use Rattle.desk_bom.specs.Shipping.{AreShippingMarks}
 use Rattle.desk_fields.specs.declared.fault.DocFault.{DocFault}
 use Rattle.desk_fields.specs.declared.fault.DocFault.TheVariants as doc
 use Rattle.desk_fields.specs.Tags.{tag_name}
-use Rattle.desk_rows.specs.Texts.{text_below}
-use Rattle.desk_rows.specs.declared.reading.Document.{Document}
-use Rattle.desk_rows.specs.declared.reading.Package.{Package}
-use Rattle.desk_rows.specs.declared.reading.Reference.{Reference}
-use Rattle.desk_rows.specs.declared.refusal.DocumentFault.{DocumentFault}
-use Rattle.desk_rows.specs.declared.refusal.DocumentFault.TheVariants as fault
+use Rattle.desk_model.specs.Texts.{text_below}
+use Rattle.desk_model.specs.declared.reading.Document.{Document}
+use Rattle.desk_model.specs.declared.reading.Package.{Package}
+use Rattle.desk_model.specs.declared.reading.Reference.{Reference}
+use Rattle.desk_model.specs.declared.refusal.DocumentFault.{DocumentFault}
+use Rattle.desk_model.specs.declared.refusal.DocumentFault.TheVariants as fault
 use Rattle.desk_tagvalue.specs.Parts.{DocumentText, PackageText, ExtractedText}
 
 -- x among others that rise by their ids, where its id isn't there

@@ -11,10 +11,10 @@ use Rattle.desk_expr.specs.declared.fault.ParseFault.{ParseFault}
 use Rattle.desk_expr.specs.declared.fault.ParseFault.TheVariants as parse
 use Rattle.desk_expr.specs.Meaning.{Holds, CanGo, IsFirst, IsMinimal}
 use Rattle.desk_fields.specs.Text.{skip_blanks}
-use Rattle.desk_rows.specs.declared.refusal.ExpressionFault.{ExpressionFault}
-use Rattle.desk_rows.specs.declared.refusal.ExpressionFault.TheVariants as fault
-use Rattle.desk_rows.specs.declared.reading.Verdict.{Verdict}
-use Rattle.desk_rows.specs.declared.reading.Verdict.TheVariants.{NotEnough, Superfluous, Minimal}
+use Rattle.desk_model.specs.declared.refusal.ExpressionFault.{ExpressionFault}
+use Rattle.desk_model.specs.declared.refusal.ExpressionFault.TheVariants as fault
+use Rattle.desk_model.specs.declared.reading.Verdict.{Verdict}
+use Rattle.desk_model.specs.declared.reading.Verdict.TheVariants.{NotEnough, Superfluous, Minimal}
 use Rattle.desk_texts.specs.Terms.{AreTerms}
 use Rattle.desk_findings.specs.Fields.{is_no_licence}
 

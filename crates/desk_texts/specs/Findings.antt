@@ -7,7 +7,7 @@ use Rattle.desk_findings.specs.declared.finding.Finding.{Finding}
 use Rattle.desk_findings.specs.Fields.{IsReading}
 use Rattle.desk_findings.specs.Findings.{AreFindings}
 use Rattle.desk_findings.specs.Kinds.{kind_number, kind_name}
-use Rattle.desk_rows.specs.declared.finding.FindingRow.{FindingRow}
+use Rattle.desk_model.specs.declared.finding.FindingRow.{FindingRow}
 use Rattle.desk_tagvalue.specs.Parts.{DocumentText}
 
 abbrev pub finding_row : Finding → FindingRow

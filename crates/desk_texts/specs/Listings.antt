@@ -11,10 +11,10 @@ use Rattle.desk_expr.specs.Printing.{printed_term}
 use Rattle.desk_alts.specs.Sets.{AreAlternatives, HasMoreTerms, HasWideFront}
 use Rattle.desk_alts.specs.Faults.{IsListable}
 use Rattle.desk_alts.specs.Costs.{IsCheapest, HasNoCosts}
-use Rattle.desk_rows.specs.Listings.{at_most}
-use Rattle.desk_rows.specs.declared.reading.Cheapest.{Cheapest}
-use Rattle.desk_rows.specs.declared.reading.ListFault.{ListFault}
-use Rattle.desk_rows.specs.declared.reading.ListFault.TheVariants.{TooManyTerms, TooMany}
+use Rattle.desk_model.specs.Listings.{at_most}
+use Rattle.desk_model.specs.declared.reading.Cheapest.{Cheapest}
+use Rattle.desk_model.specs.declared.reading.ListFault.{ListFault}
+use Rattle.desk_model.specs.declared.reading.ListFault.TheVariants.{TooManyTerms, TooMany}
 use Rattle.desk_texts.specs.Expressions.{IsExpression, IsNoExpression}
 
 -- why an expression isn't listed

@@ -1,15 +1,15 @@
 -- Which readings are right: they tell of each text what it spells.
 use Rattle.std.specs.Prelude.{◌≡◌, ℕ, Bool, List, Option, Result}
 use Rattle.desk_fields.specs.declared.fault.DocFault.{DocFault}
-use Rattle.desk_rows.specs.Readings.{Readings}
+use Rattle.desk_model.specs.Readings.{Readings}
 use Rattle.desk_base.specs.declared.profile.Profile.{Profile}
-use Rattle.desk_rows.specs.declared.reading.Verdict.{Verdict}
-use Rattle.desk_rows.specs.declared.reading.Document.{Document}
-use Rattle.desk_rows.specs.declared.reading.Cheapest.{Cheapest}
-use Rattle.desk_rows.specs.declared.reading.ListFault.{ListFault}
-use Rattle.desk_rows.specs.declared.refusal.DocumentFault.{DocumentFault}
-use Rattle.desk_rows.specs.declared.refusal.ExpressionFault.{ExpressionFault}
-use Rattle.desk_rows.specs.declared.finding.FindingRow.{FindingRow}
+use Rattle.desk_model.specs.declared.reading.Verdict.{Verdict}
+use Rattle.desk_model.specs.declared.reading.Document.{Document}
+use Rattle.desk_model.specs.declared.reading.Cheapest.{Cheapest}
+use Rattle.desk_model.specs.declared.reading.ListFault.{ListFault}
+use Rattle.desk_model.specs.declared.refusal.DocumentFault.{DocumentFault}
+use Rattle.desk_model.specs.declared.refusal.ExpressionFault.{ExpressionFault}
+use Rattle.desk_model.specs.declared.finding.FindingRow.{FindingRow}
 use Rattle.desk_catalogue.specs.Reading.{catalogue_of}
 use Rattle.desk_catalogue.specs.Terms.{ReadsTerms}
 use Rattle.desk_tagvalue.specs.Documents.{Spells}

@@ -1,6 +1,6 @@
 -- Texts that rise, and how many of them are below one.
 use Rattle.std.specs.Prelude.{◌≡◌, ℕ, ◌≤◌, Bool, true, false, List, [], ◌∷◌, length, take, drop}
-use Rattle.desk_rows.specs.Texts.{text_below}
+use Rattle.desk_model.specs.Texts.{text_below}
 
 -- a fact holds of each
 abbrev pub Each : {A : Type 0} → (A → Type 0) → List A → Type 0

@@ -6,7 +6,7 @@ ghost use Rattle.desk_catalogue.specs.Terms.{ReadsTerms};
 ghost use Rattle.desk_texts.specs.Catalogues.{kept_catalogue};
 
 use desk_catalogue::CatFault;
-use desk_rows::{Catalogue, CatalogueFault};
+use desk_model::{Catalogue, CatalogueFault};
 use std::alloc::{AllocError, Global};
 
 /// The catalogue that a text is, or its fault.

@@ -15,7 +15,7 @@ use crate::sorting::{Identified, sorted_by};
 use desk_base::{Items, Text};
 use desk_bom::ships;
 use desk_fields::Tag;
-use desk_rows::{Document, DocumentFault, Package, Reference};
+use desk_model::{Document, DocumentFault, Package, Reference};
 use desk_tagvalue::{DocFault, Extracted, read};
 use std::alloc::{AllocError, Global};
 use std::collections::VecDeque;

@@ -10,7 +10,7 @@ use desk_base::Text;
 use desk_expr::{Expr, ParseFault, Profile, Term, check_choice, parse_in, told};
 use desk_fields::skip_blanks;
 use desk_findings::is_no_licence;
-use desk_rows::{ExpressionFault, Verdict};
+use desk_model::{ExpressionFault, Verdict};
 use std::alloc::{AllocError, Global};
 
 /// The expression that a value is by a profile of operators.

@@ -8,7 +8,7 @@ ghost use Rattle.desk_texts.specs.Findings.{finding_row, Finds};
 
 use desk_base::{Items, Profile, Text};
 use desk_findings::{Finding, findings_in};
-use desk_rows::FindingRow;
+use desk_model::FindingRow;
 use desk_tagvalue::{DocFault, read};
 use std::alloc::{AllocError, Global};
 

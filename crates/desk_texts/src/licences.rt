@@ -9,7 +9,7 @@ ghost use Rattle.desk_texts.specs.Catalogues.{found_text};
 
 use desk_base::Text;
 use desk_catalogue::{CatFault, Catalogue};
-use desk_rows::LicenceText;
+use desk_model::LicenceText;
 use std::alloc::{AllocError, Global};
 
 /// The catalogue that a text is, with its texts, if it is one.

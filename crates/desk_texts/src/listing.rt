@@ -7,13 +7,13 @@ ghost use Rattle.std.proofs.Props.{props};
 ghost use Rattle.desk_expr.specs.Occurring.{term_order};
 ghost use Rattle.desk_expr.specs.Printing.{printed_term};
 ghost use Rattle.desk_alts.specs.Faults.{IsFaultOf};
-ghost use Rattle.desk_rows.specs.Listings.{IsCost};
+ghost use Rattle.desk_model.specs.Listings.{IsCost};
 ghost use Rattle.desk_texts.specs.Listings.{AreTermTexts, IsListFault, IsListing, IsPriced, cost_at, cost_within};
 
 use desk_alts::{AltFault, Cost, TermSet};
 use desk_base::{Items, Text, limits};
 use desk_expr::{Expr, Term, TermTable, print_term};
-use desk_rows::{Cheapest, ListFault};
+use desk_model::{Cheapest, ListFault};
 use std::alloc::{AllocError, Global};
 
 /// Why an expression isn't listed, or want of memory.

@@ -2,7 +2,7 @@
 
 ghost use Rattle.std.specs.Prelude.{◌≡◌, ◌≤◌, ◌<◌, IfOk, OnOk, List, ℕ, map, drop, length};
 ghost use Rattle.std.proofs.Common.{get_or, Bor};
-ghost use Rattle.desk_rows.specs.Texts.{text_below};
+ghost use Rattle.desk_model.specs.Texts.{text_below};
 ghost use Rattle.desk_texts.specs.Documents.{put_by, sorted_by};
 ghost use Rattle.desk_texts.specs.Rising.{Rises, IsLower, is_below_first};
 

@@ -16,7 +16,7 @@ use crate::term::{
 use desk_access::texts::Texts;
 use desk_base::{Items, Text};
 use desk_expr::Expr;
-use desk_rows::{
+use desk_model::{
     Catalogue, CatalogueFault, Cheapest, Document, DocumentFault, ExpressionFault, FindingRow,
     LicenceText, ListFault, Profile, Verdict,
 };

@@ -6,8 +6,8 @@ use Rattle.desk_expr.specs.Tree.{Tree}
 use Rattle.desk_expr.specs.Spelling.{SpellsWithin}
 use Rattle.desk_expr_laws.proofs.Texts.{tree_of_text}
 use Rattle.desk_reuse.proofs.GlobOnce.{each_spelled}
-use Rattle.desk_annotations.specs.Right.{Reading, IsRight, Tells}
-use Rattle.desk_gather.specs.Readers.{Reader, IsRightReader}
+use Rattle.desk_tree_annotations.specs.Right.{Reading, IsRight, Tells}
+use Rattle.desk_tree_gather.specs.Readers.{Reader, IsRightReader}
 use Rattle.desk_tree_laws.proofs.Matching.{decided}
 use Rattle.desk_tree_laws.proofs.Stating.{stated}
 

@@ -9,7 +9,7 @@ use Rattle.desk_fields.proofs.Closing.{Closing, open_text, closed, closing}
 use Rattle.desk_reuse.specs.Runs.{RunText}
 use Rattle.desk_reuse.specs.Tags.{IsClose, IsBare, Tells, Counts, seen_after, TagText, onto, Gives, IsInfo, notice_tag, licence_tag}
 use Rattle.desk_reuse.proofs.EachRun.{shown_within}
-use Rattle.desk_gather.specs.Readers.{Stated}
+use Rattle.desk_tree_gather.specs.Readers.{Stated}
 
 -- ---- values
 

@@ -3,17 +3,17 @@
 //! What a tree gives is a function of its files and of a `Reader`: the pieces of patterns, which texts are licence expressions, which
 //! paths a pattern matches, and what each file states itself. Contracts speak of each right reader (`IsRightReader`), which would be
 //! nothing if there were none. `right_reader_exists` gives one, whatever memory is at hand; that there is no other is
-//! `desk_gather::one_reader`.
+//! `desk_tree_gather::one_reader`.
 #![tactic(auto)]
 
 ghost use Rattle.std.specs.Prelude.{◌≡◌, List};
-ghost use Rattle.desk_gather.specs.Gathering.{gathered};
-ghost use Rattle.desk_gather.specs.Readers.{Reader, IsRightReader};
-ghost use Rattle.desk_gather.specs.Survey.{flaws_of, infos_sifted, kept};
-ghost use Rattle.desk_gather.specs.Trees.{Read};
-ghost use Rattle.desk_gather.specs.declared.files.SourceFile.{SourceFile};
-ghost use Rattle.desk_gather.specs.declared.flaw.Flaw.{Flaw};
-ghost use Rattle.desk_gather.specs.declared.gathering.FileInfo.{FileInfo};
+ghost use Rattle.desk_tree_gather.specs.Gathering.{gathered};
+ghost use Rattle.desk_tree_gather.specs.Readers.{Reader, IsRightReader};
+ghost use Rattle.desk_tree_gather.specs.Survey.{flaws_of, infos_sifted, kept};
+ghost use Rattle.desk_tree_gather.specs.Trees.{Read};
+ghost use Rattle.desk_tree_gather.specs.declared.files.SourceFile.{SourceFile};
+ghost use Rattle.desk_tree_gather.specs.declared.flaw.Flaw.{Flaw};
+ghost use Rattle.desk_tree_gather.specs.declared.gathering.FileInfo.{FileInfo};
 
 /// There is a right reader.
 pub fn right_reader_exists()
@@ -28,6 +28,6 @@ pub fn each_tree_is_gathered_once()
     ensures survey { (files : List SourceFile) → (flaws : List Flaw) × (infos : List FileInfo) × ((r : Reader)
         → IsRightReader r → (flaws_of r files ≡ flaws) × (infos_sifted r (kept files) ≡ infos)) }
 {
-    desk_gather::one_reader();
+    desk_tree_gather::one_reader();
     right_reader_exists();
 }

@@ -1,7 +1,7 @@
 //! Refusals in words.
 
 use desk_base::{Text, limits};
-use desk_rows::{CatalogueFault, DocumentFault, ExpressionFault, Limit, Refusal};
+use desk_model::{CatalogueFault, DocumentFault, ExpressionFault, Limit, Refusal};
 use std::fmt;
 
 const MEBIBYTE: usize = 1_048_576;

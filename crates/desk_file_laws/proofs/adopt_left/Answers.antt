@@ -1,6 +1,6 @@
 use Rattle.std.proofs.lemmas.Result.{IfErr-weaker, IfOk-weaker}
 use Rattle.sqlite.specs.Held.{state}
-use Rattle.desk_rows.specs.Tables.{tables}
+use Rattle.desk_model.specs.Tables.{tables}
 use Rattle.desk_file_laws.proofs.Secured.{secure_stayed}
 use Rattle.desk_file_laws.proofs.adopt_left.Goals as goal
 

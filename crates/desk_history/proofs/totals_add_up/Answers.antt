@@ -1,4 +1,4 @@
-use Rattle.desk_rows.specs.Queries.{duties_of}
+use Rattle.desk_model.specs.Queries.{duties_of}
 use Rattle.desk_history.proofs.Counting.{conserved}
 use Rattle.desk_history.proofs.totals_add_up.Goals as goal
 

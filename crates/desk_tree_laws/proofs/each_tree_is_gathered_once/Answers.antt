@@ -1,6 +1,6 @@
 use Rattle.std.proofs.Common.{ap}
-use Rattle.desk_gather.specs.Gathering.{gathered}
-use Rattle.desk_gather.specs.Survey.{flaws_of, infos_sifted, kept}
+use Rattle.desk_tree_gather.specs.Gathering.{gathered}
+use Rattle.desk_tree_gather.specs.Survey.{flaws_of, infos_sifted, kept}
 use Rattle.desk_tree_laws.proofs.each_tree_is_gathered_once.Goals as goal
 
 pub returns : goal.returns

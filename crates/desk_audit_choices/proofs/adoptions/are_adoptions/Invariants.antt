@@ -1,6 +1,6 @@
 use Rattle.std.proofs.Common.{◌≡◌, drop}
 use Rattle.std.specs.List.{list_all}
-use Rattle.desk_rows.specs.Readings.{Readings}
+use Rattle.desk_model.specs.Readings.{Readings}
 use Rattle.desk_snapshot.specs.Conditions.{is_adoption}
 use Rattle.desk_audit_choices.proofs.adoptions.are_adoptions.Given as goal
 

@@ -1,7 +1,7 @@
 use Rattle.std.proofs.Common.{◌≡◌, drop}
 use Rattle.std.specs.List.{list_all}
 use Rattle.desk_base.specs.declared.profile.Profile.TheVariants.{Capitals}
-use Rattle.desk_rows.specs.Readings.{Readings}
+use Rattle.desk_model.specs.Readings.{Readings}
 use Rattle.desk_snapshot.specs.declared.rows.StoredConclusion.{StoredConclusion}
 use Rattle.desk_audit_choices.proofs.conclusions.are_expressions.Given as goal
 

@@ -1,6 +1,6 @@
 use Rattle.std.proofs.Common.{◌≡◌, Bool}
 use Rattle.std.specs.List.{list_all}
-use Rattle.desk_rows.specs.Readings.{Readings}
+use Rattle.desk_model.specs.Readings.{Readings}
 use Rattle.desk_snapshot.specs.Conditions.{is_choice}
 use Rattle.desk_snapshot.specs.declared.rows.StoredChoice.{StoredChoice}
 use Rattle.desk_audit_choices.proofs.Found.{all_behind, not_all, passes}

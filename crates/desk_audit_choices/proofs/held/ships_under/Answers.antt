@@ -2,7 +2,7 @@ use Rattle.std.proofs.Common.{◌≡◌, pos, Bool, true, Option, IfOk, subst, a
 use Rattle.std.specs.Ordering.{int_eq}
 use Rattle.std.proofs.lemmas.Bool.Decides.{Decides-int_eq}
 use Rattle.std.proofs.lemmas.Int.{ints}
-use Rattle.desk_rows.specs.declared.reading.Conclusion.{Conclusion}
+use Rattle.desk_model.specs.declared.reading.Conclusion.{Conclusion}
 use Rattle.desk_snapshot.specs.Conditions.{conclusion_at}
 use Rattle.desk_audit_choices.specs.InForce.{IsRead}
 use Rattle.desk_audit_choices.proofs.Reading.{read_of, ships_as}

@@ -1,7 +1,7 @@
 use Rattle.std.proofs.Common.{rules}
 use Rattle.std.proofs.lemmas.List.Sorted.{ranks_by}
 use Rattle.std.proofs.lemmas.Fn.{always_returns_same}
-use Rattle.desk_rows.specs.Keys.{below_by}
+use Rattle.desk_model.specs.Keys.{below_by}
 use Rattle.desk_audit_duties.specs.Spelled.{spelled_order, spelled_total}
 use Rattle.desk_audit_duties.proofs.Sorting.{ascends-sorted}
 use Rattle.desk_audit_duties.proofs.Ruled.{rules_found}

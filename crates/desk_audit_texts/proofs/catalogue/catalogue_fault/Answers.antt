@@ -4,7 +4,7 @@ use Rattle.std.specs.List.{flat_map}
 use Rattle.std.specs.Option.{option_copied}
 use Rattle.std.specs.Result.{result_ok}
 use Rattle.std.proofs.lemmas.List.{take_all}
-use Rattle.desk_rows.specs.declared.reading.Catalogue.{Catalogue}
+use Rattle.desk_model.specs.declared.reading.Catalogue.{Catalogue}
 use Rattle.desk_snapshot.specs.Conditions.{rules_by, stored_rule}
 use Rattle.desk_snapshot.specs.declared.rows.StoredCatalogue.{StoredCatalogue}
 use Rattle.desk_snapshot.specs.declared.rows.StoredRule.{StoredRule}

@@ -2,7 +2,7 @@ use Rattle.std.proofs.Common.{◌≡◌, ◌∙◌, ℕ, List, Some, rules, sym,
 use Rattle.std.specs.List.{flat_map}
 use Rattle.std.specs.Option.{option_copied}
 use Rattle.std.proofs.lemmas.List.{take_all}
-use Rattle.desk_rows.specs.declared.reading.Document.{Document}
+use Rattle.desk_model.specs.declared.reading.Document.{Document}
 use Rattle.desk_snapshot.specs.Conditions.{extracted_by, is_read, packages_by, stored_extracted, stored_package}
 use Rattle.desk_snapshot.specs.declared.rows.StoredDocument.{StoredDocument}
 use Rattle.desk_snapshot.specs.declared.rows.StoredExtracted.{StoredExtracted}

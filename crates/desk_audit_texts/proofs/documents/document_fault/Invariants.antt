@@ -1,7 +1,7 @@
 use Rattle.std.proofs.Common.{◌≡◌, true, take}
 use Rattle.std.specs.List.{flat_map, list_all}
 use Rattle.std.specs.Option.{option_copied}
-use Rattle.desk_rows.specs.Readings.{Readings}
+use Rattle.desk_model.specs.Readings.{Readings}
 use Rattle.desk_snapshot.specs.Conditions.{extracted_by, is_read, packages_by}
 use Rattle.desk_audit_texts.specs.Left.{IsLeft}
 use Rattle.desk_audit_texts.proofs.documents.document_fault.Given as goal

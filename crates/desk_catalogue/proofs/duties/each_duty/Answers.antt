@@ -1,9 +1,9 @@
 use Rattle.std.proofs.Common.{◌∙◌, sym, ap, subst}
 use Rattle.std.specs.Prelude.{not}
 use Rattle.toml.specs.View.{view}
-use Rattle.desk_rows.specs.Texts.{put_new}
-use Rattle.desk_rows.specs.declared.refusal.CatalogueFault.TheVariants.{Twice}
-use Rattle.desk_rows.specs.declared.refusal.CataloguePart.TheVariants as part
+use Rattle.desk_model.specs.Texts.{put_new}
+use Rattle.desk_model.specs.declared.refusal.CatalogueFault.TheVariants.{Twice}
+use Rattle.desk_model.specs.declared.refusal.CataloguePart.TheVariants as part
 use Rattle.desk_catalogue.specs.Values.{is_among}
 use Rattle.desk_catalogue.specs.Reading.{duty_at}
 use Rattle.desk_catalogue.specs.Shown.{Gives}

@@ -1,7 +1,7 @@
 use Rattle.std.proofs.Common.{◌∙◌, sym, ap}
 use Rattle.toml.specs.View.{view}
-use Rattle.desk_rows.specs.declared.refusal.CatalogueFault.TheVariants.{Twice}
-use Rattle.desk_rows.specs.declared.refusal.CataloguePart.TheVariants as part
+use Rattle.desk_model.specs.declared.refusal.CatalogueFault.TheVariants.{Twice}
+use Rattle.desk_model.specs.declared.refusal.CataloguePart.TheVariants as part
 use Rattle.desk_catalogue.specs.Kept.{has_rule, put_rule}
 use Rattle.desk_catalogue.specs.Reading.{rule_at}
 use Rattle.desk_catalogue.specs.Shown.{codes_in, rules_in}

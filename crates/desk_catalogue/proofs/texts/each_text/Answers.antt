@@ -2,8 +2,8 @@ use Rattle.std.proofs.Common.{◌∙◌, sym, ap, ◌++◌, ◌∷◌, []}
 use Rattle.std.specs.List.{list_any}
 use Rattle.toml.specs.View.{view}
 use Rattle.desk_base.specs.Folded.{folded}
-use Rattle.desk_rows.specs.declared.refusal.CatalogueFault.TheVariants.{Twice}
-use Rattle.desk_rows.specs.declared.refusal.CataloguePart.TheVariants as part
+use Rattle.desk_model.specs.declared.refusal.CatalogueFault.TheVariants.{Twice}
+use Rattle.desk_model.specs.declared.refusal.CataloguePart.TheVariants as part
 use Rattle.desk_catalogue.specs.Kept.{is_text_of}
 use Rattle.desk_catalogue.specs.Reading.{text_at}
 use Rattle.desk_catalogue.proofs.EntryLemmas.{step_added}

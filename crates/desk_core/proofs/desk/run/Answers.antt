@@ -1,13 +1,13 @@
 use Rattle.std.proofs.Common.{◌≡◌, ℕ, ◌<◌, true, false, List, [], ◌∷◌, ◌++◌, length, get_or, sym, ap, ◌∙◌, subst, arith}
 use Rattle.std.specs.List.{list_all, list_any}
-use Rattle.desk_rows.specs.Faults.{MayAllBecome}
-use Rattle.desk_rows.specs.Tables.{tables}
-use Rattle.desk_rows.specs.Answers.{IsHistory}
-use Rattle.desk_rows.specs.Runs.{AreAnswers, history_after, is_kept}
+use Rattle.desk_model.specs.Faults.{MayAllBecome}
+use Rattle.desk_model.specs.Tables.{tables}
+use Rattle.desk_model.specs.Answers.{IsHistory}
+use Rattle.desk_model.specs.Runs.{AreAnswers, history_after, is_kept}
 use Rattle.desk_history.proofs.Lookups.{length-push}
 use Rattle.desk_history.proofs.Running.{history_after-push, AreAnswers-push, IsHistory-with, MayAllBecome-push}
-use Rattle.desk_rows.specs.declared.command.Command.{Command}
-use Rattle.desk_rows.specs.declared.command.Outcome.{Outcome}
+use Rattle.desk_model.specs.declared.command.Command.{Command}
+use Rattle.desk_model.specs.declared.command.Outcome.{Outcome}
 use Rattle.desk_core.specs.Desks.{AllSpareStore, Secures, is_answered}
 use Rattle.desk_access.proofs.Chains.{outlasts_then, spared_then}
 use Rattle.desk_core.proofs.Leaving.{AllSpareStore-push, all_pushed, none_pushed, secures_after}

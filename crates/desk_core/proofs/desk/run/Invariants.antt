@@ -1,11 +1,11 @@
 use Rattle.std.proofs.Common.{◌≡◌, ◌≤◌, true, false, length, vec_len}
 use Rattle.std.specs.List.{list_all, list_any}
 use Rattle.std.specs.Vec.{vec_capacity}
-use Rattle.desk_rows.specs.Readings.{Readings}
-use Rattle.desk_rows.specs.Faults.{MayAllBecome}
-use Rattle.desk_rows.specs.Tables.{tables}
-use Rattle.desk_rows.specs.Answers.{IsHistory}
-use Rattle.desk_rows.specs.Runs.{AreAnswers, history_after, is_kept}
+use Rattle.desk_model.specs.Readings.{Readings}
+use Rattle.desk_model.specs.Faults.{MayAllBecome}
+use Rattle.desk_model.specs.Tables.{tables}
+use Rattle.desk_model.specs.Answers.{IsHistory}
+use Rattle.desk_model.specs.Runs.{AreAnswers, history_after, is_kept}
 use Rattle.desk_access.specs.Seen.{Outlasts, Spared}
 use Rattle.desk_core.specs.Desks.{AllSpareStore, InHistory, Secures, is_answered}
 use Rattle.desk_core.proofs.desk.run.Given as goal

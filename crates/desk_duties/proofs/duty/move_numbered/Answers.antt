@@ -1,7 +1,7 @@
 use Rattle.std.proofs.Common.{◌≡◌, ◌∙◌, sym, subst}
 use Rattle.std.specs.Prelude.{IfSome, Option, unwrap_or}
-use Rattle.desk_rows.specs.declared.row.DutyRow.{DutyRow}
-use Rattle.desk_rows.specs.declared.state.ReleaseState.TheVariants.{IsOpen}
+use Rattle.desk_model.specs.declared.row.DutyRow.{DutyRow}
+use Rattle.desk_model.specs.declared.state.ReleaseState.TheVariants.{IsOpen}
 use Rattle.desk_history.specs.FromTables.{moved_change, state_found, steps_found}
 use Rattle.desk_duties.specs.Moving.{move_here, move_known}
 use Rattle.desk_duties.proofs.Duties.{here_known, same_change}

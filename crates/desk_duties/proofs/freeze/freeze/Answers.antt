@@ -1,5 +1,5 @@
 use Rattle.std.proofs.Common.{◌≡◌, ◌∙◌, sym, ap, Some}
-use Rattle.desk_rows.specs.declared.command.Command.TheVariants.{Freeze}
+use Rattle.desk_model.specs.declared.command.Command.TheVariants.{Freeze}
 use Rattle.desk_history.specs.FromTables.{release_found, answer_from, change_for, freeze_change_found}
 use Rattle.desk_duties.specs.Freezing.{freeze_open_found}
 use Rattle.desk_access.proofs.Chains.{plans_after, plan_after}

@@ -1,9 +1,9 @@
 use Rattle.std.proofs.Common.{◌≡◌, ◌∙◌, sym, ap, subst, ℕ, List, length, true, refl, vec_len, arith}
 use Rattle.std.specs.Prelude.{◌==◌, nat_lt}
-use Rattle.desk_rows.specs.History.{attached_to}
-use Rattle.desk_rows.specs.Raised.{shipped_of}
-use Rattle.desk_rows.specs.declared.row.AttachedRow.{AttachedRow}
-use Rattle.desk_rows.specs.declared.row.PackageRow.{PackageRow}
+use Rattle.desk_model.specs.History.{attached_to}
+use Rattle.desk_model.specs.Raised.{shipped_of}
+use Rattle.desk_model.specs.declared.row.AttachedRow.{AttachedRow}
+use Rattle.desk_model.specs.declared.row.PackageRow.{PackageRow}
 use Rattle.desk_history.specs.FromTables.{shipped_found, froze_as, freeze_change_found}
 use Rattle.desk_duties.specs.Freezing.{freeze_fits, freeze_open_found}
 use Rattle.desk_access.specs.Plans.{IsPlan, IsSound}

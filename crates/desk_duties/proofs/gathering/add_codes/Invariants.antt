@@ -1,5 +1,5 @@
 use Rattle.std.proofs.Common.{◌≡◌, ◌++◌, map, drop}
-use Rattle.desk_rows.specs.Raised.{owed_code}
+use Rattle.desk_model.specs.Raised.{owed_code}
 use Rattle.desk_duties.proofs.gathering.add_codes.Given as goal
 
 abbrev pub invariant-loop-code : goal.invariant-loop-code

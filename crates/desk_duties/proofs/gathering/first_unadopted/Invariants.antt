@@ -1,6 +1,6 @@
 use Rattle.std.proofs.Common.{◌≡◌, drop}
-use Rattle.desk_rows.specs.Readings.{Readings}
-use Rattle.desk_rows.specs.Answers.{first_unadopted}
+use Rattle.desk_model.specs.Readings.{Readings}
+use Rattle.desk_model.specs.Answers.{first_unadopted}
 use Rattle.desk_access.specs.Seen.{Same, OfRows}
 use Rattle.desk_duties.proofs.gathering.first_unadopted.Given as goal
 

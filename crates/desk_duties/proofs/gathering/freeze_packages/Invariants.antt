@@ -1,7 +1,7 @@
 use Rattle.std.proofs.Common.{◌≡◌, ◌++◌, drop}
-use Rattle.desk_rows.specs.Readings.{Readings}
-use Rattle.desk_rows.specs.Answers.{walk}
-use Rattle.desk_rows.specs.Raised.{frozen_for, owed_for}
+use Rattle.desk_model.specs.Readings.{Readings}
+use Rattle.desk_model.specs.Answers.{walk}
+use Rattle.desk_model.specs.Raised.{frozen_for, owed_for}
 use Rattle.desk_history.specs.FromTables.{conclusion_found, rules_found, choice_found}
 use Rattle.desk_access.specs.Seen.{Same, OfRows}
 use Rattle.desk_duties.proofs.gathering.freeze_packages.Given as goal

@@ -1,7 +1,7 @@
 use Rattle.std.proofs.Common.{◌≡◌, ◌++◌, drop}
-use Rattle.desk_rows.specs.Readings.{Readings}
-use Rattle.desk_rows.specs.Answers.{first_unruled}
-use Rattle.desk_rows.specs.Raised.{frozen_for_terms, owed_for_terms}
+use Rattle.desk_model.specs.Readings.{Readings}
+use Rattle.desk_model.specs.Answers.{first_unruled}
+use Rattle.desk_model.specs.Raised.{frozen_for_terms, owed_for_terms}
 use Rattle.desk_history.specs.FromTables.{rules_found}
 use Rattle.desk_access.specs.Seen.{Same, OfRows}
 use Rattle.desk_duties.proofs.gathering.freeze_terms.Given as goal

@@ -1,10 +1,10 @@
 use Rattle.std.proofs.Common.{◌≡◌, ◌∙◌, true, false, List, ℕ, Option, sym, ap, rules}
 use Rattle.std.specs.Option.{option_map}
-use Rattle.desk_rows.specs.Texts.{is_note}
-use Rattle.desk_rows.specs.Tables.{Tables}
-use Rattle.desk_rows.specs.declared.command.Command.TheVariants.{Withdraw}
-use Rattle.desk_rows.specs.Answers.{refused_alone}
-use Rattle.desk_rows.specs.declared.row.ReleaseRow.{ReleaseRow}
+use Rattle.desk_model.specs.Texts.{is_note}
+use Rattle.desk_model.specs.Tables.{Tables}
+use Rattle.desk_model.specs.declared.command.Command.TheVariants.{Withdraw}
+use Rattle.desk_model.specs.Answers.{refused_alone}
+use Rattle.desk_model.specs.declared.row.ReleaseRow.{ReleaseRow}
 use Rattle.desk_history.specs.FromTables.{change_for, release_found, standings_found, state_found, withdrawing_found}
 use Rattle.desk_access.proofs.Chains.{same_self, same_then_same}
 use Rattle.desk_duties.proofs.Withdrawals.{left, made, bad_day, bad_text, unknown, is_gone, withdrawn, same_rows, left_spares, made_spares, left_plans, not_alone}

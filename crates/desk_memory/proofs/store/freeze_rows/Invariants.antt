@@ -1,6 +1,6 @@
 use Rattle.std.proofs.Common.{◌≡◌, ◌++◌, map, take, drop}
-use Rattle.desk_rows.specs.Tables.{with_release_state}
-use Rattle.desk_rows.specs.declared.state.ReleaseState.TheVariants.{Frozen}
+use Rattle.desk_model.specs.Tables.{with_release_state}
+use Rattle.desk_model.specs.declared.state.ReleaseState.TheVariants.{Frozen}
 use Rattle.desk_memory.proofs.store.freeze_rows.Given as goal
 
 abbrev pub invariant-loop-row : goal.invariant-loop-row

@@ -1,6 +1,6 @@
 use Rattle.std.proofs.Common.{◌≡◌, ◌++◌, drop}
 use Rattle.std.specs.Prelude.{filter}
-use Rattle.desk_rows.specs.Keys.{is_shipped_by}
+use Rattle.desk_model.specs.Keys.{is_shipped_by}
 use Rattle.desk_memory.proofs.store.shipped_rows.Given as goal
 
 abbrev pub invariant-loop-row : goal.invariant-loop-row

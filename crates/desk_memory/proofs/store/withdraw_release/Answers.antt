@@ -1,14 +1,14 @@
 use Rattle.std.proofs.Common.{refl, sym, ap, ◌∙◌}
 use Rattle.std.proofs.lemmas.List.{with_items_is}
-use Rattle.desk_rows.specs.Keys.{below_by, is_release}
-use Rattle.desk_rows.specs.Tables.{withdrawn_release}
+use Rattle.desk_model.specs.Keys.{below_by, is_release}
+use Rattle.desk_model.specs.Tables.{withdrawn_release}
 use Rattle.desk_sorted.specs.Orders.{release_order}
 use Rattle.desk_memory.specs.Sides.{release_side}
 use Rattle.desk_sorted.specs.Sides.{texts_meet}
 use Rattle.desk_sorted.proofs.Ascending.{ascends-updated}
 use Rattle.desk_sorted.proofs.Halving.{run_changed, same_count}
 use Rattle.desk_memory.proofs.store.withdraw_release.Goals as goal
-use Rattle.desk_rows.specs.Lists.{ascends}
+use Rattle.desk_model.specs.Lists.{ascends}
 
 pub returns : goal.returns
 returns c =

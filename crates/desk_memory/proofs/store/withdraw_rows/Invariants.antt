@@ -1,5 +1,5 @@
 use Rattle.std.proofs.Common.{◌≡◌, ◌++◌, map, take, drop}
-use Rattle.desk_rows.specs.Tables.{withdrawn_release}
+use Rattle.desk_model.specs.Tables.{withdrawn_release}
 use Rattle.desk_memory.proofs.store.withdraw_rows.Given as goal
 
 abbrev pub invariant-loop-row : goal.invariant-loop-row

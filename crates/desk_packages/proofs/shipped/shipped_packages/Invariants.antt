@@ -1,5 +1,5 @@
 use Rattle.std.proofs.Common.{◌≡◌, ◌++◌, drop}
-use Rattle.desk_rows.specs.Raised.{shipped_of}
+use Rattle.desk_model.specs.Raised.{shipped_of}
 use Rattle.desk_access.specs.Seen.{Same, OfRows}
 use Rattle.desk_packages.proofs.shipped.shipped_packages.Given as goal
 

@@ -1,5 +1,5 @@
 use Rattle.std.proofs.Common.{◌≡◌, map}
-use Rattle.desk_rows.specs.History.{rule_row}
+use Rattle.desk_model.specs.History.{rule_row}
 use Rattle.desk_preparing.proofs.catalogue.rule_rows.Given as goal
 
 abbrev pub invariant-loop-rule : goal.invariant-loop-rule

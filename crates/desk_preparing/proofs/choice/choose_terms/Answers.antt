@@ -1,7 +1,7 @@
 use Rattle.std.proofs.Common.{sym, subst}
 use Rattle.desk_access.specs.Plans.{IsPlan}
 use Rattle.desk_history.specs.FromTables.{chosen_change}
-use Rattle.desk_rows.specs.Texts.{sorted_set}
+use Rattle.desk_model.specs.Texts.{sorted_set}
 use Rattle.desk_preparing.specs.Choosing.{IsFound, choose_found}
 use Rattle.desk_preparing.proofs.Places.{chosen_at}
 use Rattle.desk_preparing.proofs.choice.choose_terms.Goals as goal

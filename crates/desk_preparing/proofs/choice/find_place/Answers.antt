@@ -1,7 +1,7 @@
 use Rattle.std.proofs.Common.{◌≡◌, ◌∙◌, sym, ap, ℕ, List, Some}
 use Rattle.std.specs.Prelude.{find}
 use Rattle.std.specs.List.{list_any}
-use Rattle.desk_rows.specs.Keys.{is_package, is_attachment}
+use Rattle.desk_model.specs.Keys.{is_package, is_attachment}
 use Rattle.desk_preparing.specs.Choosing.{choose_shipped}
 use Rattle.desk_history.specs.FromTables.{conclusion_found, release_found}
 use Rattle.desk_preparing.proofs.Places.{found_at, is_found, same_number}

@@ -1,5 +1,5 @@
 use Rattle.std.proofs.Common.{◌≡◌, ◌++◌, take, drop}
-use Rattle.desk_rows.specs.Texts.{put_new}
+use Rattle.desk_model.specs.Texts.{put_new}
 use Rattle.desk_preparing.proofs.choice.place_of.Given as goal
 
 abbrev pub invariant-loop-place : goal.invariant-loop-place

@@ -1,7 +1,7 @@
 use Rattle.std.proofs.Common.{◌≡◌, ◌++◌, drop}
 use Rattle.std.specs.List.{filter_map}
-use Rattle.desk_rows.specs.Readings.{Readings}
-use Rattle.desk_rows.specs.Answers.{first_bad}
+use Rattle.desk_model.specs.Readings.{Readings}
+use Rattle.desk_model.specs.Answers.{first_bad}
 use Rattle.desk_preparing.proofs.choice.read_terms.Given as goal
 
 abbrev pub invariant-loop-i : goal.invariant-loop-i

@@ -1,5 +1,5 @@
 use Rattle.std.proofs.Common.{◌∙◌, sym, ap}
-use Rattle.desk_rows.specs.Texts.{sorted_set}
+use Rattle.desk_model.specs.Texts.{sorted_set}
 use Rattle.desk_preparing.proofs.Sets.{put_all_new, put_all_new-push, put_all_new-none}
 use Rattle.desk_preparing.proofs.choice.sorted_set.Goals as goal
 

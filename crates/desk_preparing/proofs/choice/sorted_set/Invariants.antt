@@ -1,5 +1,5 @@
 use Rattle.std.proofs.Common.{◌≡◌, vec_len}
-use Rattle.desk_rows.specs.Texts.{sorted_set}
+use Rattle.desk_model.specs.Texts.{sorted_set}
 use Rattle.desk_preparing.proofs.Sets.{put_all_new}
 use Rattle.desk_preparing.proofs.choice.sorted_set.Given as goal
 

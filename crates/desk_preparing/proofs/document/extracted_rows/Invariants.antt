@@ -1,5 +1,5 @@
 use Rattle.std.proofs.Common.{◌≡◌, map}
-use Rattle.desk_rows.specs.History.{extracted_row}
+use Rattle.desk_model.specs.History.{extracted_row}
 use Rattle.desk_preparing.proofs.document.extracted_rows.Given as goal
 
 abbrev pub invariant-loop-reference : goal.invariant-loop-reference

@@ -1,8 +1,8 @@
 use Rattle.std.proofs.Common.{◌≡◌, ◌∙◌, ℕ, ◌≤◌, ◌<◌, List, true, false, length, sym, ap, subst, arith}
 use Rattle.std.specs.List.{list_any}
-use Rattle.desk_rows.specs.Keys.{is_attachment}
-use Rattle.desk_rows.specs.History.{attached_to}
-use Rattle.desk_rows.specs.declared.command.Command.TheVariants.{Attach}
+use Rattle.desk_model.specs.Keys.{is_attachment}
+use Rattle.desk_model.specs.History.{attached_to}
+use Rattle.desk_model.specs.declared.command.Command.TheVariants.{Attach}
 use Rattle.desk_history.specs.FromTables.{answer_from, change_for, release_found}
 use Rattle.desk_access.specs.Plans.{IsPlan}
 use Rattle.desk_preparing.proofs.Attaching.{LookedUp, already_answer, full_answer, done_answer, attached_row}

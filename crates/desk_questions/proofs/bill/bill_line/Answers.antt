@@ -1,7 +1,7 @@
 use Rattle.std.proofs.Common.{◌≡◌, ◌∙◌, ℕ, List, ap, map, sym}
 use Rattle.std.proofs.lemmas.Simd.{map-map}
-use Rattle.desk_rows.specs.Bills.{frozen_terms}
-use Rattle.desk_rows.specs.declared.row.FrozenRow.{FrozenRow}
+use Rattle.desk_model.specs.Bills.{frozen_terms}
+use Rattle.desk_model.specs.declared.row.FrozenRow.{FrozenRow}
 use Rattle.desk_questions.proofs.bill.bill_line.Goals as goal
 
 pub returns : goal.returns

@@ -1,5 +1,5 @@
 use Rattle.std.proofs.Common.{◌≡◌, map}
-use Rattle.desk_rows.specs.Bills.{bill_line}
+use Rattle.desk_model.specs.Bills.{bill_line}
 use Rattle.desk_questions.proofs.bill.bill_lines.Given as goal
 
 abbrev pub invariant-loop-row : goal.invariant-loop-row

@@ -1,6 +1,6 @@
 use Rattle.std.proofs.Common.{◌∙◌, ap}
 use Rattle.std.specs.List.{flat_map}
-use Rattle.desk_rows.specs.Bills.{first_uses, package_texts}
+use Rattle.desk_model.specs.Bills.{first_uses, package_texts}
 use Rattle.desk_history.specs.FromTables.{shipped_found}
 use Rattle.desk_questions.proofs.Bills.{bill_found}
 use Rattle.desk_questions.proofs.bill.bill_of.Goals as goal

@@ -2,8 +2,8 @@ use Rattle.std.proofs.Common.{◌≡◌, ◌++◌, ◌∷◌, [], ◌+◌, ◌�
 use Rattle.std.specs.Ordering.{is_eq}
 use Rattle.std.proofs.lemmas.List.{append-nil, map-append}
 use Rattle.std.proofs.lemmas.List.Elements.{filter_more}
-use Rattle.desk_rows.specs.Keys.{is_frozen_of}
-use Rattle.desk_rows.specs.declared.row.FrozenRow.{FrozenRow}
+use Rattle.desk_model.specs.Keys.{is_frozen_of}
+use Rattle.desk_model.specs.declared.row.FrozenRow.{FrozenRow}
 use Rattle.desk_questions.specs.Sides.{package_meets, package_side}
 use Rattle.desk_questions.proofs.frozen.terms_of.Goals.{then-is_eq+in_ok-push, else-is_eq}
 use Rattle.desk_questions.proofs.frozen.terms_of.Goals as goal

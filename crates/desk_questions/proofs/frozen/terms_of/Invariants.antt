@@ -1,5 +1,5 @@
 use Rattle.std.proofs.Common.{◌≡◌, map, filter, take}
-use Rattle.desk_rows.specs.Keys.{is_frozen_of}
+use Rattle.desk_model.specs.Keys.{is_frozen_of}
 use Rattle.desk_questions.proofs.frozen.terms_of.Given as goal
 
 abbrev pub invariant-loop-term : goal.invariant-loop-term

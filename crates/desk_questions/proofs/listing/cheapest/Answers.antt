@@ -1,5 +1,5 @@
 use Rattle.std.proofs.Common.{◌∙◌}
-use Rattle.desk_rows.specs.declared.command.Query.TheVariants as query
+use Rattle.desk_model.specs.declared.command.Query.TheVariants as query
 use Rattle.std.specs.Prelude.{Ok, Err}
 use Rattle.desk_history.specs.FromTables.{queried_from}
 use Rattle.desk_questions.specs.Found.{priced_found}

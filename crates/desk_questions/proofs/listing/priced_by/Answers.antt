@@ -1,4 +1,4 @@
-use Rattle.desk_rows.specs.Listings.{term_cost}
+use Rattle.desk_model.specs.Listings.{term_cost}
 use Rattle.desk_history.specs.FromTables.{conclusion_found, rules_found}
 use Rattle.desk_questions.specs.Found.{priced}
 use Rattle.desk_questions.proofs.Listings.{read_then}

@@ -1,6 +1,6 @@
 use Rattle.std.proofs.Common.{◌≡◌, map, take}
-use Rattle.desk_rows.specs.Readings.{Readings}
-use Rattle.desk_rows.specs.Listings.{term_cost}
+use Rattle.desk_model.specs.Readings.{Readings}
+use Rattle.desk_model.specs.Listings.{term_cost}
 use Rattle.desk_history.specs.FromTables.{rules_found}
 use Rattle.desk_access.specs.Seen.{Same, OfRows}
 use Rattle.desk_questions.proofs.listing.term_costs.Given as goal

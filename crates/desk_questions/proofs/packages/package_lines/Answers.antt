@@ -1,8 +1,8 @@
 use Rattle.std.proofs.Common.{◌∙◌, ◌++◌, ◌∷◌, [], List, map, sym, ap}
 use Rattle.std.proofs.lemmas.List.{map-append}
-use Rattle.desk_rows.specs.Queries.{package_line}
-use Rattle.desk_rows.specs.declared.command.PackageLine.{PackageLine}
-use Rattle.desk_rows.specs.declared.row.PackageRow.{PackageRow}
+use Rattle.desk_model.specs.Queries.{package_line}
+use Rattle.desk_model.specs.declared.command.PackageLine.{PackageLine}
+use Rattle.desk_model.specs.declared.row.PackageRow.{PackageRow}
 use Rattle.desk_history.specs.FromTables.{choice_found, conclusion_found}
 use Rattle.desk_access.proofs.Chains.{same_then_same}
 use Rattle.desk_questions.proofs.packages.package_lines.Goals as goal

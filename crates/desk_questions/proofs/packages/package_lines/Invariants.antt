@@ -1,6 +1,6 @@
 use Rattle.std.proofs.Common.{◌≡◌, map}
-use Rattle.desk_rows.specs.Readings.{Readings}
-use Rattle.desk_rows.specs.Queries.{package_line}
+use Rattle.desk_model.specs.Readings.{Readings}
+use Rattle.desk_model.specs.Queries.{package_line}
 use Rattle.desk_history.specs.FromTables.{choice_found, conclusion_found}
 use Rattle.desk_access.specs.Seen.{Same, OfRows}
 use Rattle.desk_questions.proofs.packages.package_lines.Given as goal

@@ -1,7 +1,7 @@
 use Rattle.std.proofs.Common.{◌≡◌, ℕ, List, map}
 use Rattle.std.specs.Prelude.{Option}
-use Rattle.desk_rows.specs.Readings.{Readings}
-use Rattle.desk_rows.specs.Bills.{bill_text}
+use Rattle.desk_model.specs.Readings.{Readings}
+use Rattle.desk_model.specs.Bills.{bill_text}
 use Rattle.desk_access.specs.Seen.{Same, OfRows}
 use Rattle.desk_questions.specs.Billing.{AreIn}
 use Rattle.desk_questions.proofs.texts.bill_texts.Given as goal

@@ -1,5 +1,5 @@
 use Rattle.std.proofs.Common.{◌≡◌}
-use Rattle.desk_rows.specs.Bills.{first_uses}
+use Rattle.desk_model.specs.Bills.{first_uses}
 use Rattle.desk_questions.specs.Billing.{HasTexts}
 use Rattle.desk_questions.proofs.texts.first_uses.Given as goal
 

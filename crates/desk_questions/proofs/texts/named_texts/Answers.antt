@@ -3,10 +3,10 @@ use Rattle.std.specs.List.{flat_map}
 use Rattle.std.proofs.lemmas.List.{append-nil, take_more}
 use Rattle.std.proofs.lemmas.List.Concat.{flat_map-append}
 use Rattle.std.proofs.lemmas.List.Folds.{flat_map-map}
-use Rattle.desk_rows.specs.Bills.{package_texts, texts_named}
-use Rattle.desk_rows.specs.declared.bill.TextOf.{TextOf}
-use Rattle.desk_rows.specs.declared.row.FrozenRow.{FrozenRow}
-use Rattle.desk_rows.specs.declared.row.PackageRow.{PackageRow}
+use Rattle.desk_model.specs.Bills.{package_texts, texts_named}
+use Rattle.desk_model.specs.declared.bill.TextOf.{TextOf}
+use Rattle.desk_model.specs.declared.row.FrozenRow.{FrozenRow}
+use Rattle.desk_model.specs.declared.row.PackageRow.{PackageRow}
 use Rattle.desk_questions.proofs.texts.named_texts.Goals as goal
 
 pub loop-row-preserved : goal.loop-row-preserved

@@ -1,7 +1,7 @@
 use Rattle.std.proofs.Common.{◌≡◌, take}
 use Rattle.std.specs.List.{flat_map}
-use Rattle.desk_rows.specs.Readings.{Readings}
-use Rattle.desk_rows.specs.Bills.{package_texts}
+use Rattle.desk_model.specs.Readings.{Readings}
+use Rattle.desk_model.specs.Bills.{package_texts}
 use Rattle.desk_questions.proofs.texts.named_texts.Given as goal
 
 abbrev pub invariant-loop-row : goal.invariant-loop-row

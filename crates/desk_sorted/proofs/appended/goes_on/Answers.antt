@@ -1,10 +1,10 @@
 use Rattle.std.proofs.Common.{sym, ap, ◌∙◌}
 use Rattle.std.specs.Ordering.{is_le}
-use Rattle.desk_rows.specs.Keys.{below_by}
+use Rattle.desk_model.specs.Keys.{below_by}
 use Rattle.desk_sorted.proofs.Halving.{turned_le}
 use Rattle.desk_sorted.proofs.Placing.{ascends-push}
 use Rattle.desk_sorted.proofs.appended.goes_on.Goals as goal
-use Rattle.desk_rows.proofs.Orders.{order_of}
+use Rattle.desk_model.proofs.Orders.{order_of}
 
 pub returns-in-Some : goal.returns-in-Some
 returns-in-Some g c = λ e up.

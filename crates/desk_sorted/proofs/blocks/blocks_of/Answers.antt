@@ -4,8 +4,8 @@ use Rattle.std.specs.List.{list_any}
 use Rattle.std.specs.Ordering.{is_le}
 use Rattle.std.specs.declared.alloc.Global.{Global}
 use Rattle.std.proofs.lemmas.List.{take_rest, length-drop}
-use Rattle.desk_rows.specs.Keys.{below_by}
-use Rattle.desk_rows.specs.Lists.{ascends}
+use Rattle.desk_model.specs.Keys.{below_by}
+use Rattle.desk_model.specs.Lists.{ascends}
 use Rattle.desk_sorted.specs.Blocks.{are_filled, rows_in}
 use Rattle.desk_sorted.proofs.Blocking.{ascends_drop, filled_drop}
 use Rattle.desk_sorted.proofs.Searching.{drop_further}

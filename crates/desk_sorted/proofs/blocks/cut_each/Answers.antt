@@ -1,7 +1,7 @@
 use Rattle.std.proofs.Common.{◌<◌, ◌∙◌, arith, length}
 use Rattle.std.specs.Prelude.{not}
 use Rattle.std.proofs.lemmas.List.{length-set}
-use Rattle.desk_rows.specs.Keys.{below_by}
+use Rattle.desk_model.specs.Keys.{below_by}
 use Rattle.desk_sorted.proofs.Walking.{block_ascends, one_cut, rest_after}
 use Rattle.desk_sorted.proofs.blocks.cut_each.Goals as goal
 

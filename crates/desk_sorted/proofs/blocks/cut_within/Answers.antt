@@ -1,7 +1,7 @@
 use Rattle.std.proofs.Common.{◌-◌, ◌++◌, ◌+◌, ◌≡◌, ◌∙◌, ap, arith, drop, sym, take, List}
 use Rattle.std.specs.Prelude.{Vec}
 use Rattle.std.specs.declared.alloc.Global.{Global}
-use Rattle.desk_rows.specs.Keys.{below_by}
+use Rattle.desk_model.specs.Keys.{below_by}
 use Rattle.desk_sorted.specs.Blocks.{are_all_filled, are_filled, rows_in}
 use Rattle.desk_sorted.proofs.Blocking.{ascends_drop, ascends_take, filled_take}
 use Rattle.desk_sorted.proofs.Changing.{filled_within, whole_within}

@@ -1,7 +1,7 @@
 use Rattle.std.proofs.Common.{rules}
 use Rattle.std.specs.Ordering.{is_le}
 use Rattle.std.proofs.lemmas.List.Sorted.{IsPartitionPoint-from_clause}
-use Rattle.desk_rows.specs.Keys.{below_by}
+use Rattle.desk_model.specs.Keys.{below_by}
 use Rattle.desk_sorted.specs.Blocks.{ends_in}
 use Rattle.desk_sorted.proofs.Halving.{le_by}
 use Rattle.desk_sorted.proofs.Blocking.{Turns, blocks_turn, is_split}

@@ -1,8 +1,8 @@
 use Rattle.std.proofs.Common.{◌∙◌, ◌++◌, ◌<◌, suc, ap, arith, drop, length, sym, take}
 use Rattle.std.specs.Prelude.{Vec}
 use Rattle.std.specs.declared.alloc.Global.{Global}
-use Rattle.desk_rows.specs.Keys.{below_by}
-use Rattle.desk_rows.specs.Lists.{ascends, put}
+use Rattle.desk_model.specs.Keys.{below_by}
+use Rattle.desk_model.specs.Lists.{ascends, put}
 use Rattle.desk_sorted.specs.Blocks.{has_rows, rows_in}
 use Rattle.desk_sorted.proofs.Blocking.{ascends_drop}
 use Rattle.desk_sorted.proofs.Changing.{filled_set, has_put, put_between, rows_at, rows_set}

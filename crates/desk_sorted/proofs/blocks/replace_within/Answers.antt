@@ -4,8 +4,8 @@ use Rattle.std.specs.Vec.{vec_capacity}
 use Rattle.std.specs.declared.alloc.Global.{Global}
 use Rattle.std.proofs.lemmas.List.{append-nil}
 use Rattle.std.proofs.lemmas.List.Elements.{filter-append}
-use Rattle.desk_rows.specs.Keys.{below_by}
-use Rattle.desk_rows.specs.Lists.{ascends, put_all}
+use Rattle.desk_model.specs.Keys.{below_by}
+use Rattle.desk_model.specs.Lists.{ascends, put_all}
 use Rattle.desk_sorted.specs.Blocks.{are_all_filled, are_filled, rows_in}
 use Rattle.desk_base.proofs.Bools.{or_left, or_right}
 use Rattle.desk_sorted.proofs.Ascending.{ascends-filter}

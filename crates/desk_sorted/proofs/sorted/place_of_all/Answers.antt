@@ -1,9 +1,9 @@
 use Rattle.std.proofs.Common.{subst}
-use Rattle.desk_rows.specs.Keys.{below_by}
+use Rattle.desk_model.specs.Keys.{below_by}
 use Rattle.desk_sorted.specs.Sorted.{IsPlace}
 use Rattle.desk_sorted.proofs.Halving.{block_of}
 use Rattle.desk_sorted.proofs.sorted.place_of_all.Goals as goal
-use Rattle.desk_rows.proofs.Orders.{order_of}
+use Rattle.desk_model.proofs.Orders.{order_of}
 
 pub returns-then-place_of-place-clause-place : goal.returns-then-place_of-place-clause-place
 returns-then-place_of-place-clause-place g c =

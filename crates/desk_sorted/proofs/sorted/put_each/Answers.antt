@@ -1,7 +1,7 @@
 use Rattle.std.proofs.Common.{◌∙◌, ap, sym, arith}
-use Rattle.desk_rows.specs.Lists.{ascends, put_all}
-use Rattle.desk_rows.specs.Keys.{below_by}
-use Rattle.desk_rows.proofs.Orders.{ascends-put, order_of}
+use Rattle.desk_model.specs.Lists.{ascends, put_all}
+use Rattle.desk_model.specs.Keys.{below_by}
+use Rattle.desk_model.proofs.Orders.{ascends-put, order_of}
 use Rattle.desk_sorted.proofs.PutAll.{put_all-push}
 use Rattle.desk_sorted.proofs.sorted.put_each.Goals as goal
 

@@ -1,7 +1,7 @@
 use Rattle.std.proofs.Common.{◌≡◌, ◌+◌, ◌≤◌, true, vec_len}
 use Rattle.std.specs.Vec.{vec_capacity}
-use Rattle.desk_rows.specs.Lists.{ascends, put_all}
-use Rattle.desk_rows.specs.Keys.{below_by}
+use Rattle.desk_model.specs.Lists.{ascends, put_all}
+use Rattle.desk_model.specs.Keys.{below_by}
 use Rattle.desk_sorted.proofs.sorted.put_each.Given as goal
 
 abbrev pub invariant-loop-row : goal.invariant-loop-row

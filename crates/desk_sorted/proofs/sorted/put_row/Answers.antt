@@ -1,5 +1,5 @@
 use Rattle.std.proofs.Common.{sym, subst, ◌∙◌}
-use Rattle.desk_rows.specs.Keys.{below_by}
+use Rattle.desk_model.specs.Keys.{below_by}
 use Rattle.desk_sorted.specs.Sorted.{IsPlace}
 use Rattle.desk_sorted.proofs.Halving.{put_at}
 use Rattle.desk_sorted.proofs.sorted.put_row.Goals as goal

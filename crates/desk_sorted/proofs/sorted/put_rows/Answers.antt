@@ -1,6 +1,6 @@
 use Rattle.std.proofs.Common.{◌≡◌, ◌++◌, take, drop, sym, subst, ◌∙◌}
-use Rattle.desk_rows.specs.Lists.{put_all}
-use Rattle.desk_rows.specs.Keys.{below_by}
+use Rattle.desk_model.specs.Lists.{put_all}
+use Rattle.desk_model.specs.Keys.{below_by}
 use Rattle.desk_sorted.proofs.sorted.put_rows.Goals as goal
 
 pub returns-in-Some : goal.returns-in-Some

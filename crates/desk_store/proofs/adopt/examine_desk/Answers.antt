@@ -1,5 +1,5 @@
 use Rattle.sqlite.specs.Held.{state}
-use Rattle.desk_adopting.proofs.Spared.{kept}
+use Rattle.desk_sql_adopt.proofs.Spared.{kept}
 use Rattle.desk_store.proofs.adopt.examine_desk.Goals as goal
 
 pub returns-in-Ok-Some-clause-kept : goal.returns-in-Ok-Some-clause-kept

@@ -1,5 +1,5 @@
 use Rattle.sqlite.specs.Held.{state}
-use Rattle.desk_adopting.proofs.Spared.{kept}
+use Rattle.desk_sql_adopt.proofs.Spared.{kept}
 use Rattle.desk_store.proofs.adopt.read_beside.Goals as goal
 
 pub returns-in-Some-clause-kept : goal.returns-in-Some-clause-kept

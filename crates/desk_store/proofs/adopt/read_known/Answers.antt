@@ -1,5 +1,5 @@
 use Rattle.sqlite.specs.Held.{state}
-use Rattle.desk_adopting.proofs.Spared.{clean_before, kept}
+use Rattle.desk_sql_adopt.proofs.Spared.{clean_before, kept}
 use Rattle.desk_store.proofs.Bodies.{known}
 use Rattle.desk_store.proofs.adopt.read_known.Goals as goal
 

@@ -1,7 +1,7 @@
 use Rattle.std.proofs.Common.{◌∙◌}
 use Rattle.sqlite.specs.Held.{state}
-use Rattle.desk_layout.specs.Held.{seen_of}
-use Rattle.desk_adopting.proofs.Spared.{clean_before, kept}
+use Rattle.desk_sql_layout.specs.Held.{seen_of}
+use Rattle.desk_sql_adopt.proofs.Spared.{clean_before, kept}
 use Rattle.desk_store.proofs.Counted.{counted_kept, counted_none}
 use Rattle.desk_store.proofs.adopt.read_tallies.Goals as goal
 

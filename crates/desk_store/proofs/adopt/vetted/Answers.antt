@@ -1,6 +1,6 @@
 use Rattle.sqlite.specs.Held.{state}
-use Rattle.desk_rows.specs.Tables.{tables}
-use Rattle.desk_adopting.proofs.Spared.{clean_before}
+use Rattle.desk_model.specs.Tables.{tables}
+use Rattle.desk_sql_adopt.proofs.Spared.{clean_before}
 use Rattle.desk_store.proofs.Vetted.{left_after, passed_after, reason_after, stayed_after, stayed_now, survived}
 use Rattle.desk_store.proofs.adopt.vetted.Goals as goal
 

@@ -1,4 +1,4 @@
-use Rattle.desk_rows.specs.Tables.{tables}
+use Rattle.desk_model.specs.Tables.{tables}
 use Rattle.desk_snapshot.specs.Tables.{snapshot_of}
 use Rattle.desk_store.proofs.Audited.{is_sound_as}
 use Rattle.desk_store.proofs.audit.audit_connection.Goals as goal

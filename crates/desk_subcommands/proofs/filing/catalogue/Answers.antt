@@ -1,5 +1,5 @@
-use Rattle.desk_rows.specs.declared.command.Command.TheVariants.{LoadCatalogue}
-use Rattle.desk_rows.specs.declared.command.Outcome.TheVariants.{Answered}
+use Rattle.desk_model.specs.declared.command.Command.TheVariants.{LoadCatalogue}
+use Rattle.desk_model.specs.declared.command.Outcome.TheVariants.{Answered}
 use Rattle.desk_subcommands.specs.Filing.{Comes, outcome_line}
 use Rattle.desk_subcommands.proofs.FilingLemmas.{answered, failed}
 use Rattle.desk_subcommands.proofs.filing.catalogue.Goals as goal

@@ -1,6 +1,6 @@
 use Rattle.std.proofs.Common.{◌≡◌, ◌∙◌, ◌+◌, ◌-◌, ◌≤◌, ◌++◌, ℕ, List, ap, refl, sym, subst, arith, get_or, length, replicate, take}
 use Rattle.std.proofs.lemmas.List.{take_more, length-take-le}
-use Rattle.desk_rows.specs.declared.state.DutyState.TheVariants.{IsOpen}
+use Rattle.desk_model.specs.declared.state.DutyState.TheVariants.{IsOpen}
 use Rattle.desk_tally.specs.Stands.{AreTallied, at_state, open_at}
 use Rattle.desk_tally.specs.declared.stand.Stand.{Stand}
 use Rattle.desk_tally.proofs.Counts.{at_last, get_last, get_some, placed_low, raised-room, read, stands_some}

@@ -1,5 +1,5 @@
 use Rattle.std.proofs.Common.{refl, sym, subst, arith, ◌<◌, length}
-use Rattle.desk_rows.specs.declared.state.DutyState.{DutyState}
+use Rattle.desk_model.specs.declared.state.DutyState.{DutyState}
 use Rattle.desk_tally.proofs.Counts.{HasMoved, get_some, tallied-moved}
 use Rattle.desk_tally.proofs.lists.move_at.Goals as goal
 

@@ -1,6 +1,6 @@
 use Rattle.std.proofs.Common.{◌≡◌, ◌∙◌, ◌-◌, ◌<◌, ℕ, suc, ap, arith, get_or, length, true, List}
 use Rattle.std.specs.Prelude.{vec_len}
-use Rattle.desk_rows.specs.declared.state.DutyState.TheVariants.{IsOpen}
+use Rattle.desk_model.specs.declared.state.DutyState.TheVariants.{IsOpen}
 use Rattle.desk_tally.specs.Stands.{are_placed, is_within}
 use Rattle.desk_tally.specs.declared.stand.Stand.{Stand}
 use Rattle.desk_tally.specs.declared.stand.Shift.{Shift}

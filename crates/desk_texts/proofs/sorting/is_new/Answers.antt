@@ -1,5 +1,5 @@
 use Rattle.std.proofs.Common.{◌<◌, length, ◌∙◌, sym, ap, arith}
-use Rattle.desk_rows.specs.Texts.{text_below}
+use Rattle.desk_model.specs.Texts.{text_below}
 use Rattle.desk_texts.proofs.Halving.{first_from}
 use Rattle.desk_texts.proofs.sorting.is_new.Goals as goal
 

@@ -1,5 +1,5 @@
 use Rattle.std.proofs.Common.{◌≡◌, ◌≤◌, ◌-◌, true, false, length, map, take, drop}
-use Rattle.desk_rows.specs.Texts.{text_below}
+use Rattle.desk_model.specs.Texts.{text_below}
 use Rattle.desk_texts.specs.Rising.{Each}
 use Rattle.desk_texts.proofs.sorting.lower.Given as goal
 

@@ -4,7 +4,7 @@ use Rattle.std.specs.List.{HoldsAt}
 use Rattle.std.specs.List.Sorted.{IsStrictlySortedBy, IsNonDecreasingBy, IsPartitionPoint}
 use Rattle.std.specs.Ordering.{ordering_index}
 use Rattle.desk_expr.specs.Printing.{printed_term}
-use Rattle.desk_rows.specs.Keys.{is_rule, rule_order}
+use Rattle.desk_model.specs.Keys.{is_rule, rule_order}
 use Rattle.desk_catalogue.proofs.Sought.{found, not_found, by_side}
 use Rattle.desk_catalogue.proofs.ordered.OrderedRules.find.Goals as goal
 

@@ -1,7 +1,7 @@
 use Rattle.std.proofs.Common.{[], refl, sym, subst}
-use Rattle.desk_rows.specs.Tables.{tables}
-use Rattle.desk_office.specs.Holders.{AreHolders}
-use Rattle.desk_office.proofs.Holding.{no_holders}
+use Rattle.desk_model.specs.Tables.{tables}
+use Rattle.desk_memory_rows.specs.Holders.{AreHolders}
+use Rattle.desk_memory_rows.proofs.Holding.{no_holders}
 use Rattle.desk_core.proofs.desk.TableDesk+T+MemStore.new.Goals as goal
 
 pub returns : goal.returns

@@ -1,4 +1,4 @@
-use Rattle.desk_rows.specs.declared.command.Command.TheVariants.{Import}
+use Rattle.desk_model.specs.declared.command.Command.TheVariants.{Import}
 use Rattle.desk_core.proofs.AtHistory.{carries_out}
 use Rattle.desk_core.proofs.desk.TableDeskDesk.import.Goals as goal
 

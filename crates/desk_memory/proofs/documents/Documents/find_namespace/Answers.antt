@@ -1,7 +1,7 @@
 use Rattle.std.proofs.Common.{sym, ap, ◌∙◌}
 use Rattle.std.specs.Prelude.{slice_get}
 use Rattle.std.specs.Option.{option_map}
-use Rattle.desk_rows.specs.Keys.{has_namespace}
+use Rattle.desk_model.specs.Keys.{has_namespace}
 use Rattle.desk_memory.specs.declared.keys.NamespacePlace.{NamespacePlace}
 use Rattle.desk_sorted.proofs.Placing.{row_at, no_row}
 use Rattle.desk_memory.proofs.documents.Documents.find_namespace.Goals as goal

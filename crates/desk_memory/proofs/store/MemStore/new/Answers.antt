@@ -1,5 +1,5 @@
 use Rattle.std.proofs.Common.{[], refl}
-use Rattle.desk_rows.specs.Tables.{tables}
+use Rattle.desk_model.specs.Tables.{tables}
 use Rattle.desk_memory.proofs.store.MemStore.new.Goals as goal
 
 pub returns-clause-kept : goal.returns-clause-kept

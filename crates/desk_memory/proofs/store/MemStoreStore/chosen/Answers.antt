@@ -1,8 +1,8 @@
 use Rattle.std.proofs.Common.{◌∙◌, ap, map}
 use Rattle.std.specs.Prelude.{filter}
-use Rattle.desk_rows.specs.Keys.{is_choice_of}
-use Rattle.desk_rows.specs.Tables.{Tables}
-use Rattle.desk_rows.specs.declared.row.ChoiceRow.{ChoiceRow}
+use Rattle.desk_model.specs.Keys.{is_choice_of}
+use Rattle.desk_model.specs.Tables.{Tables}
+use Rattle.desk_model.specs.declared.row.ChoiceRow.{ChoiceRow}
 use Rattle.desk_memory.proofs.Terms.{terms_read}
 use Rattle.desk_memory.proofs.store.MemStoreStore.chosen.Goals as goal
 

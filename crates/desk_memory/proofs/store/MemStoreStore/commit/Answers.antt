@@ -1,12 +1,12 @@
 use Rattle.std.proofs.Common.{◌∙◌, inl, ap, sym, subst, arith}
 use Rattle.desk_base.proofs.Bools.{contrary}
-use Rattle.desk_rows.specs.Tables.{Tables, applied}
-use Rattle.desk_rows.specs.Keys.{release_below}
+use Rattle.desk_model.specs.Tables.{Tables, applied}
+use Rattle.desk_model.specs.Keys.{release_below}
 use Rattle.desk_history.specs.Laws.{Ascends}
 use Rattle.desk_tally.specs.Kept.{IsPlaceFor, LeadsTo}
 use Rattle.desk_tally.specs.declared.tallies.Tallies.{Tallies}
-use Rattle.desk_office.specs.Holders.{AreHolders, holders_after}
-use Rattle.desk_office.proofs.Holding.{holders_kept}
+use Rattle.desk_memory_rows.specs.Holders.{AreHolders, holders_after}
+use Rattle.desk_memory_rows.proofs.Holding.{holders_kept}
 use Rattle.desk_sorted.specs.Blocks.{rows_in}
 use Rattle.desk_memory.proofs.Committing.{ascends_from}
 use Rattle.desk_memory.proofs.store.MemStoreStore.commit.Goals as goal

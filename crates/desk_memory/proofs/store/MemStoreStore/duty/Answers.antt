@@ -1,5 +1,5 @@
 use Rattle.std.proofs.Common.{ap, ◌∙◌}
-use Rattle.desk_rows.specs.declared.row.DutyRow.{DutyRow}
+use Rattle.desk_model.specs.declared.row.DutyRow.{DutyRow}
 use Rattle.desk_memory.proofs.Founds.{duty_number}
 use Rattle.desk_memory.proofs.store.MemStoreStore.duty.Goals as goal
 

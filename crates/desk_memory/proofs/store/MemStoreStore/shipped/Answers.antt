@@ -1,7 +1,7 @@
 use Rattle.std.proofs.Common.{◌∙◌, ap, filter}
 use Rattle.std.specs.Prelude.{◌==◌}
-use Rattle.desk_rows.specs.Keys.{is_shipped_by}
-use Rattle.desk_rows.specs.Tables.{Tables}
+use Rattle.desk_model.specs.Keys.{is_shipped_by}
+use Rattle.desk_model.specs.Tables.{Tables}
 use Rattle.desk_memory.specs.Sides.{is_package_of}
 use Rattle.desk_sorted.proofs.Placing.{filter_within}
 use Rattle.desk_memory.proofs.store.MemStoreStore.shipped.Goals as goal

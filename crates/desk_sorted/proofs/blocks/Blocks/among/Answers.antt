@@ -1,8 +1,8 @@
 use Rattle.std.proofs.Common.{◌-◌, take, drop, subst, ap, ◌∙◌, List}
 use Rattle.std.specs.Prelude.{filter, Vec}
 use Rattle.std.specs.declared.alloc.Global.{Global}
-use Rattle.desk_rows.specs.Keys.{below_by}
-use Rattle.desk_rows.specs.Lists.{ascends}
+use Rattle.desk_model.specs.Keys.{below_by}
+use Rattle.desk_model.specs.Lists.{ascends}
 use Rattle.desk_sorted.specs.Blocks.{rows_in, IsBlockRun}
 use Rattle.desk_sorted.proofs.Blocking.{ascends_drop, ascends_take}
 use Rattle.desk_sorted.proofs.Searching.{found_in_run}

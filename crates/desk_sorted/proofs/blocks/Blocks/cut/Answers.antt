@@ -2,8 +2,8 @@ use Rattle.std.proofs.Common.{◌≡◌, ◌∙◌, ap, arith, length, sym, List
 use Rattle.std.specs.Prelude.{filter, not, Vec}
 use Rattle.std.specs.declared.alloc.Global.{Global}
 use Rattle.std.proofs.lemmas.List.{with_items_is}
-use Rattle.desk_rows.specs.Keys.{below_by}
-use Rattle.desk_rows.specs.Lists.{ascends}
+use Rattle.desk_model.specs.Keys.{below_by}
+use Rattle.desk_model.specs.Lists.{ascends}
 use Rattle.desk_sorted.specs.Blocks.{are_filled, rows_in}
 use Rattle.desk_sorted.proofs.Counting.{count_left, cut_fits, no_more}
 use Rattle.desk_sorted.proofs.Ascending.{ascends-filter}

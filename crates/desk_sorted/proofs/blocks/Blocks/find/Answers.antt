@@ -1,8 +1,8 @@
 use Rattle.std.proofs.Common.{◌∙◌, ap}
 use Rattle.std.specs.Prelude.{filter, slice_get, Vec}
 use Rattle.std.specs.declared.alloc.Global.{Global}
-use Rattle.desk_rows.specs.Keys.{below_by}
-use Rattle.desk_rows.specs.Lists.{ascends}
+use Rattle.desk_model.specs.Keys.{below_by}
+use Rattle.desk_model.specs.Lists.{ascends}
 use Rattle.desk_sorted.proofs.Halving.{first_found}
 use Rattle.desk_sorted.specs.Blocks.{rows_in}
 use Rattle.desk_sorted.proofs.Walking.{block_ascends, find_here, find_later, find_same, rest_ascends}

@@ -1,7 +1,7 @@
 use Rattle.std.proofs.Common.{◌≡◌, true, drop}
 use Rattle.std.specs.Prelude.{find}
-use Rattle.desk_rows.specs.Lists.{ascends}
-use Rattle.desk_rows.specs.Keys.{below_by}
+use Rattle.desk_model.specs.Lists.{ascends}
+use Rattle.desk_model.specs.Keys.{below_by}
 use Rattle.desk_sorted.specs.Blocks.{rows_in}
 use Rattle.desk_sorted.proofs.blocks.Blocks.find.Given as goal
 

@@ -1,7 +1,7 @@
 use Rattle.std.proofs.Common.{◌∙◌, arith, length, suc, ap, drop, take}
 use Rattle.std.specs.Prelude.{filter, not}
 use Rattle.std.specs.List.{list_all}
-use Rattle.desk_rows.specs.Keys.{below_by}
+use Rattle.desk_model.specs.Keys.{below_by}
 use Rattle.desk_sorted.specs.Blocks.{is_between, rows_in}
 use Rattle.desk_sorted.proofs.Changing.{alike_drop, alike_take}
 use Rattle.desk_sorted.proofs.Counting.{room_fits}

@@ -2,8 +2,8 @@ use Rattle.std.proofs.Common.{◌∙◌, ◌≤◌, suc, ap, arith, drop, length
 use Rattle.std.specs.Prelude.{filter, not, Vec}
 use Rattle.std.specs.declared.alloc.Global.{Global}
 use Rattle.std.proofs.lemmas.List.{drop_all}
-use Rattle.desk_rows.specs.Keys.{below_by}
-use Rattle.desk_rows.proofs.Orders.{order_of}
+use Rattle.desk_model.specs.Keys.{below_by}
+use Rattle.desk_model.proofs.Orders.{order_of}
 use Rattle.desk_sorted.specs.Blocks.{rows_in}
 use Rattle.desk_sorted.proofs.Walking.{all_between, between_none, first_at, if_ok}
 use Rattle.desk_sorted.proofs.blocks.Blocks.place_for.Goals as goal

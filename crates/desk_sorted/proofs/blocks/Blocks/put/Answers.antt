@@ -1,7 +1,7 @@
 use Rattle.std.proofs.Common.{◌≡◌, ◌∙◌, length, suc, ap, drop, take}
-use Rattle.desk_rows.specs.Keys.{below_by}
-use Rattle.desk_rows.specs.Lists.{ascends, put}
-use Rattle.desk_rows.proofs.Orders.{ascends-put, order_of}
+use Rattle.desk_model.specs.Keys.{below_by}
+use Rattle.desk_model.specs.Lists.{ascends, put}
+use Rattle.desk_model.proofs.Orders.{ascends-put, order_of}
 use Rattle.desk_sorted.specs.Blocks.{is_between, rows_in}
 use Rattle.desk_sorted.proofs.Changing.{alike_drop, alike_take}
 use Rattle.desk_sorted.proofs.Counting.{counted_fits, put_counted}

@@ -2,10 +2,10 @@ use Rattle.std.proofs.Common.{◌≡◌, ◌∙◌, ap, arith, length, sym, List
 use Rattle.std.specs.Prelude.{filter, not, Vec}
 use Rattle.std.specs.declared.alloc.Global.{Global}
 use Rattle.std.proofs.lemmas.List.{with_items_is}
-use Rattle.desk_rows.specs.Keys.{below_by}
-use Rattle.desk_rows.specs.Lists.{ascends, put_all}
+use Rattle.desk_model.specs.Keys.{below_by}
+use Rattle.desk_model.specs.Lists.{ascends, put_all}
 use Rattle.desk_sorted.specs.Blocks.{are_filled, rows_in}
-use Rattle.desk_rows.proofs.Orders.{order_of}
+use Rattle.desk_model.proofs.Orders.{order_of}
 use Rattle.desk_sorted.proofs.Counting.{no_more, put_fits, put_in_counted}
 use Rattle.desk_sorted.proofs.Ascending.{ascends-filter, ascends-put_all}
 use Rattle.desk_sorted.proofs.blocks.Blocks.replace.Goals as goal

@@ -1,7 +1,7 @@
 use Rattle.std.proofs.Common.{ap, ◌∙◌}
-use Rattle.desk_rows.specs.Keys.{below_by}
-use Rattle.desk_rows.specs.Lists.{ascends}
-use Rattle.desk_rows.proofs.Orders.{ascends-put, order_of}
+use Rattle.desk_model.specs.Keys.{below_by}
+use Rattle.desk_model.specs.Lists.{ascends}
+use Rattle.desk_model.proofs.Orders.{ascends-put, order_of}
 use Rattle.desk_sorted.proofs.sorted.Sorted.put.Goals as goal
 
 pub invariant_of-self : goal.invariant_of-self

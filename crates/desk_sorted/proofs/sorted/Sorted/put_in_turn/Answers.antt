@@ -1,6 +1,6 @@
 use Rattle.std.proofs.Common.{rules, sym, ap, ◌∙◌}
-use Rattle.desk_rows.specs.Lists.{put}
-use Rattle.desk_rows.specs.Keys.{below_by}
+use Rattle.desk_model.specs.Lists.{put}
+use Rattle.desk_model.specs.Keys.{below_by}
 use Rattle.desk_sorted.proofs.PutAll.{put_in_turn-push}
 use Rattle.desk_sorted.proofs.sorted.Sorted.put_in_turn.Goals as goal
 

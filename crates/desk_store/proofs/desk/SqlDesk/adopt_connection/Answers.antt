@@ -1,6 +1,6 @@
 use Rattle.sqlite.specs.Held.{state}
-use Rattle.desk_rows.specs.Tables.{tables}
-use Rattle.desk_adopting.proofs.Spared.{kept}
+use Rattle.desk_model.specs.Tables.{tables}
+use Rattle.desk_sql_adopt.proofs.Spared.{kept}
 use Rattle.desk_store.proofs.Bodies.{history_forms}
 use Rattle.desk_store.proofs.desk.SqlDesk.adopt_connection.Goals as goal
 

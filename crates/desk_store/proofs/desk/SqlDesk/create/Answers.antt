@@ -1,7 +1,7 @@
 use Rattle.std.proofs.Common.{[], ap, refl, ◌∙◌}
 use Rattle.sqlite.specs.Effect.{Database}
 use Rattle.sqlite.specs.Held.{state}
-use Rattle.desk_rows.specs.Tables.{tables}
+use Rattle.desk_model.specs.Tables.{tables}
 use Rattle.desk_store.proofs.desk.SqlDesk.create.Goals as goal
 
 pub returns-in-Ok-clause-empty : goal.returns-in-Ok-clause-empty

@@ -1,4 +1,4 @@
-use Rattle.desk_rows.specs.Tables.{tables}
+use Rattle.desk_model.specs.Tables.{tables}
 use Rattle.desk_store.proofs.desk.SqlDesk.migrate.Goals as goal
 
 pub returns-in-Ok-clause-holds : goal.returns-in-Ok-clause-holds

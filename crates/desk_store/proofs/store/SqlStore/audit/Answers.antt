@@ -1,4 +1,4 @@
-use Rattle.desk_adopting.proofs.Spared as spared
+use Rattle.desk_sql_adopt.proofs.Spared as spared
 use Rattle.desk_store.proofs.Counted.{looked}
 use Rattle.desk_store.proofs.store.SqlStore.audit.Goals as goal
 

@@ -1,6 +1,6 @@
 use Rattle.sqlite.specs.Held.{state}
-use Rattle.desk_rows.specs.Tables.{applied}
-use Rattle.desk_layout.specs.Held.{seen_of}
+use Rattle.desk_model.specs.Tables.{applied}
+use Rattle.desk_sql_layout.specs.Held.{seen_of}
 use Rattle.desk_store.specs.Counting.{known_by}
 use Rattle.desk_store.proofs.Counted.{failed, left, wrote, wrote_err}
 use Rattle.desk_store.proofs.store.SqlStoreStore.commit.Goals as goal

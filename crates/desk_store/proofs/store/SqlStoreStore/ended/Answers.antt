@@ -2,7 +2,7 @@ use Rattle.std.proofs.Common.{◌≡◌, ap, length}
 use Rattle.std.proofs.lemmas.Result.{IfOk-weaker}
 use Rattle.sqlite.specs.Held.{state}
 use Rattle.desk_history.specs.FromTables.{ended_found}
-use Rattle.desk_layout.specs.Held.{seen_of}
+use Rattle.desk_sql_layout.specs.Held.{seen_of}
 use Rattle.desk_store.specs.Counting.{known_by}
 use Rattle.desk_store.proofs.Counted.{looked, of_counted}
 use Rattle.desk_store.proofs.store.SqlStoreStore.ended.Goals as goal

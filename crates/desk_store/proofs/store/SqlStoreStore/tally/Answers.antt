@@ -1,12 +1,12 @@
 use Rattle.std.proofs.Common.{◌≡◌, ◌∙◌, ap, sym, Some, filter}
 use Rattle.std.specs.Option.{option_map}
 use Rattle.desk_history.specs.FromTables.{release_found}
-use Rattle.desk_rows.specs.Keys.{is_duty_of}
-use Rattle.desk_rows.specs.Queries.{totals_of}
-use Rattle.desk_rows.specs.declared.row.ReleaseRow.{ReleaseRow}
+use Rattle.desk_model.specs.Keys.{is_duty_of}
+use Rattle.desk_model.specs.Queries.{totals_of}
+use Rattle.desk_model.specs.declared.row.ReleaseRow.{ReleaseRow}
 use Rattle.sqlite.specs.Held.{state}
 use Rattle.desk_access.proofs.Chains.{looked_err}
-use Rattle.desk_layout.specs.Held.{seen_of}
+use Rattle.desk_sql_layout.specs.Held.{seen_of}
 use Rattle.desk_store.specs.Counting.{known_by}
 use Rattle.desk_store.proofs.Counted.{looked, same}
 use Rattle.desk_store.proofs.store.SqlStoreStore.tally.Goals as goal

@@ -1,5 +1,0 @@
-mod Orders
-mod Concluded
-mod Held
-mod Kept
-mod Choices

@@ -1,2 +1,0 @@
-mod Following
-pub mod Chains

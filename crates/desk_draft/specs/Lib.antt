@@ -1,4 +1,0 @@
-pub mod Texts
-pub mod Drafts
-pub mod Told
-pub mod Shown

@@ -1,7 +1,0 @@
-mod Digests
-mod Spelled
-mod Shipping
-mod Contents
-mod States
-pub mod Ships
-pub mod Trees

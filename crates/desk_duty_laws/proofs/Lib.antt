@@ -1,5 +1,0 @@
-mod Runs
-mod Changes
-mod Words
-mod Rules
-mod Owed

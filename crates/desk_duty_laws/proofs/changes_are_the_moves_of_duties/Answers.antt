@@ -1,5 +1,0 @@
-use Rattle.desk_duty_laws.proofs.Changes.{are_changes}
-use Rattle.desk_duty_laws.proofs.changes_are_the_moves_of_duties.Goals as goal
-
-pub returns : goal.returns
-returns c = are_changes

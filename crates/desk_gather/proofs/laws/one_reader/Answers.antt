@@ -1,5 +1,0 @@
-use Rattle.desk_gather.proofs.ReaderLemmas.{same_reader}
-use Rattle.desk_gather.proofs.laws.one_reader.Goals as goal
-
-pub returns : goal.returns
-returns c = same_reader

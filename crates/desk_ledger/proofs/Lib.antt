@@ -1,5 +1,0 @@
-mod Days
-mod Ledgering
-mod Pushing
-mod Ending
-mod Turns

@@ -1,6 +1,0 @@
-use Rattle.std.proofs.Common.{◌≡◌, drop}
-use Rattle.desk_ledger.specs.Ledgers.{numbered}
-use Rattle.desk_ledger.proofs.ledger.is_numbered.Given as goal
-
-abbrev pub invariant-loop-row : goal.invariant-loop-row
-invariant-loop-row l = numbered l.number (drop l.row-index l.rows) ≡ numbered l.first l.rows

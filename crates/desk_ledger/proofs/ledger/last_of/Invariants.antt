@@ -1,7 +1,0 @@
-use Rattle.std.proofs.Common.{◌≡◌, drop}
-use Rattle.desk_rows.specs.Queries.{last_day}
-use Rattle.desk_ledger.proofs.Days.{last_or}
-use Rattle.desk_ledger.proofs.ledger.last_of.Given as goal
-
-abbrev pub invariant-loop-row : goal.invariant-loop-row
-invariant-loop-row l = last_or l.day (drop l.row-index l.rows) ≡ last_day l.rows

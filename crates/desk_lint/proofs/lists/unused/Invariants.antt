@@ -1,7 +1,0 @@
-use Rattle.std.proofs.Common.{◌≡◌, ◌++◌, drop}
-use Rattle.desk_lint.specs.Lists.{unused}
-use Rattle.desk_lint.specs.Shown.{texts_in}
-use Rattle.desk_lint.proofs.lists.unused.Given as goal
-
-abbrev pub invariant-loop-text : goal.invariant-loop-text
-invariant-loop-text l = l.paths ++ unused l.fn.used (texts_in (drop l.text-index l.listed)) ≡ unused l.fn.used (texts_in l.listed)

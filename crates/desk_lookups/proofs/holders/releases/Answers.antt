@@ -1,6 +1,0 @@
-use Rattle.std.proofs.Common.{◌∙◌}
-use Rattle.std.proofs.lemmas.Result.{IfOk-weaker}
-use Rattle.desk_lookups.proofs.holders.releases.Goals as goal
-
-pub returns-clause-found : goal.returns-clause-found
-returns-clause-found g c = IfOk-weaker c.read_all.result _ _ (λ found is clean t held. is t.releases (c.deref.ensures.value ∙ c.in_ok-rows.ensures.found clean t held)) c.read_all.ensures

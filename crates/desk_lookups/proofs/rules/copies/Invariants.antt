@@ -1,6 +1,0 @@
-use Rattle.std.proofs.Common.{◌≡◌, take}
-use Rattle.desk_lookups.specs.Rules.{texts}
-use Rattle.desk_lookups.proofs.rules.copies.Given as goal
-
-abbrev pub invariant-loop-part : goal.invariant-loop-part
-invariant-loop-part l = l.copies.items ≡ texts (take l.part-index l.parts)

@@ -1,0 +1,17 @@
+-- What a ledger holds.
+use Rattle.std.specs.Prelude.{Bool, List}
+use Rattle.desk_model.specs.declared.row.DutyRow.{DutyRow}
+use Rattle.desk_model.specs.declared.row.ChangeRow.{ChangeRow}
+use Rattle.desk_model.specs.declared.command.Change.{Change}
+use Rattle.desk_memory_rows.specs.Ledgers.{all_of, can_take}
+use Rattle.desk_memory_rows.specs.declared.ledger.Ledger.{Ledger}
+
+abbrev pub duties_in : Ledger → List DutyRow
+duties_in ledger = ledger.duties.items
+
+abbrev pub changes_in : Ledger → List ChangeRow
+changes_in ledger = all_of ledger.groups.items
+
+-- the duties and changes of a change go on from those that stand
+abbrev pub takes : Change → Ledger → Bool
+takes c ledger = can_take c ledger.duties.items ledger.groups.items

@@ -1,6 +1,0 @@
-use Rattle.sqlite.specs.Held.{state}
-use Rattle.desk_migrating.proofs.Gained.{readings_gained}
-use Rattle.desk_migrating.proofs.upgrade.declare_readings.Goals as goal
-
-pub returns-clause-gained : goal.returns-clause-gained
-returns-clause-gained g c = readings_gained (state g.S.Store c.args.tx.now.conn.now) (state g.S.Store c.execute.new.tx.conn.now) c.execute.result c.execute.ensures.ran

@@ -1,6 +1,0 @@
-use Rattle.sqlite.specs.Held.{state}
-use Rattle.desk_migrating.proofs.Rows.{version_noted}
-use Rattle.desk_migrating.proofs.upgrade.note_version.Goals as goal
-
-pub returns-clause-gained : goal.returns-clause-gained
-returns-clause-gained g c = version_noted (state g.S.Store c.args.tx.now.conn.now) (state g.S.Store c.execute.new.tx.conn.now) c.execute.result c.execute.ensures.ran

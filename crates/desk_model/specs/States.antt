@@ -1,0 +1,39 @@
+-- Where duties stand.
+use Rattle.std.specs.Prelude.{Bool, true, false}
+use Rattle.desk_model.specs.declared.state.DutyState.{DutyState}
+use Rattle.desk_model.specs.declared.state.DutyState.TheVariants as stands
+use Rattle.desk_model.specs.declared.state.Word.{Word}
+use Rattle.desk_model.specs.declared.state.Word.TheVariants as word
+
+abbrev pub is_open : DutyState → Bool
+is_open stands.IsOpen = true
+is_open _ = false
+
+abbrev pub is_met : DutyState → Bool
+is_met stands.Met = true
+is_met _ = false
+
+abbrev pub is_waived : DutyState → Bool
+is_waived stands.Waived = true
+is_waived _ = false
+
+abbrev pub is_withdrawn : DutyState → Bool
+is_withdrawn stands.Withdrawn = true
+is_withdrawn _ = false
+
+-- where a change with this word leaves a duty
+abbrev pub state_after : Word → DutyState
+state_after word.Raised = stands.IsOpen
+state_after word.Met = stands.Met
+state_after word.Waived = stands.Waived
+state_after word.Reopened = stands.IsOpen
+state_after word.Withdrawn = stands.Withdrawn
+state_after word.Ended = stands.IsOpen
+
+-- from where a duty is met, waived and reopened
+abbrev pub goes_from : Word → DutyState → Bool
+goes_from word.Met state = is_open state
+goes_from word.Waived state = is_open state
+goes_from word.Reopened stands.Met = true
+goes_from word.Reopened stands.Waived = true
+goes_from _ _ = false

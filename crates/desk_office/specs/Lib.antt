@@ -1,4 +1,0 @@
-pub mod Sides
-pub mod Splitting
-pub mod Holders
-pub mod HolderLaws

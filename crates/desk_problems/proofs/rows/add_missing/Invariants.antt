@@ -1,6 +1,0 @@
-use Rattle.std.proofs.Common.{◌≡◌, ◌++◌, take, map}
-use Rattle.desk_problems.specs.Rows.{missing_row}
-use Rattle.desk_problems.proofs.rows.add_missing.Given as goal
-
-abbrev pub invariant-loop-name : goal.invariant-loop-name
-invariant-loop-name l = l.rows.items ≡ l.initial.rows.items ++ map missing_row (take l.name-index l.names)

@@ -1,8 +1,0 @@
-use Rattle.desk_scan.proofs.ReleaseQueries.{frozen_asks, frozen_read}
-use Rattle.desk_scan.proofs.releases.frozen_rows.Goals as goal
-
-pub returns-clause-ok : goal.returns-clause-ok
-returns-clause-ok g c = frozen_read (g.R.Source.shows c.args.source.now) (g.R.Source.shows c.listed.new.source) c.listed.result (c.listed.ensures.asked frozen_asks) c.listed.ensures.shown
-
-pub returns-clause-asked : goal.returns-clause-asked
-returns-clause-asked g c = c.listed.ensures.asked frozen_asks

@@ -1,0 +1,77 @@
+-- What is seen of a connection that was only read.
+use Rattle.std.proofs.Common.{◌≡◌, ◌⊎◌, inl, inr, ℕ, List, [], length, IfOk, Ok, Err, Result, sym, subst, ◌∙◌, arith}
+use Rattle.std.specs.Result.{IsErr}
+use Rattle.sqlite_trees.specs.Tree.{Trees}
+use Rattle.sqlite_value.specs.Order.{Row}
+use Rattle.sqlite.specs.State.{State, HasCleanDisk, Survives, Shown}
+use Rattle.sqlite.proofs.StateLemmas.{survives_then}
+use Rattle.desk_model.specs.declared.command.Fault.{Fault}
+use Rattle.desk_model.specs.Tables.{Tables}
+use Rattle.desk_access.specs.Seen.{Kept, Looked, OfRows}
+use Rattle.desk_sql_layout.specs.Held.{Holds, seen_of}
+use Rattle.desk_sql_adopt.specs.Reading.{Asks, IsSpared, HasRead}
+use Rattle.desk_sql_adopt.specs.Revisions.{ShowsCount}
+use Rattle.desk_sql_adopt.proofs.Asking.{shown_unchanged}
+
+pub clean_before : (a b : State) (P : Trees → Type 0) → Survives a b P → HasCleanDisk b → HasCleanDisk a
+clean_before a b P survives clean = omega (arith, survives.clean)
+
+pub kept : (old new : State) → IsSpared old new → Kept (seen_of old) (seen_of new)
+kept old new s = record {
+  spared = record {
+    honest = clean_before old new (λ _. ⊥) s.survives;
+    holds = λ t holds clean is.
+        let shows = holds (clean_before old new (λ _. ⊥) s.survives clean) (s.was_open clean is) in
+        record { holds = subst (Holds t) (sym (s.now clean is)) shows.holds; settled = s.committed clean is ∙ shows.settled ∙ sym (s.now clean is) };
+    outlasts = record { counts = s.survives.counts; closes = s.survives.closes };
+  };
+  leaves = λ clean is t holds x left. one x (s.survives.crash clean x left);
+}
+  where
+    one : (x : Trees) → old.may_leave x ⊎ ⊥ → old.may_leave x
+    one x (inl was) = was
+    one x (inr none) = absurd none
+
+pub looked : {A : Type 0} (old new : State) (r : Result A Fault) → HasRead old new r → Looked (seen_of old) (seen_of new) r
+looked old new (Ok x) it = record { kept = kept old new it.0; stays = it.1 }
+looked old new (Err e) it = kept old new it
+
+-- a fault that is passed on
+pub err_read : {A : Type 0} (old new : State) (r : Result A Fault) → IsErr r → IsSpared old new → HasRead old new r
+err_read old new (Ok x) is it = absurd (cc)
+err_read old new (Err e) is it = it
+
+pub spared_then : (a b c : State) → IsSpared a b → IsSpared b c → IsSpared a c
+spared_then a b c p q =
+    let before = clean_before b c (λ _. ⊥) q.survives in
+    record {
+      survives = survives_then a b c (λ _. ⊥) (λ _. ⊥) (λ _. ⊥) (λ _ db none. none) (λ _ db none. none) p.survives q.survives;
+      was_open = λ clean is. p.was_open (before clean) (q.was_open clean is);
+      now = λ clean is. q.now clean is ∙ p.now (before clean) (q.was_open clean is);
+      committed = λ clean is. q.committed clean is ∙ p.committed (before clean) (q.was_open clean is);
+    }
+
+-- one call after another
+pub read_then : {A B : Type 0} (a b c : State) (x : A) (r : Result B Fault) → HasRead a b (Ok x) → HasRead b c r → HasRead a c r
+read_then a b c x (Ok y) p q = (spared_then a b c p.0 q.0, λ clean is. q.1 clean (p.1 (clean_before b c (λ _. ⊥) q.0.survives clean) is))
+read_then a b c x (Err e) p q = spared_then a b c p.0 q
+
+-- what a query showed is so of the tables that were held
+pub of_shown : (sql : List ℕ) (params : Row) (old new : State) → Asks sql → (rows : List Row) (Is : Tables → Type 0) → IsSpared old new → (HasCleanDisk new → Shown sql params old new rows)
+    → ((t : Tables) → Shown sql params old new rows → Holds t old.now → Is t) → OfRows Is (seen_of old) (seen_of new)
+of_shown sql params old new bare rows Is spared shown right = λ clean t holds.
+    right t (shown clean) (holds (clean_before old new (λ _. ⊥) spared.survives clean) (shown_unchanged sql params old new bare rows (shown clean)).0.was_open).holds
+
+-- what is told from what was read, or not
+pub read_so : {A B : Type 0} (old new : State) (x : A) (r : Result B Fault) → HasRead old new (Ok x) → HasRead old new r
+read_so old new x (Ok y) it = it
+read_so old new x (Err e) it = it.0
+
+-- how many rows a query showed
+pub counted : (sql : List ℕ) (old new : State) → Asks sql → (r : Result ℕ Fault) (count : Tables → ℕ) → ((rows : List Row) (t : Tables) → Shown sql [] old new rows → Holds t old.now → count t ≡ length rows)
+    → HasRead old new r → (HasCleanDisk new → IfOk r (λ n. ShowsCount sql n old new)) → IfOk r (λ n. OfRows (λ t. count t ≡ n) (seen_of old) (seen_of new))
+counted sql old new bare (Ok n) count right read shown = λ clean t holds.
+    let it = shown clean in
+    let was = (shown_unchanged sql [] old new bare it.0 it.1).0.was_open in
+    right it.0 t it.1 (holds (clean_before old new (λ _. ⊥) read.0.survives clean) was).holds ∙ it.2
+counted sql old new bare (Err e) count right read shown = tt

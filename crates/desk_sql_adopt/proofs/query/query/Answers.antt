@@ -1,0 +1,13 @@
+use Rattle.std.proofs.Common.{rules}
+use Rattle.sqlite.specs.Held.{state}
+use Rattle.sqlite.specs.Values.{bound}
+use Rattle.desk_sql_adopt.proofs.Asking.{answered, failed}
+use Rattle.desk_sql_adopt.proofs.query.query.Goals as goal
+
+pub returns-in-Ok-clause-read : goal.returns-in-Ok-clause-read
+returns-in-Ok-clause-read g c = λ bare.
+    answered c.args.sql.now (bound c.args.params.now) (state g.S.Store c.args.conn.now) (state g.S.Store c.query_all.new.self) bare (c.is_autocommit-settled.ensures.settled (search rules)) c.query_all.ensures.survives c.in-Ok.rows.items c.in-Ok.ensures.ok
+
+pub returns-in-Err-clause-read : goal.returns-in-Err-clause-read
+returns-in-Err-clause-read g c = λ bare.
+    failed c.args.sql.now (bound c.args.params.now) (state g.S.Store c.args.conn.now) (state g.S.Store c.query_all.new.self) bare (c.is_autocommit-settled.ensures.settled (search rules)) c.query_all.ensures.survives c.in-Err.error c.in-Err.ensures.err

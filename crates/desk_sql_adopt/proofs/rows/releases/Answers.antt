@@ -1,0 +1,24 @@
+use Rattle.std.proofs.Common.{[], ◌∙◌}
+use Rattle.std.proofs.lemmas.Result.{IfOk-weaker}
+use Rattle.sqlite.specs.Held.{state}
+use Rattle.desk_sql_adopt.proofs.Spared.{err_read, of_shown, read_so}
+use Rattle.desk_sql_lookup.proofs.ReleaseQueries.{releases_text}
+use Rattle.desk_sql_adopt.proofs.Listing.{releases_ask, all_releases}
+use Rattle.desk_sql_adopt.proofs.rows.releases.Goals as goal
+
+pub returns-in_err-rows-clause-read : goal.returns-in_err-rows-clause-read
+returns-in_err-rows-clause-read g c =
+    err_read (state g.S.Store c.args.conn.now) (state g.S.Store c.query.new.conn) c.from_residual.result c.from_residual.ensures.0 (c.in_err-rows.ensures.read releases_ask)
+
+pub returns-clause-found : goal.returns-clause-found
+returns-clause-found g c =
+    let old = state g.S.Store c.args.conn.now in
+    let new = state g.S.Store c.query.new.conn in
+    let rows = c.in_ok-rows.rows.items in
+    IfOk-weaker c.read_releases.result _ _ (λ found is.
+    of_shown releases_text [] old new releases_ask rows _ (c.in_ok-rows.ensures.read releases_ask).0 c.in_ok-rows.ensures.shown
+    (λ t shown holds. is _ (c.deref.ensures.value ∙ all_releases old new rows t shown holds)))
+    c.read_releases.ensures
+
+pub returns-clause-read : goal.returns-clause-read
+returns-clause-read g c = read_so (state g.S.Store c.args.conn.now) (state g.S.Store c.query.new.conn) c.in_ok-rows.rows c.read_releases.result (c.in_ok-rows.ensures.read releases_ask)

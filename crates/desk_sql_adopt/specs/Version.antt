@@ -1,0 +1,52 @@
+-- The version that a database tells of its tables, and what it is taken for.
+use Rattle.std.specs.Prelude.{◌≡◌, ◌≢◌, ◌⊎◌, ℕ, ℤ, pos, Bool, true, false, ◌&&◌, List, [], ◌∷◌, codes, Option, Some, None}
+use Rattle.std.specs.List.{list_any}
+use Rattle.sqlite_value.specs.declared.value.Value.{Value}
+use Rattle.sqlite_value.specs.declared.value.Value.TheVariants.{Int}
+use Rattle.sqlite_value.specs.Order.{Row, column}
+use Rattle.sqlite_schema.specs.declared.schema.Table.{Table}
+use Rattle.sqlite_schema.specs.declared.schema.Schema.{Schema}
+use Rattle.sqlite_schema.specs.Names.{same_name}
+use Rattle.sqlite.specs.State.{State, Shown}
+use Rattle.desk_sql_layout.specs.Layout.{desk_schema}
+use Rattle.desk_sql_adopt.specs.Reading.{Answers}
+use Rattle.desk_sql_adopt.specs.declared.version.Content.{Content}
+use Rattle.desk_sql_adopt.specs.declared.version.Content.TheVariants.{Desk, OtherVersion, Other}
+
+-- a table `meta` with a column `version`
+abbrev pub is_meta : Table → Bool
+is_meta table = same_name table.name (codes "meta") && list_any (λ column. same_name column.name (codes "version")) table.columns
+
+abbrev pub has_version : Schema → Bool
+has_version schema = list_any is_meta schema.tables
+
+abbrev pub version_text : List ℕ
+version_text = codes "SELECT version FROM meta"
+
+abbrev pub whole_number : Value → Option ℤ
+whole_number (Int n) = Some n
+whole_number _ = None
+
+-- one row, with a whole number
+abbrev pub version_in : List Row → Option ℤ
+version_in (row ∷ []) = whole_number (column row 0)
+version_in _ = None
+
+-- the version, if there is just one and it is a whole number, is what the database answers when it is asked
+abbrev pub TellsVersion : Option ℤ → State → Type 0
+TellsVersion version s = (rows : List Row) × Answers version_text [] s rows × (version_in rows ≡ version)
+
+-- it is what a query for it shows
+abbrev pub ShowsVersion : Option ℤ → State → State → Type 0
+ShowsVersion version old new = (rows : List Row) × Shown version_text [] old new rows × (version_in rows ≡ version)
+
+-- no other version is told
+abbrev pub TellsNoOther : State → Type 0
+TellsNoOther s = TellsVersion (Some (pos 3)) s ⊎ TellsVersion None s
+
+-- What a database is taken for: a desk by its schema, where it tells no other version; a file of another version by that alone; else
+-- something other.
+abbrev pub IsContent : State → Content → Type 0
+IsContent s Desk = TellsNoOther s × (s.now.schema ≡ desk_schema)
+IsContent s (OtherVersion n) = TellsVersion (Some n) s × (n ≢ pos 3) × (has_version s.now.schema ≡ true)
+IsContent s Other = (has_version s.now.schema ≡ false) ⊎ (TellsNoOther s × (s.now.schema ≢ desk_schema))

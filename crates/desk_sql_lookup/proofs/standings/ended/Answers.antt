@@ -1,0 +1,22 @@
+use Rattle.std.proofs.Common.{ap, ◌∙◌}
+use Rattle.std.proofs.lemmas.Result.{IfOk-weaker}
+use Rattle.sqlite.specs.Held.{state}
+use Rattle.std.specs.List.{filter_map}
+use Rattle.desk_sql_lookup.specs.Standings.{ended_standing}
+use Rattle.desk_sql_lookup.proofs.StandingLemmas.{ended_are}
+use Rattle.desk_sql_layout.specs.Held.{seen_of}
+use Rattle.desk_sql_lookup.proofs.Chains.{then_looked, looked_honest}
+use Rattle.desk_sql_lookup.proofs.standings.ended.Goals as goal
+
+pub returns-clause-found : goal.returns-clause-found
+returns-clause-found g c =
+    let mid = seen_of (state g.S.Store c.waived.new.conn) in
+    let new = seen_of (state g.S.Store c.ended_among.new.conn) in
+    let first = c.in_ok-rows.ensures in
+    IfOk-weaker c.ended_among.result _ _
+    (λ found is clean t held count.
+    is clean t (first.kept.kept.spared.holds t held) count ∙ ap (filter_map (ended_standing t c.args.day)) (c.deref.ensures.value ∙ first.found (looked_honest mid new c.ended_among.result c.ended_among.ensures.kept clean) t held) ∙ ended_are t c.args.day t.duty) c.ended_among.ensures.found
+
+pub returns-clause-kept : goal.returns-clause-kept
+returns-clause-kept g c =
+    then_looked (seen_of (state g.S.Store c.args.conn.now)) (seen_of (state g.S.Store c.waived.new.conn)) (seen_of (state g.S.Store c.ended_among.new.conn)) c.in_ok-rows.ensures.kept c.ended_among.result c.ended_among.ensures.kept

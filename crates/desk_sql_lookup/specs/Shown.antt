@@ -1,0 +1,27 @@
+-- What a query shows of a row where it shows some of its columns.
+use Rattle.std.specs.Prelude.{ℕ, List, [], ◌∷◌}
+use Rattle.sqlite_value.specs.Order.{Row}
+use Rattle.sqlite_value.specs.declared.value.Value.TheVariants.{Text, Blob}
+use Rattle.desk_base.specs.Profiles.{profile_number}
+use Rattle.desk_base.specs.declared.profile.Profile.{Profile}
+use Rattle.desk_sql_layout.specs.Cells.{number, text_or_null}
+use Rattle.desk_model.specs.declared.row.DocumentRow.{DocumentRow}
+use Rattle.desk_model.specs.declared.row.ExtractedRow.{ExtractedRow}
+
+abbrev pub text_cells : List ℕ → Row
+text_cells text = Text text ∷ []
+
+abbrev pub bytes_cells : List ℕ → Row
+bytes_cells bytes = Blob bytes ∷ []
+
+-- the number of a document, and its profile
+abbrev pub known_cells : ℕ × Profile → Row
+known_cells known = number known.0 ∷ number (profile_number known.1) ∷ []
+
+-- the number of a document, and its bytes
+abbrev pub import_cells : DocumentRow → Row
+import_cells row = number row.number ∷ Blob row.bytes ∷ []
+
+-- the text of a reference, where it has one
+abbrev pub extracted_body_cells : ExtractedRow → Row
+extracted_body_cells row = text_or_null row.body ∷ []

@@ -1,0 +1,265 @@
+//! Documents and their packages.
+
+ghost use Rattle.std.specs.Prelude.{◌≡◌, false, IfOk, IfSome, List, Option, filter, find, map, length, slice_get};
+ghost use Rattle.std.specs.Option.{option_map};
+ghost use Rattle.sqlite.specs.Held.{state};
+ghost use Rattle.desk_access.specs.Seen.{Looked, OfRows};
+ghost use Rattle.desk_sql_layout.specs.Held.{seen_of};
+ghost use Rattle.desk_history.specs.FromTables.{known_document, known_import};
+ghost use Rattle.desk_sql_layout.specs.Cells.{package_cells};
+ghost use Rattle.desk_model.specs.Findings.{source_of};
+ghost use Rattle.desk_model.specs.Keys.{has_namespace, is_document, is_package, is_shipped_by};
+ghost use Rattle.desk_model.specs.declared.row.DocumentRow.{DocumentRow as Document};
+ghost use Rattle.desk_sql_lookup.specs.Shown.{bytes_cells, import_cells, known_cells};
+
+use crate::columns::{ROWS, number_at};
+use crate::query::{among, query, text};
+use crate::read::{read_all, read_first};
+use desk_base::{Items, Profile};
+use desk_model::{Fault, PackageRow};
+use desk_sql_layout::values::{flag, number};
+use sqlite::{Alter, Connection, Row};
+use sqlite_value::value::ValueRef;
+use std::alloc::Global;
+
+fn select_document<S: Alter>(
+    conn: &mut Connection<S>,
+    documents: u32,
+    n: u64,
+) -> Result<Vec<Row>, Fault>
+    ensures found { IfOk result (λ rows. OfRows (λ t.
+        length t.document ≡ documents → rows.items ≡ map known_cells
+        (map known_document (filter (is_document n) t.document))) (seen_of (state S.Store conn.old))
+        (seen_of (state S.Store conn.new))) }
+    ensures kept { Looked (seen_of (state S.Store conn.old)) (seen_of (state S.Store conn.new)) result }
+    ensures mode { conn.old.in_transaction ≡ false → conn.new.in_transaction ≡ false }
+{
+    query(
+        conn,
+        "SELECT document, profile FROM reading WHERE document = ?1 ORDER BY document",
+        &[among(n, documents)],
+    )
+}
+
+/// What is known of a document, if it has this number.
+fn numbered(found: Option<(u32, Profile)>, number: u64) -> Result<Option<(u32, Profile)>, Fault>
+    ensures kept { IfOk result (λ kept. kept ≡ found) }
+    ensures same { IfOk result (λ kept. IfSome kept (λ known. known.0 ≡ number)) }
+{
+    match found {
+        Some(known) if u64::from(known.0) != number => Err(ROWS),
+        found => Ok(found),
+    }
+}
+
+/// A document by its number, of so many documents: the number, and its profile.
+#[tactic(auto, using(crate::proofs::Loops::first_mapped))]
+pub fn document<S: Alter>(
+    alloc: Global,
+    conn: &mut Connection<S>,
+    documents: u32,
+    number: u64,
+) -> Result<Option<(u32, Profile)>, Fault>
+    ensures found { IfOk result (λ found. OfRows (λ t.
+        length t.document ≡ documents → found ≡ option_map known_document
+        (find (is_document number) t.document)) (seen_of (state S.Store conn.old))
+        (seen_of (state S.Store conn.new))) }
+    ensures same { IfOk result (λ found. IfSome found (λ known. known.0 ≡ number)) }
+    ensures kept { Looked (seen_of (state S.Store conn.old)) (seen_of (state S.Store conn.new)) result }
+    ensures mode { conn.old.in_transaction ≡ false → conn.new.in_transaction ≡ false }
+{
+    let rows = select_document(conn, documents, number)?;
+    let found = read_first(alloc, &rows)?;
+    numbered(found, number)
+}
+
+fn select_document_bytes<S: Alter>(
+    conn: &mut Connection<S>,
+    documents: u32,
+    n: u64,
+) -> Result<Vec<Row>, Fault>
+    ensures found { IfOk result (λ rows. OfRows (λ t.
+        length t.document ≡ documents → rows.items ≡ map bytes_cells
+        (map (λ row. row.bytes) (filter (is_document n) t.document)))
+        (seen_of (state S.Store conn.old)) (seen_of (state S.Store conn.new))) }
+    ensures kept { Looked (seen_of (state S.Store conn.old)) (seen_of (state S.Store conn.new)) result }
+    ensures mode { conn.old.in_transaction ≡ false → conn.new.in_transaction ≡ false }
+{
+    query(
+        conn,
+        "SELECT bytes FROM document WHERE number = ?1 ORDER BY number",
+        &[among(n, documents)],
+    )
+}
+
+/// The bytes of a document, of so many documents.
+#[tactic(auto, using(crate::proofs::Loops::first_mapped))]
+fn document_bytes<S: Alter>(
+    alloc: Global,
+    conn: &mut Connection<S>,
+    documents: u32,
+    number: u64,
+) -> Result<Option<Items<u8>>, Fault>
+    ensures found { IfOk result (λ found. OfRows (λ t.
+        length t.document ≡ documents → found ≡ option_map (λ row. row.bytes)
+        (find (is_document number) t.document)) (seen_of (state S.Store conn.old))
+        (seen_of (state S.Store conn.new))) }
+    ensures kept { Looked (seen_of (state S.Store conn.old)) (seen_of (state S.Store conn.new)) result }
+    ensures mode { conn.old.in_transaction ≡ false → conn.new.in_transaction ≡ false }
+{
+    let rows = select_document_bytes(conn, documents, number)?;
+    read_first(alloc, &rows)
+}
+
+/// The source of a document, from its bytes and what else is known of it.
+fn source_from(
+    bytes: Option<Items<u8>>,
+    known: Option<(u32, Profile)>,
+) -> Option<(Items<u8>, Profile)>
+    ensures { (x : Option Document) → bytes ≡ option_map (λ row. row.bytes) x
+        → known ≡ option_map known_document x → result ≡ option_map source_of x }
+{
+    match (bytes, known) {
+        (Some(bytes), Some((_, profile))) => Some((bytes, profile)),
+        _ => None,
+    }
+}
+
+/// The bytes of a document, and its profile, of so many documents.
+pub fn document_source<S: Alter>(
+    alloc: Global,
+    conn: &mut Connection<S>,
+    documents: u32,
+    number: u64,
+) -> Result<Option<(Items<u8>, Profile)>, Fault>
+    ensures found { IfOk result (λ found. OfRows (λ t.
+        length t.document ≡ documents → found ≡ option_map source_of
+        (find (is_document number) t.document)) (seen_of (state S.Store conn.old))
+        (seen_of (state S.Store conn.new))) }
+    ensures kept { Looked (seen_of (state S.Store conn.old)) (seen_of (state S.Store conn.new)) result }
+    ensures mode { conn.old.in_transaction ≡ false → conn.new.in_transaction ≡ false }
+{
+    let known = document(alloc, conn, documents, number)?;
+    let bytes = document_bytes(alloc, conn, documents, number)?;
+    Ok(source_from(bytes, known))
+}
+
+fn select_import<S: Alter>(conn: &mut Connection<S>, namespace: &str) -> Result<Vec<Row>, Fault>
+    ensures found { IfOk result (λ rows. OfRows (λ t.
+        rows.items ≡ map import_cells (filter (has_namespace namespace.now) t.document))
+        (seen_of (state S.Store conn.old)) (seen_of (state S.Store conn.new))) }
+    ensures kept { Looked (seen_of (state S.Store conn.old)) (seen_of (state S.Store conn.new)) result }
+    ensures mode { conn.old.in_transaction ≡ false → conn.new.in_transaction ≡ false }
+{
+    query(
+        conn,
+        "SELECT number, bytes FROM document WHERE namespace = ?1 ORDER BY namespace",
+        &[text(namespace)],
+    )
+}
+
+/// The number of a document, and whether its bytes are these.
+fn read_import(row: &Row, bytes: &[u8]) -> Result<(u32, bool), Fault>
+    ensures { IfOk result (λ found. (x : Document) → row.now ≡ import_cells x
+        → found ≡ known_import bytes.now x) }
+{
+    match row.get_ref(1) {
+        Ok(ValueRef::Blob(blob)) => Ok((number_at(row, 0)?, blob == bytes)),
+        _ => Err(ROWS),
+    }
+}
+
+fn first_import(rows: &[Row], bytes: &[u8]) -> Result<Option<(u32, bool)>, Fault>
+    ensures { IfOk result (λ found. (xs : List Document) → rows.now ≡ map import_cells xs
+        → found ≡ option_map (known_import bytes.now) (slice_get xs 0)) }
+{
+    match rows.first() {
+        Some(row) => Ok(Some(read_import(row, bytes)?)),
+        None => Ok(None),
+    }
+}
+
+/// The document with a namespace: its number, and whether its bytes are these.
+pub fn import_of<S: Alter>(
+    conn: &mut Connection<S>,
+    namespace: &str,
+    bytes: &[u8],
+) -> Result<Option<(u32, bool)>, Fault>
+    ensures found { IfOk result (λ found. OfRows (λ t.
+        found ≡ option_map (known_import bytes.now) (find (has_namespace namespace.now) t.document))
+        (seen_of (state S.Store conn.old)) (seen_of (state S.Store conn.new))) }
+    ensures kept { Looked (seen_of (state S.Store conn.old)) (seen_of (state S.Store conn.new)) result }
+    ensures mode { conn.old.in_transaction ≡ false → conn.new.in_transaction ≡ false }
+{
+    let rows = select_import(conn, namespace)?;
+    first_import(&rows, bytes)
+}
+
+fn select_package<S: Alter>(
+    conn: &mut Connection<S>,
+    documents: u32,
+    document: u64,
+    id: &str,
+) -> Result<Vec<Row>, Fault>
+    ensures found { IfOk result (λ rows. OfRows (λ t.
+        length t.document ≡ documents → rows.items ≡ map package_cells
+        (filter (is_package document id.now) t.packages)) (seen_of (state S.Store conn.old))
+        (seen_of (state S.Store conn.new))) }
+    ensures kept { Looked (seen_of (state S.Store conn.old)) (seen_of (state S.Store conn.new)) result }
+    ensures mode { conn.old.in_transaction ≡ false → conn.new.in_transaction ≡ false }
+{
+    query(
+        conn,
+        "SELECT document, id, name, version, concluded, copyright, shipped FROM package WHERE document = ?1 AND id = ?2 ORDER BY document, id",
+        &[among(document, documents), text(id)],
+    )
+}
+
+/// A package of a document, of so many documents.
+#[tactic(auto, using(crate::proofs::Loops::first_is))]
+pub fn package_row<S: Alter>(
+    alloc: Global,
+    conn: &mut Connection<S>,
+    documents: u32,
+    document: u64,
+    id: &str,
+) -> Result<Option<PackageRow>, Fault>
+    ensures found { IfOk result (λ found. OfRows (λ t.
+        length t.document ≡ documents → found ≡ find (is_package document id.now) t.packages)
+        (seen_of (state S.Store conn.old)) (seen_of (state S.Store conn.new))) }
+    ensures kept { Looked (seen_of (state S.Store conn.old)) (seen_of (state S.Store conn.new)) result }
+    ensures mode { conn.old.in_transaction ≡ false → conn.new.in_transaction ≡ false }
+{
+    let rows = select_package(conn, documents, document, id)?;
+    read_first(alloc, &rows)
+}
+
+fn select_shipped<S: Alter>(conn: &mut Connection<S>, document: u32) -> Result<Vec<Row>, Fault>
+    ensures found { IfOk result (λ rows. OfRows (λ t.
+        rows.items ≡ map package_cells (filter (is_shipped_by document) t.packages))
+        (seen_of (state S.Store conn.old)) (seen_of (state S.Store conn.new))) }
+    ensures kept { Looked (seen_of (state S.Store conn.old)) (seen_of (state S.Store conn.new)) result }
+    ensures mode { conn.old.in_transaction ≡ false → conn.new.in_transaction ≡ false }
+{
+    query(
+        conn,
+        "SELECT document, id, name, version, concluded, copyright, shipped FROM package WHERE document = ?1 AND shipped = ?2 ORDER BY document, id",
+        &[number(document), flag(true)],
+    )
+}
+
+/// The shipped packages of a document, by id.
+pub fn shipped<S: Alter>(
+    alloc: Global,
+    conn: &mut Connection<S>,
+    document: u32,
+) -> Result<Vec<PackageRow>, Fault>
+    ensures found { IfOk result (λ found. OfRows (λ t.
+        found.items ≡ filter (is_shipped_by document) t.packages) (seen_of (state S.Store conn.old))
+        (seen_of (state S.Store conn.new))) }
+    ensures kept { Looked (seen_of (state S.Store conn.old)) (seen_of (state S.Store conn.new)) result }
+    ensures mode { conn.old.in_transaction ≡ false → conn.new.in_transaction ≡ false }
+{
+    let rows = select_shipped(conn, document)?;
+    read_all(alloc, &rows)
+}

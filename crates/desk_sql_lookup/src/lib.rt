@@ -1,0 +1,37 @@
+//! What is looked up in the desk's tables in a SQL database (`desk_sql_layout`): for each look-up of `desk_access::Store` that reads
+//! rows, a function over a connection.
+//!
+//! Each statement is a SELECT over one table: the rows that equal given values in named columns, by the table's key. What more is asked
+//! is told from these rows. A connection shows the rows of the tables that its database holds, in each way in which it may hold them;
+//! the clause `found` says what is told of them as of those of a store, `kept` that the look-up leaves them, and `mode` that no
+//! transaction is open after it where none was before.
+//!
+//! Documents, duties and revisions are numbered from 1, and the caller says how many there are. What stands in a column is read as
+//! the desk knows it: a value of another kind, which no desk's table has, is told as a fault of the store's rows. `read_releases` and
+//! `read_duties` read rows that another statement showed.
+#![tactic(auto)]
+
+mod changes;
+mod columns;
+mod documents;
+mod duties;
+mod holders;
+mod office;
+mod query;
+mod read;
+mod releases;
+mod rows;
+mod rules;
+mod standings;
+mod texts;
+
+pub use changes::{changes_of, last_day, steps};
+pub use documents::{document, document_source, import_of, package_row, shipped};
+pub use duties::{duties_of, duty};
+pub use holders::holder;
+pub use office::{adoption, adoption_count, conclusion};
+pub use releases::{attached, attached_count, chosen, frozen, is_attached, release};
+pub use rows::{read_duties, read_releases};
+pub use rules::rule;
+pub use standings::{ended, standings_of};
+pub use texts::{catalogue_text, extracted_text};

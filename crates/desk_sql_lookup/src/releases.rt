@@ -1,0 +1,203 @@
+//! Releases, what is attached to them, and what is chosen and frozen for their packages.
+
+ghost use Rattle.std.specs.Prelude.{◌≡◌, ◌==◌, false, IfOk, filter, map, length};
+ghost use Rattle.std.specs.List.{list_any};
+ghost use Rattle.std.specs.Str.{bytes_eq};
+ghost use Rattle.sqlite.specs.Held.{state};
+ghost use Rattle.desk_access.specs.Seen.{Looked, OfRows};
+ghost use Rattle.desk_sql_layout.specs.Held.{seen_of};
+ghost use Rattle.desk_history.specs.FromTables.{release_found};
+ghost use Rattle.desk_sql_layout.specs.Cells.{attached_cells, frozen_cells, release_cells};
+ghost use Rattle.desk_model.specs.History.{attached_to};
+ghost use Rattle.desk_model.specs.Keys.{is_attachment, is_choice_of, is_release};
+ghost use Rattle.desk_sql_lookup.specs.Shown.{text_cells};
+
+use crate::query::{query, text};
+use crate::read::{read_all, read_first};
+use desk_base::Text;
+use desk_model::{AttachedRow, Fault, FrozenRow, ReleaseRow};
+use desk_sql_layout::values::number;
+use sqlite::{Alter, Connection, Row};
+use std::alloc::Global;
+
+fn select_release<S: Alter>(conn: &mut Connection<S>, name: &str) -> Result<Vec<Row>, Fault>
+    ensures found { IfOk result (λ rows. OfRows (λ t.
+        rows.items ≡ map release_cells (filter (is_release name.now) t.releases))
+        (seen_of (state S.Store conn.old)) (seen_of (state S.Store conn.new))) }
+    ensures kept { Looked (seen_of (state S.Store conn.old)) (seen_of (state S.Store conn.new)) result }
+    ensures mode { conn.old.in_transaction ≡ false → conn.new.in_transaction ≡ false }
+{
+    query(
+        conn,
+        "SELECT name, place, form, state, revision FROM releases WHERE name = ?1 ORDER BY name",
+        &[text(name)],
+    )
+}
+
+/// The release with a name.
+pub fn release<S: Alter>(
+    alloc: Global,
+    conn: &mut Connection<S>,
+    name: &str,
+) -> Result<Option<ReleaseRow>, Fault>
+    ensures found { IfOk result (λ found. OfRows (λ t.
+        found ≡ release_found t name.now) (seen_of (state S.Store conn.old))
+        (seen_of (state S.Store conn.new))) }
+    ensures kept { Looked (seen_of (state S.Store conn.old)) (seen_of (state S.Store conn.new)) result }
+    ensures mode { conn.old.in_transaction ≡ false → conn.new.in_transaction ≡ false }
+{
+    let rows = select_release(conn, name)?;
+    read_first(alloc, &rows)
+}
+
+fn select_attached<S: Alter>(conn: &mut Connection<S>, release: &str) -> Result<Vec<Row>, Fault>
+    ensures found { IfOk result (λ rows. OfRows (λ t.
+        rows.items ≡ map attached_cells (attached_to t.attached release.now))
+        (seen_of (state S.Store conn.old)) (seen_of (state S.Store conn.new))) }
+    ensures kept { Looked (seen_of (state S.Store conn.old)) (seen_of (state S.Store conn.new)) result }
+    ensures mode { conn.old.in_transaction ≡ false → conn.new.in_transaction ≡ false }
+{
+    query(
+        conn,
+        "SELECT release, document FROM attached WHERE release = ?1 ORDER BY release, document",
+        &[text(release)],
+    )
+}
+
+/// The documents attached to a release, by number.
+pub fn attached<S: Alter>(
+    alloc: Global,
+    conn: &mut Connection<S>,
+    release: &str,
+) -> Result<Vec<AttachedRow>, Fault>
+    ensures found { IfOk result (λ found. OfRows (λ t.
+        found.items ≡ attached_to t.attached release.now) (seen_of (state S.Store conn.old))
+        (seen_of (state S.Store conn.new))) }
+    ensures kept { Looked (seen_of (state S.Store conn.old)) (seen_of (state S.Store conn.new)) result }
+    ensures mode { conn.old.in_transaction ≡ false → conn.new.in_transaction ≡ false }
+{
+    let rows = select_attached(conn, release)?;
+    read_all(alloc, &rows)
+}
+
+/// Whether a document is among those attached to a release.
+fn is_among(rows: &[AttachedRow], document: u64) -> bool
+    ensures { result ≡ list_any (λ row. row.document == document) rows.now }
+{
+    rows.iter().any(|row| u64::from(row.document) == document)
+}
+
+/// Whether a document is attached to a release.
+pub fn is_attached<S: Alter>(
+    alloc: Global,
+    conn: &mut Connection<S>,
+    release: &str,
+    document: u64,
+) -> Result<bool, Fault>
+    ensures found { IfOk result (λ found. OfRows (λ t.
+        found ≡ list_any (is_attachment release.now document) t.attached)
+        (seen_of (state S.Store conn.old)) (seen_of (state S.Store conn.new))) }
+    ensures kept { Looked (seen_of (state S.Store conn.old)) (seen_of (state S.Store conn.new)) result }
+    ensures mode { conn.old.in_transaction ≡ false → conn.new.in_transaction ≡ false }
+{
+    let rows = attached(alloc, conn, release)?;
+    Ok(is_among(&rows, document))
+}
+
+fn select_attached_count<S: Alter>(
+    conn: &mut Connection<S>,
+    release: &str,
+) -> Result<Vec<Row>, Fault>
+    ensures found { IfOk result (λ rows. OfRows (λ t.
+        length rows.items ≡ length (attached_to t.attached release.now))
+        (seen_of (state S.Store conn.old)) (seen_of (state S.Store conn.new))) }
+    ensures kept { Looked (seen_of (state S.Store conn.old)) (seen_of (state S.Store conn.new)) result }
+    ensures mode { conn.old.in_transaction ≡ false → conn.new.in_transaction ≡ false }
+{
+    query(
+        conn,
+        "SELECT document FROM attached WHERE release = ?1",
+        &[text(release)],
+    )
+}
+
+/// How many documents are attached to a release.
+pub fn attached_count<S: Alter>(conn: &mut Connection<S>, release: &str) -> Result<u64, Fault>
+    ensures found { IfOk result (λ found. OfRows (λ t.
+        found ≡ length (attached_to t.attached release.now)) (seen_of (state S.Store conn.old))
+        (seen_of (state S.Store conn.new))) }
+    ensures kept { Looked (seen_of (state S.Store conn.old)) (seen_of (state S.Store conn.new)) result }
+    ensures mode { conn.old.in_transaction ≡ false → conn.new.in_transaction ≡ false }
+{
+    let rows = select_attached_count(conn, release)?;
+    Ok(rows.len() as u64)
+}
+
+pub(crate) fn select_chosen<S: Alter>(
+    conn: &mut Connection<S>,
+    release: &str,
+    document: u32,
+    id: &str,
+) -> Result<Vec<Row>, Fault>
+    ensures found { IfOk result (λ rows. OfRows (λ t.
+        rows.items ≡ map text_cells (map (λ row. row.term)
+        (filter (is_choice_of release.now document id.now) t.choice)))
+        (seen_of (state S.Store conn.old)) (seen_of (state S.Store conn.new))) }
+    ensures kept { Looked (seen_of (state S.Store conn.old)) (seen_of (state S.Store conn.new)) result }
+    ensures mode { conn.old.in_transaction ≡ false → conn.new.in_transaction ≡ false }
+{
+    query(
+        conn,
+        "SELECT term FROM choice WHERE release = ?1 AND document = ?2 AND package = ?3 ORDER BY release, document, package, term",
+        &[text(release), number(document), text(id)],
+    )
+}
+
+/// The terms chosen for a package in a release, in order.
+pub fn chosen<S: Alter>(
+    alloc: Global,
+    conn: &mut Connection<S>,
+    release: &str,
+    document: u32,
+    id: &str,
+) -> Result<Vec<Text>, Fault>
+    ensures found { IfOk result (λ found. OfRows (λ t.
+        found.items ≡ map (λ row. row.term)
+        (filter (is_choice_of release.now document id.now) t.choice))
+        (seen_of (state S.Store conn.old)) (seen_of (state S.Store conn.new))) }
+    ensures kept { Looked (seen_of (state S.Store conn.old)) (seen_of (state S.Store conn.new)) result }
+    ensures mode { conn.old.in_transaction ≡ false → conn.new.in_transaction ≡ false }
+{
+    let rows = select_chosen(conn, release, document, id)?;
+    read_all(alloc, &rows)
+}
+
+fn select_frozen<S: Alter>(conn: &mut Connection<S>, release: &str) -> Result<Vec<Row>, Fault>
+    ensures found { IfOk result (λ rows. OfRows (λ t.
+        rows.items ≡ map frozen_cells (filter (λ row. bytes_eq row.release release.now) t.frozen))
+        (seen_of (state S.Store conn.old)) (seen_of (state S.Store conn.new))) }
+    ensures kept { Looked (seen_of (state S.Store conn.old)) (seen_of (state S.Store conn.new)) result }
+    ensures mode { conn.old.in_transaction ≡ false → conn.new.in_transaction ≡ false }
+{
+    query(
+        conn,
+        "SELECT release, document, package, term, rule FROM frozen WHERE release = ?1 ORDER BY release, document, package, term",
+        &[text(release)],
+    )
+}
+
+/// The terms that a release was frozen with, by document and package, each with its rule.
+pub fn frozen<S: Alter>(
+    alloc: Global,
+    conn: &mut Connection<S>,
+    release: &str,
+) -> Result<Vec<FrozenRow>, Fault>
+    ensures found { IfOk result (λ found. OfRows (λ t.
+        found.items ≡ filter (λ row. bytes_eq row.release release.now) t.frozen)
+        (seen_of (state S.Store conn.old)) (seen_of (state S.Store conn.new))) }
+    ensures kept { Looked (seen_of (state S.Store conn.old)) (seen_of (state S.Store conn.new)) result }
+    ensures mode { conn.old.in_transaction ≡ false → conn.new.in_transaction ≡ false }
+{
+    let rows = select_frozen(conn, release)?;
+    read_all(alloc, &rows)
+}

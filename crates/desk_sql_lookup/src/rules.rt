@@ -1,0 +1,111 @@
+//! Rules of the catalogue.
+
+ghost use Rattle.std.specs.Prelude.{◌≡◌, ◌==◌, ℕ, true, false, IfOk, List, filter, map, length, slice_get};
+ghost use Rattle.std.specs.List.{list_all, slice_split};
+ghost use Rattle.std.specs.Option.{option_map};
+ghost use Rattle.sqlite.specs.Held.{state};
+ghost use Rattle.desk_access.specs.Seen.{Looked, OfRows};
+ghost use Rattle.desk_sql_layout.specs.Held.{seen_of};
+ghost use Rattle.desk_history.specs.FromTables.{rule_of, rules_found};
+ghost use Rattle.desk_sql_layout.specs.Cells.{is_word, joined, rule_cells};
+ghost use Rattle.desk_model.specs.History.{rule_for};
+ghost use Rattle.desk_model.specs.declared.row.RuleRow.{RuleRow};
+ghost use Rattle.desk_sql_lookup.specs.Rules.{are_words, is_rule_at, texts};
+
+use crate::columns::{str_at, text_at};
+use crate::query::{query, text};
+use desk_base::{Items, Text};
+use desk_model::{Fault, Rule};
+use desk_sql_layout::values::number;
+use sqlite::{Alter, Connection, Row};
+use std::alloc::{AllocError, Global};
+
+/// The parts of a text between blanks.
+fn parts_of(alloc: Global, text: &str) -> Result<Vec<&str>, AllocError>
+    ensures { IfOk result (λ parts. texts parts.items ≡ slice_split (λ b. b == 32) text.now) }
+{
+    text.split(' ').collect(alloc)
+}
+
+/// Copies of texts.
+fn copies(alloc: Global, parts: &[&str]) -> Result<Vec<Text>, AllocError>
+    ensures { IfOk result (λ copies. copies.items ≡ texts parts.now) }
+{
+    let mut copies = Vec::new(alloc);
+    for part in parts {
+        copies.push(Text::of(alloc, part)?)?;
+    }
+    Ok(copies)
+}
+
+/// The words that a text joins by one blank.
+fn words_of(alloc: Global, text: &str) -> Result<Items<Text>, AllocError>
+    ensures { IfOk result (λ words. (xs : List (List ℕ)) → list_all is_word xs ≡ true
+        → text.now ≡ joined xs → words ≡ xs) }
+{
+    if text.is_empty() {
+        return Ok(Items::new(alloc));
+    }
+    let parts = parts_of(alloc, text)?;
+    Ok(Items::from_vec(copies(alloc, &parts)?))
+}
+
+fn read_rule(alloc: Global, row: &Row) -> Result<Rule, Fault>
+    ensures { IfOk result (λ found. (x : RuleRow) → list_all is_word x.codes ≡ true
+        → row.now ≡ rule_cells x → found ≡ rule_of x) }
+{
+    Ok(Rule {
+        term: text_at(alloc, row, 1)?,
+        form: text_at(alloc, row, 2)?,
+        spelled: text_at(alloc, row, 3)?,
+        codes: words_of(alloc, str_at(row, 4)?)?,
+    })
+}
+
+fn first_rule(alloc: Global, rows: &[Row]) -> Result<Option<Rule>, Fault>
+    ensures { IfOk result (λ found. (xs : List RuleRow) → are_words xs ≡ true
+        → rows.now ≡ map rule_cells xs → found ≡ option_map rule_of (slice_get xs 0)) }
+{
+    match rows.first() {
+        Some(row) => Ok(Some(read_rule(alloc, row)?)),
+        None => Ok(None),
+    }
+}
+
+fn select_rule<S: Alter>(
+    conn: &mut Connection<S>,
+    revision: u32,
+    term: &str,
+    form: &str,
+) -> Result<Vec<Row>, Fault>
+    ensures found { IfOk result (λ rows. OfRows (λ t.
+        (rows.items ≡ map rule_cells (filter (is_rule_at revision term.now form.now) t.rule))
+        × (are_words (filter (is_rule_at revision term.now form.now) t.rule) ≡ true))
+        (seen_of (state S.Store conn.old)) (seen_of (state S.Store conn.new))) }
+    ensures kept { Looked (seen_of (state S.Store conn.old)) (seen_of (state S.Store conn.new)) result }
+    ensures mode { conn.old.in_transaction ≡ false → conn.new.in_transaction ≡ false }
+{
+    query(
+        conn,
+        "SELECT revision, term, form, spelled, codes FROM rule WHERE revision = ?1 AND term = ?2 AND form = ?3 ORDER BY revision, term, form",
+        &[number(revision), text(term), text(form)],
+    )
+}
+
+/// The rule for a term and a form of the revision in force, of so many revisions.
+pub fn rule<S: Alter>(
+    alloc: Global,
+    conn: &mut Connection<S>,
+    revisions: u32,
+    term: &str,
+    form: &str,
+) -> Result<Option<Rule>, Fault>
+    ensures found { IfOk result (λ found. OfRows (λ t.
+        length t.catalogue ≡ revisions → found ≡ rule_for (rules_found t) term.now form.now)
+        (seen_of (state S.Store conn.old)) (seen_of (state S.Store conn.new))) }
+    ensures kept { Looked (seen_of (state S.Store conn.old)) (seen_of (state S.Store conn.new)) result }
+    ensures mode { conn.old.in_transaction ≡ false → conn.new.in_transaction ≡ false }
+{
+    let rows = select_rule(conn, revisions, term, form)?;
+    first_rule(alloc, &rows)
+}

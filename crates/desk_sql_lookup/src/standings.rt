@@ -1,0 +1,201 @@
+//! Where duties stand.
+
+ghost use Rattle.std.specs.Prelude.{◌≡◌, false, IfOk, OnOk, filter, map, length};
+ghost use Rattle.std.specs.List.{filter_map, last_or};
+ghost use Rattle.std.specs.Option.{option_and_then, option_copied};
+ghost use Rattle.sqlite.specs.Held.{state};
+ghost use Rattle.desk_access.specs.Seen.{Looked, OfRows};
+ghost use Rattle.desk_sql_layout.specs.Held.{seen_of};
+ghost use Rattle.desk_history.specs.FromTables.{ended_found, standing_found, standings_found};
+ghost use Rattle.desk_sql_layout.specs.Cells.{duty_cells};
+ghost use Rattle.desk_model.specs.Names.{duty_state_name};
+ghost use Rattle.desk_model.specs.States.{is_waived};
+ghost use Rattle.desk_model.specs.Texts.{is_before};
+ghost use Rattle.desk_sql_lookup.specs.Standings.{and_some, ended_standing, has_end_before, stands_at};
+
+use crate::changes::{changes_of, steps};
+use crate::duties::duties_of;
+use crate::query::query;
+use crate::read::read_all;
+use desk_base::Day;
+use desk_model::{ChangeRow, DutyRow, DutyState, Fault, Standing};
+use desk_sql_layout::values::duty_state;
+use sqlite::{Alter, Connection, Row};
+use std::alloc::{AllocError, Global};
+
+/// Where a duty stands.
+fn standing<S: Alter>(
+    conn: &mut Connection<S>,
+    duties: u32,
+    row: &DutyRow,
+) -> Result<Standing, Fault>
+    ensures found { IfOk result (λ found. OfRows (λ t.
+        length t.duty ≡ duties → found ≡ standing_found t row.now) (seen_of (state S.Store conn.old))
+        (seen_of (state S.Store conn.new))) }
+    ensures kept { Looked (seen_of (state S.Store conn.old)) (seen_of (state S.Store conn.new)) result }
+    ensures mode { conn.old.in_transaction ≡ false → conn.new.in_transaction ≡ false }
+{
+    let steps = steps(conn, duties, u64::from(row.number))?;
+    Ok(Standing {
+        number: row.number,
+        state: row.state,
+        steps,
+    })
+}
+
+#[tactic(auto, using(crate::proofs::Chains::same_then_kept))]
+fn standings<S: Alter>(
+    alloc: Global,
+    conn: &mut Connection<S>,
+    duties: u32,
+    rows: &[DutyRow],
+) -> Result<Vec<Standing>, Fault>
+    ensures found { IfOk result (λ found. OfRows (λ t.
+        length t.duty ≡ duties → found.items ≡ map (standing_found t) rows.now)
+        (seen_of (state S.Store conn.old)) (seen_of (state S.Store conn.new))) }
+    ensures kept { Looked (seen_of (state S.Store conn.old)) (seen_of (state S.Store conn.new)) result }
+    ensures mode { conn.old.in_transaction ≡ false → conn.new.in_transaction ≡ false }
+{
+    let mut found = Vec::new(alloc);
+    for row in rows {
+        found.push(standing(conn, duties, row)?)?;
+    }
+    Ok(found)
+}
+
+/// Where the duties of a release stand, by number, of so many duties.
+pub fn standings_of<S: Alter>(
+    alloc: Global,
+    conn: &mut Connection<S>,
+    duties: u32,
+    release: &str,
+) -> Result<Vec<Standing>, Fault>
+    ensures found { IfOk result (λ found. OfRows (λ t.
+        length t.duty ≡ duties → found.items ≡ standings_found t release.now)
+        (seen_of (state S.Store conn.old)) (seen_of (state S.Store conn.new))) }
+    ensures kept { Looked (seen_of (state S.Store conn.old)) (seen_of (state S.Store conn.new)) result }
+    ensures mode { conn.old.in_transaction ≡ false → conn.new.in_transaction ≡ false }
+{
+    let rows = duties_of(alloc, conn, release)?;
+    standings(alloc, conn, duties, &rows)
+}
+
+fn select_duties_at<S: Alter>(conn: &mut Connection<S>, place: DutyState) -> Result<Vec<Row>, Fault>
+    ensures found { IfOk result (λ rows. OfRows (λ t.
+        rows.items ≡ map duty_cells (filter (stands_at (duty_state_name place)) t.duty))
+        (seen_of (state S.Store conn.old)) (seen_of (state S.Store conn.new))) }
+    ensures kept { Looked (seen_of (state S.Store conn.old)) (seen_of (state S.Store conn.new)) result }
+    ensures mode { conn.old.in_transaction ≡ false → conn.new.in_transaction ≡ false }
+{
+    query(
+        conn,
+        "SELECT number, release, document, package, term, code, rule, state FROM duty WHERE state = ?1 ORDER BY number",
+        &[duty_state(place)],
+    )
+}
+
+/// The duties that are waived, by number.
+fn waived<S: Alter>(alloc: Global, conn: &mut Connection<S>) -> Result<Vec<DutyRow>, Fault>
+    ensures found { IfOk result (λ found. OfRows (λ t.
+        found.items ≡ filter (stands_at (duty_state_name DutyState.Waived)) t.duty)
+        (seen_of (state S.Store conn.old)) (seen_of (state S.Store conn.new))) }
+    ensures kept { Looked (seen_of (state S.Store conn.old)) (seen_of (state S.Store conn.new)) result }
+    ensures mode { conn.old.in_transaction ≡ false → conn.new.in_transaction ≡ false }
+{
+    let rows = select_duties_at(conn, DutyState::Waived)?;
+    read_all(alloc, &rows)
+}
+
+/// The last day of the last change, if that is a waiver that ends.
+fn end_of(changes: &[ChangeRow]) -> Option<Day>
+    ensures { result ≡ option_and_then (λ change. change.last_day) (last_or None changes.now) }
+{
+    match changes.last() {
+        Some(change) => change.last_day,
+        None => None,
+    }
+}
+
+/// Whether the last change is a waiver up to a day before this one.
+fn has_end_before(changes: &[ChangeRow], day: Day) -> bool
+    ensures { result ≡ has_end_before day changes.now }
+{
+    match end_of(changes) {
+        Some(last) => last.as_bytes().cmp(day.as_bytes()).is_lt(),
+        None => false,
+    }
+}
+
+/// Where a duty stands, if its last change is a waiver up to a day before this one.
+fn standing_if_ended<S: Alter>(
+    alloc: Global,
+    conn: &mut Connection<S>,
+    duties: u32,
+    row: &DutyRow,
+    day: Day,
+) -> Result<Option<Standing>, Fault>
+    ensures found { IfOk result (λ found. OfRows (λ t.
+        length t.duty ≡ duties → found ≡ ended_standing t day row.now)
+        (seen_of (state S.Store conn.old)) (seen_of (state S.Store conn.new))) }
+    ensures kept { Looked (seen_of (state S.Store conn.old)) (seen_of (state S.Store conn.new)) result }
+    ensures mode { conn.old.in_transaction ≡ false → conn.new.in_transaction ≡ false }
+{
+    let changes = changes_of(alloc, conn, duties, u64::from(row.number))?;
+    if has_end_before(&changes, day) {
+        Ok(Some(Standing {
+            number: row.number,
+            state: row.state,
+            steps: changes.len() as u64,
+        }))
+    } else {
+        Ok(None)
+    }
+}
+
+fn push_some(found: &mut Vec<Standing>, standing: Option<Standing>) -> Result<(), AllocError>
+    ensures { OnOk result (found.new.items ≡ and_some found.old.items standing) }
+{
+    if let Some(standing) = standing {
+        found.push(standing)?;
+    }
+    Ok(())
+}
+
+#[tactic(auto, using(crate::proofs::Chains::same_then_kept))]
+fn ended_among<S: Alter>(
+    alloc: Global,
+    conn: &mut Connection<S>,
+    duties: u32,
+    rows: &[DutyRow],
+    day: Day,
+) -> Result<Vec<Standing>, Fault>
+    ensures found { IfOk result (λ found. OfRows (λ t.
+        length t.duty ≡ duties → found.items ≡ filter_map (ended_standing t day) rows.now)
+        (seen_of (state S.Store conn.old)) (seen_of (state S.Store conn.new))) }
+    ensures kept { Looked (seen_of (state S.Store conn.old)) (seen_of (state S.Store conn.new)) result }
+    ensures mode { conn.old.in_transaction ≡ false → conn.new.in_transaction ≡ false }
+{
+    let mut found = Vec::new(alloc);
+    for row in rows {
+        let standing = standing_if_ended(alloc, conn, duties, row, day)?;
+        push_some(&mut found, standing)?;
+    }
+    Ok(found)
+}
+
+/// Where the duties stand that are waived up to a day before this one, by number, of so many duties.
+pub fn ended<S: Alter>(
+    alloc: Global,
+    conn: &mut Connection<S>,
+    duties: u32,
+    day: Day,
+) -> Result<Vec<Standing>, Fault>
+    ensures found { IfOk result (λ found. OfRows (λ t.
+        length t.duty ≡ duties → found.items ≡ ended_found t day) (seen_of (state S.Store conn.old))
+        (seen_of (state S.Store conn.new))) }
+    ensures kept { Looked (seen_of (state S.Store conn.old)) (seen_of (state S.Store conn.new)) result }
+    ensures mode { conn.old.in_transaction ≡ false → conn.new.in_transaction ≡ false }
+{
+    let rows = waived(alloc, conn)?;
+    ended_among(alloc, conn, duties, &rows, day)
+}

@@ -1,0 +1,104 @@
+//! The texts of catalogues, and those that documents give for references.
+
+ghost use Rattle.std.specs.Prelude.{◌≡◌, false, IfOk, List, filter, find, map, length, slice_get};
+ghost use Rattle.std.specs.Option.{option_and_then};
+ghost use Rattle.sqlite.specs.Held.{state};
+ghost use Rattle.desk_access.specs.Seen.{Looked, OfRows};
+ghost use Rattle.desk_sql_layout.specs.Held.{seen_of};
+ghost use Rattle.desk_model.specs.Bills.{extracted_text, revision_text};
+ghost use Rattle.desk_model.specs.Keys.{is_extracted, is_revision};
+ghost use Rattle.desk_model.specs.declared.row.ExtractedRow.{ExtractedRow as Extracted};
+ghost use Rattle.desk_sql_lookup.specs.Shown.{extracted_body_cells, text_cells};
+
+use crate::columns::text_or_null_at;
+use crate::query::{among, query, text};
+use crate::read::read_first;
+use desk_base::Text;
+use desk_model::Fault;
+use desk_sql_layout::values::number;
+use sqlite::{Alter, Connection, Row};
+use std::alloc::Global;
+
+fn select_catalogue<S: Alter>(
+    conn: &mut Connection<S>,
+    revisions: u32,
+    n: u64,
+) -> Result<Vec<Row>, Fault>
+    ensures found { IfOk result (λ rows. OfRows (λ t.
+        length t.catalogue ≡ revisions → rows.items ≡ map text_cells
+        (map (λ row. row.body) (filter (is_revision n) t.catalogue)))
+        (seen_of (state S.Store conn.old)) (seen_of (state S.Store conn.new))) }
+    ensures kept { Looked (seen_of (state S.Store conn.old)) (seen_of (state S.Store conn.new)) result }
+    ensures mode { conn.old.in_transaction ≡ false → conn.new.in_transaction ≡ false }
+{
+    query(
+        conn,
+        "SELECT body FROM catalogue WHERE revision = ?1 ORDER BY revision",
+        &[among(n, revisions)],
+    )
+}
+
+/// The text of a revision of the catalogue, of so many revisions.
+#[tactic(auto, using(crate::proofs::Loops::first_mapped))]
+pub fn catalogue_text<S: Alter>(
+    alloc: Global,
+    conn: &mut Connection<S>,
+    revisions: u32,
+    revision: u64,
+) -> Result<Option<Text>, Fault>
+    ensures found { IfOk result (λ found. OfRows (λ t.
+        length t.catalogue ≡ revisions → found ≡ revision_text t.catalogue revision)
+        (seen_of (state S.Store conn.old)) (seen_of (state S.Store conn.new))) }
+    ensures kept { Looked (seen_of (state S.Store conn.old)) (seen_of (state S.Store conn.new)) result }
+    ensures mode { conn.old.in_transaction ≡ false → conn.new.in_transaction ≡ false }
+{
+    let rows = select_catalogue(conn, revisions, revision)?;
+    read_first(alloc, &rows)
+}
+
+fn select_extracted<S: Alter>(
+    conn: &mut Connection<S>,
+    document: u32,
+    reference: &str,
+) -> Result<Vec<Row>, Fault>
+    ensures found { IfOk result (λ rows. OfRows (λ t.
+        rows.items ≡ map extracted_body_cells
+        (filter (is_extracted document reference.now) t.extracted)) (seen_of (state S.Store conn.old))
+        (seen_of (state S.Store conn.new))) }
+    ensures kept { Looked (seen_of (state S.Store conn.old)) (seen_of (state S.Store conn.new)) result }
+    ensures mode { conn.old.in_transaction ≡ false → conn.new.in_transaction ≡ false }
+{
+    query(
+        conn,
+        "SELECT body FROM extracted WHERE document = ?1 AND reference = ?2 ORDER BY document, reference",
+        &[number(document), text(reference)],
+    )
+}
+
+/// The text of the first reference; none where it has none, or there is no reference.
+fn first_body(alloc: Global, rows: &[Row]) -> Result<Option<Text>, Fault>
+    ensures { IfOk result (λ found. (xs : List Extracted) → rows.now ≡ map extracted_body_cells xs
+        → found ≡ option_and_then (λ row. row.body) (slice_get xs 0)) }
+{
+    match rows.first() {
+        Some(row) => text_or_null_at(alloc, row, 0),
+        None => Ok(None),
+    }
+}
+
+/// The text that a document gives for a reference.
+pub fn extracted_text<S: Alter>(
+    alloc: Global,
+    conn: &mut Connection<S>,
+    document: u32,
+    reference: &str,
+) -> Result<Option<Text>, Fault>
+    ensures found { IfOk result (λ found. OfRows (λ t.
+        found ≡ extracted_text t.extracted document reference.now) (seen_of (state S.Store conn.old))
+        (seen_of (state S.Store conn.new))) }
+    ensures kept { Looked (seen_of (state S.Store conn.old)) (seen_of (state S.Store conn.new)) result }
+    ensures mode { conn.old.in_transaction ≡ false → conn.new.in_transaction ≡ false }
+{
+    let rows = select_extracted(conn, document, reference)?;
+    first_body(alloc, &rows)
+}

@@ -1,0 +1,174 @@
+-- What a migration leaves, whatever became of its transaction.
+use Rattle.std.proofs.Common.{◌≡◌, ◌⊎◌, ◌∙◌, inl, inr, false, IsTrue, Ok, Err, Result, IfOk, IfErr, sym, subst, ap}
+use Rattle.std.specs.Prelude.{OnOk}
+use Rattle.std.specs.Result.{IsErr}
+use Rattle.sqlite_trees.specs.Tree.{Trees}
+use Rattle.sqlite.specs.Effect.{Database}
+use Rattle.sqlite.specs.declared.error.Error.{Error}
+use Rattle.sqlite.specs.State.{State, HasCleanDisk, IsRolledBack, KeepsCommit, Shows, Survives}
+use Rattle.sqlite.specs.Steps.{FailsToCommit}
+use Rattle.sqlite.proofs.StateLemmas.{survives_then}
+use Rattle.desk_model.specs.declared.command.Fault.{Fault}
+use Rattle.desk_sql_layout.specs.Held.{HasRows}
+use Rattle.desk_sql_adopt.specs.Older.{IsOlderContent, migrated, older_schema}
+use Rattle.desk_sql_adopt.specs.Reading.{HasStayed, IsSpared}
+use Rattle.desk_sql_adopt.specs.declared.older.OlderVersion.{OlderVersion}
+use Rattle.desk_sql_adopt.specs.declared.older.OlderContent.TheVariants as content
+use Rattle.desk_sql_adopt.proofs.Spared.{clean_before, spared_then}
+use Rattle.desk_snapshot.specs.declared.fault.AuditReport.{AuditReport}
+use Rattle.desk_snapshot.specs.declared.fault.AuditReport.TheVariants.{Sound, Unsound}
+use Rattle.desk_sql_migrate.specs.Migrating.{Ends, IsLeft, IsReason, IsReportOn, IsUndone, Leaves, LeavesMigrated, LeavesSome, Migrated, Prepared, outcome_of}
+use Rattle.desk_sql_migrate.specs.Steps.{Becomes}
+
+weaker : (P : Trees → Type 0) (a b : State) → Survives a b (λ _. ⊥) → Survives a b P
+weaker P a b it = record {
+  clean = it.clean;
+  shield = it.shield;
+  counts = it.counts;
+  limit = it.limit;
+  closes = it.closes;
+  crash = λ clean x left. one x (it.crash clean x left);
+}
+  where
+    one : (x : Trees) → a.may_leave x ⊎ ⊥ → a.may_leave x ⊎ P x
+    one x (inl was) = inl was
+    one x (inr none) = absurd none
+
+pub undone_by : (P : Trees → Type 0) (a b : State) → IsSpared a b → IsUndone P a b
+undone_by P a b it = record { survives = weaker P a b it.survives; was_open = it.was_open; now = it.now; committed = it.committed }
+
+-- after a fault that is passed on
+pub err_leaves : (version : OlderVersion) (a b : State) (r : Result AuditReport Fault) → IsErr r → IsSpared a b → Leaves version a b r
+err_leaves version a b (Ok x) is it = absurd (cc)
+err_leaves version a b (Err e) is it = undone_by (LeavesMigrated version a) a b it
+
+pub clean_first : (version : OlderVersion) (b c : State) (r : Result AuditReport Fault) → Leaves version b c r → HasCleanDisk c → HasCleanDisk b
+clean_first version b c (Ok Sound) it clean = clean_before b c (LeavesMigrated version b) it clean
+clean_first version b c (Ok (Unsound f)) it clean = clean_before b c (λ _. ⊥) it.survives clean
+clean_first version b c (Err f) it clean = clean_before b c (LeavesMigrated version b) it.survives clean
+
+module _ (old last final : State) (settled : IsTrue old.is_open → old.now ≡ old.committed) (first : Survives old last (λ _. ⊥)) (kept : HasCleanDisk last → KeepsCommit old last) where
+  back : HasCleanDisk last → IsRolledBack last final → IsTrue final.is_open → IsTrue old.is_open
+  back clean undone is = (kept clean).was_open (undone.was_open is)
+
+  now_back : (clean : HasCleanDisk last) (undone : IsRolledBack last final) → IsTrue final.is_open → final.now ≡ old.now
+  now_back clean undone is = (undone.undone is).0 ∙ (kept clean).committed (undone.was_open is) ∙ sym (settled (back clean undone is))
+
+  committed_back : (clean : HasCleanDisk last) (undone : IsRolledBack last final) → IsTrue final.is_open → final.committed ≡ old.committed
+  committed_back clean undone is = (undone.undone is).1 ∙ (kept clean).committed (undone.was_open is)
+
+  -- the transaction was dropped
+  pub dropped : Survives last final (λ _. ⊥) → (HasCleanDisk final → IsRolledBack last final) → IsSpared old final
+  dropped next undone =
+      let before = clean_before last final (λ _. ⊥) next in
+      record {
+        survives = survives_then old last final (λ _. ⊥) (λ _. ⊥) (λ _. ⊥) (λ _ db none. none) (λ _ db none. none) first next;
+        was_open = λ clean is. back (before clean) (undone clean) is;
+        now = λ clean is. now_back (before clean) (undone clean) is;
+        committed = λ clean is. committed_back (before clean) (undone clean) is;
+      }
+
+  module _ (version : OlderVersion) (told : AuditReport) (prepared : HasCleanDisk last → Prepared version told old last) (next : Survives last final (λ db. db ≡ last.now.trees)) where
+    before : HasCleanDisk final → HasCleanDisk last
+    before = clean_before last final (λ db. db ≡ last.now.trees) next
+
+    pub left_committed : (told ≡ Sound) → Survives old final (LeavesMigrated version old)
+    left_committed is = survives_then old last final (λ _. ⊥) (λ db. db ≡ last.now.trees) (LeavesMigrated version old) (λ _ db none. absurd none)
+        (λ clean db same. let it = prepared (before clean) in record {
+          was_open = it.was_open;
+          db = last.now;
+          rows = it.rows;
+          sound = λ has. subst (IsReportOn last.now) is (it.report has);
+          is = same;
+        }) first next
+
+    pub committed_as : (told ≡ Sound) → (HasCleanDisk final → Shows last final last.now last.now false) → HasCleanDisk final → (IsTrue old.is_open → old.now.schema ≡ older_schema version) → Migrated version old final
+    committed_as is shows clean has =
+        let it = prepared (before clean) in
+        let so = shows clean in
+        record {
+          was_open = it.was_open;
+          is_open = so.is_open;
+          settled = so.committed_is ∙ sym so.now_is;
+          rows = λ rows given. subst (HasRows (migrated version rows)) (sym so.now_is) (it.rows rows given);
+          sound = subst (λ (db : Database). IsReportOn db Sound) (sym so.now_is) (subst (IsReportOn last.now) is (it.report (has it.was_open)));
+        }
+
+    moves : (e : Error) → FailsToCommit last final e → IsTrue last.in_transaction → IsRolledBack last final
+    moves e (inl fails) inside = fails.3
+    moves e (inr refused) inside = absurd (let no = sym inside ∙ refused.1 in cc)
+
+    pub commit_failed : (told ≡ Sound) → (e : Error) → (HasCleanDisk final → FailsToCommit last final e) → IsUndone (LeavesMigrated version old) old final
+    commit_failed is e fails =
+        let undone = λ (clean : HasCleanDisk final). moves e (fails clean) (prepared (before clean)).inside in
+        record {
+          survives = left_committed is;
+          was_open = λ clean is. back (before clean) (undone clean) is;
+          now = λ clean is. now_back (before clean) (undone clean) is;
+          committed = λ clean is. committed_back (before clean) (undone clean) is;
+        }
+
+module _ (a b c : State) (stayed : HasStayed a b) (version : OlderVersion) where
+  -- what was shown first is what is migrated
+  same_now : HasCleanDisk b → IsTrue b.is_open → b.now ≡ a.now
+  same_now clean is = stayed.0.now clean is
+
+  -- a stop leaves the rows of what was shown first
+  some_left : HasCleanDisk b → (db : Trees) → LeavesMigrated version b db → LeavesSome a db
+  some_left clean db it =
+      let now = same_now clean it.was_open in (
+        version,
+        record {
+          was_open = stayed.0.was_open clean it.was_open;
+          db = it.db;
+          rows = subst (λ (d : Database). Becomes version d it.db) now it.rows;
+          sound = λ has. it.sound (ap (λ (d : Database). d.schema) now ∙ has);
+          is = it.is;
+        },
+      )
+
+  pub some_survives : Survives b c (LeavesMigrated version b) → Survives a c (LeavesSome a)
+  some_survives it = survives_then a b c (λ _. ⊥) (LeavesMigrated version b) (LeavesSome a) (λ _ db none. absurd none) (λ clean db left. some_left (clean_before b c (LeavesMigrated version b) it clean) db left) stayed.0.survives it
+
+  -- and what isn't committed is undone to what was shown first
+  pub undone_first : IsUndone (LeavesMigrated version b) b c → IsUndone (LeavesSome a) a c
+  undone_first it =
+      let before = clean_before b c (LeavesMigrated version b) it.survives in
+      record {
+        survives = some_survives it.survives;
+        was_open = λ clean is. stayed.0.was_open (before clean) (it.was_open clean is);
+        now = λ clean is. it.now clean is ∙ stayed.0.now (before clean) (it.was_open clean is);
+        committed = λ clean is. it.committed clean is ∙ stayed.0.committed (before clean) (it.was_open clean is);
+      }
+
+  pub ended : (told : AuditReport) → HasCleanDisk b → IsTrue b.is_open → Ends version b c told → Ends version a c told
+  ended Sound clean is it = record {
+    was_open = stayed.0.was_open clean it.was_open;
+    is_open = it.is_open;
+    settled = it.settled;
+    rows = subst (λ (d : Database). Becomes version d c.now) (same_now clean is) it.rows;
+    sound = it.sound;
+  }
+  ended (Unsound f) clean is it = (it.0, subst (λ (d : Database). Becomes version d it.0) (same_now clean is) it.1, it.2)
+
+  -- a refusal, or a fault
+  pub left_first : (r : Result AuditReport Fault) → Leaves version b c r → IfErr (outcome_of version r) (IsLeft a c)
+  left_first (Ok Sound) it = tt
+  left_first (Ok (Unsound f)) it = spared_then a b c stayed.0 it
+  left_first (Err f) it = undone_first it
+
+  pub survives_first : (r : Result AuditReport Fault) → Leaves version b c r → OnOk (outcome_of version r) (Survives a c (LeavesSome a))
+  survives_first (Ok Sound) it = some_survives it
+  survives_first (Ok (Unsound f)) it = tt
+  survives_first (Err f) it = tt
+
+  pub reason_first : (r : Result AuditReport Fault) → IsOlderContent a (content.Older version) → HasCleanDisk b → IfOk r (Ends version b c) → IfErr (outcome_of version r) (IsReason a)
+  reason_first (Ok Sound) older clean it = tt
+  reason_first (Ok (Unsound f)) older clean it = inr (version, older, λ is. ended (Unsound f) clean (stayed.1 clean is) it)
+  reason_first (Err f) older clean it = tt
+
+  pub migrated_first : (r : Result AuditReport Fault) → IsOlderContent a (content.Older version) → HasCleanDisk b → IfOk r (Ends version b c)
+      → IfOk (outcome_of version r) (λ v. IsOlderContent a (content.Older v) × Migrated v a c)
+  migrated_first (Ok Sound) older clean it = (older, ended Sound clean it.was_open it)
+  migrated_first (Ok (Unsound f)) older clean it = tt
+  migrated_first (Err f) older clean it = tt

@@ -1,0 +1,112 @@
+-- What a migration makes of a database, and why it is refused.
+use Rattle.std.specs.Prelude.{◌≡◌, ◌⊎◌, List, IsTrue, Result, Ok, Err}
+use Rattle.sqlite_trees.specs.Tree.{Trees}
+use Rattle.sqlite.specs.Effect.{Database}
+use Rattle.sqlite.specs.State.{State, HasCleanDisk, KeepsCommit, Survives}
+use Rattle.desk_model.specs.Answers.{IsHistory}
+use Rattle.desk_model.specs.Readings.{Readings}
+use Rattle.desk_model.specs.Tables.{tables}
+use Rattle.desk_model.specs.declared.command.Command.{Command}
+use Rattle.desk_model.specs.declared.command.Fault.{Fault}
+use Rattle.desk_sql_adopt.specs.Older.{HoldsOlder, IsOlderContent, older_schema}
+use Rattle.desk_sql_adopt.specs.Reading as reading
+use Rattle.desk_sql_adopt.specs.declared.older.OlderVersion.{OlderVersion}
+use Rattle.desk_sql_adopt.specs.declared.older.OlderContent.TheVariants as content
+use Rattle.desk_snapshot.specs.Reports.{IsReport}
+use Rattle.desk_snapshot.specs.declared.fault.AuditFault.TheVariants.{BadMeta}
+use Rattle.desk_snapshot.specs.declared.fault.AuditReport.{AuditReport}
+use Rattle.desk_snapshot.specs.declared.fault.AuditReport.TheVariants as report
+use Rattle.desk_snapshot.specs.declared.snapshot.Snapshot.{Snapshot}
+use Rattle.desk_sql_scan.specs.Scans.{IsSnapshot}
+use Rattle.desk_texts.specs.Right.{AreRight}
+use Rattle.desk_sql_migrate.specs.Steps.{Becomes}
+use Rattle.desk_sql_migrate.specs.declared.fault.MigrateFault.{MigrateFault}
+use Rattle.desk_sql_migrate.specs.declared.fault.MigrateFault.TheVariants as fault
+
+-- the report on the rows of a database, by each right reading
+abbrev pub IsReportOn : Database → AuditReport → Type 0
+IsReportOn db told = (s : Snapshot) × IsSnapshot s db × ((w : Readings) → AreRight w → IsReport w s told)
+
+-- inside a transaction that goes on, the rows have become those of this version, and this is the report on them
+pub record Prepared (version : OlderVersion) (told : AuditReport) (old new : State) : Type 0 where
+  pub was_open : IsTrue old.is_open
+  pub inside : IsTrue new.in_transaction
+  pub kept : KeepsCommit old new
+  pub rows : Becomes version old.now new.now
+  pub report : old.now.schema ≡ older_schema version → IsReportOn new.now told
+
+abbrev pub Prepares : OlderVersion → State → State → Result AuditReport Fault → Type 0
+Prepares version old new (Ok told) = HasCleanDisk new → IsTrue old.in_transaction → Prepared version told old new
+Prepares version old new (Err fault) = HasCleanDisk new → IsTrue old.in_transaction → KeepsCommit old new
+
+-- all is committed, and the rows are sound
+pub record Migrated (version : OlderVersion) (old new : State) : Type 0 where
+  pub was_open : IsTrue old.is_open
+  pub is_open : IsTrue new.is_open
+  pub settled : new.committed ≡ new.now
+  pub rows : Becomes version old.now new.now
+  pub sound : IsReportOn new.now report.Sound
+
+-- what was made in the transaction: it is committed, or it wasn't sound
+abbrev pub Ends : OlderVersion → State → State → AuditReport → Type 0
+Ends version old new report.Sound = Migrated version old new
+Ends version old new (report.Unsound f) = (db : Database) × Becomes version old.now db × IsReportOn db (report.Unsound f)
+
+-- a stop leaves the rows of this version, which are sound
+pub record LeavesMigrated (version : OlderVersion) (old : State) (trees : Trees) : Type 0 where
+  pub was_open : IsTrue old.is_open
+  pub db : Database
+  pub rows : Becomes version old.now db
+  pub sound : old.now.schema ≡ older_schema version → IsReportOn db report.Sound
+  pub is : trees ≡ db.trees
+
+-- The connection shows what it showed, as far as it still shows anything, though a stop may leave the migrated rows.
+pub record IsUndone (Commits : Trees → Type 0) (old new : State) : Type 0 where
+  pub survives : Survives old new Commits
+  pub was_open : HasCleanDisk new → IsTrue new.is_open → IsTrue old.is_open
+  pub now : HasCleanDisk new → IsTrue new.is_open → new.now ≡ old.now
+  pub committed : HasCleanDisk new → IsTrue new.is_open → new.committed ≡ old.committed
+
+-- what a transaction leaves that was committed, that was dropped, or that failed
+abbrev pub Leaves : OlderVersion → State → State → Result AuditReport Fault → Type 0
+Leaves version old new (Ok report.Sound) = Survives old new (LeavesMigrated version old)
+Leaves version old new (Ok (report.Unsound f)) = reading.IsSpared old new
+Leaves version old new (Err fault) = IsUndone (LeavesMigrated version old) old new
+
+-- what comes of the report on the rows
+abbrev pub outcome_of : OlderVersion → Result AuditReport Fault → Result OlderVersion MigrateFault
+outcome_of version (Ok report.Sound) = Ok version
+outcome_of version (Ok (report.Unsound f)) = Err (fault.Unsound f)
+outcome_of version (Err f) = Err (fault.Fault f)
+
+-- a stop leaves the rows of an older version, migrated
+abbrev pub LeavesSome : State → Trees → Type 0
+LeavesSome old trees = (version : OlderVersion) × LeavesMigrated version old trees
+
+-- what the database was found to hold, where it isn't migrated: another thing; another version; no one version; or rows that would not
+-- be sound
+abbrev pub IsReason : State → MigrateFault → Type 0
+IsReason s fault.NotADesk = IsOlderContent s content.Other
+IsReason s (fault.BadVersion n) = IsOlderContent s (content.OtherVersion n)
+IsReason s (fault.Unsound f) =
+    (IsOlderContent s content.Untold × (f ≡ BadMeta))
+    ⊎ ((version : OlderVersion) × IsOlderContent s (content.Older version) × (IsTrue s.is_open → (db : Database) × Becomes version s.now db × IsReportOn db (report.Unsound f)))
+IsReason s (fault.Fault f) = Unit {0}
+
+-- after a refusal the connection shows what it showed; after a fault too, if it shows anything
+abbrev pub IsLeft : State → State → MigrateFault → Type 0
+IsLeft old new fault.NotADesk = reading.HasStayed old new
+IsLeft old new (fault.BadVersion n) = reading.HasStayed old new
+IsLeft old new (fault.Unsound f) = reading.IsSpared old new
+IsLeft old new (fault.Fault f) = IsUndone (LeavesSome old) old new
+
+-- memory was wanting, or the database failed
+abbrev pub IsFault : MigrateFault → Type 0
+IsFault (fault.Fault f) = Unit {0}
+IsFault _ = ⊥
+
+-- true of each right reading and each recorded history whose tables the database held in an older version
+abbrev pub InOlderHistory : OlderVersion → (Readings → List Command → Type 0) → State → State → Type 0
+InOlderHistory version Is old new =
+    (w : Readings) → AreRight w → HasCleanDisk new → IsTrue old.is_open → (h : List Command) → IsHistory w h
+    → HoldsOlder version (tables w h) old.now → Is w h

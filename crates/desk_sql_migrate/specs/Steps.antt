@@ -1,0 +1,71 @@
+-- The steps of a migration, inside its transaction.
+use Rattle.std.specs.Prelude.{◌≡◌, ◌==◌, ℕ, if◌then◌else◌, List, [], ◌∷◌, ◌++◌, IsTrue, Result, Ok, Err}
+use Rattle.sqlite_value.specs.Order.{Row}
+use Rattle.sqlite_schema.specs.declared.schema.Schema.{Schema}
+use Rattle.sqlite.specs.Effect.{Database, IsDatabase}
+use Rattle.sqlite.specs.State.{State, HasCleanDisk, KeepsCommit}
+use Rattle.desk_model.specs.declared.command.Fault.{Fault}
+use Rattle.desk_sql_layout.specs.Cells.{number}
+use Rattle.desk_sql_layout.specs.Held.{HasRows}
+use Rattle.desk_sql_layout.specs.Layout.{desk_schema, meta_table, document_table, reading_table, waiver_table}
+use Rattle.desk_sql_layout.specs.Stored.{AllStored}
+use Rattle.desk_sql_adopt.specs.Older.{HasOlderRows, first_readings, migrated, older_schema}
+use Rattle.desk_sql_adopt.specs.declared.older.OlderVersion.{OlderVersion}
+
+-- the database has the tables of a schema, and these rows stand in them in any order
+pub record HasTables (schema : Schema) (rows : ℕ → List Row) (db : Database) : Type 0 where
+  pub declared : db.schema ≡ schema
+  pub stored : AllStored schema rows db.trees
+  pub sound : IsDatabase db
+
+-- the rows, with none in one table
+abbrev pub with_none : ℕ → (ℕ → List Row) → ℕ → List Row
+with_none tree rows at = if at == tree then [] else rows at
+
+-- inside a transaction that goes on, the tables of a schema became those of another, and their rows these
+pub record Gained (before after : Schema) (made : (ℕ → List Row) → ℕ → List Row) (old new : State) : Type 0 where
+  pub was_open : IsTrue old.is_open
+  pub inside : IsTrue new.in_transaction
+  pub kept : KeepsCommit old new
+  pub declared : old.now.schema ≡ before → new.now.schema ≡ after
+  pub rows : (rows : ℕ → List Row) → HasTables before rows old.now → HasTables after (made rows) new.now
+
+abbrev pub HasGained : Schema → Schema → ((ℕ → List Row) → ℕ → List Row) → State → State → Result (Unit {0}) Fault → Type 0
+HasGained before after made old new (Ok done) = HasCleanDisk new → IsTrue old.in_transaction → Gained before after made old new
+HasGained before after made old new (Err fault) = HasCleanDisk new → IsTrue old.in_transaction → KeepsCommit old new
+
+abbrev pub with_no_readings : (ℕ → List Row) → ℕ → List Row
+with_no_readings = with_none reading_table.tree
+
+abbrev pub with_no_waivers : (ℕ → List Row) → ℕ → List Row
+with_no_waivers = with_none waiver_table.tree
+
+-- the profile of each document is noted as 1
+abbrev pub with_readings : (ℕ → List Row) → ℕ → List Row
+with_readings rows at = if at == reading_table.tree then first_readings (rows document_table.tree) ++ rows reading_table.tree else rows at
+
+-- no version is noted
+abbrev pub without_version : (ℕ → List Row) → ℕ → List Row
+without_version rows at = if at == meta_table.tree then [] else rows at
+
+-- version 3 is noted, beside what is
+abbrev pub with_version : (ℕ → List Row) → ℕ → List Row
+with_version rows at = if at == meta_table.tree then (number 3 ∷ []) ∷ rows at else rows at
+
+-- ---- the whole
+
+-- the rows of a version have become those of this one
+abbrev pub Becomes : OlderVersion → Database → Database → Type 0
+Becomes version old new = (rows : ℕ → List Row) → HasOlderRows version rows old → HasRows (migrated version rows) new
+
+-- inside a transaction that goes on
+pub record Upgraded (version : OlderVersion) (old new : State) : Type 0 where
+  pub was_open : IsTrue old.is_open
+  pub inside : IsTrue new.in_transaction
+  pub kept : KeepsCommit old new
+  pub declared : old.now.schema ≡ older_schema version → new.now.schema ≡ desk_schema
+  pub rows : Becomes version old.now new.now
+
+abbrev pub Upgrades : OlderVersion → State → State → Result (Unit {0}) Fault → Type 0
+Upgrades version old new (Ok done) = HasCleanDisk new → IsTrue old.in_transaction → Upgraded version old new
+Upgrades version old new (Err fault) = HasCleanDisk new → IsTrue old.in_transaction → KeepsCommit old new

@@ -1,0 +1,54 @@
+-- What a query for all rows of a table tells, of the database that is shown and of the tables that it holds.
+use Rattle.std.proofs.Common.{◌≡◌, ℕ, List, [], map, false, refl, sym, ap, subst, ◌∙◌, Ok, Err, Result, IfOk, IsTrue}
+use Rattle.sqlite_value.specs.Order.{Row}
+use Rattle.sqlite.specs.Effect.{Database, Reads}
+use Rattle.sqlite.specs.Listing.{understood, reads_listing}
+use Rattle.sqlite.specs.State.{State, HasCleanDisk}
+use Rattle.sqlite.proofs.Callers.{IsPlain, command_of, reads_as, unchanged_then}
+use Rattle.sqlite.proofs.StateLemmas.{survives_then}
+use Rattle.desk_sql_layout.specs.Held.{Holds}
+use Rattle.desk_sql_layout.specs.Layout.{desk_schema}
+use Rattle.desk_model.specs.Tables.{Tables}
+use Rattle.desk_model.specs.declared.command.Fault.{Fault}
+use Rattle.desk_sql_adopt.specs.Reading.{Asks}
+use Rattle.desk_sql_adopt.proofs.Asking.{shown_unchanged}
+use Rattle.desk_sql_adopt.proofs.Spared.{clean_before}
+use Rattle.desk_sql_scan.specs.Asked.{HasAsked}
+use Rattle.desk_sql_scan.specs.Cells.{columns_of}
+use Rattle.desk_sql_scan.specs.Scans.{IsRead, IsShown}
+
+module _ (text : List ℕ) (asks : Asks text) (known : IsPlain (understood desk_schema text) × (reads_listing desk_schema text ≡ false)) {A : Type 0} (width : ℕ) (cells_of : A → Row) (old new : State) where
+  pub told : (r : Result (List A) Fault) → HasAsked old new r → (HasCleanDisk new → IfOk r (λ rows. IsShown text width cells_of rows old new))
+      → (Raw : List A → Database → Type 0) (Is : List A → Tables → Type 0)
+      → ((rows : List A) (db : Database) (shown : List Row) → Reads (command_of (understood desk_schema text)) db [] shown → map (columns_of width) shown ≡ map cells_of rows → Raw rows db)
+      → ((rows : List A) (db : Database) (shown : List Row) → Reads (command_of (understood desk_schema text)) db [] shown → map (columns_of width) shown ≡ map cells_of rows
+      → (t : Tables) → Holds t db → Is rows t)
+      → IfOk r (λ rows. IsRead (Raw rows) (Is rows) old new)
+  told (Err e) stayed it Raw Is raw found = tt
+  told (Ok rows) stayed it Raw Is raw found = record {
+    survives = stayed.0;
+    same = stayed.1;
+    raw = λ clean has. let o = it clean in raw rows old.now o.0 (reads has clean) o.2;
+    found = λ clean t holds. let o = it clean in found rows old.now o.0 (reads holds.rows.declared clean) o.2 t holds;
+  }
+    where
+      reads : old.now.schema ≡ desk_schema → (clean : HasCleanDisk new) → Reads (command_of (understood desk_schema text)) old.now [] (it clean).0
+      reads has clean = let o = it clean in reads_as text [] old new desk_schema has (command_of (understood desk_schema text)) refl known.0 known.1 o.0 o.1
+
+-- one reading after another
+pub then_read : (R S : Database → Type 0) (P Q : Tables → Type 0) (a b c : State) → IsRead R P a b → IsRead S Q b c → IsRead (λ db. R db × S db) (λ t. P t × Q t) a c
+then_read R S P Q a b c one two =
+    let before : HasCleanDisk c → HasCleanDisk b = clean_before b c (λ _. ⊥) two.survives in
+    let now : (clean : HasCleanDisk c) → b.now ≡ a.now = λ clean. (one.same (before clean)).0.now_is in
+    record {
+      survives = survives_then a b c (λ _. ⊥) (λ _. ⊥) (λ _. ⊥) (λ _ db none. none) (λ _ db none. none) one.survives two.survives;
+      same = λ clean. unchanged_then a b c (one.same (before clean)) (two.same clean);
+      raw = λ clean has. (
+        one.raw (before clean) has,
+        subst S (now clean) (two.raw clean (ap (λ (db : Database). db.schema) (now clean) ∙ has)),
+      );
+      found = λ clean t holds. (
+        one.found (before clean) t holds,
+        two.found clean t (subst (Holds t) (sym (now clean)) holds),
+      );
+    }

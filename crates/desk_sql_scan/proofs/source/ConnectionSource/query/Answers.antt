@@ -1,0 +1,17 @@
+use Rattle.std.proofs.Common.{rules}
+use Rattle.sqlite.specs.Held.{state}
+use Rattle.desk_sql_adopt.proofs.Asking.{failed, shown_unchanged, still}
+use Rattle.desk_sql_scan.proofs.Asked.{spared_outside}
+use Rattle.desk_sql_scan.proofs.source.ConnectionSource.query.Goals as goal
+
+pub returns-in-Ok-clause-asked : goal.returns-in-Ok-clause-asked
+returns-in-Ok-clause-asked g c = λ bare.
+    let old = state g.S.Store c.args.self.now in
+    let new = state g.S.Store c.query_all.new.self in
+    (still _ _ old new bare (c.is_autocommit-settled.ensures.settled (search rules)) c.query_all.ensures.survives, λ clean. shown_unchanged _ _ old new bare c.in-Ok.rows.items (c.in-Ok.ensures.ok clean))
+
+pub returns-in-Err-clause-asked : goal.returns-in-Err-clause-asked
+returns-in-Err-clause-asked g c = λ bare.
+    let old = state g.S.Store c.args.self.now in
+    let new = state g.S.Store c.query_all.new.self in
+    spared_outside old new (failed _ _ old new bare (c.is_autocommit-settled.ensures.settled (search rules)) c.query_all.ensures.survives c.in-Err.error c.in-Err.ensures.err)

@@ -1,0 +1,154 @@
+//! All rows of a desk's tables.
+
+ghost use Rattle.std.specs.Prelude.{◌≡◌, false, IfOk};
+ghost use Rattle.sqlite.specs.Held.{state};
+ghost use Rattle.sqlite.specs.State.{HasCleanDisk};
+ghost use Rattle.desk_access.specs.Seen.{OfRows};
+ghost use Rattle.desk_sql_adopt.specs.Reading.{HasRead};
+ghost use Rattle.desk_history.specs.Laws.{AreSortedAsListed};
+ghost use Rattle.desk_sql_layout.specs.Held.{seen_of};
+ghost use Rattle.desk_sql_layout.specs.Layout.{desk_schema};
+ghost use Rattle.desk_snapshot.specs.Tables.{snapshot_of};
+ghost use Rattle.desk_sql_scan.specs.Asked.{HasAsked};
+ghost use Rattle.desk_sql_scan.specs.Parts.{HasCatalogues, HasDocuments, HasDuties, HasOffice, HasReleases, OfCatalogues, OfDocuments, OfDuties, OfOffice, OfReleases, joined_of};
+ghost use Rattle.desk_sql_scan.specs.Scans.{IsRead, IsSnapshot};
+
+use crate::catalogues::{CataloguePart, catalogues};
+use crate::documents::{DocumentPart, documents};
+use crate::duties::{DutyPart, duties};
+use crate::office::{OfficePart, office};
+use crate::releases::{ReleasePart, releases};
+use crate::source::Source;
+use desk_model::Fault;
+use desk_snapshot::Snapshot;
+use sqlite::{Alter, Connection, Transaction};
+use std::alloc::Global;
+
+/// The documents, whose bytes are the largest cells, and the duties with their changes, which are most of a desk's rows. Each table is
+/// held twice while its rows are read, so these come first, while little else is held.
+#[derive(Drop)]
+struct FirstPart {
+    documents: DocumentPart,
+    duties: DutyPart,
+}
+
+/// The catalogue, what the office decided of documents, and the releases.
+#[derive(Drop)]
+struct SecondPart {
+    catalogues: CataloguePart,
+    office: OfficePart,
+    releases: ReleasePart,
+}
+
+/// The tables of the first part, read.
+fn first_part<R: Source>(alloc: Global, source: &mut R) -> Result<FirstPart, Fault>
+    requires { R.is_ready source.old }
+    ensures ok { IfOk result (λ part. IsRead (λ db. HasDocuments part.documents db × HasDuties part.duties db)
+        (λ t. OfDocuments part.documents t × OfDuties part.duties t) (R.shows source.old)
+        (R.shows source.new)) }
+    ensures asked { HasAsked (R.shows source.old) (R.shows source.new) result }
+    ensures ready { R.is_ready source.new }
+    ensures same_reference { R.name source.new ≡ R.name source.old }
+{
+    Ok(FirstPart {
+        documents: documents(alloc, source)?,
+        duties: duties(alloc, source)?,
+    })
+}
+
+/// The tables of the second part, read.
+fn second_part<R: Source>(alloc: Global, source: &mut R) -> Result<SecondPart, Fault>
+    requires { R.is_ready source.old }
+    ensures ok { IfOk result (λ part. IsRead (λ db. HasCatalogues part.catalogues db
+        × (HasOffice part.office db × HasReleases part.releases db))
+        (λ t. OfCatalogues part.catalogues t
+        × (OfOffice part.office t × OfReleases part.releases t)) (R.shows source.old)
+        (R.shows source.new)) }
+    ensures asked { HasAsked (R.shows source.old) (R.shows source.new) result }
+    ensures ready { R.is_ready source.new }
+    ensures same_reference { R.name source.new ≡ R.name source.old }
+{
+    Ok(SecondPart {
+        catalogues: catalogues(alloc, source)?,
+        office: office(alloc, source)?,
+        releases: releases(alloc, source)?,
+    })
+}
+
+/// The snapshot of both parts.
+fn joined(first: FirstPart, second: SecondPart) -> Snapshot
+    ensures { result ≡ joined_of first second }
+{
+    let FirstPart { documents, duties } = first;
+    let SecondPart {
+        catalogues,
+        office,
+        releases,
+    } = second;
+    Snapshot {
+        meta: catalogues.meta,
+        catalogue: catalogues.catalogue,
+        rule: catalogues.rule,
+        document: documents.document,
+        reading: documents.reading,
+        packages: documents.packages,
+        extracted: documents.extracted,
+        conclusion: office.conclusion,
+        adoption: office.adoption,
+        releases: releases.releases,
+        attached: releases.attached,
+        choice: releases.choice,
+        frozen: releases.frozen,
+        duty: duties.duty,
+        changes: duties.changes,
+        waiver: duties.waiver,
+    }
+}
+
+/// All rows of a desk's tables.
+fn read_whole<R: Source>(alloc: Global, source: &mut R) -> Result<Snapshot, Fault>
+    requires { R.is_ready source.old }
+    ensures ok { IfOk result (λ s. IsRead (IsSnapshot s) (λ t. AreSortedAsListed t → s ≡ snapshot_of t)
+        (R.shows source.old) (R.shows source.new)) }
+    ensures asked { HasAsked (R.shows source.old) (R.shows source.new) result }
+    ensures ready { R.is_ready source.new }
+    ensures same_reference { R.name source.new ≡ R.name source.old }
+{
+    let first = first_part(alloc, source)?;
+    let second = second_part(alloc, source)?;
+    Ok(joined(first, second))
+}
+
+/// Reads all rows of a desk's tables, each table in the order of its key.
+///
+/// Where the connection shows a database with a desk's schema, whatever its rows, the snapshot has them (`raw`); where it holds a
+/// desk's tables, the snapshot is theirs (`found`). A fault tells want of memory, that the database refused, or that a cell is none
+/// of its column's.
+pub fn snapshot<S: Alter>(alloc: Global, conn: &mut Connection<S>) -> Result<Snapshot, Fault>
+    requires { conn.old.in_transaction ≡ false }
+    ensures raw { HasCleanDisk (state S.Store conn.new)
+        → (state S.Store conn.old).now.schema ≡ desk_schema
+        → IfOk result (λ s. IsSnapshot s (state S.Store conn.old).now) }
+    ensures found { IfOk result (λ s. OfRows (λ t. AreSortedAsListed t → s ≡ snapshot_of t)
+        (seen_of (state S.Store conn.old)) (seen_of (state S.Store conn.new))) }
+    ensures read { HasRead (state S.Store conn.old) (state S.Store conn.new) result }
+    ensures mode { conn.new.in_transaction ≡ false }
+{
+    let _settled = conn.is_autocommit();
+    read_whole(alloc, conn)
+}
+
+/// Reads all rows of a desk's tables inside a transaction, as `snapshot` does: of what the transaction shows.
+///
+/// The transaction goes on. After a fault it may be undone.
+pub fn snapshot_inside<S: Alter>(
+    alloc: Global,
+    tx: &mut Transaction<'_, S>,
+) -> Result<Snapshot, Fault>
+    ensures ok { IfOk result (λ s. IsRead (IsSnapshot s) (λ t. AreSortedAsListed t → s ≡ snapshot_of t)
+        (state S.Store tx.old.conn.now) (state S.Store tx.new.conn.now)) }
+    ensures asked { HasAsked (state S.Store tx.old.conn.now) (state S.Store tx.new.conn.now) result }
+    ensures same_reference { tx.new.conn.ghost_name ≡ tx.old.conn.ghost_name }
+{
+    read_whole(alloc, tx)
+}

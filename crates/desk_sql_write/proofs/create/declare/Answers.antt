@@ -1,0 +1,16 @@
+use Rattle.std.proofs.Common.{◌∙◌, map}
+use Rattle.sqlite.specs.Held.{state}
+use Rattle.sqlite.proofs.StateLemmas.{survives_then}
+use Rattle.desk_sql_write.proofs.Declared.{went_on}
+use Rattle.desk_sql_write.proofs.Inside.{clean_before}
+use Rattle.desk_sql_write.proofs.create.declare.Goals as goal
+
+pub loop-place-preserved : goal.loop-place-preserved
+loop-place-preserved g c = record {
+  same_reference = c.in_ok-execute.ensures.same_reference ∙ c.loop-place.invariant.same_reference;
+  went = λ clean inside.
+      went_on (map (λ text. text.now) c.args.texts.now) c.loop-place.place c.text_at.result.now (state g.S.Store c.args.tx.now.conn.now) (state g.S.Store c.loop-place.tx.conn.now) (state g.S.Store c.execute.new.tx.conn.now)
+      c.execute.result c.text_at.ensures c.in_ok-execute.field-0 c.in_ok-execute.was
+      (c.loop-place.invariant.went (clean_before _ _ _ c.execute.ensures.survives clean) inside) c.execute.ensures.ran clean;
+  survives = survives_then _ _ _ _ _ (λ _. ⊥) (λ _ db none. none) (λ _ db none. none) c.loop-place.invariant.survives c.execute.ensures.survives;
+}

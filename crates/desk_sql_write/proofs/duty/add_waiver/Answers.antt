@@ -1,0 +1,14 @@
+use Rattle.std.proofs.Common.{◌++◌, ◌∷◌, []}
+use Rattle.sqlite.specs.Held.{state}
+use Rattle.desk_sql_layout.specs.Cells.{waiver_cells}
+use Rattle.desk_sql_write.specs.Contents.{cells_of}
+use Rattle.desk_sql_write.proofs.Inside.{wrote_by}
+use Rattle.desk_sql_write.proofs.Inserts.{add_waiver_text, waiver_added}
+use Rattle.desk_sql_write.proofs.duty.add_waiver.Goals as goal
+
+pub returns-clause-wrote : goal.returns-clause-wrote
+returns-clause-wrote g c =
+    let old = state g.S.Store c.args.tx.now.conn.now in
+    let new = state g.S.Store c.execute.new.tx.conn.now in
+    wrote_by cells_of (λ it. record it { waiver = it.waiver ++ c.args.row.now ∷ [] }) add_waiver_text (waiver_cells c.args.row.now) old new c.execute.result
+    (rw c.waiver_values.ensures at c.execute.ensures.ran) (waiver_added c.args.row.now old new)

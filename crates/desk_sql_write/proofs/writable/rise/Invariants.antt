@@ -1,0 +1,10 @@
+use Rattle.std.proofs.Common.{◌≡◌, length}
+use Rattle.desk_sql_layout.specs.Writable.{rise}
+use Rattle.desk_sql_write.proofs.writable.rise.Given as goal
+
+-- those that are left rise exactly where all do
+abbrev pub invariant-loop-first : goal.invariant-loop-first
+invariant-loop-first l = rise l.left ≡ rise l.fn.packages
+
+abbrev pub decreases-loop-first : goal.decreases-loop-first
+decreases-loop-first l = length l.left

@@ -1,0 +1,55 @@
+-- What declaring tables one after another makes of a database.
+use Rattle.std.specs.Prelude.{◌≡◌, ℕ, false, List, [], ◌∷◌, map, IsTrue, Result, Ok, Err}
+use Rattle.std.specs.List.{AllByRecursion}
+use Rattle.sqlite_schema.specs.declared.schema.Table.{Table}
+use Rattle.sqlite_schema.specs.declared.schema.Schema.{Schema}
+use Rattle.sqlite_schema.specs.declared.command.Command.TheVariants.{CreateTable}
+use Rattle.sqlite_resolve.specs.Compile.{table_defined_by}
+use Rattle.sqlite_catalog.specs.Change.{created}
+use Rattle.sqlite.specs.Listing.{understood}
+use Rattle.sqlite.specs.Effect.{Database, IsDatabase}
+use Rattle.sqlite.specs.Does.{lacks_sequence}
+use Rattle.sqlite.specs.Given.{IsPlain}
+use Rattle.sqlite.specs.State.{State, HasCleanDisk, KeepsCommit}
+use Rattle.sqlite.proofs.Callers.{command_of, statement_of}
+use Rattle.desk_model.specs.declared.command.Fault.{Fault}
+
+-- the text declares this table in a database with the schema
+pub record Declares (text : List ℕ) (table : Table) (schema : Schema) : Type 0 where
+  pub is_create : command_of (understood schema text) ≡ CreateTable
+  pub whole : statement_of text (understood schema text) ≡ text
+  pub plain : IsPlain (understood schema text)
+  pub defines : table_defined_by text ≡ Ok table
+  pub counts : lacks_sequence (created schema table) ≡ false
+
+abbrev pub AreDeclared : List (List ℕ × Table) → Schema → Type 0
+AreDeclared [] schema = Unit {0}
+AreDeclared (d ∷ ds) schema = Declares d.0 d.1 schema × AreDeclared ds (created schema d.1)
+
+abbrev pub schema_after : Schema → List (List ℕ × Table) → Schema
+schema_after schema [] = schema
+schema_after schema (d ∷ ds) = schema_after (created schema d.1) ds
+
+-- the database has these tables, and all are empty
+pub record IsBare (schema : Schema) (db : Database) : Type 0 where
+  pub declared : db.schema ≡ schema
+  pub empty : AllByRecursion (λ t. db.trees t.tree ≡ []) schema.tables
+  pub sound : IsDatabase db
+
+-- the tables of the database are empty, and those that the texts declare make it this schema
+pub record Left (texts : List (List ℕ)) (final : Schema) (db : Database) : Type 0 where
+  pub tables : List (List ℕ × Table)
+  pub schema : Schema
+  pub are_texts : map (λ (d : List ℕ × Table). d.0) tables ≡ texts
+  pub declared : AreDeclared tables schema
+  pub bare : IsBare schema db
+  pub final_is : schema_after schema tables ≡ final
+
+pub record Went (texts rest : List (List ℕ)) (old new : State) : Type 0 where
+  pub inside : IsTrue new.in_transaction
+  pub kept : KeepsCommit old new
+  pub left : (final : Schema) → Left texts final old.now → Left rest final new.now
+
+abbrev pub HasDeclared : List (List ℕ) → State → State → Result (Unit {0}) Fault → Type 0
+HasDeclared texts old new (Ok done) = HasCleanDisk new → IsTrue old.in_transaction → Went texts [] old new
+HasDeclared texts old new (Err fault) = HasCleanDisk new → IsTrue old.in_transaction → KeepsCommit old new

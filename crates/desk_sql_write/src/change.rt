@@ -1,0 +1,321 @@
+//! What each change writes.
+
+ghost use Rattle.std.specs.Prelude.{◌≡◌, ◌++◌, ◌∷◌, [], filter, not};
+ghost use Rattle.sqlite.specs.Held.{state};
+ghost use Rattle.sqlite.specs.State.{Survives};
+ghost use Rattle.desk_model.specs.Keys.{is_release, is_conclusion, is_adoption};
+ghost use Rattle.desk_model.specs.Lists.{updated};
+ghost use Rattle.desk_model.specs.Tables.{applied, is_other_choice, is_choice_elsewhere, with_release_state, withdrawn_release, moved_by};
+ghost use Rattle.desk_model.specs.declared.state.ReleaseState.TheVariants.{Frozen};
+ghost use Rattle.desk_sql_layout.specs.Held.{rows_of};
+ghost use Rattle.desk_sql_write.specs.Contents.{cells_of, with_tables, with_steps, with_document};
+ghost use Rattle.desk_sql_write.specs.Written.{Writes};
+
+use crate::catalogue::{add_revision, add_rules};
+use crate::document::{add_document, add_packages, add_reading, add_references};
+use crate::duty::{add_duties, add_steps, set_duties};
+use crate::office::{add_adoption, add_conclusion, drop_adoption, drop_conclusion};
+use crate::release::{
+    add_attached, add_choices, add_frozen_terms, add_release, drop_choices, drop_choices_in,
+    freeze_release, withdraw_release,
+};
+use desk_base::Text;
+use desk_model::{
+    AdoptionRow, CatalogueRow, Change, ChangeRow, ChoiceRow, ConclusionRow, DocumentRow, DutyRow,
+    ExtractedRow, Fault, FrozenRow, PackageRow, RuleRow,
+};
+use sqlite::{Alter, Transaction};
+use std::alloc::Global;
+
+/// The catalogue is loaded.
+pub(crate) fn load<S: Alter>(
+    alloc: Global,
+    tx: &mut Transaction<'_, S>,
+    row: &CatalogueRow,
+    rules: &[RuleRow],
+) -> Result<(), Fault>
+    ensures same_reference { tx.new.conn.ghost_name ≡ tx.old.conn.ghost_name }
+    ensures wrote { Writes cells_of (with_tables (λ t.
+        record t { catalogue = t.catalogue ++ row.now ∷ []; rule = t.rule ++ rules.now }))
+        (state S.Store tx.old.conn.now) (state S.Store tx.new.conn.now) result }
+    ensures survives { Survives (state S.Store tx.old.conn.now) (state S.Store tx.new.conn.now) (λ _. ⊥) }
+{
+    add_revision(tx, row)?;
+    add_rules(alloc, tx, rules)
+}
+
+/// Adds a document, with its profile.
+pub(crate) fn add_read_document<S: Alter>(
+    tx: &mut Transaction<'_, S>,
+    row: &DocumentRow,
+) -> Result<(), Fault>
+    ensures same_reference { tx.new.conn.ghost_name ≡ tx.old.conn.ghost_name }
+    ensures wrote { Writes cells_of (with_document row.now) (state S.Store tx.old.conn.now)
+        (state S.Store tx.new.conn.now) result }
+    ensures survives { Survives (state S.Store tx.old.conn.now) (state S.Store tx.new.conn.now) (λ _. ⊥) }
+{
+    add_document(tx, row)?;
+    add_reading(tx, row)
+}
+
+/// Adds what a document defines.
+pub(crate) fn add_parts<S: Alter>(
+    tx: &mut Transaction<'_, S>,
+    packages: &[PackageRow],
+    references: &[ExtractedRow],
+) -> Result<(), Fault>
+    ensures same_reference { tx.new.conn.ghost_name ≡ tx.old.conn.ghost_name }
+    ensures wrote { Writes cells_of (with_tables (λ t.
+        record t { packages = t.packages ++ packages.now; extracted = t.extracted ++ references.now }))
+        (state S.Store tx.old.conn.now) (state S.Store tx.new.conn.now) result }
+    ensures survives { Survives (state S.Store tx.old.conn.now) (state S.Store tx.new.conn.now) (λ _. ⊥) }
+{
+    add_packages(tx, packages)?;
+    add_references(tx, references)
+}
+
+/// A document is imported.
+pub(crate) fn import<S: Alter>(
+    tx: &mut Transaction<'_, S>,
+    row: &DocumentRow,
+    packages: &[PackageRow],
+    references: &[ExtractedRow],
+) -> Result<(), Fault>
+    ensures same_reference { tx.new.conn.ghost_name ≡ tx.old.conn.ghost_name }
+    ensures wrote { Writes cells_of (λ it. with_tables (λ t.
+        record t { packages = t.packages ++ packages.now; extracted = t.extracted ++ references.now })
+        (with_document row.now it))
+        (state S.Store tx.old.conn.now) (state S.Store tx.new.conn.now) result }
+    ensures survives { Survives (state S.Store tx.old.conn.now) (state S.Store tx.new.conn.now) (λ _. ⊥) }
+{
+    add_read_document(tx, row)?;
+    add_parts(tx, packages, references)
+}
+
+/// The terms that are chosen for a package take the place of those that were.
+pub(crate) fn choose<S: Alter>(
+    tx: &mut Transaction<'_, S>,
+    release: &Text,
+    document: u32,
+    package_id: &Text,
+    rows: &[ChoiceRow],
+) -> Result<(), Fault>
+    ensures same_reference { tx.new.conn.ghost_name ≡ tx.old.conn.ghost_name }
+    ensures wrote { Writes cells_of (with_tables (λ t.
+        record t {
+          choice =
+              filter (is_other_choice release.now document package_id.now) t.choice ++ rows.now;
+        }))
+        (state S.Store tx.old.conn.now) (state S.Store tx.new.conn.now) result }
+    ensures survives { Survives (state S.Store tx.old.conn.now) (state S.Store tx.new.conn.now) (λ _. ⊥) }
+{
+    drop_choices(tx, release, document, package_id)?;
+    add_choices(tx, rows)
+}
+
+/// A conclusion takes the place of an earlier one.
+pub(crate) fn conclude<S: Alter>(
+    tx: &mut Transaction<'_, S>,
+    row: &ConclusionRow,
+) -> Result<(), Fault>
+    ensures same_reference { tx.new.conn.ghost_name ≡ tx.old.conn.ghost_name }
+    ensures wrote { Writes cells_of (with_tables (λ t.
+        record t {
+          conclusion =
+              filter (λ other. not (is_conclusion row.now.document row.now.package_id other)) t.conclusion
+              ++ row.now ∷ [];
+        }))
+        (state S.Store tx.old.conn.now) (state S.Store tx.new.conn.now) result }
+    ensures survives { Survives (state S.Store tx.old.conn.now) (state S.Store tx.new.conn.now) (λ _. ⊥) }
+{
+    drop_conclusion(tx, row.document, &row.package_id)?;
+    add_conclusion(tx, row)
+}
+
+/// A licence takes the place of an earlier one.
+pub(crate) fn adopt<S: Alter>(tx: &mut Transaction<'_, S>, row: &AdoptionRow) -> Result<(), Fault>
+    ensures same_reference { tx.new.conn.ghost_name ≡ tx.old.conn.ghost_name }
+    ensures wrote { Writes cells_of (with_tables (λ t.
+        record t {
+          adoption =
+              filter (λ other. not (is_adoption row.now.document row.now.reference other)) t.adoption
+              ++ row.now ∷ [];
+        }))
+        (state S.Store tx.old.conn.now) (state S.Store tx.new.conn.now) result }
+    ensures survives { Survives (state S.Store tx.old.conn.now) (state S.Store tx.new.conn.now) (λ _. ⊥) }
+{
+    drop_adoption(tx, row.document, &row.reference)?;
+    add_adoption(tx, row)
+}
+
+/// Duties are raised.
+pub(crate) fn raise<S: Alter>(
+    alloc: Global,
+    tx: &mut Transaction<'_, S>,
+    duties: &[DutyRow],
+    changes: &[ChangeRow],
+) -> Result<(), Fault>
+    ensures same_reference { tx.new.conn.ghost_name ≡ tx.old.conn.ghost_name }
+    ensures wrote { Writes cells_of (λ it. with_steps changes.now
+        (with_tables (λ t. record t { duty = t.duty ++ duties.now }) it))
+        (state S.Store tx.old.conn.now) (state S.Store tx.new.conn.now) result }
+    ensures survives { Survives (state S.Store tx.old.conn.now) (state S.Store tx.new.conn.now) (λ _. ⊥) }
+{
+    add_duties(alloc, tx, duties)?;
+    add_steps(alloc, tx, changes)
+}
+
+/// Adds the terms that a release is frozen with, and raises its duties.
+pub(crate) fn add_terms<S: Alter>(
+    alloc: Global,
+    tx: &mut Transaction<'_, S>,
+    frozen: &[FrozenRow],
+    duties: &[DutyRow],
+    changes: &[ChangeRow],
+) -> Result<(), Fault>
+    ensures same_reference { tx.new.conn.ghost_name ≡ tx.old.conn.ghost_name }
+    ensures wrote { Writes cells_of (λ it. with_steps changes.now
+        (with_tables (λ t.
+        record t { frozen = t.frozen ++ frozen.now; duty = t.duty ++ duties.now }) it))
+        (state S.Store tx.old.conn.now) (state S.Store tx.new.conn.now) result }
+    ensures survives { Survives (state S.Store tx.old.conn.now) (state S.Store tx.new.conn.now) (λ _. ⊥) }
+{
+    add_frozen_terms(tx, frozen)?;
+    raise(alloc, tx, duties, changes)
+}
+
+/// A release is frozen.
+pub(crate) fn freeze<S: Alter>(
+    alloc: Global,
+    tx: &mut Transaction<'_, S>,
+    release: &Text,
+    revision: u64,
+    frozen: &[FrozenRow],
+    duties: &[DutyRow],
+    changes: &[ChangeRow],
+) -> Result<(), Fault>
+    ensures same_reference { tx.new.conn.ghost_name ≡ tx.old.conn.ghost_name }
+    ensures wrote { Writes cells_of (λ it. with_steps changes.now
+        (with_tables (λ t. record t {
+          releases = updated (is_release release.now) (with_release_state Frozen revision) t.releases;
+          frozen = t.frozen ++ frozen.now;
+          duty = t.duty ++ duties.now;
+        }) it))
+        (state S.Store tx.old.conn.now) (state S.Store tx.new.conn.now) result }
+    ensures survives { Survives (state S.Store tx.old.conn.now) (state S.Store tx.new.conn.now) (λ _. ⊥) }
+{
+    freeze_release(tx, release, revision)?;
+    add_terms(alloc, tx, frozen, duties, changes)
+}
+
+/// Duties are moved.
+pub(crate) fn move_duties<S: Alter>(
+    alloc: Global,
+    tx: &mut Transaction<'_, S>,
+    changes: &[ChangeRow],
+) -> Result<(), Fault>
+    ensures same_reference { tx.new.conn.ghost_name ≡ tx.old.conn.ghost_name }
+    ensures wrote { Writes cells_of (λ it. with_steps changes.now
+        (with_tables (λ t. record t { duty = moved_by changes.now t.duty }) it))
+        (state S.Store tx.old.conn.now) (state S.Store tx.new.conn.now) result }
+    ensures survives { Survives (state S.Store tx.old.conn.now) (state S.Store tx.new.conn.now) (λ _. ⊥) }
+{
+    set_duties(tx, changes)?;
+    add_steps(alloc, tx, changes)
+}
+
+/// The terms that are chosen in a release go, and its duties are moved.
+pub(crate) fn clear<S: Alter>(
+    alloc: Global,
+    tx: &mut Transaction<'_, S>,
+    release: &Text,
+    changes: &[ChangeRow],
+) -> Result<(), Fault>
+    ensures same_reference { tx.new.conn.ghost_name ≡ tx.old.conn.ghost_name }
+    ensures wrote { Writes cells_of (λ it. with_steps changes.now
+        (with_tables (λ t. record t {
+          choice = filter
+              (is_choice_elsewhere release.now) t.choice;
+          duty = moved_by changes.now t.duty;
+        }) it))
+        (state S.Store tx.old.conn.now) (state S.Store tx.new.conn.now) result }
+    ensures survives { Survives (state S.Store tx.old.conn.now) (state S.Store tx.new.conn.now) (λ _. ⊥) }
+{
+    drop_choices_in(tx, release)?;
+    move_duties(alloc, tx, changes)
+}
+
+/// A release is withdrawn.
+pub(crate) fn withdraw<S: Alter>(
+    alloc: Global,
+    tx: &mut Transaction<'_, S>,
+    release: &Text,
+    changes: &[ChangeRow],
+) -> Result<(), Fault>
+    ensures same_reference { tx.new.conn.ghost_name ≡ tx.old.conn.ghost_name }
+    ensures wrote { Writes cells_of (λ it. with_steps changes.now
+        (with_tables (λ t. record t {
+          releases = updated
+              (is_release release.now) withdrawn_release t.releases;
+          choice = filter
+              (is_choice_elsewhere release.now) t.choice;
+          duty = moved_by changes.now t.duty;
+        }) it))
+        (state S.Store tx.old.conn.now) (state S.Store tx.new.conn.now) result }
+    ensures survives { Survives (state S.Store tx.old.conn.now) (state S.Store tx.new.conn.now) (λ _. ⊥) }
+{
+    withdraw_release(tx, release)?;
+    clear(alloc, tx, release, changes)
+}
+
+/// Writes a change.
+pub(crate) fn make<S: Alter>(
+    alloc: Global,
+    tx: &mut Transaction<'_, S>,
+    change: &Change,
+) -> Result<(), Fault>
+    ensures same_reference { tx.new.conn.ghost_name ≡ tx.old.conn.ghost_name }
+    ensures wrote { Writes rows_of (applied change.now) (state S.Store tx.old.conn.now)
+        (state S.Store tx.new.conn.now) result }
+    ensures survives { Survives (state S.Store tx.old.conn.now) (state S.Store tx.new.conn.now) (λ _. ⊥) }
+{
+    match change {
+        Change::Loaded {
+            catalogue,
+            rules,
+            forms: _,
+        } => load(alloc, tx, catalogue, rules.as_slice()),
+        Change::Imported {
+            document,
+            packages,
+            references,
+        } => import(tx, document, packages.as_slice(), references.as_slice()),
+        Change::Opened(row) => add_release(tx, row),
+        Change::Attached(row) => add_attached(tx, row),
+        Change::Chosen {
+            release,
+            document,
+            package_id,
+            rows,
+        } => choose(tx, release, *document, package_id, rows.as_slice()),
+        Change::Froze {
+            release,
+            revision,
+            frozen,
+            duties,
+            changes,
+        } => freeze(
+            alloc,
+            tx,
+            release,
+            *revision,
+            frozen.as_slice(),
+            duties.as_slice(),
+            changes.as_slice(),
+        ),
+        Change::Moved { changes } => move_duties(alloc, tx, changes.as_slice()),
+        Change::Withdrew { release, changes } => withdraw(alloc, tx, release, changes.as_slice()),
+        Change::Concluded(row) => conclude(tx, row),
+        Change::Adopted(row) => adopt(tx, row),
+    }
+}

@@ -1,0 +1,58 @@
+//! A change is written whole, or not at all.
+
+ghost use Rattle.std.specs.Prelude.{◌≡◌, false, IsTrue, OnOk, OnErr};
+ghost use Rattle.sqlite.specs.Held.{state};
+ghost use Rattle.sqlite.specs.State.{HasCleanDisk, Survives};
+ghost use Rattle.desk_access.specs.Seen.{Wrote};
+ghost use Rattle.desk_sql_layout.specs.Held.{Stands, seen_of};
+ghost use Rattle.desk_sql_write.specs.Written.{Done, Undone, Leaves};
+
+use crate::change::make;
+use crate::writable::is_writable;
+use desk_model::{Change, Fault, StoreFault};
+use desk_sql_layout::fault::fault_of;
+use sqlite::{Alter, Connection};
+use std::alloc::Global;
+
+/// Writes a change in one transaction.
+fn write<S: Alter>(alloc: Global, conn: &mut Connection<S>, change: &Change) -> Result<(), Fault>
+    requires { conn.old.in_transaction ≡ false }
+    ensures ok { HasCleanDisk (state S.Store conn.new)
+        → OnOk result (Done change.now (state S.Store conn.old) (state S.Store conn.new)) }
+    ensures err { HasCleanDisk (state S.Store conn.new)
+        → OnErr result (Undone (state S.Store conn.old) (state S.Store conn.new)) }
+    ensures mode { conn.new.in_transaction ≡ false }
+    ensures crash { Survives (state S.Store conn.old) (state S.Store conn.new)
+        (Leaves change.now (state S.Store conn.old)) }
+    ensures stop { IsTrue (state S.Store conn.new).is_open → (trees : _)
+        → (state S.Store conn.new).may_leave trees → trees ≡ (state S.Store conn.new).committed.trees }
+{
+    let mut tx = conn.transaction();
+    make(alloc, &mut tx, change)?;
+    match tx.commit() {
+        Ok(()) => Ok(()),
+        Err(error) => Err(fault_of(&error)),
+    }
+}
+
+/// Writes a change whole, in one transaction, or nothing.
+///
+/// Where the disk was honest: after `Ok` a change that goes on from the rows is made, and a stop leaves the rows after it and no
+/// others; after `Err` the rows are as they were, and a stop may leave the change. `Memory` is told where the database found no
+/// memory, `Store` where it refused or can't hold the rows.
+pub fn commit<S: Alter>(
+    alloc: Global,
+    conn: &mut Connection<S>,
+    change: &Change,
+) -> Result<(), Fault>
+    requires { conn.old.in_transaction ≡ false }
+    ensures wrote { Wrote Stands change.now (seen_of (state S.Store conn.old))
+        (seen_of (state S.Store conn.new)) result }
+    ensures mode { conn.new.in_transaction ≡ false }
+{
+    if is_writable(change) {
+        write(alloc, conn, change)
+    } else {
+        Err(Fault::Store(StoreFault::Rows))
+    }
+}

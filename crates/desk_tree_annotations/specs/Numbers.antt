@@ -1,0 +1,10 @@
+-- The numbers of what may be wrong with an annotation, in the order in which it is looked for.
+use Rattle.std.specs.Prelude.{ℕ}
+use Rattle.desk_tree_annotations.specs.declared.fault.AnnotationFault.{AnnotationFault}
+use Rattle.desk_tree_annotations.specs.declared.fault.AnnotationFault.TheVariants.{NoPath, BadKind, BadPrecedence, BadExpression}
+
+abbrev pub kind_number : AnnotationFault → ℕ
+kind_number NoPath = 1
+kind_number BadKind = 2
+kind_number BadPrecedence = 3
+kind_number BadExpression = 4

@@ -1,0 +1,52 @@
+//! Which texts are licence expressions.
+
+ghost use Rattle.std.specs.Prelude.{◌≡◌, true, IfOk, IfSome};
+ghost use Rattle.std.specs.List.{list_all};
+ghost use Rattle.desk_tree_annotations.specs.Right.{Tells, Reading, IsRight};
+ghost use Rattle.desk_base.specs.Borrowed.{texts};
+
+use desk_expr::{parse, told};
+use std::alloc::{AllocError, Global};
+
+/// Whether a text is a licence expression, with operators in capitals (SPDX 2.3, Annex D). The only error is want of memory.
+pub fn is_expression(alloc: Global, text: &str) -> Result<bool, AllocError>
+    ensures { IfOk result (Tells text.now) }
+{
+    match parse(alloc, text) {
+        Ok(_) => Ok(true),
+        Err(fault) => {
+            told(fault)?;
+            Ok(false)
+        }
+    }
+}
+
+/// The same where another text, if any, is known to be an expression: one that equals it isn't read again.
+pub fn is_expression_beside(
+    alloc: Global,
+    text: &str,
+    known: Option<&str>,
+) -> Result<bool, AllocError>
+    requires { IfSome known (λ k. Tells k.now true) }
+    ensures { IfOk result (Tells text.now) }
+{
+    if let Some(known) = known {
+        if known == text {
+            return Ok(true);
+        }
+    }
+    is_expression(alloc, text)
+}
+
+/// Whether each text is a licence expression.
+pub(crate) fn are_expressions(alloc: Global, listed: &[&str]) -> Result<bool, AllocError>
+    ensures { (r : Reading) → IsRight r → IfOk result (λ b. b ≡ list_all r.is_expression (texts listed.now)) }
+{
+    for text in listed {
+        let is_read = is_expression(alloc, text)?;
+        if !is_read {
+            return Ok(false);
+        }
+    }
+    Ok(true)
+}

@@ -1,0 +1,21 @@
+-- The files of a draft, one after the other.
+use Rattle.std.proofs.Common.{◌≡◌, ◌∙◌, ℕ, ◌+◌, ◌<◌, List, [], ◌∷◌, ◌++◌, length, get_or, drop, ap}
+use Rattle.std.specs.Prelude.{Ok, Err}
+use Rattle.std.proofs.lemmas.List.{drop_more}
+use Rattle.desk_tree_gather.specs.declared.fault.GatherFault.{GatherFault}
+use Rattle.desk_tree_gather.specs.declared.telling.ToldFile.{ToldFile}
+use Rattle.desk_tree_gather.specs.Readers.{Reader}
+use Rattle.desk_tagvalue.specs.declared.drafts.DraftFile.{DraftFile}
+use Rattle.desk_tree_document.specs.Told.{file_told, files_told}
+use Rattle.desk_base.specs.Results.{followed}
+use Rattle.desk_base.proofs.Results.{onto, onto-followed}
+
+module _ (r : Reader) (done : List DraftFile) (ts : List ToldFile) (i : ℕ) (t : ToldFile) (within : i < length ts) where
+  stepped : onto done (files_told r (drop i ts)) ≡ onto done (followed (file_told r (get_or ts i t)) (files_told r (drop (i + 1) ts)))
+  stepped = ap (λ l. onto done (files_told r l)) (drop_more ts i t within)
+
+  pub onto-file : (f : DraftFile) → file_told r (get_or ts i t) ≡ Ok f → onto done (files_told r (drop i ts)) ≡ onto (done ++ f ∷ []) (files_told r (drop (i + 1) ts))
+  onto-file f is = stepped ∙ ap (λ x. onto done (followed x (files_told r (drop (i + 1) ts)))) is ∙ onto-followed done f (files_told r (drop (i + 1) ts))
+
+  pub onto-fault : (fault : GatherFault) → file_told r (get_or ts i t) ≡ Err fault → onto done (files_told r (drop i ts)) ≡ Err fault
+  onto-fault fault is = stepped ∙ ap (λ x. onto done (followed x (files_told r (drop (i + 1) ts)))) is

@@ -1,0 +1,9 @@
+use Rattle.std.proofs.Common.{◌≡◌, drop}
+use Rattle.desk_tree_gather.specs.Readers.{Reader, IsRightReader}
+use Rattle.desk_tree_document.specs.Told.{files_told}
+use Rattle.desk_tree_document.proofs.files.files_of.Given as goal
+use Rattle.desk_base.proofs.Results.{onto}
+
+-- the files so far, and those of the rest, are those of all
+abbrev pub invariant-loop-one : goal.invariant-loop-one
+invariant-loop-one l = (r : Reader) → IsRightReader r → onto l.files.items (files_told r (drop l.one-index l.told)) ≡ files_told r l.told

@@ -1,0 +1,70 @@
+-- The draft of a tree (SPDX 2.3, clauses 6 to 8).
+use Rattle.std.specs.Prelude.{ℕ, Bool, true, false, List, [], ◌∷◌, Ok, if◌then◌else◌}
+use Rattle.std.specs.List.{list_any, flat_map}
+use Rattle.sha1.specs.Sha1.{sha1}
+use Rattle.desk_model.specs.Texts.{sorted_set}
+use Rattle.desk_tagvalue.specs.declared.drafts.Draft.{Draft}
+use Rattle.desk_tagvalue.specs.declared.drafts.DraftFile.{DraftFile}
+use Rattle.desk_tree_gather.specs.declared.files.SourceFile.{SourceFile}
+use Rattle.desk_tree_gather.specs.declared.gathering.FileInfo.{FileInfo}
+use Rattle.desk_tree_gather.specs.Readers.{Reader}
+use Rattle.desk_tree_gather.specs.Trees.{Read, bytes_of, tree_of}
+use Rattle.desk_tree_gather.specs.Gathering.{gathered}
+use Rattle.desk_tree_document.specs.Texts.{expression_read, copyright_of}
+use Rattle.desk_base.specs.Results.{then_read, followed}
+
+-- the document's name, its namespace, and when it was made
+pub record Named : Type 0 where
+  pub name : List ℕ
+  pub namespace : List ℕ
+  pub created : List ℕ
+
+-- ---- files
+
+abbrev pub file_of : Reader → List SourceFile → FileInfo → Read DraftFile
+file_of r tree info =
+    then_read (expression_read r.reading info.licences) (λ concluded.
+    Ok (record { path = info.path; digest = sha1 (bytes_of tree info.path); concluded = concluded; copyright = copyright_of info.notices }))
+
+abbrev pub files_of : Reader → List SourceFile → List FileInfo → Read (List DraftFile)
+files_of r tree [] = Ok []
+files_of r tree (i ∷ is) = followed (file_of r tree i) (files_of r tree is)
+
+-- ---- the package
+
+abbrev pub is_none : List (List ℕ) → Bool
+is_none [] = true
+is_none (t ∷ ts) = false
+
+abbrev pub is_bare : FileInfo → Bool
+is_bare info = is_none info.licences
+
+-- the distinct licences of all files; none where some file has none
+abbrev pub package_licences : List FileInfo → List (List ℕ)
+package_licences infos = if list_any is_bare infos then [] else sorted_set (flat_map (λ i. i.licences) infos)
+
+-- the distinct notices of all files
+abbrev pub package_notices : List FileInfo → List (List ℕ)
+package_notices infos = sorted_set (flat_map (λ i. i.notices) infos)
+
+-- ---- the whole, with a verification code
+
+abbrev pub draft_with : Reader → Named → List FileInfo → List DraftFile → List ℕ → Read Draft
+draft_with r title infos files code =
+    then_read (expression_read r.reading (package_licences infos)) (λ concluded.
+    Ok (record {
+      name = title.name;
+      namespace = title.namespace;
+      created = title.created;
+      code = code;
+      concluded = concluded;
+      copyright = copyright_of (package_notices infos);
+      files = files;
+    }))
+
+abbrev pub draft_of : Reader → List SourceFile → Named → List ℕ → Read Draft
+draft_of r files title code =
+    then_read (gathered r files) (λ infos.
+    then_read (tree_of files) (λ tree.
+    then_read (files_of r tree infos) (λ drafted.
+    draft_with r title infos drafted code)))

@@ -1,0 +1,6 @@
+pub mod Texts
+pub mod Drafts
+pub mod Told
+pub mod Shown
+pub mod Shipping
+pub mod Gathering

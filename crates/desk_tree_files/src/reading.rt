@@ -1,0 +1,138 @@
+//! What the files of a tree hold.
+
+ghost use Rattle.std.specs.Prelude.{◌≡◌, ◌≤◌, IfOk, length, map};
+ghost use Rattle.std.specs.String.{string_bytes};
+ghost use Rattle.desk_tree_files.specs.Walking.{AreByPath};
+
+use crate::fault::TreeFault;
+use crate::walking::{paths_of, place};
+use desk_base::{Items, Text, limits};
+use desk_tree_gather::SourceFile;
+use std::fs::{self, OpenFile};
+use std::io::{self, ErrorKind, Read};
+use std::rt::Files;
+
+/// After how many files the count of those that are read is told.
+const FILES_A_LINE: usize = 1_000;
+
+// How much of a file is read at first. More at once would leave the processor's caches before it is looked at.
+const FIRST_READ: usize = 128 * 1024;
+
+// Reads what fits into some bytes, and says how many were read: none, where a signal interrupts it.
+fn read_some<F: Read>(file: &mut F, bytes: &mut [u8]) -> io::Result<usize>
+    ensures { IfOk result (λ count. count ≤ length bytes.new) }
+{
+    match file.read(bytes) {
+        Ok(count) => Ok(count),
+        Err(error) if error.kind() == ErrorKind::Interrupted => Ok(0),
+        Err(error) => Err(error),
+    }
+}
+
+// What a file holds, and nothing where a file isn't there any more but a pipe, a link or something else, which isn't opened: to open a
+// pipe would wait for a writer. Its room is taken by what the file's size is said to be, so that no more of it is taken than the file
+// needs, and so much is read at first: then most files are read by one call. What grows is read as far as it went when it was opened.
+fn bytes_at<R: Files + AllocGlobal + Clone + Drop>(
+    rt: &R,
+    place: &str,
+) -> io::Result<Option<Vec<u8>>> {
+    if !fs::symlink_metadata(rt, place)?.is_file() {
+        return Ok(None);
+    }
+    let mut file = fs::open(rt, place)?;
+    let found = file.metadata()?;
+    if !found.is_file() {
+        return Ok(None);
+    }
+    let size = found.len();
+    let room = usize::try_from(size).unwrap_or(usize::MAX);
+    let mut bytes = Vec::with_capacity(rt.alloc(), room.saturating_add(1))?;
+    bytes.resize(room.min(FIRST_READ), 0)?;
+    let count = read_some(&mut file, bytes.as_mut_slice())?;
+    bytes.truncate(count);
+    file.take(size.saturating_sub(count as u64))
+        .read_to_end(&mut bytes)?;
+    Ok(Some(bytes))
+}
+
+// The file at a path.
+fn file_at<R: Files + AllocGlobal + Clone + Drop>(
+    rt: &R,
+    root: &str,
+    path: &str,
+) -> Result<SourceFile, TreeFault>
+    ensures { IfOk result (λ f. f.path ≡ path.now) }
+{
+    let alloc = rt.alloc();
+    let place = place(alloc, root, path)?;
+    match bytes_at(rt, place.as_str()) {
+        Ok(Some(bytes)) => Ok(SourceFile {
+            path: Text::of(alloc, path)?,
+            bytes: Items::from_vec(bytes),
+        }),
+        Ok(None) => Err(TreeFault::Changed(place)),
+        Err(error) => Err(TreeFault::Read(place, error)),
+    }
+}
+
+// Tells on standard error how many files are read.
+fn tell<R: Eprint>(rt: &R, count: usize) {
+    if count % FILES_A_LINE == 0 {
+        // Where it can't be told, the files are read all the same.
+        let _told = eprintln!(rt; "{count} files read");
+    }
+}
+
+// The files at some paths.
+fn read<R: Files + Eprint + AllocGlobal + Clone + Drop>(
+    rt: &R,
+    root: &str,
+    paths: &[String],
+    is_told: bool,
+) -> Result<Vec<SourceFile>, TreeFault>
+    ensures { IfOk result (λ files. map (λ f. f.path) files.items ≡ map string_bytes paths.now) }
+{
+    let mut files = Vec::new(rt.alloc());
+    for path in paths {
+        files.push(file_at(rt, root, path.as_str())?)?;
+        if is_told {
+            tell(rt, files.len());
+        }
+    }
+    Ok(files)
+}
+
+// The files at some paths, without what they hold.
+fn named<R: Files + AllocGlobal + Clone + Drop>(
+    rt: &R,
+    paths: &[String],
+) -> Result<Vec<SourceFile>, TreeFault>
+    ensures { IfOk result (λ files. map (λ f. f.path) files.items ≡ map string_bytes paths.now) }
+{
+    let alloc = rt.alloc();
+    let mut files = Vec::new(alloc);
+    for path in paths {
+        files.push(SourceFile {
+            path: Text::of(alloc, path.as_str())?,
+            bytes: Items::new(alloc),
+        })?;
+    }
+    Ok(files)
+}
+
+/// The files below a folder by path: all but links, what else is neither a file nor a folder, and `.git` at the root. Of a folder
+/// with more than 10,000 files, of which nothing is gathered, 10,001 or more are given, and no bytes. After each 1,000 files the count of
+/// those that are read is told on standard error, if it is to be.
+pub fn files_of<R: Files + Eprint + AllocGlobal + Clone + Drop>(
+    rt: &R,
+    root: &str,
+    is_told: bool,
+) -> Result<Vec<SourceFile>, TreeFault>
+    ensures { IfOk result (λ files. AreByPath files.items) }
+{
+    let paths = paths_of(rt, root)?;
+    if paths.len() > limits::TREE_FILES {
+        return named(rt, paths.as_slice());
+    }
+    read(rt, root, paths.as_slice(), is_told)
+}

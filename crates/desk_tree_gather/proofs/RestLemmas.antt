@@ -1,0 +1,30 @@
+-- The rests of a path behind its slashes.
+use Rattle.std.proofs.Common.{◌≡◌, ◌≢◌, ◌∙◌, ℕ, suc, ◌<◌, false, cond, eqb, List, [], ◌∷◌, ◌++◌, length, get_or, ap, refl, append_assoc, arith, Option, Some, None}
+use Rattle.std.specs.Prelude.{option_to_list}
+use Rattle.std.specs.List.{cons_option}
+use Rattle.std.proofs.lemmas.Bool.Decides.{nat_tests}
+use Rattle.std.proofs.lemmas.List.{append-nil}
+use Rattle.desk_tree_gather.specs.Information.{rests}
+
+abbrev NoSlash : List ℕ → Type 0
+NoSlash path = (i : ℕ) → i < length path → get_or path i 0 ≢ 47
+
+no_slash : (b : ℕ) (bs : List ℕ) → NoSlash (b ∷ bs) → eqb b 47 ≡ false
+no_slash b bs none = let first : b ≢ 47 = none 0 (omega arith) in grind (arith, nat_tests)
+
+tail_no_slash : (b : ℕ) (bs : List ℕ) → NoSlash (b ∷ bs) → NoSlash bs
+tail_no_slash b bs none i within = none (suc i) (omega arith)
+
+pub rests-none : (path : List ℕ) → NoSlash path → rests path ≡ []
+rests-none [] none = refl
+rests-none (b ∷ bs) none = ap (λ t. cond t (bs ∷ rests bs) (rests bs)) (no_slash b bs none) ∙ rests-none bs (tail_no_slash b bs none)
+
+pub rests-cut : (before after : List ℕ) → NoSlash before → rests (before ++ (47 ∷ after)) ≡ after ∷ rests after
+rests-cut [] after none = refl
+rests-cut (b ∷ bs) after none =
+    ap (λ t. cond t ((bs ++ (47 ∷ after)) ∷ rests (bs ++ (47 ∷ after))) (rests (bs ++ (47 ∷ after)))) (no_slash b bs none)
+    ∙ rests-cut bs after (tail_no_slash b bs none)
+
+pub onto_one : {A : Type 0} (done : List A) (o : Option A) (more : List A) → (done ++ option_to_list o) ++ more ≡ done ++ cons_option o more
+onto_one done None more = ap (λ l. l ++ more) (append-nil done)
+onto_one done (Some x) more = append_assoc done (x ∷ []) more

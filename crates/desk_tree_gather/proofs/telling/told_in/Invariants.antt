@@ -1,0 +1,17 @@
+use Rattle.std.proofs.Common.{◌≡◌, List}
+use Rattle.std.specs.BTreeMap.{btree_map_len}
+use Rattle.desk_tree_gather.specs.Readers.{Reader, IsRightReader}
+use Rattle.desk_tree_gather.specs.Tomls.{TomlText}
+use Rattle.desk_tree_gather.specs.Folders.{Holds}
+use Rattle.desk_tree_gather.specs.Telling.{told_in}
+use Rattle.desk_tree_gather.specs.Shown.{left_in}
+use Rattle.desk_tree_gather.proofs.telling.told_in.Given as goal
+use Rattle.desk_base.proofs.Results.{onto}
+
+-- what is told so far, and what is told of those that are left, is that of all
+abbrev pub invariant-loop-path : goal.invariant-loop-path
+invariant-loop-path l = (r : Reader) → IsRightReader r → (tomls : List TomlText) → Holds tomls l.folders
+    → onto l.list.items (told_in r tomls (left_in l.left)) ≡ told_in r tomls (left_in l.fn.tree)
+
+abbrev pub decreases-loop-path : goal.decreases-loop-path
+decreases-loop-path l = btree_map_len l.left

@@ -1,0 +1,68 @@
+-- What the code's values show of the definitions'.
+use Rattle.std.specs.Prelude.{◌≡◌, ℕ, List, map, Result, Ok, Err}
+use Rattle.std.specs.BTreeMap.{BTreeMap}
+use Rattle.std.specs.String.{string_bytes}
+use denote.Ref.{Bor}
+use Rattle.desk_tree_annotations.specs.declared.annotation.Annotation.{Annotation}
+use Rattle.desk_reuse.specs.Tags.{tag_text}
+use Rattle.desk_reuse.specs.declared.info.Info.{Info}
+use Rattle.desk_tree_gather.specs.Readers.{Stated}
+use Rattle.desk_tree_gather.specs.declared.fault.GatherFault.{GatherFault}
+use Rattle.desk_tree_gather.specs.declared.files.File.{File}
+use Rattle.desk_tree_gather.specs.declared.files.SourceFile.{SourceFile}
+use Rattle.desk_tree_gather.specs.declared.gathering.Held.{Held}
+use Rattle.desk_tree_gather.specs.declared.tomls.Toml.{Toml}
+use Rattle.desk_tree_gather.specs.Trees.{Read}
+use Rattle.desk_tree_gather.specs.Tomls.{TomlText}
+
+-- a result is what is read, seen as it shows
+abbrev pub Gives : {A B : Type 0} → Read B → (A → B) → Result A GatherFault → Type 0
+Gives read show (Ok x) = read ≡ Ok (show x)
+Gives read show (Err fault) = read ≡ Err fault
+
+-- a file without where it lies in memory
+abbrev pub file_of : File → SourceFile
+file_of f = record { path = f.path.now; bytes = f.bytes.now }
+
+abbrev pub files_of : List File → List SourceFile
+files_of fs = map file_of fs
+
+abbrev pub Tree : Type 0
+Tree = BTreeMap (Bor (List ℕ)) (Bor (List ℕ))
+
+abbrev pub file_at : Bor (List ℕ) × Bor (List ℕ) → SourceFile
+file_at e = record { path = e.0.now; bytes = e.1.now }
+
+abbrev pub entries_of : List (Bor (List ℕ) × Bor (List ℕ)) → List SourceFile
+entries_of es = map file_at es
+
+-- the file that holds what is stated of another
+abbrev pub held_in : Held → SourceFile
+held_in h = record { path = string_bytes h.path; bytes = h.bytes.now }
+
+-- the files of a map by path
+abbrev pub tree_in : Tree → List SourceFile
+tree_in m = entries_of m.entries
+
+-- files that are owned, by path
+abbrev pub OwnedTree : Type 0
+OwnedTree = BTreeMap (List ℕ) (List ℕ)
+
+abbrev pub owned_at : List ℕ × List ℕ → SourceFile
+owned_at e = record { path = e.0; bytes = e.1 }
+
+abbrev pub left_in : OwnedTree → List SourceFile
+left_in m = map owned_at m.entries
+
+abbrev pub toml_in : Toml → TomlText
+toml_in t = record { folder = t.folder.now; annotations = t.annotations.list }
+
+abbrev pub tomls_in : List Toml → List TomlText
+tomls_in ts = map toml_in ts
+
+abbrev pub annotations_of : List (Bor Annotation) → List Annotation
+annotations_of list = map (λ (a : Bor Annotation). a.now) list
+
+-- what a file states, without where it lies in memory
+abbrev pub stated_of : Info → Stated
+stated_of i = record { notices = map tag_text i.notices.items; licences = map tag_text i.licences.items }

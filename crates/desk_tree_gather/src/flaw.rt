@@ -1,0 +1,21 @@
+//! What may be wrong in a tree.
+
+use desk_base::Text;
+use desk_tree_annotations::AnnotationFault;
+
+/// Something in a tree for which nothing is gathered of it.
+#[derive(Debug, Drop)]
+pub enum Flaw {
+    /// More than 10,000 files.
+    TooManyFiles,
+    /// A path that can't stand in a tree.
+    BadPath(Text),
+    /// A path that stands there already.
+    TwicePath(Text),
+    /// A REUSE.toml, named by its path, that is no TOML document of version 1.
+    BadToml(Text),
+    /// An annotation of a REUSE.toml: its path, the index from 0, and what is wrong.
+    BadAnnotation(Text, usize, AnnotationFault),
+    /// A tag whose value is no licence expression: the path of the file that holds it, the line from 1, and the value.
+    BadExpression(Text, u64, Text),
+}

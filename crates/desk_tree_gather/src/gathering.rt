@@ -1,0 +1,223 @@
+//! What is gathered of a tree.
+
+ghost use Rattle.std.specs.Prelude.{◌≡◌, ◌⊎◌, List, IfOk, IfErr, Ok, Err, alloc_error, option_map, map};
+ghost use Rattle.desk_reuse.specs.Tags.{tag_text};
+ghost use Rattle.desk_tree_gather.specs.Readers.{Reader, IsRightReader, Stated};
+ghost use Rattle.desk_tree_gather.specs.Tomls.{TomlText};
+ghost use Rattle.desk_tree_gather.specs.Folders.{Holds};
+ghost use Rattle.desk_tree_gather.specs.Gathering.{holder, bad_line, stated_in, values, info_with, info_of, infos_of, gathered};
+ghost use Rattle.desk_tree_gather.specs.Trees.{each};
+ghost use Rattle.desk_tree_gather.specs.Paths.{is_covered};
+ghost use Rattle.desk_tree_gather.specs.Shown.{Gives, file_of, files_of, held_in, tree_in, annotations_of, stated_of};
+ghost use Rattle.desk_base.specs.Borrowed.{texts_in};
+
+use crate::counting::counting;
+use crate::fault::GatherFault;
+use crate::files::{File, SourceFile, bytes_at, files_of, is_covered, tree_of};
+use crate::information::{Subject, given};
+use crate::tomls::{by_folder, tomls_of};
+use desk_base::{Items, Text};
+use desk_catalogue::sorted_set;
+use desk_reuse::{Info, Tagged, header};
+use desk_tree_annotations::{Annotation, Annotations, is_expression_beside};
+use std::alloc::{AllocError, Global};
+use std::collections::BTreeMap;
+
+/// What a file is under.
+#[derive(Debug, Drop)]
+pub struct FileInfo {
+    /// Its path.
+    pub path: Text,
+    /// Copyright notices, each once, in byte order.
+    pub notices: Items<Text>,
+    /// Licence expressions, each once, in byte order.
+    pub licences: Items<Text>,
+}
+
+/// The files that are known by path, and the annotations by folder.
+#[derive(Drop)]
+pub(crate) struct Known<'a> {
+    pub(crate) tree: BTreeMap<&'a str, &'a [u8]>,
+    pub(crate) folders: BTreeMap<Vec<u8>, Annotations>,
+}
+
+/// The file that holds what is stated of another, or of itself.
+#[derive(Drop)]
+pub(crate) struct Held<'a> {
+    pub(crate) path: String,
+    pub(crate) bytes: &'a [u8],
+}
+
+// The line of the first licence that is no expression.
+fn bad_line(alloc: Global, tags: &[Tagged<'_>]) -> Result<Option<u64>, AllocError>
+    ensures { (r : Reader) → IsRightReader r → IfOk result (λ line. line ≡ bad_line r (map tag_text tags.now)) }
+{
+    let mut known = None;
+    for tag in tags {
+        let told = is_expression_beside(alloc, tag.value, known)?;
+        if !told {
+            return Ok(Some(tag.line));
+        }
+        known = Some(tag.value);
+    }
+    Ok(None)
+}
+
+/// What a file states itself.
+pub(crate) fn stated_in<'a>(
+    alloc: Global,
+    path: &str,
+    bytes: &'a [u8],
+) -> Result<Result<Info<'a>, GatherFault>, AllocError>
+    ensures { (r : Reader) → IsRightReader r → IfOk result
+        (Gives (stated_in r (record { path = path.now; bytes = bytes.now })) stated_of) }
+{
+    let info = header(alloc, bytes)?;
+    match bad_line(alloc, info.licences.as_slice())? {
+        Some(line) => Ok(Err(GatherFault::BadExpression(Text::of(alloc, path)?, line))),
+        None => Ok(Ok(info)),
+    }
+}
+
+/// The file whose tags are a file's own information: the one beside it, or itself.
+pub(crate) fn holder<'a>(
+    alloc: Global,
+    tree: &BTreeMap<&'a str, &'a [u8]>,
+    file: File<'a>,
+) -> Result<Held<'a>, AllocError>
+    ensures { IfOk result (λ h. held_in h ≡ holder (tree_in tree.now) (file_of file.entry)) }
+{
+    let mut beside = String::from_str(alloc, file.path)?;
+    beside.push_str(".license")?;
+    match bytes_at(tree, beside.as_str()) {
+        Some(bytes) => Ok(Held {
+            path: beside,
+            bytes,
+        }),
+        None => Ok(Held {
+            path: String::from_str(alloc, file.path)?,
+            bytes: file.bytes,
+        }),
+    }
+}
+
+// A file's own information: what is stated beside it, or by itself.
+fn own_of<'a>(
+    alloc: Global,
+    tree: &BTreeMap<&'a str, &'a [u8]>,
+    file: File<'a>,
+) -> Result<Result<Info<'a>, GatherFault>, AllocError>
+    ensures { (r : Reader) → IsRightReader r → IfOk result
+        (Gives (stated_in r (holder (tree_in tree.now) (file_of file.entry))) stated_of) }
+{
+    let held = holder(alloc, tree, file)?;
+    stated_in(alloc, held.path.as_str(), held.bytes)
+}
+
+fn values<'a>(alloc: Global, tags: &[Tagged<'a>]) -> Result<Vec<&'a str>, AllocError>
+    ensures { IfOk result (λ v. texts_in v ≡ values (map tag_text tags.now)) }
+{
+    let mut values = Vec::new(alloc);
+    for tag in tags {
+        values.push(tag.value)?;
+    }
+    Ok(values)
+}
+
+/// The information of a file, from its own and the annotations that count.
+pub(crate) fn info_with(
+    alloc: Global,
+    path: &str,
+    counting: &[&Annotation],
+    own: &Info<'_>,
+) -> Result<FileInfo, AllocError>
+    ensures { IfOk result (λ i. i ≡ info_with path.now (annotations_of counting.now) (stated_of own.now)) }
+{
+    let notices = values(alloc, own.notices.as_slice())?;
+    let notices = given(alloc, Subject::Notices, notices.as_slice(), counting)?;
+    let licences = values(alloc, own.licences.as_slice())?;
+    let licences = given(alloc, Subject::Licences, licences.as_slice(), counting)?;
+    Ok(FileInfo {
+        path: Text::of(alloc, path)?,
+        notices: sorted_set(alloc, notices)?,
+        licences: sorted_set(alloc, licences)?,
+    })
+}
+
+// The information of a file.
+fn info_of<'a>(
+    alloc: Global,
+    known: &Known<'a>,
+    file: File<'a>,
+) -> Result<Result<FileInfo, GatherFault>, AllocError>
+    ensures { (r : Reader) → IsRightReader r → (tomls : List TomlText) → Holds tomls known.now.folders
+        → IfOk result (λ i. i ≡ info_of r tomls (tree_in known.now.tree) (file_of file.entry)) }
+{
+    let own = match own_of(alloc, &known.tree, file)? {
+        Ok(own) => own,
+        Err(fault) => return Ok(Err(fault)),
+    };
+    let counting = counting(alloc, &known.folders, file.path)?;
+    let info = info_with(alloc, file.path, counting.as_slice(), &own)?;
+    Ok(Ok(info))
+}
+
+// The information of the covered files, in their order.
+fn infos_of<'a>(
+    alloc: Global,
+    known: &Known<'a>,
+    files: &[File<'a>],
+) -> Result<Result<Vec<FileInfo>, GatherFault>, AllocError>
+    ensures { (r : Reader) → IsRightReader r → (tomls : List TomlText) → Holds tomls known.now.folders
+        → IfOk result (Gives (each is_covered (info_of r tomls (tree_in known.now.tree))
+        (files_of files.now)) (λ v. v.items)) }
+{
+    let mut infos = Vec::new(alloc);
+    for file in files {
+        if !is_covered(*file) {
+            continue;
+        }
+        match info_of(alloc, known, *file)? {
+            Ok(info) => infos.push(info)?,
+            Err(fault) => return Ok(Err(fault)),
+        }
+    }
+    Ok(Ok(infos))
+}
+
+/// As `gather`, with want of memory told apart from the faults of the tree.
+pub fn gathered(
+    alloc: Global,
+    files: &[SourceFile],
+) -> Result<Result<Vec<FileInfo>, GatherFault>, AllocError>
+    ensures { (r : Reader) → IsRightReader r → IfOk result (Gives (gathered r files.now) (λ v. v.items)) }
+{
+    let tree = match tree_of(alloc, files)? {
+        Ok(tree) => tree,
+        Err(fault) => return Ok(Err(fault)),
+    };
+    let files = files_of(alloc, &tree)?;
+    let tomls = match tomls_of(alloc, files.as_slice())? {
+        Ok(tomls) => tomls,
+        Err(fault) => return Ok(Err(fault)),
+    };
+    let folders = by_folder(alloc, tomls)?;
+    let known = Known { tree, folders };
+    infos_of(alloc, &known, files.as_slice())
+}
+
+/// The information of each covered file by path, or the first fault: too many files; of the paths in turn; of the REUSE.toml files
+/// by path; of what the covered files state, by path.
+///
+/// For each right reader the answer is that of `gathered`; `Memory` is want of memory and nothing else.
+pub fn gather(alloc: Global, files: &[SourceFile]) -> Result<Vec<FileInfo>, GatherFault>
+    ensures ok { (r : Reader) → IsRightReader r → IfOk result (λ v. gathered r files.now ≡ Ok v.items) }
+    ensures err { (r : Reader) → IsRightReader r
+        → IfErr result (λ f. (f ≡ GatherFault.Memory alloc_error) ⊎ (gathered r files.now ≡ Err f)) }
+{
+    match gathered(alloc, files) {
+        Ok(Ok(infos)) => Ok(infos),
+        Ok(Err(fault)) => Err(fault),
+        Err(error) => Err(GatherFault::Memory(error)),
+    }
+}

@@ -1,0 +1,345 @@
+//! All that is wrong in a tree, and what is gathered of the rest of it.
+
+ghost use Rattle.std.specs.Prelude.{◌≡◌, ◌++◌, [], true, IfOk, IfSome, OnOk, map, filter, option_to_list, List};
+ghost use Rattle.std.specs.List.{flat_map};
+ghost use Rattle.desk_reuse.specs.Tags.{tag_text};
+ghost use Rattle.desk_tree_annotations.specs.Right.{Tells};
+ghost use Rattle.desk_tree_gather.specs.Readers.{Reader, IsRightReader};
+ghost use Rattle.desk_tree_gather.specs.Paths.{is_toml, is_covered};
+ghost use Rattle.desk_tree_gather.specs.Tomls.{TomlText};
+ghost use Rattle.desk_tree_gather.specs.Folders.{Holds};
+ghost use Rattle.desk_tree_gather.specs.Gathering.{holder};
+ghost use Rattle.desk_tree_gather.specs.Survey.{path_flaw, with_file, sifted, path_flaws, flaw_of, toml_flaws, toml_sifted, tag_flaws, stated_flaws, kept, tree_flaws, flaws_of, info_sifted, infos_sifted};
+ghost use Rattle.desk_tree_gather.specs.Shown.{file_of, files_of, tree_in, toml_in, tomls_in, stated_of};
+
+use crate::counting::counting;
+use crate::files::{File, SourceFile, bytes_at, files_of, is_covered, is_toml};
+use crate::flaw::Flaw;
+use crate::gathering::{FileInfo, Known, holder, info_with};
+use crate::paths::{folder_of, is_path};
+use crate::tomls::{Toml, by_folder};
+use desk_base::{Items, Text, limits};
+use desk_reuse::{Info, Tagged, header};
+use desk_tree_annotations::{Annotations, AnnotationsFault, Sifted, is_expression_beside};
+use std::alloc::{AllocError, Global};
+use std::collections::BTreeMap;
+
+/// All that is wrong in a tree, and what is gathered of the rest.
+#[derive(Drop)]
+pub struct Surveyed<'a> {
+    /// The bytes of its files by path, without those whose path is wrong; of more than 10,000 files none.
+    pub tree: BTreeMap<&'a str, &'a [u8]>,
+    /// What is wrong: of the paths in turn, of the REUSE.toml files by path, and of what the covered files state, by path.
+    pub flaws: Items<Flaw>,
+    /// The information of the covered files by path, by the annotations that can be read. A tag that is no licence expression
+    /// stands there as it is written.
+    pub infos: Vec<FileInfo>,
+}
+
+// What is wrong with the path of a file that is put to others.
+fn path_flaw<'a>(
+    alloc: Global,
+    tree: &BTreeMap<&'a str, &'a [u8]>,
+    path: &str,
+) -> Result<Option<Flaw>, AllocError>
+    ensures { IfOk result (λ flaw. flaw ≡ path_flaw (tree_in tree.now) path.now) }
+{
+    let told = is_path(alloc, path)?;
+    if !told {
+        return Ok(Some(Flaw::BadPath(Text::of(alloc, path)?)));
+    }
+    let other = bytes_at(tree, path);
+    if other.is_some() {
+        return Ok(Some(Flaw::TwicePath(Text::of(alloc, path)?)));
+    }
+    Ok(None)
+}
+
+// Puts a file to others, or tells what is wrong with its path.
+fn put<'a>(
+    alloc: Global,
+    tree: &mut BTreeMap<&'a str, &'a [u8]>,
+    file: &'a SourceFile,
+    flaws: &mut Items<Flaw>,
+) -> Result<(), AllocError>
+    ensures tree { OnOk result (tree_in tree.new ≡ with_file file.now (tree_in tree.old)) }
+    ensures flaws { OnOk result (flaws.new ≡ flaws.old ++ option_to_list
+        (path_flaw (tree_in tree.old) file.now.path)) }
+{
+    let path = file.path.as_str();
+    match path_flaw(alloc, tree, path)? {
+        Some(flaw) => flaws.push(flaw),
+        None => {
+            tree.insert(path, file.bytes.as_slice())?;
+            Ok(())
+        }
+    }
+}
+
+// The files by path, without those whose path is wrong.
+fn tree_kept<'a>(
+    alloc: Global,
+    files: &'a [SourceFile],
+    flaws: &mut Items<Flaw>,
+) -> Result<BTreeMap<&'a str, &'a [u8]>, AllocError>
+    ensures tree { IfOk result (λ t. tree_in t ≡ sifted [] files.now) }
+    ensures flaws { OnOk result (flaws.new ≡ flaws.old ++ path_flaws [] files.now) }
+{
+    let mut tree = BTreeMap::new(alloc);
+    for file in files {
+        put(alloc, &mut tree, file, flaws)?;
+    }
+    Ok(tree)
+}
+
+// The REUSE.toml files among some.
+fn toml_files<'a>(alloc: Global, files: &[File<'a>]) -> Result<Vec<File<'a>>, AllocError>
+    ensures { IfOk result (λ v. files_of v.items ≡ filter is_toml (files_of files.now)) }
+{
+    let mut tomls = Vec::new(alloc);
+    for file in files {
+        if is_toml(*file) {
+            tomls.push(*file)?;
+        }
+    }
+    Ok(tomls)
+}
+
+// The covered files among some.
+fn covered_files<'a>(alloc: Global, files: &[File<'a>]) -> Result<Vec<File<'a>>, AllocError>
+    ensures { IfOk result (λ v. files_of v.items ≡ filter is_covered (files_of files.now)) }
+{
+    let mut covered = Vec::new(alloc);
+    for file in files {
+        if is_covered(*file) {
+            covered.push(*file)?;
+        }
+    }
+    Ok(covered)
+}
+
+// What a fault of a REUSE.toml is for the tree.
+fn flaw_of(alloc: Global, path: &str, fault: AnnotationsFault) -> Result<Flaw, AllocError>
+    ensures { IfOk result (λ flaw. flaw ≡ flaw_of path.now fault) }
+{
+    match fault {
+        AnnotationsFault::BadAnnotation(index, kind) => {
+            Ok(Flaw::BadAnnotation(Text::of(alloc, path)?, index, kind))
+        }
+        _ => Ok(Flaw::BadToml(Text::of(alloc, path)?)),
+    }
+}
+
+// Adds what is wrong with a REUSE.toml.
+fn add_faults(
+    alloc: Global,
+    path: &str,
+    faults: &[AnnotationsFault],
+    flaws: &mut Items<Flaw>,
+) -> Result<(), AllocError>
+    ensures { OnOk result (flaws.new ≡ flaws.old ++ map (flaw_of path.now) faults.now) }
+{
+    for fault in faults {
+        flaws.push(flaw_of(alloc, path, *fault)?)?;
+    }
+    Ok(())
+}
+
+// A REUSE.toml with the annotations that can be read.
+fn toml_sifted<'a>(
+    alloc: Global,
+    file: File<'a>,
+    flaws: &mut Items<Flaw>,
+) -> Result<Toml<'a>, AllocError>
+    ensures toml { (r : Reader) → IsRightReader r
+        → IfOk result (λ t. toml_in t ≡ toml_sifted r (file_of file.entry)) }
+    ensures flaws { (r : Reader) → IsRightReader r
+        → OnOk result (flaws.new ≡ flaws.old ++ toml_flaws r (file_of file.entry)) }
+{
+    let folder = folder_of(file.path.as_bytes());
+    let Ok(text) = str::from_utf8(file.bytes) else {
+        flaws.push(Flaw::BadToml(Text::of(alloc, file.path)?))?;
+        return Ok(Toml {
+            folder,
+            annotations: Annotations {
+                list: Items::new(alloc),
+            },
+        });
+    };
+    let Sifted {
+        annotations,
+        faults,
+    } = Annotations::sift(alloc, text)?;
+    add_faults(alloc, file.path, faults.as_slice(), flaws)?;
+    Ok(Toml {
+        folder,
+        annotations: Annotations { list: annotations },
+    })
+}
+
+// The REUSE.toml files with the annotations that can be read.
+fn tomls_sifted<'a>(
+    alloc: Global,
+    files: &[File<'a>],
+    flaws: &mut Items<Flaw>,
+) -> Result<Vec<Toml<'a>>, AllocError>
+    ensures tomls { (r : Reader) → IsRightReader r
+        → IfOk result (λ v. tomls_in v.items ≡ map (toml_sifted r) (files_of files.now)) }
+    ensures flaws { (r : Reader) → IsRightReader r
+        → OnOk result (flaws.new ≡ flaws.old ++ flat_map (toml_flaws r) (files_of files.now)) }
+{
+    let mut tomls = Vec::new(alloc);
+    for file in files {
+        let toml = toml_sifted(alloc, *file, flaws)?;
+        tomls.push(toml)?;
+    }
+    Ok(tomls)
+}
+
+// Adds a tag that is no licence expression, and tells a text that is known to be one: the tag's, or what was known before.
+fn add_tag<'a>(
+    alloc: Global,
+    path: &str,
+    tag: Tagged<'a>,
+    known: Option<&'a str>,
+    flaws: &mut Items<Flaw>,
+) -> Result<Option<&'a str>, AllocError>
+    requires { IfSome known (λ text. Tells text.now true) }
+    ensures known { IfOk result (λ told. IfSome told (λ text. Tells text.now true)) }
+    ensures flaws { (r : Reader) → IsRightReader r
+        → OnOk result (flaws.new ≡ flaws.old ++ tag_flaws r path.now (tag_text tag.entry)) }
+{
+    let told = is_expression_beside(alloc, tag.value, known)?;
+    if told {
+        return Ok(Some(tag.value));
+    }
+    let path = Text::of(alloc, path)?;
+    let value = Text::of(alloc, tag.value)?;
+    flaws.push(Flaw::BadExpression(path, tag.line, value))?;
+    Ok(known)
+}
+
+// Adds the tags that are no licence expression.
+fn add_tags(
+    alloc: Global,
+    path: &str,
+    tags: &[Tagged<'_>],
+    flaws: &mut Items<Flaw>,
+) -> Result<(), AllocError>
+    ensures { (r : Reader) → IsRightReader r → OnOk result
+        (flaws.new ≡ flaws.old ++ flat_map (tag_flaws r path.now) (map tag_text tags.now)) }
+{
+    let mut known = None;
+    for tag in tags {
+        known = add_tag(alloc, path, *tag, known, flaws)?;
+    }
+    Ok(())
+}
+
+// A file's own information, whatever is wrong in it.
+fn own_sifted<'a>(
+    alloc: Global,
+    tree: &BTreeMap<&'a str, &'a [u8]>,
+    file: File<'a>,
+    flaws: &mut Items<Flaw>,
+) -> Result<Info<'a>, AllocError>
+    ensures info { (r : Reader) → IsRightReader r
+        → IfOk result (λ i. stated_of i ≡ r.stated
+        (holder (tree_in tree.now) (file_of file.entry)).bytes) }
+    ensures flaws { (r : Reader) → IsRightReader r
+        → OnOk result (flaws.new ≡ flaws.old ++ stated_flaws r
+        (holder (tree_in tree.now) (file_of file.entry))) }
+{
+    let held = holder(alloc, tree, file)?;
+    let info = header(alloc, held.bytes)?;
+    add_tags(alloc, held.path.as_str(), info.licences.as_slice(), flaws)?;
+    Ok(info)
+}
+
+// The information of a covered file, whatever is wrong in it or elsewhere.
+fn info_sifted<'a>(
+    alloc: Global,
+    known: &Known<'a>,
+    file: File<'a>,
+    flaws: &mut Items<Flaw>,
+) -> Result<FileInfo, AllocError>
+    ensures info { (r : Reader) → IsRightReader r → (tomls : List TomlText)
+        → Holds tomls known.now.folders → IfOk result (λ i.
+        i ≡ info_sifted r tomls (tree_in known.now.tree) (file_of file.entry)) }
+    ensures flaws { (r : Reader) → IsRightReader r
+        → OnOk result (flaws.new ≡ flaws.old ++ stated_flaws r
+        (holder (tree_in known.now.tree) (file_of file.entry))) }
+{
+    let own = own_sifted(alloc, &known.tree, file, flaws)?;
+    let counting = counting(alloc, &known.folders, file.path)?;
+    info_with(alloc, file.path, counting.as_slice(), &own)
+}
+
+// The information of covered files, in their order.
+fn each_sifted<'a>(
+    alloc: Global,
+    known: &Known<'a>,
+    files: &[File<'a>],
+    flaws: &mut Items<Flaw>,
+) -> Result<Vec<FileInfo>, AllocError>
+    ensures infos { (r : Reader) → IsRightReader r → (tomls : List TomlText)
+        → Holds tomls known.now.folders → IfOk result (λ v.
+        v.items ≡ map (info_sifted r tomls (tree_in known.now.tree)) (files_of files.now)) }
+    ensures flaws { (r : Reader) → IsRightReader r
+        → OnOk result (flaws.new ≡ flaws.old ++ flat_map (λ f.
+        stated_flaws r (holder (tree_in known.now.tree) f)) (files_of files.now)) }
+{
+    let mut infos = Vec::new(alloc);
+    for file in files {
+        let info = info_sifted(alloc, known, *file, flaws)?;
+        infos.push(info)?;
+    }
+    Ok(infos)
+}
+
+// All that is wrong in a tree of right paths, and what is gathered of the rest.
+fn survey_of<'a>(
+    alloc: Global,
+    tree: BTreeMap<&'a str, &'a [u8]>,
+    flaws: Items<Flaw>,
+) -> Result<Surveyed<'a>, AllocError>
+    ensures tree { IfOk result (λ s. s.tree ≡ tree.entry) }
+    ensures flaws { (r : Reader) → IsRightReader r
+        → IfOk result (λ s. s.flaws ≡ flaws ++ tree_flaws r (tree_in tree.entry)) }
+    ensures infos { (r : Reader) → IsRightReader r
+        → IfOk result (λ s. s.infos.items ≡ infos_sifted r (tree_in tree.entry)) }
+{
+    let mut flaws = flaws;
+    let files = files_of(alloc, &tree)?;
+    let tomls = toml_files(alloc, files.as_slice())?;
+    let tomls = tomls_sifted(alloc, tomls.as_slice(), &mut flaws)?;
+    let folders = by_folder(alloc, tomls)?;
+    let covered = covered_files(alloc, files.as_slice())?;
+    let known = Known { tree, folders };
+    let infos = each_sifted(alloc, &known, covered.as_slice(), &mut flaws)?;
+    let Known { tree, .. } = known;
+    Ok(Surveyed { tree, flaws, infos })
+}
+
+/// All that is wrong in a tree, and what is gathered of the rest of it. The only error is want of memory.
+///
+/// Where `gathered` gives the information of the files, nothing is wrong and it is that; else its fault is the first flaw
+/// (`gathered_is_surveyed`).
+pub fn survey<'a>(alloc: Global, files: &'a [SourceFile]) -> Result<Surveyed<'a>, AllocError>
+    ensures tree { IfOk result (λ s. tree_in s.tree ≡ kept files.now) }
+    ensures flaws { (r : Reader) → IsRightReader r → IfOk result (λ s. s.flaws ≡ flaws_of r files.now) }
+    ensures infos { (r : Reader) → IsRightReader r
+        → IfOk result (λ s. s.infos.items ≡ infos_sifted r (kept files.now)) }
+{
+    let mut flaws = Items::new(alloc);
+    if files.len() > limits::TREE_FILES {
+        flaws.push(Flaw::TooManyFiles)?;
+        return Ok(Surveyed {
+            tree: BTreeMap::new(alloc),
+            flaws,
+            infos: Vec::new(alloc),
+        });
+    }
+    let tree = tree_kept(alloc, files, &mut flaws)?;
+    survey_of(alloc, tree, flaws)
+}

@@ -1,0 +1,210 @@
+//! What is told of the files of a tree. The bytes of a file are let go once it is told of.
+
+ghost use Rattle.std.specs.Prelude.{◌≡◌, [], List, IfOk, IfErr, Ok, Err, option_map, filter};
+ghost use Rattle.desk_tree_gather.specs.Readers.{Reader, IsRightReader};
+ghost use Rattle.desk_tree_gather.specs.Folders.{Holds};
+ghost use Rattle.desk_tree_gather.specs.Gathering.{holder};
+ghost use Rattle.desk_tree_gather.specs.Paths.{is_toml};
+ghost use Rattle.desk_tree_gather.specs.Shown.{Gives, file_of, files_of, held_in, left_in};
+ghost use Rattle.desk_tree_gather.specs.Telling.{told, told_in, told_beside};
+ghost use Rattle.desk_tree_gather.specs.Tomls.{TomlText, tomls_of};
+ghost use Rattle.desk_tree_gather.specs.Trees.{bytes_at, placed, tree_of};
+
+use crate::counting::counting;
+use crate::fault::GatherFault;
+use crate::files::{File, SourceFile, is_covered, is_toml};
+use crate::gathering::{FileInfo, Held, info_with, stated_in};
+use crate::paths::is_path;
+use crate::tomls::{by_folder, tomls_of};
+use desk_base::{Items, Key, limits};
+use desk_tree_annotations::Annotations;
+use sha1::Sha1;
+use std::alloc::{AllocError, Global};
+use std::collections::BTreeMap;
+
+/// What is told of a file.
+#[derive(Debug, Drop)]
+pub struct ToldFile {
+    /// What it is under.
+    pub info: FileInfo,
+    /// The SHA1 digest of its bytes.
+    pub digest: [u8; 20],
+}
+
+// The files by path, where each path can stand there.
+fn placed(
+    alloc: Global,
+    files: Vec<SourceFile>,
+) -> Result<Result<BTreeMap<Key, Items<u8>>, GatherFault>, AllocError>
+    ensures { IfOk result (Gives (placed [] files.items) left_in) }
+{
+    let mut left = BTreeMap::new(alloc);
+    for file in files {
+        let SourceFile { path, bytes } = file;
+        let told = is_path(alloc, path.as_str())?;
+        if !told {
+            return Ok(Err(GatherFault::BadPath));
+        }
+        let path = Key::exact(alloc, path.as_str())?;
+        let other = left.insert(path, bytes)?;
+        if other.is_some() {
+            return Ok(Err(GatherFault::TwicePath));
+        }
+    }
+    Ok(Ok(left))
+}
+
+// The files by path, or the first fault.
+fn tree_of(
+    alloc: Global,
+    files: Vec<SourceFile>,
+) -> Result<Result<BTreeMap<Key, Items<u8>>, GatherFault>, AllocError>
+    ensures { IfOk result (Gives (tree_of files.items) left_in) }
+{
+    if files.len() > limits::TREE_FILES {
+        return Ok(Err(GatherFault::TooManyFiles));
+    }
+    placed(alloc, files)
+}
+
+// The REUSE.toml files of a tree.
+fn toml_files<'a>(
+    alloc: Global,
+    tree: &'a BTreeMap<Key, Items<u8>>,
+) -> Result<Vec<File<'a>>, AllocError>
+    ensures { IfOk result (λ v. files_of v.items ≡ filter is_toml (left_in tree.now)) }
+{
+    let mut tomls = Vec::new(alloc);
+    for (path, bytes) in tree {
+        let file = File {
+            path: path.as_str(),
+            bytes: bytes.as_slice(),
+        };
+        if is_toml(file) {
+            tomls.push(file)?;
+        }
+    }
+    Ok(tomls)
+}
+
+// The annotations of a tree by folder.
+fn folders_of(
+    alloc: Global,
+    tree: &BTreeMap<Key, Items<u8>>,
+) -> Result<Result<BTreeMap<Vec<u8>, Annotations>, GatherFault>, AllocError>
+    ensures ok { (r : Reader) → IsRightReader r → IfOk result (λ x. IfOk x (λ folders.
+        (tomls : List TomlText) × (tomls_of r (left_in tree.now) ≡ Ok tomls) × Holds tomls folders)) }
+    ensures err { (r : Reader) → IsRightReader r
+        → IfOk result (λ x. IfErr x (λ f. tomls_of r (left_in tree.now) ≡ Err f)) }
+{
+    let files = toml_files(alloc, tree)?;
+    let tomls = match tomls_of(alloc, files.as_slice())? {
+        Ok(tomls) => tomls,
+        Err(fault) => return Ok(Err(fault)),
+    };
+    let folders = by_folder(alloc, tomls)?;
+    Ok(Ok(folders))
+}
+
+// The bytes of the file at a path.
+fn bytes_at<'a>(tree: &'a BTreeMap<Key, Items<u8>>, path: &Key) -> Option<&'a [u8]>
+    ensures { option_map (λ bytes. bytes.now) result ≡ bytes_at (left_in tree.now) path.now }
+{
+    match tree.get(path) {
+        Some(bytes) => Some(bytes.as_slice()),
+        None => None,
+    }
+}
+
+// The file whose tags are a file's own information: the one beside it, among those that are left, or itself.
+fn holder<'a>(
+    alloc: Global,
+    left: &'a BTreeMap<Key, Items<u8>>,
+    file: File<'a>,
+) -> Result<Held<'a>, AllocError>
+    ensures { IfOk result (λ h. held_in h ≡ holder (left_in left.now) (file_of file.entry)) }
+{
+    let mut beside = String::from_str(alloc, file.path)?;
+    beside.push_str(".license")?;
+    let path = Key::exact(alloc, beside.as_str())?;
+    match bytes_at(left, &path) {
+        Some(bytes) => Ok(Held {
+            path: beside,
+            bytes,
+        }),
+        None => Ok(Held {
+            path: String::from_str(alloc, file.path)?,
+            bytes: file.bytes,
+        }),
+    }
+}
+
+// What is told of a file, by itself and by those that are left.
+fn told_beside(
+    alloc: Global,
+    left: &BTreeMap<Key, Items<u8>>,
+    folders: &BTreeMap<Vec<u8>, Annotations>,
+    file: File<'_>,
+) -> Result<Result<ToldFile, GatherFault>, AllocError>
+    ensures { (r : Reader) → IsRightReader r → (tomls : List TomlText) → Holds tomls folders.now
+        → IfOk result (λ t. t ≡ told_beside r tomls (left_in left.now) (file_of file.entry)) }
+{
+    let held = holder(alloc, left, file)?;
+    let own = match stated_in(alloc, held.path.as_str(), held.bytes)? {
+        Ok(own) => own,
+        Err(fault) => return Ok(Err(fault)),
+    };
+    let counting = counting(alloc, folders, file.path)?;
+    let info = info_with(alloc, file.path, counting.as_slice(), &own)?;
+    let digest = Sha1::digest(file.bytes);
+    Ok(Ok(ToldFile { info, digest }))
+}
+
+// What is told of the covered files of a tree. A file beside another stands behind it, and so among those that are left.
+fn told_in(
+    alloc: Global,
+    tree: BTreeMap<Key, Items<u8>>,
+    folders: &BTreeMap<Vec<u8>, Annotations>,
+) -> Result<Result<Vec<ToldFile>, GatherFault>, AllocError>
+    ensures { (r : Reader) → IsRightReader r → (tomls : List TomlText) → Holds tomls folders.now
+        → IfOk result (Gives (told_in r tomls (left_in tree)) (λ v. v.items)) }
+{
+    let mut left = tree;
+    let mut list = Vec::new(alloc);
+    while let Some((path, bytes)) = left.pop_first() {
+        let file = File {
+            path: path.as_str(),
+            bytes: bytes.as_slice(),
+        };
+        if !is_covered(file) {
+            continue;
+        }
+        match told_beside(alloc, &left, folders, file)? {
+            Ok(told) => list.push(told)?,
+            Err(fault) => return Ok(Err(fault)),
+        }
+    }
+    Ok(Ok(list))
+}
+
+/// What is told of each covered file by path, or the first fault, as `gathered` has it. The bytes of each file are let go once it
+/// is told of.
+///
+/// For each right reader it is what `told` says: what is gathered, each with the SHA1 digest of its file. The only error is want of
+/// memory.
+pub fn told(
+    alloc: Global,
+    files: Vec<SourceFile>,
+) -> Result<Result<Vec<ToldFile>, GatherFault>, AllocError>
+    ensures { (r : Reader) → IsRightReader r → IfOk result (Gives (told r files.items) (λ v. v.items)) }
+{
+    let tree = match tree_of(alloc, files)? {
+        Ok(tree) => tree,
+        Err(fault) => return Ok(Err(fault)),
+    };
+    let folders = match folders_of(alloc, &tree)? {
+        Ok(folders) => folders,
+        Err(fault) => return Ok(Err(fault)),
+    };
+    told_in(alloc, tree, &folders)
+}

@@ -1,0 +1,109 @@
+//! The REUSE.toml files of a tree.
+
+ghost use Rattle.std.specs.Prelude.{◌≡◌, ◌≢◌, IfOk, OnOk, ℕ, List, alloc_error};
+ghost use Rattle.desk_tree_annotations.specs.declared.fault.AnnotationsFault.{AnnotationsFault};
+ghost use Rattle.desk_tree_gather.specs.Readers.{Reader, IsRightReader};
+ghost use Rattle.desk_tree_gather.specs.Tomls.{TomlText, told_of, toml_of, tomls_of, annotations_in};
+ghost use Rattle.desk_tree_gather.specs.Folders.{Holds};
+ghost use Rattle.desk_tree_gather.specs.Shown.{Gives, file_of, files_of, toml_in, tomls_in};
+
+use crate::fault::GatherFault;
+use crate::files::{File, is_toml};
+use crate::paths::folder_of;
+use desk_base::Text;
+use desk_tree_annotations::{Annotation, Annotations, AnnotationsFault};
+use std::alloc::{AllocError, Global};
+use std::collections::BTreeMap;
+
+/// A REUSE.toml.
+#[derive(Drop)]
+pub(crate) struct Toml<'a> {
+    pub(crate) folder: &'a [u8],
+    pub(crate) annotations: Annotations,
+}
+
+// A fault of a REUSE.toml, told with its path.
+fn told_of(alloc: Global, path: &str, fault: AnnotationsFault) -> Result<GatherFault, AllocError>
+    ensures told { IfOk result (λ f. f ≡ told_of path.now fault) }
+    ensures other { OnOk result (fault ≢ AnnotationsFault.Memory alloc_error) }
+{
+    match fault {
+        AnnotationsFault::BadToml => Ok(GatherFault::BadToml(Text::of(alloc, path)?)),
+        AnnotationsFault::BadAnnotation(index, kind) => {
+            Ok(GatherFault::BadAnnotation(Text::of(alloc, path)?, index, kind))
+        }
+        AnnotationsFault::Memory(error) => Err(error),
+    }
+}
+
+// What a REUSE.toml says.
+fn toml_of<'a>(alloc: Global, file: File<'a>) -> Result<Result<Toml<'a>, GatherFault>, AllocError>
+    ensures { (r : Reader) → IsRightReader r → IfOk result (Gives (toml_of r (file_of file.entry)) toml_in) }
+{
+    let Ok(text) = str::from_utf8(file.bytes) else {
+        return Ok(Err(GatherFault::BadToml(Text::of(alloc, file.path)?)));
+    };
+    match Annotations::read(alloc, text) {
+        Ok(annotations) => Ok(Ok(Toml {
+            folder: folder_of(file.path.as_bytes()),
+            annotations,
+        })),
+        Err(fault) => {
+            let fault = told_of(alloc, file.path, fault)?;
+            Ok(Err(fault))
+        }
+    }
+}
+
+/// What the REUSE.toml files of a tree say.
+pub(crate) fn tomls_of<'a>(
+    alloc: Global,
+    files: &[File<'a>],
+) -> Result<Result<Vec<Toml<'a>>, GatherFault>, AllocError>
+    ensures { (r : Reader) → IsRightReader r → IfOk result
+        (Gives (tomls_of r (files_of files.now)) (λ v. tomls_in v.items)) }
+{
+    let mut tomls = Vec::new(alloc);
+    for file in files {
+        if !is_toml(*file) {
+            continue;
+        }
+        match toml_of(alloc, *file)? {
+            Ok(toml) => tomls.push(toml)?,
+            Err(fault) => return Ok(Err(fault)),
+        }
+    }
+    Ok(Ok(tomls))
+}
+
+/// The annotations by folder.
+pub(crate) fn by_folder(
+    alloc: Global,
+    tomls: Vec<Toml<'_>>,
+) -> Result<BTreeMap<Vec<u8>, Annotations>, AllocError>
+    ensures { IfOk result (Holds (tomls_in tomls.entry.items)) }
+{
+    let mut tomls = tomls;
+    let mut folders = BTreeMap::new(alloc);
+    while let Some(toml) = tomls.pop() {
+        let Toml {
+            folder,
+            annotations,
+        } = toml;
+        folders.insert(Vec::from_slice(alloc, folder)?, annotations)?;
+    }
+    Ok(folders)
+}
+
+/// The annotations of a folder.
+pub(crate) fn annotations_in<'m>(
+    folders: &'m BTreeMap<Vec<u8>, Annotations>,
+    folder: &[u8],
+) -> &'m [Annotation]
+    ensures { (tomls : List TomlText) → Holds tomls folders.now → result.now ≡ annotations_in tomls folder.now }
+{
+    match folders.get(folder) {
+        Some(annotations) => annotations.list.as_slice(),
+        None => &[],
+    }
+}

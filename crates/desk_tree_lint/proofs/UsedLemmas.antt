@@ -1,0 +1,134 @@
+-- The keys that licences use.
+use Rattle.std.proofs.Common.{◌≡◌, ◌↔◌, ◌∙◌, ◌⊎◌, inl, inr, ℕ, zero, suc, ◌+◌, ◌<◌, List, [], ◌∷◌, ◌++◌, length, get_or, drop, sym, subst, refl, arith}
+use Rattle.std.specs.Prelude.{Contains}
+use Rattle.std.proofs.lemmas.List.{drop_more}
+use Rattle.std.proofs.lemmas.List.Elements.{Contains-append_left, Contains-append_right, Contains-append_cases}
+use Rattle.desk_expr.specs.declared.term.Term.{Term}
+use Rattle.desk_expr.specs.Tree.{Tree}
+use Rattle.desk_expr.specs.Occurring.{leaves, AreTermsOf}
+use Rattle.desk_expr.specs.Spelling.{Spells, SpellsWithin}
+use Rattle.desk_tree_gather.specs.declared.gathering.FileInfo.{FileInfo}
+use Rattle.std.specs.Prelude.{OnOk, Ok, Err, Result}
+use Rattle.desk_tree_gather.specs.declared.files.SourceFile.{SourceFile}
+use Rattle.desk_tree_gather.specs.Readers.{Reader}
+use Rattle.desk_tree_gather.specs.Trees.{Read, tree_of}
+use Rattle.desk_tree_gather.specs.Gathering.{gathered}
+use Rattle.desk_tree_lint.specs.declared.lists.Lint.{Lint}
+use Rattle.desk_tree_lint.specs.Texts.{text_files}
+use Rattle.desk_tree_lint.specs.Lists.{lists_of, IsLint}
+use Rattle.desk_tree_lint.specs.Used.{term_keys, keys_in, Uses, SomeOf, AreUsed}
+use Rattle.desk_base.proofs.SortedOnce.{same_sorted}
+use Rattle.desk_base.specs.contracts.key.KeyOrd.TheImpl.Laws.{total-law}
+use Rattle.std.specs.Ordering.{nat_cmp}
+use Rattle.std.specs.Cmp.Lexicographic.{slice_cmp}
+
+-- ---- the keys of terms
+
+term_cases : (x : Term) (xs : List Term) (q : Term) → Contains (x ∷ xs) q → (x ≡ q) ⊎ Contains xs q
+term_cases x xs q (zero, within, is) = inl is
+term_cases x xs q (suc k, within, is) = inr (k, omega arith, is)
+
+none_in_nil : {A : Type 0} (x : A) → Contains [] x → ⊥
+none_in_nil x at = omega (arith, at.1)
+
+keys_from : (ts : List Term) (key : List ℕ) → Contains (keys_in ts) key → (t : Term) × Contains ts t × Contains (term_keys t) key
+keys_from [] key at = absurd (none_in_nil key at)
+keys_from (t ∷ ts) key at =
+    elim (Contains-append_cases (term_keys t) (keys_in ts) key at) [
+      | inl own ↦ (t, (zero, omega arith, refl), own)
+      | inr later ↦ let more = keys_from ts key later in (more.0, (suc more.1.0, omega (arith, more.1.1), more.1.2), more.2)
+    ]
+
+keys_to : (ts : List Term) (t : Term) (key : List ℕ) → Contains ts t → Contains (term_keys t) key → Contains (keys_in ts) key
+keys_to [] t key at own = absurd (none_in_nil t at)
+keys_to (x ∷ ts) t key at own =
+    elim (term_cases x ts t at) [
+      | inl is ↦ Contains-append_left (term_keys x) (keys_in ts) key (subst (λ y. Contains (term_keys y) key) (sym is) own)
+      | inr later ↦ Contains-append_right (term_keys x) (keys_in ts) key (keys_to ts t key later own)
+    ]
+
+keys_move : (xs ys : List Term) (key : List ℕ) → ((t : Term) → Contains xs t → Contains ys t) → Contains (keys_in xs) key → Contains (keys_in ys) key
+keys_move xs ys key moves at = let found = keys_from xs key at in keys_to ys found.0 key (moves found.0 found.1) found.2
+
+-- ---- the keys of a licence
+
+within : (text : List ℕ) (e : Tree) → SpellsWithin text e → Spells text e
+within text e h = (h.1, h.2, h.3)
+
+-- the terms of the expression that a text spells give what it uses
+pub uses_these : (text : List ℕ) (e : Tree) (ts : List Term) (old new : List (List ℕ)) → SpellsWithin text e → AreTermsOf e ts
+    → ((a b : Tree) → Spells text a → Spells text b → a ≡ b) → new ≡ old ++ keys_in ts
+    → (key : List ℕ) → Contains new key ↔ (Contains old key ⊎ Uses text key)
+uses_these text e ts old new spells are only added key = (
+  (λ at. elim (Contains-append_cases old (keys_in ts) key (subst (λ l. Contains l key) added at)) [
+    | inl before ↦ inl before
+    | inr own ↦ inr (e, spells, keys_move ts (leaves e) key (λ t. (are.members t).0) own)
+  ]),
+  (λ h. subst (λ l. Contains l key) (sym added) (elim h [
+    | inl before ↦ Contains-append_left old (keys_in ts) key before
+    | inr found ↦ Contains-append_right old (keys_in ts) key (keys_move (leaves e) ts key (λ t. (are.members t).1)
+        (subst (λ (x : Tree). Contains (keys_in (leaves x)) key) (only found.0 e (within text found.0 found.1) (within text e spells)) found.2))
+  ])),
+)
+
+-- a text that spells no expression uses nothing
+pub uses_none : (text : List ℕ) (old new : List (List ℕ)) → ((e : Tree) → SpellsWithin text e → ⊥) → new ≡ old
+    → (key : List ℕ) → Contains new key ↔ (Contains old key ⊎ Uses text key)
+uses_none text old new none same key = (
+  (λ at. inl (subst (λ l. Contains l key) same at)),
+  (λ h. subst (λ l. Contains l key) (sym same) (elim h [ inl before ↦ before | inr found ↦ absurd (none found.0 found.1) ])),
+)
+
+-- ---- one after the other
+
+-- one item more
+pub some_more : {A : Type 0} (P : A → Type 0) (xs : List A) (i : ℕ) (d : A) (N O : Type 0) → i < length xs → (N ↔ (O ⊎ P (get_or xs i d)))
+    → (N ⊎ SomeOf P (drop (i + 1) xs)) ↔ (O ⊎ SomeOf P (drop i xs))
+some_more P xs i d N O below step =
+    let cut = drop_more xs i d below in (
+      (λ h. subst (λ l. O ⊎ SomeOf P l) (sym cut) (elim h [
+        | inl n ↦ elim (step.0 n) [ inl o ↦ inl o | inr p ↦ inr (inl p) ]
+        | inr later ↦ inr (inr later)
+      ])),
+      (λ h. elim (subst (λ l. O ⊎ SomeOf P l) cut h) [
+        | inl o ↦ inl (step.1 (inl o))
+        | inr here ↦ elim here [ inl p ↦ inl (step.1 (inr p)) | inr later ↦ inr later ]
+      ]),
+    )
+
+pub along : {A B C : Type 0} → (A ↔ B) → (B ↔ C) → (A ↔ C)
+along f g = ((λ a. g.0 (f.0 a)), (λ c. f.1 (g.1 c)))
+
+-- the end
+pub some_end : {A : Type 0} (P : A → Type 0) (xs : List A) (N : Type 0) → xs ≡ [] → N ↔ (N ⊎ SomeOf P xs)
+some_end P xs N none = (
+  (λ n. inl n),
+  (λ h. elim (subst (λ l. N ⊎ SomeOf P l) none h) [ inl n ↦ n | inr no_more ↦ absurd no_more ]),
+)
+
+-- the start, where nothing is known
+pub some_start : {A X : Type 0} (P : A → Type 0) (xs : List A) (x : X) (known : List X) → known ≡ [] → (Contains known x ⊎ SomeOf P xs) ↔ SomeOf P xs
+some_start P xs x known none = (
+  (λ h. elim h [ inl at ↦ absurd (none_in_nil x (subst (λ l. Contains l x) none at)) | inr some ↦ some ]),
+  (λ some. inr some),
+)
+
+-- what is used is one list
+pub used_once : (infos : List FileInfo) (a b : List (List ℕ)) → AreUsed infos a → AreUsed infos b → a ≡ b
+used_once infos a b h k = same_sorted (slice_cmp nat_cmp) total-law a b h.ordered k.ordered (λ key. ((λ at. (k.members key).1 ((h.members key).0 at)), (λ at. (h.members key).1 ((k.members key).0 at))))
+
+-- the lists of a tree are one
+found_once : {A : Type 0} (read : Read A) (a b : A) → read ≡ Ok a → read ≡ Ok b → a ≡ b
+found_once read a b h k = let both : Ok a ≡ Ok b = sym h ∙ k in cc
+
+pub lint_once : (r : Reader) (files : List SourceFile) (a b : Lint) → IsLint r files a → IsLint r files b → a ≡ b
+lint_once r files a b h k =
+    let infos : h.infos ≡ k.infos = found_once (gathered r files) h.infos k.infos h.is_gathered k.is_gathered in
+    let tree : h.tree ≡ k.tree = found_once (tree_of files) h.tree k.tree h.is_tree k.is_tree in
+    let keys : h.used ≡ k.used = used_once k.infos h.used k.used (subst (λ i. AreUsed i h.used) infos h.are_used) k.are_used in
+    h.lists ∙ (λ j. lists_of (infos j) (keys j) (text_files (tree j))) ∙ sym k.lists
+
+-- what a call that went well says
+pub added_by : {T E : Type 0} {P Q : Type 0} (result : Result T E) → OnOk result P → (P → Q) → OnOk result Q
+added_by (Ok x) holds next = next holds
+added_by (Err e) holds next = tt

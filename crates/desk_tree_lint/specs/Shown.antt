@@ -1,0 +1,21 @@
+-- What the code's values show of the definitions'.
+use Rattle.std.specs.Prelude.{ℕ, Bool, List, [], ◌∷◌, map, Vec, if◌then◌else◌}
+use Rattle.std.specs.declared.alloc.Global.{Global}
+use denote.Ref.{Bor}
+use Rattle.desk_tree_lint.specs.declared.texts.LicenceText.{LicenceText}
+use Rattle.desk_tree_lint.specs.Texts.{TextFile}
+
+-- a licence's text without where it lies in memory
+abbrev pub text_in : LicenceText → TextFile
+text_in t = record { path = t.path.now; key = t.key }
+
+abbrev pub texts_in : List LicenceText → List TextFile
+texts_in ts = map text_in ts
+
+-- the bytes of borrowed texts
+abbrev pub bytes_in : Vec (Bor (List ℕ)) Global → List (List ℕ)
+bytes_in v = map (λ (text : Bor (List ℕ)). text.now) v.items
+
+-- a text where it belongs to a list
+abbrev pub only : Bool → List ℕ → List (List ℕ)
+only belongs text = if belongs then text ∷ [] else []

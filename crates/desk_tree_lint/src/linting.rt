@@ -1,0 +1,68 @@
+//! What a tree lacks.
+
+ghost use Rattle.std.specs.Prelude.{◌≡◌, ◌⊎◌, ℕ, List, IfOk, IfErr, Ok, Err, alloc_error};
+ghost use Rattle.desk_tree_gather.specs.declared.gathering.FileInfo.{FileInfo};
+ghost use Rattle.desk_tree_gather.specs.Readers.{Reader, IsRightReader};
+ghost use Rattle.desk_tree_gather.specs.Gathering.{gathered};
+ghost use Rattle.desk_tree_gather.specs.Shown.{tree_in};
+ghost use Rattle.desk_tree_lint.specs.Texts.{text_files};
+ghost use Rattle.desk_tree_lint.specs.Used.{AreUsed};
+ghost use Rattle.desk_tree_lint.specs.Lists.{lists_of, IsLint};
+
+use crate::lists::{Lint, bare, missing, unused};
+use crate::texts::text_files;
+use crate::used::used;
+use desk_tree_gather::{FileInfo, GatherFault, SourceFile, gathered, tree_of};
+use std::alloc::{AllocError, Global};
+use std::collections::BTreeMap;
+
+/// The lists of a tree, from the information of its covered files. A licence that is no expression uses nothing. The only error is want
+/// of memory.
+pub fn lists_of<'a>(
+    alloc: Global,
+    tree: &BTreeMap<&'a str, &'a [u8]>,
+    infos: &[FileInfo],
+) -> Result<Lint, AllocError>
+    ensures { IfOk result (λ l. (keys : List (List ℕ)) × AreUsed infos.now keys
+        × (l ≡ lists_of infos.now keys (text_files (tree_in tree.now)))) }
+{
+    let keys = used(alloc, infos)?;
+    let texts = text_files(alloc, tree)?;
+    Ok(Lint {
+        missing: missing(alloc, keys.as_slice(), texts.as_slice())?,
+        unused: unused(alloc, keys.as_slice(), texts.as_slice())?,
+        bare: bare(alloc, infos)?,
+    })
+}
+
+// The lists of a tree, with want of memory told apart from its faults.
+fn linted(alloc: Global, files: &[SourceFile]) -> Result<Result<Lint, GatherFault>, AllocError>
+    ensures ok { (r : Reader) → IsRightReader r → IfOk result (λ x. IfOk x (IsLint r files.now)) }
+    ensures err { (r : Reader) → IsRightReader r
+        → IfOk result (λ x. IfErr x (λ f. gathered r files.now ≡ Err f)) }
+{
+    let infos = match gathered(alloc, files)? {
+        Ok(infos) => infos,
+        Err(fault) => return Ok(Err(fault)),
+    };
+    match tree_of(alloc, files)? {
+        Ok(tree) => Ok(Ok(lists_of(alloc, &tree, infos.as_slice())?)),
+        Err(fault) => Ok(Err(fault)),
+    }
+}
+
+/// What a tree lacks (REUSE Specification 3.3), or the fault for which nothing is gathered of it.
+///
+/// For each right reader the lists are those of `IsLint`, and the fault that of `gathered`; `Memory` is want of memory and nothing
+/// else.
+pub fn lint(alloc: Global, files: &[SourceFile]) -> Result<Lint, GatherFault>
+    ensures ok { (r : Reader) → IsRightReader r → IfOk result (IsLint r files.now) }
+    ensures err { (r : Reader) → IsRightReader r
+        → IfErr result (λ f. (f ≡ GatherFault.Memory alloc_error) ⊎ (gathered r files.now ≡ Err f)) }
+{
+    match linted(alloc, files) {
+        Ok(Ok(lists)) => Ok(lists),
+        Ok(Err(fault)) => Err(fault),
+        Err(error) => Err(GatherFault::Memory(error)),
+    }
+}

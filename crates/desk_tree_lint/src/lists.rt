@@ -1,0 +1,146 @@
+//! The lists of what a tree lacks.
+
+ghost use Rattle.std.specs.Prelude.{◌≡◌, ◌++◌, IfOk, OnOk, map};
+ghost use Rattle.desk_tree_lint.specs.Sets.{IsSetOf};
+ghost use Rattle.desk_tree_lint.specs.Texts.{TextFile};
+ghost use Rattle.desk_tree_lint.specs.Lists.{missing, unused, is_bare, bare};
+ghost use Rattle.desk_tree_lint.specs.Shown.{bytes_in, only, texts_in};
+ghost use Rattle.desk_base.specs.Borrowed.{texts};
+
+use crate::texts::LicenceText;
+use desk_base::{Items, Key, Text};
+use desk_tree_gather::FileInfo;
+use std::alloc::{AllocError, Global};
+use std::collections::BTreeSet;
+
+/// What a tree lacks.
+#[derive(Debug, Drop)]
+pub struct Lint {
+    /// Licences, exceptions and references that are used and have no text, by their keys, in byte order.
+    pub missing: Items<Text>,
+    /// Paths of licences' texts that nothing uses, in byte order.
+    pub unused: Items<Text>,
+    /// Paths of covered files without a copyright notice or without a licence, in byte order.
+    pub bare: Items<Text>,
+}
+
+// The set of some texts.
+fn set_of<'a>(alloc: Global, listed: &[&'a str]) -> Result<BTreeSet<&'a str>, AllocError>
+    ensures { IfOk result (IsSetOf (texts listed.now)) }
+{
+    let mut set = BTreeSet::new(alloc);
+    for text in listed {
+        set.insert(*text)?;
+    }
+    Ok(set)
+}
+
+// The keys themselves.
+fn borrowed<'a>(alloc: Global, keys: &'a [Key]) -> Result<Vec<&'a str>, AllocError>
+    ensures { IfOk result (λ v. bytes_in v ≡ keys.now) }
+{
+    let mut borrowed = Vec::new(alloc);
+    for key in keys {
+        borrowed.push(key.as_str())?;
+    }
+    Ok(borrowed)
+}
+
+// The keys of texts.
+fn keys_of<'a>(alloc: Global, listed: &'a [LicenceText<'_>]) -> Result<Vec<&'a str>, AllocError>
+    ensures { IfOk result (λ v. bytes_in v ≡ map (λ (t : TextFile). t.key) (texts_in listed.now)) }
+{
+    let mut keys = Vec::new(alloc);
+    for text in listed {
+        keys.push(text.key.as_str())?;
+    }
+    Ok(keys)
+}
+
+// The set of the keys of texts.
+fn known_by<'a>(
+    alloc: Global,
+    listed: &'a [LicenceText<'_>],
+) -> Result<BTreeSet<&'a str>, AllocError>
+    ensures { IfOk result (IsSetOf (map (λ (t : TextFile). t.key) (texts_in listed.now))) }
+{
+    let keys = keys_of(alloc, listed)?;
+    set_of(alloc, keys.as_slice())
+}
+
+// The set of keys.
+fn known_of<'a>(alloc: Global, keys: &'a [Key]) -> Result<BTreeSet<&'a str>, AllocError>
+    ensures { IfOk result (IsSetOf keys.now) }
+{
+    let keys = borrowed(alloc, keys)?;
+    set_of(alloc, keys.as_slice())
+}
+
+// Adds a text where it belongs to a list.
+fn add_if(
+    alloc: Global,
+    list: &mut Items<Text>,
+    belongs: bool,
+    text: &str,
+) -> Result<(), AllocError>
+    ensures { OnOk result (list.new ≡ list.old ++ only belongs text.now) }
+{
+    if belongs {
+        list.push(Text::of(alloc, text)?)?;
+    }
+    Ok(())
+}
+
+/// The keys that are used and have no text.
+pub(crate) fn missing(
+    alloc: Global,
+    used: &[Key],
+    listed: &[LicenceText<'_>],
+) -> Result<Items<Text>, AllocError>
+    ensures { IfOk result (λ lacking. lacking ≡ missing used.now (texts_in listed.now)) }
+{
+    let known = known_by(alloc, listed)?;
+    let mut lacking = Items::new(alloc);
+    for key in used {
+        let lacks = !known.contains(key.as_str());
+        add_if(alloc, &mut lacking, lacks, key.as_str())?;
+    }
+    Ok(lacking)
+}
+
+/// The paths of the texts whose keys aren't used.
+pub(crate) fn unused(
+    alloc: Global,
+    used: &[Key],
+    listed: &[LicenceText<'_>],
+) -> Result<Items<Text>, AllocError>
+    ensures { IfOk result (λ paths. paths ≡ unused used.now (texts_in listed.now)) }
+{
+    let known = known_of(alloc, used)?;
+    let mut paths = Items::new(alloc);
+    for text in listed {
+        let needless = !known.contains(text.key.as_str());
+        add_if(alloc, &mut paths, needless, text.path)?;
+    }
+    Ok(paths)
+}
+
+// Whether a file has no notice or no licence.
+fn is_bare(info: &FileInfo) -> bool
+    ensures { result ≡ is_bare info.now }
+{
+    info.notices.as_slice().is_empty() || info.licences.as_slice().is_empty()
+}
+
+/// The paths of the files without a notice or without a licence.
+pub(crate) fn bare(alloc: Global, infos: &[FileInfo]) -> Result<Items<Text>, AllocError>
+    ensures { IfOk result (λ paths. paths ≡ bare infos.now) }
+{
+    let mut paths = Items::new(alloc);
+    for info in infos {
+        if is_bare(info) {
+            paths.push(info.path.clone()?)?;
+        }
+    }
+    Ok(paths)
+}

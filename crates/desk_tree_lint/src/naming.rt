@@ -1,0 +1,215 @@
+//! How licences are written where they are first named.
+
+ghost use Rattle.std.specs.Prelude.{◌≡◌, ◌++◌, ◌<◌, ◌==◌, List, IfOk, OnOk, map, option_map};
+ghost use Rattle.std.specs.List.{flat_map, slice_split};
+ghost use Rattle.desk_base.specs.Borrowed.{texts, texts_in};
+ghost use Rattle.desk_tree_lint.specs.Naming.{cut_at, runs, is_operator, without_plus, ids_in, mention, MentionText, mentions_by, mentions_in, mentions, first_with, name_by, name_of};
+ghost use Rattle.desk_tree_lint.specs.Firsts.{mention_in, mentions_shown, Holds};
+
+use crate::texts::key_of;
+use desk_base::{Items, Text};
+use desk_tree_gather::FileInfo;
+use std::alloc::{AllocError, Global};
+use std::collections::BTreeMap;
+
+/// How a licence, an exception or a reference is shown.
+#[derive(Debug, Drop)]
+pub struct Name {
+    /// The identifier as it was first written.
+    pub id: Text,
+    /// The first file that names it.
+    pub path: Option<Text>,
+}
+
+// An identifier and the file that names it.
+#[derive(Clone, Copy)]
+pub(crate) struct Mention<'a> {
+    pub(crate) id: &'a str,
+    pub(crate) path: &'a str,
+}
+
+// What is between the characters of one kind.
+fn pieces(alloc: Global, text: &str, separator: char) -> Result<Vec<&str>, AllocError>
+    requires { separator < 128 }
+    ensures { IfOk result (λ v. texts_in v ≡ slice_split (λ b. b == separator) text.now) }
+{
+    text.split(separator).collect(alloc)
+}
+
+// The pieces of each of some texts.
+fn cut_at<'a>(
+    alloc: Global,
+    listed: &[&'a str],
+    separator: char,
+) -> Result<Vec<&'a str>, AllocError>
+    requires { separator < 128 }
+    ensures { IfOk result (λ v. texts_in v ≡ cut_at separator (texts listed.now)) }
+{
+    let mut cut = Vec::new(alloc);
+    for text in listed {
+        let mut parts = pieces(alloc, text, separator)?;
+        cut.append(&mut parts)?;
+    }
+    Ok(cut)
+}
+
+// What is between blanks and parentheses.
+fn runs(alloc: Global, licence: &str) -> Result<Vec<&str>, AllocError>
+    ensures { IfOk result (λ v. texts_in v ≡ runs licence.now) }
+{
+    let between_blanks = cut_at(alloc, &[licence], ' ')?;
+    let between_tabs = cut_at(alloc, between_blanks.as_slice(), '\t')?;
+    let behind_openings = cut_at(alloc, between_tabs.as_slice(), '(')?;
+    cut_at(alloc, behind_openings.as_slice(), ')')
+}
+
+fn is_operator(run: &str) -> bool
+    ensures { result ≡ is_operator run.now }
+{
+    run == "AND" || run == "OR" || run == "WITH"
+}
+
+// The identifier before a plus.
+fn without_plus(run: &str) -> &str
+    ensures { result.now ≡ without_plus run.now }
+{
+    run.strip_suffix("+").unwrap_or(run)
+}
+
+// Adds the identifiers among runs.
+fn add_runs<'a>(
+    found: &mut Vec<Mention<'a>>,
+    path: &'a str,
+    listed: &[&'a str],
+) -> Result<(), AllocError>
+    ensures { OnOk result (mentions_shown found.new.items ≡ mentions_shown found.old.items ++ map (mention path.now) (ids_in (texts listed.now))) }
+{
+    for run in listed {
+        if !is_operator(run) {
+            let id = without_plus(run);
+            found.push(Mention { id, path })?;
+        }
+    }
+    Ok(())
+}
+
+// Adds the identifiers of a licence.
+fn add_ids<'a>(
+    alloc: Global,
+    found: &mut Vec<Mention<'a>>,
+    path: &'a str,
+    licence: &'a str,
+) -> Result<(), AllocError>
+    ensures { OnOk result (mentions_shown found.new.items ≡ mentions_shown found.old.items ++ mentions_by path.now licence.now) }
+{
+    let runs = runs(alloc, licence)?;
+    add_runs(found, path, runs.as_slice())
+}
+
+// Adds the identifiers of a file's licences.
+fn add_each<'a>(
+    alloc: Global,
+    found: &mut Vec<Mention<'a>>,
+    path: &'a str,
+    licences: &'a [Text],
+) -> Result<(), AllocError>
+    ensures { OnOk result (mentions_shown found.new.items ≡ mentions_shown found.old.items ++ flat_map (mentions_by path.now) licences.now) }
+{
+    for licence in licences {
+        add_ids(alloc, found, path, licence.as_str())?;
+    }
+    Ok(())
+}
+
+// Adds the identifiers in the licences of a file.
+fn add_file<'a>(
+    alloc: Global,
+    found: &mut Vec<Mention<'a>>,
+    info: &'a FileInfo,
+) -> Result<(), AllocError>
+    ensures { OnOk result (mentions_shown found.new.items ≡ mentions_shown found.old.items ++ mentions_in info.now) }
+{
+    add_each(alloc, found, info.path.as_str(), info.licences.as_slice())
+}
+
+// The identifiers in the licences of files, each time that one is named.
+fn mentions<'a>(alloc: Global, infos: &'a [FileInfo]) -> Result<Vec<Mention<'a>>, AllocError>
+    ensures { IfOk result (λ v. mentions_shown v.items ≡ mentions infos.now) }
+{
+    let mut found = Vec::new(alloc);
+    for info in infos {
+        add_file(alloc, &mut found, info)?;
+    }
+    Ok(found)
+}
+
+// The first of each key: of two the one that stands before overwrites the other.
+fn by_key<'a>(
+    alloc: Global,
+    mentions: Vec<Mention<'a>>,
+) -> Result<BTreeMap<Vec<u8>, Mention<'a>>, AllocError>
+    ensures { IfOk result (Holds (mentions_shown mentions.entry.items)) }
+{
+    let mut mentions = mentions;
+    let mut firsts = BTreeMap::new(alloc);
+    while let Some(mention) = mentions.pop() {
+        let key = key_of(alloc, mention.id)?;
+        let bytes = Vec::from_slice(alloc, key.as_str().as_bytes())?;
+        firsts.insert(bytes, mention)?;
+    }
+    Ok(firsts)
+}
+
+// What a key is shown by.
+fn name_by(alloc: Global, key: &str, found: Option<Mention<'_>>) -> Result<Name, AllocError>
+    ensures { IfOk result (λ name. name ≡ name_by key.now (option_map mention_in found.entry)) }
+{
+    match found {
+        Some(mention) => Ok(Name {
+            id: Text::of(alloc, mention.id)?,
+            path: Some(Text::of(alloc, mention.path)?),
+        }),
+        None => Ok(Name {
+            id: Text::of(alloc, key)?,
+            path: None,
+        }),
+    }
+}
+
+// What a key is shown by, where the first of each is known.
+fn name_of(
+    alloc: Global,
+    firsts: &BTreeMap<Vec<u8>, Mention<'_>>,
+    key: &str,
+) -> Result<Name, AllocError>
+    ensures { (ms : List MentionText) → Holds ms firsts.now
+        → IfOk result (λ name. name ≡ name_by key.now (first_with key.now ms)) }
+{
+    let found = firsts.get(key.as_bytes()).copied();
+    name_by(alloc, key, found)
+}
+
+// What keys are shown by, where the first of each is known.
+fn each_name(
+    alloc: Global,
+    firsts: &BTreeMap<Vec<u8>, Mention<'_>>,
+    keys: &[Text],
+) -> Result<Items<Name>, AllocError>
+    ensures { (ms : List MentionText) → Holds ms firsts.now
+        → IfOk result (λ names. names ≡ map (λ key. name_by key (first_with key ms)) keys.now) }
+{
+    let mut names = Items::new(alloc);
+    for key in keys {
+        names.push(name_of(alloc, firsts, key.as_str())?)?;
+    }
+    Ok(names)
+}
+
+/// How keys are written where files first name them, each with the first file. The only error is want of memory.
+pub fn names_of(alloc: Global, infos: &[FileInfo], keys: &[Text]) -> Result<Items<Name>, AllocError>
+    ensures { IfOk result (λ names. names ≡ map (name_of infos.now) keys.now) }
+{
+    let found = mentions(alloc, infos)?;
+    let firsts = by_key(alloc, found)?;
+    each_name(alloc, &firsts, keys)
+}

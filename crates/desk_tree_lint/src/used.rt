@@ -1,0 +1,68 @@
+//! The licences and exceptions that the covered files use.
+
+ghost use Rattle.std.specs.Prelude.{◌≡◌, ◌⊎◌, ◌↔◌, ◌++◌, ℕ, List, OnOk, IfOk, Contains};
+ghost use Rattle.desk_tree_lint.specs.Used.{keys_in, Uses, IsUsed, IsUsedIn, AreUsed};
+
+use desk_base::{Key, Text};
+use desk_expr::{Term, parse, terms, told};
+use desk_tree_gather::FileInfo;
+use std::alloc::{AllocError, Global};
+
+// Adds the keys of terms.
+fn add_keys(keys: &mut Vec<Key>, terms: &[Term]) -> Result<(), AllocError>
+    ensures { OnOk result (keys.new.items ≡ keys.old.items ++ keys_in terms.now) }
+{
+    for term in terms {
+        keys.push(term.key.clone()?)?;
+        if let Some(exception) = &term.exception {
+            keys.push(exception.clone()?)?;
+        }
+    }
+    Ok(())
+}
+
+// Adds the keys that a licence uses.
+fn add_used(alloc: Global, keys: &mut Vec<Key>, licence: &str) -> Result<(), AllocError>
+    ensures { OnOk result ((key : List ℕ) → Contains keys.new.items key
+        ↔ (Contains keys.old.items key ⊎ Uses licence.now key)) }
+{
+    match parse(alloc, licence) {
+        Ok(expression) => {
+            let found = terms(alloc, &expression)?;
+            add_keys(keys, found.as_slice())
+        }
+        Err(fault) => told(fault),
+    }
+}
+
+// Adds the keys that licences use.
+fn add_each(alloc: Global, keys: &mut Vec<Key>, licences: &[Text]) -> Result<(), AllocError>
+    ensures { OnOk result ((key : List ℕ) → Contains keys.new.items key
+        ↔ (Contains keys.old.items key ⊎ IsUsedIn licences.now key)) }
+{
+    for licence in licences {
+        add_used(alloc, keys, licence.as_str())?;
+    }
+    Ok(())
+}
+
+// The keys that files use, each time that one stands there.
+fn each_used(alloc: Global, infos: &[FileInfo]) -> Result<Vec<Key>, AllocError>
+    ensures { IfOk result (λ v. (key : List ℕ) → Contains v.items key ↔ IsUsed infos.now key) }
+{
+    let mut keys = Vec::new(alloc);
+    for info in infos {
+        add_each(alloc, &mut keys, info.licences.as_slice())?;
+    }
+    Ok(keys)
+}
+
+/// The keys that files use, each once, in byte order.
+pub(crate) fn used(alloc: Global, infos: &[FileInfo]) -> Result<Vec<Key>, AllocError>
+    ensures { IfOk result (λ v. AreUsed infos.now v.items) }
+{
+    let mut keys = each_used(alloc, infos)?;
+    keys.sort()?;
+    keys.dedup();
+    Ok(keys)
+}

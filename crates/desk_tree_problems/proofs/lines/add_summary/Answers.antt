@@ -1,0 +1,12 @@
+use Rattle.std.proofs.Common.{◌≡◌, ◌∙◌, ◌++◌, ◌∷◌, [], ap, codes, length}
+use Rattle.std.specs.Prelude.{decimal}
+use Rattle.desk_tree_problems.specs.Reports.{counts}
+use Rattle.desk_tree_problems.proofs.LineLemmas.{summary_added}
+use Rattle.desk_tree_problems.proofs.lines.add_summary.Goals as goal
+
+pub returns : goal.returns
+returns c =
+    summary_added c.args.text.now.items c.push.new.self.items c.as_bytes.result.now c.as_slice.result.now (counts c.args.rows.now)
+    (codes "problems: ") (decimal (length c.args.rows.now)) (codes ", covered files: ") (decimal c.args.covered)
+    (c.as_bytes.ensures.value ∙ c.in_ok-words.ensures.ok) (c.as_slice.ensures.value ∙ c.in_ok-counts.ensures)
+    (c.in_ok-push.ensures.items ∙ ap (λ l. l ++ 10 ∷ []) (c.in_ok-extend_from_slice-2.ensures.items ∙ ap (λ l. l ++ c.as_slice.result.now) c.in_ok-extend_from_slice.ensures.items))

@@ -1,0 +1,20 @@
+-- What a bare file lacks.
+use Rattle.std.specs.Prelude.{Bool, true, false, List, map, filter}
+use Rattle.desk_tree_gather.specs.declared.gathering.FileInfo.{FileInfo}
+use Rattle.desk_tree_lint.specs.Lists.{is_none, is_bare}
+use Rattle.desk_tree_problems.specs.declared.bare.Bare.{Bare}
+use Rattle.desk_tree_problems.specs.declared.bare.Lacking.{Lacking}
+use Rattle.desk_tree_problems.specs.declared.bare.Lacking.TheVariants.{Notice, Licence, Both}
+
+-- of a file without a notice, without a licence, or without both
+abbrev pub lacking : Bool → Bool → Lacking
+lacking true true = Both
+lacking true false = Notice
+lacking false no_licence = Licence
+
+abbrev pub bare_file : FileInfo → Bare
+bare_file info = record { path = info.path; lacking = lacking (is_none info.notices) (is_none info.licences) }
+
+-- the files without a notice or without a licence
+abbrev pub bare_files : List FileInfo → List Bare
+bare_files infos = map bare_file (filter is_bare infos)

@@ -1,0 +1,169 @@
+-- What is told of each problem: where it is, what is wrong, and what to do.
+use Rattle.std.specs.Prelude.{◌≡◌, ◌<◌, ℕ, nat_eq, nat_lt, Bool, true, false, List, [], ◌∷◌, ◌++◌, length, map, codes, decimal, Option, Some, None, if◌then◌else◌}
+use Rattle.std.specs.List.{list_any, starts_with, ends_with}
+use Rattle.desk_expr.specs.Faults.{fault_number, fault_name, fault_place}
+use Rattle.desk_expr.specs.Grammar.{SpellsTree}
+use Rattle.desk_expr.specs.Spelling.{SpellsWithin, IsStop}
+use Rattle.desk_expr.specs.Tree.{Tree}
+use Rattle.desk_expr.specs.declared.fault.ParseFault.{ParseFault}
+use Rattle.desk_tree_annotations.specs.declared.fault.AnnotationFault.{AnnotationFault}
+use Rattle.desk_tree_annotations.specs.declared.fault.AnnotationFault.TheVariants.{NoPath, BadKind, BadPrecedence, BadExpression as BadLicence}
+use Rattle.desk_tree_gather.specs.declared.flaw.Flaw.{Flaw}
+use Rattle.desk_tree_gather.specs.declared.flaw.Flaw.TheVariants.{TooManyFiles, BadPath, TwicePath, BadToml, BadAnnotation, BadExpression}
+use Rattle.desk_tree_lint.specs.declared.naming.Name.{Name}
+use Rattle.desk_tree_problems.specs.declared.bare.Bare.{Bare}
+use Rattle.desk_tree_problems.specs.declared.bare.Lacking.{Lacking}
+use Rattle.desk_tree_problems.specs.declared.blanks.Blank.{Blank}
+use Rattle.desk_tree_problems.specs.declared.bare.Lacking.TheVariants.{Notice, Licence, Both}
+use Rattle.desk_tree_problems.specs.declared.problems.Problems.{Problems}
+use Rattle.desk_tree_problems.specs.declared.row.Kind.{Kind}
+use Rattle.desk_tree_problems.specs.declared.row.Kind.TheVariants as kind
+use Rattle.desk_tree_problems.specs.declared.row.Row.{Row}
+
+abbrev pub kind_number : Kind → ℕ
+kind_number kind.Dep5 = 0
+kind_number kind.TooManyFiles = 1
+kind_number kind.BadPath = 2
+kind_number kind.TwicePath = 3
+kind_number kind.BadToml = 4
+kind_number kind.BadAnnotation = 5
+kind_number kind.BadExpression = 6
+kind_number kind.BlankAtEnd = 7
+kind_number kind.Missing = 8
+kind_number kind.Unused = 9
+kind_number kind.Bare = 10
+
+-- each kind, in the order in which they are told
+abbrev pub kinds : List Kind
+kinds = kind.Dep5 ∷ kind.TooManyFiles ∷ kind.BadPath ∷ kind.TwicePath ∷ kind.BadToml ∷ kind.BadAnnotation ∷ kind.BadExpression ∷ kind.BlankAtEnd ∷ kind.Missing ∷ kind.Unused ∷ kind.Bare ∷ []
+
+abbrev pub kind_name : Kind → List ℕ
+kind_name kind.Dep5 = codes "Dep5"
+kind_name kind.TooManyFiles = codes "TooManyFiles"
+kind_name kind.BadPath = codes "BadPath"
+kind_name kind.TwicePath = codes "TwicePath"
+kind_name kind.BadToml = codes "BadToml"
+kind_name kind.BadAnnotation = codes "BadAnnotation"
+kind_name kind.BadExpression = codes "BadExpression"
+kind_name kind.BlankAtEnd = codes "BlankAtEnd"
+kind_name kind.Missing = codes "Missing"
+kind_name kind.Unused = codes "Unused"
+kind_name kind.Bare = codes "Bare"
+
+-- a row of no line
+abbrev pub plain_row : Kind → List ℕ → List ℕ → Row
+plain_row k path message = record { kind = k; path = path; line = None; message = message }
+
+-- ---- flaws
+
+-- what is wrong with an annotation
+abbrev pub annotation_words : AnnotationFault → List ℕ
+annotation_words NoPath = codes "no path: give it the paths of its files"
+annotation_words BadKind = codes "a value of another kind: write a text or a list of texts"
+annotation_words BadPrecedence = codes "an unknown precedence: write closest, aggregate or override"
+annotation_words BadLicence = codes "a licence that is no expression: write one as in SPDX 2.3, Annex D"
+
+-- where a text stops that is no licence expression; or it is one
+abbrev pub StopsAt : List ℕ → Option ParseFault → Type 0
+StopsAt text None = (e : Tree) × SpellsWithin text e
+StopsAt text (Some fault) = ((e : Tree) → SpellsWithin text e → ⊥) × (0 < fault_number fault) × IsStop SpellsTree text fault
+
+abbrev pub stop_words : Option ParseFault → List ℕ
+stop_words None = []
+stop_words (Some fault) = codes " (" ++ (fault_name fault ++ (codes " at " ++ (decimal (fault_place fault) ++ codes ")")))
+
+-- a text in quotes, or how long it is if it is over 200 bytes
+abbrev pub quoted : List ℕ → List ℕ
+quoted text = if nat_lt 200 (length text) then codes "a text of " ++ (decimal (length text) ++ codes " bytes") else codes "'" ++ (text ++ codes "'")
+
+abbrev pub mending_words : List ℕ
+mending_words = codes " is no licence expression: mend it, state the licence in FILE.license beside the file, or put REUSE-IgnoreStart before the line and REUSE-IgnoreEnd behind it"
+
+abbrev pub expression_words : List ℕ → Option ParseFault → List ℕ
+expression_words text stop = quoted text ++ (stop_words stop ++ mending_words)
+
+-- what is wrong with a path that can't stand in a tree
+abbrev pub low_words : List ℕ
+low_words = codes "a byte below 32 in the path, as a line end or a tab: give the file another name"
+
+abbrev pub blank_words : List ℕ
+blank_words = codes "a blank at the end of the path: give the file another name"
+
+abbrev pub part_words : List ℕ
+part_words = codes "an empty part, . or .. in the path: give its parts from the root, each a name"
+
+abbrev pub path_words : List ℕ → List ℕ
+path_words path =
+    if list_any (λ b. nat_lt b 32) path then low_words
+    else (if ends_with nat_eq path (codes " ") then blank_words else part_words)
+
+-- the row of a flaw, where the text of a tag stops so
+abbrev pub flaw_row : Flaw → Option ParseFault → Row
+flaw_row TooManyFiles stop = plain_row kind.TooManyFiles (codes ".") (codes "more than 10,000 files: take away what isn't of the source")
+flaw_row (BadPath path) stop = plain_row kind.BadPath path (path_words path)
+flaw_row (TwicePath path) stop = plain_row kind.TwicePath path (codes "a path that stands twice: keep one of the files")
+flaw_row (BadToml path) stop = plain_row kind.BadToml path (codes "no TOML document of version 1: mend it, with version = 1 at its top")
+flaw_row (BadAnnotation path index fault) stop = plain_row kind.BadAnnotation path (codes "annotation " ++ (decimal index ++ (codes ", counted from 0, has " ++ annotation_words fault)))
+flaw_row (BadExpression path line text) stop = record { kind = kind.BadExpression; path = path; line = Some line; message = expression_words text stop }
+
+-- how the text of a flaw stops, where it has one
+abbrev pub StopsSo : Flaw → Option ParseFault → Type 0
+StopsSo (BadExpression path line text) stop = StopsAt text stop
+StopsSo _ stop = stop ≡ None
+
+abbrev pub IsFlawRow : Flaw → Row → Type 0
+IsFlawRow flaw row = (stop : Option ParseFault) × StopsSo flaw stop × (row ≡ flaw_row flaw stop)
+
+-- a row for each flaw
+abbrev pub AreFlawRows : List Flaw → List Row → Type 0
+AreFlawRows [] [] = Unit {0}
+AreFlawRows [] (row ∷ rows) = ⊥
+AreFlawRows (flaw ∷ flaws) [] = ⊥
+AreFlawRows (flaw ∷ flaws) (row ∷ rows) = IsFlawRow flaw row × AreFlawRows flaws rows
+
+-- ---- licences that no document can hold
+
+abbrev pub blank_row : Blank → Row
+blank_row blank = plain_row kind.BlankAtEnd blank.path (codes "annotation " ++ (decimal blank.index ++ codes ", counted from 0, has a licence with a blank at an end, which no document can hold: take the blank away"))
+
+-- ---- older annotations
+
+abbrev pub dep5_rows : Bool → List Row
+dep5_rows true = plain_row kind.Dep5 (codes ".reuse/dep5") (codes "this file isn't read: write what it says into a REUSE.toml, and take it away; until then no text is called unused") ∷ []
+dep5_rows false = []
+
+-- ---- lists
+
+-- which file names a licence
+abbrev pub named_words : Option (List ℕ) → List ℕ
+named_words None = []
+named_words (Some path) = codes ", which " ++ (path ++ codes " names")
+
+-- what to do for a text: of a licence of another document none is kept here
+abbrev pub text_words : List ℕ → List ℕ
+text_words id =
+    if starts_with nat_eq id (codes "DocumentRef-") then codes ": its text is in another document, so name a licence whose text is in LICENSES/"
+    else codes ": add it as LICENSES/" ++ (id ++ codes ".txt")
+
+abbrev pub missing_row : Name → Row
+missing_row name = plain_row kind.Missing (codes "LICENSES/") (codes "no text of " ++ (name.id ++ (named_words name.path ++ text_words name.id)))
+
+abbrev pub unused_row : List ℕ → Row
+unused_row path = plain_row kind.Unused path (codes "no file uses this text: take it away, or state its licence where it is used")
+
+abbrev pub lacking_words : Lacking → List ℕ
+lacking_words Notice = codes "no SPDX-FileCopyrightText (a notice without it doesn't count): state one in the file, beside it in FILE.license, or in REUSE.toml"
+lacking_words Licence = codes "no SPDX-License-Identifier (a licence without it doesn't count): state one in the file, beside it in FILE.license, or in REUSE.toml"
+lacking_words Both = codes "no SPDX-FileCopyrightText and no SPDX-License-Identifier (what is said without them doesn't count): state them in the file, beside it in FILE.license, or in REUSE.toml"
+
+abbrev pub bare_row : Bare → Row
+bare_row bare = plain_row kind.Bare bare.path (lacking_words bare.lacking)
+
+-- ---- the whole
+
+abbrev pub list_rows : Problems → List Row
+list_rows p = map blank_row p.blanks ++ (map missing_row p.names ++ (map unused_row p.unused ++ map bare_row p.bare))
+
+-- a row for each problem: the older annotations, the flaws, then the lists
+abbrev pub AreRows : Problems → List Row → Type 0
+AreRows p rows = (told : List Row) × AreFlawRows p.flaws told × (rows ≡ dep5_rows p.dep5 ++ (told ++ list_rows p))

@@ -1,0 +1,101 @@
+//! The problems of a tree.
+
+ghost use Rattle.std.specs.Prelude.{◌≡◌, ◌⊎◌, [], Err, IfOk};
+ghost use Rattle.desk_tree_gather.specs.declared.fault.GatherFault.{GatherFault};
+ghost use Rattle.desk_tree_gather.specs.Gathering.{gathered};
+ghost use Rattle.desk_tree_gather.specs.Readers.{Reader, IsRightReader};
+ghost use Rattle.desk_tree_lint.specs.declared.lists.Lint.{Lint};
+ghost use Rattle.desk_tree_lint.specs.Lists.{IsLint};
+ghost use Rattle.desk_tree_problems.specs.Problems.{has_dep5, are_some, unused_unless, AreProblems, lists_in, told_beside, BeginsWith};
+ghost use Rattle.desk_tree_gather.specs.Shown.{tree_in};
+
+use crate::bare::{Bare, bare_files};
+use crate::blanks::{Blank, blanks_in};
+use desk_base::{Items, Text};
+use desk_tree_gather::{Flaw, SourceFile, Surveyed, bytes_at, survey};
+use desk_tree_lint::{Lint, Name, lists_of, names_of};
+use std::alloc::{AllocError, Global};
+use std::collections::BTreeMap;
+
+/// The problems of a tree.
+#[derive(Debug, Drop)]
+pub struct Problems {
+    /// Whether the tree has the older file of annotations, `.reuse/dep5`, which isn't read.
+    pub dep5: bool,
+    /// What is wrong in it: of the paths in turn, of the REUSE.toml files by path, and of what the covered files state, by path.
+    pub flaws: Items<Flaw>,
+    /// Annotations with a licence that no document can hold, by path, of each REUSE.toml of which all annotations can be read.
+    pub blanks: Items<Blank>,
+    /// Licences, exceptions and references that are used and have no text, by their keys, in byte order.
+    pub missing: Items<Text>,
+    /// How each of these is first written, and the first file that names it.
+    pub names: Items<Name>,
+    /// Paths of licences' texts that nothing uses, in byte order; none where some use may not have been read, for a flaw or older
+    /// annotations.
+    pub unused: Items<Text>,
+    /// Covered files without a copyright notice or without a licence, by path.
+    pub bare: Items<Bare>,
+    /// How many files are covered.
+    pub covered: usize,
+}
+
+// Whether the older file of annotations is in a tree.
+fn has_dep5<'a>(tree: &BTreeMap<&'a str, &'a [u8]>) -> bool
+    ensures { result ≡ has_dep5 (tree_in tree.now) }
+{
+    bytes_at(tree, ".reuse/dep5").is_some()
+}
+
+fn are_some(flaws: &[Flaw]) -> bool
+    ensures { result ≡ are_some flaws.now }
+{
+    !flaws.is_empty()
+}
+
+// Texts that nothing uses, and none where some use may not have been read.
+fn unused_unless(alloc: Global, unsure: bool, paths: Items<Text>) -> Items<Text>
+    ensures { result ≡ unused_unless unsure paths }
+{
+    if unsure { Items::new(alloc) } else { paths }
+}
+
+// What is wrong in a tree, and the lists of what can be read past that.
+fn surveyed(alloc: Global, files: &[SourceFile]) -> Result<Problems, AllocError>
+    ensures { (r : Reader) → IsRightReader r → IfOk result (AreProblems r files.now) }
+{
+    let Surveyed { tree, flaws, infos } = survey(alloc, files)?;
+    let Lint {
+        missing,
+        unused,
+        ..
+    } = lists_of(alloc, &tree, infos.as_slice())?;
+    let dep5 = has_dep5(&tree);
+    let names = names_of(alloc, infos.as_slice(), missing.as_slice())?;
+    let unsure = dep5 || are_some(flaws.as_slice());
+    Ok(Problems {
+        dep5,
+        flaws,
+        blanks: blanks_in(alloc, &tree)?,
+        missing,
+        names,
+        unused: unused_unless(alloc, unsure, unused),
+        bare: bare_files(alloc, infos.as_slice())?,
+        covered: infos.len(),
+    })
+}
+
+/// All problems of a tree (REUSE Specification 3.3). The lists are those of what can be read past the flaws: annotations that can't
+/// be read give nothing, and a tag that is no expression is a licence that uses nothing. The only error is want of memory.
+///
+/// For each right reader they are those of `AreProblems`. Where `desk_tree_lint::lint` has lists, there are no flaws, and they are those
+/// lists, without unused texts if there are older annotations (`lint`); where nothing is gathered of the tree, the fault is the first flaw (`first`).
+pub fn problems_of(alloc: Global, files: &[SourceFile]) -> Result<Problems, AllocError>
+    ensures problems { (r : Reader) → IsRightReader r → IfOk result (AreProblems r files.now) }
+    ensures lint { (r : Reader) → IsRightReader r
+        → IfOk result (λ p. (l : Lint) → IsLint r files.now l → (p.flaws ≡ []) × (lists_in p ≡ told_beside p.dep5 l)) }
+    ensures first { (r : Reader) → IsRightReader r
+        → IfOk result (λ p. (fault : GatherFault) → gathered r files.now ≡ Err fault
+        → BeginsWith p.flaws fault) }
+{
+    surveyed(alloc, files)
+}

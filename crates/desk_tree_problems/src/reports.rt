@@ -1,0 +1,65 @@
+//! The report on a tree.
+
+ghost use Rattle.std.specs.Prelude.{◌≡◌, IfOk};
+ghost use Rattle.desk_tree_gather.specs.Readers.{Reader, IsRightReader};
+ghost use Rattle.desk_tree_problems.specs.Reports.{text_of, is_none, AreBlankLines, IsReport};
+
+use crate::json::json_text;
+use crate::lines::{lines_of_kind, lines_text};
+use crate::problems::problems_of;
+use crate::row::{Kind, Row};
+use crate::rows::rows_of;
+use desk_tree_gather::SourceFile;
+use std::alloc::{AllocError, Global};
+
+/// The report on a tree.
+#[derive(Debug, Drop)]
+pub struct Report {
+    /// Its text: a line for each problem and one that counts them, or a JSON object and a line feed.
+    pub text: Vec<u8>,
+    /// Whether the tree has no problem.
+    pub is_clean: bool,
+}
+
+// The rows as a text.
+fn text_of(alloc: Global, json: bool, rows: &[Row], covered: usize) -> Result<Vec<u8>, AllocError>
+    ensures { IfOk result (λ text. text.items ≡ text_of json rows.now covered) }
+{
+    if json {
+        json_text(alloc, rows, covered)
+    } else {
+        lines_text(alloc, rows, covered)
+    }
+}
+
+fn is_none(rows: &[Row]) -> bool
+    ensures { result ≡ is_none rows.now }
+{
+    rows.is_empty()
+}
+
+/// The report on a tree, as lines or as a JSON object. The only error is want of memory.
+///
+/// For each right reader it is that of `IsReport`.
+pub fn report_on(alloc: Global, files: &[SourceFile], json: bool) -> Result<Report, AllocError>
+    ensures { (r : Reader) → IsRightReader r → IfOk result (IsReport r files.now json) }
+{
+    let problems = problems_of(alloc, files)?;
+    let rows = rows_of(alloc, &problems)?;
+    let text = text_of(alloc, json, rows.as_slice(), problems.covered)?;
+    Ok(Report {
+        text,
+        is_clean: is_none(rows.as_slice()),
+    })
+}
+
+/// The lines of the report on a tree that tell of licences in REUSE.toml files which no document can hold. The only error is no memory.
+///
+/// For each right reader they are those of `AreBlankLines`.
+pub fn blank_lines(alloc: Global, files: &[SourceFile]) -> Result<Vec<u8>, AllocError>
+    ensures { (r : Reader) → IsRightReader r → IfOk result (λ text. AreBlankLines r files.now text.items) }
+{
+    let problems = problems_of(alloc, files)?;
+    let rows = rows_of(alloc, &problems)?;
+    lines_of_kind(alloc, rows.as_slice(), Kind::BlankAtEnd)
+}

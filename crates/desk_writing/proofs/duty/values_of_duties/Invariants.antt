@@ -1,8 +1,0 @@
-use Rattle.std.proofs.Common.{◌≡◌, take, flat_map}
-use Rattle.sqlite.specs.Values.{bound}
-use Rattle.desk_layout.specs.Cells.{duty_cells}
-use Rattle.desk_writing.proofs.duty.values_of_duties.Given as goal
-
--- the values of the rows so far
-abbrev pub invariant-loop-row : goal.invariant-loop-row
-invariant-loop-row l = bound l.values.items ≡ flat_map duty_cells (take l.row-index l.rows)
