@@ -7,9 +7,11 @@ use Rattle.std.specs.Cmp.Lexicographic.{slice_cmp}
 use Rattle.std.specs.BTreeSet.{BTreeSet, contains_by}
 use Rattle.std.specs.declared.cmp.Ordering.{Ordering}
 use Rattle.desk_model.specs.Readings.{Readings}
+use Rattle.desk_model.specs.declared.bill.BillLine.{BillLine}
 use Rattle.desk_model.specs.declared.bill.TextOf.{TextOf}
 use Rattle.desk_model.specs.declared.bill.TextOf.TheVariants.{Licence, Reference}
 use Rattle.desk_model.specs.declared.reading.LicenceText.{LicenceText}
+use Rattle.desk_model.specs.declared.row.PackageRow.{PackageRow}
 use Rattle.desk_questions.specs.declared.texts.TextKey.{TextKey}
 
 -- the text of a term's reference, or else of its licence
@@ -37,3 +39,7 @@ AreIn are_in w _ _ = ⊥
 -- the text of a licence or an exception in a catalogue, if there is one
 abbrev pub licence_found : Readings → Option (List ℕ) → List ℕ → Option LicenceText
 licence_found w catalogue id = option_and_then (λ text. w.licence_text text id) catalogue
+
+-- the line of a package with the rules of its terms
+abbrev pub line_with : List (List ℕ) → PackageRow → BillLine
+line_with rules p = record { name = p.name; version = p.version; rules = rules; copyright = p.copyright }

@@ -1,19 +1,22 @@
 //! The bill of a frozen release: its packages with the rules that they were frozen by.
 
 ghost use Rattle.std.specs.Prelude.{◌≡◌, IfOk, IfErr, map};
+ghost use Rattle.std.specs.List.{flat_map};
 ghost use Rattle.desk_model.specs.Readings.{Readings};
-ghost use Rattle.desk_model.specs.Bills.{bill_line, bill_of};
+ghost use Rattle.desk_model.specs.Bills.{bill_line, bill_of, package_texts};
 ghost use Rattle.desk_model.specs.Faults.{MayFail};
 ghost use Rattle.desk_access.specs.Seen.{Looked, OfRows};
 ghost use Rattle.desk_history.specs.FromTables.{queried_from, shipped_found};
+ghost use Rattle.desk_questions.specs.Billing.{line_with};
 
 use crate::frozen::{frozen_rows, terms_of};
-use crate::texts::{bill_texts_of, texts_used};
+use crate::texts::{add_terms, bill_texts_of, first_uses};
 use desk_access::store::Store;
 use desk_access::texts::Texts;
 use desk_base::{Items, Text};
 use desk_model::{
     Answer, Bill, BillLine, Fault, FrozenRow, PackageRow, Query, Refusal, ReleaseRow, ReleaseState,
+    TextOf,
 };
 use desk_packages::shipped_packages;
 use desk_sorted::Appended;
@@ -44,16 +47,11 @@ fn rules_of(alloc: Global, terms: &[&FrozenRow]) -> Result<Items<Text>, AllocErr
     Ok(rules)
 }
 
-fn bill_line(
-    alloc: Global,
-    frozen: &Appended<FrozenRow>,
-    release: &Text,
-    row: PackageRow,
-) -> Result<BillLine, AllocError>
-    ensures { IfOk result (λ line. line ≡ bill_line frozen.now.rows.items release.now row) }
+/// The line of a package with its terms.
+fn line_of(alloc: Global, terms: &[&FrozenRow], row: PackageRow) -> Result<BillLine, AllocError>
+    ensures { IfOk result (λ line. line ≡ line_with (map (λ term. term.now.rule) terms.now) row) }
 {
-    let terms = terms_of(alloc, frozen, release, &row)?;
-    let rules = rules_of(alloc, terms.as_slice())?;
+    let rules = rules_of(alloc, terms)?;
     Ok(BillLine {
         name: row.name,
         version: row.version,
@@ -62,21 +60,37 @@ fn bill_line(
     })
 }
 
-fn bill_lines(
+/// What packages are written as in a bill.
+#[derive(Drop)]
+struct Parts {
+    /// The line of each.
+    lines: Items<BillLine>,
+    /// The texts that their terms name, in their order.
+    named: Vec<TextOf>,
+}
+
+/// The parts of packages that were frozen with these terms.
+fn parts_of<T: Texts>(
     alloc: Global,
+    texts: &T,
     frozen: &Appended<FrozenRow>,
     release: &Text,
     packages: Vec<PackageRow>,
-) -> Result<Items<BillLine>, AllocError>
-    ensures { IfOk result (λ lines.
-        lines ≡ map (bill_line frozen.now.rows.items release.now) packages.items) }
+) -> Result<Parts, AllocError>
+    ensures lines { IfOk result (λ parts.
+        parts.lines ≡ map (bill_line frozen.now.rows.items release.now) packages.items) }
+    ensures named { (w : Readings) → T.are_right w → IfOk result (λ parts. parts.named.items
+        ≡ flat_map (package_texts w frozen.now.rows.items release.now) packages.items) }
 {
     let mut lines = Items::new(alloc);
+    let mut named = Vec::new(alloc);
     for row in packages {
-        let line = bill_line(alloc, frozen, release, row)?;
+        let terms = terms_of(alloc, frozen, release, &row)?;
+        add_terms(alloc, texts, terms.as_slice(), &mut named)?;
+        let line = line_of(alloc, terms.as_slice(), row)?;
         lines.push(line)?;
     }
-    Ok(lines)
+    Ok(Parts { lines, named })
 }
 
 /// The bill of a release, by the catalogue of its freeze.
@@ -94,13 +108,13 @@ fn bill_of<T: Texts, S: Store>(
 {
     let packages = packages_of(alloc, store, &row.name)?;
     let frozen = frozen_rows(alloc, store, &row.name)?;
-    let uses = texts_used(alloc, texts, &frozen, &row.name, packages.as_slice())?;
+    let parts = parts_of(alloc, texts, &frozen, &row.name, packages)?;
+    let uses = first_uses(alloc, parts.named)?;
     let bodies = bill_texts_of(alloc, texts, store, row.revision, uses)?;
-    let lines = bill_lines(alloc, &frozen, &row.name, packages)?;
     Ok(Bill {
         release: row.name,
         form: row.form,
-        lines,
+        lines: parts.lines,
         texts: bodies,
     })
 }

@@ -9,17 +9,15 @@ ghost use Rattle.std.specs.Cmp.Rules.{comparing};
 ghost use Rattle.std.specs.Cmp.Lexicographic.{slice_cmp};
 ghost use Rattle.std.proofs.Common.{rules};
 ghost use Rattle.desk_model.specs.Readings.{Readings};
-ghost use Rattle.desk_model.specs.Bills.{bill_text, first_uses, licence_bill, package_texts, revision_text, texts_named};
+ghost use Rattle.desk_model.specs.Bills.{bill_text, first_uses, licence_bill, revision_text, texts_named};
 ghost use Rattle.desk_model.specs.Faults.{MayFail};
 ghost use Rattle.desk_access.specs.Seen.{Looked, OfRows};
 ghost use Rattle.desk_questions.specs.Billing.{AreIn, licence_found, main_text, text_key};
 
-use crate::frozen::terms_of;
 use desk_access::store::Store;
 use desk_access::texts::Texts;
 use desk_base::{Items, Text};
-use desk_model::{BillText, Fault, FrozenRow, LicenceText, PackageRow, TextOf};
-use desk_sorted::Appended;
+use desk_model::{BillText, Fault, FrozenRow, LicenceText, TextOf};
 use std::alloc::{AllocError, Global};
 use std::cmp::Ordering;
 use std::collections::BTreeSet;
@@ -63,7 +61,7 @@ fn add_texts<T: Texts>(
 }
 
 /// Adds the texts that the terms of a package name.
-fn add_terms<T: Texts>(
+pub(crate) fn add_terms<T: Texts>(
     alloc: Global,
     texts: &T,
     terms: &[&FrozenRow],
@@ -76,25 +74,6 @@ fn add_terms<T: Texts>(
         add_texts(alloc, texts, row, named)?;
     }
     Ok(())
-}
-
-/// The texts that the terms of packages name, in their order.
-fn named_texts<T: Texts>(
-    alloc: Global,
-    texts: &T,
-    frozen: &Appended<FrozenRow>,
-    release: &Text,
-    packages: &[PackageRow],
-) -> Result<Vec<TextOf>, AllocError>
-    ensures { (w : Readings) → T.are_right w → IfOk result (λ named. named.items
-        ≡ flat_map (package_texts w frozen.now.rows.items release.now) packages.now) }
-{
-    let mut named = Vec::new(alloc);
-    for row in packages {
-        let terms = terms_of(alloc, frozen, release, row)?;
-        add_terms(alloc, texts, terms.as_slice(), &mut named)?;
-    }
-    Ok(named)
 }
 
 /// What a text is known by: its name, and 0 for an id, or for a reference one more than the number of its document.
@@ -149,7 +128,7 @@ fn text_key(text: &TextOf) -> Result<TextKey, AllocError>
 }
 
 /// The texts in the order of first use, each once.
-fn first_uses(alloc: Global, named: Vec<TextOf>) -> Result<Vec<TextOf>, AllocError>
+pub(crate) fn first_uses(alloc: Global, named: Vec<TextOf>) -> Result<Vec<TextOf>, AllocError>
     ensures { IfOk result (λ uses. uses.items ≡ first_uses named.items) }
 {
     let mut uses = Vec::new(alloc);
@@ -266,21 +245,6 @@ fn bill_texts<T: Texts, S: Store>(
         bodies.push(body)?;
     }
     Ok(bodies)
-}
-
-/// Which texts the terms of packages name, each once in the order of first use.
-pub(crate) fn texts_used<T: Texts>(
-    alloc: Global,
-    texts: &T,
-    frozen: &Appended<FrozenRow>,
-    release: &Text,
-    packages: &[PackageRow],
-) -> Result<Vec<TextOf>, AllocError>
-    ensures { (w : Readings) → T.are_right w → IfOk result (λ uses. uses.items
-        ≡ first_uses (flat_map (package_texts w frozen.now.rows.items release.now) packages.now)) }
-{
-    let named = named_texts(alloc, texts, frozen, release, packages)?;
-    first_uses(alloc, named)
 }
 
 /// The texts themselves, by a revision of the catalogue.

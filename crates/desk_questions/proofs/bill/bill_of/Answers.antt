@@ -1,6 +1,5 @@
 use Rattle.std.proofs.Common.{◌∙◌, ap}
-use Rattle.std.specs.List.{flat_map}
-use Rattle.desk_model.specs.Bills.{first_uses, package_texts}
+use Rattle.desk_model.specs.Bills.{first_uses}
 use Rattle.desk_history.specs.FromTables.{shipped_found}
 use Rattle.desk_questions.proofs.Bills.{bill_found}
 use Rattle.desk_questions.proofs.bill.bill_of.Goals as goal
@@ -11,9 +10,9 @@ returns-clause-found g c = λ w right h t held.
     let frozen = c.in_ok-frozen.frozen.rows.items in
     let before = c.in_ok-bodies.ensures.kept.kept.spared.honest h in
     let first = c.in_ok-packages.ensures.kept.kept.spared.holds t held in
-    bill_found w t c.args.row frozen c.in_ok-packages.packages.items (shipped_found t name) c.in_ok-uses.uses.items c.in_ok-lines.lines c.in_ok-bodies.bodies
+    bill_found w t c.args.row frozen c.in_ok-packages.packages.items (shipped_found t name) c.in_ok-uses.uses.items c.in_ok-parts.parts.lines c.in_ok-bodies.bodies
     (c.in_ok-frozen.ensures.found before t first)
     (c.in_ok-packages.ensures.found (c.in_ok-frozen.ensures.kept.kept.spared.honest before) t held)
-    c.in_ok-lines.ensures
-    (c.in_ok-uses.ensures w right ∙ ap (λ ps. first_uses (flat_map (package_texts w frozen name) ps)) c.as_slice.ensures.value)
+    c.in_ok-parts.ensures.lines
+    (c.in_ok-uses.ensures ∙ ap first_uses (c.in_ok-parts.ensures.named w right))
     (c.in_ok-bodies.ensures.found w right h t (c.in_ok-frozen.ensures.kept.kept.spared.holds t first))
