@@ -1,0 +1,4 @@
+mod Firsts
+mod Lists
+mod Against
+mod Once

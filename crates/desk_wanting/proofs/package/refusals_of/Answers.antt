@@ -1,0 +1,26 @@
+use Rattle.std.specs.List.{flat_map}
+use Rattle.desk_access.proofs.Chains.{looked_err, same_then_kept, same_then_same}
+use Rattle.desk_wanting.specs.Obstacles.{refusals_found}
+use Rattle.desk_wanting.proofs.Lists.{flat_map_step}
+use Rattle.desk_wanting.proofs.package.refusals_of.Goals as goal
+
+pub loop-row-preserved : goal.loop-row-preserved
+loop-row-preserved g c =
+    let one = c.in_ok-more.ensures in
+    record {
+      same = same_then_same _ _ _ c.loop-row.invariant.same one.kept;
+      found = λ w right h t held.
+          flat_map_step (refusals_found w t c.args.release.now c.args.form.now) c.args.packages.now c.loop-row.row-index c.row-item.result
+          c.loop-row.refusals.items c.append.new.self.items c.in_ok-more.more.items (flat_map (refusals_found w t c.args.release.now c.args.form.now) c.args.packages.now)
+          c.loop-row-test.true c.row-item.is (one.found w right h t (c.loop-row.invariant.same.kept.spared.holds t held)) c.in_ok-append.ensures.items
+          (c.loop-row.invariant.found w right (one.kept.kept.spared.honest h) t held);
+    }
+
+pub returns-in_err-more-clause-kept : goal.returns-in_err-more-clause-kept
+returns-in_err-more-clause-kept g c =
+    looked_err _ _ c.from_residual.result c.from_residual.ensures.0 (same_then_kept _ _ _ c.loop-row.invariant.same c.in_err-more.ensures.kept)
+
+pub returns-in_err-append-clause-kept : goal.returns-in_err-append-clause-kept
+returns-in_err-append-clause-kept g c =
+    looked_err _ _ c.from_residual-in_err-append.result c.from_residual-in_err-append.ensures.0
+    (same_then_same _ _ _ c.loop-row.invariant.same c.in_ok-more.ensures.kept).kept

@@ -1,0 +1,6 @@
+use Rattle.std.proofs.Common.{◌≡◌, []}
+use Rattle.desk_wanting.specs.Obstacles.{told_once}
+use Rattle.desk_wanting.proofs.told.told_once.Given as goal
+
+abbrev pub invariant-loop-refusal : goal.invariant-loop-refusal
+invariant-loop-refusal l = l.told.items ≡ told_once [] l.yielded

@@ -1,0 +1,3 @@
+pub mod Obstacles
+pub mod Idle
+pub mod Against

@@ -1,0 +1,160 @@
+//! What stands against the terms that are chosen for a package.
+
+ghost use Rattle.std.specs.Prelude.{◌≡◌, ◌++◌, [], IfOk, IfErr, OnOk};
+ghost use Rattle.std.specs.List.{cons_option, filter_map};
+ghost use Rattle.desk_model.specs.Readings.{Readings};
+ghost use Rattle.desk_model.specs.Faults.{MayFail};
+ghost use Rattle.desk_model.specs.Answers.{unadopted};
+ghost use Rattle.desk_history.specs.FromTables.{rules_found};
+ghost use Rattle.desk_access.specs.Seen.{Looked, OfRows};
+ghost use Rattle.desk_wanting.specs.Obstacles.{term_refusals, unruled_alone};
+
+use desk_access::store::Store;
+use desk_access::texts::Texts;
+use desk_base::Text;
+use desk_model::{Fault, PackageRow, Refusal};
+use desk_packages::rule_adopted;
+use std::alloc::{AllocError, Global};
+
+/// Adds a refusal, if it applies.
+pub(crate) fn add_refusal(
+    refusals: &mut Vec<Refusal>,
+    refusal: Option<Refusal>,
+) -> Result<(), AllocError>
+    ensures { OnOk result (refusals.new.items ≡ refusals.old.items ++ cons_option refusal []) }
+{
+    if let Some(refusal) = refusal {
+        refusals.push(refusal)?;
+    }
+    Ok(())
+}
+
+/// What stands against a term of a document: it is a reference without adoption.
+fn unadopted<T: Texts, S: Store>(
+    alloc: Global,
+    texts: &T,
+    store: &mut S,
+    document: u32,
+    term: &Text,
+) -> Result<Option<Refusal>, Fault>
+    ensures found { (w : Readings) → T.are_right w → IfOk result (λ refusal.
+        OfRows (λ t. refusal ≡ unadopted w t.adoption document term.now)
+        (S.seen store.old) (S.seen store.new)) }
+    ensures kept { Looked (S.seen store.old) (S.seen store.new) result }
+    ensures fault { IfErr result (MayFail S.tells) }
+{
+    let Some(reference) = texts.reference(alloc, term.as_str())? else {
+        return Ok(None);
+    };
+    if store.adoption(document, reference.as_str())?.is_some() {
+        return Ok(None);
+    }
+    Ok(Some(Refusal::NotAdopted {
+        document,
+        reference,
+    }))
+}
+
+#[tactic(auto, using(desk_access::proofs::Chains::same_then_kept, desk_access::proofs::Chains::same_then_same))]
+/// The references without adoption among the terms of a document.
+fn unadopted_terms<T: Texts, S: Store>(
+    alloc: Global,
+    texts: &T,
+    store: &mut S,
+    document: u32,
+    terms: &[Text],
+) -> Result<Vec<Refusal>, Fault>
+    ensures found { (w : Readings) → T.are_right w → IfOk result (λ refusals.
+        OfRows (λ t. refusals.items ≡ filter_map (unadopted w t.adoption document) terms.now)
+        (S.seen store.old) (S.seen store.new)) }
+    ensures kept { Looked (S.seen store.old) (S.seen store.new) result }
+    ensures fault { IfErr result (MayFail S.tells) }
+{
+    let mut refusals = Vec::new(alloc);
+    for term in terms {
+        let refusal = unadopted(alloc, texts, store, document, term)?;
+        add_refusal(&mut refusals, refusal)?;
+    }
+    Ok(refusals)
+}
+
+fn no_rule(row: &PackageRow, term: &Text) -> Result<Refusal, AllocError>
+    ensures { IfOk result (λ refusal. refusal ≡ Refusal.NoRule row.now.document row.now.id term.now) }
+{
+    Ok(Refusal::NoRule {
+        document: row.document,
+        package_id: row.id.clone()?,
+        term: term.clone()?,
+    })
+}
+
+/// What stands against a term of a package that is no reference without adoption: it has no rule.
+fn unruled_alone<T: Texts, S: Store>(
+    alloc: Global,
+    texts: &T,
+    store: &mut S,
+    form: &Text,
+    row: &PackageRow,
+    term: &Text,
+) -> Result<Option<Refusal>, Fault>
+    ensures found { (w : Readings) → T.are_right w → IfOk result (λ refusal.
+        OfRows (λ t. refusal ≡ unruled_alone w t.adoption (rules_found t) form.now row.now term.now)
+        (S.seen store.old) (S.seen store.new)) }
+    ensures kept { Looked (S.seen store.old) (S.seen store.new) result }
+    ensures fault { IfErr result (MayFail S.tells) }
+{
+    if rule_adopted(alloc, texts, store, form, row.document, term)?.is_some() {
+        return Ok(None);
+    }
+    if unadopted(alloc, texts, store, row.document, term)?.is_some() {
+        return Ok(None);
+    }
+    Ok(Some(no_rule(row, term)?))
+}
+
+#[tactic(auto, using(desk_access::proofs::Chains::same_then_kept, desk_access::proofs::Chains::same_then_same))]
+/// The terms of a package without a rule, apart from the references without adoption.
+fn unruled_terms<T: Texts, S: Store>(
+    alloc: Global,
+    texts: &T,
+    store: &mut S,
+    form: &Text,
+    row: &PackageRow,
+    terms: &[Text],
+) -> Result<Vec<Refusal>, Fault>
+    ensures found { (w : Readings) → T.are_right w → IfOk result (λ refusals.
+        OfRows (λ t. refusals.items
+        ≡ filter_map (unruled_alone w t.adoption (rules_found t) form.now row.now) terms.now)
+        (S.seen store.old) (S.seen store.new)) }
+    ensures kept { Looked (S.seen store.old) (S.seen store.new) result }
+    ensures fault { IfErr result (MayFail S.tells) }
+{
+    let mut refusals = Vec::new(alloc);
+    for term in terms {
+        let refusal = unruled_alone(alloc, texts, store, form, row, term)?;
+        add_refusal(&mut refusals, refusal)?;
+    }
+    Ok(refusals)
+}
+
+/// What stands against the terms of a package: first the references without adoption, then the other terms without a rule.
+pub(crate) fn term_refusals<T: Texts, S: Store>(
+    alloc: Global,
+    texts: &T,
+    store: &mut S,
+    form: &Text,
+    row: &PackageRow,
+    terms: &[Text],
+) -> Result<Vec<Refusal>, Fault>
+    ensures found { (w : Readings) → T.are_right w → IfOk result (λ refusals.
+        OfRows (λ t. refusals.items
+        ≡ term_refusals w t.adoption (rules_found t) form.now terms.now row.now)
+        (S.seen store.old) (S.seen store.new)) }
+    ensures kept { Looked (S.seen store.old) (S.seen store.new) result }
+    ensures fault { IfErr result (MayFail S.tells) }
+{
+    let mut refusals = unadopted_terms(alloc, texts, store, row.document, terms)?;
+    let mut unruled = unruled_terms(alloc, texts, store, form, row, terms)?;
+    refusals.append(&mut unruled)?;
+    Ok(refusals)
+}
