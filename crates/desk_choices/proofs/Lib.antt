@@ -1,0 +1,4 @@
+mod Lists
+mod Floats
+mod Accepted
+mod Recorded
