@@ -1,0 +1,4 @@
+mod Ascending
+mod Counting
+mod Totals
+mod Lists

@@ -1,0 +1,55 @@
+-- A list made one by one of another.
+use Rattle.std.proofs.Common.{◌≡◌, ℕ, ◌+◌, ◌<◌, Bool, true, false, cond, List, [], ◌∷◌, ◌++◌, length, get_or, take, map, refl, sym, ap, ap₂, ◌∙◌, append-nil}
+use Rattle.std.specs.Prelude.{filter, find, reverse, Option, Some, None}
+use Rattle.std.proofs.lemmas.List.{map_more, map-append, reverse-append}
+use Rattle.std.proofs.lemmas.List.Elements.{filter_more}
+use Rattle.std.proofs.lemmas.List.Folds.{find-append}
+use Rattle.std.specs.Option.{option_or}
+
+-- one more is made
+pub made_more : {X Y : Type 0} (f : X → Y) (xs : List X) (i : ℕ) (x : X) (before after : List Y) (y : Y) → i < length xs
+    → x ≡ get_or xs i x → before ≡ map f (take i xs) → y ≡ f x → after ≡ before ++ y ∷ [] → after ≡ map f (take (i + 1) xs)
+made_more f xs i x before after y inside at so_far made pushed =
+    pushed ∙ ap₂ (λ ys z. ys ++ z ∷ []) so_far (made ∙ ap f at) ∙ sym (map_more f xs i x inside)
+
+module _ {X Y : Type 0} (f : X → Y) (p : X → Bool) (xs : List X) (i : ℕ) (x : X) (inside : i < length xs) (at : x ≡ get_or xs i x) (before : List Y)
+    (so_far : before ≡ map f (filter p (take i xs))) where
+  -- what the next one adds to those that pass
+  next : (b : Bool) → p x ≡ b → map f (filter p (take (i + 1) xs)) ≡ before ++ map f (cond b (x ∷ []) [])
+  next b e =
+      let here : cond (p (get_or xs i x)) (get_or xs i x ∷ []) [] ≡ cond b (x ∷ []) [] =
+      ap (λ z. cond (p z) (z ∷ []) []) (sym at) ∙ ap (λ t. cond t (x ∷ []) []) e in
+      ap (map f) (filter_more p xs i x inside) ∙ ap (λ ys. map f (filter p (take i xs) ++ ys)) here
+      ∙ map-append f (filter p (take i xs)) (cond b (x ∷ []) []) ∙ ap (λ ys. ys ++ map f (cond b (x ∷ []) [])) (sym so_far)
+
+  -- the next one passes, and one more is made
+  pub passing_more : (after : List Y) (y : Y) → p x ≡ true → y ≡ f x → after ≡ before ++ y ∷ [] → after ≡ map f (filter p (take (i + 1) xs))
+  passing_more after y passes made pushed = pushed ∙ ap (λ z. before ++ z ∷ []) made ∙ sym (next true passes)
+
+  -- the next one doesn't pass
+  pub failing_more : p x ≡ false → before ≡ map f (filter p (take (i + 1) xs))
+  failing_more fails = sym (append-nil before) ∙ sym (next false fails)
+
+-- the last of some
+abbrev last_of : {A : Type 0} → List A → Option A
+last_of [] = None
+last_of (x ∷ xs) = option_or (last_of xs) (Some x)
+
+module _ {A : Type 0} (p : A → Bool) where
+  none_or : (o : Option A) → option_or o None ≡ o
+  none_or None = refl
+  none_or (Some x) = refl
+
+  one_more : (x : A) (ys : List A) (b : Bool) → option_or (last_of ys) (cond b (Some x) None) ≡ last_of (cond b (x ∷ ys) ys)
+  one_more x ys true = refl
+  one_more x ys false = none_or (last_of ys)
+
+  find-reverse : (xs : List A) → find p (reverse xs) ≡ last_of (filter p xs)
+  find-reverse [] = refl
+  find-reverse (x ∷ xs) =
+      ap (find p) (reverse-append (x ∷ []) xs) ∙ find-append p (reverse xs) (x ∷ [])
+      ∙ ap (λ o. option_or o (cond (p x) (Some x) None)) (find-reverse xs) ∙ one_more x (filter p xs) (p x)
+
+  -- among rows that a test tells from the others, the last is the same
+  pub find-reverse_among : (rows all : List A) → filter p rows ≡ filter p all → find p (reverse rows) ≡ find p (reverse all)
+  find-reverse_among rows all e = find-reverse rows ∙ ap last_of e ∙ sym (find-reverse all)

@@ -1,0 +1,55 @@
+-- The cells of the lists: a row of the columns' names, and one for each line. A cell is empty if its line has nothing there.
+use Rattle.std.specs.Prelude.{ℕ, List, [], ◌∷◌, ◌++◌, codes, decimal, map, unwrap_or}
+use Rattle.std.specs.Fmt.{signed_decimal}
+use Rattle.std.specs.Option.{option_map_or}
+use Rattle.desk_model.specs.declared.command.Totals.{Totals}
+use Rattle.desk_lists.specs.declared.lines.DocumentLine.{DocumentLine}
+use Rattle.desk_lists.specs.declared.lines.DutyLine.{DutyLine}
+use Rattle.desk_lists.specs.declared.lines.ReleaseLine.{ReleaseLine}
+
+abbrev pub totals_cells : Totals → List (List ℕ)
+totals_cells totals =
+    decimal totals.raised ∷ decimal totals.still_open ∷ decimal totals.met ∷ decimal totals.waived ∷ decimal totals.withdrawn ∷ []
+
+abbrev pub release_names : List (List ℕ)
+release_names =
+    codes "name" ∷ codes "form" ∷ codes "state" ∷ codes "revision" ∷ codes "raised" ∷ codes "open" ∷ codes "met" ∷ codes "waived"
+    ∷ codes "withdrawn" ∷ []
+
+abbrev pub release_cells : ReleaseLine → List (List ℕ)
+release_cells line = line.name ∷ line.form ∷ line.state ∷ signed_decimal line.revision ∷ totals_cells line.duties
+
+abbrev pub release_table : List ReleaseLine → List (List (List ℕ))
+release_table lines = release_names ∷ map release_cells lines
+
+abbrev pub document_names : List (List ℕ)
+document_names = codes "number" ∷ codes "namespace" ∷ codes "packages" ∷ codes "shipped" ∷ codes "profile" ∷ []
+
+abbrev pub document_cells : DocumentLine → List (List ℕ)
+document_cells line =
+    signed_decimal line.number ∷ line.namespace ∷ decimal line.packages ∷ decimal line.shipped
+    ∷ option_map_or signed_decimal line.profile [] ∷ []
+
+abbrev pub document_table : List DocumentLine → List (List (List ℕ))
+document_table lines = document_names ∷ map document_cells lines
+
+abbrev pub duty_names : List (List ℕ)
+duty_names =
+    codes "number" ∷ codes "release" ∷ codes "document" ∷ codes "package" ∷ codes "name" ∷ codes "rule" ∷ codes "code" ∷ codes "state"
+    ∷ codes "raised" ∷ codes "since" ∷ codes "until" ∷ []
+
+-- what a duty is
+abbrev pub duty_subject : DutyLine → List (List ℕ)
+duty_subject line =
+    signed_decimal line.number ∷ line.release ∷ signed_decimal line.document ∷ line.package_id ∷ line.package_name ∷ line.rule ∷ line.code
+    ∷ []
+
+-- in which state it is, and since when
+abbrev pub duty_standing : DutyLine → List (List ℕ)
+duty_standing line = line.state ∷ line.raised ∷ line.changed ∷ unwrap_or line.last_day [] ∷ []
+
+unfoldable pub duty_cells : DutyLine → List (List ℕ)
+duty_cells line = duty_subject line ++ duty_standing line
+
+abbrev pub duty_table : List DutyLine → List (List (List ℕ))
+duty_table lines = duty_names ∷ map duty_cells lines

@@ -1,0 +1,162 @@
+//! Tables laid out in columns.
+
+ghost use Rattle.std.specs.Prelude.{◌≡◌, ◌++◌, ◌∷◌, [], ◌-◌, length, map, replicate, take, IfOk, OnOk};
+ghost use Rattle.std.specs.List.{flat_map};
+ghost use Rattle.desk_lists.specs.Columns.{columns_text, filled, row_line, shown, shown_byte, width, widened, widths};
+
+use desk_base::{Items, Text};
+use std::alloc::{AllocError, Global};
+use unicode_width::UnicodeWidthStr;
+
+/// How many blanks stand between two columns.
+const GAP: usize = 2;
+
+// A byte as a terminal is to show it.
+fn shown_byte(byte: u8) -> u8
+    ensures { result ≡ shown_byte byte }
+{
+    if byte < 32 || byte == 127 { b'?' } else { byte }
+}
+
+// How many columns of a terminal a text takes.
+fn width(text: &str) -> usize
+    ensures { result ≡ width text.now }
+{
+    text.width()
+}
+
+// The widths of texts.
+fn widths_of(alloc: Global, cells: &[Text]) -> Result<Vec<usize>, AllocError>
+    ensures { IfOk result (λ widths. widths.items ≡ map width cells.now) }
+{
+    let mut widths = Vec::new(alloc);
+    for cell in cells {
+        widths.push(width(cell.as_str()))?;
+    }
+    Ok(widths)
+}
+
+// Adds the widths of columns that have these cells besides.
+fn add_widened(found: &mut Vec<usize>, widths: &[usize], cells: &[Text]) -> Result<(), AllocError>
+    ensures { OnOk result (found.new.items ≡ found.old.items ++ widened widths.now cells.now) }
+{
+    match widths {
+        [] => Ok(()),
+        [known, widths @ ..] => match cells {
+            [] => Ok(()),
+            [cell, cells @ ..] => {
+                found.push((*known).max(width(cell.as_str())))?;
+                add_widened(found, widths, cells)
+            }
+        },
+    }
+}
+
+// The widths of columns that have the cells of a row besides.
+fn widened(alloc: Global, widths: &[usize], cells: &[Text]) -> Result<Vec<usize>, AllocError>
+    ensures { IfOk result (λ found. found.items ≡ widened widths.now cells.now) }
+{
+    let mut found = Vec::new(alloc);
+    add_widened(&mut found, widths, cells)?;
+    Ok(found)
+}
+
+// The width of each column before the last, by the columns' names.
+fn widths_of_front(alloc: Global, names: &[Text]) -> Result<Vec<usize>, AllocError>
+    ensures { IfOk result (λ found. found.items ≡ map width (take (length names.now - 1) names.now)) }
+{
+    let count = names.len().saturating_sub(1);
+    widths_of(alloc, &names[..count])
+}
+
+// The width of each column before the last.
+fn widths(alloc: Global, table: &[Items<Text>]) -> Result<Vec<usize>, AllocError>
+    ensures { IfOk result (λ found. found.items ≡ widths table.now) }
+{
+    match table {
+        [] => Ok(Vec::new(alloc)),
+        [names, rows @ ..] => {
+            let mut found = widths_of_front(alloc, names.as_slice())?;
+            for row in rows {
+                found = widened(alloc, found.as_slice(), row.as_slice())?;
+            }
+            Ok(found)
+        }
+    }
+}
+
+// Adds a text as a terminal is to show it.
+fn add_shown(text: &mut Vec<u8>, cell: &str) -> Result<(), AllocError>
+    ensures { OnOk result (text.new.items ≡ text.old.items ++ shown cell.now) }
+{
+    for byte in cell.as_bytes() {
+        text.push(shown_byte(*byte))?;
+    }
+    Ok(())
+}
+
+// Adds so many blanks.
+fn add_blanks(text: &mut Vec<u8>, count: usize) -> Result<(), AllocError>
+    ensures { OnOk result (text.new.items ≡ text.old.items ++ replicate count 32) }
+{
+    for _ in 0..count {
+        text.push(b' ')?;
+    }
+    Ok(())
+}
+
+// Adds a cell that is filled up to the width of its column.
+fn add_filled(text: &mut Vec<u8>, wide: usize, cell: &str) -> Result<(), AllocError>
+    ensures { OnOk result (text.new.items ≡ text.old.items ++ filled wide cell.now) }
+{
+    add_shown(text, cell)?;
+    add_blanks(text, wide.saturating_sub(width(cell)))?;
+    add_blanks(text, GAP)
+}
+
+// Adds cells that are not filled up.
+fn add_each_shown(text: &mut Vec<u8>, cells: &[Text]) -> Result<(), AllocError>
+    ensures { OnOk result (text.new.items ≡ text.old.items ++ flat_map shown cells.now) }
+{
+    for cell in cells {
+        add_shown(text, cell.as_str())?;
+    }
+    Ok(())
+}
+
+// Adds the last cells of a row, and its end.
+fn add_end(text: &mut Vec<u8>, cells: &[Text]) -> Result<(), AllocError>
+    ensures { OnOk result (text.new.items ≡ text.old.items ++ row_line [] cells.now) }
+{
+    add_each_shown(text, cells)?;
+    text.extend_from_slice(b"\n")
+}
+
+// Adds a row.
+fn add_row(text: &mut Vec<u8>, widths: &[usize], cells: &[Text]) -> Result<(), AllocError>
+    ensures { OnOk result (text.new.items ≡ text.old.items ++ row_line widths.now cells.now) }
+{
+    match widths {
+        [] => add_end(text, cells),
+        [wide, widths @ ..] => match cells {
+            [] => text.extend_from_slice(b"\n"),
+            [cell, cells @ ..] => {
+                add_filled(text, *wide, cell.as_str())?;
+                add_row(text, widths, cells)
+            }
+        },
+    }
+}
+
+/// A line for each row. Each column but the last is as wide as its widest text, and two blanks stand before the next.
+#[tactic(auto, unfolding(crate::specs::Columns::columns_text))]
+pub(crate) fn columns_text(alloc: Global, rows: &[Items<Text>]) -> Result<Vec<u8>, AllocError>
+    ensures { IfOk result (λ text. text.items ≡ columns_text rows.now) }
+{
+    let widths = widths(alloc, rows)?;
+    let mut text = Vec::new(alloc);
+    for row in rows {
+        add_row(&mut text, widths.as_slice(), row.as_slice())?;
+    }
+    Ok(text)
+}

@@ -1,0 +1,176 @@
+//! The list of duties.
+
+ghost use Rattle.std.specs.Prelude.{◌≡◌, find, map, reverse, IfOk, IsPermutation};
+ghost use Rattle.std.specs.List.Sorted.{IsSorted};
+ghost use Rattle.std.specs.Option.{option_copied};
+ghost use Rattle.desk_snapshot.specs.Changes.{last_day_at};
+ghost use Rattle.desk_snapshot.specs.Rows.{is_change_of};
+ghost use Rattle.desk_lists.specs.Duties.{changing_day, duty_line, is_asked, is_wanted, last_change, lines_wanted, package_name, raising_day, raising_order, waiver_end};
+
+use crate::lines::{DutyFilter, DutyLine};
+use desk_base::Text;
+use desk_model::DutyState;
+use desk_snapshot::{ByDuty, ById, ByStep, Snapshot, StoredChange, StoredDuty};
+use std::alloc::{AllocError, Global};
+use std::cmp::Ordering;
+
+// Whether a text is what is asked for, if anything is.
+fn is_asked(asked: Option<&str>, text: &str) -> bool
+    ensures { result ≡ is_asked (option_copied asked.entry) text.now }
+{
+    match asked {
+        Some(wanted) => text == wanted,
+        None => true,
+    }
+}
+
+// Whether a duty is asked for.
+fn is_wanted(wanted: &DutyFilter<'_>, row: &StoredDuty) -> bool
+    ensures { result ≡ is_wanted wanted.now row.now }
+{
+    is_asked(wanted.release, row.release.as_str())
+        && is_asked(wanted.code, row.code.as_str())
+        && (!wanted.still_open || row.state.as_str() == DutyState::IsOpen.name())
+}
+
+// The name of a package of a document.
+fn package_name<'a>(snapshot: &'a Snapshot, document: i64, id: &str) -> &'a str
+    ensures { result.now ≡ package_name snapshot.now document id.now }
+{
+    match snapshot.packages.find(&ById { document, id }) {
+        Some(package) => package.name.as_str(),
+        None => "",
+    }
+}
+
+// The day a duty was raised.
+fn raising_day(snapshot: &Snapshot, duty: i64) -> &str
+    ensures { result.now ≡ raising_day snapshot.now duty }
+{
+    match snapshot.changes.find(&ByStep { duty, step: 1 }) {
+        Some(change) => change.day.as_str(),
+        None => "",
+    }
+}
+
+// The last of these changes that is a duty's.
+fn last_within(rows: &[StoredChange], duty: i64) -> Option<&StoredChange>
+    ensures { option_copied result ≡ find (is_change_of duty) (reverse rows.now) }
+{
+    rows.iter().rev().find(|row| row.duty == duty)
+}
+
+// The last change of a duty.
+fn last_change(snapshot: &Snapshot, duty: i64) -> Option<&StoredChange>
+    ensures { option_copied result ≡ last_change snapshot.now duty }
+{
+    last_within(snapshot.changes.among(&ByDuty { duty }), duty)
+}
+
+// The day of a duty's last change.
+fn changing_day(snapshot: &Snapshot, duty: i64) -> &str
+    ensures { result.now ≡ changing_day snapshot.now duty }
+{
+    match last_change(snapshot, duty) {
+        Some(change) => change.day.as_str(),
+        None => "",
+    }
+}
+
+// The last day of a change, if that is a waiver that ends.
+fn last_day_at<'a>(snapshot: &'a Snapshot, change: &StoredChange) -> Option<&'a str>
+    ensures { option_copied result ≡ last_day_at snapshot.now change.now }
+{
+    let step = ByStep {
+        duty: change.duty,
+        step: change.step,
+    };
+    match snapshot.waiver.find(&step) {
+        Some(waiver) => Some(waiver.last_day.as_str()),
+        None => None,
+    }
+}
+
+// The last day of a duty's last change, if that is a waiver that ends.
+fn waiver_end(snapshot: &Snapshot, duty: i64) -> Option<&str>
+    ensures { option_copied result ≡ waiver_end snapshot.now duty }
+{
+    match last_change(snapshot, duty) {
+        Some(change) => last_day_at(snapshot, change),
+        None => None,
+    }
+}
+
+// A copy of a text, if there is one.
+fn copy_of(alloc: Global, text: Option<&str>) -> Result<Option<Text>, AllocError>
+    ensures { IfOk result (λ copy. copy ≡ option_copied text.entry) }
+{
+    match text {
+        Some(text) => Ok(Some(Text::of(alloc, text)?)),
+        None => Ok(None),
+    }
+}
+
+// The line of a duty.
+fn duty_line(alloc: Global, snapshot: &Snapshot, row: &StoredDuty) -> Result<DutyLine, AllocError>
+    ensures { IfOk result (λ line. line ≡ duty_line snapshot.now row.now) }
+{
+    let number = row.number;
+    let document = row.document;
+    let package_name = package_name(snapshot, document, row.package_id.as_str());
+    let raised = raising_day(snapshot, number);
+    let changed = changing_day(snapshot, number);
+    let last_day = waiver_end(snapshot, number);
+    Ok(DutyLine {
+        number,
+        release: row.release.clone()?,
+        document,
+        package_id: row.package_id.clone()?,
+        package_name: Text::of(alloc, package_name)?,
+        rule: row.rule.clone()?,
+        code: row.code.clone()?,
+        state: row.state.clone()?,
+        raised: Text::of(alloc, raised)?,
+        changed: Text::of(alloc, changed)?,
+        last_day: copy_of(alloc, last_day)?,
+    })
+}
+
+// The line of each duty that is asked for, in the order of the table.
+fn lines_in_turn(
+    alloc: Global,
+    snapshot: &Snapshot,
+    wanted: &DutyFilter<'_>,
+) -> Result<Vec<DutyLine>, AllocError>
+    ensures { IfOk result (λ lines. lines.items ≡ lines_wanted snapshot.now wanted.now) }
+{
+    let mut lines = Vec::new(alloc);
+    for row in snapshot.duty.as_slice() {
+        if is_wanted(wanted, row) {
+            lines.push(duty_line(alloc, snapshot, row)?)?;
+        }
+    }
+    Ok(lines)
+}
+
+// Which of two duties was raised first; of those raised on one day, which has the lower number.
+fn compare_raising(line: &DutyLine, other: &DutyLine) -> Ordering
+    ensures { result ≡ raising_order line.now other.now }
+{
+    let day = line.raised.as_str().cmp(other.raised.as_str());
+    day.then(line.number.cmp(&other.number))
+}
+
+/// The duties that are asked for, by the day they were raised, those of one day by number.
+pub fn duties(
+    alloc: Global,
+    snapshot: &Snapshot,
+    wanted: &DutyFilter<'_>,
+) -> Result<Vec<DutyLine>, AllocError>
+    ensures members { IfOk result (λ lines. IsPermutation (lines_wanted snapshot.now wanted.now) lines.items) }
+    ensures order { IfOk result (λ lines. IsSorted raising_order lines.items) }
+{
+    let mut lines = lines_in_turn(alloc, snapshot, wanted)?;
+    lines.sort_by(|line, other| compare_raising(line, other))?;
+    Ok(lines)
+}

@@ -1,0 +1,30 @@
+//! What a desk holds, as lists: its releases, its documents and its duties.
+//!
+//! The lists are functions of the tables as an audit reads them (`desk_snapshot`), and are given for any tables, sound or not.
+//!
+//! - `releases` has the releases in the order in which they were opened, with how many of their duties are in which state
+//!   (`specs/Releases.antt`).
+//! - `documents` has the documents by number, with how many packages each has and ships (`specs/Documents.antt`).
+//! - `duties` has the duties that a filter asks for, those that were raised first before the others (`specs/Duties.antt`).
+//!
+//! Each list is written as comma-separated values (`specs/CsvTable.antt`) or laid out in columns for a terminal
+//! (`specs/Columns.antt`). The cells of a line are the same in both (`specs/Cells.antt`). No memory left is the only error.
+#![tactic(auto)]
+
+mod cells;
+mod columns;
+mod document;
+mod duty;
+mod held;
+mod lines;
+mod release;
+mod table;
+mod texts;
+
+pub use document::documents;
+pub use duty::duties;
+pub use lines::{DocumentLine, DutyFilter, DutyLine, ReleaseLine};
+pub use release::releases;
+pub use texts::{
+    documents_columns, documents_csv, duties_columns, duties_csv, releases_columns, releases_csv,
+};
