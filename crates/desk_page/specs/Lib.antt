@@ -1,0 +1,5 @@
+pub mod Escapes
+pub mod Fixed
+pub mod Page
+pub mod Pieces
+pub mod Rows

@@ -1,0 +1,111 @@
+-- The rows of a page's tables.
+use Rattle.std.specs.Prelude.{ℕ, ◌-◌, ◌&&◌, Bool, List, [], ◌∷◌, ◌++◌, codes, count_by, filter, length, map, not, Option, Some, None, slice_get, unwrap_or, if◌then◌else◌}
+use Rattle.std.specs.List.{flat_map}
+use Rattle.std.specs.Option.{option_map_or}
+use Rattle.std.specs.Str.{bytes_eq, is_utf8}
+use Rattle.desk_model.specs.Names.{duty_state_name, word_name}
+use Rattle.desk_model.specs.declared.bill.BillLine.{BillLine}
+use Rattle.desk_model.specs.declared.command.DutyLine.{DutyLine}
+use Rattle.desk_model.specs.declared.command.Totals.{Totals}
+use Rattle.desk_model.specs.declared.row.ChangeRow.{ChangeRow}
+use Rattle.desk_page.specs.Pieces.{anchor_cell, bar_cell, framed, last_cell, link_cell, name_cell, number_cell, text_cell}
+
+-- ---- how many duties are in which state
+
+-- a name, a count, and a bar for its share of all duties
+unfoldable pub total_row : List ℕ → ℕ → ℕ → List ℕ
+total_row name count raised = name_cell name ++ number_cell count ++ bar_cell count raised
+
+unfoldable pub totals_rows : Totals → List ℕ
+totals_rows t = total_row (codes "Raised") t.raised t.raised ++ total_row (codes "Open") t.still_open t.raised
+    ++ total_row (codes "Met") t.met t.raised ++ total_row (codes "Waived") t.waived t.raised
+    ++ total_row (codes "Withdrawn") t.withdrawn t.raised
+
+-- ---- packages
+
+-- a licence that was chosen, as its rule spells it
+unfoldable pub rule_line : List ℕ → List ℕ
+rule_line rule = framed (codes "<div>") rule (codes "</div>")
+
+unfoldable pub rules_cell : List (List ℕ) → List ℕ
+rules_cell rules = codes "<td>" ++ flat_map rule_line rules ++ codes "</td>"
+
+-- its name, its version, its licences and its copyright
+unfoldable pub package_row : BillLine → List ℕ
+package_row line = name_cell line.name ++ text_cell (unwrap_or line.version []) ++ rules_cell line.rules
+    ++ last_cell (unwrap_or line.copyright (codes "none given"))
+
+-- ---- licences
+
+-- each once, in the order of first use
+abbrev pub first_uses : List (List ℕ) → List (List ℕ)
+first_uses [] = []
+first_uses (text ∷ texts) = text ∷ filter (λ other. not (bytes_eq text other)) (first_uses texts)
+
+-- the licences of duties
+unfoldable pub licences : List DutyLine → List (List ℕ)
+licences duties = first_uses (map (λ duty. duty.rule) duties)
+
+-- a duty of a licence
+abbrev pub is_of : List ℕ → DutyLine → Bool
+is_of licence duty = bytes_eq licence duty.rule
+
+-- a duty of a licence in a state
+abbrev pub is_in : List ℕ → List ℕ → DutyLine → Bool
+is_in licence state duty = is_of licence duty && bytes_eq state (duty_state_name duty.state)
+
+unfoldable pub raised_for : List ℕ → List DutyLine → ℕ
+raised_for licence duties = count_by (is_of licence) duties
+
+unfoldable pub standing : List ℕ → List ℕ → List DutyLine → ℕ
+standing licence state duties = count_by (is_in licence state) duties
+
+-- how many duties a licence has and how many are in which state, with a bar for those that are open
+unfoldable pub licence_row : List DutyLine → List ℕ → List ℕ
+licence_row duties licence =
+    name_cell licence ++ number_cell (raised_for licence duties) ++ number_cell (standing licence (codes "met") duties)
+    ++ number_cell (standing licence (codes "waived") duties) ++ number_cell (standing licence (codes "withdrawn") duties)
+    ++ number_cell (standing licence (codes "open") duties)
+    ++ bar_cell (standing licence (codes "open") duties) (raised_for licence duties)
+
+-- ---- duties
+
+-- A day as it is written: empty if there is none, which no recorded history gives for a duty, or if its bytes are no text, which no
+-- written day has.
+abbrev pub day_text : Option (List ℕ) → List ℕ
+day_text None = []
+day_text (Some day) = if is_utf8 day then day else []
+
+unfoldable pub duty_row : DutyLine → List ℕ
+duty_row duty =
+    anchor_cell duty.number ++ number_cell duty.document ++ text_cell duty.package_id ++ text_cell duty.rule ++ text_cell duty.code
+    ++ text_cell (duty_state_name duty.state) ++ last_cell (day_text duty.day)
+
+-- ---- waivers that end
+
+abbrev pub last_change : List ChangeRow → Option ChangeRow
+last_change changes = slice_get changes (length changes - 1)
+
+-- what becomes due again after a day, and why it was waived
+unfoldable pub ending_row : DutyLine → List ℕ → List ℕ → List ℕ
+ending_row duty day reason = link_cell duty.number ++ text_cell duty.rule ++ text_cell duty.code ++ text_cell (day_text (Some day)) ++ last_cell reason
+
+-- only a waiver has a last day
+abbrev pub waiver_row : DutyLine → ChangeRow → List ℕ
+waiver_row duty change = option_map_or (λ day. ending_row duty day change.body) change.last_day []
+
+-- a row for a duty whose last change is a waiver that ends
+unfoldable pub last_waiver : DutyLine → List ChangeRow → List ℕ
+last_waiver duty changes = option_map_or (waiver_row duty) (last_change changes) []
+
+-- for each duty with its changes
+abbrev pub waiver_rows : List DutyLine → List (List ChangeRow) → List ℕ
+waiver_rows [] changes = []
+waiver_rows (duty ∷ duties) [] = []
+waiver_rows (duty ∷ duties) (changes ∷ more) = last_waiver duty changes ++ waiver_rows duties more
+
+-- ---- changes
+
+unfoldable pub change_row : ChangeRow → List ℕ
+change_row change = link_cell change.duty ++ text_cell (day_text (Some change.day)) ++ text_cell (word_name change.word)
+    ++ text_cell (day_text change.last_day) ++ last_cell change.body

@@ -1,0 +1,22 @@
+//! The page of a frozen release, to be read and printed: one HTML file with no script, which asks for nothing from elsewhere.
+//!
+//! - `page` writes it of what the desk answers: the notices' bill, the totals, the duties and the changes of each. Its bytes are a
+//!   function of these (`specs/Page.antt`), made of rows (`specs/Rows.antt`), cells (`specs/Pieces.antt`) and fixed texts
+//!   (`specs/Fixed.antt`).
+//! - Each text is escaped (`specs/Escapes.antt`), and U+FFFD stands for a character that HTML doesn't allow.
+//!   `escaped_texts_are_inert` says that no text of the desk's can bring markup into the page.
+//!
+//! The lengths of bars are drawn by the numbers themselves (SVG), so that nothing is rounded. No memory left is the only error.
+#![tactic(auto)]
+
+mod duties;
+mod escape;
+mod fixed;
+mod html;
+mod licences;
+mod packages;
+mod piece;
+
+pub use duties::written_days_are_shown;
+pub use escape::escaped_texts_are_inert;
+pub use html::page;
