@@ -1,5 +1,5 @@
 -- The call that the words of a command line hold.
-use Rattle.std.specs.Prelude.{ℕ, ◌≡◌, ◌≢◌, ◌-◌, Bool, false, [], ◌∷◌, List, codes, if◌then◌else◌, Option, None, Some, option_map, option_and_then}
+use Rattle.std.specs.Prelude.{ℕ, ◌≡◌, ◌≢◌, ◌-◌, Bool, false, [], ◌∷◌, List, codes, if◌then◌else◌, Option, None, Some, option_map, option_and_then, is_some, ◌||◌}
 use Rattle.std.specs.Str.{bytes_eq}
 use Rattle.clap.specs.Words.{IsAmong, Kinds, Row, Text, all_of, fault_of, first_of, kind_of, one_of, subcommand_of}
 use Rattle.clap.specs.Kinds.{or_else}
@@ -11,8 +11,14 @@ use Rattle.desk_line.specs.Fields.{if_stands}
 use Rattle.desk_line.specs.Numbers.{number_written}
 use Rattle.desk_line.specs.Words.{desk_app}
 use Rattle.desk_line.specs.declared.call.Call.{Call}
-use Rattle.desk_line.specs.declared.call.Call.TheVariants.{Check, Alternatives, Script, File, Gather, Lint, Explain, Propose}
-use Rattle.desk_line.specs.declared.call.FileCall.TheVariants.{Import, Catalogue, Notices, Duties, Totals, Changes, Audit, Migrate, Serve}
+use Rattle.desk_line.specs.declared.call.Call.TheVariants.{Check, Alternatives, Script, File, Gather, Lint, Convert, Explain, Propose}
+use Rattle.desk_line.specs.declared.call.FileCall.TheVariants.{Import, Catalogue, Notices, Duties, Totals, Changes, Page, Wanting, Choices, Audit, Migrate, Serve}
+use Rattle.desk_line.specs.declared.call.FileCall.TheVariants as file
+use Rattle.desk_line.specs.declared.call.Listed.{Listed}
+use Rattle.desk_line.specs.declared.call.Listed.TheVariants as listed
+use Rattle.desk_line.specs.declared.lists.Filter.{Filter}
+use Rattle.desk_line.specs.declared.subcommands.Kind.{Kind}
+use Rattle.desk_line.specs.declared.subcommands.Kind.TheVariants as kind
 use Rattle.desk_line.specs.declared.reports.Release.{Release}
 use Rattle.desk_line.specs.declared.call.LineFault.{LineFault}
 use Rattle.desk_line.specs.declared.call.LineFault.TheVariants.{Memory, Usage}
@@ -111,26 +117,100 @@ abbrev pub propose_in : List Row → Option Call
 propose_in rows = option_and_then (λ document. option_and_then (λ number. option_map (λ profile. Propose document number profile)
     (profile_in rows)) (number_in 32 (codes "N") rows)) (first_of (codes "DOC") rows)
 
--- the call of a subcommand with these values
-abbrev pub call_in : Text → List Row → Option Call
-call_in name rows =
-    if bytes_eq name (codes "check") then check_in rows
-    else if bytes_eq name (codes "alternatives") then alternatives_in rows
-    else if bytes_eq name (codes "script") then Some (script_in rows)
-    else if bytes_eq name (codes "import") then import_in rows
-    else if bytes_eq name (codes "catalogue") then catalogue_in rows
-    else if bytes_eq name (codes "notices") then notices_in rows
-    else if bytes_eq name (codes "duties") then duties_in rows
-    else if bytes_eq name (codes "totals") then totals_in rows
-    else if bytes_eq name (codes "changes") then changes_in rows
-    else if bytes_eq name (codes "audit") then audit_in rows
-    else if bytes_eq name (codes "migrate") then migrate_in rows
-    else if bytes_eq name (codes "gather") then gather_in rows
-    else if bytes_eq name (codes "lint") then lint_in rows
-    else if bytes_eq name (codes "serve") then serve_in rows
-    else if bytes_eq name (codes "explain") then explain_in rows
-    else if bytes_eq name (codes "propose") then propose_in rows
+-- the calls of those that prepare a freeze
+abbrev pub choices_in : List Row → Option Call
+choices_in rows = option_map (λ found. File found.database (Choices found.release)) (release_in rows)
+
+abbrev pub wanting_in : List Row → Option Call
+wanting_in rows = option_map (λ found. File found.database (Wanting found.release)) (release_in rows)
+
+-- which duties are listed
+abbrev pub filter_in : List Row → Filter
+filter_in rows = record {
+  release = first_of (codes "RELEASE") rows;
+  code = first_of (codes "CODE") rows;
+  is_open = is_true (first_of (codes "OPEN") rows);
+}
+
+abbrev pub has_filter : Filter → Bool
+has_filter filter = is_some filter.release || (is_some filter.code || filter.is_open)
+
+-- what a word says is listed: a filter goes with duties alone
+abbrev pub listed_as : Text → Filter → Option Listed
+listed_as what filter =
+    if bytes_eq what (codes "duties") then Some (listed.Duties filter.release filter.code filter.is_open)
+    else if has_filter filter then None
+    else if bytes_eq what (codes "releases") then Some listed.Releases
+    else if bytes_eq what (codes "documents") then Some listed.Documents
     else None
+
+abbrev pub listed_in : List Row → Option Listed
+listed_in rows = option_and_then (λ what. listed_as what (filter_in rows)) (first_of (codes "WHAT") rows)
+
+-- the call of `list` with these values
+abbrev pub list_in : List Row → Option Call
+list_in rows = option_and_then (λ list. option_map (λ database. File database (file.List list)) (first_of (codes "FILE") rows)) (listed_in rows)
+
+-- the call of `page` with these values
+abbrev pub page_in : List Row → Option Call
+page_in rows = option_map (λ found. File found.database (Page found.release)) (release_in rows)
+
+-- the call of `convert` with these values
+abbrev pub convert_in : List Row → Option Call
+convert_in rows = option_map Convert (first_of (codes "JSON") rows)
+
+-- which subcommand has a name
+abbrev pub kind_at : Text → Option Kind
+kind_at name =
+    if bytes_eq name (codes "check") then Some kind.Check
+    else if bytes_eq name (codes "alternatives") then Some kind.Alternatives
+    else if bytes_eq name (codes "script") then Some kind.Script
+    else if bytes_eq name (codes "import") then Some kind.Import
+    else if bytes_eq name (codes "catalogue") then Some kind.Catalogue
+    else if bytes_eq name (codes "notices") then Some kind.Notices
+    else if bytes_eq name (codes "duties") then Some kind.Duties
+    else if bytes_eq name (codes "totals") then Some kind.Totals
+    else if bytes_eq name (codes "changes") then Some kind.Changes
+    else if bytes_eq name (codes "audit") then Some kind.Audit
+    else if bytes_eq name (codes "migrate") then Some kind.Migrate
+    else if bytes_eq name (codes "gather") then Some kind.Gather
+    else if bytes_eq name (codes "lint") then Some kind.Lint
+    else if bytes_eq name (codes "serve") then Some kind.Serve
+    else if bytes_eq name (codes "explain") then Some kind.Explain
+    else if bytes_eq name (codes "propose") then Some kind.Propose
+    else if bytes_eq name (codes "choices") then Some kind.Choices
+    else if bytes_eq name (codes "wanting") then Some kind.Wanting
+    else if bytes_eq name (codes "list") then Some kind.List
+    else if bytes_eq name (codes "page") then Some kind.Page
+    else if bytes_eq name (codes "convert") then Some kind.Convert
+    else None
+
+-- the call of a subcommand with these values
+abbrev pub call_by : Kind → List Row → Option Call
+call_by kind.Check rows = check_in rows
+call_by kind.Alternatives rows = alternatives_in rows
+call_by kind.Script rows = Some (script_in rows)
+call_by kind.Import rows = import_in rows
+call_by kind.Catalogue rows = catalogue_in rows
+call_by kind.Notices rows = notices_in rows
+call_by kind.Duties rows = duties_in rows
+call_by kind.Totals rows = totals_in rows
+call_by kind.Changes rows = changes_in rows
+call_by kind.Audit rows = audit_in rows
+call_by kind.Migrate rows = migrate_in rows
+call_by kind.Gather rows = gather_in rows
+call_by kind.Lint rows = lint_in rows
+call_by kind.Serve rows = serve_in rows
+call_by kind.Explain rows = explain_in rows
+call_by kind.Propose rows = propose_in rows
+call_by kind.Choices rows = choices_in rows
+call_by kind.Wanting rows = wanting_in rows
+call_by kind.List rows = list_in rows
+call_by kind.Page rows = page_in rows
+call_by kind.Convert rows = convert_in rows
+
+abbrev pub call_in : Text → List Row → Option Call
+call_in name rows = option_and_then (λ kind. call_by kind rows) (kind_at name)
 
 -- the call of the subcommand that was met, if any
 abbrev pub call_at : Option (Text × List Row) → Option Call

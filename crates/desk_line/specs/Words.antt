@@ -149,5 +149,29 @@ abbrev pub propose_app : App
 propose_app = with_rule numbered_app (word (codes "DOC"))
 
 -- and with the one that proposes conclusions
+abbrev pub proposing_app : App
+proposing_app = with_subcommand explaining_app propose_app.top
+
+-- and with those that prepare a freeze
+abbrev pub freezing_app : App
+freezing_app = with_subcommand (with_subcommand proposing_app (release_app (codes "choices")).top) (release_app (codes "wanting")).top
+
+-- `list --db FILE [--release RELEASE] [--code CODE] [--open] WHAT`
+abbrev pub filtered_app : App
+filtered_app = with_rule (with_rule (with_rule (new_app (codes "list")) database_option)
+    (optional (codes "RELEASE") (codes "release"))) (optional (codes "CODE") (codes "code"))
+
+abbrev pub list_app : App
+list_app = with_rule (with_rule filtered_app (flag (codes "OPEN") (codes "open"))) (word (codes "WHAT"))
+
+-- and with those that show what a desk holds
+abbrev pub showing_app : App
+showing_app = with_subcommand (with_subcommand freezing_app list_app.top) (release_app (codes "page")).top
+
+-- `convert JSON`
+abbrev pub convert_app : App
+convert_app = with_rule (new_app (codes "convert")) (word (codes "JSON"))
+
+-- and with the one that converts a document
 abbrev pub desk_app : App
-desk_app = with_subcommand explaining_app propose_app.top
+desk_app = with_subcommand showing_app convert_app.top

@@ -44,6 +44,10 @@ pub enum Call {
         folder: Text,
         json: bool,
     },
+    /// The tag-value document that says what an SPDX document in JSON says, the file of which has this path.
+    Convert {
+        document: Text,
+    },
     /// What a name that the desk prints means.
     Explain {
         name: Text,
@@ -72,12 +76,33 @@ pub enum FileCall {
     Totals { release: Text },
     /// The changes of a duty.
     Changes { duty: u32 },
+    /// A page on a release, its duties and its notices.
+    Page { release: Text },
+    /// All that stands in the way of a freeze of a release.
+    Wanting { release: Text },
+    /// The choices of a release where there is only one.
+    Choices { release: Text },
+    /// What the desk holds.
+    List { list: Listed },
     /// The audit of its tables.
     Audit,
     /// The migration of a file of an older version to this one's tables.
     Migrate,
     /// Replies over HTTP, at a port of this machine's own address, to so many connections. Port 0 is one that is free.
     Serve { port: u16, limit: u32 },
+}
+
+/// What of a desk is listed.
+#[derive(Drop)]
+pub enum Listed {
+    Releases,
+    Documents,
+    /// The duties, or those of a release, with a code, or that are open.
+    Duties {
+        release: Option<Text>,
+        code: Option<Text>,
+        is_open: bool,
+    },
 }
 
 /// Why a command line gave no call.

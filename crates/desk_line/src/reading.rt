@@ -16,6 +16,9 @@ const NO_SUBCOMMAND: &str = "a subcommand is wanted";
 const NO_FIELD: &str = "a value of --name, --namespace or --created cannot stand in its field: it \
 has a line feed or a blank at an end, or begins with <text>";
 
+const NO_LIST: &str = "WHAT is releases, documents or duties; --release, --code and --open go with \
+duties";
+
 const NO_PROFILE: &str = "the value of --profile is 1 or 2";
 
 impl From<AllocError> for LineFault {
@@ -44,6 +47,7 @@ fn lacking(matches: &ArgMatches<'_>) -> (ErrorKind, &'static str)
 {
     match matches.subcommand() {
         Some((name, _)) if name == "gather" => (ErrorKind::InvalidValue, NO_FIELD),
+        Some((name, _)) if name == "list" => (ErrorKind::InvalidValue, NO_LIST),
         Some(_) => (ErrorKind::InvalidValue, NO_PROFILE),
         None => (ErrorKind::MissingSubcommand, NO_SUBCOMMAND),
     }

@@ -2,7 +2,7 @@
 
 ghost use Rattle.std.specs.Prelude.{◌≡◌, IfOk, codes, option_map};
 ghost use Rattle.clap.specs.Words.{found_of, rows_of};
-ghost use Rattle.desk_line.specs.Calls.{changes_in, duties_in, notices_in, number_in, release_in, totals_in};
+ghost use Rattle.desk_line.specs.Calls.{changes_in, duties_in, notices_in, number_in, page_in, release_in, totals_in};
 
 use crate::arguments::{Argument, DATABASE, Form};
 use crate::call::{Call, FileCall};
@@ -49,6 +49,14 @@ Lists the changes of a duty
 A line for each: its step, its day, what was done, until and the last day of a waiver that ends, and the
 text that was recorded with it.";
 
+const PAGE: &str = "Writes a page on a release, to be looked at and printed";
+
+const LONG_PAGE: &str = "\
+Writes a page on a release, to be looked at and printed
+
+One file of HTML with no script and nothing from elsewhere: what RELEASE ships and by which licences, its
+duties by licence and by state, waivers that end, the changes of each duty, and the notices.";
+
 const AFTER_HELP: &str = "\
 If the desk refuses, one line of JSON says why. A FILE that keeps no desk of this version is left as it
 is, and one line says so:
@@ -62,6 +70,7 @@ Examples:
   desk duties --db desk.db r1 >duties.csv
   desk totals --db desk.db r1
   desk changes --db desk.db 1
+  desk page --db desk.db r1 >r1.html
 
 Statuses:
   0  it was written
@@ -97,6 +106,13 @@ pub(crate) const CHANGES_HELP: Help = Help {
     after_help: AFTER_HELP,
 };
 
+/// The help of `page`.
+pub(crate) const PAGE_HELP: Help = Help {
+    about: PAGE,
+    long_about: LONG_PAGE,
+    after_help: AFTER_HELP,
+};
+
 /// The arguments of those that are about a release.
 pub(crate) const RELEASE_ARGUMENTS: [Argument; 2] = [
     DATABASE,
@@ -120,11 +136,15 @@ pub(crate) const DUTY_ARGUMENTS: [Argument; 2] = [
 /// The file that keeps the desk, and a release.
 #[derive(Drop)]
 pub(crate) struct Release {
-    database: Text,
-    release: Text,
+    pub(crate) database: Text,
+    pub(crate) release: Text,
 }
 
-fn release_in(alloc: Global, matches: &ArgMatches<'_>) -> Result<Option<Release>, AllocError>
+/// The file and the release of these matches, or `None` where they lack one.
+pub(crate) fn release_in(
+    alloc: Global,
+    matches: &ArgMatches<'_>,
+) -> Result<Option<Release>, AllocError>
     ensures { IfOk result (λ r. r ≡ release_in (rows_of (found_of matches.now))) }
 {
     let Some(database) = text_in(matches, "FILE") else {
@@ -188,6 +208,19 @@ pub(crate) fn totals_from(
         Some(Release { database, release }) => Ok(Some(Call::File {
             database,
             call: FileCall::Totals { release },
+        })),
+        None => Ok(None),
+    }
+}
+
+/// The call of `page` with the values of these matches, or `None` where they lack one.
+pub(crate) fn page_from(alloc: Global, matches: &ArgMatches<'_>) -> Result<Option<Call>, AllocError>
+    ensures { IfOk result (λ r. r ≡ page_in (rows_of (found_of matches.now))) }
+{
+    match release_in(alloc, matches)? {
+        Some(Release { database, release }) => Ok(Some(Call::File {
+            database,
+            call: FileCall::Page { release },
         })),
         None => Ok(None),
     }

@@ -155,8 +155,8 @@ pub(crate) const ARGUMENTS: [Argument; 3] = [
     },
 ];
 
-// A copy of a text, if there is one.
-fn copied_text(alloc: Global, text: Option<&str>) -> Result<Option<Text>, AllocError>
+/// A copy of a text, if there is one.
+pub(crate) fn copied_text(alloc: Global, text: Option<&str>) -> Result<Option<Text>, AllocError>
     ensures { IfOk result (λ copy. copy ≡ option_map (λ s. s.now) text.entry) }
 {
     match text {

@@ -4,13 +4,14 @@ ghost use Rattle.std.specs.Prelude.{◌≡◌, IfOk, false, map};
 ghost use Rattle.std.specs.List.{All};
 ghost use Rattle.clap.specs.Words.{app_of, new_app, shape_of};
 ghost use Rattle.clap.specs.declared.builder.command.Command.TheViews.{out-Command};
+ghost use Rattle.desk_line.specs.Calls.{kind_at};
 ghost use Rattle.desk_line.specs.Rows.{kind_named, row_app, row_shape};
 ghost use Rattle.desk_line.specs.Words.{desk_alone, desk_app};
 
 use crate::arguments::{Argument, args};
 use crate::{
-    alternatives, audit, catalogue, check, explain, gather, import, lint, migrate, propose,
-    reports, script, serve,
+    alternatives, audit, catalogue, check, convert, explain, freezing, gather, import, lint, lists,
+    migrate, propose, reports, script, serve,
 };
 use clap::Command;
 use std::alloc::{AllocError, Global};
@@ -45,6 +46,11 @@ pub(crate) enum Kind {
     Serve,
     Explain,
     Propose,
+    Choices,
+    Wanting,
+    List,
+    Page,
+    Convert,
 }
 
 /// A subcommand: its name and its arguments.
@@ -56,7 +62,7 @@ pub(crate) struct Subcommand {
 }
 
 /// The subcommands.
-pub(crate) const SUBCOMMANDS: [Subcommand; 16] = [
+pub(crate) const SUBCOMMANDS: [Subcommand; 21] = [
     Subcommand {
         kind: Kind::Check,
         name: "check",
@@ -137,6 +143,31 @@ pub(crate) const SUBCOMMANDS: [Subcommand; 16] = [
         name: "propose",
         arguments: &propose::ARGUMENTS,
     },
+    Subcommand {
+        kind: Kind::Choices,
+        name: "choices",
+        arguments: &reports::RELEASE_ARGUMENTS,
+    },
+    Subcommand {
+        kind: Kind::Wanting,
+        name: "wanting",
+        arguments: &reports::RELEASE_ARGUMENTS,
+    },
+    Subcommand {
+        kind: Kind::List,
+        name: "list",
+        arguments: &lists::ARGUMENTS,
+    },
+    Subcommand {
+        kind: Kind::Page,
+        name: "page",
+        arguments: &reports::RELEASE_ARGUMENTS,
+    },
+    Subcommand {
+        kind: Kind::Convert,
+        name: "convert",
+        arguments: &convert::ARGUMENTS,
+    },
 ];
 
 /// The help of a subcommand.
@@ -165,11 +196,16 @@ fn help_of(kind: Kind) -> Help {
         Kind::Serve => serve::HELP,
         Kind::Explain => explain::HELP,
         Kind::Propose => propose::HELP,
+        Kind::Choices => freezing::CHOICES_HELP,
+        Kind::Wanting => freezing::WANTING_HELP,
+        Kind::List => lists::HELP,
+        Kind::Page => reports::PAGE_HELP,
+        Kind::Convert => convert::HELP,
     }
 }
 
-/// The subcommand of a name, if it is one.
-pub(crate) fn kind_named(name: &str, rows: &[Subcommand]) -> Option<Kind>
+/// The kind of the row with a name, if there is one.
+fn kind_named(name: &str, rows: &[Subcommand]) -> Option<Kind>
     ensures { result ≡ kind_named name.now rows.now }
 {
     for row in rows {
@@ -178,6 +214,13 @@ pub(crate) fn kind_named(name: &str, rows: &[Subcommand]) -> Option<Kind>
         }
     }
     None
+}
+
+/// The subcommand with a name, if there is one.
+pub(crate) fn kind_at(name: &str) -> Option<Kind>
+    ensures { result ≡ kind_at name.now }
+{
+    kind_named(name, &SUBCOMMANDS)
 }
 
 /// A command with a name and its help, and nothing else.

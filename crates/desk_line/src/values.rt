@@ -9,16 +9,19 @@ use crate::audit::audit_from;
 use crate::call::Call;
 use crate::catalogue::catalogue_from;
 use crate::check::check_from;
+use crate::convert::convert_from;
 use crate::explain::explain_from;
+use crate::freezing::{choices_from, wanting_from};
 use crate::gather::gather_from;
 use crate::import::import_from;
 use crate::lint::lint_from;
+use crate::lists::list_from;
 use crate::migrate::migrate_from;
 use crate::propose::propose_from;
-use crate::reports::{changes_from, duties_from, notices_from, totals_from};
+use crate::reports::{changes_from, duties_from, notices_from, page_from, totals_from};
 use crate::script::script_from;
 use crate::serve::serve_from;
-use crate::subcommands::{Kind, SUBCOMMANDS, kind_named};
+use crate::subcommands::{Kind, kind_at};
 use clap::ArgMatches;
 use desk_base::{Items, Profile, Text};
 use std::alloc::{AllocError, Global};
@@ -87,7 +90,7 @@ pub fn call_from(
 ) -> Result<Option<Call>, AllocError>
     ensures { IfOk result (λ r. r ≡ call_in name.now (rows_of (found_of matches.now))) }
 {
-    match kind_named(name, &SUBCOMMANDS) {
+    match kind_at(name) {
         Some(Kind::Check) => check_from(alloc, matches),
         Some(Kind::Alternatives) => alternatives_from(alloc, matches),
         Some(Kind::Script) => Ok(Some(script_from(alloc, matches)?)),
@@ -104,6 +107,11 @@ pub fn call_from(
         Some(Kind::Serve) => serve_from(alloc, matches),
         Some(Kind::Explain) => explain_from(alloc, matches),
         Some(Kind::Propose) => propose_from(alloc, matches),
+        Some(Kind::Choices) => choices_from(alloc, matches),
+        Some(Kind::Wanting) => wanting_from(alloc, matches),
+        Some(Kind::List) => list_from(alloc, matches),
+        Some(Kind::Page) => page_from(alloc, matches),
+        Some(Kind::Convert) => convert_from(alloc, matches),
         None => Ok(None),
     }
 }

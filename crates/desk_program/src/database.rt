@@ -6,24 +6,26 @@ use crate::differences::{Difference, first_difference};
 use crate::input::{bytes_at, require_file};
 use crate::scripts::{self, Course};
 use crate::trouble::{trouble_at, trouble_of};
-use crate::{serving, summaries};
+use crate::{looking, serving, summaries};
 use desk_base::{Items, Profile, Text};
-use desk_core::Desk;
+use desk_line::Listed;
 use desk_model::Query;
 use desk_store::{AdoptFault, CreateFault, MigrateFault, SqlDesk, audit_connection};
 use desk_subcommands::{
-    Failure, NoDesk, Trouble, catalogue, refuse_catalogue, refuse_database, show, tell_migration,
-    tell_report, text_of,
+    Failure, NoDesk, Teller, Trouble, catalogue, document_of, refuse_catalogue, refuse_conversion,
+    refuse_database, tell_migration, tell_report, text_of,
 };
+use desk_views::{page, show};
 use sqlite::{Alter, Connection};
 use sqlite_disk::{Disk, Unknown};
 use sqlite_store::FileStore;
 use std::alloc::Global;
 use std::io::{self, BufWriter, IsTerminal, Write};
+use std::rt::Stderr;
 
 /// What a desk in a file is to do.
 #[derive(Drop)]
-enum Task {
+enum Task<'a> {
     /// It replies to the requests of standard input.
     Script { course: Course },
     /// It imports a document.
@@ -32,19 +34,27 @@ enum Task {
     Load { text: Text },
     /// It writes the text of an answer.
     Show { query: Query },
+    /// It writes a list of what it holds.
+    List { list: &'a Listed },
+    /// It writes a page on a release.
+    Page { release: &'a Text },
+    /// It writes the choices that leave nothing to choose.
+    Choices { release: &'a Text },
+    /// It writes what stands in the way of a freeze.
+    Wanting { release: &'a Text },
     /// It serves so many connections over HTTP.
     Serve { port: u16, limit: u32 },
 }
 
 /// What is to be done with a file.
 #[derive(Drop)]
-enum Work {
+enum Work<'a> {
     /// Its tables are audited.
     Audit,
     /// Its tables become those of this version.
     Migrate,
     /// The desk that it keeps does a task.
-    Do(Task),
+    Do(Task<'a>),
 }
 
 // Why a file can't keep a desk.
@@ -149,24 +159,39 @@ fn close<D: Disk + Drop>(
     }
 }
 
+// One who tells on standard error why a request is refused, where that is watched.
+fn teller(rt: &HostRuntime) -> Teller<Stderr> {
+    let stderr = rt.stderr();
+    let is_told = stderr.is_terminal();
+    Teller::new(rt.alloc(), stderr, is_told)
+}
+
 // Has a desk do a task, and returns the program's status.
-fn done<D: Desk, W: Write>(
+fn done<S: Alter + Drop, W: Write>(
     rt: &HostRuntime,
-    desk: &mut D,
-    task: Task,
+    desk: &mut SqlDesk<S>,
+    task: Task<'_>,
     writer: &mut W,
 ) -> Result<u8, Failure> {
     let alloc = rt.alloc();
     match task {
         Task::Script { course } => scripts::script(rt, desk, writer, course),
         Task::Import { bytes, profile } => {
-            desk_subcommands::import(alloc, desk, bytes, profile, writer)
+            desk_subcommands::import(alloc, desk, bytes, profile, writer, &mut teller(rt))
         }
-        Task::Load { text } => catalogue(alloc, desk, text, writer),
+        Task::Load { text } => catalogue(alloc, desk, text, writer, &mut teller(rt)),
         Task::Show { query } => {
             // (a pipe and a file get comma-separated values)
             let in_columns = rt.stdout().is_terminal();
-            show(alloc, desk, &query, in_columns, writer)
+            show(alloc, desk, &query, in_columns, writer, &mut teller(rt))
+        }
+        Task::List { list } => looking::list(rt, desk, list, writer),
+        Task::Page { release } => page(alloc, desk, release, writer, &mut teller(rt)),
+        Task::Choices { release } => {
+            looking::choices(rt, desk, release, writer, &mut teller(rt))
+        }
+        Task::Wanting { release } => {
+            looking::wanting(rt, desk, release, writer, &mut teller(rt))
         }
         Task::Serve { port, limit } => serving::serve(rt, alloc, desk, port, limit),
     }
@@ -177,7 +202,7 @@ fn do_over<D: Disk + Drop, W: Write>(
     rt: &HostRuntime,
     conn: Connection<FileStore<D>>,
     path: &str,
-    task: Task,
+    task: Task<'_>,
     writer: &mut W,
 ) -> Result<u8, Failure>
     requires { conn.in_transaction ≡ false }
@@ -272,7 +297,7 @@ fn work_over<D: Disk + Drop, W: Write>(
     rt: &HostRuntime,
     conn: Connection<FileStore<D>>,
     path: &str,
-    work: Work,
+    work: Work<'_>,
     writer: &mut W,
 ) -> Result<u8, Failure>
     requires { conn.in_transaction ≡ false }
@@ -286,7 +311,7 @@ fn work_over<D: Disk + Drop, W: Write>(
 
 // Does what is to be done with a file. Of the disk it is supposed that a sector whose write has begun is finished, so each commit is synced
 // once. No other function names the connection to a file: each that does costs the gate a minute.
-fn work_in(rt: &HostRuntime, path: &str, work: Work) -> Result<u8, Failure> {
+fn work_in(rt: &HostRuntime, path: &str, work: Work<'_>) -> Result<u8, Failure> {
     let mut writer = BufWriter::new(rt.alloc(), io::writer(rt))?;
     match Connection::open_from(rt, path, false, Unknown) {
         Ok(conn) => work_over(rt, conn, path, work, &mut writer),
@@ -295,7 +320,7 @@ fn work_in(rt: &HostRuntime, path: &str, work: Work) -> Result<u8, Failure> {
 }
 
 // Has the desk in a file do a task.
-fn do_in(rt: &HostRuntime, path: &str, task: Task) -> Result<u8, Failure> {
+fn do_in(rt: &HostRuntime, path: &str, task: Task<'_>) -> Result<u8, Failure> {
     work_in(rt, path, Work::Do(task))
 }
 
@@ -322,8 +347,12 @@ pub fn import(
     document: &str,
     profile: Profile,
 ) -> Result<u8, Failure> {
-    let bytes = bytes_at(rt, document)?;
-    let summary = summaries::summary(rt.alloc(), bytes.as_slice(), profile);
+    let alloc = rt.alloc();
+    let bytes = match document_of(alloc, bytes_at(rt, document)?) {
+        Ok(bytes) => bytes,
+        Err(fault) => return refuse_conversion(alloc, fault, &mut io::writer(rt)),
+    };
+    let summary = summaries::summary(alloc, bytes.as_slice(), profile);
     let bytes = Items::from_vec(bytes);
     let status = do_in(rt, path, Task::Import { bytes, profile })?;
     if status == 0 {
@@ -338,7 +367,7 @@ pub fn load(rt: &HostRuntime, path: &str, catalogue: &str) -> Result<u8, Failure
     let bytes = bytes_at(rt, catalogue)?;
     match text_of(alloc, bytes.as_slice())? {
         Some(text) => do_in(rt, path, Task::Load { text }),
-        None => refuse_catalogue(alloc, &mut io::writer(rt)),
+        None => refuse_catalogue(alloc, &mut io::writer(rt), &mut teller(rt)),
     }
 }
 
@@ -388,6 +417,26 @@ pub fn changes(rt: &HostRuntime, path: &str, duty: u32) -> Result<u8, Failure> {
             query: Query::Changes { duty },
         },
     )
+}
+
+/// Writes a list of what the desk holds that a file keeps.
+pub fn list(rt: &HostRuntime, path: &str, list: &Listed) -> Result<u8, Failure> {
+    do_in(rt, path, Task::List { list })
+}
+
+/// Writes a page on a release of the desk that a file keeps.
+pub fn page_of(rt: &HostRuntime, path: &str, release: &Text) -> Result<u8, Failure> {
+    do_in(rt, path, Task::Page { release })
+}
+
+/// Writes the choices that leave nothing to choose, of a release of the desk that a file keeps.
+pub fn choices(rt: &HostRuntime, path: &str, release: &Text) -> Result<u8, Failure> {
+    do_in(rt, path, Task::Choices { release })
+}
+
+/// Writes what stands in the way of a freeze of a release of the desk that a file keeps.
+pub fn wanting(rt: &HostRuntime, path: &str, release: &Text) -> Result<u8, Failure> {
+    do_in(rt, path, Task::Wanting { release })
 }
 
 /// Serves so many connections over HTTP by the desk that a file keeps.

@@ -8,6 +8,7 @@
 mod database;
 mod differences;
 mod input;
+mod looking;
 mod scripts;
 mod serving;
 mod summaries;
@@ -156,6 +157,17 @@ fn lint(
     desk_subcommands::lint(alloc, files.as_slice(), json, &mut io::writer(rt))
 }
 
+/// Writes the tag-value document that says what an SPDX document in JSON says.
+fn convert(rt: &HostRuntime, path: &str) -> Result<u8, Failure> {
+    let bytes = bytes_at(rt, path)?;
+    desk_subcommands::convert(
+        rt.alloc(),
+        bytes.as_slice(),
+        &mut io::writer(rt),
+        &mut rt.stderr(),
+    )
+}
+
 /// Writes what a name means.
 fn explain<R: Print>(rt: &R, alloc: Global, name: &str) -> Result<u8, Failure> {
     desk_subcommands::explain(alloc, &TABLES, name, &mut io::writer(rt))
@@ -186,6 +198,10 @@ fn answer_of_file(rt: &HostRuntime, path: &str, call: &FileCall) -> Result<u8, F
         FileCall::Duties { release } => database::duties(rt, path, release),
         FileCall::Totals { release } => database::totals(rt, path, release),
         FileCall::Changes { duty } => database::changes(rt, path, *duty),
+        FileCall::List { list } => database::list(rt, path, list),
+        FileCall::Page { release } => database::page_of(rt, path, release),
+        FileCall::Choices { release } => database::choices(rt, path, release),
+        FileCall::Wanting { release } => database::wanting(rt, path, release),
         FileCall::Audit => database::audit(rt, path),
         FileCall::Migrate => database::migrate(rt, path),
         FileCall::Serve { port, limit } => database::serve(rt, path, *port, *limit),
@@ -222,6 +238,7 @@ fn answer(rt: &HostRuntime, alloc: Global, call: &Call, is_watched: bool) -> Res
             created,
         } => gather(rt, folder, name, namespace, created, is_watched),
         Call::Lint { folder, json } => lint(rt, alloc, folder.as_str(), *json, is_watched),
+        Call::Convert { document } => convert(rt, document.as_str()),
         Call::Explain { name } => explain(rt, alloc, name.as_str()),
         Call::Propose {
             document,

@@ -3,3 +3,4 @@ mod Bodies
 mod Audited
 mod Vetted
 mod Migrated
+mod FoundRows

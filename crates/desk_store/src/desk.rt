@@ -51,7 +51,7 @@ const NO_ROWS: Counts = Counts {
 /// A desk whose rows stand in a database, and that reads texts by their standards.
 #[derive(Drop)]
 pub struct SqlDesk<S: Alter> {
-    desk: TableDesk<Standard, SqlStore<S>>,
+    pub(crate) desk: TableDesk<Standard, SqlStore<S>>,
 }
 
 impl<S: Alter> SqlDesk<S> {

@@ -7,7 +7,7 @@
 //! a database where nothing stands; `adopt_connection` takes a database that holds a desk's tables as the desk with those rows; both
 //! hand the connection back where they don't. `audit_connection` tells whether the tables are such as a desk's are, which `adopt_connection`
 //! asks first (`specs/Auditing.antt`). `into_connection` gives back a desk's connection. What each tells and leaves, also for a
-//! stop of the program, is said in `specs/Adopting.antt`.
+//! stop of the program, is said in `specs/Adopting.antt`. `snapshot`, `wanting` and `idle_documents` are what is looked at beside the answers.
 #![tactic(auto)]
 
 mod adopt;
@@ -15,6 +15,7 @@ mod audit;
 mod counts;
 mod desk;
 mod fault;
+mod looking;
 mod migrate;
 mod store;
 

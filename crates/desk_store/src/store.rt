@@ -5,13 +5,14 @@ ghost use Rattle.std.specs.List.{list_any};
 ghost use Rattle.std.specs.Str.{bytes_eq};
 ghost use Rattle.sqlite_trees.specs.Tree.{Trees};
 ghost use Rattle.sqlite.specs.Held.{state};
-ghost use Rattle.desk_model.specs.Tables.{Tables, applied};
+ghost use Rattle.desk_model.specs.Tables.{Tables, applied, tables};
 ghost use Rattle.desk_access.specs.Seen.{Looked, OfRows};
 ghost use Rattle.desk_history.specs.Laws.{Ascends};
 ghost use Rattle.desk_core.specs.Desks.{InHistory};
 ghost use Rattle.desk_sql_layout.specs.Held.{Stands, known_of, seen_of};
 ghost use Rattle.desk_model.specs.Keys.{release_below};
 ghost use Rattle.desk_tally.specs.Kept.{AreKept, Fits, IsPlaceFor, LeadsTo};
+ghost use Rattle.desk_snapshot.specs.Tables.{snapshot_of};
 ghost use Rattle.desk_store.specs.Auditing.{IsAudit};
 ghost use Rattle.desk_store.specs.Counting.{forms_after, known_by, tallied};
 ghost use Rattle.desk_texts.specs.Right.{AreRight};
@@ -24,7 +25,7 @@ use desk_model::{
     AttachedRow, Change, ChangeRow, DutyRow, Fault, FrozenRow, PackageRow, Profile, ReleaseRow,
     Rule, Standing, StoreFault, Totals,
 };
-use desk_snapshot::AuditReport;
+use desk_snapshot::{AuditReport, Snapshot};
 use desk_tally::{Step, Tallies};
 use sqlite::{Alter, Connection};
 use std::alloc::Global;
@@ -96,6 +97,19 @@ impl<S: Alter> SqlStore<S> {
             (⟦<SqlStore<S> as Store>⟧.seen self.new) result }
     {
         audit_connection(self.alloc, &mut self.conn)
+    }
+
+    /// All rows of the tables, as `desk_sql_scan::snapshot` reads them. The store is as it was.
+    pub fn snapshot(&mut self) -> Result<Snapshot, Fault>
+        ensures found { IfOk result (λ snapshot. InHistory AreRight (λ w h.
+            snapshot ≡ snapshot_of (tables w h)) (⟦<SqlStore<S> as Store>⟧.seen self.old)
+            (⟦<SqlStore<S> as Store>⟧.seen self.new)) }
+        ensures kept { Looked (⟦<SqlStore<S> as Store>⟧.seen self.old)
+            (⟦<SqlStore<S> as Store>⟧.seen self.new) result }
+    {
+        desk_history::listed_tables_are_sorted();
+        desk_texts_laws::right_readings_list_in_order();
+        desk_sql_scan::snapshot(self.alloc, &mut self.conn)
     }
 
     /// Keeps the forms of a catalogue that was loaded.

@@ -3,4 +3,4 @@ pub mod WriterLemmas
 pub mod OneAnswer
 pub mod ListingLemmas
 pub mod FilingLemmas
-pub mod ShowingLemmas
+pub mod ConvertingLemmas

@@ -5,8 +5,8 @@ pub mod Gathering
 pub mod Linting
 pub mod Filing
 pub mod Troubles
-pub mod Showing
 pub mod Auditing
+pub mod Converting
 pub mod Migrating
 pub mod Meaning
 pub mod Proposing

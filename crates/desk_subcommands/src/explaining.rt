@@ -3,9 +3,10 @@
 ghost use Rattle.std.specs.Prelude.{◌≡◌};
 
 use crate::failure::Failure;
+use crate::teller::words_of;
 use desk_model::{Answer, Outcome};
 use desk_script::{Reply, Watch};
-use desk_words::{RefusalWords, RequestTrouble, request_trouble};
+use desk_words::{RequestTrouble, request_trouble};
 use std::alloc::{AllocError, Global};
 use std::io::Write;
 
@@ -90,14 +91,10 @@ impl<E: Write> Explainer<E> {
                 )?)),
                 None => Ok(Some(format!(in alloc; "line {line}: no request\n")?)),
             },
-            Reply::Became(Outcome::Failed(fault)) => {
-                Ok(Some(format!(in alloc; "line {line}: the request failed: {fault}\n")?))
-            }
-            Reply::Became(Outcome::Answered(Answer::Refused(refusal))) => {
-                let words = RefusalWords::of(refusal);
-                Ok(Some(format!(in alloc; "line {line}: {words}\n")?))
-            }
-            Reply::Became(Outcome::Answered(_)) => Ok(None),
+            Reply::Became(outcome) => match words_of(alloc, outcome)? {
+                Some(words) => Ok(Some(format!(in alloc; "line {line}: {words}\n")?)),
+                None => Ok(None),
+            },
         }
     }
 

@@ -11,6 +11,7 @@ ghost use Rattle.desk_subcommands.specs.Failures.{IfMemory, IsOfOutput, OfReques
 ghost use Rattle.desk_subcommands.specs.Filing.{answer_status, Comes, HasFailed, IsAnswered, IsUntold, no_desk_line, no_desk_name, no_text, outcome_line};
 
 use crate::failure::Failure;
+use crate::teller::Teller;
 use desk_base::{Items, Text};
 use desk_core::desk::Desk;
 use desk_json::{memory_line, reply_line};
@@ -61,6 +62,17 @@ pub(crate) fn write_line<W: Write>(writer: &mut W, text: &str) -> Result<(), Fai
     Ok(())
 }
 
+/// Writes a text whole.
+pub fn write_text<W: Write>(writer: &mut W, text: &[u8]) -> Result<(), Failure>
+    ensures ok { OnOk result (Appends (W.contents writer.old) (W.contents writer.new) text.now) }
+    ensures err { IfErr result IsOfOutput }
+    ensures memory { IfErr result (IfMemory (Keeps (W.contents writer.old) (W.contents writer.new))) }
+{
+    writer.write_all(text)?;
+    writer.flush()?;
+    Ok(())
+}
+
 // Writes the reply to an outcome as a line. That memory was wanting is told without taking memory.
 fn write_reply<W: Write>(alloc: Global, outcome: &Outcome, writer: &mut W) -> Result<(), Failure>
     ensures ok { OnOk result (Appends (W.contents writer.old) (W.contents writer.new)
@@ -77,12 +89,8 @@ fn write_reply<W: Write>(alloc: Global, outcome: &Outcome, writer: &mut W) -> Re
     }
 }
 
-// Writes the reply to an outcome as a line, and answers the status.
-pub(crate) fn tell<W: Write>(
-    alloc: Global,
-    outcome: &Outcome,
-    writer: &mut W,
-) -> Result<u8, Failure>
+/// Writes the reply to an outcome as a line, and answers the program's status. If the desk failed, the reply says so and so does the failure.
+pub fn tell<W: Write>(alloc: Global, outcome: &Outcome, writer: &mut W) -> Result<u8, Failure>
     ensures done { IfOk result (λ status. (answer : Answer) × (outcome.now ≡ Answered answer)
         × Appends (W.contents writer.old) (W.contents writer.new) (outcome_line (Answered answer)) × (status ≡ answer_status answer)) }
     ensures failed { IfErr result (OfRequest
@@ -113,12 +121,13 @@ fn loaded<D: Desk>(desk: &mut D, text: Text) -> Outcome
 
 /// Has a desk import a document, as the request `import` does, writes the reply as a line, and answers the program's status. Where the
 /// desk fails, the reply tells it and so does the failure. Where the reply can't be written, what the desk did stands.
-pub fn import<D: Desk, W: Write>(
+pub fn import<D: Desk, W: Write, E: Write>(
     alloc: Global,
     desk: &mut D,
     bytes: Items<u8>,
     profile: Profile,
     writer: &mut W,
+    teller: &mut Teller<E>,
 ) -> Result<u8, Failure>
     ensures done { IfOk result (IsAnswered D.are_right D.tells D.stands (Import bytes profile) (D.seen desk.old) (D.seen desk.new)
         (W.contents writer.old) (W.contents writer.new)) }
@@ -128,16 +137,19 @@ pub fn import<D: Desk, W: Write>(
     ensures memory { IfErr result (IfMemory (Keeps (W.contents writer.old) (W.contents writer.new))) }
 {
     let outcome = imported(desk, bytes, profile);
-    tell(alloc, &outcome, writer)
+    let told = tell(alloc, &outcome, writer);
+    teller.explain(&outcome);
+    told
 }
 
 /// Has a desk load a catalogue, as the request `catalogue` does, writes the reply as a line, and answers the program's status. Where the
 /// desk fails, the reply tells it and so does the failure. Where the reply can't be written, what the desk did stands.
-pub fn catalogue<D: Desk, W: Write>(
+pub fn catalogue<D: Desk, W: Write, E: Write>(
     alloc: Global,
     desk: &mut D,
     text: Text,
     writer: &mut W,
+    teller: &mut Teller<E>,
 ) -> Result<u8, Failure>
     ensures done { IfOk result (IsAnswered D.are_right D.tells D.stands (LoadCatalogue text) (D.seen desk.old) (D.seen desk.new)
         (W.contents writer.old) (W.contents writer.new)) }
@@ -147,7 +159,9 @@ pub fn catalogue<D: Desk, W: Write>(
     ensures memory { IfErr result (IfMemory (Keeps (W.contents writer.old) (W.contents writer.new))) }
 {
     let outcome = loaded(desk, text);
-    tell(alloc, &outcome, writer)
+    let told = tell(alloc, &outcome, writer);
+    teller.explain(&outcome);
+    told
 }
 
 /// The text that bytes are, or none where they are no UTF-8.
@@ -162,14 +176,22 @@ pub fn text_of(alloc: Global, bytes: &[u8]) -> Result<Option<Text>, AllocError>
 }
 
 /// Writes the reply to the loading of a catalogue that is no text: it is refused as no TOML document. It answers the program's status.
-pub fn refuse_catalogue<W: Write>(alloc: Global, writer: &mut W) -> Result<u8, Failure>
+pub fn refuse_catalogue<W: Write, E: Write>(
+    alloc: Global,
+    writer: &mut W,
+    teller: &mut Teller<E>,
+) -> Result<u8, Failure>
     ensures told { IfOk result (λ status. (status ≡ 1)
         × Appends (W.contents writer.old) (W.contents writer.new) (outcome_line no_text)) }
     ensures fails { IfErr result IsOfOutput }
     ensures memory { IfErr result (IfMemory (Keeps (W.contents writer.old) (W.contents writer.new))) }
 {
-    let refusal = Refusal::BadCatalogue(CatalogueFault::NotToml);
-    tell(alloc, &Outcome::Answered(Answer::Refused(refusal)), writer)
+    let outcome = Outcome::Answered(Answer::Refused(Refusal::BadCatalogue(
+        CatalogueFault::NotToml,
+    )));
+    let told = tell(alloc, &outcome, writer);
+    teller.explain(&outcome);
+    told
 }
 
 // The line that tells why a file keeps no desk, without its end.

@@ -9,7 +9,8 @@
 //! lists in order, `listings_are_all_minimal_sets` that its alternatives are all minimal sets and `cheapest_sets_are_least` that none costs less than its cheapest.
 //!
 //! The reading is put together from what decides each part: each text spells a term or none (`desk_catalogue`), a tree or none,
-//! and each choice has a verdict (`desk_expr_laws`); each tree has one listing and one cheapest set or none (`desk_expr_laws`); all bytes spell a document or have a fault (`desk_document_laws`).
+//! each choice has a verdict, and each tree one listing and one cheapest set or none (`desk_expr_laws`); all bytes spell a document or have
+//! a fault (`desk_document_laws`).
 #![tactic(auto)]
 
 mod laws;

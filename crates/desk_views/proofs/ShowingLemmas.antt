@@ -9,7 +9,7 @@ use Rattle.desk_model.specs.declared.command.Answer.TheVariants as answer
 use Rattle.desk_model.specs.declared.command.Outcome.{Outcome}
 use Rattle.desk_model.specs.declared.command.Outcome.TheVariants as outcome_is
 use Rattle.desk_subcommands.specs.Filing.{answer_status, outcome_line}
-use Rattle.desk_subcommands.specs.Showing.{answer_text, outcome_text, shown}
+use Rattle.desk_views.specs.Showing.{answer_text, outcome_text, shown}
 use Rattle.desk_subcommands.specs.declared.failure.Failure.{Failure}
 
 -- only a refusal has another status than 0, and it has no text

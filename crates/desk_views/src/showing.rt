@@ -1,6 +1,6 @@
 //! The texts that an office hands out: the notices of a release, the table of its duties, their totals, and the changes of a duty.
 
-ghost use Rattle.std.specs.Prelude.{◌≡◌, IfOk, IfErr, OnOk, option_map, if◌then◌else◌};
+ghost use Rattle.std.specs.Prelude.{◌≡◌, IfOk, IfErr, option_map, if◌then◌else◌};
 ghost use Rattle.std.specs.Io.KnownBytes.{Appends, Keeps};
 ghost use Rattle.desk_report.specs.Columns.{columns_text};
 ghost use Rattle.desk_report.specs.CsvTable.{table_text};
@@ -9,13 +9,12 @@ ghost use Rattle.desk_model.specs.declared.command.Answer.{Answer};
 ghost use Rattle.desk_model.specs.declared.command.Outcome.TheVariants.{Answered, Failed};
 ghost use Rattle.desk_subcommands.specs.Failures.{IfMemory, IsOfOutput, OfRequest};
 ghost use Rattle.desk_subcommands.specs.Filing.{answer_status, outcome_line};
-ghost use Rattle.desk_subcommands.specs.Showing.{answer_text, Asks, HasFailed, IsShown, IsUntold, outcome_text, shown};
+ghost use Rattle.desk_views.specs.Showing.{answer_text, Asks, HasFailed, IsShown, IsUntold, outcome_text, shown};
 
-use crate::failure::Failure;
-use crate::filing::tell;
 use desk_core::desk::Desk;
 use desk_model::{Answer, DutyLine, Outcome, Query, Totals};
 use desk_report::{changes_text, duties_columns, duties_csv, notices, totals_text};
+use desk_subcommands::{Failure, Teller, tell, write_text};
 use std::alloc::{AllocError, Global};
 use std::io::Write;
 
@@ -66,16 +65,6 @@ fn outcome_text(
     }
 }
 
-fn write_text<W: Write>(writer: &mut W, text: &[u8]) -> Result<(), Failure>
-    ensures ok { OnOk result (Appends (W.contents writer.old) (W.contents writer.new) text.now) }
-    ensures err { IfErr result IsOfOutput }
-    ensures memory { IfErr result (IfMemory (Keeps (W.contents writer.old) (W.contents writer.new))) }
-{
-    writer.write_all(text)?;
-    writer.flush()?;
-    Ok(())
-}
-
 // Writes what an outcome is shown as, and returns the status.
 fn write_outcome<W: Write>(
     alloc: Global,
@@ -108,12 +97,13 @@ fn asked<D: Desk>(desk: &mut D, query: &Query) -> Outcome
 /// Asks a desk a question and writes the text of its answer: the notices of a bill, the table of duties, in columns if that is wanted,
 /// the line of totals, the lines of changes; any other answer, a refusal among them, is written as the line of its reply. It returns
 /// the program's status. If the desk fails, the reply says so and so does the failure. The desk is as it was.
-pub fn show<D: Desk, W: Write>(
+pub fn show<D: Desk, W: Write, E: Write>(
     alloc: Global,
     desk: &mut D,
     query: &Query,
     in_columns: bool,
     writer: &mut W,
+    teller: &mut Teller<E>,
 ) -> Result<u8, Failure>
     ensures done { IfOk result (IsShown D.are_right D.tells D.stands query.now (D.seen desk.old) (D.seen desk.new) in_columns
         (W.contents writer.old) (W.contents writer.new)) }
@@ -123,5 +113,7 @@ pub fn show<D: Desk, W: Write>(
     ensures memory { IfErr result (IfMemory (Keeps (W.contents writer.old) (W.contents writer.new))) }
 {
     let outcome = asked(desk, query);
-    write_outcome(alloc, &outcome, in_columns, writer)
+    let told = write_outcome(alloc, &outcome, in_columns, writer);
+    teller.explain(&outcome);
+    told
 }

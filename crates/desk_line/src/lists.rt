@@ -1,0 +1,158 @@
+//! The subcommand that lists what a desk holds.
+
+ghost use Rattle.std.specs.Prelude.{◌≡◌, IfOk, codes, option_map};
+ghost use Rattle.clap.specs.Words.{found_of, rows_of};
+ghost use Rattle.desk_line.specs.Calls.{filter_in, has_filter, list_in, listed_as, listed_in};
+
+use crate::arguments::{Argument, DATABASE, Form};
+use crate::call::{Call, FileCall, Listed};
+use crate::script::copied_text;
+use crate::subcommands::Help;
+use crate::values::{is_true, text_in};
+use clap::ArgMatches;
+use desk_base::Text;
+use std::alloc::{AllocError, Global};
+
+const ABOUT: &str = "Lists the releases, documents or duties of a desk";
+
+const LONG_ABOUT: &str = "\
+Lists the releases, documents or duties of a desk
+
+WHAT is one of:
+
+  releases   in the order of their opening, with how many duties of each are in which state:
+             name,form,state,revision,raised,open,met,waived,withdrawn
+  documents  by number, with how many packages each has and how many of them ship:
+             number,namespace,packages,shipped,profile
+  duties     of all releases, the one that was raised first at the top:
+             number,release,document,package,name,rule,code,state,raised,since,until
+
+Comma-separated values (RFC 4180), with a line of the columns' names. On a terminal the same table stands
+in columns. since is the day of the last change, until the last day of a waiver that ends.
+
+--release, --code and --open go with duties: those of a release, with a code, in the state open.";
+
+const AFTER_HELP: &str = "\
+A FILE that keeps no desk of this version is left as it is, and one line says so, as with duties.
+
+Examples:
+  desk list --db desk.db releases
+  desk list --db desk.db duties --open
+  desk list --db desk.db duties --release r1 --code give-notice >duties.csv
+
+Statuses:
+  0  it was written
+  1  FILE keeps no such desk
+  2  the command line is wrong
+  3  no memory, or a file or stream failed";
+
+/// The help of the subcommand.
+pub(crate) const HELP: Help = Help {
+    about: ABOUT,
+    long_about: LONG_ABOUT,
+    after_help: AFTER_HELP,
+};
+
+/// Its arguments.
+pub(crate) const ARGUMENTS: [Argument; 5] = [
+    DATABASE,
+    Argument {
+        name: "RELEASE",
+        form: Form::Optional { long: "release" },
+        help: "The release whose duties are listed",
+    },
+    Argument {
+        name: "CODE",
+        form: Form::Optional { long: "code" },
+        help: "The code of the duties that are listed",
+    },
+    Argument {
+        name: "OPEN",
+        form: Form::Flag { long: "open" },
+        help: "Lists the duties that are open alone",
+    },
+    Argument {
+        name: "WHAT",
+        form: Form::Word,
+        help: "releases, documents or duties",
+    },
+];
+
+/// Which duties are listed.
+#[derive(Drop)]
+pub(crate) struct Filter {
+    release: Option<Text>,
+    code: Option<Text>,
+    is_open: bool,
+}
+
+fn filter_in(alloc: Global, matches: &ArgMatches<'_>) -> Result<Filter, AllocError>
+    ensures { IfOk result (λ filter. filter ≡ filter_in (rows_of (found_of matches.now))) }
+{
+    Ok(Filter {
+        release: copied_text(alloc, text_in(matches, "RELEASE"))?,
+        code: copied_text(alloc, text_in(matches, "CODE"))?,
+        is_open: is_true(text_in(matches, "OPEN")),
+    })
+}
+
+fn has_filter(filter: &Filter) -> bool
+    ensures { result ≡ has_filter filter.now }
+{
+    filter.release.is_some() || filter.code.is_some() || filter.is_open
+}
+
+/// What a word says is listed: a filter goes with duties alone.
+fn listed_as(what: &str, filter: Filter) -> Option<Listed>
+    ensures { result ≡ listed_as what.now filter }
+{
+    if what == "duties" {
+        let Filter {
+            release,
+            code,
+            is_open,
+        } = filter;
+        return Some(Listed::Duties {
+            release,
+            code,
+            is_open,
+        });
+    }
+    if has_filter(&filter) {
+        return None;
+    }
+    if what == "releases" {
+        return Some(Listed::Releases);
+    }
+    if what == "documents" {
+        return Some(Listed::Documents);
+    }
+    None
+}
+
+fn listed_in(alloc: Global, matches: &ArgMatches<'_>) -> Result<Option<Listed>, AllocError>
+    ensures { IfOk result (λ r. r ≡ listed_in (rows_of (found_of matches.now))) }
+{
+    let filter = filter_in(alloc, matches)?;
+    match text_in(matches, "WHAT") {
+        Some(what) => Ok(listed_as(what, filter)),
+        None => Ok(None),
+    }
+}
+
+/// The call with the values of these matches, or `None` where they lack one, or one is none that it may have.
+pub(crate) fn list_from(alloc: Global, matches: &ArgMatches<'_>) -> Result<Option<Call>, AllocError>
+    ensures { IfOk result (λ r. r ≡ list_in (rows_of (found_of matches.now))) }
+{
+    let Some(list) = listed_in(alloc, matches)? else {
+        return Ok(None);
+    };
+    let Some(database) = text_in(matches, "FILE") else {
+        return Ok(None);
+    };
+    let database = Text::of(alloc, database)?;
+    Ok(Some(Call::File {
+        database,
+        call: FileCall::List { list },
+    }))
+}

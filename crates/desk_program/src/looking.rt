@@ -1,0 +1,118 @@
+//! What is looked at in the desk of a file: lists of what it holds, what stands in the way of a freeze, and choices that leave nothing to
+//! choose.
+
+use desk_base::Text;
+use desk_line::Listed;
+use desk_lists::DutyFilter;
+use desk_model::{Answer, Fault, Outcome, Refusal};
+use desk_snapshot::Snapshot;
+use desk_store::SqlDesk;
+use desk_subcommands::{Failure, Teller, tell};
+use desk_views::{tell_wanting, write_choices, write_documents, write_duties, write_releases};
+use sqlite::Alter;
+use std::alloc::Global;
+use std::io::{IsTerminal, Write};
+
+// Replies that the desk failed.
+fn failed<W: Write>(alloc: Global, fault: Fault, writer: &mut W) -> Result<u8, Failure> {
+    tell(alloc, &Outcome::Failed(fault), writer)
+}
+
+// Writes a list of these rows.
+fn write_list<W: Write>(
+    rt: &HostRuntime,
+    snapshot: &Snapshot,
+    list: &Listed,
+    writer: &mut W,
+) -> Result<u8, Failure> {
+    let alloc = rt.alloc();
+    let in_columns = rt.stdout().is_terminal();
+    match list {
+        Listed::Releases => write_releases(alloc, snapshot, in_columns, writer),
+        Listed::Documents => write_documents(alloc, snapshot, in_columns, writer),
+        Listed::Duties {
+            release,
+            code,
+            is_open,
+        } => {
+            let wanted = DutyFilter {
+                release: release.as_ref().map(|release| release.as_str()),
+                code: code.as_ref().map(|code| code.as_str()),
+                still_open: *is_open,
+            };
+            write_duties(alloc, snapshot, &wanted, in_columns, writer)
+        }
+    }
+}
+
+/// Writes a list of what a desk holds.
+pub fn list<S: Alter, W: Write>(
+    rt: &HostRuntime,
+    desk: &mut SqlDesk<S>,
+    list: &Listed,
+    writer: &mut W,
+) -> Result<u8, Failure> {
+    match desk.snapshot() {
+        Ok(snapshot) => write_list(rt, &snapshot, list, writer),
+        Err(fault) => failed(rt.alloc(), fault, writer),
+    }
+}
+
+// Replies that it is refused, and tells why.
+fn refused<W: Write, E: Write>(
+    alloc: Global,
+    refusal: Refusal,
+    writer: &mut W,
+    teller: &mut Teller<E>,
+) -> Result<u8, Failure> {
+    let outcome = Outcome::Answered(Answer::Refused(refusal));
+    let told = tell(alloc, &outcome, writer);
+    teller.explain(&outcome);
+    told
+}
+
+/// Writes the choices of a release that leave nothing to choose.
+pub fn choices<S: Alter, W: Write, E: Write>(
+    rt: &HostRuntime,
+    desk: &mut SqlDesk<S>,
+    release: &Text,
+    writer: &mut W,
+    teller: &mut Teller<E>,
+) -> Result<u8, Failure> {
+    let alloc = rt.alloc();
+    match desk.sole_choices(alloc, release) {
+        Ok(Ok(choices)) => write_choices(alloc, release, choices.as_slice(), writer),
+        Ok(Err(refusal)) => refused(alloc, refusal, writer, teller),
+        Err(fault) => failed(alloc, fault, writer),
+    }
+}
+
+// Tells which documents ship no package.
+fn tell_idle(rt: &HostRuntime, numbers: &[u32]) {
+    for number in numbers {
+        // Where standard error fails, the refusals are written all the same.
+        let _told = eprintln!(rt; "document {number} ships no package, and raises no duty");
+    }
+}
+
+/// Writes all that stands in the way of a freeze of a release, and tells on standard error which of its documents ship no package.
+pub fn wanting<S: Alter, W: Write, E: Write>(
+    rt: &HostRuntime,
+    desk: &mut SqlDesk<S>,
+    release: &Text,
+    writer: &mut W,
+    teller: &mut Teller<E>,
+) -> Result<u8, Failure> {
+    let alloc = rt.alloc();
+    let refusals = match desk.wanting(alloc, release) {
+        Ok(refusals) => refusals,
+        Err(fault) => return failed(alloc, fault, writer),
+    };
+    let idle = match desk.idle_documents(alloc, release) {
+        Ok(numbers) => numbers,
+        Err(fault) => return failed(alloc, fault, writer),
+    };
+    let status = tell_wanting(alloc, refusals, writer, teller)?;
+    tell_idle(rt, idle.as_slice());
+    Ok(status)
+}

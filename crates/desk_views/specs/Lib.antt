@@ -1,0 +1,4 @@
+pub mod Showing
+pub mod Listing
+pub mod Wanting
+pub mod Paging

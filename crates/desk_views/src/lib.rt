@@ -1,0 +1,23 @@
+//! What an office looks at in a desk, written out: the texts of its answers, lists of what it holds, what stands in the way of a freeze.
+//!
+//! Each function is handed what it writes of and a writer, and answers the program's status, as those of `desk_subcommands` do.
+//!
+//! - `show` writes the text of an answer: notices, the table of duties, totals, changes (`specs/Showing.antt`).
+//! - `write_releases`, `write_documents` and `write_duties` write lists of `desk_lists` as comma-separated values or in columns
+//!   (`specs/Listing.antt`).
+//! - `page` writes a page on a release (`specs/Paging.antt`).
+//! - `write_choices` writes choices as the requests that make them.
+//! - `tell_wanting` writes the refusals that stand in the way of a freeze, a line each (`specs/Wanting.antt`).
+#![tactic(auto)]
+
+mod choosing;
+mod listing;
+mod paging;
+mod showing;
+mod wanting;
+
+pub use choosing::write_choices;
+pub use listing::{write_documents, write_duties, write_releases};
+pub use paging::page;
+pub use showing::show;
+pub use wanting::tell_wanting;
