@@ -6,9 +6,10 @@ use Rattle.desk_subcommands.proofs.converting.convert.Goals as goal
 
 pub returns-in_ok-write_text-in-Ok-clause-told : goal.returns-in_ok-write_text-in-Ok-clause-told
 returns-in_ok-write_text-in-Ok-clause-told g c = (
-    string_bytes c.in-Ok.converted.text,
-    inl (c.in-Ok.converted, c.in-Ok.ensures.ok, refl, refl),
-    subst (Appends (g.W.Write.contents c.args.writer.now) (g.W.Write.contents c.write_text.new.writer)) c.as_bytes.ensures.value c.in_ok-write_text-in-Ok.ensures.ok)
+  string_bytes c.in-Ok.converted.text,
+  inl (c.in-Ok.converted, c.in-Ok.ensures.ok, refl, refl),
+  subst (Appends (g.W.Write.contents c.args.writer.now) (g.W.Write.contents c.write_text.new.writer)) c.as_bytes.ensures.value c.in_ok-write_text-in-Ok.ensures.ok,
+)
 
 pub returns-in-Err-clause-told : goal.returns-in-Err-clause-told
 returns-in-Err-clause-told g c =
