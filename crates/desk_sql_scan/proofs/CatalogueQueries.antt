@@ -36,7 +36,7 @@ use Rattle.desk_sql_scan.specs.Cells.{columns_of, stored_meta_cells, stored_cata
 use Rattle.desk_sql_scan.specs.Orders.{meta_order, catalogue_order, rule_order}
 use Rattle.desk_sql_scan.specs.Scans.{IsScan, IsShown, IsRead}
 use Rattle.desk_sql_scan.proofs.Telling.{told}
-use Rattle.desk_sql_scan.proofs.Scanning.{scanned, is_held}
+use Rattle.desk_sql_scan.proofs.Scanning.{itself, sorted_by, scanned, is_held}
 use Rattle.desk_sql_scan.proofs.Values.{number_in, text_in}
 use Rattle.desk_sql_scan.proofs.Rising.{numbers_rise, rules_rise}
 
@@ -86,7 +86,7 @@ meta_scans : (db : Database) (shown : List Row) (rows : List StoredMeta)
 meta_scans db shown rows reads are =
     let this = d.meta_table in
     scanned this.name 0 this.columns this.key this.primary this.uniques this.orders meta_text meta_names
-    meta_columns (0 ∷ []) meta_key 1 meta_is (λ r. refl) (λ r. refl) db shown reads stored_meta_cells meta_order
+    meta_columns (0 ∷ []) (order_by (0 ∷ [])) refl meta_key 1 meta_is (λ r. refl) (λ r. refl) db shown reads stored_meta_cells meta_order
     meta_agrees rows are
 
 meta_found : (db : Database) (shown : List Row) (rows : List StoredMeta)
@@ -96,7 +96,7 @@ meta_found : (db : Database) (shown : List Row) (rows : List StoredMeta)
 meta_found db shown rows reads are t holds =
     let this = d.meta_table in
     is_held this.name 0 this.columns this.key this.primary this.uniques this.orders meta_text meta_names
-    meta_columns (0 ∷ []) meta_key 1 meta_is (λ r. refl) (λ r. refl) db shown reads stored_meta_cells meta_order
+    meta_columns (0 ∷ []) (order_by (0 ∷ [])) refl meta_key 1 meta_is (λ r. refl) (λ r. refl) db shown reads stored_meta_cells meta_order
     meta_agrees rows are
     (by_rowid this.name 0 this.columns this.key this.primary this.uniques this.orders 0 refl
     stored_meta_cells (rows_of t) (record { version = pos 3 } ∷ []) refl db holds.rows)
@@ -164,7 +164,7 @@ catalogue_scans : (db : Database) (shown : List Row) (rows : List StoredCatalogu
 catalogue_scans db shown rows reads are =
     let this = d.catalogue_table in
     scanned this.name 1 this.columns this.key this.primary this.uniques this.orders catalogue_text
-    catalogue_names catalogue_columns (0 ∷ []) catalogue_key 2 catalogue_is (λ r. refl) (λ r. refl) db shown
+    catalogue_names catalogue_columns (0 ∷ []) (order_by (0 ∷ [])) refl catalogue_key 2 catalogue_is (λ r. refl) (λ r. refl) db shown
     reads stored_catalogue_cells catalogue_order catalogue_agrees rows are
 
 catalogue_found : (db : Database) (shown : List Row) (rows : List StoredCatalogue)
@@ -174,7 +174,7 @@ catalogue_found : (db : Database) (shown : List Row) (rows : List StoredCatalogu
 catalogue_found db shown rows reads are t holds =
     let this = d.catalogue_table in
     is_held this.name 1 this.columns this.key this.primary this.uniques this.orders catalogue_text
-    catalogue_names catalogue_columns (0 ∷ []) catalogue_key 2 catalogue_is (λ r. refl) (λ r. refl) db shown
+    catalogue_names catalogue_columns (0 ∷ []) (order_by (0 ∷ [])) refl catalogue_key 2 catalogue_is (λ r. refl) (λ r. refl) db shown
     reads stored_catalogue_cells catalogue_order catalogue_agrees rows are
     (by_rowid this.name 1 this.columns this.key this.primary this.uniques this.orders 1 refl
     (λ x. stored_catalogue_cells (catalogue_stored x)) (rows_of t) t.catalogue refl db holds.rows)
@@ -197,7 +197,7 @@ catalogue_read old new r read shown =
 -- ---- rule
 
 abbrev pub rule_text : List ℕ
-rule_text = codes "SELECT revision, term, form, spelled, codes FROM rule ORDER BY revision, term, form"
+rule_text = codes "SELECT revision, term, form, spelled, codes FROM rule ORDER BY +revision, term, form"
 
 rule_bare : (schema : Schema) (base : ℕ) → and_then (first rule_text) (λ p. returning schema base p.statement) ≡ Ok None
 unfolding first returning everything
@@ -217,7 +217,7 @@ abbrev rule_names : List (List ℕ)
 rule_names = codes "revision" ∷ codes "term" ∷ codes "form" ∷ codes "spelled" ∷ codes "codes" ∷ []
 
 rule_is : command_of (understood d.desk_schema rule_text) ≡ Select
-    (record { lets = []; body = query_on 2 [] rule_columns (order_by (1 ∷ 2 ∷ 3 ∷ [])) }) rule_names
+    (record { lets = []; body = query_on 2 [] rule_columns (sorted_by (1 ∷ 2 ∷ 3 ∷ [])) }) rule_names
 unfolding understood everything
 rule_is = refl
 
@@ -250,7 +250,7 @@ rule_scans : (db : Database) (shown : List Row) (rows : List StoredRule)
 rule_scans db shown rows reads are =
     let this = d.rule_table in
     scanned this.name 2 this.columns this.key this.primary this.uniques this.orders rule_text rule_names
-    rule_columns (1 ∷ 2 ∷ 3 ∷ []) rule_key 5 rule_is (λ r. refl) (λ r. refl) db shown reads stored_rule_cells
+    rule_columns (1 ∷ 2 ∷ 3 ∷ []) (sorted_by (1 ∷ 2 ∷ 3 ∷ [])) refl rule_key 5 rule_is (λ r. rw (itself (column r 1)) refl) (λ r. refl) db shown reads stored_rule_cells
     rule_order rule_agrees rows are
 
 rule_found : (db : Database) (shown : List Row) (rows : List StoredRule)
@@ -260,7 +260,7 @@ rule_found : (db : Database) (shown : List Row) (rows : List StoredRule)
 rule_found db shown rows reads are t holds sorted =
     let this = d.rule_table in
     is_held this.name 2 this.columns this.key this.primary this.uniques this.orders rule_text rule_names
-    rule_columns (1 ∷ 2 ∷ 3 ∷ []) rule_key 5 rule_is (λ r. refl) (λ r. refl) db shown reads stored_rule_cells
+    rule_columns (1 ∷ 2 ∷ 3 ∷ []) (sorted_by (1 ∷ 2 ∷ 3 ∷ [])) refl rule_key 5 rule_is (λ r. rw (itself (column r 1)) refl) (λ r. refl) db shown reads stored_rule_cells
     rule_order rule_agrees rows are
     (by_unique this.name 2 this.columns this.key this.primary this.uniques this.orders 2 refl
     (λ x. stored_rule_cells (rule_stored x)) (rows_of t) t.rule refl db holds.rows 0 (1 ∷ 2 ∷ 3 ∷ []) refl refl

@@ -38,7 +38,7 @@ use Rattle.desk_sql_scan.specs.Cells.{columns_of, stored_document_cells, stored_
 use Rattle.desk_sql_scan.specs.Orders.{document_order, extracted_order}
 use Rattle.desk_sql_scan.specs.Scans.{IsScan, IsShown, IsRead}
 use Rattle.desk_sql_scan.proofs.Telling.{told}
-use Rattle.desk_sql_scan.proofs.Scanning.{scanned, is_held}
+use Rattle.desk_sql_scan.proofs.Scanning.{itself, sorted_by, scanned, is_held}
 use Rattle.desk_sql_scan.proofs.Values.{number_in, text_in, bytes_in, text_if_any, as_it_was}
 use Rattle.desk_sql_scan.proofs.Rising.{numbers_rise, extracted_rise, packages_rise}
 
@@ -90,7 +90,7 @@ document_scans : (db : Database) (shown : List Row) (rows : List StoredDocument)
 document_scans db shown rows reads are =
     let this = d.document_table in
     scanned this.name 4 this.columns this.key this.primary this.uniques this.orders document_text document_names
-    document_columns (0 ∷ []) document_key 3 document_is (λ r. refl) (λ r. refl) db shown reads
+    document_columns (0 ∷ []) (order_by (0 ∷ [])) refl document_key 3 document_is (λ r. refl) (λ r. refl) db shown reads
     stored_document_cells document_order document_agrees rows are
 
 document_found : (db : Database) (shown : List Row) (rows : List StoredDocument)
@@ -100,7 +100,7 @@ document_found : (db : Database) (shown : List Row) (rows : List StoredDocument)
 document_found db shown rows reads are t holds =
     let this = d.document_table in
     is_held this.name 4 this.columns this.key this.primary this.uniques this.orders document_text document_names
-    document_columns (0 ∷ []) document_key 3 document_is (λ r. refl) (λ r. refl) db shown reads
+    document_columns (0 ∷ []) (order_by (0 ∷ [])) refl document_key 3 document_is (λ r. refl) (λ r. refl) db shown reads
     stored_document_cells document_order document_agrees rows are
     (by_rowid this.name 4 this.columns this.key this.primary this.uniques this.orders 3 refl
     (λ x. stored_document_cells (document_stored x)) (rows_of t) t.document refl db holds.rows)
@@ -166,7 +166,7 @@ reading_scans : (db : Database) (shown : List Row) (rows : List StoredReading)
 reading_scans db shown rows reads are =
     let this = d.reading_table in
     scanned this.name 27 this.columns this.key this.primary this.uniques this.orders reading_text reading_names
-    reading_columns (0 ∷ []) reading_key 2 reading_is (λ r. refl) (λ r. refl) db shown reads
+    reading_columns (0 ∷ []) (order_by (0 ∷ [])) refl reading_key 2 reading_is (λ r. refl) (λ r. refl) db shown reads
     stored_reading_cells reading_order reading_agrees rows are
 
 reading_found : (db : Database) (shown : List Row) (rows : List StoredReading)
@@ -176,7 +176,7 @@ reading_found : (db : Database) (shown : List Row) (rows : List StoredReading)
 reading_found db shown rows reads are t holds =
     let this = d.reading_table in
     is_held this.name 27 this.columns this.key this.primary this.uniques this.orders reading_text reading_names
-    reading_columns (0 ∷ []) reading_key 2 reading_is (λ r. refl) (λ r. refl) db shown reads
+    reading_columns (0 ∷ []) (order_by (0 ∷ [])) refl reading_key 2 reading_is (λ r. refl) (λ r. refl) db shown reads
     stored_reading_cells reading_order reading_agrees rows are
     (by_rowid this.name 27 this.columns this.key this.primary this.uniques this.orders 14 refl
     (λ x. stored_reading_cells (reading_stored x)) (rows_of t) t.document refl db holds.rows)
@@ -199,7 +199,7 @@ reading_read old new r read shown =
 -- ---- package
 
 abbrev pub package_text : List ℕ
-package_text = codes "SELECT document, id, name, version, concluded, copyright, shipped FROM package ORDER BY document, id"
+package_text = codes "SELECT document, id, name, version, concluded, copyright, shipped FROM package ORDER BY +document, id"
 
 package_bare : (schema : Schema) (base : ℕ) → and_then (first package_text) (λ p. returning schema base p.statement) ≡ Ok None
 unfolding first returning everything
@@ -219,7 +219,7 @@ abbrev package_names : List (List ℕ)
 package_names = codes "document" ∷ codes "id" ∷ codes "name" ∷ codes "version" ∷ codes "concluded" ∷ codes "copyright" ∷ codes "shipped" ∷ []
 
 package_is : command_of (understood d.desk_schema package_text) ≡ Select
-    (record { lets = []; body = query_on 6 [] package_columns (order_by (1 ∷ 2 ∷ [])) }) package_names
+    (record { lets = []; body = query_on 6 [] package_columns (sorted_by (1 ∷ 2 ∷ [])) }) package_names
 unfolding understood everything
 package_is = refl
 
@@ -261,7 +261,7 @@ package_scans : (db : Database) (shown : List Row) (rows : List StoredPackage)
 package_scans db shown rows reads are =
     let this = d.package_table in
     scanned this.name 6 this.columns this.key this.primary this.uniques this.orders package_text package_names
-    package_columns (1 ∷ 2 ∷ []) package_key 7 package_is (λ r. refl) (λ r. refl) db shown reads
+    package_columns (1 ∷ 2 ∷ []) (sorted_by (1 ∷ 2 ∷ [])) refl package_key 7 package_is (λ r. rw (itself (column r 1)) refl) (λ r. refl) db shown reads
     stored_package_cells package_order package_agrees rows are
 
 package_found : (db : Database) (shown : List Row) (rows : List StoredPackage)
@@ -271,7 +271,7 @@ package_found : (db : Database) (shown : List Row) (rows : List StoredPackage)
 package_found db shown rows reads are t holds =
     let this = d.package_table in
     is_held this.name 6 this.columns this.key this.primary this.uniques this.orders package_text package_names
-    package_columns (1 ∷ 2 ∷ []) package_key 7 package_is (λ r. refl) (λ r. refl) db shown reads
+    package_columns (1 ∷ 2 ∷ []) (sorted_by (1 ∷ 2 ∷ [])) refl package_key 7 package_is (λ r. rw (itself (column r 1)) refl) (λ r. refl) db shown reads
     stored_package_cells package_order package_agrees rows are
     (by_unique this.name 6 this.columns this.key this.primary this.uniques this.orders 4 refl
     (λ x. stored_package_cells (package_stored x)) (rows_of t) t.packages refl db holds.rows 0 (1 ∷ 2 ∷ []) refl
@@ -295,7 +295,7 @@ package_read old new r read shown =
 -- ---- extracted
 
 abbrev pub extracted_text : List ℕ
-extracted_text = codes "SELECT document, reference, body FROM extracted ORDER BY document, reference"
+extracted_text = codes "SELECT document, reference, body FROM extracted ORDER BY +document, reference"
 
 extracted_bare : (schema : Schema) (base : ℕ) → and_then (first extracted_text) (λ p. returning schema base p.statement) ≡ Ok None
 unfolding first returning everything
@@ -315,7 +315,7 @@ abbrev extracted_names : List (List ℕ)
 extracted_names = codes "document" ∷ codes "reference" ∷ codes "body" ∷ []
 
 extracted_is : command_of (understood d.desk_schema extracted_text) ≡ Select
-    (record { lets = []; body = query_on 8 [] extracted_columns (order_by (1 ∷ 2 ∷ [])) }) extracted_names
+    (record { lets = []; body = query_on 8 [] extracted_columns (sorted_by (1 ∷ 2 ∷ [])) }) extracted_names
 unfolding understood everything
 extracted_is = refl
 
@@ -344,7 +344,7 @@ extracted_scans : (db : Database) (shown : List Row) (rows : List StoredExtracte
 extracted_scans db shown rows reads are =
     let this = d.extracted_table in
     scanned this.name 8 this.columns this.key this.primary this.uniques this.orders extracted_text
-    extracted_names extracted_columns (1 ∷ 2 ∷ []) extracted_key 3 extracted_is (λ r. refl) (λ r. refl) db shown
+    extracted_names extracted_columns (1 ∷ 2 ∷ []) (sorted_by (1 ∷ 2 ∷ [])) refl extracted_key 3 extracted_is (λ r. rw (itself (column r 1)) refl) (λ r. refl) db shown
     reads stored_extracted_cells extracted_order extracted_agrees rows are
 
 extracted_found : (db : Database) (shown : List Row) (rows : List StoredExtracted)
@@ -354,7 +354,7 @@ extracted_found : (db : Database) (shown : List Row) (rows : List StoredExtracte
 extracted_found db shown rows reads are t holds sorted =
     let this = d.extracted_table in
     is_held this.name 8 this.columns this.key this.primary this.uniques this.orders extracted_text
-    extracted_names extracted_columns (1 ∷ 2 ∷ []) extracted_key 3 extracted_is (λ r. refl) (λ r. refl) db shown
+    extracted_names extracted_columns (1 ∷ 2 ∷ []) (sorted_by (1 ∷ 2 ∷ [])) refl extracted_key 3 extracted_is (λ r. rw (itself (column r 1)) refl) (λ r. refl) db shown
     reads stored_extracted_cells extracted_order extracted_agrees rows are
     (by_unique this.name 8 this.columns this.key this.primary this.uniques this.orders 5 refl
     (λ x. stored_extracted_cells (extracted_stored x)) (rows_of t) t.extracted refl db holds.rows 0 (1 ∷ 2 ∷ [])

@@ -37,7 +37,7 @@ use Rattle.desk_sql_scan.specs.Cells.{columns_of, stored_duty_cells, stored_chan
 use Rattle.desk_sql_scan.specs.Orders.{duty_order}
 use Rattle.desk_sql_scan.specs.Scans.{IsScan, IsShown, IsRead}
 use Rattle.desk_sql_scan.proofs.Telling.{told}
-use Rattle.desk_sql_scan.proofs.Scanning.{scanned, is_held}
+use Rattle.desk_sql_scan.proofs.Scanning.{itself, sorted_by, scanned, is_held}
 use Rattle.desk_sql_scan.proofs.Values.{number_in, text_in}
 use Rattle.desk_sql_scan.proofs.Rising.{numbers_rise, changes_rise}
 use Rattle.desk_sql_scan.proofs.Waivers.{waivers_are}
@@ -97,7 +97,7 @@ duty_scans : (db : Database) (shown : List Row) (rows : List StoredDuty)
 duty_scans db shown rows reads are =
     let this = d.duty_table in
     scanned this.name 23 this.columns this.key this.primary this.uniques this.orders duty_text duty_names
-    duty_columns (0 ∷ []) duty_key 8 duty_is (λ r. refl) (λ r. refl) db shown reads stored_duty_cells duty_order
+    duty_columns (0 ∷ []) (order_by (0 ∷ [])) refl duty_key 8 duty_is (λ r. refl) (λ r. refl) db shown reads stored_duty_cells duty_order
     duty_agrees rows are
 
 duty_found : (db : Database) (shown : List Row) (rows : List StoredDuty)
@@ -107,7 +107,7 @@ duty_found : (db : Database) (shown : List Row) (rows : List StoredDuty)
 duty_found db shown rows reads are t holds =
     let this = d.duty_table in
     is_held this.name 23 this.columns this.key this.primary this.uniques this.orders duty_text duty_names
-    duty_columns (0 ∷ []) duty_key 8 duty_is (λ r. refl) (λ r. refl) db shown reads stored_duty_cells duty_order
+    duty_columns (0 ∷ []) (order_by (0 ∷ [])) refl duty_key 8 duty_is (λ r. refl) (λ r. refl) db shown reads stored_duty_cells duty_order
     duty_agrees rows are
     (by_rowid this.name 23 this.columns this.key this.primary this.uniques this.orders 12 refl
     (λ x. stored_duty_cells (duty_stored x)) (rows_of t) t.duty refl db holds.rows)
@@ -128,7 +128,7 @@ duty_read old new r read shown =
 -- ---- change
 
 abbrev pub change_text : List ℕ
-change_text = codes "SELECT duty, step, day, word, body FROM change ORDER BY duty, step"
+change_text = codes "SELECT duty, step, day, word, body FROM change ORDER BY +duty, step"
 
 change_bare : (schema : Schema) (base : ℕ) → and_then (first change_text) (λ p. returning schema base p.statement) ≡ Ok None
 unfolding first returning everything
@@ -148,7 +148,7 @@ abbrev change_names : List (List ℕ)
 change_names = codes "duty" ∷ codes "step" ∷ codes "day" ∷ codes "word" ∷ codes "body" ∷ []
 
 change_is : command_of (understood d.desk_schema change_text) ≡ Select
-    (record { lets = []; body = query_on 25 [] change_columns (order_by (1 ∷ 2 ∷ [])) }) change_names
+    (record { lets = []; body = query_on 25 [] change_columns (sorted_by (1 ∷ 2 ∷ [])) }) change_names
 unfolding understood everything
 change_is = refl
 
@@ -179,7 +179,7 @@ change_scans : (db : Database) (shown : List Row) (rows : List StoredChange)
 change_scans db shown rows reads are =
     let this = d.change_table in
     scanned this.name 25 this.columns this.key this.primary this.uniques this.orders change_text change_names
-    change_columns (1 ∷ 2 ∷ []) change_key 5 change_is (λ r. refl) (λ r. refl) db shown reads
+    change_columns (1 ∷ 2 ∷ []) (sorted_by (1 ∷ 2 ∷ [])) refl change_key 5 change_is (λ r. rw (itself (column r 1)) refl) (λ r. refl) db shown reads
     stored_change_cells change_order change_agrees rows are
 
 change_found : (db : Database) (shown : List Row) (rows : List StoredChange)
@@ -189,7 +189,7 @@ change_found : (db : Database) (shown : List Row) (rows : List StoredChange)
 change_found db shown rows reads are t holds =
     let this = d.change_table in
     is_held this.name 25 this.columns this.key this.primary this.uniques this.orders change_text change_names
-    change_columns (1 ∷ 2 ∷ []) change_key 5 change_is (λ r. refl) (λ r. refl) db shown reads
+    change_columns (1 ∷ 2 ∷ []) (sorted_by (1 ∷ 2 ∷ [])) refl change_key 5 change_is (λ r. rw (itself (column r 1)) refl) (λ r. refl) db shown reads
     stored_change_cells change_order change_agrees rows are
     (by_unique this.name 25 this.columns this.key this.primary this.uniques this.orders 13 refl
     (λ x. stored_change_cells (change_stored x)) (rows_of t) t.changes refl db holds.rows 0 (1 ∷ 2 ∷ []) refl
@@ -213,7 +213,7 @@ change_read old new r read shown =
 -- ---- waiver
 
 abbrev pub waiver_text : List ℕ
-waiver_text = codes "SELECT duty, step, last_day FROM waiver ORDER BY duty, step"
+waiver_text = codes "SELECT duty, step, last_day FROM waiver ORDER BY +duty, step"
 
 waiver_bare : (schema : Schema) (base : ℕ) → and_then (first waiver_text) (λ p. returning schema base p.statement) ≡ Ok None
 unfolding first returning everything
@@ -233,7 +233,7 @@ abbrev waiver_names : List (List ℕ)
 waiver_names = codes "duty" ∷ codes "step" ∷ codes "last_day" ∷ []
 
 waiver_is : command_of (understood d.desk_schema waiver_text) ≡ Select
-    (record { lets = []; body = query_on 28 [] waiver_columns (order_by (1 ∷ 2 ∷ [])) }) waiver_names
+    (record { lets = []; body = query_on 28 [] waiver_columns (sorted_by (1 ∷ 2 ∷ [])) }) waiver_names
 unfolding understood everything
 waiver_is = refl
 
@@ -259,7 +259,7 @@ waiver_scans : (db : Database) (shown : List Row) (rows : List StoredWaiver)
 waiver_scans db shown rows reads are =
     let this = d.waiver_table in
     scanned this.name 28 this.columns this.key this.primary this.uniques this.orders waiver_text waiver_names
-    waiver_columns (1 ∷ 2 ∷ []) waiver_key 3 waiver_is (λ r. refl) (λ r. refl) db shown reads
+    waiver_columns (1 ∷ 2 ∷ []) (sorted_by (1 ∷ 2 ∷ [])) refl waiver_key 3 waiver_is (λ r. rw (itself (column r 1)) refl) (λ r. refl) db shown reads
     stored_waiver_cells waiver_order waiver_agrees rows are
 
 waiver_found : (db : Database) (shown : List Row) (rows : List StoredWaiver)
@@ -269,7 +269,7 @@ waiver_found : (db : Database) (shown : List Row) (rows : List StoredWaiver)
 waiver_found db shown rows reads are t holds =
     let this = d.waiver_table in
     is_held this.name 28 this.columns this.key this.primary this.uniques this.orders waiver_text waiver_names
-    waiver_columns (1 ∷ 2 ∷ []) waiver_key 3 waiver_is (λ r. refl) (λ r. refl) db shown reads
+    waiver_columns (1 ∷ 2 ∷ []) (sorted_by (1 ∷ 2 ∷ [])) refl waiver_key 3 waiver_is (λ r. rw (itself (column r 1)) refl) (λ r. refl) db shown reads
     stored_waiver_cells waiver_order waiver_agrees rows are
     (by_unique this.name 28 this.columns this.key this.primary this.uniques this.orders 15 refl
     (λ x. stored_waiver_cells (waiver_stored x)) (rows_of t) (filter is_waiver t.changes)

@@ -28,21 +28,21 @@ use Rattle.desk_snapshot.specs.declared.rows.StoredConclusion.{StoredConclusion}
 use Rattle.desk_snapshot.specs.declared.rows.StoredAdoption.{StoredAdoption}
 use Rattle.desk_sql_adopt.specs.Reading.{Asks}
 use Rattle.desk_sql_adopt.proofs.Asking.{asks}
-use Rattle.desk_sql_lookup.proofs.Selects.{order_by, mine, by_unique}
+use Rattle.desk_sql_lookup.proofs.Selects.{mine, by_unique}
 use Rattle.desk_sql_lookup.proofs.Ties.{is_key, keys}
 use Rattle.desk_sql_scan.specs.Asked.{HasAsked}
 use Rattle.desk_sql_scan.specs.Cells.{columns_of, stored_conclusion_cells, stored_adoption_cells}
 use Rattle.desk_sql_scan.specs.Orders.{adoption_order}
 use Rattle.desk_sql_scan.specs.Scans.{IsScan, IsShown, IsRead}
 use Rattle.desk_sql_scan.proofs.Telling.{told}
-use Rattle.desk_sql_scan.proofs.Scanning.{scanned, is_held}
+use Rattle.desk_sql_scan.proofs.Scanning.{itself, sorted_by, scanned, is_held}
 use Rattle.desk_sql_scan.proofs.Values.{number_in, text_in}
 use Rattle.desk_sql_scan.proofs.Rising.{conclusions_rise, adoptions_rise}
 
 -- ---- conclusion
 
 abbrev pub conclusion_text : List ℕ
-conclusion_text = codes "SELECT document, package, expression FROM conclusion ORDER BY document, package"
+conclusion_text = codes "SELECT document, package, expression FROM conclusion ORDER BY +document, package"
 
 conclusion_bare : (schema : Schema) (base : ℕ) → and_then (first conclusion_text)
     (λ p. returning schema base p.statement) ≡ Ok None
@@ -63,7 +63,7 @@ abbrev conclusion_names : List (List ℕ)
 conclusion_names = codes "document" ∷ codes "package" ∷ codes "expression" ∷ []
 
 conclusion_is : command_of (understood d.desk_schema conclusion_text) ≡ Select
-    (record { lets = []; body = query_on 10 [] conclusion_columns (order_by (1 ∷ 2 ∷ [])) }) conclusion_names
+    (record { lets = []; body = query_on 10 [] conclusion_columns (sorted_by (1 ∷ 2 ∷ [])) }) conclusion_names
 unfolding understood everything
 conclusion_is = refl
 
@@ -92,7 +92,7 @@ conclusion_scans : (db : Database) (shown : List Row) (rows : List StoredConclus
 conclusion_scans db shown rows reads are =
     let this = d.conclusion_table in
     scanned this.name 10 this.columns this.key this.primary this.uniques this.orders conclusion_text
-    conclusion_names conclusion_columns (1 ∷ 2 ∷ []) conclusion_key 3 conclusion_is (λ r. refl) (λ r. refl) db
+    conclusion_names conclusion_columns (1 ∷ 2 ∷ []) (sorted_by (1 ∷ 2 ∷ [])) refl conclusion_key 3 conclusion_is (λ r. rw (itself (column r 1)) refl) (λ r. refl) db
     shown reads stored_conclusion_cells conclusion_order conclusion_agrees rows are
 
 conclusion_found : (db : Database) (shown : List Row) (rows : List StoredConclusion)
@@ -102,7 +102,7 @@ conclusion_found : (db : Database) (shown : List Row) (rows : List StoredConclus
 conclusion_found db shown rows reads are t holds =
     let this = d.conclusion_table in
     is_held this.name 10 this.columns this.key this.primary this.uniques this.orders conclusion_text
-    conclusion_names conclusion_columns (1 ∷ 2 ∷ []) conclusion_key 3 conclusion_is (λ r. refl) (λ r. refl) db
+    conclusion_names conclusion_columns (1 ∷ 2 ∷ []) (sorted_by (1 ∷ 2 ∷ [])) refl conclusion_key 3 conclusion_is (λ r. rw (itself (column r 1)) refl) (λ r. refl) db
     shown reads stored_conclusion_cells conclusion_order conclusion_agrees rows are
     (by_unique this.name 10 this.columns this.key this.primary this.uniques this.orders 6 refl
     (λ x. stored_conclusion_cells (conclusion_stored x)) (rows_of t) t.conclusion refl db holds.rows 0
@@ -127,7 +127,7 @@ conclusion_read old new r read shown =
 -- ---- adoption
 
 abbrev pub adoption_text : List ℕ
-adoption_text = codes "SELECT document, reference, licence FROM adoption ORDER BY document, reference"
+adoption_text = codes "SELECT document, reference, licence FROM adoption ORDER BY +document, reference"
 
 adoption_bare : (schema : Schema) (base : ℕ) → and_then (first adoption_text) (λ p. returning schema base p.statement) ≡ Ok None
 unfolding first returning everything
@@ -147,7 +147,7 @@ abbrev adoption_names : List (List ℕ)
 adoption_names = codes "document" ∷ codes "reference" ∷ codes "licence" ∷ []
 
 adoption_is : command_of (understood d.desk_schema adoption_text) ≡ Select
-    (record { lets = []; body = query_on 12 [] adoption_columns (order_by (1 ∷ 2 ∷ [])) }) adoption_names
+    (record { lets = []; body = query_on 12 [] adoption_columns (sorted_by (1 ∷ 2 ∷ [])) }) adoption_names
 unfolding understood everything
 adoption_is = refl
 
@@ -176,7 +176,7 @@ adoption_scans : (db : Database) (shown : List Row) (rows : List StoredAdoption)
 adoption_scans db shown rows reads are =
     let this = d.adoption_table in
     scanned this.name 12 this.columns this.key this.primary this.uniques this.orders adoption_text
-    adoption_names adoption_columns (1 ∷ 2 ∷ []) adoption_key 3 adoption_is (λ r. refl) (λ r. refl) db shown
+    adoption_names adoption_columns (1 ∷ 2 ∷ []) (sorted_by (1 ∷ 2 ∷ [])) refl adoption_key 3 adoption_is (λ r. rw (itself (column r 1)) refl) (λ r. refl) db shown
     reads stored_adoption_cells adoption_order adoption_agrees rows are
 
 adoption_found : (db : Database) (shown : List Row) (rows : List StoredAdoption)
@@ -186,7 +186,7 @@ adoption_found : (db : Database) (shown : List Row) (rows : List StoredAdoption)
 adoption_found db shown rows reads are t holds =
     let this = d.adoption_table in
     is_held this.name 12 this.columns this.key this.primary this.uniques this.orders adoption_text
-    adoption_names adoption_columns (1 ∷ 2 ∷ []) adoption_key 3 adoption_is (λ r. refl) (λ r. refl) db shown
+    adoption_names adoption_columns (1 ∷ 2 ∷ []) (sorted_by (1 ∷ 2 ∷ [])) refl adoption_key 3 adoption_is (λ r. rw (itself (column r 1)) refl) (λ r. refl) db shown
     reads stored_adoption_cells adoption_order adoption_agrees rows are
     (by_unique this.name 12 this.columns this.key this.primary this.uniques this.orders 7 refl
     (λ x. stored_adoption_cells (adoption_stored x)) (rows_of t) t.adoption refl db holds.rows 0 (1 ∷ 2 ∷ [])

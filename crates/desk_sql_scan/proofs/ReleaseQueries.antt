@@ -30,20 +30,20 @@ use Rattle.desk_snapshot.specs.declared.rows.StoredChoice.{StoredChoice}
 use Rattle.desk_snapshot.specs.declared.rows.StoredFrozen.{StoredFrozen}
 use Rattle.desk_sql_adopt.specs.Reading.{Asks}
 use Rattle.desk_sql_adopt.proofs.Asking.{asks}
-use Rattle.desk_sql_lookup.proofs.Selects.{order_by, mine, by_unique}
+use Rattle.desk_sql_lookup.proofs.Selects.{mine, by_unique}
 use Rattle.desk_sql_lookup.proofs.Ties.{is_key, keys}
 use Rattle.desk_sql_scan.specs.Asked.{HasAsked}
 use Rattle.desk_sql_scan.specs.Cells.{columns_of, stored_release_cells, stored_attached_cells, stored_choice_cells, stored_frozen_cells}
 use Rattle.desk_sql_scan.specs.Scans.{IsScan, IsShown, IsRead}
 use Rattle.desk_sql_scan.proofs.Telling.{told}
-use Rattle.desk_sql_scan.proofs.Scanning.{scanned, is_held}
+use Rattle.desk_sql_scan.proofs.Scanning.{itself, sorted_by, scanned, is_held}
 use Rattle.desk_sql_scan.proofs.Values.{number_in, text_in}
 use Rattle.desk_sql_scan.proofs.Rising.{releases_rise, attached_rise, choices_rise, frozen_rise}
 
 -- ---- releases
 
 abbrev pub release_text : List ℕ
-release_text = codes "SELECT name, place, form, state, revision FROM releases ORDER BY name"
+release_text = codes "SELECT name, place, form, state, revision FROM releases ORDER BY +name"
 
 release_bare : (schema : Schema) (base : ℕ) → and_then (first release_text) (λ p. returning schema base p.statement) ≡ Ok None
 unfolding first returning everything
@@ -63,7 +63,7 @@ abbrev release_names : List (List ℕ)
 release_names = codes "name" ∷ codes "place" ∷ codes "form" ∷ codes "state" ∷ codes "revision" ∷ []
 
 release_is : command_of (understood d.desk_schema release_text) ≡ Select
-    (record { lets = []; body = query_on 14 [] release_columns (order_by (1 ∷ [])) }) release_names
+    (record { lets = []; body = query_on 14 [] release_columns (sorted_by (1 ∷ [])) }) release_names
 unfolding understood everything
 release_is = refl
 
@@ -92,7 +92,7 @@ release_scans : (db : Database) (shown : List Row) (rows : List StoredRelease)
 release_scans db shown rows reads are =
     let this = d.releases_table in
     scanned this.name 14 this.columns this.key this.primary this.uniques this.orders release_text release_names
-    release_columns (1 ∷ []) release_key 5 release_is (λ r. refl) (λ r. refl) db shown reads
+    release_columns (1 ∷ []) (sorted_by (1 ∷ [])) refl release_key 5 release_is (λ r. rw (itself (column r 1)) refl) (λ r. refl) db shown reads
     stored_release_cells release_order release_agrees rows are
 
 release_found : (db : Database) (shown : List Row) (rows : List StoredRelease)
@@ -102,7 +102,7 @@ release_found : (db : Database) (shown : List Row) (rows : List StoredRelease)
 release_found db shown rows reads are t holds =
     let this = d.releases_table in
     is_held this.name 14 this.columns this.key this.primary this.uniques this.orders release_text release_names
-    release_columns (1 ∷ []) release_key 5 release_is (λ r. refl) (λ r. refl) db shown reads
+    release_columns (1 ∷ []) (sorted_by (1 ∷ [])) refl release_key 5 release_is (λ r. rw (itself (column r 1)) refl) (λ r. refl) db shown reads
     stored_release_cells release_order release_agrees rows are
     (by_unique this.name 14 this.columns this.key this.primary this.uniques this.orders 8 refl
     (λ x. stored_release_cells (release_stored x)) (rows_of t) t.releases refl db holds.rows 1 (1 ∷ []) refl
@@ -126,7 +126,7 @@ release_read old new r read shown =
 -- ---- attached
 
 abbrev pub attached_text : List ℕ
-attached_text = codes "SELECT release, document FROM attached ORDER BY release, document"
+attached_text = codes "SELECT release, document FROM attached ORDER BY +release, document"
 
 attached_bare : (schema : Schema) (base : ℕ) → and_then (first attached_text) (λ p. returning schema base p.statement) ≡ Ok None
 unfolding first returning everything
@@ -146,7 +146,7 @@ abbrev attached_names : List (List ℕ)
 attached_names = codes "release" ∷ codes "document" ∷ []
 
 attached_is : command_of (understood d.desk_schema attached_text) ≡ Select
-    (record { lets = []; body = query_on 17 [] attached_columns (order_by (1 ∷ 2 ∷ [])) }) attached_names
+    (record { lets = []; body = query_on 17 [] attached_columns (sorted_by (1 ∷ 2 ∷ [])) }) attached_names
 unfolding understood everything
 attached_is = refl
 
@@ -173,7 +173,7 @@ attached_scans : (db : Database) (shown : List Row) (rows : List StoredAttached)
 attached_scans db shown rows reads are =
     let this = d.attached_table in
     scanned this.name 17 this.columns this.key this.primary this.uniques this.orders attached_text
-    attached_names attached_columns (1 ∷ 2 ∷ []) attached_key 2 attached_is (λ r. refl) (λ r. refl) db shown
+    attached_names attached_columns (1 ∷ 2 ∷ []) (sorted_by (1 ∷ 2 ∷ [])) refl attached_key 2 attached_is (λ r. rw (itself (column r 1)) refl) (λ r. refl) db shown
     reads stored_attached_cells attached_order attached_agrees rows are
 
 attached_found : (db : Database) (shown : List Row) (rows : List StoredAttached)
@@ -183,7 +183,7 @@ attached_found : (db : Database) (shown : List Row) (rows : List StoredAttached)
 attached_found db shown rows reads are t holds =
     let this = d.attached_table in
     is_held this.name 17 this.columns this.key this.primary this.uniques this.orders attached_text
-    attached_names attached_columns (1 ∷ 2 ∷ []) attached_key 2 attached_is (λ r. refl) (λ r. refl) db shown
+    attached_names attached_columns (1 ∷ 2 ∷ []) (sorted_by (1 ∷ 2 ∷ [])) refl attached_key 2 attached_is (λ r. rw (itself (column r 1)) refl) (λ r. refl) db shown
     reads stored_attached_cells attached_order attached_agrees rows are
     (by_unique this.name 17 this.columns this.key this.primary this.uniques this.orders 9 refl
     (λ x. stored_attached_cells (attached_stored x)) (rows_of t) t.attached refl db holds.rows 0 (1 ∷ 2 ∷ [])
@@ -207,7 +207,7 @@ attached_read old new r read shown =
 -- ---- choice
 
 abbrev pub choice_text : List ℕ
-choice_text = codes "SELECT release, document, package, term FROM choice ORDER BY release, document, package, term"
+choice_text = codes "SELECT release, document, package, term FROM choice ORDER BY +release, document, package, term"
 
 choice_bare : (schema : Schema) (base : ℕ) → and_then (first choice_text) (λ p. returning schema base p.statement) ≡ Ok None
 unfolding first returning everything
@@ -227,7 +227,7 @@ abbrev choice_names : List (List ℕ)
 choice_names = codes "release" ∷ codes "document" ∷ codes "package" ∷ codes "term" ∷ []
 
 choice_is : command_of (understood d.desk_schema choice_text) ≡ Select
-    (record { lets = []; body = query_on 19 [] choice_columns (order_by (1 ∷ 2 ∷ 3 ∷ 4 ∷ [])) }) choice_names
+    (record { lets = []; body = query_on 19 [] choice_columns (sorted_by (1 ∷ 2 ∷ 3 ∷ 4 ∷ [])) }) choice_names
 unfolding understood everything
 choice_is = refl
 
@@ -260,7 +260,7 @@ choice_scans : (db : Database) (shown : List Row) (rows : List StoredChoice)
 choice_scans db shown rows reads are =
     let this = d.choice_table in
     scanned this.name 19 this.columns this.key this.primary this.uniques this.orders choice_text choice_names
-    choice_columns (1 ∷ 2 ∷ 3 ∷ 4 ∷ []) choice_key 4 choice_is (λ r. refl) (λ r. refl) db shown reads
+    choice_columns (1 ∷ 2 ∷ 3 ∷ 4 ∷ []) (sorted_by (1 ∷ 2 ∷ 3 ∷ 4 ∷ [])) refl choice_key 4 choice_is (λ r. rw (itself (column r 1)) refl) (λ r. refl) db shown reads
     stored_choice_cells choice_order choice_agrees rows are
 
 choice_found : (db : Database) (shown : List Row) (rows : List StoredChoice)
@@ -270,7 +270,7 @@ choice_found : (db : Database) (shown : List Row) (rows : List StoredChoice)
 choice_found db shown rows reads are t holds =
     let this = d.choice_table in
     is_held this.name 19 this.columns this.key this.primary this.uniques this.orders choice_text choice_names
-    choice_columns (1 ∷ 2 ∷ 3 ∷ 4 ∷ []) choice_key 4 choice_is (λ r. refl) (λ r. refl) db shown reads
+    choice_columns (1 ∷ 2 ∷ 3 ∷ 4 ∷ []) (sorted_by (1 ∷ 2 ∷ 3 ∷ 4 ∷ [])) refl choice_key 4 choice_is (λ r. rw (itself (column r 1)) refl) (λ r. refl) db shown reads
     stored_choice_cells choice_order choice_agrees rows are
     (by_unique this.name 19 this.columns this.key this.primary this.uniques this.orders 10 refl
     (λ x. stored_choice_cells (choice_stored x)) (rows_of t) t.choice refl db holds.rows 0 (1 ∷ 2 ∷ 3 ∷ 4 ∷ [])
@@ -295,7 +295,7 @@ choice_read old new r read shown =
 -- ---- frozen
 
 abbrev pub frozen_text : List ℕ
-frozen_text = codes "SELECT release, document, package, term, rule FROM frozen ORDER BY release, document, package, term"
+frozen_text = codes "SELECT release, document, package, term, rule FROM frozen ORDER BY +release, document, package, term"
 
 frozen_bare : (schema : Schema) (base : ℕ) → and_then (first frozen_text) (λ p. returning schema base p.statement) ≡ Ok None
 unfolding first returning everything
@@ -315,7 +315,7 @@ abbrev frozen_names : List (List ℕ)
 frozen_names = codes "release" ∷ codes "document" ∷ codes "package" ∷ codes "term" ∷ codes "rule" ∷ []
 
 frozen_is : command_of (understood d.desk_schema frozen_text) ≡ Select
-    (record { lets = []; body = query_on 21 [] frozen_columns (order_by (1 ∷ 2 ∷ 3 ∷ 4 ∷ [])) }) frozen_names
+    (record { lets = []; body = query_on 21 [] frozen_columns (sorted_by (1 ∷ 2 ∷ 3 ∷ 4 ∷ [])) }) frozen_names
 unfolding understood everything
 frozen_is = refl
 
@@ -349,7 +349,7 @@ frozen_scans : (db : Database) (shown : List Row) (rows : List StoredFrozen)
 frozen_scans db shown rows reads are =
     let this = d.frozen_table in
     scanned this.name 21 this.columns this.key this.primary this.uniques this.orders frozen_text frozen_names
-    frozen_columns (1 ∷ 2 ∷ 3 ∷ 4 ∷ []) frozen_key 5 frozen_is (λ r. refl) (λ r. refl) db shown reads
+    frozen_columns (1 ∷ 2 ∷ 3 ∷ 4 ∷ []) (sorted_by (1 ∷ 2 ∷ 3 ∷ 4 ∷ [])) refl frozen_key 5 frozen_is (λ r. rw (itself (column r 1)) refl) (λ r. refl) db shown reads
     stored_frozen_cells frozen_order frozen_agrees rows are
 
 frozen_found : (db : Database) (shown : List Row) (rows : List StoredFrozen)
@@ -359,7 +359,7 @@ frozen_found : (db : Database) (shown : List Row) (rows : List StoredFrozen)
 frozen_found db shown rows reads are t holds =
     let this = d.frozen_table in
     is_held this.name 21 this.columns this.key this.primary this.uniques this.orders frozen_text frozen_names
-    frozen_columns (1 ∷ 2 ∷ 3 ∷ 4 ∷ []) frozen_key 5 frozen_is (λ r. refl) (λ r. refl) db shown reads
+    frozen_columns (1 ∷ 2 ∷ 3 ∷ 4 ∷ []) (sorted_by (1 ∷ 2 ∷ 3 ∷ 4 ∷ [])) refl frozen_key 5 frozen_is (λ r. rw (itself (column r 1)) refl) (λ r. refl) db shown reads
     stored_frozen_cells frozen_order frozen_agrees rows are
     (by_unique this.name 21 this.columns this.key this.primary this.uniques this.orders 11 refl
     (λ x. stored_frozen_cells (frozen_stored x)) (rows_of t) t.frozen refl db holds.rows 0 (1 ∷ 2 ∷ 3 ∷ 4 ∷ [])

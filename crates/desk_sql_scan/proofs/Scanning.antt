@@ -6,14 +6,17 @@ use Rattle.std.proofs.lemmas.Cmp.{on_total}
 use Rattle.std.proofs.lemmas.List.Sorted.{IsPermutation-map, IsPermutation-sym}
 use Rattle.sqlite_value.specs.declared.keys.Key.{Key}
 use Rattle.sqlite_value.specs.declared.keys.Order.{Order}
-use Rattle.sqlite_value.specs.declared.value.Value.TheVariants.{Null}
+use Rattle.sqlite_value.specs.declared.value.Value.{Value}
+use Rattle.sqlite_value.specs.declared.value.Value.TheVariants.{Null, Int, Real, Text, Blob}
 use Rattle.sqlite_value.specs.declared.keys.Collation.TheVariants.{Binary}
 use Rattle.sqlite_value.specs.Keys.{ascending}
 use Rattle.sqlite_value.specs.Order.{Row}
 use Rattle.sqlite_trees.specs.Tree.{IsAscending}
 use Rattle.sqlite_trees.proofs.ListLemmas.{filter_all, map-map, ascending-map, ascending_from_map, ascending_weaker}
 use Rattle.sqlite_keyed.proofs.SortLemmas.{sorted_is-sort_by}
-use Rattle.sqlite_sql.specs.Term.{Term}
+use Rattle.sqlite_sql.specs.Term.{Term, col, lit, op2}
+use Rattle.sqlite_sql.specs.declared.ops.BinaryOp.TheVariants.{Coalesce}
+use Rattle.sqlite_sql.specs.Ops.{binary}
 use Rattle.sqlite_sql.specs.Query.{Query, Output, output, output_cmp, key_cmp}
 use Rattle.sqlite_sql.proofs.QueryLemmas.{output_cmp_total}
 use Rattle.sqlite_schema.specs.declared.schema.Column.{Column}
@@ -45,21 +48,31 @@ each (x ∷ xs) = (refl, each xs)
 same_map : {X Y : Type 0} (f g : X → Y) → ((x : X) → f x ≡ g x) → (xs : List X) → map f xs ≡ map g xs
 same_map f g same xs = λ i. map (λ x. same x i) xs
 
-keys_are : (ps : List ℕ) → map (λ (k : Term × Key). k.1) (order_by ps) ≡ keys ps
-keys_are [] = refl
-keys_are (p ∷ ps) = ap (λ l. ascending Binary ∷ l) (keys_are ps)
+-- the order of columns of which the first is written as `+column`: so no index gives it, whose rows are sought one by one
+abbrev pub sorted_by : List ℕ → List (Term × Key)
+sorted_by [] = []
+sorted_by (p ∷ ps) = (op2 Coalesce (col 1 p) (lit Null), ascending Binary) ∷ order_by ps
+
+-- what stands there is what stands in the column
+pub itself : (v : Value) → binary Coalesce v Null ≡ v
+unfolding binary
+itself Null = refl
+itself (Int n) = refl
+itself (Real x) = refl
+itself (Text t) = refl
+itself (Blob b) = refl
 
 module _ (name : List ℕ) (tree : ℕ) (columns : List Column) (key : Option ℕ) (primary : List ℕ) (uniques : List (List ℕ)) (orders : List Order) where
   abbrev this : Table
   this = table_of name tree columns key primary uniques orders
 
   -- a query that shows the cells of each row, and sorts by some of them
-  module _ (sql : List ℕ) (names : List (List ℕ)) (project : List Term) (ps : List ℕ) (pick : Row → Row) (width : ℕ)
-      (is : command_of (understood desk_schema sql) ≡ Select (record { lets = []; body = query_on tree [] project (order_by ps) }) names)
-      (acts : (r : Row) → output (query_on tree [] project (order_by ps)) (env [] r) ≡ (pick (cells this r), cells this r))
+  module _ (sql : List ℕ) (names : List (List ℕ)) (project : List Term) (ps : List ℕ) (by : List (Term × Key)) (keyed : map (λ (k : Term × Key). k.1) by ≡ keys ps) (pick : Row → Row) (width : ℕ)
+      (is : command_of (understood desk_schema sql) ≡ Select (record { lets = []; body = query_on tree [] project by }) names)
+      (acts : (r : Row) → output (query_on tree [] project by) (env [] r) ≡ (pick (cells this r), cells this r))
       (wide : (r : Row) → columns_of width (cells this r) ≡ cells this r) (db : Database) (shown : List Row) (reads : Reads (command_of (understood desk_schema sql)) db [] shown) where
     abbrev asked : Query
-    asked = query_on tree [] project (order_by ps)
+    asked = query_on tree [] project by
 
     abbrev out : Row → Output
     out r = output asked (env [] r)
@@ -74,7 +87,7 @@ module _ (name : List ℕ) (tree : ℕ) (columns : List Column) (key : Option �
     answer : Selected asked [] (db.trees tree) shown
     answer =
         let it : Reads (Select (record { lets = []; body = asked }) names) db [] shown = subst (λ c. Reads c db [] shown) is reads in
-        selected tree [] project (order_by ps) db.trees [] shown (it.answer Null)
+        selected tree [] project by db.trees [] shown (it.answer Null)
 
     outs_are : IsPermutation (map out (db.trees tree)) answer.ordered
     outs_are = subst (λ l. IsPermutation (map out l) answer.ordered) (filter_all (λ (r : Row). true) (db.trees tree) (each (db.trees tree))) answer.same
@@ -122,7 +135,7 @@ module _ (name : List ℕ) (tree : ℕ) (columns : List Column) (key : Option �
         no_ties =
             ascending-map (λ a b. is_eq (by_key a b) ≡ false) (cells this) (db.trees tree)
             (ascending_weaker (λ a b. is_eq (key_cmp 0 (keys ps) (picked ps a) (picked ps b)) ≡ false) (λ a b. is_eq (by_key (cells this a) (cells this b)) ≡ false)
-            (λ a b h. rw (keys_are ps, picks a, picks b) h) (db.trees tree) apart)
+            (λ a b h. rw (keyed, picks a, picks b) h) (db.trees tree) apart)
 
         abbrev wanted : List Row
         wanted = map (λ x. cells_of (stored_of x)) xs

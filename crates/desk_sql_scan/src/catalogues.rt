@@ -103,7 +103,7 @@ fn rule_rows<R: Source>(alloc: Global, source: &mut R) -> Result<Items<StoredRul
     items(
         alloc,
         source,
-        "SELECT revision, term, form, spelled, codes FROM rule ORDER BY revision, term, form",
+        "SELECT revision, term, form, spelled, codes FROM rule ORDER BY +revision, term, form",
     )
 }
 

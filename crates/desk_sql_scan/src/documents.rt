@@ -112,7 +112,7 @@ fn package_rows<R: Source>(alloc: Global, source: &mut R) -> Result<Listed<Store
     listed(
         alloc,
         source,
-        "SELECT document, id, name, version, concluded, copyright, shipped FROM package ORDER BY document, id",
+        "SELECT document, id, name, version, concluded, copyright, shipped FROM package ORDER BY +document, id",
     )
 }
 
@@ -143,7 +143,7 @@ fn extracted_rows<R: Source>(alloc: Global, source: &mut R) -> Result<Items<Stor
     items(
         alloc,
         source,
-        "SELECT document, reference, body FROM extracted ORDER BY document, reference",
+        "SELECT document, reference, body FROM extracted ORDER BY +document, reference",
     )
 }
 

@@ -84,7 +84,7 @@ fn change_rows<R: Source>(alloc: Global, source: &mut R) -> Result<Listed<Stored
     listed(
         alloc,
         source,
-        "SELECT duty, step, day, word, body FROM change ORDER BY duty, step",
+        "SELECT duty, step, day, word, body FROM change ORDER BY +duty, step",
     )
 }
 
@@ -115,7 +115,7 @@ fn waiver_rows<R: Source>(alloc: Global, source: &mut R) -> Result<Listed<Stored
     listed(
         alloc,
         source,
-        "SELECT duty, step, last_day FROM waiver ORDER BY duty, step",
+        "SELECT duty, step, last_day FROM waiver ORDER BY +duty, step",
     )
 }
 

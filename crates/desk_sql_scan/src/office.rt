@@ -49,7 +49,7 @@ fn conclusion_rows<R: Source>(
     listed(
         alloc,
         source,
-        "SELECT document, package, expression FROM conclusion ORDER BY document, package",
+        "SELECT document, package, expression FROM conclusion ORDER BY +document, package",
     )
 }
 
@@ -80,7 +80,7 @@ fn adoption_rows<R: Source>(alloc: Global, source: &mut R) -> Result<Items<Store
     items(
         alloc,
         source,
-        "SELECT document, reference, licence FROM adoption ORDER BY document, reference",
+        "SELECT document, reference, licence FROM adoption ORDER BY +document, reference",
     )
 }
 

@@ -46,7 +46,7 @@ fn release_rows<R: Source>(alloc: Global, source: &mut R) -> Result<Listed<Store
     listed(
         alloc,
         source,
-        "SELECT name, place, form, state, revision FROM releases ORDER BY name",
+        "SELECT name, place, form, state, revision FROM releases ORDER BY +name",
     )
 }
 
@@ -76,7 +76,7 @@ fn attached_rows<R: Source>(alloc: Global, source: &mut R) -> Result<Listed<Stor
     listed(
         alloc,
         source,
-        "SELECT release, document FROM attached ORDER BY release, document",
+        "SELECT release, document FROM attached ORDER BY +release, document",
     )
 }
 
@@ -108,7 +108,7 @@ fn choice_rows<R: Source>(alloc: Global, source: &mut R) -> Result<Listed<Stored
     listed(
         alloc,
         source,
-        "SELECT release, document, package, term FROM choice ORDER BY release, document, package, term",
+        "SELECT release, document, package, term FROM choice ORDER BY +release, document, package, term",
     )
 }
 
@@ -141,7 +141,7 @@ fn frozen_rows<R: Source>(alloc: Global, source: &mut R) -> Result<Listed<Stored
     listed(
         alloc,
         source,
-        "SELECT release, document, package, term, rule FROM frozen ORDER BY release, document, package, term",
+        "SELECT release, document, package, term, rule FROM frozen ORDER BY +release, document, package, term",
     )
 }
 
