@@ -3,6 +3,8 @@
      beside commands FILE N   opens N releases, each in a transaction of its own
      beside freeze FILE N     freezes a release with N duties in one transaction: a frozen row for each ten, a duty and its change each, in
                               the order in which a desk adds them
+     beside adopt FILE N      adopts N references of a document, each in a transaction of its own
+     beside withdraw FILE N   withdraws the release with its N duties in one transaction: the state of each, and a change
      beside totals FILE N     counts the duties of a release by their states, N times
      beside open FILE 1       opens the file and reads the number of each duty, its release and its state
 
@@ -66,6 +68,38 @@ static void commands(long count)
         step(add);
         step(commit);
     }
+}
+
+static void adopt(long count)
+{
+    sqlite3_stmt *add = prepared("INSERT INTO adoption VALUES (1, ?1, 'MIT')");
+    sqlite3_stmt *begin = prepared("BEGIN IMMEDIATE"), *commit = prepared("COMMIT");
+    char reference[32];
+
+    for (long place = 0; place < count; place++) {
+        snprintf(reference, sizeof reference, "LicenseRef-%ld", place);
+        step(begin);
+        text_at(add, 1, reference);
+        step(add);
+        step(commit);
+    }
+}
+
+static void withdraw(long count)
+{
+    sqlite3_stmt *duty = prepared("UPDATE duty SET state = 'withdrawn' WHERE number = ?1");
+    sqlite3_stmt *change = prepared("INSERT INTO change VALUES (?1, 2, '2025-04-02', 'withdrawn', 'w')");
+
+    run("BEGIN IMMEDIATE");
+    run("UPDATE releases SET state = 'withdrawn' WHERE name = 'r'");
+    run("DELETE FROM choice WHERE release = 'r'");
+    for (long number = 1; number <= count; number++) {
+        number_at(duty, 1, number);
+        step(duty);
+        number_at(change, 1, number);
+        step(change);
+    }
+    run("COMMIT");
 }
 
 static int by_bytes(const void *one, const void *other)
@@ -152,6 +186,10 @@ int main(int count, char **words)
         clock_gettime(CLOCK_MONOTONIC, &begun);
         if (!strcmp(words[1], "commands"))
             commands(rows);
+        else if (!strcmp(words[1], "adopt"))
+            adopt(rows);
+        else if (!strcmp(words[1], "withdraw"))
+            withdraw(rows);
         else if (!strcmp(words[1], "freeze"))
             freeze(rows);
         else

@@ -24,6 +24,8 @@ RUNS = 3
 PAIRS = 15
 COMMANDS = 1_000
 QUESTIONS = 10_000
+# How many references of one document are adopted
+ADOPTIONS = (1_000, 10_000)
 
 
 class Desk:
@@ -74,6 +76,23 @@ def commands(program, beside, kept, path):
     return seconds, library(beside, "commands", path, COMMANDS)
 
 
+def adopted(program, beside, room, count):
+    """The least seconds of adoptions of one document's references, by the desk and by the library."""
+    kept, path = os.path.join(room, "kept.db"), os.path.join(room, "desk.db")
+    prepared(program, kept, 10)
+    requests = [rows.line(do="adopt", document=1, reference=f"LicenseRef-{n}", licence="MIT") for n in range(count)]
+    found = []
+    for _ in range(RUNS):
+        copied(kept, path)
+        desk = Desk(program, path)
+        desk.step("totals", [rows.line(ask="totals", release="r")])
+        seconds = desk.step("adopt", requests)
+        desk.end()
+        copied(kept, path)
+        found.append((seconds, library(beside, "adopt", path, count)))
+    return [min(seconds) for seconds in zip(*found)]
+
+
 def timed(program, beside, room, duties):
     """The least seconds of each step, by the desk and by the library."""
     kept, path = os.path.join(room, "kept.db"), os.path.join(room, "desk.db")
@@ -85,6 +104,7 @@ def timed(program, beside, room, duties):
 
     freeze = [rows.line(do="freeze", release="r", day="2025-03-03")]
     totals = [rows.line(ask="totals", release="r")] * QUESTIONS
+    withdraw = [rows.line(do="withdraw", release="r", day="2025-04-02", text="w")]
     for _ in range(RUNS):
         seconds, other = commands(program, beside, kept, path)
         note("commands", "desk", seconds)
@@ -98,11 +118,13 @@ def timed(program, beside, room, duties):
         desk = Desk(program, path)
         desk.step("totals", totals[:1])
         note("open", "desk", time.perf_counter() - begun)
+        note("withdraw", "desk", desk.step("withdraw", withdraw))
         desk.end()
         note("open", "library", library(beside, "open", path, 1))
         note("totals", "library", library(beside, "totals", path, 10))
         copied(kept, path)
         note("freeze", "library", library(beside, "freeze", path, duties))
+        note("withdraw", "library", library(beside, "withdraw", path, duties))
     return found
 
 
@@ -146,12 +168,16 @@ def main():
         subprocess.run(["cc", "-O2", "-o", beside, os.path.join(HERE, "beside.c"), "-lsqlite3"], check=True)
         with tempfile.TemporaryDirectory(dir=os.path.abspath("build")) as room:
             paired(program, beside, room)
+        for count in ADOPTIONS:
+            with tempfile.TemporaryDirectory(dir="/dev/shm") as room:
+                desk, other = adopted(program, beside, room, count)
+            print(f"shared memory, {count:,} adoptions of one document {1000 * desk:10.1f} ms, library {1000 * other:10.1f} ms, times {desk / other:.2f}")
         for where, top in (("shared memory", "/dev/shm"), ("the disk", os.path.abspath("build"))):
             for duties in (10_000, 100_000):
                 with tempfile.TemporaryDirectory(dir=top) as room:
                     found = timed(program, beside, room, duties)
                 print(f"{where}, {duties:,} duties")
-                for step, count in (("commands", COMMANDS), ("freeze", 1), ("open", 1), ("totals", QUESTIONS), ("close", 1)):
+                for step, count in (("commands", COMMANDS), ("freeze", 1), ("withdraw", 1), ("open", 1), ("totals", QUESTIONS), ("close", 1)):
                     desk, other = found[step, "desk"], found.get((step, "library"))
                     if step == "totals":
                         print(f"  {count:,} questions for totals {1000 * desk:10.1f} ms, {count / desk:,.0f} a second; the library counts in {100 * other:.3f} ms each")

@@ -6,6 +6,7 @@ use Rattle.sqlite_trees.specs.Tree.{Trees}
 use Rattle.sqlite.specs.State.{State, HasCleanDisk}
 use Rattle.desk_model.specs.Keys.{release_below}
 use Rattle.desk_model.specs.Tables.{Tables, applied}
+use Rattle.desk_history.specs.FromTables.{adoption_count}
 use Rattle.desk_history.specs.Laws.{Ascends}
 use Rattle.desk_model.specs.declared.row.DutyRow.{DutyRow}
 use Rattle.desk_model.specs.declared.row.ReleaseRow.{ReleaseRow}
@@ -14,45 +15,59 @@ use Rattle.desk_store.specs.Adopting.{IsUncountable}
 use Rattle.desk_tally.specs.declared.tallies.Tallies.{Tallies}
 use Rattle.desk_model.specs.declared.command.Change.{Change}
 use Rattle.desk_model.specs.declared.command.Change.TheVariants as change
-use Rattle.desk_store.specs.Counting.{known_by, counts_after, forms_after, tallied}
+use Rattle.desk_store.specs.Counting.{AreCounted, known_by, counts_after, forms_after, tallied}
+use Rattle.desk_store.specs.declared.counts.Adoptions.{Adoptions}
 use Rattle.desk_store.specs.declared.counts.Counts.{Counts}
 use Rattle.desk_model.specs.declared.command.Fault.{Fault}
-use Rattle.desk_access.specs.Follows.{Follows}
 use Rattle.desk_access.specs.Seen.{Seen, Outlasts, Kept, Same, Looked, OfRows, Made, Failed, Wrote}
 use Rattle.desk_access.proofs.Chains.{outlasts_then}
 use Rattle.desk_sql_layout.specs.Held.{Known, Stands, known_of, known_after, seen_of}
 use Rattle.desk_sql_layout.proofs.Counting.{known_kept}
 
 -- what is kept beside its rows says nothing of its disk
-beside : (n m : Tallies) (k l : Known) (a b : Seen Trees) → Outlasts a b → Outlasts (tallied n k a) (tallied m l b)
-beside n m k l a b it = record { counts = it.counts; closes = it.closes }
+beside : (had has : Option Adoptions) (n m : Tallies) (k l : Known) (a b : Seen Trees) → Outlasts a b → Outlasts (tallied had n k a) (tallied has m l b)
+beside had has n m k l a b it = record { counts = it.counts; closes = it.closes }
 
 -- ---- look-ups
 
-module _ (n : Tallies) (k : Known) where
-  pub kept : (a b : Seen Trees) → Kept a b → Kept (tallied n k a) (tallied n k b)
+module _ (had : Option Adoptions) (n : Tallies) (k : Known) where
+  pub kept : (a b : Seen Trees) → Kept a b → Kept (tallied had n k a) (tallied had n k b)
   kept a b it = record {
     spared = record {
       honest = it.spared.honest;
-      holds = λ t holds. (holds.0, holds.1, it.spared.holds t holds.2);
-      outlasts = beside n n k k a b it.spared.outlasts;
+      holds = λ t holds. (holds.0, holds.1, it.spared.holds t holds.2, λ honest. holds.3 (it.spared.honest honest));
+      outlasts = beside had had n n k k a b it.spared.outlasts;
     };
     leaves = λ honest is t holds x left. it.leaves honest is t holds.2 x left;
   }
 
-  pub same : (a b : Seen Trees) → Same a b → Same (tallied n k a) (tallied n k b)
+  pub same : (a b : Seen Trees) → Same a b → Same (tallied had n k a) (tallied had n k b)
   same a b it = record { kept = kept a b it.kept; stays = it.stays }
 
-  pub looked : {A : Type 0} (a b : Seen Trees) (r : Result A Fault) → Looked a b r → Looked (tallied n k a) (tallied n k b) r
+  pub looked : {A : Type 0} (a b : Seen Trees) (r : Result A Fault) → Looked a b r → Looked (tallied had n k a) (tallied had n k b) r
   looked a b (Ok x) it = same a b it
   looked a b (Err fault) it = kept a b it
 
-  pub of_rows : (P : Tables → Type 0) (a b : Seen Trees) → OfRows P a b → OfRows P (tallied n k a) (tallied n k b)
+  pub of_rows : (P : Tables → Type 0) (a b : Seen Trees) → OfRows P a b → OfRows P (tallied had n k a) (tallied had n k b)
   of_rows P a b it = λ honest t holds. it honest t holds.2
 
   -- what is found where the counts are right
-  pub of_counted : (Q P : Tables → Type 0) (a b : Seen Trees) → ((t : Tables) → known_of t ≡ k → Q t) → OfRows (λ t. Q t → P t) a b → OfRows P (tallied n k a) (tallied n k b)
+  pub of_counted : (Q P : Tables → Type 0) (a b : Seen Trees) → ((t : Tables) → known_of t ≡ k → Q t) → OfRows (λ t. Q t → P t) a b → OfRows P (tallied had n k a) (tallied had n k b)
   of_counted Q P a b right it = λ honest t holds. it honest t holds.2 (right t holds.0)
+
+  -- a count that was looked up is kept
+  pub counted : (found : Adoptions) (a b : Seen Trees) → Same a b → OfRows (λ t. found.count ≡ adoption_count t found.document) a b → Same (tallied had n k a) (tallied (Some found) n k b)
+  counted found a b it are = record {
+    kept = record {
+      spared = record {
+        honest = it.kept.spared.honest;
+        holds = λ t holds. (holds.0, holds.1, it.kept.spared.holds t holds.2, λ honest. are honest t holds.2);
+        outlasts = beside had (Some found) n n k k a b it.kept.spared.outlasts;
+      };
+      leaves = λ honest is t holds x left. it.kept.leaves honest is t holds.2 x left;
+    };
+    stays = it.stays;
+  }
 
 -- ---- a change
 
@@ -72,13 +87,14 @@ known_is (change.Adopted row) counts forms = refl
 ascend : (s : State) (t : Tables) → HasCleanDisk s → IsTrue s.is_open → (seen_of s).holds t → Ascends release_below t.releases
 ascend s t clean is holds = (holds clean is).holds.orderly.sorted.releases
 
--- after a look-up that was made for it, a change is written
-pub wrote : (c : Change) (counts after : Counts) (forms : List (List ℕ)) (n m : Tallies) (a b d : State) → after ≡ counts_after c counts → Same (seen_of a) (seen_of b) → Made Stands c (seen_of b) (seen_of d)
+-- after look-ups that were made for it, a change is written
+pub wrote : (c : Change) (had has : Option Adoptions) (counts after : Counts) (forms : List (List ℕ)) (n m : Tallies) (a b d : State) → after ≡ counts_after c counts → Same (seen_of a) (seen_of b) → Made Stands c (seen_of b) (seen_of d)
     → (HasCleanDisk d → (t : Tables) → (seen_of a).holds t → Ascends release_below (applied c t).releases → AreKept n t → AreKept m (applied c t))
-    → Made Stands c (tallied n (known_by counts forms) (seen_of a)) (tallied m (known_by after (forms_after c forms)) (seen_of d))
-wrote c counts after forms n m a b d are still it leads = record {
+    → (HasCleanDisk d → (t : Tables) → (seen_of a).holds t → AreCounted had t → AreCounted has (applied c t))
+    → Made Stands c (tallied had n (known_by counts forms) (seen_of a)) (tallied has m (known_by after (forms_after c forms)) (seen_of d))
+wrote c had has counts after forms n m a b d are still it leads more = record {
   honest = λ clean. still.kept.spared.honest (it.honest clean);
-  outlasts = beside n m (known_by counts forms) (known_by after (forms_after c forms)) (seen_of a) (seen_of d)
+  outlasts = beside had has n m (known_by counts forms) (known_by after (forms_after c forms)) (seen_of a) (seen_of d)
       (outlasts_then (seen_of a) (seen_of b) (seen_of d) it.honest still.kept.spared.outlasts it.outlasts);
   stays = it.stays;
   holds = λ clean t holds follows.
@@ -86,16 +102,17 @@ wrote c counts after forms n m a b d are still it leads = record {
         known_kept c t ∙ (ap (known_after c) holds.0 ∙ (known_is c counts forms ∙ ap (λ (n : Counts). known_by n (forms_after c forms)) (sym are))),
         leads clean t holds.2 (ascend d (applied c t) clean (it.stays clean) shown) holds.1,
         shown,
+        λ honest. more clean t holds.2 (holds.3 (still.kept.spared.honest (it.honest clean))),
       );
   leaves = λ clean t holds follows x left. it.leaves clean t (still.kept.spared.holds t holds.2) follows x left;
 }
 
-pub failed : (c : Change) (k : Known) (n m : Tallies) (a b d : Seen Trees) → ((t : Tables) → AreKept n t → AreKept m t) → Same a b → Failed Stands c b d → Failed Stands c (tallied n k a) (tallied m k d)
-failed c k n m a b d kept still it = record {
+pub failed : (c : Change) (had : Option Adoptions) (k : Known) (n m : Tallies) (a b d : Seen Trees) → ((t : Tables) → AreKept n t → AreKept m t) → Same a b → Failed Stands c b d → Failed Stands c (tallied had n k a) (tallied had m k d)
+failed c had k n m a b d kept still it = record {
   spared = record {
     honest = λ honest. still.kept.spared.honest (it.spared.honest honest);
-    holds = λ t holds. (holds.0, kept t holds.1, it.spared.holds t (still.kept.spared.holds t holds.2));
-    outlasts = beside n m k k a d (outlasts_then a b d it.spared.honest still.kept.spared.outlasts it.spared.outlasts);
+    holds = λ t holds. (holds.0, kept t holds.1, it.spared.holds t (still.kept.spared.holds t holds.2), λ honest. holds.3 (still.kept.spared.honest (it.spared.honest honest)));
+    outlasts = beside had had n m k k a d (outlasts_then a b d it.spared.honest still.kept.spared.outlasts it.spared.outlasts);
   };
   leaves = λ honest is t holds follows x left.
       let before = it.spared.honest honest in
@@ -107,12 +124,12 @@ failed c k n m a b d kept still it = record {
     either x f (inr r) = inr r
 
 -- nothing is written where a look-up failed, or there was no step
-pub left : (c : Change) (k : Known) (n m : Tallies) (a b : Seen Trees) → ((t : Tables) → AreKept n t → AreKept m t) → Kept a b → Failed Stands c (tallied n k a) (tallied m k b)
-left c k n m a b kept it = record {
+pub left : (c : Change) (had : Option Adoptions) (k : Known) (n m : Tallies) (a b : Seen Trees) → ((t : Tables) → AreKept n t → AreKept m t) → Kept a b → Failed Stands c (tallied had n k a) (tallied had m k b)
+left c had k n m a b kept it = record {
   spared = record {
     honest = it.spared.honest;
-    holds = λ t holds. (holds.0, kept t holds.1, it.spared.holds t holds.2);
-    outlasts = beside n m k k a b it.spared.outlasts;
+    holds = λ t holds. (holds.0, kept t holds.1, it.spared.holds t holds.2, λ honest. holds.3 (it.spared.honest honest));
+    outlasts = beside had had n m k k a b it.spared.outlasts;
   };
   leaves = λ honest is t holds follows x left. inl (it.leaves honest is t holds.2 x left);
 }

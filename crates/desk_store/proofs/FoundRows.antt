@@ -1,5 +1,5 @@
 -- What is looked up in rows, in the tables of a history.
-use Rattle.std.proofs.Common.{◌≡◌, List, Result, Ok, Err}
+use Rattle.std.proofs.Common.{Result, Ok, Err}
 use Rattle.std.specs.Prelude.{IfOk}
 use Rattle.desk_model.specs.Readings.{Readings}
 use Rattle.desk_model.specs.Tables.{Tables, tables}

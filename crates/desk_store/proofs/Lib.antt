@@ -1,3 +1,4 @@
+mod Adoptions
 mod Counted
 mod Bodies
 mod Audited

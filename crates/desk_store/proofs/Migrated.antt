@@ -1,13 +1,12 @@
 -- A migration, and what is read behind it.
-use Rattle.std.proofs.Common.{◌≡◌, ◌⊎◌, ◌∙◌, inl, inr, IsTrue, sym, subst, ℕ, List}
-use Rattle.sqlite_trees.specs.Tree.{Trees}
+use Rattle.std.proofs.Common.{◌≡◌, ◌∙◌, inl, IsTrue, sym, subst}
 use Rattle.sqlite.specs.Effect.{Database}
 use Rattle.sqlite.specs.State.{State, HasCleanDisk, Survives}
 use Rattle.sqlite.proofs.StateLemmas.{survives_then}
 use Rattle.desk_model.specs.Tables.{Tables}
 use Rattle.desk_sql_layout.specs.Held.{HasRows, Showing}
 use Rattle.desk_sql_adopt.specs.Older.{HoldsOlder, migrated}
-use Rattle.desk_sql_adopt.specs.Reading.{IsSpared, HasStayed}
+use Rattle.desk_sql_adopt.specs.Reading.{IsSpared}
 use Rattle.desk_sql_adopt.specs.declared.older.OlderVersion.{OlderVersion}
 use Rattle.desk_sql_adopt.proofs.Spared.{clean_before}
 use Rattle.desk_snapshot.specs.declared.fault.AuditReport.TheVariants.{Sound}

@@ -1,5 +1,5 @@
 -- What an examination and an audit of a connection tell together.
-use Rattle.std.proofs.Common.{◌≡◌, Ok, Err, Result, IfOk, IfErr, ap, subst, ◌∙◌}
+use Rattle.std.proofs.Common.{◌≡◌, Ok, Err, Result, IfErr, ap, subst, ◌∙◌}
 use Rattle.std.specs.Prelude.{IsTrue, OnOk}
 use Rattle.sqlite.specs.State.{State, HasCleanDisk, Survives}
 use Rattle.desk_sql_layout.specs.Layout.{desk_schema}

@@ -1,5 +1,5 @@
 -- What creating a desk in a database, and adopting one, tell and leave.
-use Rattle.std.specs.Prelude.{◌≡◌, ◌⊎◌, true, false, [], length, IsTrue}
+use Rattle.std.specs.Prelude.{◌≡◌, false, [], length, IsTrue}
 use Rattle.sqlite_trees.specs.Tree.{Trees}
 use Rattle.sqlite.specs.State.{State}
 use Rattle.std.specs.Option.{option_and_then}
@@ -8,7 +8,7 @@ use Rattle.desk_model.specs.History.{forms_in}
 use Rattle.desk_model.specs.Readings.{Readings}
 use Rattle.desk_model.specs.Tables.{Tables, tables}
 use Rattle.desk_access.specs.Seen.{Seen}
-use Rattle.desk_sql_layout.specs.Held.{Stands, seen_of}
+use Rattle.desk_sql_layout.specs.Held.{Stands}
 use Rattle.desk_tally.specs.Kept.{are_countable}
 use Rattle.desk_sql_adopt.specs.Reading.{IsSpared, HasStayed}
 use Rattle.desk_sql_adopt.specs.Revisions.{body_of}

@@ -1,13 +1,16 @@
--- What the store keeps beside its tables: how many rows some of them have, the forms of the catalogue in force, and the tallies of the
--- releases.
-use Rattle.std.specs.Prelude.{◌≡◌, ℕ, ◌+◌, List, length}
+-- What the store keeps beside its tables: how many rows some of them have, the forms of the catalogue in force, the tallies of the
+-- releases, and how many references of one document are adopted.
+use Rattle.std.specs.Prelude.{◌≡◌, ℕ, ◌+◌, List, length, Option, Some, None}
 use Rattle.sqlite_trees.specs.Tree.{Trees}
 use Rattle.desk_model.specs.declared.command.Change.{Change}
 use Rattle.desk_model.specs.declared.command.Change.TheVariants as change
+use Rattle.desk_model.specs.Tables.{Tables}
+use Rattle.desk_history.specs.FromTables.{adoption_count}
 use Rattle.desk_access.specs.Seen.{Seen}
 use Rattle.desk_sql_layout.specs.Held.{Known, known_of}
 use Rattle.desk_tally.specs.Kept.{AreKept}
 use Rattle.desk_tally.specs.declared.tallies.Tallies.{Tallies}
+use Rattle.desk_store.specs.declared.counts.Adoptions.{Adoptions}
 use Rattle.desk_store.specs.declared.counts.Counts.{Counts}
 
 abbrev pub known_by : Counts → List (List ℕ) → Known
@@ -32,10 +35,16 @@ abbrev pub forms_after : Change → List (List ℕ) → List (List ℕ)
 forms_after (change.Loaded row rules forms) old = forms
 forms_after _ old = old
 
--- what is seen of a store that knows these of its rows, and has these tallies of them
-abbrev pub tallied : Tallies → Known → Seen Trees → Seen Trees
-tallied tallies k s = record {
-  holds = λ t. (known_of t ≡ k) × AreKept tallies t × s.holds t;
+-- as many references of the document are adopted in the tables; where no count is kept, nothing is said
+abbrev pub AreCounted : Option Adoptions → Tables → Type 0
+AreCounted None t = Unit {0}
+AreCounted (Some adoptions) t = adoptions.count ≡ adoption_count t adoptions.document
+
+-- What is seen of a store that knows these of its rows, and has these tallies of them and this count of adoptions. The count was looked
+-- up, so it is that of the rows as far as the disk is honest.
+abbrev pub tallied : Option Adoptions → Tallies → Known → Seen Trees → Seen Trees
+tallied adoptions tallies k s = record {
+  holds = λ t. (known_of t ≡ k) × AreKept tallies t × s.holds t × (s.is_honest → AreCounted adoptions t);
   is_honest = s.is_honest;
   is_open = s.is_open;
   faults = s.faults;

@@ -1,7 +1,8 @@
 //! The desk in a SQL database.
 //!
 //! `SqlStore` is a store of rows over a connection: it looks them up by `desk_sql_lookup`, writes a change by `desk_sql_write`, and keeps in
-//! its own value how many rows some tables have and the forms of the catalogue in force (`specs/Counting.antt`).
+//! its own value how many rows some tables have, the forms of the catalogue in force, the tallies of the releases and how many references
+//! of one document are adopted (`specs/Counting.antt`).
 //!
 //! `SqlDesk` is the desk over such a store, with the reader of texts by their standards. `create` makes the tables of an empty desk in
 //! a database where nothing stands; `adopt_connection` takes a database that holds a desk's tables as the desk with those rows; both

@@ -14,11 +14,11 @@ ghost use Rattle.desk_model.specs.Keys.{release_below};
 ghost use Rattle.desk_tally.specs.Kept.{AreKept, Fits, IsPlaceFor, LeadsTo};
 ghost use Rattle.desk_snapshot.specs.Tables.{snapshot_of};
 ghost use Rattle.desk_store.specs.Auditing.{IsAudit};
-ghost use Rattle.desk_store.specs.Counting.{forms_after, known_by, tallied};
+ghost use Rattle.desk_store.specs.Counting.{AreCounted, forms_after, known_by, tallied};
 ghost use Rattle.desk_texts.specs.Right.{AreRight};
 
 use crate::audit::audit_connection;
-use crate::counts::{Counts, counts_after};
+use crate::counts::{Adoptions, Counts, counts_after};
 use desk_access::store::Store;
 use desk_base::{Day, Items, Text};
 use desk_model::{
@@ -30,7 +30,8 @@ use desk_tally::{Step, Tallies};
 use sqlite::{Alter, Connection};
 use std::alloc::Global;
 
-/// Rows in a database, with how many there are of some, the forms of the catalogue in force, and the tallies of the releases.
+/// Rows in a database, with how many there are of some, the forms of the catalogue in force, the tallies of the releases, and the count
+/// of adoptions of the document whose count was asked for last, if one was.
 #[derive(Drop)]
 pub struct SqlStore<S: Alter> {
     alloc: Global,
@@ -38,6 +39,7 @@ pub struct SqlStore<S: Alter> {
     counts: Counts,
     forms: Items<Text>,
     tallies: Tallies,
+    adoptions: Option<Adoptions>,
     ghost idle: { conn.in_transaction ≡ false },
 }
 
@@ -62,6 +64,7 @@ impl<S: Alter> SqlStore<S> {
             counts,
             forms,
             tallies,
+            adoptions: None,
         }
     }
 
@@ -81,6 +84,7 @@ impl<S: Alter> SqlStore<S> {
             counts: _,
             forms: _,
             tallies: _,
+            adoptions: _,
         } = self;
         conn
     }
@@ -118,6 +122,7 @@ impl<S: Alter> SqlStore<S> {
         ensures conn { self.new.conn ≡ self.old.conn }
         ensures counts { self.new.counts ≡ self.old.counts }
         ensures tallies { self.new.tallies ≡ self.old.tallies }
+        ensures adoptions { self.new.adoptions ≡ self.old.adoptions }
     {
         match forms_of(change) {
             Some(forms) => self.forms = forms,
@@ -146,6 +151,34 @@ fn place_for<S: Alter>(
     }
 }
 
+/// The count of adoptions after a change: one more where a reference of its document is adopted that wasn't adopted before.
+fn adoptions_after<S: Alter>(
+    alloc: Global,
+    conn: &mut Connection<S>,
+    change: &Change,
+    adoptions: Option<Adoptions>,
+) -> Result<Option<Adoptions>, Fault>
+    ensures counted { IfOk result (λ after. OfRows (λ t.
+        AreCounted adoptions t → AreCounted after (applied change.now t))
+        (seen_of (state S.Store conn.old)) (seen_of (state S.Store conn.new))) }
+    ensures kept { Looked (seen_of (state S.Store conn.old)) (seen_of (state S.Store conn.new)) result }
+    ensures mode { conn.old.in_transaction ≡ false → conn.new.in_transaction ≡ false }
+{
+    let Some(counted) = adoptions else {
+        return Ok(None);
+    };
+    let Change::Adopted(row) = change else {
+        return Ok(adoptions);
+    };
+    if row.document != counted.document {
+        return Ok(adoptions);
+    }
+    match desk_sql_lookup::adoption(alloc, conn, row.document, row.reference.as_str())? {
+        Some(_) => Ok(adoptions),
+        None => Ok(counted.with_one_more()),
+    }
+}
+
 impl<S: Alter> SqlStore<S> {
     /// What a change comes to for the tallies, with room made for it.
     fn plan(&mut self, change: &Change) -> Result<Step, Fault>
@@ -159,6 +192,7 @@ impl<S: Alter> SqlStore<S> {
         ensures tallies { (t : Tables) → AreKept self.old.tallies t → AreKept self.new.tallies t }
         ensures counts { self.new.counts ≡ self.old.counts }
         ensures forms { self.new.forms ≡ self.old.forms }
+        ensures adoptions { self.new.adoptions ≡ self.old.adoptions }
     {
         let place = place_for(self.alloc, &mut self.conn, change)?;
         match self.tallies.plan(change, place)? {
@@ -193,7 +227,7 @@ impl<S: Alter> Store for SqlStore<S> {
 
     ghost stands = { Stands };
 
-    ghost seen = { λ s. tallied s.tallies (known_by s.counts s.forms) (seen_of (state S.Store s.conn)) };
+    ghost seen = { λ s. tallied s.adoptions s.tallies (known_by s.counts s.forms) (seen_of (state S.Store s.conn)) };
 
     ghost tells = { λ fault. Unit {0} };
 
@@ -291,7 +325,14 @@ impl<S: Alter> Store for SqlStore<S> {
     }
 
     fn adoption_count(&mut self, document: u32) -> Result<u64, Fault> {
-        desk_sql_lookup::adoption_count(&mut self.conn, document)
+        if let Some(adoptions) = self.adoptions
+            && adoptions.document == document
+        {
+            return Ok(adoptions.count);
+        }
+        let count = desk_sql_lookup::adoption_count(&mut self.conn, document)?;
+        self.adoptions = Some(Adoptions { document, count });
+        Ok(count)
     }
 
     fn duty(&mut self, number: u64) -> Result<Option<DutyRow>, Fault> {
@@ -337,10 +378,12 @@ impl<S: Alter> Store for SqlStore<S> {
         let Some(counts) = counts_after(&change, self.counts) else {
             return Err(Fault::Store(StoreFault::Rows));
         };
+        let adoptions = adoptions_after(self.alloc, &mut self.conn, &change, self.adoptions)?;
         let step = self.plan(&change)?;
         match desk_sql_write::commit(self.alloc, &mut self.conn, &change) {
             Ok(()) => {
                 self.counts = counts;
+                self.adoptions = adoptions;
                 self.tallies.take(step);
                 self.take_forms(change);
                 Ok(())

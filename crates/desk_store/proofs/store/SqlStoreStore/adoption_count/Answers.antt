@@ -1,5 +1,21 @@
-use Rattle.desk_store.proofs.Counted.{looked}
+use Rattle.sqlite.specs.Held.{state}
+use Rattle.desk_access.proofs.Chains.{looked_err}
+use Rattle.desk_sql_layout.specs.Held.{seen_of}
+use Rattle.desk_store.specs.Counting.{known_by}
+use Rattle.desk_store.proofs.Counted.{counted, looked}
 use Rattle.desk_store.proofs.store.SqlStoreStore.adoption_count.Goals as goal
 
-pub returns-clause-kept : goal.returns-clause-kept
-returns-clause-kept g c = looked c.args.self.now.tallies _ _ _ _ c.adoption_count.ensures.kept
+pub returns-in_err-count-clause-kept : goal.returns-in_err-count-clause-kept
+returns-in_err-count-clause-kept g c =
+    let self = c.args.self.now in
+    let old = seen_of (state g.S.Store self.conn) in
+    let new = seen_of (state g.S.Store c.adoption_count.new.conn) in
+    looked self.adoptions self.tallies (known_by self.counts self.forms) old new c.from_residual.result (looked_err old new c.from_residual.result c.from_residual.ensures.0 c.in_err-count.ensures.kept)
+
+pub returns-2-clause-kept : goal.returns-2-clause-kept
+returns-2-clause-kept g c =
+    let self = c.args.self.now in
+    let old = seen_of (state g.S.Store self.conn) in
+    let new = seen_of (state g.S.Store c.adoption_count.new.conn) in
+    let it = c.in_ok-count.ensures in
+    counted self.adoptions self.tallies (known_by self.counts self.forms) (record { document = c.args.document; count = c.in_ok-count.count }) old new it.kept it.found

@@ -1,0 +1,250 @@
+-- How many references of a document are adopted, after a change.
+use Rattle.std.proofs.Common.{◌≡◌, ◌∙◌, ℕ, ◌+◌, Bool, true, false, cond, not, List, [], ◌∷◌, map, filter, length, find, Option, Some, None, refl, sym, ap, subst, arith, is_eq, true≢false, Less, Equal, Greater, Ordering}
+use Rattle.std.specs.Prelude.{IfSome, IsTrue, ◌==◌, ◌&&◌, bytes_eq}
+use Rattle.std.specs.Option.{option_map}
+use Rattle.std.specs.List.{AllByRecursion, IsDistinct}
+use Rattle.std.specs.Ordering.{ordering_reverse}
+use Rattle.std.proofs.lemmas.Bool.{and_parts}
+use Rattle.std.proofs.lemmas.Bool.Decides.{nat_tests}
+use Rattle.std.proofs.lemmas.Slice.Eq.{bytes_eq-Decides}
+use Rattle.std.proofs.lemmas.Cmp.{tied_itself}
+use Rattle.std.proofs.lemmas.Map.Keys.{IsDistinct-IsPermutation}
+use Rattle.std.proofs.lemmas.List.Sorted.{IsPermutation-sym}
+use Rattle.sqlite_value.specs.declared.value.Value.TheVariants.{Text}
+use Rattle.sqlite_value.specs.Order.{Row, column}
+use Rattle.sqlite_trees.specs.Tree.{IsAscending}
+use Rattle.sqlite_trees.proofs.ListLemmas.{ascending-map}
+use Rattle.sqlite_sql.specs.Query.{key_cmp}
+use Rattle.sqlite_sql.proofs.QueryLemmas.{key_cmp_total}
+use Rattle.sqlite.specs.Effect.{Database}
+use Rattle.sqlite.specs.State.{State, HasCleanDisk}
+use Rattle.desk_model.specs.Lists.{put}
+use Rattle.desk_model.specs.Conclusions.{licence_for}
+use Rattle.desk_model.specs.Keys.{below_by, adoption_order, is_adoption, is_adoption_in}
+use Rattle.desk_model.specs.Tables.{Tables, applied}
+use Rattle.desk_model.specs.declared.command.Change.TheVariants.{Adopted}
+use Rattle.desk_model.specs.declared.row.AdoptionRow.{AdoptionRow}
+use Rattle.desk_history.specs.FromTables.{adoption_count}
+use Rattle.desk_sql_layout.specs.Cells.{number, adoption_cells}
+use Rattle.desk_sql_layout.specs.Held.{Holds, rows_of, seen_of}
+use Rattle.desk_sql_layout.specs.Layout.{adoption_table}
+use Rattle.desk_sql_layout.specs.Stored.{cells}
+use Rattle.desk_sql_lookup.proofs.Keyed.{same_number, same_text}
+use Rattle.desk_sql_lookup.proofs.Selects.{by_unique, mine}
+use Rattle.desk_store.specs.Counting.{AreCounted}
+use Rattle.desk_store.specs.declared.counts.Adoptions.{Adoptions}
+use Rattle.desk_sql_lookup.proofs.Ties.{is_key, keys}
+
+-- ---- no two adoptions are at one key
+
+abbrev places : List ℕ
+places = 1 ∷ 2 ∷ []
+
+-- two values of the key are the same
+abbrev tie : Row → Row → Bool
+tie k l = is_eq (key_cmp 0 (keys places) k l)
+
+is_eq-reverse : (o : Ordering) → is_eq (ordering_reverse o) ≡ is_eq o
+is_eq-reverse Less = refl
+is_eq-reverse Equal = refl
+is_eq-reverse Greater = refl
+
+tie_flips : (k l : Row) → tie k l ≡ tie l k
+tie_flips k l = ap is_eq ((key_cmp_total (keys places) 0).antisymm k l) ∙ is_eq-reverse (key_cmp 0 (keys places) l k)
+
+abbrev key_of_cells : Row → Row
+key_of_cells cs = column cs 0 ∷ column cs 1 ∷ []
+
+abbrev at_one_key : AdoptionRow → AdoptionRow → Bool
+at_one_key x y = tie (key_of_cells (adoption_cells x)) (key_of_cells (adoption_cells y))
+
+distinct_from : {X : Type 0} (e : X → X → Bool) (xs : List X) → IsAscending (λ a b. e a b ≡ false) xs → IsDistinct e xs
+unfolding IsDistinct
+distinct_from e [] up = tt
+distinct_from e (x ∷ xs) up = (up.0, distinct_from e xs up.1)
+
+distinct_unmapped : {X Y : Type 0} (e : Y → Y → Bool) (f : X → Y) (xs : List X) → IsDistinct e (map f xs) → IsDistinct (λ a b. e (f a) (f b)) xs
+unfolding IsDistinct
+distinct_unmapped e f [] are = tt
+distinct_unmapped {X} e f (x ∷ xs) are = (all xs are.0, distinct_unmapped e f xs are.1)
+  where
+    all : (ys : List X) → AllByRecursion (λ y. e (f x) y ≡ false) (map f ys) → AllByRecursion (λ y. e (f x) (f y) ≡ false) ys
+    all [] h = tt
+    all (y ∷ ys) h = (h.0, all ys h.1)
+
+apart : (t : Tables) (db : Database) → Holds t db → IsDistinct at_one_key t.adoption
+apart t db holds =
+    let this = adoption_table in
+    let stored = db.trees 12 in
+    let e : Row → Row → Bool = λ cs ds. tie (key_of_cells cs) (key_of_cells ds) in
+    let up = by_unique this.name 12 this.columns this.key this.primary this.uniques this.orders 7 refl adoption_cells (rows_of t) t.adoption refl db holds.rows 0 places refl refl (λ (cs : Row). is_key (column cs 0) && (is_key (column cs 1) && true)) (λ r. refl) (λ x. refl) in
+    let shown = distinct_from e (map (cells this) stored) (ascending-map (λ cs ds. e cs ds ≡ false) (cells this) stored up) in
+    let same = (mine this.name 12 this.columns this.key this.primary this.uniques this.orders 7 refl adoption_cells (rows_of t) t.adoption refl db holds.rows).same in
+    distinct_unmapped e adoption_cells t.adoption (IsDistinct-IsPermutation e (λ cs ds. tie_flips (key_of_cells cs) (key_of_cells ds)) (map (cells this) stored) (map adoption_cells t.adoption) (IsPermutation-sym _ _ same) shown)
+
+-- the rows at a reference of a document are at one key
+at_key : (d : ℕ) (r : List ℕ) (x : AdoptionRow) → is_adoption d r x ≡ true → key_of_cells (adoption_cells x) ≡ number d ∷ Text r ∷ []
+at_key d r x is = let both = and_parts (x.document == d) (bytes_eq x.reference r) is in rw (same_number x.document d both.0, same_text x.reference r both.1) refl
+
+tied : (d : ℕ) (r : List ℕ) (x y : AdoptionRow) → is_adoption d r x ≡ true → is_adoption d r y ≡ true → at_one_key x y ≡ true
+tied d r x y one two =
+    let key = number d ∷ Text r ∷ [] in
+    subst (λ k. tie k (key_of_cells (adoption_cells y)) ≡ true) (sym (at_key d r x one))
+    (subst (λ l. tie key l ≡ true) (sym (at_key d r y two)) (ap is_eq (tied_itself (key_cmp_total (keys places) 0) key)))
+
+-- ---- rows instead of those at their key
+
+-- one more stands where one was put
+count_put : {A : Type 0} (below : A → A → Bool) (p : A → Bool) (x : A) (ys : List A) → length (filter p (put below x ys)) ≡ length (filter p (x ∷ ys))
+count_put below p x [] = refl
+count_put {A} below p x (y ∷ ys) = go (below x y) (p x) (p y) refl refl (count_put below p x ys)
+  where
+    go : (b c d : Bool) → p x ≡ c → p y ≡ d → length (filter p (put below x ys)) ≡ length (filter p (x ∷ ys)) → length (filter p (cond b (x ∷ y ∷ ys) (y ∷ put below x ys))) ≡ length (filter p (x ∷ y ∷ ys))
+    go true c d e f more = refl
+    go false true true e f more = rw (e, f) (let m = rw e at more in omega (arith, m))
+    go false true false e f more = rw (e, f) (rw e at more)
+    go false false true e f more = rw (e, f) (let m = rw e at more in omega (arith, m))
+    go false false false e f more = rw (e, f) (rw e at more)
+
+-- none is left out where none is found
+none_out : {A : Type 0} (at : A → Bool) (xs : List A) → find at xs ≡ None → filter (λ y. not (at y)) xs ≡ xs
+none_out at [] none = refl
+none_out {A} at (x ∷ xs) none = go (none_out at xs) (at x) none
+  where
+    go : (find at xs ≡ None → filter (λ y. not (at y)) xs ≡ xs) → (b : Bool) → cond b (Some x) (find at xs) ≡ None → cond (not b) (x ∷ filter (λ y. not (at y)) xs) (filter (λ y. not (at y)) xs) ≡ x ∷ xs
+    go more true is = absurd (cc)
+    go more false is = ap (λ l. x ∷ l) (more is)
+
+-- no other is left out
+rest_stays : (d : ℕ) (r : List ℕ) (x : AdoptionRow) (ys : List AdoptionRow) → is_adoption d r x ≡ true → AllByRecursion (λ y. at_one_key x y ≡ false) ys → filter (λ y. not (is_adoption d r y)) ys ≡ ys
+rest_stays d r x [] is none = refl
+rest_stays d r x (y ∷ ys) is none = go (rest_stays d r x ys is none.1) (is_adoption d r y) refl
+  where
+    go : filter (λ y. not (is_adoption d r y)) ys ≡ ys → (b : Bool) → is_adoption d r y ≡ b → cond (not b) (y ∷ filter (λ y. not (is_adoption d r y)) ys) (filter (λ y. not (is_adoption d r y)) ys) ≡ y ∷ ys
+    go more true too = absurd (true≢false (sym (tied d r x y is too) ∙ none.0))
+    go more false apart = ap (λ l. y ∷ l) more
+
+-- one is left out where one is found
+one_out : (d : ℕ) (r : List ℕ) (xs : List AdoptionRow) → IsDistinct at_one_key xs → (find (is_adoption d r) xs ≡ None → ⊥)
+    → length (filter (is_adoption_in d) xs) ≡ length (filter (is_adoption_in d) (filter (λ y. not (is_adoption d r y)) xs)) + 1
+unfolding IsDistinct
+one_out d r [] are some = absurd (some refl)
+one_out d r (x ∷ xs) are some = go (one_out d r xs are.1) (is_adoption d r x) (is_adoption_in d x) refl refl some
+  where
+    rest : List AdoptionRow
+    rest = filter (λ y. not (is_adoption d r y)) xs
+
+    p : AdoptionRow → Bool
+    p = is_adoption_in d
+
+    go : ((find (is_adoption d r) xs ≡ None → ⊥) → length (filter p xs) ≡ length (filter p rest) + 1) → (b c : Bool) → is_adoption d r x ≡ b → p x ≡ c → (cond b (Some x) (find (is_adoption d r) xs) ≡ None → ⊥)
+        → length (cond c (x ∷ filter p xs) (filter p xs)) ≡ length (filter p (cond (not b) (x ∷ rest) rest)) + 1
+    go more true true e f some = rw (rest_stays d r x xs e are.0) (omega arith)
+    go more true false e f some = absurd (true≢false (sym (and_parts (x.document == d) (bytes_eq x.reference r) e).0 ∙ f))
+    go more false true e f some = rw f (let m = more some in omega (arith, m))
+    go more false false e f some = rw f (more some)
+
+-- those of another document are not left out
+none_elsewhere : (e d : ℕ) (r : List ℕ) (xs : List AdoptionRow) → (d ≡ e → ⊥) → length (filter (is_adoption_in e) (filter (λ y. not (is_adoption d r y)) xs)) ≡ length (filter (is_adoption_in e) xs)
+none_elsewhere e d r [] other = refl
+none_elsewhere e d r (x ∷ xs) other = go (none_elsewhere e d r xs other) (is_adoption d r x) (is_adoption_in e x) refl refl
+  where
+    rest : List AdoptionRow
+    rest = filter (λ y. not (is_adoption d r y)) xs
+
+    p : AdoptionRow → Bool
+    p = is_adoption_in e
+
+    go : length (filter p rest) ≡ length (filter p xs) → (b c : Bool) → is_adoption d r x ≡ b → p x ≡ c → length (filter p (cond (not b) (x ∷ rest) rest)) ≡ length (cond c (x ∷ filter p xs) (filter p xs))
+    go more true true at here = absurd (other (sym (same_number x.document d (and_parts (x.document == d) (bytes_eq x.reference r) at).0) ∙ same_number x.document e here))
+    go more true false at here = more
+    go more false true at here = rw here (let m = more in omega (arith, m))
+    go more false false at here = rw here more
+
+-- ---- counts after an adoption
+
+own_document : (d : ℕ) → (d == d) ≡ true
+own_document d = grind (arith, nat_tests)
+
+own_text : (r : List ℕ) → bytes_eq r r ≡ true
+own_text r = (bytes_eq-Decides r r).1 refl
+
+other_document : (d e : ℕ) → (d ≡ e → ⊥) → (d == e) ≡ false
+other_document d e other = grind (arith, nat_tests)
+
+first_counts : (row : AdoptionRow) (rows : List AdoptionRow) → length (filter (is_adoption_in row.document) (row ∷ rows)) ≡ length (filter (is_adoption_in row.document) rows) + 1
+first_counts row rows = rw (own_document row.document) (omega arith)
+
+-- a reference that wasn't adopted
+adopted_first : (t : Tables) (row : AdoptionRow) → licence_for t.adoption row.document row.reference ≡ None → adoption_count (applied (Adopted row) t) row.document ≡ adoption_count t row.document + 1
+adopted_first t row none =
+    let d = row.document in
+    let p = is_adoption_in d in
+    let at = is_adoption d row.reference in
+    let without = filter (λ y. not (at y)) t.adoption in
+    let missing : find at t.adoption ≡ None = no_row (find at t.adoption) none in
+    count_put (below_by adoption_order) p row without ∙ (first_counts row without ∙ ap (λ l. length (filter p l) + 1) (none_out at t.adoption missing))
+  where
+    no_row : (o : Option AdoptionRow) → option_map (λ (row : AdoptionRow). row.licence) o ≡ None → o ≡ None
+    no_row None e = refl
+    no_row (Some row) e = absurd (cc)
+
+-- one of another document
+adopted_elsewhere : (t : Tables) (row : AdoptionRow) (e : ℕ) → (row.document ≡ e → ⊥) → adoption_count (applied (Adopted row) t) e ≡ adoption_count t e
+adopted_elsewhere t row e other =
+    let without = filter (λ y. not (is_adoption row.document row.reference y)) t.adoption in
+    count_put (below_by adoption_order) (is_adoption_in e) row without ∙ (rw (other_document row.document e other) refl ∙ none_elsewhere e row.document row.reference t.adoption other)
+
+-- one that was
+adopted_again : (t : Tables) (row : AdoptionRow) (db : Database) (licence : List ℕ) → Holds t db → licence_for t.adoption row.document row.reference ≡ Some licence
+    → adoption_count (applied (Adopted row) t) row.document ≡ adoption_count t row.document
+adopted_again t row db licence holds some =
+    let d = row.document in
+    let p = is_adoption_in d in
+    let at = is_adoption d row.reference in
+    let without = filter (λ y. not (at y)) t.adoption in
+    count_put (below_by adoption_order) p row without ∙ (first_counts row without ∙ sym (one_out d row.reference t.adoption (apart t db holds) (has_row (find at t.adoption) some)))
+  where
+    has_row : (o : Option AdoptionRow) → option_map (λ (row : AdoptionRow). row.licence) o ≡ Some licence → o ≡ None → ⊥
+    has_row None e none = absurd (cc)
+    has_row (Some row) e none = absurd (cc)
+
+-- ---- what was found was found in a store that shows its rows: one that shows none would hold any
+
+shown : (s : State) (d : ℕ) (r : List ℕ) (found : Option (List ℕ)) (t : Tables) → ((u : Tables) → (seen_of s).holds u → found ≡ licence_for u.adoption d r) → IsTrue s.is_open
+shown s d r found t is = go s.is_open refl
+  where
+    row : AdoptionRow
+    row = record { document = d; reference = r; licence = [] }
+
+    go : (b : Bool) → s.is_open ≡ b → s.is_open ≡ true
+    go true open_ = open_
+    go false shut =
+        let any : (u : Tables) → found ≡ licence_for u.adoption d r = λ u. is u (λ clean open_. absurd (true≢false (sym open_ ∙ shut))) in
+        let none : found ≡ None = any (record t { adoption = [] }) in
+        let own : is_adoption d r row ≡ true = rw (own_document d, own_text r) refl in
+        let some : found ≡ Some [] = any (record t { adoption = row ∷ [] }) ∙ rw own refl in
+        absurd (let clash : None ≡ Some [] = sym none ∙ some in cc)
+
+-- ---- the count that is kept, after an adoption
+
+pub counted_elsewhere : (row : AdoptionRow) (kept : Adoptions) (t : Tables) → (row.document ≡ kept.document → ⊥) → AreCounted (Some kept) t → AreCounted (Some kept) (applied (Adopted row) t)
+counted_elsewhere row kept t other are = are ∙ sym (adopted_elsewhere t row kept.document other)
+
+-- what was found of the reference tells whether it counts
+module _ (s : State) (row : AdoptionRow) (kept : Adoptions) (reference : List ℕ) (found : Option (List ℕ)) (here : row.document ≡ kept.document) (named : reference ≡ row.reference)
+    (is : (t : Tables) → (seen_of s).holds t → found ≡ licence_for t.adoption row.document reference) (t : Tables) (held : (seen_of s).holds t) (are : AreCounted (Some kept) t) where
+  found_there : (u : Tables) → (seen_of s).holds u → found ≡ licence_for u.adoption row.document row.reference
+  found_there u holds = is u holds ∙ ap (licence_for u.adoption row.document) named
+
+  pub counted_again : (licence : List ℕ) → found ≡ Some licence → HasCleanDisk s → AreCounted (Some kept) (applied (Adopted row) t)
+  counted_again licence some clean =
+      let showing = held clean (shown s row.document row.reference found t found_there) in
+      are ∙ (ap (adoption_count t) (sym here) ∙ (sym (adopted_again t row s.now licence showing.holds (sym (found_there t held) ∙ some)) ∙ ap (adoption_count (applied (Adopted row) t)) here))
+
+  pub counted_first : found ≡ None → (after : Option Adoptions) → IfSome after (λ more. more ≡ record kept { count = kept.count + 1 }) → AreCounted after (applied (Adopted row) t)
+  counted_first none None more = tt
+  counted_first none (Some after) more =
+      let first = adopted_first t row (sym (found_there t held) ∙ none) in
+      subst (λ (x : Adoptions). AreCounted (Some x) (applied (Adopted row) t)) (sym more)
+      (ap (λ n. n + 1) (are ∙ ap (adoption_count t) (sym here)) ∙ (sym first ∙ ap (adoption_count (applied (Adopted row) t)) here))
