@@ -1,3 +1,2 @@
-pub mod SetLemmas
 pub mod StepLemmas
 pub mod ResultLemmas

@@ -15,8 +15,8 @@ use Rattle.desk_tagvalue.specs.Written.{Stands, fields_of_lines}
 use Rattle.desk_tagvalue.proofs.LinesReread.{lines_again}
 use Rattle.desk_convert.specs.declared.faults.ConvertFault.{ConvertFault}
 use Rattle.desk_convert.specs.declared.faults.ConvertFault.TheVariants as faults
-use Rattle.desk_convert.specs.Steps.{StepText, WhatText, put, left_out, missing, bad_type, bad_value}
-use Rattle.desk_convert.specs.Documents.{document_steps}
+use Rattle.desk_spdx_json.specs.Steps.{StepText, WhatText, put, left_out, missing, bad_type, bad_value}
+use Rattle.desk_spdx_json.specs.Documents.{document_steps}
 use Rattle.desk_convert.specs.Results.{Goes, Passes, FailsAt, FailsFirst, IsRefused, json_of, line_in, lines_of}
 
 -- ---- the value of a text

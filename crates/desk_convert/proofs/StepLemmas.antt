@@ -5,10 +5,10 @@ use Rattle.std.proofs.lemmas.Grind.{flat_map-append}
 use Rattle.std.proofs.lemmas.List.{map_more, map-append, drop_more, take-append-drop}
 use Rattle.std.proofs.lemmas.List.Elements.{All-append, All-cons, All-nil}
 use Rattle.desk_tagvalue.specs.Drafts.{spelled, text_of_lines}
-use Rattle.desk_convert.specs.declared.steps.Step.{Step}
+use Rattle.desk_spdx_json.specs.declared.steps.Step.{Step}
 use Rattle.desk_convert.specs.declared.faults.ConvertFault.{ConvertFault}
 use Rattle.desk_convert.specs.declared.faults.ConvertFault.TheVariants as faults
-use Rattle.desk_convert.specs.Steps.{StepText, step_text}
+use Rattle.desk_spdx_json.specs.Steps.{StepText, step_text}
 use Rattle.desk_convert.specs.Results.{Passes, Fails, IsStopped, IsPut, lines_in, lines_of}
 
 cut_at : (i : ℕ) (steps : List Step) (d : Step) → i < length steps → map step_text steps ≡ map step_text (take i steps) ++ step_text (get_or steps i d) ∷ map step_text (drop (i + 1) steps)

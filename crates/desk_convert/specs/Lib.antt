@@ -1,8 +1,1 @@
-pub mod Words
-pub mod Steps
-pub mod Members
-pub mod Values
-pub mod Parts
-pub mod Documents
 pub mod Results
-pub mod Sets

@@ -8,14 +8,14 @@ use Rattle.serde_json.specs.Read.{read}
 use Rattle.desk_tagvalue.specs.Drafts.{LineText, text_of_lines}
 use Rattle.desk_tagvalue.specs.Written.{Stands, fields_of_lines}
 use Rattle.desk_fields.specs.Cutting.{Reads, behind_mark}
-use Rattle.desk_convert.specs.declared.steps.Kind.{Kind}
-use Rattle.desk_convert.specs.declared.steps.Kind.TheVariants as kinds
+use Rattle.desk_spdx_json.specs.declared.steps.Kind.{Kind}
+use Rattle.desk_spdx_json.specs.declared.steps.Kind.TheVariants as kinds
 use Rattle.desk_convert.specs.declared.faults.ConvertFault.{ConvertFault}
 use Rattle.desk_convert.specs.declared.faults.ConvertFault.TheVariants as faults
 use Rattle.desk_convert.specs.declared.converting.Skipped.{Skipped}
 use Rattle.desk_convert.specs.declared.converting.Converted.{Converted}
-use Rattle.desk_convert.specs.Steps.{StepText, WhatText, put, left_out, missing, bad_type, bad_value}
-use Rattle.desk_convert.specs.Documents.{document_steps}
+use Rattle.desk_spdx_json.specs.Steps.{StepText, WhatText, put, left_out, missing, bad_type, bad_value}
+use Rattle.desk_spdx_json.specs.Documents.{document_steps}
 
 -- the lines of the steps
 abbrev pub line_in : WhatText → List LineText

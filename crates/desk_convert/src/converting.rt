@@ -3,14 +3,13 @@
 ghost use Rattle.std.specs.Prelude.{◌≡◌, ◌⊎◌, Ok, IfOk, IfErr, List, ℕ, map};
 ghost use Rattle.std.specs.String.{string_bytes};
 ghost use Rattle.serde_json.specs.View.{view};
-ghost use Rattle.desk_convert.specs.Steps.{step_text};
-ghost use Rattle.desk_convert.specs.Documents.{document_steps};
+ghost use Rattle.desk_spdx_json.specs.Steps.{step_text};
+ghost use Rattle.desk_spdx_json.specs.Documents.{document_steps};
 ghost use Rattle.desk_convert.specs.Results.{is_left, count_left, kind_number, skipped_of, IsOf, IsStopped, IsConverted, IsRefused, AreFields};
 
-use crate::documents::add_steps;
 use crate::faults::ConvertFault;
-use crate::steps::{Kind, Step, Steps, What};
 use crate::writing::put_steps;
+use desk_spdx_json::{Kind, Step, What};
 use serde_json::Value;
 use std::alloc::Global;
 
@@ -38,17 +37,15 @@ pub struct Converted {
     pub skipped: Skipped,
 }
 
-impl Kind {
-    fn number(self) -> u32
-        ensures { result ≡ kind_number self }
-    {
-        match self {
-            Kind::ExternalDocument => 1,
-            Kind::Snippet => 2,
-            Kind::Annotation => 3,
-            Kind::ExternalReference => 4,
-            Kind::Field => 5,
-        }
+fn kind_number(kind: Kind) -> u32
+    ensures { result ≡ kind_number kind }
+{
+    match kind {
+        Kind::ExternalDocument => 1,
+        Kind::Snippet => 2,
+        Kind::Annotation => 3,
+        Kind::ExternalReference => 4,
+        Kind::Field => 5,
     }
 }
 
@@ -57,7 +54,7 @@ fn is_left(kind: Kind, step: &Step) -> bool
     ensures { result ≡ is_left kind (step_text step.now) }
 {
     match &step.what {
-        What::LeftOut(other) => kind.number() == other.number(),
+        What::LeftOut(other) => kind_number(kind) == kind_number(*other),
         _ => false,
     }
 }
@@ -87,11 +84,10 @@ fn conversion_of(alloc: Global, value: &Value) -> Result<Converted, ConvertFault
     ensures ok { IfOk result (λ c. IsOf (document_steps (view value.now)) c) }
     ensures err { IfErr result (λ e. IsStopped (document_steps (view value.now)) e) }
 {
-    let mut steps = Steps::new(alloc);
-    match add_steps(alloc, &mut steps, value) {
-        Ok(()) => {}
+    let steps = match desk_spdx_json::document_steps(alloc, value) {
+        Ok(steps) => steps,
         Err(_) => return Err(ConvertFault::Memory),
-    }
+    };
     let mut text = String::new(alloc);
     match put_steps(alloc, &mut text, steps.as_slice()) {
         Ok(()) => Ok(Converted {

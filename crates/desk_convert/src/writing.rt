@@ -7,13 +7,13 @@ ghost use Rattle.desk_fields.specs.Found.{field_text};
 ghost use Rattle.desk_fields.specs.Tags.{tag_name};
 ghost use Rattle.desk_tagvalue.specs.Drafts.{one_line, in_text, spelled, text_of_lines};
 ghost use Rattle.desk_tagvalue.specs.Written.{field_at, Stands};
-ghost use Rattle.desk_convert.specs.Steps.{step_text, put};
+ghost use Rattle.desk_spdx_json.specs.Steps.{step_text, put};
 ghost use Rattle.desk_convert.specs.Results.{IsPut, IsStopped, Passes, FailsAt, Fails, lines_in};
 
 use crate::faults::ConvertFault;
-use crate::steps::{Step, What};
 use desk_base::Text;
 use desk_fields::{DocFault, Field, Tag, fields};
+use desk_spdx_json::{Step, What};
 use std::alloc::{AllocError, Global};
 
 // Whether a field is the one on the first line with this tag and value.

@@ -2,7 +2,7 @@ use Rattle.std.proofs.Common.{inr}
 use Rattle.std.proofs.lemmas.Result.{IfOk-weaker, IfErr-weaker}
 use Rattle.std.specs.String.{string_bytes}
 use Rattle.serde_json.specs.View.{view}
-use Rattle.desk_convert.specs.Documents.{document_steps}
+use Rattle.desk_spdx_json.specs.Documents.{document_steps}
 use Rattle.desk_convert.proofs.ResultLemmas.{json_of-json, json_of-other, refused, fields_again}
 use Rattle.desk_convert.proofs.converting.convert.Goals as goal
 

@@ -2,7 +2,7 @@ use Rattle.std.proofs.Common.{◌≡◌, ◌∙◌, ◌⊎◌, ◌++◌, ap, sub
 use Rattle.std.specs.String.{string_bytes}
 use Rattle.desk_tagvalue.specs.Drafts.{text_of_lines}
 use Rattle.desk_convert.specs.declared.faults.ConvertFault.TheVariants as faults
-use Rattle.desk_convert.specs.Steps.{step_text}
+use Rattle.desk_spdx_json.specs.Steps.{step_text}
 use Rattle.desk_convert.specs.Results.{Passes, Fails, lines_in}
 use Rattle.desk_convert.proofs.StepLemmas.{stopped_at, put_more}
 use Rattle.desk_convert.proofs.writing.put_steps.Goals as goal

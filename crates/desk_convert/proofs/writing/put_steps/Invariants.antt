@@ -1,6 +1,6 @@
 use Rattle.std.proofs.Common.{take, map}
 use Rattle.std.specs.String.{string_bytes}
-use Rattle.desk_convert.specs.Steps.{step_text}
+use Rattle.desk_spdx_json.specs.Steps.{step_text}
 use Rattle.desk_convert.specs.Results.{IsPut}
 use Rattle.desk_convert.proofs.writing.put_steps.Given as goal
 

@@ -1,8 +1,0 @@
-use Rattle.std.proofs.Common.{◌≡◌, ◌++◌, drop}
-use Rattle.serde_json.specs.View.{items_view}
-use Rattle.desk_convert.specs.Parts.{parts_steps}
-use Rattle.desk_convert.proofs.parts.add_parts.Given as goal
-
--- what was added, and what is still to come, is all
-abbrev pub invariant-loop-i : goal.invariant-loop-i
-invariant-loop-i l = l.steps ++ parts_steps l.part l.at l.i (items_view (drop l.i l.list)) ≡ l.initial.steps ++ parts_steps l.part l.at 0 (items_view l.list)

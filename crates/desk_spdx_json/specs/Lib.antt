@@ -1,0 +1,7 @@
+pub mod Words
+pub mod Steps
+pub mod Members
+pub mod Values
+pub mod Parts
+pub mod Documents
+pub mod Sets

@@ -1,0 +1,92 @@
+-- The steps of a document's parts: its packages, files, extracted licences and relationships.
+use Rattle.std.specs.Prelude.{ℕ, ◌+◌, Bool, List, [], ◌∷◌, ◌++◌, Option, Some, None, codes, if◌then◌else◌}
+use Rattle.std.specs.List.{flat_map, list_any}
+use Rattle.std.specs.Str.{bytes_eq}
+use Rattle.desk_fields.specs.declared.tag.Tag.TheVariants as tags
+use Rattle.desk_tagvalue.specs.Drafts.{LineText, blank, one_line}
+use Rattle.serde_json.specs.Data.{Data, Items, no_items, item, Members, no_members, member}
+use Rattle.serde_json.specs.Find.{get, as_str, as_array, as_object}
+use Rattle.desk_spdx_json.specs.declared.steps.Kind.TheVariants as kinds
+use Rattle.desk_spdx_json.specs.declared.parts.Part.{Part}
+use Rattle.desk_spdx_json.specs.declared.parts.Part.TheVariants as parts
+use Rattle.desk_spdx_json.specs.Words.{is_word}
+use Rattle.desk_spdx_json.specs.Steps.{StepText, step, put, left_out, missing, bad_type, bad_value, member_at, item_at}
+use Rattle.desk_spdx_json.specs.Members.{MemberText, package_members, file_members, extracted_members, relationship_members}
+use Rattle.desk_spdx_json.specs.Values.{value_steps, in_array, word_fault, word_in}
+
+-- ---- an object, member by member
+
+abbrev pub missing_steps : List ℕ → Bool → List StepText
+missing_steps at is_needed = if is_needed then step at missing ∷ [] else []
+
+abbrev pub found_steps : List ℕ → MemberText → Option Data → List StepText
+found_steps at m None = missing_steps at m.is_needed
+found_steps at m (Some d) = value_steps at m.form d
+
+abbrev pub member_steps : List ℕ → Data → MemberText → List StepText
+member_steps at d m = found_steps (member_at at m.key) m (get m.key d)
+
+-- members that aren't in the list are left out
+abbrev pub is_known : List MemberText → List ℕ → Bool
+is_known ms key = list_any (λ (m : MemberText). bytes_eq key m.key) ms
+
+abbrev pub unknown_step : List MemberText → List ℕ → List StepText
+unknown_step ms key = if is_known ms key then [] else step [] (left_out kinds.Field) ∷ []
+
+abbrev pub unknown_steps : List MemberText → Members → List StepText
+unknown_steps ms no_members = []
+unknown_steps ms (member key d more) = unknown_step ms key ++ unknown_steps ms more
+
+abbrev pub of_members : List ℕ → List MemberText → Data → Option Members → List StepText
+of_members at ms d None = step at bad_type ∷ []
+of_members at ms d (Some members) = flat_map (member_steps at d) ms ++ unknown_steps ms members
+
+abbrev pub object_steps : List ℕ → List MemberText → Data → List StepText
+object_steps at ms d = of_members at ms d (as_object d)
+
+-- ---- relationships (clause 11.1)
+
+abbrev pub relationship_line : List ℕ → List ℕ → List ℕ → LineText
+relationship_line left kind right = one_line tags.Relationship (left ++ (codes " " ++ (kind ++ (codes " " ++ right))))
+
+abbrev pub words_of : Data → LineText
+words_of d =
+    relationship_line (word_in (codes "spdxElementId") d) (word_in (codes "relationshipType") d) (word_in (codes "relatedSpdxElement") d)
+
+abbrev pub relationship_steps : List ℕ → Data → List StepText
+relationship_steps at d =
+    object_steps at relationship_members d
+    ++ (word_fault at (codes "spdxElementId") d
+    ++ (word_fault at (codes "relationshipType") d
+    ++ (word_fault at (codes "relatedSpdxElement") d
+    ++ step at (put (words_of d)) ∷ [])))
+
+-- a relationship from an element to the one that a value names
+abbrev pub tie_step : List ℕ → List ℕ → List ℕ → Option (List ℕ) → StepText
+tie_step at left kind None = step at bad_type
+tie_step at left kind (Some right) = if is_word right then step at (put (relationship_line left kind right)) else step at bad_value
+
+-- the files that a package has contain it: the package CONTAINS each
+abbrev pub contained_items : List ℕ → List ℕ → ℕ → Items → List StepText
+contained_items at owner i no_items = []
+contained_items at owner i (item d ds) = tie_step (item_at at i) owner (codes "CONTAINS") (as_str d) ∷ contained_items at owner (i + 1) ds
+
+abbrev pub contained_steps : List ℕ → List ℕ → Option Data → List StepText
+contained_steps at owner None = []
+contained_steps at owner (Some d) = in_array at (contained_items at owner 0) (as_array d)
+
+-- ---- parts
+
+-- packages, files and extracted licences stand behind a blank line
+abbrev pub part_steps : Part → List ℕ → Data → List StepText
+part_steps parts.Package at d =
+    step [] (put blank)
+    ∷ (object_steps at package_members d
+    ++ contained_steps (member_at at (codes "hasFiles")) (word_in (codes "SPDXID") d) (get (codes "hasFiles") d))
+part_steps parts.File at d = step [] (put blank) ∷ object_steps at file_members d
+part_steps parts.Extracted at d = step [] (put blank) ∷ object_steps at extracted_members d
+part_steps parts.Relationship at d = relationship_steps at d
+
+abbrev pub parts_steps : Part → List ℕ → ℕ → Items → List StepText
+parts_steps part at i no_items = []
+parts_steps part at i (item d ds) = part_steps part (item_at at i) d ++ parts_steps part at (i + 1) ds

@@ -1,0 +1,122 @@
+-- The steps of a member's value.
+use Rattle.std.specs.Prelude.{ℕ, ◌+◌, Bool, true, false, List, [], ◌∷◌, ◌++◌, Option, Some, None, unwrap_or, option_and_then, option_map, codes, if◌then◌else◌}
+use Rattle.desk_fields.specs.declared.tag.Tag.{Tag}
+use Rattle.desk_tagvalue.specs.Drafts.{LineText, one_line, in_text}
+use Rattle.serde_json.specs.Data.{Data, Items, no_items, item}
+use Rattle.serde_json.specs.Find.{get, as_str, as_bool, as_array}
+use Rattle.desk_spdx_json.specs.declared.steps.Kind.{Kind}
+use Rattle.desk_spdx_json.specs.declared.members.Form.{Form}
+use Rattle.desk_spdx_json.specs.declared.members.Form.TheVariants as forms
+use Rattle.desk_spdx_json.specs.Words.{is_word, is_name, is_keyword}
+use Rattle.desk_spdx_json.specs.Steps.{StepText, step, put, left_out, missing, bad_type, bad_value, member_at, item_at}
+
+-- ---- texts and flags
+
+-- the line of a text, if the value is one
+abbrev pub line_step : List ℕ → (List ℕ → LineText) → Option (List ℕ) → StepText
+line_step at line None = step at bad_type
+line_step at line (Some text) = step at (put (line text))
+
+abbrev pub copyright_line : Tag → List ℕ → LineText
+copyright_line tag text = if is_keyword text then one_line tag text else in_text tag text
+
+abbrev pub flag_text : Bool → List ℕ
+flag_text true = codes "true"
+flag_text false = codes "false"
+
+-- a line for each text of an array, from the one with number i
+abbrev pub text_steps : List ℕ → Tag → ℕ → Items → List StepText
+text_steps at tag i no_items = []
+text_steps at tag i (item d ds) = line_step (item_at at i) (one_line tag) (as_str d) ∷ text_steps at tag (i + 1) ds
+
+-- the steps of an array's items, if the value is one
+abbrev pub in_array : List ℕ → (Items → List StepText) → Option Items → List StepText
+in_array at steps None = step at bad_type ∷ []
+in_array at steps (Some ds) = steps ds
+
+-- ---- values that are composed of several members
+
+-- what is wrong with a member that must be a text of a form
+abbrev pub text_fault : List ℕ → (List ℕ → Bool) → Option (List ℕ) → List StepText
+text_fault at test None = step at bad_type ∷ []
+text_fault at test (Some text) = if test text then [] else step at bad_value ∷ []
+
+abbrev pub found_fault : List ℕ → Option Data → List StepText
+found_fault at None = step at missing ∷ []
+found_fault at (Some d) = text_fault at is_word (as_str d)
+
+abbrev pub word_fault : List ℕ → List ℕ → Data → List StepText
+word_fault at key d = found_fault (member_at at key) (get key d)
+
+-- its text, or nothing
+abbrev pub text_or_empty : Option (List ℕ) → List ℕ
+text_or_empty text = unwrap_or text []
+
+abbrev pub word_in : List ℕ → Data → List ℕ
+word_in key d = text_or_empty (option_and_then as_str (get key d))
+
+-- a checksum (clause 8.4)
+abbrev pub checksum_line : Tag → Data → LineText
+checksum_line tag d = one_line tag (word_in (codes "algorithm") d ++ (codes ": " ++ word_in (codes "checksumValue") d))
+
+abbrev pub checksum_step : List ℕ → Tag → Data → List StepText
+checksum_step at tag d =
+    word_fault at (codes "algorithm") d ++ (word_fault at (codes "checksumValue") d ++ step at (put (checksum_line tag d)) ∷ [])
+
+abbrev pub checksum_steps : List ℕ → Tag → ℕ → Items → List StepText
+checksum_steps at tag i no_items = []
+checksum_steps at tag i (item d ds) = checksum_step (item_at at i) tag d ++ checksum_steps at tag (i + 1) ds
+
+-- the names of the files that a verification code excludes (clause 7.9)
+abbrev pub name_faults : List ℕ → ℕ → Items → List StepText
+name_faults at i no_items = []
+name_faults at i (item d ds) = text_fault (item_at at i) is_name (as_str d) ++ name_faults at (i + 1) ds
+
+abbrev pub more_names : Items → List ℕ
+more_names no_items = []
+more_names (item d ds) = codes ", " ++ (text_or_empty (as_str d) ++ more_names ds)
+
+abbrev pub names_text : Items → List ℕ
+names_text no_items = []
+names_text (item d ds) = codes " (excludes: " ++ (text_or_empty (as_str d) ++ (more_names ds ++ codes ")"))
+
+abbrev pub excluded_text : Option Items → List ℕ
+excluded_text None = []
+excluded_text (Some ds) = names_text ds
+
+abbrev pub names_in : Data → Option Data
+names_in d = get (codes "packageVerificationCodeExcludedFiles") d
+
+abbrev pub excluded_faults : List ℕ → Option Data → List StepText
+excluded_faults at None = []
+excluded_faults at (Some d) = in_array at (name_faults at 0) (as_array d)
+
+-- a verification code
+abbrev pub code_line : Tag → Data → LineText
+code_line tag d = one_line tag (word_in (codes "packageVerificationCodeValue") d ++ excluded_text (option_and_then as_array (names_in d)))
+
+abbrev pub code_steps : List ℕ → Tag → Data → List StepText
+code_steps at tag d =
+    word_fault at (codes "packageVerificationCodeValue") d
+    ++ (excluded_faults (member_at at (codes "packageVerificationCodeExcludedFiles")) (names_in d) ++ step at (put (code_line tag d)) ∷ [])
+
+-- ---- what is left out: each item of an array, and a value of another type once
+abbrev pub left_items : Kind → Items → List StepText
+left_items kind no_items = []
+left_items kind (item d ds) = step [] (left_out kind) ∷ left_items kind ds
+
+abbrev pub left_steps : Kind → Option Items → List StepText
+left_steps kind None = step [] (left_out kind) ∷ []
+left_steps kind (Some ds) = left_items kind ds
+
+-- ---- all of them
+abbrev pub value_steps : List ℕ → Form → Data → List StepText
+value_steps at (forms.OneLine tag) d = line_step at (one_line tag) (as_str d) ∷ []
+value_steps at (forms.InText tag) d = line_step at (in_text tag) (as_str d) ∷ []
+value_steps at (forms.Copyright tag) d = line_step at (copyright_line tag) (as_str d) ∷ []
+value_steps at (forms.Flag tag) d = line_step at (one_line tag) (option_map flag_text (as_bool d)) ∷ []
+value_steps at (forms.Texts tag) d = in_array at (text_steps at tag 0) (as_array d)
+value_steps at (forms.Checksums tag) d = in_array at (checksum_steps at tag 0) (as_array d)
+value_steps at (forms.Code tag) d = code_steps at tag d
+value_steps at (forms.LeftOut kind) d = left_steps kind (as_array d)
+value_steps at forms.Elsewhere d = []

@@ -1,0 +1,235 @@
+//! Values that are composed of several members: checksums and verification codes.
+
+ghost use Rattle.std.specs.Prelude.{◌≡◌, ◌++◌, ◌∷◌, [], IfOk, OnOk, codes, option_map, option_and_then};
+ghost use Rattle.std.specs.String.{string_bytes};
+ghost use Rattle.desk_tagvalue.specs.Drafts.{one_line};
+ghost use Rattle.serde_json.specs.Find.{get, as_str, as_array};
+ghost use Rattle.serde_json.specs.View.{view, items_view};
+ghost use Rattle.desk_spdx_json.specs.Steps.{step, put, member_at};
+ghost use Rattle.desk_spdx_json.specs.Words.{is_name};
+ghost use Rattle.desk_spdx_json.specs.Values.{in_array, text_fault, text_or_empty, word_fault, word_in, checksum_line, checksum_step, checksum_steps, name_faults, more_names, names_text, excluded_text, names_in, excluded_faults, code_line, code_steps};
+
+use crate::steps::{Steps, What, item_at, member_at};
+use crate::words::{is_name, is_word};
+use desk_fields::Tag;
+use serde_json::Value;
+use std::alloc::{AllocError, Global};
+
+/// The text of a member, or nothing.
+pub(crate) fn word_in<'a>(value: &'a Value, key: &str) -> &'a str
+    ensures { result.now ≡ word_in key.now (view value.now) }
+{
+    match value.get(key) {
+        Some(member) => member.as_str().unwrap_or(""),
+        None => "",
+    }
+}
+
+/// Adds what is wrong with a member that must be a word.
+pub(crate) fn add_word_fault(
+    alloc: Global,
+    steps: &mut Steps<'_>,
+    at: &str,
+    value: &Value,
+    key: &str,
+) -> Result<(), AllocError>
+    ensures { OnOk result (steps.new ≡ steps.old ++ word_fault at.now key.now (view value.now)) }
+{
+    let place = member_at(alloc, at, key)?;
+    let Some(member) = value.get(key) else {
+        return steps.add(alloc, &place, What::Missing);
+    };
+    match member.as_str() {
+        Some(text) if is_word(text) => Ok(()),
+        Some(_) => steps.add(alloc, &place, What::BadValue),
+        None => steps.add(alloc, &place, What::BadType),
+    }
+}
+
+// The checksum of a file, from which its digest is read.
+fn checksum_text(alloc: Global, value: &Value) -> Result<String, AllocError>
+    ensures { IfOk result (λ s. string_bytes s
+        ≡ word_in (codes "algorithm") (view value.now) ++ (codes ": " ++ word_in (codes "checksumValue") (view value.now))) }
+{
+    let algorithm = word_in(value, "algorithm");
+    let digest = word_in(value, "checksumValue");
+    format!(in alloc; "{algorithm}: {digest}")
+}
+
+// Adds a checksum.
+fn add_checksum(
+    alloc: Global,
+    steps: &mut Steps<'_>,
+    at: &str,
+    tag: Tag,
+    value: &Value,
+) -> Result<(), AllocError>
+    ensures { OnOk result (steps.new ≡ steps.old ++ checksum_step at.now tag (view value.now)) }
+{
+    add_word_fault(alloc, steps, at, value, "algorithm")?;
+    add_word_fault(alloc, steps, at, value, "checksumValue")?;
+    let text = checksum_text(alloc, value)?;
+    steps.add(alloc, at, What::Composed(tag, text))
+}
+
+// Adds each checksum of a list.
+fn add_checksum_items(
+    alloc: Global,
+    steps: &mut Steps<'_>,
+    at: &str,
+    tag: Tag,
+    list: &[Value],
+) -> Result<(), AllocError>
+    ensures { OnOk result (steps.new ≡ steps.old ++ checksum_steps at.now tag 0 (items_view list.now)) }
+{
+    for (i, value) in list.iter().enumerate() {
+        let place = item_at(alloc, at, i)?;
+        add_checksum(alloc, steps, &place, tag, value)?;
+    }
+    Ok(())
+}
+
+/// Adds an array of checksums.
+pub(crate) fn add_checksums(
+    alloc: Global,
+    steps: &mut Steps<'_>,
+    at: &str,
+    tag: Tag,
+    value: &Value,
+) -> Result<(), AllocError>
+    ensures { OnOk result (steps.new ≡ steps.old ++ in_array at.now (checksum_steps at.now tag 0) (as_array (view value.now))) }
+{
+    match value.as_array() {
+        Some(list) => add_checksum_items(alloc, steps, at, tag, list.as_slice()),
+        None => steps.add(alloc, at, What::BadType),
+    }
+}
+
+// Adds what is wrong with a name of a list.
+fn add_name_fault(
+    alloc: Global,
+    steps: &mut Steps<'_>,
+    at: &str,
+    value: &Value,
+) -> Result<(), AllocError>
+    ensures { OnOk result (steps.new ≡ steps.old ++ text_fault at.now is_name (as_str (view value.now))) }
+{
+    match value.as_str() {
+        Some(text) if is_name(text) => Ok(()),
+        Some(_) => steps.add(alloc, at, What::BadValue),
+        None => steps.add(alloc, at, What::BadType),
+    }
+}
+
+// Adds what is wrong with the names of a list.
+fn add_name_faults(
+    alloc: Global,
+    steps: &mut Steps<'_>,
+    at: &str,
+    list: &[Value],
+) -> Result<(), AllocError>
+    ensures { OnOk result (steps.new ≡ steps.old ++ name_faults at.now 0 (items_view list.now)) }
+{
+    for (i, value) in list.iter().enumerate() {
+        let place = item_at(alloc, at, i)?;
+        add_name_fault(alloc, steps, &place, value)?;
+    }
+    Ok(())
+}
+
+// The names of the files that a verification code excludes.
+fn names_in(value: &Value) -> Option<&Value>
+    ensures { option_map (λ v. view v.now) result ≡ names_in (view value.now) }
+{
+    value.get("packageVerificationCodeExcludedFiles")
+}
+
+// Adds what is wrong with these names.
+fn add_excluded_faults(
+    alloc: Global,
+    steps: &mut Steps<'_>,
+    at: &str,
+    value: &Value,
+) -> Result<(), AllocError>
+    ensures { OnOk result (steps.new ≡ steps.old
+        ++ excluded_faults (member_at at.now (codes "packageVerificationCodeExcludedFiles")) (names_in (view value.now))) }
+{
+    let place = member_at(alloc, at, "packageVerificationCodeExcludedFiles")?;
+    let Some(names) = names_in(value) else {
+        return Ok(());
+    };
+    match names.as_array() {
+        Some(list) => add_name_faults(alloc, steps, &place, list.as_slice()),
+        None => steps.add(alloc, &place, What::BadType),
+    }
+}
+
+// The text of a value, or nothing.
+fn text_or_empty(value: &Value) -> &str
+    ensures { result.now ≡ text_or_empty (as_str (view value.now)) }
+{
+    value.as_str().unwrap_or("")
+}
+
+// Adds names behind the first.
+fn add_names(text: &mut String, list: &[Value]) -> Result<(), AllocError>
+    ensures { OnOk result (string_bytes text.new ≡ string_bytes text.old ++ more_names (items_view list.now)) }
+{
+    for value in list {
+        text.push_str(", ")?;
+        text.push_str(text_or_empty(value))?;
+    }
+    Ok(())
+}
+
+// The names of a list, as they stand behind a verification code.
+fn names_text(alloc: Global, list: &[Value]) -> Result<String, AllocError>
+    ensures { IfOk result (λ s. string_bytes s ≡ names_text (items_view list.now)) }
+{
+    let mut text = String::new(alloc);
+    let Some((first, more)) = list.split_first() else {
+        return Ok(text);
+    };
+    text.push_str(" (excludes: ")?;
+    text.push_str(text_or_empty(first))?;
+    add_names(&mut text, more)?;
+    text.push_str(")")?;
+    Ok(text)
+}
+
+// What stands behind a verification code.
+fn excluded_text(alloc: Global, value: &Value) -> Result<String, AllocError>
+    ensures { IfOk result (λ s. string_bytes s ≡ excluded_text (option_and_then as_array (names_in (view value.now)))) }
+{
+    match names_in(value).and_then(Value::as_array) {
+        Some(list) => names_text(alloc, list.as_slice()),
+        None => String::from_str(alloc, ""),
+    }
+}
+
+// A verification code.
+fn code_text(alloc: Global, value: &Value) -> Result<String, AllocError>
+    ensures { IfOk result (λ s. string_bytes s ≡ word_in (codes "packageVerificationCodeValue") (view value.now)
+        ++ excluded_text (option_and_then as_array (names_in (view value.now)))) }
+{
+    let digits = word_in(value, "packageVerificationCodeValue");
+    let excluded = excluded_text(alloc, value)?;
+    let excluded = excluded.as_str();
+    format!(in alloc; "{digits}{excluded}")
+}
+
+/// Adds a package's verification code.
+pub(crate) fn add_code(
+    alloc: Global,
+    steps: &mut Steps<'_>,
+    at: &str,
+    tag: Tag,
+    value: &Value,
+) -> Result<(), AllocError>
+    ensures { OnOk result (steps.new ≡ steps.old ++ code_steps at.now tag (view value.now)) }
+{
+    add_word_fault(alloc, steps, at, value, "packageVerificationCodeValue")?;
+    add_excluded_faults(alloc, steps, at, value)?;
+    let text = code_text(alloc, value)?;
+    steps.add(alloc, at, What::Composed(tag, text))
+}

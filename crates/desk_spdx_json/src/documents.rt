@@ -1,0 +1,214 @@
+//! The steps of a document.
+
+ghost use Rattle.std.specs.Prelude.{◌≡◌, ◌++◌, ◌∷◌, [], ℕ, List, IfOk, OnOk, codes, is_some, option_map, option_and_then};
+ghost use Rattle.serde_json.specs.Find.{as_str, as_array, get};
+ghost use Rattle.serde_json.specs.View.{view, items_view};
+ghost use Rattle.desk_base.specs.Borrowed.{texts, texts_in};
+ghost use Rattle.desk_spdx_json.specs.Steps.{member_at};
+ghost use Rattle.desk_spdx_json.specs.Values.{in_array};
+ghost use Rattle.desk_spdx_json.specs.Documents.{creation_steps, list_steps, all_parts, is_describing, target_of, targets_in, targets_of, targets, is_among, described_step, described_items, described_steps, steps_at, document_steps};
+ghost use Rattle.desk_spdx_json.specs.Sets.{IsSetOf};
+
+use crate::composed::word_in;
+use crate::members::{creation_members, document_members};
+use crate::parts::{Part, add_object, add_parts, add_tie};
+use crate::steps::{Steps, What, item_at, member_at};
+use serde_json::Value;
+use std::alloc::{AllocError, Global};
+use std::collections::BTreeSet;
+
+const DOCUMENT_ID: &str = "SPDXRef-DOCUMENT";
+
+// Adds how the document was made.
+fn add_creation<'a>(
+    alloc: Global,
+    steps: &mut Steps<'a>,
+    at: &str,
+    value: &'a Value,
+) -> Result<(), AllocError>
+    ensures { OnOk result (steps.new ≡ steps.old
+        ++ creation_steps (member_at at.now (codes "creationInfo")) (get (codes "creationInfo") (view value.now))) }
+{
+    let place = member_at(alloc, at, "creationInfo")?;
+    match value.get("creationInfo") {
+        Some(creation) => add_object(alloc, steps, &place, creation, &creation_members()),
+        None => Ok(()),
+    }
+}
+
+// Adds the parts in a member of the document.
+fn add_list<'a>(
+    alloc: Global,
+    steps: &mut Steps<'a>,
+    part: Part,
+    at: &str,
+    key: &str,
+    value: &'a Value,
+) -> Result<(), AllocError>
+    ensures { OnOk result (steps.new ≡ steps.old ++ all_parts part at.now key.now (view value.now)) }
+{
+    let place = member_at(alloc, at, key)?;
+    let Some(parts) = value.get(key) else {
+        return Ok(());
+    };
+    match parts.as_array() {
+        Some(list) => add_parts(alloc, steps, part, &place, list.as_slice()),
+        None => steps.add(alloc, &place, What::BadType),
+    }
+}
+
+// Whether a relationship says that the document describes an element.
+fn is_describing(value: &Value) -> bool
+    ensures { result ≡ is_describing (view value.now) }
+{
+    word_in(value, "spdxElementId") == DOCUMENT_ID
+        && word_in(value, "relationshipType") == "DESCRIBES"
+}
+
+// Adds the element that a relationship says the document describes.
+fn add_target<'a>(found: &mut Vec<&'a str>, value: &'a Value) -> Result<(), AllocError>
+    ensures { OnOk result (texts found.new.items ≡ texts found.old.items ++ target_of (view value.now)) }
+{
+    if is_describing(value) {
+        found.push(word_in(value, "relatedSpdxElement"))?;
+    }
+    Ok(())
+}
+
+// The elements that relationships say the document describes.
+fn targets_in<'a>(alloc: Global, list: &'a [Value]) -> Result<Vec<&'a str>, AllocError>
+    ensures { IfOk result (λ v. texts_in v ≡ targets_in (items_view list.now)) }
+{
+    let mut found = Vec::new(alloc);
+    for value in list {
+        add_target(&mut found, value)?;
+    }
+    Ok(found)
+}
+
+// The elements that the document's relationships say it describes.
+fn targets<'a>(alloc: Global, value: &'a Value) -> Result<Vec<&'a str>, AllocError>
+    ensures { IfOk result (λ v. texts_in v ≡ targets (view value.now)) }
+{
+    match value.get("relationships").and_then(Value::as_array) {
+        Some(list) => targets_in(alloc, list.as_slice()),
+        None => Ok(Vec::new(alloc)),
+    }
+}
+
+// The set of some texts.
+fn set_of<'a>(alloc: Global, listed: &[&'a str]) -> Result<BTreeSet<&'a str>, AllocError>
+    ensures { IfOk result (IsSetOf (texts listed.now)) }
+{
+    let mut set = BTreeSet::new(alloc);
+    for text in listed {
+        set.insert(*text)?;
+    }
+    Ok(set)
+}
+
+// Adds that the document describes an element, unless that is listed.
+fn add_described(
+    alloc: Global,
+    steps: &mut Steps<'_>,
+    at: &str,
+    listed: &BTreeSet<&str>,
+    value: &Value,
+) -> Result<(), AllocError>
+    ensures { (ids : List (List ℕ)) → IsSetOf ids listed.now
+        → OnOk result (steps.new ≡ steps.old ++ described_step at.now ids (view value.now)) }
+{
+    if let Some(id) = value.as_str() {
+        if listed.contains(id) {
+            return Ok(());
+        }
+    }
+    add_tie(alloc, steps, at, DOCUMENT_ID, "DESCRIBES", value)
+}
+
+// Adds that the document describes each element of a list.
+fn add_described_items(
+    alloc: Global,
+    steps: &mut Steps<'_>,
+    at: &str,
+    listed: &BTreeSet<&str>,
+    list: &[Value],
+) -> Result<(), AllocError>
+    ensures { (ids : List (List ℕ)) → IsSetOf ids listed.now
+        → OnOk result (steps.new ≡ steps.old ++ described_items at.now ids 0 (items_view list.now)) }
+{
+    for (i, value) in list.iter().enumerate() {
+        let place = item_at(alloc, at, i)?;
+        add_described(alloc, steps, &place, listed, value)?;
+    }
+    Ok(())
+}
+
+// Adds what the document describes.
+fn add_all_described(
+    alloc: Global,
+    steps: &mut Steps<'_>,
+    at: &str,
+    value: &Value,
+) -> Result<(), AllocError>
+    ensures { OnOk result (steps.new ≡ steps.old
+        ++ described_steps (member_at at.now (codes "documentDescribes")) (targets (view value.now)) (get (codes "documentDescribes") (view value.now))) }
+{
+    let Some(described) = value.get("documentDescribes") else {
+        return Ok(());
+    };
+    let place = member_at(alloc, at, "documentDescribes")?;
+    let Some(list) = described.as_array() else {
+        return steps.add(alloc, &place, What::BadType);
+    };
+    let listed = targets(alloc, value)?;
+    let listed = set_of(alloc, listed.as_slice())?;
+    add_described_items(alloc, steps, &place, &listed, list.as_slice())
+}
+
+// Adds the steps of a document at a place.
+fn add_document<'a>(
+    alloc: Global,
+    steps: &mut Steps<'a>,
+    at: &str,
+    value: &'a Value,
+) -> Result<(), AllocError>
+    ensures { OnOk result (steps.new ≡ steps.old ++ steps_at at.now (view value.now)) }
+{
+    add_object(alloc, steps, at, value, &document_members())?;
+    add_creation(alloc, steps, at, value)?;
+    add_list(alloc, steps, Part::File, at, "files", value)?;
+    add_list(alloc, steps, Part::Package, at, "packages", value)?;
+    add_list(
+        alloc,
+        steps,
+        Part::Extracted,
+        at,
+        "hasExtractedLicensingInfos",
+        value,
+    )?;
+    add_all_described(alloc, steps, at, value)?;
+    add_list(alloc, steps, Part::Relationship, at, "relationships", value)
+}
+
+// Adds the steps of a document, or of one in the member `sbom`.
+fn add_steps<'a>(alloc: Global, steps: &mut Steps<'a>, value: &'a Value) -> Result<(), AllocError>
+    ensures { OnOk result (steps.new ≡ steps.old ++ document_steps (view value.now)) }
+{
+    if value.get("spdxVersion").is_some() {
+        return add_document(alloc, steps, "", value);
+    }
+    match value.get("sbom") {
+        Some(inner) => add_document(alloc, steps, "/sbom", inner),
+        None => add_document(alloc, steps, "", value),
+    }
+}
+
+/// The steps of a document, in the order of the lines. `AllocError`: memory ran out.
+pub fn document_steps<'a>(alloc: Global, value: &'a Value) -> Result<Steps<'a>, AllocError>
+    ensures { IfOk result (λ steps. steps ≡ document_steps (view value.now)) }
+{
+    let mut steps = Steps::new(alloc);
+    add_steps(alloc, &mut steps, value)?;
+    Ok(steps)
+}

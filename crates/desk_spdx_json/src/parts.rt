@@ -1,0 +1,306 @@
+//! The steps of a document's parts.
+
+ghost use Rattle.std.specs.Prelude.{◌≡◌, ◌++◌, ◌∷◌, [], IfOk, OnOk, codes, map, option_map};
+ghost use Rattle.std.specs.List.{flat_map};
+ghost use Rattle.std.specs.String.{string_bytes};
+ghost use Rattle.serde_json.specs.Find.{as_str, as_array, as_object, get};
+ghost use Rattle.serde_json.specs.View.{view, items_view, members_view};
+ghost use Rattle.desk_tagvalue.specs.Drafts.{one_line};
+ghost use Rattle.desk_spdx_json.specs.declared.parts.Part.TheVariants as parts;
+ghost use Rattle.desk_spdx_json.specs.Steps.{step, put, member_at};
+ghost use Rattle.desk_spdx_json.specs.Members.{member_text};
+ghost use Rattle.desk_spdx_json.specs.Values.{in_array, word_in};
+ghost use Rattle.desk_spdx_json.specs.Parts.{missing_steps, member_steps, is_known, unknown_step, unknown_steps, object_steps, relationship_line, words_of, relationship_steps, tie_step, contained_items, contained_steps, part_steps, parts_steps};
+
+use crate::composed::{add_word_fault, word_in};
+use crate::members::{
+    Member, extracted_members, file_members, package_members, relationship_members,
+};
+use crate::steps::{Kind, Steps, What, item_at, member_at};
+use crate::values::add_value;
+use crate::words::is_word;
+use desk_fields::Tag;
+use serde_json::{Map, Value};
+use std::alloc::{AllocError, Global};
+
+/// A kind of part.
+#[derive(Clone, Copy)]
+pub(crate) enum Part {
+    File,
+    Package,
+    Extracted,
+    Relationship,
+}
+
+// Adds the steps of a member.
+fn add_member<'a>(
+    alloc: Global,
+    steps: &mut Steps<'a>,
+    at: &str,
+    value: &'a Value,
+    member: &Member,
+) -> Result<(), AllocError>
+    ensures { OnOk result (steps.new ≡ steps.old ++ member_steps at.now (view value.now) (member_text member.now)) }
+{
+    let place = member_at(alloc, at, member.key)?;
+    match value.get(member.key) {
+        Some(found) => add_value(alloc, steps, &place, member.form, found),
+        None if member.is_needed => steps.add(alloc, &place, What::Missing),
+        None => Ok(()),
+    }
+}
+
+// Adds the steps of some members.
+fn add_members<'a>(
+    alloc: Global,
+    steps: &mut Steps<'a>,
+    at: &str,
+    value: &'a Value,
+    members: &[Member],
+) -> Result<(), AllocError>
+    ensures { OnOk result (steps.new ≡ steps.old
+        ++ flat_map (member_steps at.now (view value.now)) (map member_text members.now)) }
+{
+    for member in members {
+        add_member(alloc, steps, at, value, member)?;
+    }
+    Ok(())
+}
+
+fn is_known(members: &[Member], key: &str) -> bool
+    ensures { result ≡ is_known (map member_text members.now) key.now }
+{
+    for member in members {
+        if key == member.key {
+            return true;
+        }
+    }
+    false
+}
+
+// Leaves out a member that isn't in the list.
+fn leave_unknown(
+    alloc: Global,
+    steps: &mut Steps<'_>,
+    members: &[Member],
+    key: &str,
+) -> Result<(), AllocError>
+    ensures { OnOk result (steps.new ≡ steps.old ++ unknown_step (map member_text members.now) key.now) }
+{
+    if is_known(members, key) {
+        return Ok(());
+    }
+    steps.add(alloc, "", What::LeftOut(Kind::Field))
+}
+
+// Leaves out all members that aren't in the list.
+fn leave_all_unknown(
+    alloc: Global,
+    steps: &mut Steps<'_>,
+    members: &[Member],
+    object: &Map<String, Value>,
+) -> Result<(), AllocError>
+    ensures { OnOk result (steps.new ≡ steps.old
+        ++ unknown_steps (map member_text members.now) (members_view object.now.entries)) }
+{
+    for (key, _value) in object {
+        leave_unknown(alloc, steps, members, key.as_str())?;
+    }
+    Ok(())
+}
+
+/// Adds the steps of an object that has some members.
+pub(crate) fn add_object<'a>(
+    alloc: Global,
+    steps: &mut Steps<'a>,
+    at: &str,
+    value: &'a Value,
+    members: &[Member],
+) -> Result<(), AllocError>
+    ensures { OnOk result (steps.new ≡ steps.old
+        ++ object_steps at.now (map member_text members.now) (view value.now)) }
+{
+    let Some(object) = value.as_object() else {
+        return steps.add(alloc, at, What::BadType);
+    };
+    add_members(alloc, steps, at, value, members)?;
+    leave_all_unknown(alloc, steps, members, object)
+}
+
+// The words of a relationship.
+fn relationship_text(
+    alloc: Global,
+    left: &str,
+    kind: &str,
+    right: &str,
+) -> Result<String, AllocError>
+    ensures { IfOk result (λ s. string_bytes s ≡ left.now ++ (codes " " ++ (kind.now ++ (codes " " ++ right.now)))) }
+{
+    format!(in alloc; "{left} {kind} {right}")
+}
+
+// Adds the words of a relationship.
+fn add_words(
+    alloc: Global,
+    steps: &mut Steps<'_>,
+    at: &str,
+    value: &Value,
+) -> Result<(), AllocError>
+    ensures { OnOk result (steps.new ≡ steps.old ++ step at.now (put (words_of (view value.now))) ∷ []) }
+{
+    let left = word_in(value, "spdxElementId");
+    let kind = word_in(value, "relationshipType");
+    let right = word_in(value, "relatedSpdxElement");
+    let text = relationship_text(alloc, left, kind, right)?;
+    steps.add(alloc, at, What::Composed(Tag::Relationship, text))
+}
+
+// Adds a relationship.
+fn add_relationship<'a>(
+    alloc: Global,
+    steps: &mut Steps<'a>,
+    at: &str,
+    value: &'a Value,
+) -> Result<(), AllocError>
+    ensures { OnOk result (steps.new ≡ steps.old ++ relationship_steps at.now (view value.now)) }
+{
+    add_object(alloc, steps, at, value, &relationship_members())?;
+    add_word_fault(alloc, steps, at, value, "spdxElementId")?;
+    add_word_fault(alloc, steps, at, value, "relationshipType")?;
+    add_word_fault(alloc, steps, at, value, "relatedSpdxElement")?;
+    add_words(alloc, steps, at, value)
+}
+
+/// Adds the relationship from an element to the one that a value names.
+pub(crate) fn add_tie(
+    alloc: Global,
+    steps: &mut Steps<'_>,
+    at: &str,
+    left: &str,
+    kind: &str,
+    value: &Value,
+) -> Result<(), AllocError>
+    ensures { OnOk result (steps.new ≡ steps.old ++ tie_step at.now left.now kind.now (as_str (view value.now)) ∷ []) }
+{
+    let Some(right) = value.as_str() else {
+        return steps.add(alloc, at, What::BadType);
+    };
+    if !is_word(right) {
+        return steps.add(alloc, at, What::BadValue);
+    }
+    let text = relationship_text(alloc, left, kind, right)?;
+    steps.add(alloc, at, What::Composed(Tag::Relationship, text))
+}
+
+// Adds that a package contains each file of a list.
+fn add_contained_items(
+    alloc: Global,
+    steps: &mut Steps<'_>,
+    at: &str,
+    owner: &str,
+    list: &[Value],
+) -> Result<(), AllocError>
+    ensures { OnOk result (steps.new ≡ steps.old ++ contained_items at.now owner.now 0 (items_view list.now)) }
+{
+    for (i, value) in list.iter().enumerate() {
+        let place = item_at(alloc, at, i)?;
+        add_tie(alloc, steps, &place, owner, "CONTAINS", value)?;
+    }
+    Ok(())
+}
+
+// Adds that a package contains its files.
+fn add_contained(
+    alloc: Global,
+    steps: &mut Steps<'_>,
+    at: &str,
+    value: &Value,
+) -> Result<(), AllocError>
+    ensures { OnOk result (steps.new ≡ steps.old
+        ++ contained_steps (member_at at.now (codes "hasFiles")) (word_in (codes "SPDXID") (view value.now)) (get (codes "hasFiles") (view value.now))) }
+{
+    let Some(files) = value.get("hasFiles") else {
+        return Ok(());
+    };
+    let place = member_at(alloc, at, "hasFiles")?;
+    let owner = word_in(value, "SPDXID");
+    match files.as_array() {
+        Some(list) => add_contained_items(alloc, steps, &place, owner, list.as_slice()),
+        None => steps.add(alloc, &place, What::BadType),
+    }
+}
+
+// Adds a package.
+fn add_package<'a>(
+    alloc: Global,
+    steps: &mut Steps<'a>,
+    at: &str,
+    value: &'a Value,
+) -> Result<(), AllocError>
+    ensures { OnOk result (steps.new ≡ steps.old ++ part_steps parts.Package at.now (view value.now)) }
+{
+    steps.add(alloc, "", What::Blank)?;
+    add_object(alloc, steps, at, value, &package_members())?;
+    add_contained(alloc, steps, at, value)
+}
+
+// Adds a file.
+fn add_file<'a>(
+    alloc: Global,
+    steps: &mut Steps<'a>,
+    at: &str,
+    value: &'a Value,
+) -> Result<(), AllocError>
+    ensures { OnOk result (steps.new ≡ steps.old ++ part_steps parts.File at.now (view value.now)) }
+{
+    steps.add(alloc, "", What::Blank)?;
+    add_object(alloc, steps, at, value, &file_members())
+}
+
+// Adds an extracted licence.
+fn add_extracted<'a>(
+    alloc: Global,
+    steps: &mut Steps<'a>,
+    at: &str,
+    value: &'a Value,
+) -> Result<(), AllocError>
+    ensures { OnOk result (steps.new ≡ steps.old ++ part_steps parts.Extracted at.now (view value.now)) }
+{
+    steps.add(alloc, "", What::Blank)?;
+    add_object(alloc, steps, at, value, &extracted_members())
+}
+
+// Adds a part.
+fn add_part<'a>(
+    alloc: Global,
+    steps: &mut Steps<'a>,
+    part: Part,
+    at: &str,
+    value: &'a Value,
+) -> Result<(), AllocError>
+    ensures { OnOk result (steps.new ≡ steps.old ++ part_steps part at.now (view value.now)) }
+{
+    match part {
+        Part::File => add_file(alloc, steps, at, value),
+        Part::Package => add_package(alloc, steps, at, value),
+        Part::Extracted => add_extracted(alloc, steps, at, value),
+        Part::Relationship => add_relationship(alloc, steps, at, value),
+    }
+}
+
+/// Adds each part of a list.
+pub(crate) fn add_parts<'a>(
+    alloc: Global,
+    steps: &mut Steps<'a>,
+    part: Part,
+    at: &str,
+    list: &'a [Value],
+) -> Result<(), AllocError>
+    ensures { OnOk result (steps.new ≡ steps.old ++ parts_steps part at.now 0 (items_view list.now)) }
+{
+    for (i, value) in list.iter().enumerate() {
+        let place = item_at(alloc, at, i)?;
+        add_part(alloc, steps, part, &place, value)?;
+    }
+    Ok(())
+}

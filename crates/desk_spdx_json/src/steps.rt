@@ -1,0 +1,110 @@
+//! The steps of a conversion.
+
+ghost use Rattle.std.specs.Prelude.{◌≡◌, ◌++◌, ◌∷◌, [], IfOk, OnOk, map};
+ghost use Rattle.std.specs.String.{string_bytes};
+ghost use Rattle.desk_spdx_json.specs.Steps.{step, step_text, what_text, member_at, item_at, left_out};
+
+use desk_fields::Tag;
+use std::alloc::{AllocError, Global};
+use std::marker::Model;
+
+/// What is left out.
+#[derive(Clone, Copy, Debug, PartialEq, Eq)]
+pub enum Kind {
+    /// A reference to another document.
+    ExternalDocument,
+    /// A snippet.
+    Snippet,
+    /// An annotation.
+    Annotation,
+    /// A reference of a package to something outside, as a package URL.
+    ExternalReference,
+    /// Any other member of an object.
+    Field,
+}
+
+/// What is done.
+#[derive(Debug, Drop)]
+pub enum What<'a> {
+    /// A blank line is written.
+    Blank,
+    /// A text is written on one line.
+    OneLine(Tag, &'a str),
+    /// A text is written in `<text>`.
+    InText(Tag, &'a str),
+    /// A text that was composed is written on one line.
+    Composed(Tag, String),
+    /// Something is left out.
+    LeftOut(Kind),
+    /// A member that must be there isn't.
+    Missing,
+    /// The value is of another type.
+    BadType,
+    /// The field can't hold the value.
+    BadValue,
+}
+
+/// What is done at a place.
+#[derive(Debug, Drop)]
+pub struct Step<'a> {
+    /// The place, a JSON pointer.
+    pub at: String,
+    /// What is done there.
+    pub what: What<'a>,
+}
+
+/// Steps, in order.
+#[derive(Debug, Drop)]
+pub struct Steps<'a> {
+    steps: Vec<Step<'a>>,
+}
+
+impl<'a> Model for Steps<'a> {
+    ghost use Rattle.std.specs.Prelude.{List, map};
+    ghost use Rattle.desk_spdx_json.specs.Steps.{StepText, step_text};
+
+    ghost Value = { List StepText };
+
+    ghost view = { λ s. map step_text s.steps.items };
+}
+
+impl<'a> Steps<'a> {
+    /// No steps.
+    pub(crate) fn new(alloc: Global) -> Steps<'a>
+        ensures { result ≡ [] }
+    {
+        Steps {
+            steps: Vec::new(alloc),
+        }
+    }
+
+    /// Adds a step.
+    pub(crate) fn add(&mut self, alloc: Global, at: &str, what: What<'a>) -> Result<(), AllocError>
+        ensures { OnOk result (self.new ≡ self.old ++ step at.now (what_text what.entry) ∷ []) }
+    {
+        let at = String::from_str(alloc, at)?;
+        self.steps.push(Step { at, what })?;
+        Ok(())
+    }
+
+    /// The steps themselves.
+    pub fn as_slice(&self) -> &[Step<'a>]
+        ensures { map step_text result.now ≡ self.now }
+    {
+        self.steps.as_slice()
+    }
+}
+
+/// The place of a member of the object at a place.
+pub(crate) fn member_at(alloc: Global, at: &str, key: &str) -> Result<String, AllocError>
+    ensures { IfOk result (λ s. string_bytes s ≡ member_at at.now key.now) }
+{
+    format!(in alloc; "{at}/{key}")
+}
+
+/// The place of an item of the array at a place.
+pub(crate) fn item_at(alloc: Global, at: &str, index: usize) -> Result<String, AllocError>
+    ensures { IfOk result (λ s. string_bytes s ≡ item_at at.now index) }
+{
+    format!(in alloc; "{at}/{index}")
+}

@@ -1,0 +1,168 @@
+//! The steps of a member's value.
+
+ghost use Rattle.std.specs.Prelude.{◌≡◌, ◌++◌, ◌∷◌, [], OnOk, option_map};
+ghost use Rattle.desk_tagvalue.specs.Drafts.{one_line, in_text};
+ghost use Rattle.serde_json.specs.Find.{as_str, as_bool, as_array};
+ghost use Rattle.serde_json.specs.View.{view, items_view};
+ghost use Rattle.desk_spdx_json.specs.Values.{line_step, copyright_line, flag_text, text_steps, in_array, left_items, left_steps, value_steps};
+
+use crate::composed::{add_checksums, add_code};
+use crate::members::Form;
+use crate::steps::{Kind, Steps, What, item_at};
+use crate::words::is_keyword;
+use desk_fields::Tag;
+use serde_json::Value;
+use std::alloc::{AllocError, Global};
+
+// Adds a text on one line.
+fn add_one_line<'a>(
+    alloc: Global,
+    steps: &mut Steps<'a>,
+    at: &str,
+    tag: Tag,
+    value: &'a Value,
+) -> Result<(), AllocError>
+    ensures { OnOk result (steps.new ≡ steps.old ++ line_step at.now (one_line tag) (as_str (view value.now)) ∷ []) }
+{
+    match value.as_str() {
+        Some(text) => steps.add(alloc, at, What::OneLine(tag, text)),
+        None => steps.add(alloc, at, What::BadType),
+    }
+}
+
+// Adds a text in `<text>`.
+fn add_in_text<'a>(
+    alloc: Global,
+    steps: &mut Steps<'a>,
+    at: &str,
+    tag: Tag,
+    value: &'a Value,
+) -> Result<(), AllocError>
+    ensures { OnOk result (steps.new ≡ steps.old ++ line_step at.now (in_text tag) (as_str (view value.now)) ∷ []) }
+{
+    match value.as_str() {
+        Some(text) => steps.add(alloc, at, What::InText(tag, text)),
+        None => steps.add(alloc, at, What::BadType),
+    }
+}
+
+// Adds a copyright.
+fn add_copyright<'a>(
+    alloc: Global,
+    steps: &mut Steps<'a>,
+    at: &str,
+    tag: Tag,
+    value: &'a Value,
+) -> Result<(), AllocError>
+    ensures { OnOk result (steps.new ≡ steps.old ++ line_step at.now (copyright_line tag) (as_str (view value.now)) ∷ []) }
+{
+    match value.as_str() {
+        Some(text) if is_keyword(text) => steps.add(alloc, at, What::OneLine(tag, text)),
+        Some(text) => steps.add(alloc, at, What::InText(tag, text)),
+        None => steps.add(alloc, at, What::BadType),
+    }
+}
+
+// Adds a flag.
+fn add_flag<'a>(
+    alloc: Global,
+    steps: &mut Steps<'a>,
+    at: &str,
+    tag: Tag,
+    value: &'a Value,
+) -> Result<(), AllocError>
+    ensures { OnOk result (steps.new ≡ steps.old
+        ++ line_step at.now (one_line tag) (option_map flag_text (as_bool (view value.now))) ∷ []) }
+{
+    match value.as_bool() {
+        Some(true) => steps.add(alloc, at, What::OneLine(tag, "true")),
+        Some(false) => steps.add(alloc, at, What::OneLine(tag, "false")),
+        None => steps.add(alloc, at, What::BadType),
+    }
+}
+
+// Adds each text of a list on a line.
+fn add_text_items<'a>(
+    alloc: Global,
+    steps: &mut Steps<'a>,
+    at: &str,
+    tag: Tag,
+    list: &'a [Value],
+) -> Result<(), AllocError>
+    ensures { OnOk result (steps.new ≡ steps.old ++ text_steps at.now tag 0 (items_view list.now)) }
+{
+    for (i, value) in list.iter().enumerate() {
+        let place = item_at(alloc, at, i)?;
+        add_one_line(alloc, steps, &place, tag, value)?;
+    }
+    Ok(())
+}
+
+// Adds an array of texts.
+fn add_texts<'a>(
+    alloc: Global,
+    steps: &mut Steps<'a>,
+    at: &str,
+    tag: Tag,
+    value: &'a Value,
+) -> Result<(), AllocError>
+    ensures { OnOk result (steps.new ≡ steps.old ++ in_array at.now (text_steps at.now tag 0) (as_array (view value.now))) }
+{
+    match value.as_array() {
+        Some(list) => add_text_items(alloc, steps, at, tag, list.as_slice()),
+        None => steps.add(alloc, at, What::BadType),
+    }
+}
+
+// Leaves out each item of a list.
+fn leave_items(
+    alloc: Global,
+    steps: &mut Steps<'_>,
+    kind: Kind,
+    list: &[Value],
+) -> Result<(), AllocError>
+    ensures { OnOk result (steps.new ≡ steps.old ++ left_items kind (items_view list.now)) }
+{
+    for _value in list {
+        steps.add(alloc, "", What::LeftOut(kind))?;
+    }
+    Ok(())
+}
+
+// Leaves out each item of an array, or another value.
+fn leave_out(
+    alloc: Global,
+    steps: &mut Steps<'_>,
+    kind: Kind,
+    value: &Value,
+) -> Result<(), AllocError>
+    ensures { OnOk result (steps.new ≡ steps.old ++ left_steps kind (as_array (view value.now))) }
+{
+    match value.as_array() {
+        Some(list) => leave_items(alloc, steps, kind, list.as_slice()),
+        None => steps.add(alloc, "", What::LeftOut(kind)),
+    }
+}
+
+/// Adds the steps of a member's value.
+pub(crate) fn add_value<'a>(
+    alloc: Global,
+    steps: &mut Steps<'a>,
+    at: &str,
+    form: Form,
+    value: &'a Value,
+) -> Result<(), AllocError>
+    ensures { OnOk result (steps.new ≡ steps.old ++ value_steps at.now form (view value.now)) }
+{
+    match form {
+        Form::OneLine(tag) => add_one_line(alloc, steps, at, tag, value),
+        Form::InText(tag) => add_in_text(alloc, steps, at, tag, value),
+        Form::Copyright(tag) => add_copyright(alloc, steps, at, tag, value),
+        Form::Flag(tag) => add_flag(alloc, steps, at, tag, value),
+        Form::Texts(tag) => add_texts(alloc, steps, at, tag, value),
+        Form::Checksums(tag) => add_checksums(alloc, steps, at, tag, value),
+        Form::Code(tag) => add_code(alloc, steps, at, tag, value),
+        Form::LeftOut(kind) => leave_out(alloc, steps, kind, value),
+        Form::Elsewhere => Ok(()),
+    }
+}
