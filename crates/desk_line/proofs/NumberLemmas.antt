@@ -2,6 +2,7 @@
 use Rattle.std.proofs.Common.{◌≡◌, ◌<◌, ◌^◌, ℕ, Bool, true, false, List, [], ◌∷◌, length, Option, Some, None, Ok, Err, refl, sym, ap, ◌∙◌}
 use Rattle.std.specs.Prelude.{nat_lt, option_and_then, ◌&&◌, Result}
 use Rattle.std.specs.List.{list_all}
+use Rattle.std.specs.Result.{result_ok}
 use Rattle.std.specs.Char.{digit_value}
 use Rattle.std.specs.Str.Parse.{AllDigits, IsNumeral, ParsesUnsigned, digits_value, without_leading_plus}
 use Rattle.std.proofs.lemmas.Bool.{lt-ltb, ltb-true}
@@ -55,3 +56,8 @@ number_found bits all id gives found parses none some = go (one_text all id) ref
     go : (text : Option (List ℕ)) → one_text all id ≡ text → found ≡ number_in bits id (rows_of all)
     go None is = none is ∙ ap (option_and_then (number_written bits)) (sym is ∙ one_text-rows all id)
     go (Some text) is = number_read bits text gives found parses (some text is) ∙ ap (option_and_then (number_written bits)) (sym is ∙ one_text-rows all id)
+
+pub number_parsed : {E : Type 0} (bits : ℕ) (text : List ℕ) (gives : List ℕ → Result ℕ E → Type 0) (r : Result ℕ E)
+    → ((t : List ℕ) (r : Result ℕ E) → gives t r → ParsesUnsigned bits 10 t r) → gives text r → result_ok r ≡ number_written bits text
+number_parsed bits text gives (Ok number) parses reads = number_read bits text gives (Some number) parses reads
+number_parsed bits text gives (Err error) parses reads = number_read bits text gives None parses (error, reads)

@@ -1,10 +1,12 @@
 -- The call that the words of a command line hold.
-use Rattle.std.specs.Prelude.{ℕ, ◌≡◌, ◌≢◌, ◌-◌, Bool, false, [], ◌∷◌, List, codes, if◌then◌else◌, Option, None, Some, option_map, option_and_then, is_some, ◌||◌}
+use Rattle.std.specs.Prelude.{ℕ, ◌≡◌, ◌≢◌, ◌-◌, Bool, true, false, [], ◌∷◌, List, codes, if◌then◌else◌, Option, None, Some, option_map, option_and_then, is_some, ◌||◌}
 use Rattle.std.specs.Str.{bytes_eq}
 use Rattle.clap.specs.Words.{IsAmong, Kinds, Row, Text, all_of, fault_of, first_of, kind_of, one_of, subcommand_of}
 use Rattle.clap.specs.Kinds.{or_else}
 use Rattle.desk_base.specs.Profiles.{profile_numbered}
+use Rattle.desk_base.specs.Day.{is_day}
 use Rattle.desk_base.specs.declared.profile.Profile.{Profile}
+use Rattle.desk_base.specs.declared.profile.Profile.TheVariants.{Capitals}
 use Rattle.clap.specs.declared.error.kind.ErrorKind.TheVariants.{InvalidValue, MissingSubcommand, OutOfMemory}
 use Rattle.clap.specs.declared.error.Error.{Error}
 use Rattle.desk_line.specs.Fields.{if_stands}
@@ -112,10 +114,33 @@ migrate_in rows = option_map (λ database. File database Migrate) (first_of (cod
 abbrev pub explain_in : List Row → Option Call
 explain_in rows = option_map Explain (first_of (codes "NAME") rows)
 
+-- the profile that a word writes, capitals where there is none
+abbrev pub profile_if_given : Option Text → Option Profile
+profile_if_given None = Some Capitals
+profile_if_given (Some value) = profile_written value
+
+-- the proposals for a document in a file
+abbrev pub filed_proposals_in : List Row → Option Call
+filed_proposals_in rows = option_and_then (λ document. option_and_then (λ number. option_map (λ profile. Propose document number profile)
+    (profile_if_given (first_of (codes "PROFILE") rows))) (number_in 32 (codes "N") rows)) (first_of (codes "DOC") rows)
+
+-- a number or a profile goes with the file of a document
+abbrev pub has_reading : List Row → Bool
+has_reading rows = is_some (number_in 32 (codes "N") rows) || is_some (first_of (codes "PROFILE") rows)
+
+-- the proposals for a document that a desk holds: the word is its number
+abbrev pub held_proposals_in : Text → List Row → Option Call
+held_proposals_in database rows =
+    if has_reading rows then None
+    else option_map (λ document. File database (file.Proposals document)) (option_and_then (number_written 32) (first_of (codes "DOC") rows))
+
+abbrev pub proposals_by : Option Text → List Row → Option Call
+proposals_by None rows = filed_proposals_in rows
+proposals_by (Some database) rows = held_proposals_in database rows
+
 -- the call of `propose` with these values
 abbrev pub propose_in : List Row → Option Call
-propose_in rows = option_and_then (λ document. option_and_then (λ number. option_map (λ profile. Propose document number profile)
-    (profile_in rows)) (number_in 32 (codes "N") rows)) (first_of (codes "DOC") rows)
+propose_in rows = proposals_by (first_of (codes "FILE") rows) rows
 
 -- the calls of those that prepare a freeze
 abbrev pub choices_in : List Row → Option Call
@@ -130,22 +155,30 @@ filter_in rows = record {
   release = first_of (codes "RELEASE") rows;
   code = first_of (codes "CODE") rows;
   is_open = is_true (first_of (codes "OPEN") rows);
+  past = first_of (codes "DAY") rows;
 }
 
 abbrev pub has_filter : Filter → Bool
-has_filter filter = is_some filter.release || (is_some filter.code || filter.is_open)
+has_filter filter = is_some filter.release || (is_some filter.code || (filter.is_open || is_some filter.past))
+
+-- a day, if there is one
+abbrev pub is_day_if_given : Option Text → Bool
+is_day_if_given None = true
+is_day_if_given (Some value) = is_day value
 
 -- what a word says is listed: a filter goes with duties alone
 abbrev pub listed_as : Text → Filter → Option Listed
 listed_as what filter =
-    if bytes_eq what (codes "duties") then Some (listed.Duties filter.release filter.code filter.is_open)
+    if bytes_eq what (codes "duties") then Some (listed.Duties filter.release filter.code filter.is_open filter.past)
     else if has_filter filter then None
     else if bytes_eq what (codes "releases") then Some listed.Releases
     else if bytes_eq what (codes "documents") then Some listed.Documents
     else None
 
 abbrev pub listed_in : List Row → Option Listed
-listed_in rows = option_and_then (λ what. listed_as what (filter_in rows)) (first_of (codes "WHAT") rows)
+listed_in rows =
+    if is_day_if_given (first_of (codes "DAY") rows) then option_and_then (λ what. listed_as what (filter_in rows)) (first_of (codes "WHAT") rows)
+    else None
 
 -- the call of `list` with these values
 abbrev pub list_in : List Row → Option Call

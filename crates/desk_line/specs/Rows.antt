@@ -2,10 +2,10 @@
 use Rattle.std.specs.Prelude.{List, [], ◌∷◌, map, Option, Some, None, if◌then◌else◌}
 use Rattle.std.specs.Str.{bytes_eq}
 use Rattle.clap.specs.Words.{App, Rule, Shape, Text, new_app, with_rule, with_subcommand}
-use Rattle.desk_line.specs.Words.{count, flag, number_option, option, optional, wanted, word, words}
+use Rattle.desk_line.specs.Words.{count, flag, number_option, option, optional, optional_number, wanted, word, words}
 use Rattle.desk_line.specs.declared.arguments.Argument.{Argument}
 use Rattle.desk_line.specs.declared.arguments.Form.{Form}
-use Rattle.desk_line.specs.declared.arguments.Form.TheVariants.{Word, Words, Preset, Wanted, Optional, Flag, Count, Number}
+use Rattle.desk_line.specs.declared.arguments.Form.TheVariants.{Word, Words, Preset, Wanted, Optional, Flag, Count, Number, OptionalNumber}
 use Rattle.desk_line.specs.declared.subcommands.Kind.{Kind}
 use Rattle.desk_line.specs.declared.subcommands.Subcommand.{Subcommand}
 
@@ -19,6 +19,7 @@ rule_by name (Optional long) = optional name long.now
 rule_by name (Flag long) = flag name long.now
 rule_by name (Count most) = count name most
 rule_by name (Number long most) = number_option name long.now most
+rule_by name (OptionalNumber long most) = optional_number name long.now most
 
 -- the argument of a row
 abbrev pub rule_at : Argument → Rule

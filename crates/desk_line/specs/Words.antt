@@ -76,6 +76,10 @@ lint_app = with_rule (with_rule (new_app (codes "lint")) (word (codes "DIR"))) (
 abbrev pub number_option : Text → Text → ℕ → Rule
 number_option name long most = record (wanted name long) { parser = Some (Signed (pos 0) (pos most)) }
 
+-- the same, which may be left out
+abbrev pub optional_number : Text → Text → ℕ → Rule
+optional_number name long most = record (optional name long) { parser = Some (Signed (pos 0) (pos most)) }
+
 -- a whole number from 0 to this one, which must stand in its place
 abbrev pub count : Text → ℕ → Rule
 count name most = record (word name) { parser = Some (Signed (pos 0) (pos most)) }
@@ -141,12 +145,13 @@ explain_app = with_rule (new_app (codes "explain")) (word (codes "NAME"))
 abbrev pub explaining_app : App
 explaining_app = with_subcommand serving_app explain_app.top
 
--- `propose [--profile PROFILE] --document N DOC`, by the numbers that a document may have
-abbrev pub numbered_app : App
-numbered_app = with_rule (with_rule (new_app (codes "propose")) profile_option) (number_option (codes "N") (codes "document") 4294967295)
+-- `propose [--db FILE] [--profile PROFILE] [--document N] DOC`, by the numbers that a document may have
+abbrev pub kept_proposals_app : App
+kept_proposals_app = with_rule (new_app (codes "propose")) (optional (codes "FILE") (codes "db"))
 
 abbrev pub propose_app : App
-propose_app = with_rule numbered_app (word (codes "DOC"))
+propose_app = with_rule (with_rule (with_rule kept_proposals_app (optional (codes "PROFILE") (codes "profile")))
+    (optional_number (codes "N") (codes "document") 4294967295)) (word (codes "DOC"))
 
 -- and with the one that proposes conclusions
 abbrev pub proposing_app : App
@@ -156,13 +161,14 @@ proposing_app = with_subcommand explaining_app propose_app.top
 abbrev pub freezing_app : App
 freezing_app = with_subcommand (with_subcommand proposing_app (release_app (codes "choices")).top) (release_app (codes "wanting")).top
 
--- `list --db FILE [--release RELEASE] [--code CODE] [--open] WHAT`
+-- `list --db FILE [--release RELEASE] [--code CODE] [--open] [--past DAY] WHAT`
 abbrev pub filtered_app : App
 filtered_app = with_rule (with_rule (with_rule (new_app (codes "list")) database_option)
     (optional (codes "RELEASE") (codes "release"))) (optional (codes "CODE") (codes "code"))
 
 abbrev pub list_app : App
-list_app = with_rule (with_rule filtered_app (flag (codes "OPEN") (codes "open"))) (word (codes "WHAT"))
+list_app = with_rule (with_rule (with_rule filtered_app (flag (codes "OPEN") (codes "open")))
+    (optional (codes "DAY") (codes "past"))) (word (codes "WHAT"))
 
 -- and with those that show what a desk holds
 abbrev pub showing_app : App

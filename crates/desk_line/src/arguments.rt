@@ -43,6 +43,11 @@ pub(crate) enum Form {
         long: &'static str,
         most: u32,
     },
+    /// A named whole number, from 0 to this one, that may be left out.
+    OptionalNumber {
+        long: &'static str,
+        most: u32,
+    },
 }
 
 /// An argument of a subcommand, with its line of help.
@@ -106,6 +111,7 @@ fn arg<'a>(alloc: Global, row: &Argument) -> Arg<'a>
         Form::Flag { long } => arg.long(long).action(ArgAction::SetTrue),
         Form::Count { most } => arg.required(true).value_parser(whole(most)),
         Form::Number { long, most } => arg.long(long).required(true).value_parser(whole(most)),
+        Form::OptionalNumber { long, most } => arg.long(long).value_parser(whole(most)),
     }
 }
 

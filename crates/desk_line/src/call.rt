@@ -82,6 +82,8 @@ pub enum FileCall {
     Wanting { release: Text },
     /// The choices of a release where there is only one.
     Choices { release: Text },
+    /// The conclusions and the choices that are proposed for a document.
+    Proposals { document: u32 },
     /// What the desk holds.
     List { list: Listed },
     /// The audit of its tables.
@@ -97,11 +99,12 @@ pub enum FileCall {
 pub enum Listed {
     Releases,
     Documents,
-    /// The duties, or those of a release, with a code, or that are open.
+    /// The duties, or those of a release, with a code, that are open, or whose waivers' last days lie before a day.
     Duties {
         release: Option<Text>,
         code: Option<Text>,
         is_open: bool,
+        past: Option<Text>,
     },
 }
 

@@ -2,7 +2,8 @@
 
 ghost use Rattle.std.specs.Prelude.{◌≡◌, IfOk, codes, option_map};
 ghost use Rattle.clap.specs.Words.{found_of, rows_of};
-ghost use Rattle.desk_line.specs.Calls.{filter_in, has_filter, list_in, listed_as, listed_in};
+ghost use Rattle.desk_base.specs.Day.{is_day};
+ghost use Rattle.desk_line.specs.Calls.{filter_in, has_filter, is_day_if_given, list_in, listed_as, listed_in};
 
 use crate::arguments::{Argument, DATABASE, Form};
 use crate::call::{Call, FileCall, Listed};
@@ -10,7 +11,7 @@ use crate::script::copied_text;
 use crate::subcommands::Help;
 use crate::values::{is_true, text_in};
 use clap::ArgMatches;
-use desk_base::Text;
+use desk_base::{Day, Text};
 use std::alloc::{AllocError, Global};
 
 const ABOUT: &str = "Lists the releases, documents or duties of a desk";
@@ -22,15 +23,17 @@ WHAT is one of:
 
   releases   in the order of their opening, with how many duties of each are in which state:
              name,form,state,revision,raised,open,met,waived,withdrawn
-  documents  by number, with how many packages each has and how many of them ship:
-             number,namespace,packages,shipped,profile
+  documents  by number, with how many packages and findings each has and how many packages ship:
+             number,name,namespace,packages,shipped,findings,profile
   duties     of all releases, the one that was raised first at the top:
-             number,release,document,package,name,rule,code,state,raised,since,until
+             number,release,document,package,name,rule,code,title,state,raised,since,until
 
 Comma-separated values (RFC 4180), with a line of the columns' names. On a terminal the same table stands
-in columns. since is the day of the last change, until the last day of a waiver that ends.
+in columns. title is the code's in the catalogue in force, since the day of the last change, until the last
+day of a waiver that ends.
 
---release, --code and --open go with duties: those of a release, with a code, in the state open.";
+--release, --code, --open and --past go with duties: those of a release, with a code, in the state open, or
+waived up to a day before DAY, so that close would open them on that day.";
 
 const AFTER_HELP: &str = "\
 A FILE that keeps no desk of this version is left as it is, and one line says so, as with duties.
@@ -39,6 +42,7 @@ Examples:
   desk list --db desk.db releases
   desk list --db desk.db duties --open
   desk list --db desk.db duties --release r1 --code give-notice >duties.csv
+  desk list --db desk.db duties --past 2025-07-01
 
 Statuses:
   0  it was written
@@ -54,7 +58,7 @@ pub(crate) const HELP: Help = Help {
 };
 
 /// Its arguments.
-pub(crate) const ARGUMENTS: [Argument; 5] = [
+pub(crate) const ARGUMENTS: [Argument; 6] = [
     DATABASE,
     Argument {
         name: "RELEASE",
@@ -72,6 +76,11 @@ pub(crate) const ARGUMENTS: [Argument; 5] = [
         help: "Lists the duties that are open alone",
     },
     Argument {
+        name: "DAY",
+        form: Form::Optional { long: "past" },
+        help: "Lists the duties whose waivers' last days lie before this day, YYYY-MM-DD",
+    },
+    Argument {
         name: "WHAT",
         form: Form::Word,
         help: "releases, documents or duties",
@@ -84,6 +93,7 @@ pub(crate) struct Filter {
     release: Option<Text>,
     code: Option<Text>,
     is_open: bool,
+    past: Option<Text>,
 }
 
 fn filter_in(alloc: Global, matches: &ArgMatches<'_>) -> Result<Filter, AllocError>
@@ -93,13 +103,29 @@ fn filter_in(alloc: Global, matches: &ArgMatches<'_>) -> Result<Filter, AllocErr
         release: copied_text(alloc, text_in(matches, "RELEASE"))?,
         code: copied_text(alloc, text_in(matches, "CODE"))?,
         is_open: is_true(text_in(matches, "OPEN")),
+        past: copied_text(alloc, text_in(matches, "DAY"))?,
     })
 }
 
 fn has_filter(filter: &Filter) -> bool
     ensures { result ≡ has_filter filter.now }
 {
-    filter.release.is_some() || filter.code.is_some() || filter.is_open
+    filter.release.is_some() || filter.code.is_some() || filter.is_open || filter.past.is_some()
+}
+
+fn is_day(text: &str) -> bool
+    ensures { result ≡ is_day text.now }
+{
+    Day::parse(text).is_some()
+}
+
+fn is_day_if_given(value: Option<&str>) -> bool
+    ensures { result ≡ is_day_if_given (option_map (λ s. s.now) value.entry) }
+{
+    match value {
+        Some(text) => is_day(text),
+        None => true,
+    }
 }
 
 /// What a word says is listed: a filter goes with duties alone.
@@ -111,11 +137,13 @@ fn listed_as(what: &str, filter: Filter) -> Option<Listed>
             release,
             code,
             is_open,
+            past,
         } = filter;
         return Some(Listed::Duties {
             release,
             code,
             is_open,
+            past,
         });
     }
     if has_filter(&filter) {
@@ -133,6 +161,9 @@ fn listed_as(what: &str, filter: Filter) -> Option<Listed>
 fn listed_in(alloc: Global, matches: &ArgMatches<'_>) -> Result<Option<Listed>, AllocError>
     ensures { IfOk result (λ r. r ≡ listed_in (rows_of (found_of matches.now))) }
 {
+    if !is_day_if_given(text_in(matches, "DAY")) {
+        return Ok(None);
+    }
     let filter = filter_in(alloc, matches)?;
     match text_in(matches, "WHAT") {
         Some(what) => Ok(listed_as(what, filter)),

@@ -16,8 +16,13 @@ const NO_SUBCOMMAND: &str = "a subcommand is wanted";
 const NO_FIELD: &str = "a value of --name, --namespace or --created cannot stand in its field: it \
 has a line feed or a blank at an end, or begins with <text>";
 
-const NO_LIST: &str = "WHAT is releases, documents or duties; --release, --code and --open go with \
-duties";
+const NO_LIST: &str =
+    "WHAT is releases, documents or duties; --release, --code, --open and --past go \
+with duties; DAY is a day as YYYY-MM-DD";
+
+const NO_PROPOSALS: &str =
+    "with --db, DOC is a document's number, and --profile and --document are \
+not given; without --db, --document is given, and --profile is 1 or 2";
 
 const NO_PROFILE: &str = "the value of --profile is 1 or 2";
 
@@ -48,6 +53,7 @@ fn lacking(matches: &ArgMatches<'_>) -> (ErrorKind, &'static str)
     match matches.subcommand() {
         Some((name, _)) if name == "gather" => (ErrorKind::InvalidValue, NO_FIELD),
         Some((name, _)) if name == "list" => (ErrorKind::InvalidValue, NO_LIST),
+        Some((name, _)) if name == "propose" => (ErrorKind::InvalidValue, NO_PROPOSALS),
         Some(_) => (ErrorKind::InvalidValue, NO_PROFILE),
         None => (ErrorKind::MissingSubcommand, NO_SUBCOMMAND),
     }

@@ -66,7 +66,8 @@ pub(crate) fn is_true(value: Option<&str>) -> bool
     }
 }
 
-fn profile_written(text: &str) -> Option<Profile>
+/// The profile that a text writes.
+pub(crate) fn profile_written(text: &str) -> Option<Profile>
     ensures { result ≡ profile_written text.now }
 {
     match text.as_bytes() {

@@ -1,4 +1,4 @@
 mod Ascending
 mod Counting
 mod Totals
-mod Lists
+pub mod Lists

@@ -1,7 +1,8 @@
 -- A list made one by one of another.
-use Rattle.std.proofs.Common.{◌≡◌, ℕ, ◌+◌, ◌<◌, Bool, true, false, cond, List, [], ◌∷◌, ◌++◌, length, get_or, take, map, refl, sym, ap, ap₂, ◌∙◌, append-nil}
+use Rattle.std.proofs.Common.{◌≡◌, ℕ, ◌+◌, ◌<◌, Bool, true, false, cond, List, [], ◌∷◌, ◌++◌, length, get_or, take, map, refl, sym, ap, ap₂, subst, ◌∙◌, append-nil}
 use Rattle.std.specs.Prelude.{filter, find, reverse, Option, Some, None}
-use Rattle.std.proofs.lemmas.List.{map_more, map-append, reverse-append}
+use Rattle.std.specs.List.{AllZip}
+use Rattle.std.proofs.lemmas.List.{map_more, map-append, reverse-append, take_more}
 use Rattle.std.proofs.lemmas.List.Elements.{filter_more}
 use Rattle.std.proofs.lemmas.List.Folds.{find-append}
 use Rattle.std.specs.Option.{option_or}
@@ -11,6 +12,20 @@ pub made_more : {X Y : Type 0} (f : X → Y) (xs : List X) (i : ℕ) (x : X) (be
     → x ≡ get_or xs i x → before ≡ map f (take i xs) → y ≡ f x → after ≡ before ++ y ∷ [] → after ≡ map f (take (i + 1) xs)
 made_more f xs i x before after y inside at so_far made pushed =
     pushed ∙ ap₂ (λ ys z. ys ++ z ∷ []) so_far (made ∙ ap f at) ∙ sym (map_more f xs i x inside)
+
+zip_pushed : {A B : Type 0} (R : A → B → Type 0) (xs : List A) (ys : List B) (x : A) (y : B) → AllZip R xs ys → R x y → AllZip R (xs ++ x ∷ []) (ys ++ y ∷ [])
+zip_pushed R [] [] x y zip r = (r, tt)
+zip_pushed R [] (v ∷ vs) x y zip r = absurd zip
+zip_pushed R (u ∷ us) [] x y zip r = absurd zip
+zip_pushed R (u ∷ us) (v ∷ vs) x y zip r = (zip.0, zip_pushed R us vs x y zip.1 r)
+
+-- one more goes with one more
+pub zipped_more : {X Y : Type 0} (R : X → Y → Type 0) (xs : List X) (i : ℕ) (x : X) (before after : List Y) (y : Y) → i < length xs
+    → x ≡ get_or xs i x → AllZip R (take i xs) before → R x y → after ≡ before ++ y ∷ [] → AllZip R (take (i + 1) xs) after
+zipped_more {X} {Y} R xs i x before after y inside at zip r pushed =
+    let next : take (i + 1) xs ≡ take i xs ++ x ∷ [] = take_more xs i x inside ∙ ap (λ (z : X). take i xs ++ z ∷ []) (sym at) in
+    subst (λ (l : List X). AllZip R l after) (sym next)
+    (subst (λ (l : List Y). AllZip R (take i xs ++ x ∷ []) l) (sym pushed) (zip_pushed R (take i xs) before x y zip r))
 
 module _ {X Y : Type 0} (f : X → Y) (p : X → Bool) (xs : List X) (i : ℕ) (x : X) (inside : i < length xs) (at : x ≡ get_or xs i x) (before : List Y)
     (so_far : before ≡ map f (filter p (take i xs))) where

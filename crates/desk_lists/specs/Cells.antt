@@ -23,26 +23,27 @@ abbrev pub release_table : List ReleaseLine → List (List (List ℕ))
 release_table lines = release_names ∷ map release_cells lines
 
 abbrev pub document_names : List (List ℕ)
-document_names = codes "number" ∷ codes "namespace" ∷ codes "packages" ∷ codes "shipped" ∷ codes "profile" ∷ []
+document_names =
+    codes "number" ∷ codes "name" ∷ codes "namespace" ∷ codes "packages" ∷ codes "shipped" ∷ codes "findings" ∷ codes "profile" ∷ []
 
 abbrev pub document_cells : DocumentLine → List (List ℕ)
 document_cells line =
-    signed_decimal line.number ∷ line.namespace ∷ decimal line.packages ∷ decimal line.shipped
-    ∷ option_map_or signed_decimal line.profile [] ∷ []
+    signed_decimal line.number ∷ line.name ∷ line.namespace ∷ decimal line.packages ∷ decimal line.shipped
+    ∷ option_map_or decimal line.findings [] ∷ option_map_or signed_decimal line.profile [] ∷ []
 
 abbrev pub document_table : List DocumentLine → List (List (List ℕ))
 document_table lines = document_names ∷ map document_cells lines
 
 abbrev pub duty_names : List (List ℕ)
 duty_names =
-    codes "number" ∷ codes "release" ∷ codes "document" ∷ codes "package" ∷ codes "name" ∷ codes "rule" ∷ codes "code" ∷ codes "state"
-    ∷ codes "raised" ∷ codes "since" ∷ codes "until" ∷ []
+    codes "number" ∷ codes "release" ∷ codes "document" ∷ codes "package" ∷ codes "name" ∷ codes "rule" ∷ codes "code" ∷ codes "title"
+    ∷ codes "state" ∷ codes "raised" ∷ codes "since" ∷ codes "until" ∷ []
 
 -- what a duty is
 abbrev pub duty_subject : DutyLine → List (List ℕ)
 duty_subject line =
     signed_decimal line.number ∷ line.release ∷ signed_decimal line.document ∷ line.package_id ∷ line.package_name ∷ line.rule ∷ line.code
-    ∷ []
+    ∷ line.title ∷ []
 
 -- in which state it is, and since when
 abbrev pub duty_standing : DutyLine → List (List ℕ)

@@ -1,5 +1,5 @@
--- The duties that are asked for, and the line of each: what the table has of it, its package's name and its days.
-use Rattle.std.specs.Prelude.{ℕ, ℤ, pos, ◌&&◌, ◌||◌, not, Bool, true, List, [], Option, find, filter, map, reverse, option_and_then}
+-- The duties that are asked for, and the line of each: what the table has of it, its package's name, its title and its days.
+use Rattle.std.specs.Prelude.{ℕ, ℤ, pos, ◌&&◌, ◌||◌, not, Bool, true, false, List, [], Option, find, filter, map, reverse, option_and_then}
 use Rattle.std.specs.Cmp.{IsTotalOrder}
 use Rattle.std.specs.Cmp.Lexicographic.{slice_cmp}
 use Rattle.std.specs.Option.{option_copied, option_map_or}
@@ -8,23 +8,21 @@ use Rattle.std.specs.Str.{bytes_eq}
 use Rattle.std.specs.declared.cmp.Ordering.{Ordering}
 use Rattle.std.proofs.lemmas.Cmp.{int_cmp_total, nat_list_cmp_total, on_total, then_total}
 use Rattle.desk_model.specs.Names.{duty_state_name}
+use Rattle.desk_model.specs.Texts.{is_before}
 use Rattle.desk_model.specs.declared.state.DutyState.TheVariants as duty
 use Rattle.desk_snapshot.specs.Changes.{last_day_at}
 use Rattle.desk_snapshot.specs.Rows.{is_change_at, is_change_of, is_package}
 use Rattle.desk_snapshot.specs.declared.rows.StoredChange.{StoredChange}
 use Rattle.desk_snapshot.specs.declared.rows.StoredDuty.{StoredDuty}
 use Rattle.desk_snapshot.specs.declared.snapshot.Snapshot.{Snapshot}
+use Rattle.desk_lists.specs.Titles.{title_among, titles_in_force}
 use Rattle.desk_lists.specs.declared.lines.DutyFilter.{DutyFilter}
 use Rattle.desk_lists.specs.declared.lines.DutyLine.{DutyLine}
+use Rattle.desk_lists.specs.declared.titles.Title.{Title}
 
 -- a text is what is asked for, if anything is
 abbrev pub is_asked : Option (List ℕ) → List ℕ → Bool
 is_asked asked text = option_map_or (λ wanted. bytes_eq text wanted) asked true
-
-abbrev pub is_wanted : DutyFilter → StoredDuty → Bool
-is_wanted wanted row =
-    is_asked (option_copied wanted.release) row.release
-    && (is_asked (option_copied wanted.code) row.code && (not wanted.still_open || bytes_eq row.state (duty_state_name duty.IsOpen)))
 
 abbrev pub package_name : Snapshot → ℤ → List ℕ → List ℕ
 package_name snapshot document id = option_map_or (λ row. row.name) (find (is_package document id) snapshot.packages) []
@@ -44,8 +42,27 @@ changing_day snapshot number = option_map_or (λ row. row.day) (last_change snap
 abbrev pub waiver_end : Snapshot → ℤ → Option (List ℕ)
 waiver_end snapshot number = option_and_then (last_day_at snapshot) (last_change snapshot number)
 
-abbrev pub duty_line : Snapshot → StoredDuty → DutyLine
-duty_line snapshot row = record {
+-- a last day before another day, if there is one
+abbrev pub is_end_before : List ℕ → Option (List ℕ) → Bool
+is_end_before day end = option_map_or (λ last. is_before last day) end false
+
+-- a waived duty whose waiver's last day lies before a day
+abbrev pub is_past : Snapshot → List ℕ → StoredDuty → Bool
+is_past snapshot day row = bytes_eq row.state (duty_state_name duty.Waived) && is_end_before day (waiver_end snapshot row.number)
+
+-- what is past by the day that is asked for, if one is
+abbrev pub is_past_if_asked : Snapshot → Option (List ℕ) → StoredDuty → Bool
+is_past_if_asked snapshot asked row = option_map_or (λ day. is_past snapshot day row) asked true
+
+abbrev pub is_wanted : Snapshot → DutyFilter → StoredDuty → Bool
+is_wanted snapshot wanted row =
+    is_asked (option_copied wanted.release) row.release
+    && (is_asked (option_copied wanted.code) row.code
+    && ((not wanted.still_open || bytes_eq row.state (duty_state_name duty.IsOpen))
+    && is_past_if_asked snapshot (option_copied wanted.past) row))
+
+abbrev pub duty_line : Snapshot → List Title → StoredDuty → DutyLine
+duty_line snapshot titles row = record {
   number = row.number;
   release = row.release;
   document = row.document;
@@ -53,6 +70,7 @@ duty_line snapshot row = record {
   package_name = package_name snapshot row.document row.package_id;
   rule = row.rule;
   code = row.code;
+  title = title_among row.code titles;
   state = row.state;
   raised = raising_day snapshot row.number;
   changed = changing_day snapshot row.number;
@@ -60,7 +78,7 @@ duty_line snapshot row = record {
 }
 
 abbrev pub lines_wanted : Snapshot → DutyFilter → List DutyLine
-lines_wanted snapshot wanted = map (duty_line snapshot) (filter (is_wanted wanted) snapshot.duty)
+lines_wanted snapshot wanted = map (duty_line snapshot (titles_in_force snapshot)) (filter (is_wanted snapshot wanted) snapshot.duty)
 
 -- by the day of raising, and by the number among duties of one day
 abbrev pub raising_order : DutyLine → DutyLine → Ordering

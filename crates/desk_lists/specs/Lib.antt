@@ -5,3 +5,4 @@ pub mod Documents
 pub mod Duties
 pub mod Held
 pub mod Releases
+pub mod Titles

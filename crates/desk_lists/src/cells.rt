@@ -27,12 +27,20 @@ const RELEASE_NAMES: [&str; 9] = [
 ];
 
 /// The names of the columns of documents.
-const DOCUMENT_NAMES: [&str; 5] = ["number", "namespace", "packages", "shipped", "profile"];
+const DOCUMENT_NAMES: [&str; 7] = [
+    "number",
+    "name",
+    "namespace",
+    "packages",
+    "shipped",
+    "findings",
+    "profile",
+];
 
 /// The names of the columns of duties.
-const DUTY_NAMES: [&str; 11] = [
-    "number", "release", "document", "package", "name", "rule", "code", "state", "raised", "since",
-    "until",
+const DUTY_NAMES: [&str; 12] = [
+    "number", "release", "document", "package", "name", "rule", "code", "title", "state", "raised",
+    "since", "until",
 ];
 
 // Adds a text.
@@ -67,6 +75,20 @@ fn add_count(alloc: Global, cells: &mut Vec<Text>, count: u64) -> Result<(), All
 {
     let count = format!(in alloc; "{count}")?;
     add_text(alloc, cells, count.as_str())
+}
+
+// Adds a count, or an empty cell where there is none.
+fn add_optional_count(
+    alloc: Global,
+    cells: &mut Vec<Text>,
+    count: Option<u64>,
+) -> Result<(), AllocError>
+    ensures { OnOk result (cells.new.items ≡ cells.old.items ++ option_map_or decimal count [] ∷ []) }
+{
+    let Some(count) = count else {
+        return add_text(alloc, cells, "");
+    };
+    add_count(alloc, cells, count)
 }
 
 // Adds how many duties are in which state.
@@ -110,9 +132,11 @@ fn document_row(alloc: Global, line: &DocumentLine) -> Result<Items<Text>, Alloc
 {
     let mut cells = Vec::new(alloc);
     add_number(alloc, &mut cells, line.number)?;
+    add_text(alloc, &mut cells, line.name.as_str())?;
     add_text(alloc, &mut cells, line.namespace.as_str())?;
     add_count(alloc, &mut cells, line.packages)?;
     add_count(alloc, &mut cells, line.shipped)?;
+    add_optional_count(alloc, &mut cells, line.findings)?;
     add_optional(alloc, &mut cells, line.profile)?;
     Ok(Items::from_vec(cells))
 }
@@ -127,7 +151,8 @@ fn add_subject(alloc: Global, cells: &mut Vec<Text>, line: &DutyLine) -> Result<
     add_text(alloc, cells, line.package_id.as_str())?;
     add_text(alloc, cells, line.package_name.as_str())?;
     add_text(alloc, cells, line.rule.as_str())?;
-    add_text(alloc, cells, line.code.as_str())
+    add_text(alloc, cells, line.code.as_str())?;
+    add_text(alloc, cells, line.title.as_str())
 }
 
 // The last day of a waiver that ends, else an empty text.

@@ -1,12 +1,16 @@
 //! The list of documents.
 
-ghost use Rattle.std.specs.Prelude.{◌≡◌, pos, ◌&&◌, find, map, count_by, option_map, IfOk};
-ghost use Rattle.std.specs.Ordering.{int_eq};
+ghost use Rattle.std.specs.Prelude.{◌≡◌, ℕ, List, Option, find, count_by, option_map, IfOk, refl};
+ghost use Rattle.std.specs.List.{AllZip};
+ghost use Rattle.desk_base.specs.declared.profile.Profile.{Profile};
+ghost use Rattle.desk_expr.specs.Tree.{Tree};
+ghost use Rattle.desk_snapshot.specs.Conditions.{profile_at};
 ghost use Rattle.desk_snapshot.specs.Rows.{is_reading_of};
-ghost use Rattle.desk_lists.specs.Documents.{document_line, is_package_of, is_shipped_by, package_of_side, package_of_splits};
-ghost use Rattle.std.specs.Prelude.{refl};
+ghost use Rattle.desk_lists.specs.Documents.{AreReadings, IsDocumentLine, is_package_of, is_shipped_by, package_of_side, package_of_splits};
 
 use crate::lines::DocumentLine;
+use crate::said::said_in;
+use desk_base::Profile;
 use desk_snapshot::{ByDocument, Snapshot, StoredDocument, StoredPackage};
 use desk_sorted::Sought;
 use std::alloc::{AllocError, Global};
@@ -67,30 +71,49 @@ fn profile_of(snapshot: &Snapshot, document: i64) -> Option<i64>
     }
 }
 
+/// The profile that the licence expressions of a document are read by. Each document of a desk has one.
+pub fn profile_at(snapshot: &Snapshot, document: i64) -> Profile
+    ensures { result ≡ profile_at snapshot.now document }
+{
+    match snapshot.reading.find(&ByDocument { document }) {
+        Some(row) if row.profile == 2 => Profile::Either,
+        _ => Profile::Capitals,
+    }
+}
+
 // The line of a document.
-fn document_line(snapshot: &Snapshot, row: &StoredDocument) -> Result<DocumentLine, AllocError>
-    ensures { IfOk result (λ line. line ≡ document_line snapshot.now row.now) }
+fn document_line(
+    alloc: Global,
+    snapshot: &Snapshot,
+    row: &StoredDocument,
+) -> Result<DocumentLine, AllocError>
+    ensures { (reads : Profile → List ℕ → Option Tree) → AreReadings reads
+        → IfOk result (IsDocumentLine reads snapshot.now row.now) }
 {
     let number = row.number;
     let (packages, shipped) = package_counts(snapshot, number);
     let profile = profile_of(snapshot, number);
     let namespace = row.namespace.clone()?;
+    let said = said_in(alloc, row.bytes.as_slice(), profile_at(snapshot, number))?;
     Ok(DocumentLine {
         number,
+        name: said.name,
         namespace,
         packages,
         shipped,
+        findings: said.findings,
         profile,
     })
 }
 
-/// The documents by number.
+/// The documents by number. What a document says is read again from its bytes, of one document at a time.
 pub fn documents(alloc: Global, snapshot: &Snapshot) -> Result<Vec<DocumentLine>, AllocError>
-    ensures { IfOk result (λ lines. lines.items ≡ map (document_line snapshot.now) snapshot.now.document) }
+    ensures { (reads : Profile → List ℕ → Option Tree) → AreReadings reads
+        → IfOk result (λ lines. AllZip (IsDocumentLine reads snapshot.now) snapshot.now.document lines.items) }
 {
     let mut lines = Vec::new(alloc);
     for row in snapshot.document.as_slice() {
-        lines.push(document_line(snapshot, row)?)?;
+        lines.push(document_line(alloc, snapshot, row)?)?;
     }
     Ok(lines)
 }

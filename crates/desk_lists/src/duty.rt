@@ -1,13 +1,15 @@
 //! The list of duties.
 
-ghost use Rattle.std.specs.Prelude.{◌≡◌, find, map, reverse, IfOk, IsPermutation};
+ghost use Rattle.std.specs.Prelude.{◌≡◌, filter, find, map, reverse, IfOk, IsPermutation};
 ghost use Rattle.std.specs.List.Sorted.{IsSorted};
 ghost use Rattle.std.specs.Option.{option_copied};
 ghost use Rattle.desk_snapshot.specs.Changes.{last_day_at};
 ghost use Rattle.desk_snapshot.specs.Rows.{is_change_of};
-ghost use Rattle.desk_lists.specs.Duties.{changing_day, duty_line, is_asked, is_wanted, last_change, lines_wanted, package_name, raising_day, raising_order, waiver_end};
+ghost use Rattle.desk_lists.specs.Duties.{changing_day, duty_line, is_asked, is_end_before, is_past, is_past_if_asked, is_wanted, last_change, lines_wanted, package_name, raising_day, raising_order, waiver_end};
+ghost use Rattle.desk_lists.specs.Titles.{titles_in_force};
 
 use crate::lines::{DutyFilter, DutyLine};
+use crate::titles::{Title, title_among, titles_in_force};
 use desk_base::Text;
 use desk_model::DutyState;
 use desk_snapshot::{ByDuty, ById, ByStep, Snapshot, StoredChange, StoredDuty};
@@ -22,15 +24,6 @@ fn is_asked(asked: Option<&str>, text: &str) -> bool
         Some(wanted) => text == wanted,
         None => true,
     }
-}
-
-// Whether a duty is asked for.
-fn is_wanted(wanted: &DutyFilter<'_>, row: &StoredDuty) -> bool
-    ensures { result ≡ is_wanted wanted.now row.now }
-{
-    is_asked(wanted.release, row.release.as_str())
-        && is_asked(wanted.code, row.code.as_str())
-        && (!wanted.still_open || row.state.as_str() == DutyState::IsOpen.name())
 }
 
 // The name of a package of a document.
@@ -101,6 +94,44 @@ fn waiver_end(snapshot: &Snapshot, duty: i64) -> Option<&str>
     }
 }
 
+// Whether a last day is before another day, if there is one.
+fn is_end_before(day: &str, end: Option<&str>) -> bool
+    ensures { result ≡ is_end_before day.now (option_copied end.entry) }
+{
+    match end {
+        Some(last) => last.cmp(day).is_lt(),
+        None => false,
+    }
+}
+
+// Whether a duty is waived, and the waiver's last day lies before a day.
+fn is_past(snapshot: &Snapshot, day: &str, row: &StoredDuty) -> bool
+    ensures { result ≡ is_past snapshot.now day.now row.now }
+{
+    row.state.as_str() == DutyState::Waived.name()
+        && is_end_before(day, waiver_end(snapshot, row.number))
+}
+
+// Whether a duty is past by the day that is asked for, if one is.
+fn is_past_if_asked(snapshot: &Snapshot, asked: Option<&str>, row: &StoredDuty) -> bool
+    ensures { result ≡ is_past_if_asked snapshot.now (option_copied asked.entry) row.now }
+{
+    let Some(day) = asked else {
+        return true;
+    };
+    is_past(snapshot, day, row)
+}
+
+// Whether a duty is asked for.
+fn is_wanted(snapshot: &Snapshot, wanted: &DutyFilter<'_>, row: &StoredDuty) -> bool
+    ensures { result ≡ is_wanted snapshot.now wanted.now row.now }
+{
+    is_asked(wanted.release, row.release.as_str())
+        && is_asked(wanted.code, row.code.as_str())
+        && (!wanted.still_open || row.state.as_str() == DutyState::IsOpen.name())
+        && is_past_if_asked(snapshot, wanted.past, row)
+}
+
 // A copy of a text, if there is one.
 fn copy_of(alloc: Global, text: Option<&str>) -> Result<Option<Text>, AllocError>
     ensures { IfOk result (λ copy. copy ≡ option_copied text.entry) }
@@ -112,12 +143,18 @@ fn copy_of(alloc: Global, text: Option<&str>) -> Result<Option<Text>, AllocError
 }
 
 // The line of a duty.
-fn duty_line(alloc: Global, snapshot: &Snapshot, row: &StoredDuty) -> Result<DutyLine, AllocError>
-    ensures { IfOk result (λ line. line ≡ duty_line snapshot.now row.now) }
+fn duty_line(
+    alloc: Global,
+    snapshot: &Snapshot,
+    titles: &[Title],
+    row: &StoredDuty,
+) -> Result<DutyLine, AllocError>
+    ensures { IfOk result (λ line. line ≡ duty_line snapshot.now titles.now row.now) }
 {
     let number = row.number;
     let document = row.document;
     let package_name = package_name(snapshot, document, row.package_id.as_str());
+    let title = title_among(row.code.as_str(), titles);
     let raised = raising_day(snapshot, number);
     let changed = changing_day(snapshot, number);
     let last_day = waiver_end(snapshot, number);
@@ -129,6 +166,7 @@ fn duty_line(alloc: Global, snapshot: &Snapshot, row: &StoredDuty) -> Result<Dut
         package_name: Text::of(alloc, package_name)?,
         rule: row.rule.clone()?,
         code: row.code.clone()?,
+        title: Text::of(alloc, title)?,
         state: row.state.clone()?,
         raised: Text::of(alloc, raised)?,
         changed: Text::of(alloc, changed)?,
@@ -140,14 +178,16 @@ fn duty_line(alloc: Global, snapshot: &Snapshot, row: &StoredDuty) -> Result<Dut
 fn lines_in_turn(
     alloc: Global,
     snapshot: &Snapshot,
+    titles: &[Title],
     wanted: &DutyFilter<'_>,
 ) -> Result<Vec<DutyLine>, AllocError>
-    ensures { IfOk result (λ lines. lines.items ≡ lines_wanted snapshot.now wanted.now) }
+    ensures { IfOk result (λ lines. lines.items
+        ≡ map (duty_line snapshot.now titles.now) (filter (is_wanted snapshot.now wanted.now) snapshot.now.duty)) }
 {
     let mut lines = Vec::new(alloc);
     for row in snapshot.duty.as_slice() {
-        if is_wanted(wanted, row) {
-            lines.push(duty_line(alloc, snapshot, row)?)?;
+        if is_wanted(snapshot, wanted, row) {
+            lines.push(duty_line(alloc, snapshot, titles, row)?)?;
         }
     }
     Ok(lines)
@@ -170,7 +210,8 @@ pub fn duties(
     ensures members { IfOk result (λ lines. IsPermutation (lines_wanted snapshot.now wanted.now) lines.items) }
     ensures order { IfOk result (λ lines. IsSorted raising_order lines.items) }
 {
-    let mut lines = lines_in_turn(alloc, snapshot, wanted)?;
+    let titles = titles_in_force(alloc, snapshot)?;
+    let mut lines = lines_in_turn(alloc, snapshot, titles.as_slice(), wanted)?;
     lines.sort_by(|line, other| compare_raising(line, other))?;
     Ok(lines)
 }

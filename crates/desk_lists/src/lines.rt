@@ -25,12 +25,16 @@ pub struct ReleaseLine {
 pub struct DocumentLine {
     /// Its number, from 1.
     pub number: i64,
+    /// Its name. Empty if its bytes are no document, which no desk has.
+    pub name: Text,
     /// Its namespace.
     pub namespace: Text,
     /// How many packages it has.
     pub packages: u64,
     /// How many of these it ships.
     pub shipped: u64,
+    /// How many findings it has, its licence fields read by its profile. None if its bytes are no document, which no desk has.
+    pub findings: Option<u64>,
     /// The number of the profile that its expressions are read by. Each document of a desk has one.
     pub profile: Option<i64>,
 }
@@ -52,6 +56,8 @@ pub struct DutyLine {
     pub rule: Text,
     /// The code of what is owed.
     pub code: Text,
+    /// The title of this code in the catalogue in force. Empty if it has none there.
+    pub title: Text,
     /// `open`, `met`, `waived` or `withdrawn`, as the table has it.
     pub state: Text,
     /// The day it was raised. Empty if its first step is missing, which no desk has.
@@ -71,4 +77,6 @@ pub struct DutyFilter<'a> {
     pub code: Option<&'a str>,
     /// Those that are open.
     pub still_open: bool,
+    /// Those that are waived up to a day before this one, `YYYY-MM-DD`.
+    pub past: Option<&'a str>,
 }

@@ -30,7 +30,7 @@ pub fn releases_columns(alloc: Global, lines: &[ReleaseLine]) -> Result<Vec<u8>,
     columns_text(alloc, releases.as_slice())
 }
 
-/// The list of documents as comma-separated values: `number`, `namespace`, `packages`, `shipped` and `profile`.
+/// The list of documents as comma-separated values: `number`, `name`, `namespace`, `packages`, `shipped`, `findings` and `profile`.
 pub fn documents_csv(alloc: Global, lines: &[DocumentLine]) -> Result<Vec<u8>, AllocError>
     ensures { IfOk result (λ text. text.items ≡ csv_text (document_table lines.now)) }
 {
@@ -46,8 +46,8 @@ pub fn documents_columns(alloc: Global, lines: &[DocumentLine]) -> Result<Vec<u8
     columns_text(alloc, documents.as_slice())
 }
 
-/// The list of duties as comma-separated values: `number`, `release`, `document`, `package`, `name`, `rule`, `code`, `state`, `raised`,
-/// `since` and `until`. `since` is the day of the last change, `until` the last day of a waiver that ends.
+/// The list of duties as comma-separated values: `number`, `release`, `document`, `package`, `name`, `rule`, `code`, `title`, `state`,
+/// `raised`, `since` and `until`. `since` is the day of the last change, `until` the last day of a waiver that ends.
 pub fn duties_csv(alloc: Global, lines: &[DutyLine]) -> Result<Vec<u8>, AllocError>
     ensures { IfOk result (λ text. text.items ≡ csv_text (duty_table lines.now)) }
 {

@@ -40,6 +40,8 @@ enum Task<'a> {
     Page { release: &'a Text },
     /// It writes the choices that leave nothing to choose.
     Choices { release: &'a Text },
+    /// It writes what is proposed for a document.
+    Proposals { document: u32 },
     /// It writes what stands in the way of a freeze.
     Wanting { release: &'a Text },
     /// It serves so many connections over HTTP.
@@ -189,6 +191,9 @@ fn done<S: Alter + Drop, W: Write>(
         Task::Page { release } => page(alloc, desk, release, writer, &mut teller(rt)),
         Task::Choices { release } => {
             looking::choices(rt, desk, release, writer, &mut teller(rt))
+        }
+        Task::Proposals { document } => {
+            looking::proposals(rt, desk, document, writer, &mut teller(rt))
         }
         Task::Wanting { release } => {
             looking::wanting(rt, desk, release, writer, &mut teller(rt))
@@ -432,6 +437,11 @@ pub fn page_of(rt: &HostRuntime, path: &str, release: &Text) -> Result<u8, Failu
 /// Writes the choices that leave nothing to choose, of a release of the desk that a file keeps.
 pub fn choices(rt: &HostRuntime, path: &str, release: &Text) -> Result<u8, Failure> {
     do_in(rt, path, Task::Choices { release })
+}
+
+/// Writes what is proposed for a document of the desk that a file keeps.
+pub fn proposals(rt: &HostRuntime, path: &str, document: u32) -> Result<u8, Failure> {
+    do_in(rt, path, Task::Proposals { document })
 }
 
 /// Writes what stands in the way of a freeze of a release of the desk that a file keeps.

@@ -1,5 +1,5 @@
-//! What is looked at in the desk of a file: lists of what it holds, what stands in the way of a freeze, and choices that leave nothing to
-//! choose.
+//! What is looked at in the desk of a file: lists of what it holds, what stands in the way of a freeze, what is proposed for a document,
+//! and choices that leave nothing to choose.
 
 use desk_base::Text;
 use desk_line::Listed;
@@ -8,7 +8,11 @@ use desk_model::{Answer, Fault, Outcome, Refusal};
 use desk_snapshot::Snapshot;
 use desk_store::SqlDesk;
 use desk_subcommands::{Failure, Teller, tell};
-use desk_views::{tell_wanting, write_choices, write_documents, write_duties, write_releases};
+use desk_texts::Standard;
+use desk_views::{
+    document_row, open_releases, propose_held, tell_wanting, write_choices, write_choices_for,
+    write_documents, write_duties, write_releases,
+};
 use sqlite::Alter;
 use std::alloc::Global;
 use std::io::{IsTerminal, Write};
@@ -34,11 +38,13 @@ fn write_list<W: Write>(
             release,
             code,
             is_open,
+            past,
         } => {
             let wanted = DutyFilter {
                 release: release.as_ref().map(|release| release.as_str()),
                 code: code.as_ref().map(|code| code.as_str()),
                 still_open: *is_open,
+                past: past.as_ref().map(|day| day.as_str()),
             };
             write_duties(alloc, snapshot, &wanted, in_columns, writer)
         }
@@ -85,6 +91,61 @@ pub fn choices<S: Alter, W: Write, E: Write>(
         Ok(Err(refusal)) => refused(alloc, refusal, writer, teller),
         Err(fault) => failed(alloc, fault, writer),
     }
+}
+
+// Writes the choices of these releases that leave nothing to choose and are for packages of a document.
+fn choices_for<S: Alter, W: Write, E: Write>(
+    alloc: Global,
+    desk: &mut SqlDesk<S>,
+    releases: &[Text],
+    document: u32,
+    writer: &mut W,
+    teller: &mut Teller<E>,
+) -> Result<u8, Failure> {
+    for release in releases {
+        match desk.sole_choices(alloc, release) {
+            Ok(Ok(choices)) => {
+                write_choices_for(alloc, release, document, choices, writer)?;
+            }
+            Ok(Err(refusal)) => return refused(alloc, refusal, writer, teller),
+            Err(fault) => return failed(alloc, fault, writer),
+        }
+    }
+    Ok(0)
+}
+
+/// Writes what is proposed for a document that a desk holds: conclusions, and then, of each open release to which it is attached, the
+/// choices for its packages that leave nothing to choose.
+pub fn proposals<S: Alter, W: Write, E: Write>(
+    rt: &HostRuntime,
+    desk: &mut SqlDesk<S>,
+    document: u32,
+    writer: &mut W,
+    teller: &mut Teller<E>,
+) -> Result<u8, Failure> {
+    let alloc = rt.alloc();
+    let snapshot = match desk.snapshot() {
+        Ok(snapshot) => snapshot,
+        Err(fault) => return failed(alloc, fault, writer),
+    };
+    let Some(row) = document_row(&snapshot, document) else {
+        return refused(alloc, Refusal::UnknownDocument, writer, teller);
+    };
+    let bytes = row.bytes.as_slice();
+    let status = propose_held(
+        alloc,
+        &Standard,
+        &snapshot,
+        document,
+        bytes,
+        writer,
+        &mut rt.stderr(),
+    )?;
+    if status != 0 {
+        return Ok(status);
+    }
+    let releases = open_releases(alloc, &snapshot, document)?;
+    choices_for(alloc, desk, releases.as_slice(), document, writer, teller)
 }
 
 // Tells which documents ship no package.

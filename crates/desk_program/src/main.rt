@@ -201,6 +201,7 @@ fn answer_of_file(rt: &HostRuntime, path: &str, call: &FileCall) -> Result<u8, F
         FileCall::List { list } => database::list(rt, path, list),
         FileCall::Page { release } => database::page_of(rt, path, release),
         FileCall::Choices { release } => database::choices(rt, path, release),
+        FileCall::Proposals { document } => database::proposals(rt, path, *document),
         FileCall::Wanting { release } => database::wanting(rt, path, release),
         FileCall::Audit => database::audit(rt, path),
         FileCall::Migrate => database::migrate(rt, path),

@@ -9,7 +9,8 @@
 //! - `tell_report` writes what an audit reports (`specs/Auditing.antt`), `tell_migration` which versions a migration went from and to
 //!   (`specs/Migrating.antt`).
 //! - `gather` writes the document of a tree of files (`specs/Gathering.antt`), `lint` what is wrong in it (`specs/Linting.antt`).
-//! - `propose` writes the conclusions that are proposed for a document (`specs/Proposing.antt`).
+//! - `propose` writes the conclusions that are proposed for a document (`specs/Proposing.antt`), `write_proposals` those for one that was
+//!   read.
 //! - `convert` writes the tag-value document that says what one in JSON says, and `document_of` takes either (`specs/Converting.antt`).
 //! - `explain` writes what a name means (`specs/Meaning.antt`).
 //! - `tell` writes the reply to a request, and a `Teller` says in words why it was refused. `desk_views` has the subcommands that show what
@@ -47,7 +48,7 @@ pub use linting::{lint, tell_blanks};
 pub use listing::alternatives;
 pub use meaning::explain;
 pub use migrating::tell_migration;
-pub use proposing::propose;
+pub use proposing::{propose, refuse_document, write_proposals};
 pub use scripting::script;
 pub use teller::Teller;
 pub use trouble::{PortTrouble, Trouble};

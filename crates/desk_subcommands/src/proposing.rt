@@ -32,8 +32,9 @@ fn tell_counts<T: Write>(
     Ok(())
 }
 
-// Writes the lines of a document.
-fn write_lines<W: Write, T: Write>(
+/// Writes the requests that conclude, for each package of a document that ships without a conclusion, its declared licence, as `propose`
+/// does for the bytes of one.
+pub fn write_proposals<W: Write, T: Write>(
     alloc: Global,
     number: u32,
     document: &Document<'_>,
@@ -55,8 +56,8 @@ fn write_lines<W: Write, T: Write>(
     Ok(0)
 }
 
-// Writes the reply to an import of bytes that are no document.
-fn refuse<X: Texts, W: Write>(
+/// Writes the reply to an import of bytes that are no document, and returns the program's status.
+pub fn refuse_document<X: Texts, W: Write>(
     alloc: Global,
     texts: &X,
     bytes: &[u8],
@@ -97,7 +98,7 @@ pub fn propose<X: Texts, W: Write, T: Write>(
     ensures memory { IfErr result (IfMemory (Keeps (W.contents writer.old) (W.contents writer.new))) }
 {
     match read(alloc, bytes) {
-        Ok(document) => write_lines(alloc, number, &document, profile, writer, teller),
-        Err(_fault) => refuse(alloc, texts, bytes, writer),
+        Ok(document) => write_proposals(alloc, number, &document, profile, writer, teller),
+        Err(_fault) => refuse_document(alloc, texts, bytes, writer),
     }
 }

@@ -2,3 +2,4 @@ pub mod Showing
 pub mod Listing
 pub mod Wanting
 pub mod Paging
+pub mod Proposing

@@ -6,18 +6,22 @@
 //! - `write_releases`, `write_documents` and `write_duties` write lists of `desk_lists` as comma-separated values or in columns
 //!   (`specs/Listing.antt`).
 //! - `page` writes a page on a release (`specs/Paging.antt`).
-//! - `write_choices` writes choices as the requests that make them.
+//! - `write_choices` writes choices as the requests that make them, `write_choices_for` those for a document.
+//! - `propose_held` writes the conclusions that are proposed for a document that a desk holds (`specs/Proposing.antt`); `document_row` finds
+//!   it, and `open_releases` the releases that choices of its packages are for.
 //! - `tell_wanting` writes the refusals that stand in the way of a freeze, a line each (`specs/Wanting.antt`).
 #![tactic(auto)]
 
 mod choosing;
 mod listing;
 mod paging;
+mod proposing;
 mod showing;
 mod wanting;
 
-pub use choosing::write_choices;
+pub use choosing::{write_choices, write_choices_for};
 pub use listing::{write_documents, write_duties, write_releases};
 pub use paging::page;
+pub use proposing::{document_row, open_releases, propose_held};
 pub use showing::show;
 pub use wanting::tell_wanting;

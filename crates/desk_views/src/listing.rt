@@ -1,8 +1,11 @@
 //! The lists of what a desk holds.
 
-ghost use Rattle.std.specs.Prelude.{◌≡◌, List, IfOk, IfErr};
+ghost use Rattle.std.specs.Prelude.{◌≡◌, ℕ, List, Option, IfOk, IfErr};
 ghost use Rattle.std.specs.Io.KnownBytes.{Appends, Keeps};
+ghost use Rattle.desk_base.specs.declared.profile.Profile.{Profile};
+ghost use Rattle.desk_expr.specs.Tree.{Tree};
 ghost use Rattle.desk_lists.specs.Cells.{document_table, duty_table, release_table};
+ghost use Rattle.desk_lists.specs.Documents.{AreReadings};
 ghost use Rattle.desk_lists.specs.declared.lines.DocumentLine.{DocumentLine as Documented};
 ghost use Rattle.desk_lists.specs.declared.lines.DutyLine.{DutyLine as Owed};
 ghost use Rattle.desk_lists.specs.declared.lines.ReleaseLine.{ReleaseLine as Released};
@@ -82,7 +85,8 @@ pub fn write_documents<W: Write>(
     in_columns: bool,
     writer: &mut W,
 ) -> Result<u8, Failure>
-    ensures told { IfOk result (λ status. (status ≡ 0) × (lines : List Documented) × AreDocuments snapshot.now lines
+    ensures told { (reads : Profile → List ℕ → Option Tree) → AreReadings reads
+        → IfOk result (λ status. (status ≡ 0) × (lines : List Documented) × AreDocuments reads snapshot.now lines
         × Appends (W.contents writer.old) (W.contents writer.new) (table_text in_columns (document_table lines))) }
     ensures fails { IfErr result IsOfOutput }
     ensures memory { IfErr result (IfMemory (Keeps (W.contents writer.old) (W.contents writer.new))) }

@@ -6,8 +6,8 @@ use Rattle.desk_lists.proofs.duty.lines_in_turn.Goals.{then-is_wanted+in_ok-duty
 
 pub loop-row-preserved : goal.loop-row-preserved
 loop-row-preserved c =
-    let f = duty_line c.args.snapshot.now in
-    let p = is_wanted c.args.wanted.now in
+    let f = duty_line c.args.snapshot.now c.args.titles.now in
+    let p = is_wanted c.args.snapshot.now c.args.wanted.now in
     let rows = c.as_slice-row-items.result.now in
     elim c.if-is_wanted.branch [
       | then-is_wanted+in_ok-duty_line+in_ok-push w ↦

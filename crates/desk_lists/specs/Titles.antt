@@ -1,0 +1,44 @@
+-- The titles of duties, as the catalogue in force has them: the last of its table, whose order is that of the revisions.
+use Rattle.std.specs.Prelude.{ℕ, ◌-◌, Bool, List, [], Option, codes, find, length, option_map, option_and_then, slice_get}
+use Rattle.std.specs.List.{cons_option}
+use Rattle.std.specs.Option.{option_map_or}
+use Rattle.std.specs.Str.{bytes_eq}
+use Rattle.toml.specs.Data.{Data, Items, Members, as_array, as_str, as_table, get_member, item, no_items}
+use Rattle.toml.specs.Parse.{parse_document}
+use Rattle.desk_snapshot.specs.declared.snapshot.Snapshot.{Snapshot}
+use Rattle.desk_lists.specs.declared.titles.Title.{Title}
+
+abbrev pub text_at : List ℕ → Members → Option (List ℕ)
+text_at key ms = option_and_then as_str (get_member key ms)
+
+-- the title of a code
+abbrev pub titled : List ℕ → List ℕ → Title
+titled code title = record { code = code; title = title }
+
+-- the title in a table of a code and a title
+abbrev pub title_in : Members → Option Title
+title_in ms = option_and_then (λ code. option_map (titled code) (text_at (codes "title") ms)) (text_at (codes "code") ms)
+
+abbrev pub title_of : Data → Option Title
+title_of d = option_and_then title_in (as_table d)
+
+abbrev pub titles_of : Items → List Title
+titles_of no_items = []
+titles_of (item d ds) = cons_option (title_of d) (titles_of ds)
+
+-- the titles of the duties in a catalogue
+abbrev pub titles_in : Members → List Title
+titles_in ms = option_map_or titles_of (option_and_then as_array (get_member (codes "duty") ms)) []
+
+abbrev pub catalogue_titles : List ℕ → List Title
+catalogue_titles text = option_map_or titles_in (parse_document text) []
+
+abbrev pub titles_in_force : Snapshot → List Title
+titles_in_force snapshot = option_map_or (λ row. catalogue_titles row.body) (slice_get snapshot.catalogue (length snapshot.catalogue - 1)) []
+
+abbrev pub is_title_of : List ℕ → Title → Bool
+is_title_of code row = bytes_eq row.code code
+
+-- the title of a code among some, or nothing
+abbrev pub title_among : List ℕ → List Title → List ℕ
+title_among code titles = option_map_or (λ row. row.title) (find (is_title_of code) titles) []
