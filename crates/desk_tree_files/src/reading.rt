@@ -13,7 +13,7 @@ use std::io::{self, ErrorKind, Read};
 use std::rt::Files;
 
 /// After how many files the count of those that are read is told.
-const FILES_A_LINE: usize = 1_000;
+const FILES_A_STEP: usize = 1_000;
 
 // How much of a file is read at first. More at once would leave the processor's caches before it is looked at.
 const FIRST_READ: usize = 128 * 1024;
@@ -75,11 +75,18 @@ fn file_at<R: Files + AllocGlobal + Clone + Drop>(
     }
 }
 
-// Tells on standard error how many files are read.
-fn tell<R: Eprint>(rt: &R, count: usize) {
-    if count % FILES_A_LINE == 0 {
+// Tells on standard error how many files of how many are read, on the line of what was told before.
+fn tell<R: Eprint>(rt: &R, count: usize, all: usize) {
+    if count % FILES_A_STEP == 0 {
         // Where it can't be told, the files are read all the same.
-        let _told = eprintln!(rt; "{count} files read");
+        let _told = eprint!(rt; "\r{count} of {all} files read");
+    }
+}
+
+// Takes off the line what was told. The longest of it is `10000 of 10000 files read`.
+fn clear<R: Eprint>(rt: &R, all: usize) {
+    if all >= FILES_A_STEP {
+        let _told = eprint!(rt; "\r                         \r");
     }
 }
 
@@ -96,10 +103,26 @@ fn read<R: Files + Eprint + AllocGlobal + Clone + Drop>(
     for path in paths {
         files.push(file_at(rt, root, path.as_str())?)?;
         if is_told {
-            tell(rt, files.len());
+            tell(rt, files.len(), paths.len());
         }
     }
     Ok(files)
+}
+
+// The same, with nothing told at the end.
+fn read_and_clear<R: Files + Eprint + AllocGlobal + Clone + Drop>(
+    rt: &R,
+    root: &str,
+    paths: &[String],
+    is_told: bool,
+) -> Result<Vec<SourceFile>, TreeFault>
+    ensures { IfOk result (λ files. map (λ f. f.path) files.items ≡ map string_bytes paths.now) }
+{
+    let files = read(rt, root, paths, is_told);
+    if is_told {
+        clear(rt, paths.len());
+    }
+    files
 }
 
 // The files at some paths, without what they hold.
@@ -121,8 +144,8 @@ fn named<R: Files + AllocGlobal + Clone + Drop>(
 }
 
 /// The files below a folder by path: all but links, what else is neither a file nor a folder, and `.git` at the root. Of a folder
-/// with more than 10,000 files, of which nothing is gathered, 10,001 or more are given, and no bytes. After each 1,000 files the count of
-/// those that are read is told on standard error, if it is to be.
+/// with more than 10,000 files, of which nothing is gathered, 10,001 or more are given, and no bytes. After each 1,000 files it is told on
+/// standard error how many are read, if it is to be, each time in place of the last, and it is gone at the end.
 pub fn files_of<R: Files + Eprint + AllocGlobal + Clone + Drop>(
     rt: &R,
     root: &str,
@@ -134,5 +157,5 @@ pub fn files_of<R: Files + Eprint + AllocGlobal + Clone + Drop>(
     if paths.len() > limits::TREE_FILES {
         return named(rt, paths.as_slice());
     }
-    read(rt, root, paths.as_slice(), is_told)
+    read_and_clear(rt, root, paths.as_slice(), is_told)
 }

@@ -13,5 +13,5 @@ returns-then-len-gt-TREE_FILES g c =
 
 pub returns : goal.returns
 returns g c =
-    ok_along c.read.result c.read.ensures (λ files same.
+    ok_along c.read_and_clear.result c.read_and_clear.ensures (λ files same.
     subst (IsSorted (slice_cmp nat_cmp)) (sym (same ∙ ap (map string_bytes) c.as_slice-2.ensures.value)) (sorted_map string_bytes (slice_cmp nat_cmp) c.in_ok-paths.paths.items c.in_ok-paths.ensures))
