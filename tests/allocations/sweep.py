@@ -1,16 +1,16 @@
 """Refuses each allocation of the program in turn: python3 tests/allocations/sweep.py PROGRAM
 
-The scripts, the checks, the listings and the trees are those of the acceptance cases of at most 16 KiB or 100 files. For each N the program runs once
-with its Nth allocation refused, until a run makes fewer. Then
+The scripts, the checks, the listings and the trees are those of the acceptance cases of at most 16 KiB or 100 files, and the documents in
+JSON those of tests/convert. For each N the program runs once with its Nth allocation refused, until a run makes fewer. Then
 
 - a check or a listing tells its answer with its status, or nothing with status 3 and its words;
-- a text of a desk in a file (notices, the table of duties, totals, changes) is written whole, or not at all with status 3 and its words; or
-  the reply is {"fault":"memory"};
+- a text of a desk in a file (notices, the table of duties, totals, changes, a page, a list, what is wanting, choices, proposals) is written
+  whole, or not at all with status 3 and its words; or the reply is {"fault":"memory"};
 - an audit and a migration of a file, behind its opening and once in the midst of that, tell their answer, or nothing but their words; the
   file is as it was, or, migrated, has the rows of a migration whole;
 - a script over a file does so too, and may fail to open or to close it, with its words;
-- so do the proposals for a document, and the document and the problems of a tree; the words may also be those of a folder or a file that found
-  no memory;
+- so do the proposals for a document, what a document in JSON is converted to, and the document and the problems of a tree; the words may also
+  be those of a folder or a file that found no memory;
 - a desk that is served, from its first connection on, replies to each as it would, but for one: that is replied 503 with "memory", and the
   others as without its request; or, if it isn't GET, with "reply", and the others as with it. It may fail to close its file, with its words;
 - a script tells its replies with its status; or one reply is {"fault":"memory"}, the status is 3 with its words, and the other replies
@@ -30,6 +30,7 @@ import tempfile
 
 HERE = os.path.dirname(os.path.abspath(__file__))
 CASES = os.path.join(HERE, "../acceptance")
+CONVERTED = os.path.join(HERE, "../convert")
 sys.path[:0] = [CASES, os.path.join(HERE, "..")]
 sys.dont_write_bytecode = True
 
@@ -230,14 +231,31 @@ class Serve:
         return [place for place in range(len(self.requests)) if place not in self.told]
 
 
-KINDS = {"script": Script, "check": Check, "alternatives": Check, "propose": Tree, "gather": Tree, "lint": Tree}
-TEXTS = {"notices": "r1", "duties": "r1", "totals": "r1", "changes": "1"}
-KINDS.update((word, Shown) for word in TEXTS)
+KINDS = {"script": Script, "check": Check, "alternatives": Check, "propose": Tree, "gather": Tree, "lint": Tree, "convert": Tree}
+# What is shown of the desk in a file, and of what in it.
+TEXTS = [
+    ("notices", "r1"),
+    ("duties", "r1"),
+    ("totals", "r1"),
+    ("changes", "1"),
+    ("page", "r1"),
+    ("wanting", "r1"),
+    ("choices", "r1"),
+    ("propose", "1"),
+    ("list", "releases"),
+    ("list", "documents"),
+    ("list", "duties"),
+]
+
+
+def kind_of(words):
+    """What a run with these words may tell."""
+    return Shown if "--db" in words and words[0] != "script" else KINDS[words[0]]
 
 
 def sweep(program, name, words, text, first=1):
     """How many allocations were refused, from the first one on."""
-    run = KINDS[words[0]](program, words, text)
+    run = kind_of(words)(program, words, text)
     refused = first
     while True:
         stdout, status, stderr, was_refused = program.run(words, text, refused)
@@ -398,7 +416,7 @@ def texts(program):
     """The words of each text of the first release, which is made in a file."""
     with open(os.path.join(HERE, "../../examples/first-release/script.jsonl"), "rb") as file:
         program.run(["script", "--db", "office"], file.read())
-    for word, of in TEXTS.items():
+    for word, of in TEXTS:
         yield [word, "--db", "office", of]
 
 
@@ -432,10 +450,13 @@ def cases():
         words = words_of(listed) if os.path.isfile(listed) and os.path.getsize(listed) <= BYTES else []
         if words[:1] in (["check"], ["alternatives"]):
             yield name, words, b"", None, None
-        elif words[:1] in (["propose"], ["gather"], ["lint"]):
+        elif words[:1] in (["propose"], ["gather"], ["lint"]) and "--db" not in words:
             yield name, words, b"", data, None
         elif os.path.isfile(script) and is_of_tree(script):
             yield name, [], b"", data, script
+    for name in sorted(os.listdir(CONVERTED)):
+        if name.endswith(".json") and os.path.getsize(os.path.join(CONVERTED, name)) <= BYTES:
+            yield name, ["convert", name], b"", CONVERTED, None
 
 
 def main():
