@@ -4,7 +4,7 @@ ghost use Rattle.std.specs.Prelude.{◌≡◌, ◌++◌, ◌∷◌, [], IfOk, If
 ghost use Rattle.desk_model.specs.Readings.{Readings};
 ghost use Rattle.desk_model.specs.Faults.{MayFail};
 ghost use Rattle.desk_model.specs.Raised.{owed_code, frozen_term};
-ghost use Rattle.desk_model.specs.Answers.{first_unadopted, unadopted};
+ghost use Rattle.desk_model.specs.Answers.{first_unadopted};
 ghost use Rattle.desk_history.specs.FromTables.{rules_found};
 ghost use Rattle.desk_access.specs.Seen.{Looked, OfRows};
 ghost use Rattle.desk_duties.specs.Freezing.{GathersTerms, GathersPackage, GathersAll, unready_package};
@@ -13,7 +13,7 @@ use desk_access::store::Store;
 use desk_access::texts::Texts;
 use desk_base::Text;
 use desk_model::{Conclusion, Fault, FrozenRow, Owed, PackageRow, Refusal, Rule};
-use desk_packages::{conclusion_of, rule_adopted};
+use desk_packages::{conclusion_of, no_rule, rule_adopted, unadopted};
 use std::alloc::{AllocError, Global};
 
 /// What a freeze has gathered: the frozen terms, and the duties that they owe.
@@ -101,32 +101,6 @@ fn add_term(
     Ok(())
 }
 
-/// What stands against a term of a document: it is a reference without adoption.
-fn unadopted<T: Texts, S: Store>(
-    alloc: Global,
-    texts: &T,
-    store: &mut S,
-    document: u32,
-    term: &Text,
-) -> Result<Option<Refusal>, Fault>
-    ensures found { (w : Readings) → T.are_right w → IfOk result (λ refusal.
-        OfRows (λ t. refusal ≡ unadopted w t.adoption document term.now)
-        (S.seen store.old) (S.seen store.new)) }
-    ensures kept { Looked (S.seen store.old) (S.seen store.new) result }
-    ensures fault { IfErr result (MayFail S.tells) }
-{
-    let Some(reference) = texts.reference(alloc, term.as_str())? else {
-        return Ok(None);
-    };
-    if store.adoption(document, reference.as_str())?.is_some() {
-        return Ok(None);
-    }
-    Ok(Some(Refusal::NotAdopted {
-        document,
-        reference,
-    }))
-}
-
 /// The first term of a package without adoption.
 fn first_unadopted<T: Texts, S: Store>(
     alloc: Global,
@@ -147,17 +121,6 @@ fn first_unadopted<T: Texts, S: Store>(
         }
     }
     Ok(None)
-}
-
-fn no_rule(row: &PackageRow, term: &Text) -> Result<Refusal, Fault>
-    ensures refusal { IfOk result (λ refusal. refusal ≡ Refusal.NoRule row.now.document row.now.id term.now) }
-    ensures fault { IfErr result (λ fault. fault ≡ Fault.Memory) }
-{
-    Ok(Refusal::NoRule {
-        document: row.document,
-        package_id: row.id.clone()?,
-        term: term.clone()?,
-    })
 }
 
 /// Gathers what the terms of a package owe, or tells the first without a rule.

@@ -1,14 +1,16 @@
 //! What is in force for the packages of documents: the office's conclusion or the document's own, the rule for the adopted form of a
-//! term, and which packages a release ships; and the plans that commands make alike. Commands (`desk_preparing`, `desk_duties`) and
+//! term or what stands against it, and which packages a release ships; and the plans that commands make alike. Commands (`desk_preparing`, `desk_duties`) and
 //! questions (`desk_questions`) look it up here.
 #![tactic(auto)]
 
 mod conclusion;
+mod obstacle;
 mod plan;
 mod rule;
 mod shipped;
 
 pub use conclusion::{Claim, InForce, claim_of, conclusion_of, in_force, read_claim};
+pub use obstacle::{no_rule, unadopted};
 pub use plan::{done, refused, unready};
 pub use rule::rule_adopted;
 pub use shipped::shipped_packages;

@@ -13,7 +13,7 @@ use desk_access::store::Store;
 use desk_access::texts::Texts;
 use desk_base::Text;
 use desk_model::{Fault, PackageRow, Refusal};
-use desk_packages::rule_adopted;
+use desk_packages::{no_rule, rule_adopted, unadopted};
 use std::alloc::{AllocError, Global};
 
 /// Adds a refusal, if it applies.
@@ -29,34 +29,8 @@ pub(crate) fn add_refusal(
     Ok(())
 }
 
-/// What stands against a term of a document: it is a reference without adoption.
-fn unadopted<T: Texts, S: Store>(
-    alloc: Global,
-    texts: &T,
-    store: &mut S,
-    document: u32,
-    term: &Text,
-) -> Result<Option<Refusal>, Fault>
-    ensures found { (w : Readings) → T.are_right w → IfOk result (λ refusal.
-        OfRows (λ t. refusal ≡ unadopted w t.adoption document term.now)
-        (S.seen store.old) (S.seen store.new)) }
-    ensures kept { Looked (S.seen store.old) (S.seen store.new) result }
-    ensures fault { IfErr result (MayFail S.tells) }
-{
-    let Some(reference) = texts.reference(alloc, term.as_str())? else {
-        return Ok(None);
-    };
-    if store.adoption(document, reference.as_str())?.is_some() {
-        return Ok(None);
-    }
-    Ok(Some(Refusal::NotAdopted {
-        document,
-        reference,
-    }))
-}
-
-#[tactic(auto, using(desk_access::proofs::Chains::same_then_kept, desk_access::proofs::Chains::same_then_same))]
 /// The references without adoption among the terms of a document.
+#[tactic(auto, using(desk_access::proofs::Chains::same_then_kept, desk_access::proofs::Chains::same_then_same))]
 fn unadopted_terms<T: Texts, S: Store>(
     alloc: Global,
     texts: &T,
@@ -76,16 +50,6 @@ fn unadopted_terms<T: Texts, S: Store>(
         add_refusal(&mut refusals, refusal)?;
     }
     Ok(refusals)
-}
-
-fn no_rule(row: &PackageRow, term: &Text) -> Result<Refusal, AllocError>
-    ensures { IfOk result (λ refusal. refusal ≡ Refusal.NoRule row.now.document row.now.id term.now) }
-{
-    Ok(Refusal::NoRule {
-        document: row.document,
-        package_id: row.id.clone()?,
-        term: term.clone()?,
-    })
 }
 
 /// What stands against a term of a package that is no reference without adoption: it has no rule.
