@@ -22,10 +22,12 @@ use desk_model::{
     Rule, Standing, Totals,
 };
 
-/// Tables of rows, in memory or in a database. Look-ups leave the rows; `commit` alone writes, all of a change or nothing.
+/// Tables of rows, in memory or in a database. Look-ups leave the rows; `commit` alone writes, all
+/// of a change or nothing.
 ///
-/// What is seen of a store is whether tables are its rows, whether its disk has been honest and still shows them, and what a
-/// stop could leave. In memory the rows are always shown, and nothing outlives a stop.
+/// What is seen of a store is whether tables are its rows, whether its disk has been honest and
+/// still shows them, and what a stop could leave. In memory the rows are always shown, and nothing
+/// outlives a stop.
 pub trait Store {
     /// What a stop of the program may leave of a store.
     ghost Left: { Type 0 };
@@ -72,7 +74,8 @@ pub trait Store {
         ensures fault { IfErr result (MayFail tells) };
 
     fn document_count(&mut self) -> Result<u64, Fault>
-        ensures found { IfOk result (λ n. OfRows (λ t. n ≡ length t.document) (seen self.old) (seen self.new)) }
+        ensures found { IfOk result
+            (λ n. OfRows (λ t. n ≡ length t.document) (seen self.old) (seen self.new)) }
         ensures kept { Looked (seen self.old) (seen self.new) result }
         ensures misses { OnErr result may_miss }
         ensures fault { IfErr result (MayFail tells) };
@@ -89,7 +92,8 @@ pub trait Store {
     /// A document by its number: the number, and its profile.
     fn document(&mut self, number: u64) -> Result<Option<(u32, Profile)>, Fault>
         ensures found { IfOk result (λ found. OfRows (λ t.
-            found ≡ option_map known_document (find (is_document number) t.document)) (seen self.old)
+            found ≡ option_map known_document (find (is_document number) t.document))
+            (seen self.old)
             (seen self.new)) }
         ensures same { IfOk result (λ found. IfSome found (λ known. known.0 ≡ number)) }
         ensures kept { Looked (seen self.old) (seen self.new) result }
@@ -114,14 +118,16 @@ pub trait Store {
     /// The shipped packages of a document, by id.
     fn shipped(&mut self, document: u32) -> Result<Vec<PackageRow>, Fault>
         ensures found { IfOk result (λ found. OfRows (λ t.
-            found.items ≡ filter (is_shipped_by document) t.packages) (seen self.old) (seen self.new)) }
+            found.items ≡ filter (is_shipped_by document) t.packages) (seen self.old)
+            (seen self.new)) }
         ensures kept { Looked (seen self.old) (seen self.new) result }
         ensures fault { IfErr result (MayFail tells) };
 
     /// The text that a document gives for a reference.
     fn extracted_text(&mut self, document: u32, reference: &str) -> Result<Option<Text>, Fault>
         ensures found { IfOk result (λ found. OfRows (λ t.
-            found ≡ extracted_text t.extracted document reference.now) (seen self.old) (seen self.new)) }
+            found ≡ extracted_text t.extracted document reference.now) (seen self.old)
+            (seen self.new)) }
         ensures kept { Looked (seen self.old) (seen self.new) result }
         ensures fault { IfErr result (MayFail tells) };
 
@@ -132,7 +138,8 @@ pub trait Store {
         ensures fault { IfErr result (MayFail tells) };
 
     fn release_count(&mut self) -> Result<u64, Fault>
-        ensures found { IfOk result (λ n. OfRows (λ t. n ≡ length t.releases) (seen self.old) (seen self.new)) }
+        ensures found { IfOk result
+            (λ n. OfRows (λ t. n ≡ length t.releases) (seen self.old) (seen self.new)) }
         ensures kept { Looked (seen self.old) (seen self.new) result }
         ensures misses { OnErr result may_miss }
         ensures fault { IfErr result (MayFail tells) };
@@ -193,7 +200,8 @@ pub trait Store {
     /// The licence that a reference of a document is adopted as.
     fn adoption(&mut self, document: u32, reference: &str) -> Result<Option<Text>, Fault>
         ensures found { IfOk result (λ found. OfRows (λ t.
-            found ≡ licence_for t.adoption document reference.now) (seen self.old) (seen self.new)) }
+            found ≡ licence_for t.adoption document reference.now) (seen self.old)
+            (seen self.new)) }
         ensures kept { Looked (seen self.old) (seen self.new) result }
         ensures fault { IfErr result (MayFail tells) };
 
@@ -213,7 +221,8 @@ pub trait Store {
         ensures fault { IfErr result (MayFail tells) };
 
     fn duty_count(&mut self) -> Result<u64, Fault>
-        ensures found { IfOk result (λ n. OfRows (λ t. n ≡ length t.duty) (seen self.old) (seen self.new)) }
+        ensures found { IfOk result
+            (λ n. OfRows (λ t. n ≡ length t.duty) (seen self.old) (seen self.new)) }
         ensures kept { Looked (seen self.old) (seen self.new) result }
         ensures misses { OnErr result may_miss }
         ensures fault { IfErr result (MayFail tells) };
@@ -266,7 +275,8 @@ pub trait Store {
     /// The day of a duty's last change, if it has one.
     fn last_day(&mut self, duty: u32) -> Result<Option<Day>, Fault>
         ensures found { IfOk result (λ day. OfRows (λ t.
-            day ≡ last_day (filter (is_change_of duty) t.changes)) (seen self.old) (seen self.new)) }
+            day ≡ last_day (filter (is_change_of duty) t.changes)) (seen self.old)
+            (seen self.new)) }
         ensures kept { Looked (seen self.old) (seen self.new) result }
         ensures misses { OnErr result may_miss }
         ensures fault { IfErr result (MayFail tells) };

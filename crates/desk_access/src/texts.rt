@@ -13,8 +13,8 @@ use desk_model::{
 };
 use std::alloc::{AllocError, Global};
 
-/// A reader of texts. It tells which readings are right by its own definitions, and answers as each of these does. A licence expression
-/// is read once, and then asked about.
+/// A reader of texts. It tells which readings are right by its own definitions, and answers as each
+/// of these does. A licence expression is read once, and then asked about.
 pub trait Texts {
     /// A licence expression that was read.
     type Expression: Drop;
@@ -37,7 +37,8 @@ pub trait Texts {
         alloc: Global,
         text: &str,
     ) -> Result<Result<Catalogue, CatalogueFault>, AllocError>
-        ensures { (w : Readings) → are_right w → IfOk result (λ read. read ≡ w.catalogue text.now) };
+        ensures { (w : Readings) → are_right w
+            → IfOk result (λ read. read ≡ w.catalogue text.now) };
 
     /// The document that bytes spell, or their fault.
     fn document(
@@ -45,7 +46,8 @@ pub trait Texts {
         alloc: Global,
         bytes: &[u8],
     ) -> Result<Result<Document, DocumentFault>, AllocError>
-        ensures { (w : Readings) → are_right w → IfOk result (λ read. read ≡ w.document bytes.now) };
+        ensures { (w : Readings) → are_right w
+            → IfOk result (λ read. read ≡ w.document bytes.now) };
 
     /// The licence term that a text spells, printed.
     fn term(&self, alloc: Global, text: &str) -> Result<Option<Text>, AllocError>
@@ -53,7 +55,8 @@ pub trait Texts {
 
     /// The reference that a printed term names, without its exception.
     fn reference(&self, alloc: Global, term: &str) -> Result<Option<Text>, AllocError>
-        ensures { (w : Readings) → are_right w → IfOk result (λ reference. reference ≡ w.reference term.now) };
+        ensures { (w : Readings) → are_right w
+            → IfOk result (λ reference. reference ≡ w.reference term.now) };
 
     /// Whether a printed term is a licence alone: no reference, no plus, no exception.
     fn is_licence(&self, term: &str) -> bool
@@ -64,13 +67,15 @@ pub trait Texts {
         ensures { (w : Readings) → are_right w → IfOk result (λ adopted.
             adopted ≡ w.adopted_as licence.now term.now) };
 
-    /// The id of the licence that a printed term names, without its plus and exception, where it names no reference.
+    /// The id of the licence that a printed term names, without its plus and exception, where it
+    /// names no reference.
     fn licence_id(&self, alloc: Global, term: &str) -> Result<Text, AllocError>
         ensures { (w : Readings) → are_right w → IfOk result (λ id. id ≡ w.licence_id term.now) };
 
     /// The exception of a printed term, if it has one.
     fn exception(&self, alloc: Global, term: &str) -> Result<Option<Text>, AllocError>
-        ensures { (w : Readings) → are_right w → IfOk result (λ exception. exception ≡ w.exception term.now) };
+        ensures { (w : Readings) → are_right w
+            → IfOk result (λ exception. exception ≡ w.exception term.now) };
 
     /// The texts of licences in the catalogue that a text is; none where it is no catalogue.
     fn licences(&self, alloc: Global, text: &str) -> Result<Self::Licences, AllocError>
@@ -93,7 +98,8 @@ pub trait Texts {
         profile: Profile,
         text: &str,
     ) -> Result<Option<Self::Expression>, AllocError>
-        ensures { (w : Readings) → are_right w → IfOk result (TellsExpression is_of w profile text.now) };
+        ensures { (w : Readings) → are_right w
+            → IfOk result (TellsExpression is_of w profile text.now) };
 
     /// Why a text is no licence expression, if it is none.
     fn expression_fault(
@@ -116,7 +122,8 @@ pub trait Texts {
             → is_of profile text expression.now
             → IfOk result (λ verdict. verdict ≡ w.verdict profile text terms.now) };
 
-    /// The minimal sets of terms that an expression is true under, printed, or why they aren't listed.
+    /// The minimal sets of terms that an expression is true under, printed, or why they aren't
+    /// listed.
     fn alternatives(
         &self,
         alloc: Global,
@@ -132,8 +139,8 @@ pub trait Texts {
             → is_of profile text expression.now
             → IfOk result (λ terms. terms ≡ w.terms profile text) };
 
-    /// The cheapest set of terms that an expression is true under, printed, where each of its distinct terms in order costs what
-    /// stands at its place, at most 1,000,000.
+    /// The cheapest set of terms that an expression is true under, printed, where each of its
+    /// distinct terms in order costs what stands at its place, at most 1,000,000.
     fn cheapest(
         &self,
         alloc: Global,
@@ -152,5 +159,6 @@ pub trait Texts {
         profile: Profile,
         bytes: &[u8],
     ) -> Result<Items<FindingRow>, AllocError>
-        ensures { (w : Readings) → are_right w → IfOk result (λ rows. rows ≡ w.findings profile bytes.now) };
+        ensures { (w : Readings) → are_right w
+            → IfOk result (λ rows. rows ≡ w.findings profile bytes.now) };
 }

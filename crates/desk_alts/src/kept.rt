@@ -85,7 +85,8 @@ impl Kept {
         self.highs.remove(at);
     }
 
-    /// Keeps the set, unless a subset of it is kept, in place of the kept sets that it is a subset of.
+    /// Keeps the set, unless a subset of it is kept, in place of the kept sets that it is a subset
+    /// of.
     pub(crate) fn insert(&mut self, mask: Mask) -> Result<(), AllocError>
         requires { AreApart self.old }
         ensures apart { OnOk result (AreApart self.new) }
@@ -119,7 +120,8 @@ impl Kept {
 
     // Adds the unions of the set and each of these.
     fn add_unions(&self, mask: Mask, unions: &mut Vec<Union>) -> Result<(), AllocError>
-        ensures { OnOk result (Adds (union_masks unions.old.items) (union_masks unions.new.items) (λ m.
+        ensures { OnOk result (Adds (union_masks unions.old.items) (union_masks unions.new.items)
+            (λ m.
             IsSubset mask m × IsAbove self.now m)) }
     {
         for at in 0..self.len() {
@@ -154,7 +156,8 @@ impl Kept {
 
     /// The minimal ones of the unions of one of these sets and one of the others.
     ///
-    /// The small unions come first, so none is kept that a later one is a subset of: there are never more kept than in the end.
+    /// The small unions come first, so none is kept that a later one is a subset of: there are
+    /// never more kept than in the end.
     pub(crate) fn product(&self, alloc: Global, other: &Kept) -> Result<Kept, AllocError>
         ensures apart { IfOk result (λ k. AreApart k) }
         ensures exact { IfOk result (λ k. (m : Mask) → IsAbove k m

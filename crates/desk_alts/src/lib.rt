@@ -1,14 +1,18 @@
-//! The minimal sets of terms that satisfy a licence expression (SPDX 2.3, Annex D.4), and the cheapest set of all that satisfy it.
+//! The minimal sets of terms that satisfy a licence expression (SPDX 2.3, Annex D.4), and the
+//! cheapest set of all that satisfy it.
 //!
-//! A contract sees a `TermSet` as the list of its terms in the order of terms, each once. `alternatives` lists each set that is
-//! minimal by `IsMinimal` of `desk_expr`, the definition that `check_choice` has, and no other (`AreAlternatives`,
-//! specs/Sets.antt); it refuses an expression that has more than 128 distinct terms, or more than 64 minimal sets at some front
-//! of some node (`IsListable`, specs/Faults.antt). `cheapest` finds the least of all sets that satisfy the expression, minimal or
-//! not, by costs that a caller gives for terms (`IsCheapest`, specs/Costs.antt).
+//! A contract sees a `TermSet` as the list of its terms in the order of terms, each once.
+//! `alternatives` lists each set that is minimal by `IsMinimal` of `desk_expr`, the definition that
+//! `check_choice` has, and no other (`AreAlternatives`, specs/Sets.antt); it refuses an expression
+//! that has more than 128 distinct terms, or more than 64 minimal sets at some front of some node
+//! (`IsListable`, specs/Faults.antt). `cheapest` finds the least of all sets that satisfy the
+//! expression, minimal or not, by costs that a caller gives for terms (`IsCheapest`,
+//! specs/Costs.antt).
 //!
-//! Within, a set is a mask over the expression's terms: bit `k` stands for the term at place `k`. The masks of a front are kept in
-//! two columns of words, none a subset of another (`kept.rt`), and `covers` looks for a subset of a mask among eight of them at
-//! once. What a list of masks stands for is the sets that contain one of them (`AreMinimal`, specs/Choices.antt).
+//! Within, a set is a mask over the expression's terms: bit `k` stands for the term at place `k`.
+//! The masks of a front are kept in two columns of words, none a subset of another (`kept.rt`), and
+//! `covers` looks for a subset of a mask among eight of them at once. What a list of masks stands
+//! for is the sets that contain one of them (`AreMinimal`, specs/Choices.antt).
 #![tactic(auto)]
 
 mod costs;

@@ -99,7 +99,8 @@ impl Ord for TermSet {
 impl PartialOrd for TermSet {
     ghost partial_cmp = { as_partial_cmp set_order };
 
-    ghost laws = { partial_order_from_own_ties (Prim.search (comparing, set_total, rules)) (Prim.search (comparing, rules)) };
+    ghost laws = { partial_order_from_own_ties (Prim.search (comparing, set_total, rules))
+        (Prim.search (comparing, rules)) };
 
     fn partial_cmp(&self, other: &TermSet) -> Option<Ordering> {
         Some(self.cmp(other))

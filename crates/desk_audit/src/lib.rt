@@ -1,7 +1,9 @@
-//! The audit of a desk's tables: which of ten conditions (`desk_snapshot`) their rows don't meet first.
+//! The audit of a desk's tables: which of ten conditions (`desk_snapshot`) their rows don't meet
+//! first.
 //!
-//! The conditions of catalogues and documents are judged by `desk_audit_texts`, those of conclusions, adoptions, releases and choices by
-//! `desk_audit_choices`, those of duties and their changes by `desk_audit_duties`; here they are put in their order.
+//! The conditions of catalogues and documents are judged by `desk_audit_texts`, those of
+//! conclusions, adoptions, releases and choices by `desk_audit_choices`, those of duties and their
+//! changes by `desk_audit_duties`; here they are put in their order.
 #![tactic(auto)]
 
 ghost use Rattle.std.specs.Prelude.{◌≡◌, pos, [], ◌∷◌, IfOk};
@@ -117,7 +119,8 @@ fn first_fault<T: Texts>(
     }
 }
 
-/// The report on a snapshot: sound where the ten conditions are met, else the first that isn't. Texts are read by their standards.
+/// The report on a snapshot: sound where the ten conditions are met, else the first that isn't.
+/// Texts are read by their standards.
 pub fn judge(alloc: Global, snapshot: &Snapshot) -> Result<AuditReport, AllocError>
     ensures { (w : Readings) → AreRight w → IfOk result (IsReport w snapshot.now) }
 {

@@ -29,8 +29,8 @@ fn is_met<T: Texts>(alloc: Global, texts: &T, snapshot: &Snapshot) -> Result<boo
     )
 }
 
-/// The fault where conclusions, adoptions, places and choices aren't such as the office can have made, `BadChoice`; none where they are.
-/// An error only where an allocation was refused.
+/// The fault where conclusions, adoptions, places and choices aren't such as the office can have
+/// made, `BadChoice`; none where they are. An error only where an allocation was refused.
 pub fn choice_fault<T: Texts>(
     alloc: Global,
     texts: &T,

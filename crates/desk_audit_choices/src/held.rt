@@ -50,7 +50,8 @@ fn are_minimal<T: Texts>(
 ) -> Result<bool, AllocError>
     ensures { (w : Readings) → T.are_right w → (profile : Profile) (text : List ℕ)
         → T.is_of profile text expression.now
-        → IfOk result (λ are. are ≡ are_minimal w terms.now (record { profile = profile; text = text })) }
+        → IfOk result (λ are. are
+        ≡ are_minimal w terms.now (record { profile = profile; text = text })) }
 {
     if !are_printed(alloc, texts, terms)? {
         return Ok(false);
@@ -157,7 +158,8 @@ fn is_choice<T: Texts>(
     ships_under(alloc, texts, snapshot, terms.as_slice(), package_row)
 }
 
-/// Whether a choice is such as can be held, where the one before it, if there is one, is: one for the same package is then too.
+/// Whether a choice is such as can be held, where the one before it, if there is one, is: one for
+/// the same package is then too.
 fn is_choice_after<T: Texts>(
     alloc: Global,
     texts: &T,
@@ -175,7 +177,8 @@ fn is_choice_after<T: Texts>(
     }
 }
 
-/// Whether each choice is such as can be held. Those for one package stand side by side, so it is told once for a package.
+/// Whether each choice is such as can be held. Those for one package stand side by side, so it is
+/// told once for a package.
 pub(crate) fn are_choices<T: Texts>(
     alloc: Global,
     texts: &T,

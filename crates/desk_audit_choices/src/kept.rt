@@ -42,8 +42,10 @@ fn frozen_behind<'a>(
     frozen: &'a [StoredFrozen],
     release: &str,
 ) -> Option<&'a [StoredFrozen]>
-    ensures { MatchOption result (StartsOtherwise (chosen_as row.now) (held_in release.now frozen.now))
-        (λ behind. held_in release.now frozen.now ≡ chosen_as row.now ∷ held_in release.now behind.now) }
+    ensures { MatchOption result
+        (StartsOtherwise (chosen_as row.now) (held_in release.now frozen.now))
+        (λ behind. held_in release.now frozen.now
+        ≡ chosen_as row.now ∷ held_in release.now behind.now) }
 {
     let (first, behind) = next_frozen(frozen, release)?;
     if is_same(row, first) {
@@ -72,7 +74,8 @@ fn are_same(choices: &[StoredChoice], frozen: &[StoredFrozen], release: &str) ->
 
 /// Whether the choices of a release are its frozen terms.
 fn is_unchanged(snapshot: &Snapshot, release: &str) -> bool
-    ensures { Decides result (chosen_in snapshot.now release.now ≡ frozen_in snapshot.now release.now) }
+    ensures { Decides result
+        (chosen_in snapshot.now release.now ≡ frozen_in snapshot.now release.now) }
 {
     let choices = snapshot.choice.among(&ByHolder { release });
     let frozen = snapshot.frozen.among(&ByFrozen { release });

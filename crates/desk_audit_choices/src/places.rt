@@ -35,7 +35,8 @@ fn are_from_one(numbers: &[i64]) -> bool
 /// Whether the places of releases are the numbers from 1 on, in any order.
 pub(crate) fn are_places(alloc: Global, releases: &[StoredRelease]) -> Result<bool, AllocError>
     ensures { IfOk result (λ are.
-        Decides are (IsPermutation (numbers_to (length releases.now)) (map (λ row. row.place) releases.now))) }
+        Decides are (IsPermutation (numbers_to (length releases.now))
+        (map (λ row. row.place) releases.now))) }
 {
     let mut places = places_of(alloc, releases)?;
     places.sort_unstable();

@@ -79,7 +79,8 @@ fn is_change_of(duty: &StoredDuty, row: &StoredChange) -> bool
     row.duty == duty.number
 }
 
-/// Whether the changes of a duty among some rows begin with its raising, go on from each other, and lead to its state.
+/// Whether the changes of a duty among some rows begin with its raising, go on from each other, and
+/// lead to its state.
 fn lead(snapshot: &Snapshot, duty: &StoredDuty, rows: &[StoredChange]) -> bool
     ensures { result ≡ lead snapshot.now duty.now.state None 1
         (filter (is_change_of duty.now.number) rows.now) }
@@ -128,7 +129,8 @@ fn is_within(count: usize, number: i64) -> bool
 }
 
 fn are_of_duties(snapshot: &Snapshot) -> bool
-    ensures { result ≡ list_all (λ row. is_within (length snapshot.now.duty) row.duty) snapshot.now.changes }
+    ensures { result ≡ list_all (λ row. is_within (length snapshot.now.duty) row.duty)
+        snapshot.now.changes }
 {
     let count = snapshot.duty.as_slice().len();
     let changes = snapshot.changes.as_slice();
@@ -167,8 +169,8 @@ fn are_changes(snapshot: &Snapshot) -> bool
     are_waived(snapshot)
 }
 
-/// Tells `BadChange`, unless each duty's changes are moves that go on from each other and lead to its state, there are no others, and
-/// waivers that end stand at waived steps alone.
+/// Tells `BadChange`, unless each duty's changes are moves that go on from each other and lead to
+/// its state, there are no others, and waivers that end stand at waived steps alone.
 pub fn change_fault(snapshot: &Snapshot) -> Option<AuditFault>
     ensures { (w : Readings) → IsFirst w snapshot.now (BadChange ∷ []) result }
 {

@@ -38,7 +38,8 @@ fn are_owed(alloc: Global, ruling: &Ruling<'_>) -> Result<bool, AllocError>
 }
 
 fn are_duties(alloc: Global, snapshot: &Snapshot) -> Result<bool, AllocError>
-    ensures { IfOk result (λ good. MatchBool good (AreDuties snapshot.now) (AreDuties snapshot.now → ⊥)) }
+    ensures { IfOk result (λ good. MatchBool good (AreDuties snapshot.now)
+        (AreDuties snapshot.now → ⊥)) }
 {
     let ruling = Ruling::of(alloc, snapshot)?;
     if !are_ruled(&ruling) {
@@ -47,8 +48,9 @@ fn are_duties(alloc: Global, snapshot: &Snapshot) -> Result<bool, AllocError>
     are_owed(alloc, &ruling)
 }
 
-/// Tells `BadDuty`, unless the duties of each release are exactly those that its frozen terms owe, each by the rule of the release's
-/// revision and form. A frozen term is of a release that was frozen, and its rule is there.
+/// Tells `BadDuty`, unless the duties of each release are exactly those that its frozen terms owe,
+/// each by the rule of the release's revision and form. A frozen term is of a release that was
+/// frozen, and its rule is there.
 ///
 /// Fails where memory is refused.
 pub fn duty_fault(alloc: Global, snapshot: &Snapshot) -> Result<Option<AuditFault>, AllocError>

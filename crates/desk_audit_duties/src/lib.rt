@@ -1,4 +1,5 @@
-//! What an audit asks of a desk's duties: their numbers, what they are owed for, their changes and their states.
+//! What an audit asks of a desk's duties: their numbers, what they are owed for, their changes and
+//! their states.
 #![tactic(auto)]
 
 mod changes;

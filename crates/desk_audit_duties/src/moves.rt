@@ -36,7 +36,8 @@ fn is_note(text: &str) -> bool
     are_shown(text.as_bytes())
 }
 
-/// Whether a move goes from a state: the end of a waiver where the waiver's last day is before the day of the end.
+/// Whether a move goes from a state: the end of a waiver where the waiver's last day is before the
+/// day of the end.
 pub(crate) fn may_move(from: DutyState, end: Option<&str>, day: &str, word: Word) -> bool
     ensures { result ≡ may_move from (option_copied end.entry) day.now word }
 {
@@ -71,7 +72,8 @@ fn has_room(word: Word, row: &StoredChange) -> bool
     }
 }
 
-/// Whether a change may be written so: a day that exists, a word, its text, and a step within the limit.
+/// Whether a change may be written so: a day that exists, a word, its text, and a step within the
+/// limit.
 pub(crate) fn is_formed(row: &StoredChange) -> bool
     ensures { result ≡ is_formed row.now }
 {

@@ -66,7 +66,8 @@ fn are_numbered(snapshot: &Snapshot) -> bool
     were_frozen(snapshot)
 }
 
-/// Tells `BadNumber`, unless the duties are numbered from 1 on, at most 100,000, and each is of a release that was frozen.
+/// Tells `BadNumber`, unless the duties are numbered from 1 on, at most 100,000, and each is of a
+/// release that was frozen.
 pub fn number_fault(snapshot: &Snapshot) -> Option<AuditFault>
     ensures { (w : Readings) → IsFirst w snapshot.now (BadNumber ∷ []) result }
 {

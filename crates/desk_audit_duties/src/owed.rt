@@ -11,7 +11,8 @@ use desk_snapshot::{StoredDuty, StoredFrozen};
 use std::alloc::{AllocError, Global};
 use std::cmp::Ordering;
 
-/// What a duty is owed for, by the row that says so: one of the codes of a frozen term, or the duty itself.
+/// What a duty is owed for, by the row that says so: one of the codes of a frozen term, or the duty
+/// itself.
 #[derive(Clone, Copy)]
 pub(crate) enum OwedFor<'a> {
     Code(&'a StoredFrozen, &'a str),

@@ -69,7 +69,8 @@ fn rules_at(alloc: Global, rules: &[StoredRule]) -> Result<Vec<RuleAt<'_>>, Allo
     Ok(places)
 }
 
-/// The rules in the order of revisions, forms and spellings. Of rules that are alike in these the first stays the first.
+/// The rules in the order of revisions, forms and spellings. Of rules that are alike in these the
+/// first stays the first.
 fn sorted_rules(alloc: Global, rules: &[StoredRule]) -> Result<Sorted<RuleAt<'_>>, AllocError>
     ensures { IfOk result (λ sorted. FindsAs sorted.rows.items rules.now) }
 {
@@ -109,7 +110,8 @@ impl<'a> Ruling<'a> {
         }
     }
 
-    /// The rule of a frozen term: of its release's revision and form, and spelled as the term's rule.
+    /// The rule of a frozen term: of its release's revision and form, and spelled as the term's
+    /// rule.
     pub(crate) fn rule_for(&self, row: &StoredFrozen) -> Option<&'a StoredRule>
         ensures { option_copied result ≡ rule_for self.now.snapshot.now row.now }
     {

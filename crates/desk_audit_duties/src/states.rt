@@ -37,7 +37,8 @@ fn stands(snapshot: &Snapshot, duty: &StoredDuty) -> bool
 }
 
 fn are_stated(snapshot: &Snapshot) -> bool
-    ensures { result ≡ list_all (λ row. is_some (release_state_named row.state)) snapshot.now.releases }
+    ensures { result ≡ list_all (λ row. is_some (release_state_named row.state))
+        snapshot.now.releases }
 {
     snapshot.releases.as_slice().iter().all(is_stated)
 }
@@ -56,8 +57,8 @@ fn are_states(snapshot: &Snapshot) -> bool
     are_stated(snapshot) && all_stand(snapshot)
 }
 
-/// Tells `BadState`, unless each release is open, frozen or withdrawn, a withdrawn release has no open or waived duty, and any other
-/// release no withdrawn one.
+/// Tells `BadState`, unless each release is open, frozen or withdrawn, a withdrawn release has no
+/// open or waived duty, and any other release no withdrawn one.
 pub fn state_fault(snapshot: &Snapshot) -> Option<AuditFault>
     ensures { (w : Readings) → IsFirst w snapshot.now (BadState ∷ []) result }
 {

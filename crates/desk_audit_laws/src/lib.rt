@@ -1,5 +1,6 @@
-//! The tables of every recorded history are sound: they meet all ten conditions of an audit (`desk_snapshot`). So an audit finds nothing
-//! in what a desk wrote, whatever was recorded, and what it finds was written by something else.
+//! The tables of every recorded history are sound: they meet all ten conditions of an audit
+//! (`desk_snapshot`). So an audit finds nothing in what a desk wrote, whatever was recorded, and
+//! what it finds was written by something else.
 //!
 //! The ten conditions are laws of `desk_snapshot_laws`. Two of them ask something of the reading
 //! of texts; here stands that each right reading keeps it.
@@ -17,8 +18,9 @@ ghost use Rattle.desk_snapshot.specs.declared.fault.AuditFault.{AuditFault};
 ghost use Rattle.desk_snapshot_laws.specs.Premises.{ReadsRules};
 ghost use Rattle.desk_snapshot_laws.specs.ChoicePremises.{ReadsChoices};
 
-/// A right reading tells of catalogues, documents and expressions what an audit rests on: rules are listed in order and their terms are
-/// those that their spellings spell, a printed term spells itself, and a minimal list of terms is minimal as a set.
+/// A right reading tells of catalogues, documents and expressions what an audit rests on: rules are
+/// listed in order and their terms are those that their spellings spell, a printed term spells
+/// itself, and a minimal list of terms is minimal as a set.
 pub fn right_readings_tell_what_audits_ask()
     ensures rules { (w : Readings) → AreRight w → ReadsRules w }
     ensures choices { (w : Readings) → AreRight w → ReadsChoices w }
@@ -31,9 +33,10 @@ pub fn right_readings_tell_what_audits_ask()
     desk_texts_laws::readings_speak_of_terms();
 }
 
-/// The tables of every recorded history meet all ten conditions of an audit, by each right reading of texts. A condition that asked more
-/// than what the desk keeps, such as choices that are minimal for the conclusion of their day or rules that are found in the catalogue in
-/// force, would not be met.
+/// The tables of every recorded history meet all ten conditions of an audit, by each right reading
+/// of texts. A condition that asked more than what the desk keeps, such as choices that are minimal
+/// for the conclusion of their day or rules that are found in the catalogue in force, would not be
+/// met.
 pub fn histories_are_sound()
     ensures { (w : Readings) (h : List Command) → AreRight w → IsHistory w h
         → (f : AuditFault) → Meets w (snapshot_of (tables w h)) f }

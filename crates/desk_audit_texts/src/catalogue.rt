@@ -11,7 +11,8 @@ use desk_access::texts::Texts;
 use desk_snapshot::{AuditFault, Snapshot};
 use std::alloc::{AllocError, Global};
 
-/// The first of `BadRevision` and `BadRule` whose condition isn't met. Each body is read once. `AllocError` tells want of memory.
+/// The first of `BadRevision` and `BadRule` whose condition isn't met. Each body is read once.
+/// `AllocError` tells want of memory.
 pub fn catalogue_fault<T: Texts>(
     alloc: Global,
     texts: &T,

@@ -70,8 +70,8 @@ fn document_read<T: Texts>(
     Ok(Some(document))
 }
 
-/// The first of `BadDocument` and `BadPackage` whose condition isn't met. The bytes of each document are read once. `AllocError`
-/// tells want of memory.
+/// The first of `BadDocument` and `BadPackage` whose condition isn't met. The bytes of each
+/// document are read once. `AllocError` tells want of memory.
 pub fn document_fault<T: Texts>(
     alloc: Global,
     texts: &T,

@@ -9,7 +9,8 @@ ghost use Rattle.std.specs.List.{list_all};
 use jiff::civil::Date;
 use std::marker::Model;
 
-/// A day that exists, seen as its ten bytes `YYYY-MM-DD`. The order of these bytes is the order of the days.
+/// A day that exists, seen as its ten bytes `YYYY-MM-DD`. The order of these bytes is the order of
+/// the days.
 #[derive(Debug, Drop)]
 pub struct Day {
     text: [u8; 10],

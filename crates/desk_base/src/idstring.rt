@@ -1,4 +1,5 @@
-//! Idstrings, of which the names of licences, exceptions and elements are made (SPDX 2.3, Annex D.2).
+//! Idstrings, of which the names of licences, exceptions and elements are made (SPDX 2.3, Annex
+//! D.2).
 
 ghost use Rattle.std.specs.Prelude.{◌≡◌, ◌↔◌, IsTrue};
 ghost use Rattle.desk_base.specs.Idstring.{is_idstring_byte, is_idstring, IsIdstring};

@@ -1,5 +1,5 @@
-//! The desk's limits, each in one place. Definitions don't read these: they have their own (`specs/Limits.antt`), so that a
-//! limit that is changed here alone is refused where it is cited.
+//! The desk's limits, each in one place. Definitions don't read these: they have their own
+//! (`specs/Limits.antt`), so that a limit that is changed here alone is refused where it is cited.
 
 /// The bytes of the longest licence expression that is read.
 pub const EXPRESSION_BYTES: usize = 16_384;
@@ -19,7 +19,8 @@ pub const DOCUMENT_ELEMENTS: usize = 10_000;
 /// How many distinct terms an expression may have whose minimal sets are listed.
 pub const LISTED_TERMS: usize = 128;
 
-/// How many minimal sets the first parts of a node of an expression may have where the minimal sets are listed.
+/// How many minimal sets the first parts of a node of an expression may have where the minimal sets
+/// are listed.
 pub const LISTED_SETS: usize = 64;
 
 /// The bytes of the longest catalogue that is read.
@@ -73,8 +74,8 @@ pub const LINE_BYTES: usize = 8_388_608;
 /// How often a script reads.
 pub const SCRIPT_READS: u32 = 1_048_576;
 
-/// How many bytes of a file are read that is handed in. Documents and catalogues have far fewer, so what is longer is refused for its
-/// size by what was read of it.
+/// How many bytes of a file are read that is handed in. Documents and catalogues have far fewer, so
+/// what is longer is refused for its size by what was read of it.
 pub const INPUT_BYTES: usize = 67_108_864;
 
 /// How many files a source tree may have of which something is gathered.

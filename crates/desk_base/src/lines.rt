@@ -59,12 +59,13 @@ pub struct Lines<'a> {
 impl<'a> Lines<'a> {
     ghost use Rattle.desk_base.specs.NextLine.{LineGiven};
 
-    /// The lines of some bytes: what calls of `next` give until there is none. They end by LF or CRLF, the last one also by the end of the bytes;
-    /// a CR alone is an ordinary byte.
+    /// The lines of some bytes: what calls of `next` give until there is none. They end by LF or
+    /// CRLF, the last one also by the end of the bytes; a CR alone is an ordinary byte.
     pub fn of(bytes: &'a [u8]) -> Lines<'a>
         ensures rest { result.rest.now ≡ bytes.now }
         ensures number { result.number ≡ 1 }
-        ensures lines { (given : List Line) → Drains LineGiven result given → AreLines 1 bytes.now given }
+        ensures lines { (given : List Line) → Drains LineGiven result given
+            → AreLines 1 bytes.now given }
     {
         Lines {
             rest: bytes,
@@ -107,5 +108,6 @@ impl<'a> Iterator for Lines<'a> {
 
 /// Bytes are cut into lines in one way.
 pub fn one_cutting()
-    ensures { (bytes : List ℕ) (a b : List LineText) → CutsInto 1 bytes a → CutsInto 1 bytes b → a ≡ b }
+    ensures { (bytes : List ℕ) (a b : List LineText) → CutsInto 1 bytes a → CutsInto 1 bytes b
+        → a ≡ b }
 {}

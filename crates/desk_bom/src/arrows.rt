@@ -9,7 +9,8 @@ ghost use Rattle.desk_bom.specs.Shipping.{arrow_between};
 
 use std::alloc::{AllocError, Global};
 
-/// An arrow from one place to another. Arrows are ordered by where they come from, then by where they lead.
+/// An arrow from one place to another. Arrows are ordered by where they come from, then by where
+/// they lead.
 #[derive(Debug, Clone, Copy, PartialEq, Eq, PartialOrd, Ord)]
 pub(crate) struct Arrow {
     pub from: usize,
@@ -81,7 +82,8 @@ impl Reached {
         Ok(())
     }
 
-    /// Reaches what the arrows lead to from what was reached, and from there on. They stand by where they come from.
+    /// Reaches what the arrows lead to from what was reached, and from there on. They stand by
+    /// where they come from.
     pub(crate) fn walk(&mut self, arrows: &[Arrow]) -> Result<(), AllocError>
         requires sorted { IsNonDecreasingBy (λ x. x.from) arrows.now }
         requires within { All (λ x. x.to < length self.old.marks.items) arrows.now }
@@ -115,7 +117,8 @@ fn count_upto(arrows: &[Arrow], place: usize) -> usize
     count
 }
 
-/// The arrows that come from a place. Who asks for them walks over them, so their end is found by a walk too.
+/// The arrows that come from a place. Who asks for them walks over them, so their end is found by a
+/// walk too.
 pub(crate) fn targets(arrows: &[Arrow], place: usize) -> &[Arrow]
     requires { IsNonDecreasingBy (λ x. x.from) arrows.now }
     ensures targets { AreTargets arrows.now place result.now }

@@ -41,8 +41,8 @@ fn digest_of_all(texts: &[[u8; 40]]) -> [u8; 20]
     hasher.finalize()
 }
 
-/// The verification code of a package whose files have these SHA1 digests (SPDX 2.3, clause 7.9), in whatever order they are
-/// given: 40 small hexadecimal digits.
+/// The verification code of a package whose files have these SHA1 digests (SPDX 2.3, clause 7.9),
+/// in whatever order they are given: 40 small hexadecimal digits.
 pub fn verification_code(alloc: Global, digests: &[[u8; 20]]) -> Result<[u8; 40], AllocError>
     ensures { IfOk result (IsCode digests.now) }
 {
@@ -53,5 +53,6 @@ pub fn verification_code(alloc: Global, digests: &[[u8; 20]]) -> Result<[u8; 40]
 
 /// Some digests have one code.
 pub fn one_code()
-    ensures { (digests : List (List ℕ)) (a b : List ℕ) → IsCode digests a → IsCode digests b → a ≡ b }
+    ensures { (digests : List (List ℕ)) (a b : List ℕ) → IsCode digests a → IsCode digests b
+        → a ≡ b }
 {}

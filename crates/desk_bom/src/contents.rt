@@ -47,7 +47,8 @@ fn onto_package(found: &mut Vec<Arrow>, packages: usize, file: usize) -> Result<
 
 // Adds the files that stand between a PackageName and the next one.
 fn add_own(found: &mut Vec<Arrow>, entries: &[Entry]) -> Result<(), AllocError>
-    ensures { OnOk result (found.new.items ≡ found.old.items ++ own_files 0 0 (map entry_text entries.now)) }
+    ensures { OnOk result (found.new.items
+        ≡ found.old.items ++ own_files 0 0 (map entry_text entries.now)) }
 {
     let mut packages = 0;
     let mut files = 0;

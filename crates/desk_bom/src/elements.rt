@@ -24,7 +24,8 @@ pub struct Elements<'a> {
 }
 
 fn add_packages<'a>(ids: &mut Vec<&'a str>, packages: &[Package<'a>]) -> Result<(), AllocError>
-    ensures { OnOk result (texts ids.new.items ≡ texts ids.old.items ++ map (λ p. p.id.now) packages.now) }
+    ensures { OnOk result (texts ids.new.items
+        ≡ texts ids.old.items ++ map (λ p. p.id.now) packages.now) }
 {
     for package in packages {
         ids.push(package.id)?;
@@ -33,7 +34,8 @@ fn add_packages<'a>(ids: &mut Vec<&'a str>, packages: &[Package<'a>]) -> Result<
 }
 
 fn add_files<'a>(ids: &mut Vec<&'a str>, files: &[FileEntry<'a>]) -> Result<(), AllocError>
-    ensures { OnOk result (texts ids.new.items ≡ texts ids.old.items ++ map (λ f. f.id.now) files.now) }
+    ensures { OnOk result (texts ids.new.items
+        ≡ texts ids.old.items ++ map (λ f. f.id.now) files.now) }
 {
     for file in files {
         ids.push(file.id)?;
@@ -42,7 +44,8 @@ fn add_files<'a>(ids: &mut Vec<&'a str>, files: &[FileEntry<'a>]) -> Result<(), 
 }
 
 fn add_snippets<'a>(ids: &mut Vec<&'a str>, snippets: &[Snippet<'a>]) -> Result<(), AllocError>
-    ensures { OnOk result (texts ids.new.items ≡ texts ids.old.items ++ map (λ s. s.id.now) snippets.now) }
+    ensures { OnOk result (texts ids.new.items
+        ≡ texts ids.old.items ++ map (λ s. s.id.now) snippets.now) }
 {
     for snippet in snippets {
         ids.push(snippet.id)?;
@@ -84,7 +87,8 @@ impl<'a> Elements<'a> {
         self.count
     }
 
-    /// The element that an identifier names: its place among the document itself, the packages, the files and the snippets.
+    /// The element that an identifier names: its place among the document itself, the packages, the
+    /// files and the snippets.
     pub fn place(&self, id: &str) -> Option<usize>
         ensures { result ≡ element_noted self.now id.now }
     {

@@ -7,7 +7,8 @@ ghost use Rattle.desk_base.specs.Borrowed.{texts};
 use std::alloc::{AllocError, Global};
 use std::collections::BTreeMap;
 
-// The number that the last eight bytes of an identifier make, or the last four or two where it has fewer.
+// The number that the last eight bytes of an identifier make, or the last four or two where it has
+// fewer.
 fn tail_number(id: &str) -> u64
     ensures { result ≡ tail_number id.now }
 {
@@ -49,7 +50,8 @@ fn find<'a>(
     tree.get(id).copied()
 }
 
-// Notes an identifier that isn't found yet: in its slot, or in a tree where another one has that slot.
+// Notes an identifier that isn't found yet: in its slot, or in a tree where another one has that
+// slot.
 fn add<'a>(
     ids: &[&'a str],
     slots: &mut [usize],
@@ -75,15 +77,18 @@ fn add<'a>(
     Ok(())
 }
 
-/// The first place of each identifier: in a slot, or in a tree where another one has that slot. So most look-ups end in a slot,
-/// and identifiers of one slot cost no more than they would in a tree alone.
+/// The first place of each identifier: in a slot, or in a tree where another one has that slot. So
+/// most look-ups end in a slot, and identifiers of one slot cost no more than they would in a tree
+/// alone.
 #[derive(Drop)]
 pub(crate) struct Places<'a> {
     ids: Vec<&'a str>,
     slots: Vec<usize>,
     tree: BTreeMap<&'a str, usize>,
     ghost room: { 0 < length slots.items },
-    ghost finds: { (id : List ℕ) (place : Option ℕ) → found (texts ids.items) slots.items tree id ≡ place → place_of id (texts ids.items) ≡ place },
+    ghost finds: { (id : List ℕ) (place : Option ℕ)
+        → found (texts ids.items) slots.items tree id ≡ place
+        → place_of id (texts ids.items) ≡ place },
 }
 
 impl<'a> Places<'a> {

@@ -36,7 +36,8 @@ fn ships_left(kind: &str) -> bool
 
 // From which element to which a relationship ships.
 fn shipping_arrow(elements: &Elements, edge: &Edge) -> Option<Arrow>
-    ensures { (d : DocumentText) → Notes d elements.now → result ≡ shipping_arrow d (edge_text edge.now) }
+    ensures { (d : DocumentText) → Notes d elements.now
+        → result ≡ shipping_arrow d (edge_text edge.now) }
 {
     if ships_right(edge.kind) {
         return arrow_between(elements.place(edge.left), elements.place(edge.right));
@@ -78,7 +79,8 @@ fn touches_document(arrow: Option<Arrow>) -> bool
 
 // Whether a relationship says that the document describes an element.
 fn describes(elements: &Elements, edge: &Edge) -> bool
-    ensures { (d : DocumentText) → Notes d elements.now → result ≡ describes d (edge_text edge.now) }
+    ensures { (d : DocumentText) → Notes d elements.now
+        → result ≡ describes d (edge_text edge.now) }
 {
     let named = edge.kind == "DESCRIBES" || edge.kind == "DESCRIBED_BY";
     named && touches_document(arrow_between(elements.place(edge.left), elements.place(edge.right)))
@@ -188,7 +190,8 @@ fn marks_of(alloc: Global, count: usize, reached: &Reached) -> Result<Vec<bool>,
     Ok(marks)
 }
 
-/// Of each package of a document, in its order, whether it ships: the same packages as `shipped` tells by their places.
+/// Of each package of a document, in its order, whether it ships: the same packages as `shipped`
+/// tells by their places.
 pub fn ships(alloc: Global, document: &Document) -> Result<Vec<bool>, AllocError>
     ensures { IfOk result (λ v. AreShippingMarks (document_text document.now) v.items) }
 {
@@ -199,8 +202,9 @@ pub fn ships(alloc: Global, document: &Document) -> Result<Vec<bool>, AllocError
 
 /// The places of the packages that a document ships, by their identifiers.
 ///
-/// The document itself ships, and each package where no DESCRIBES or DESCRIBED_BY (SPDX 2.3, clause 11.1) between elements of
-/// the document touches it. With an element ships what it describes, contains, depends on or links.
+/// The document itself ships, and each package where no DESCRIBES or DESCRIBED_BY (SPDX 2.3, clause
+/// 11.1) between elements of the document touches it. With an element ships what it describes,
+/// contains, depends on or links.
 pub fn shipped(alloc: Global, document: &Document) -> Result<Vec<usize>, AllocError>
     ensures { IfOk result (λ v. AreShipped (document_text document.now) v.items) }
 {

@@ -29,7 +29,8 @@ use std::alloc::{AllocError, Global};
 pub enum CodeState {
     /// The package has no code.
     Absent,
-    /// The code can't be checked: `FilesAnalyzed` is false, the code is of another form, or a file that isn't excluded has no SHA1.
+    /// The code can't be checked: `FilesAnalyzed` is false, the code is of another form, or a file
+    /// that isn't excluded has no SHA1.
     Unchecked,
     /// The code is that of the files.
     Agrees,
@@ -81,7 +82,8 @@ fn code_field(value: &str) -> Option<CodeField<'_>>
     ensures none { IfNone result (is_code value.now ≡ false) }
     ensures some { IfSome result (λ f. is_code value.now ≡ true) }
     ensures digits { IfSome result (λ f. f.digits.now ≡ code_digits value.now) }
-    ensures names { IfSome result (λ f. excluded_names (value_text f.names) ≡ excluded_by value.now) }
+    ensures names { IfSome result
+        (λ f. excluded_names (value_text f.names) ≡ excluded_by value.now) }
 {
     let Some((digits, rest)) = value.split_at_checked(40) else {
         return None;
@@ -104,7 +106,8 @@ fn code_field(value: &str) -> Option<CodeField<'_>>
     }
 }
 
-/// Whether a value is a code (SPDX 2.3, clause 7.9): 40 hexadecimal digits, and then perhaps names of files in parentheses.
+/// Whether a value is a code (SPDX 2.3, clause 7.9): 40 hexadecimal digits, and then perhaps names
+/// of files in parentheses.
 pub fn is_code(value: &str) -> bool
     ensures { result ≡ is_code value.now }
 {
@@ -120,7 +123,8 @@ fn parts_of(alloc: Global, text: &str) -> Result<Vec<&str>, AllocError>
 
 // The names that stand in some parts.
 fn names_of<'a>(alloc: Global, parts: &[&'a str]) -> Result<Vec<&'a str>, AllocError>
-    ensures { IfOk result (λ v. texts v.items ≡ map (λ part. plain (trimmed part)) (texts parts.now)) }
+    ensures { IfOk result (λ v. texts v.items
+        ≡ map (λ part. plain (trimmed part)) (texts parts.now)) }
 {
     let mut names = Vec::with_capacity(alloc, parts.len())?;
     for part in parts {
@@ -210,7 +214,8 @@ fn digests_of(
     Ok(Some(digests))
 }
 
-/// Whether a `FilesAnalyzed` is false, in capitals or small letters (SPDX 2.3, clause 7.8; absent means true).
+/// Whether a `FilesAnalyzed` is false, in capitals or small letters (SPDX 2.3, clause 7.8; absent
+/// means true).
 pub fn is_unanalyzed(flag: Option<&str>) -> bool
     ensures { result ≡ is_unanalyzed (value_text flag.entry) }
 {
@@ -222,7 +227,8 @@ pub fn is_unanalyzed(flag: Option<&str>) -> bool
 
 // Whether digits are those of a code, in either case.
 fn is_same(digits: &str, code: &[u8; 40]) -> bool
-    ensures { (ds : List ℕ) → code.now ≡ encode_lower ds → IsTrue result ↔ (folded digits.now ≡ code.now) }
+    ensures { (ds : List ℕ) → code.now ≡ encode_lower ds
+        → IsTrue result ↔ (folded digits.now ≡ code.now) }
 {
     digits.as_bytes().eq_ignore_ascii_case(code)
 }
@@ -231,10 +237,12 @@ fn is_same(digits: &str, code: &[u8; 40]) -> bool
 fn checked_field<'a>(package: &Package, value: &'a str) -> Option<CodeField<'a>>
     ensures none { IfNone result (is_unanalyzed (value_text «package».now.files_analyzed) || not
         (is_code value.now) ≡ true) }
-    ensures some { IfSome result (λ f. is_unanalyzed (value_text «package».now.files_analyzed) || not
+    ensures some { IfSome result
+        (λ f. is_unanalyzed (value_text «package».now.files_analyzed) || not
         (is_code value.now) ≡ false) }
     ensures digits { IfSome result (λ f. f.digits.now ≡ code_digits value.now) }
-    ensures names { IfSome result (λ f. excluded_names (value_text f.names) ≡ excluded_by value.now) }
+    ensures names { IfSome result
+        (λ f. excluded_names (value_text f.names) ≡ excluded_by value.now) }
 {
     if is_unanalyzed(package.files_analyzed) {
         return None;
@@ -285,7 +293,8 @@ fn state_of_code(
 
 fn package_at<'d, 'a>(document: &'d Document<'a>, place: usize) -> &'d Package<'a>
     requires { place < length document.now.packages }
-    ensures { slice_get (document_text document.now).packages place ≡ Some (package_text result.now) }
+    ensures { slice_get (document_text document.now).packages place
+        ≡ Some (package_text result.now) }
 {
     &document.packages.as_slice()[place]
 }
@@ -293,7 +302,8 @@ fn package_at<'d, 'a>(document: &'d Document<'a>, place: usize) -> &'d Package<'
 impl Contents {
     ghost use Rattle.desk_bom.specs.Held.{Holds};
 
-    /// What the code of a package says of its files: the package of the document that was noted, by its place among the packages.
+    /// What the code of a package says of its files: the package of the document that was noted, by
+    /// its place among the packages.
     pub fn code_state(
         &self,
         alloc: Global,
@@ -316,8 +326,9 @@ impl Contents {
     }
 }
 
-/// What the code of a package says of its files (SPDX 2.3, clause 7.9), the package by its place among the packages of the
-/// document. Who asks for many packages notes the files of all once, by `Contents`.
+/// What the code of a package says of its files (SPDX 2.3, clause 7.9), the package by its place
+/// among the packages of the document. Who asks for many packages notes the files of all once, by
+/// `Contents`.
 pub fn code_state(alloc: Global, document: &Document, owner: usize) -> Result<CodeState, AllocError>
     requires { owner < length document.now.packages }
     ensures { IfOk result (IsState (document_text document.now) owner) }
@@ -330,5 +341,6 @@ pub fn code_state(alloc: Global, document: &Document, owner: usize) -> Result<Co
 
 /// A package's code has one state.
 pub fn one_state()
-    ensures { (d : DocumentText) (owner : ℕ) (a b : CodeState) → IsState d owner a → IsState d owner b → a ≡ b }
+    ensures { (d : DocumentText) (owner : ℕ) (a b : CodeState) → IsState d owner a
+        → IsState d owner b → a ≡ b }
 {}

@@ -50,7 +50,8 @@ pub(crate) struct Subject {
 }
 
 impl Ord for Subject {
-    ghost cmp = { then_cmp (on (λ s. s.term) (slice_cmp nat_cmp)) (on (λ s. s.form) (slice_cmp nat_cmp)) };
+    ghost cmp = { then_cmp (on (λ s. s.term) (slice_cmp nat_cmp))
+        (on (λ s. s.form) (slice_cmp nat_cmp)) };
 
     ghost total = { Prim.search (comparing, rules) };
 
@@ -67,9 +68,11 @@ impl Ord for Subject {
 }
 
 impl PartialOrd for Subject {
-    ghost partial_cmp = { as_partial_cmp (then_cmp (on (λ s. s.term) (slice_cmp nat_cmp)) (on (λ s. s.form) (slice_cmp nat_cmp))) };
+    ghost partial_cmp = { as_partial_cmp
+        (then_cmp (on (λ s. s.term) (slice_cmp nat_cmp)) (on (λ s. s.form) (slice_cmp nat_cmp))) };
 
-    ghost laws = { partial_order_from_own_ties (Prim.search (comparing, rules)) (Prim.search (comparing, rules)) };
+    ghost laws = { partial_order_from_own_ties (Prim.search (comparing, rules))
+        (Prim.search (comparing, rules)) };
 
     fn partial_cmp(&self, other: &Subject) -> Option<Ordering> {
         Some(self.cmp(other))

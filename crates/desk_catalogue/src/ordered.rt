@@ -14,7 +14,8 @@ use desk_model::Rule;
 use std::cmp::Ordering;
 use std::marker::Model;
 
-// What follows a front with which the bytes begin; or, where they don't, how they compare with it, whatever follows it.
+// What follows a front with which the bytes begin; or, where they don't, how they compare with it,
+// whatever follows it.
 fn behind<'a>(bytes: &'a [u8], front: &[u8]) -> Result<&'a [u8], Ordering>
     ensures ok { IfOk result (λ rest. bytes.now ≡ front.now ++ rest.now) }
     ensures err { IfErr result (λ side. (more : List ℕ)

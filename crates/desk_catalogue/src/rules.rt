@@ -152,7 +152,8 @@ fn rule_at(
     value: &Value,
 ) -> Result<Result<Rule, CatalogueFault>, AllocError>
     ensures { (terms : List ℕ → Option (List ℕ)) → ReadsTerms terms
-        → IfOk result (λ rule. rule ≡ rule_at terms known.now.forms (codes_in known.now.duties) index
+        → IfOk result (λ rule. rule
+        ≡ rule_at terms known.now.forms (codes_in known.now.duties) index
         (view value.now)) }
 {
     let written = match rule_written(alloc, value, index)? {
@@ -172,7 +173,8 @@ fn each_rule(
     values: &[Value],
 ) -> Result<Result<BTreeMap<Subject, Said>, CatalogueFault>, AllocError>
     ensures { (terms : List ℕ → Option (List ℕ)) → ReadsTerms terms
-        → IfOk result (Gives (each (with_rule terms known.now.forms (codes_in known.now.duties)) [] 0
+        → IfOk result (Gives (each (with_rule terms known.now.forms (codes_in known.now.duties)) []
+        0
         (items_view values.now)) rules_in) }
 {
     let mut rules = BTreeMap::new(alloc);

@@ -42,7 +42,8 @@ fn sole_set<T: Texts>(
     }
 }
 
-/// The set of terms that the conclusion in force for a package is true under, where its listing has one alone.
+/// The set of terms that the conclusion in force for a package is true under, where its listing has
+/// one alone.
 pub(crate) fn sole_terms<T: Texts, S: Store>(
     alloc: Global,
     texts: &T,

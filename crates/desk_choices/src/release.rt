@@ -50,9 +50,11 @@ fn shipped_choices<T: Texts, S: Store>(
     sole_choices_for(alloc, texts, store, release, packages.as_slice())
 }
 
-/// The choices of a release that leave nothing to choose: for each package that it ships, by document and id, for which nothing is chosen
-/// and whose conclusion in force is true under one minimal set of terms alone, that set. A package without a conclusion, or whose sets
-/// aren't listed since there are too many, is left out. If there is no such release, or it isn't open, the refusal of a choice.
+/// The choices of a release that leave nothing to choose: for each package that it ships, by
+/// document and id, for which nothing is chosen and whose conclusion in force is true under one
+/// minimal set of terms alone, that set. A package without a conclusion, or whose sets aren't
+/// listed since there are too many, is left out. If there is no such release, or it isn't open, the
+/// refusal of a choice.
 ///
 /// # Errors
 ///

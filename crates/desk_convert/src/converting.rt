@@ -100,7 +100,8 @@ fn conversion_of(alloc: Global, value: &Value) -> Result<Converted, ConvertFault
 
 /// The tag-value document that says what the desk reads of an SPDX document in JSON.
 pub fn convert(alloc: Global, bytes: &[u8]) -> Result<Converted, ConvertFault>
-    // The text is that of the lines of the document's steps, each of which passes, and what is left out is counted.
+    // The text is that of the lines of the document's steps, each of which passes, and what is left
+    // out is counted.
     ensures ok { IfOk result (λ c. IsConverted bytes.now c) }
     // The text has the fields of these lines, and no others.
     ensures fields { IfOk result (λ c. AreFields bytes.now (string_bytes c.text)) }

@@ -1,15 +1,19 @@
 //! SPDX documents in JSON (SPDX 2.2 and 2.3, JSON schema) as documents in tag-value form.
 //!
-//! `convert` gives the tag-value document that says what the desk reads of a JSON document. `desk_spdx_json` says what that is, as the
-//! steps of its value: the lines, what is left out, which is counted, and the faults.
+//! `convert` gives the tag-value document that says what the desk reads of a JSON document.
+//! `desk_spdx_json` says what that is, as the steps of its value: the lines, what is left out,
+//! which is counted, and the faults.
 //!
-//! `specs/Results.antt` says what becomes of the steps. If each passes, the text is that of their lines, and it is read as the fields of
-//! these lines and no others. If not, the fault is that of the first that fails.
+//! `specs/Results.antt` says what becomes of the steps. If each passes, the text is that of their
+//! lines, and it is read as the fields of these lines and no others. If not, the fault is that of
+//! the first that fails.
 //!
-//! A line passes if it is read back as its one field: a text with `</text>` in it, or a line end in a field on one line, is a fault.
-//! Whether the document is one that the desk takes in (its version, its identifiers) is for `desk_tagvalue::read` to say.
+//! A line passes if it is read back as its one field: a text with `</text>` in it, or a line end in
+//! a field on one line, is a fault. Whether the document is one that the desk takes in (its
+//! version, its identifiers) is for `desk_tagvalue::read` to say.
 //!
-//! The time is linear in the bytes. Objects and arrays nest at most 127 deep, the limit of `serde_json`.
+//! The time is linear in the bytes. Objects and arrays nest at most 127 deep, the limit of
+//! `serde_json`.
 #![tactic(auto)]
 
 mod converting;

@@ -109,9 +109,11 @@ fn put_one_line(
     tag: Tag,
     value: &str,
 ) -> Result<(), ConvertFault>
-    ensures ok { OnOk result (string_bytes out.new ≡ string_bytes out.old ++ spelled (one_line tag value.now)) }
+    ensures ok { OnOk result
+        (string_bytes out.new ≡ string_bytes out.old ++ spelled (one_line tag value.now)) }
     ensures stands { OnOk result (Stands (one_line tag value.now)) }
-    ensures err { IfErr result (λ e. (e ≡ ConvertFault.Memory) ⊎ FailsAt at.now (put (one_line tag value.now)) e) }
+    ensures err { IfErr result
+        (λ e. (e ≡ ConvertFault.Memory) ⊎ FailsAt at.now (put (one_line tag value.now)) e) }
 {
     let name = tag.name();
     match format!(in alloc; "{name}: {value}\n") {
@@ -128,9 +130,11 @@ fn put_in_text(
     tag: Tag,
     value: &str,
 ) -> Result<(), ConvertFault>
-    ensures ok { OnOk result (string_bytes out.new ≡ string_bytes out.old ++ spelled (in_text tag value.now)) }
+    ensures ok { OnOk result
+        (string_bytes out.new ≡ string_bytes out.old ++ spelled (in_text tag value.now)) }
     ensures stands { OnOk result (Stands (in_text tag value.now)) }
-    ensures err { IfErr result (λ e. (e ≡ ConvertFault.Memory) ⊎ FailsAt at.now (put (in_text tag value.now)) e) }
+    ensures err { IfErr result
+        (λ e. (e ≡ ConvertFault.Memory) ⊎ FailsAt at.now (put (in_text tag value.now)) e) }
 {
     let name = tag.name();
     match format!(in alloc; "{name}: <text>{value}</text>\n") {
@@ -172,7 +176,8 @@ fn put_step(alloc: Global, out: &mut String, step: &Step) -> Result<(), ConvertF
 
 /// Adds the text of some steps, if they pass.
 pub(crate) fn put_steps(alloc: Global, out: &mut String, steps: &[Step]) -> Result<(), ConvertFault>
-    ensures ok { OnOk result (IsPut (string_bytes out.old) (map step_text steps.now) (string_bytes out.new)) }
+    ensures ok { OnOk result
+        (IsPut (string_bytes out.old) (map step_text steps.now) (string_bytes out.new)) }
     ensures err { IfErr result (λ e. IsStopped (map step_text steps.now) e) }
 {
     for step in steps {

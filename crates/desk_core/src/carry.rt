@@ -33,7 +33,8 @@ pub fn plan<T: Texts, S: Store>(
     ensures plan { (w : Readings) → T.are_right w → IfOk result (λ plan.
         OfRows (IsPlanOf w command.now plan) (S.seen store.old) (S.seen store.new)) }
     ensures kept { Plans (S.seen store.old) (S.seen store.new) result }
-    ensures alone { (w : Readings) → T.are_right w → SparesStore (refused_alone w command.now) result }
+    ensures alone { (w : Readings) → T.are_right w
+        → SparesStore (refused_alone w command.now) result }
     ensures fault { IfErr result (MayFail S.tells) }
 {
     match command {
@@ -118,7 +119,8 @@ pub fn carry_import<T: Texts, S: Store>(
 ) -> Result<Answer, Fault>
     ensures minds { Minds (S.seen store.old) (S.seen store.new) result }
     ensures decides { (w : Readings) → T.are_right w
-        → CarriesOutFrom S.stands w (Import bytes profile) (S.seen store.old) (S.seen store.new) result }
+        → CarriesOutFrom S.stands w (Import bytes profile) (S.seen store.old) (S.seen store.new)
+        result }
     ensures alone { (w : Readings) → T.are_right w
         → IfErr result (MayFail (λ fault. refused_alone w (Import bytes profile) ≡ false)) }
     ensures fault { IfErr result (MayFail S.tells) }

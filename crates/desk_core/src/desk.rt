@@ -25,9 +25,9 @@ use std::alloc::{AllocError, Global};
 
 /// A desk, seen as its store is: which tables are its rows, and what a stop could leave of them.
 ///
-/// For each right reading of texts and each recorded history whose tables are the rows, a command is answered as the
-/// definitions of the history say, and leaves the tables of the history with it. After a refusal, Again, a question or a fault the
-/// rows are as they were, whatever they are.
+/// For each right reading of texts and each recorded history whose tables are the rows, a command
+/// is answered as the definitions of the history say, and leaves the tables of the history with it.
+/// After a refusal, Again, a question or a fault the rows are as they were, whatever they are.
 pub trait Desk {
     /// What a stop of the program may leave of a desk.
     ghost Left: { Type 0 };
@@ -53,7 +53,8 @@ pub trait Desk {
             → IfErr result (MayFail (λ fault. refused_alone w command.now ≡ false)) }
         ensures fault { IfErr result (MayFail tells) };
 
-    /// Carries out the import of these bytes as `apply` does; a desk may keep the bytes themselves, where `apply` keeps a copy.
+    /// Carries out the import of these bytes as `apply` does; a desk may keep the bytes themselves,
+    /// where `apply` keeps a copy.
     fn import(&mut self, bytes: Items<u8>, profile: Profile) -> Result<Answer, Fault>
         ensures minds { Minds (seen self.old) (seen self.new) result }
         ensures carries { (w : Readings) → are_right w
@@ -69,7 +70,8 @@ pub trait Desk {
     /// Answers a question, and changes nothing.
     fn ask(&mut self, query: &Query) -> Result<Answer, Fault>
         ensures answer { IfOk result (λ a.
-            InHistory are_right (λ w h. a ≡ queried w h query.now) (seen self.old) (seen self.new)) }
+            InHistory are_right (λ w h. a ≡ queried w h query.now) (seen self.old)
+            (seen self.new)) }
         ensures kept { Looked (seen self.old) (seen self.new) result }
         ensures fault { IfErr result (MayFail tells) };
 }
@@ -172,13 +174,15 @@ fn apply_one<D: Desk>(desk: &mut D, command: &Command) -> Outcome
 
 /// Applies commands in order, and goes on past refusals and faults.
 ///
-/// The room of the list of outcomes is taken first: where that fails, nothing is applied. Otherwise there is one outcome for each
-/// command. Whatever recorded history `h` the rows stood for before, each outcome that is no fault is the answer at its place, after
-/// `h` and the commands recorded before it; and at the end the rows are the tables of all recorded commands, which are a
-/// recorded history again. Where none was recorded, the rows are as they were, whatever they are. Where no outcome is a fault and a
-/// stop left the rows before and no others, it leaves those at the end and no others. A desk that showed its rows still does, unless
-/// its disk failed. An outcome is a fault only where `apply` had it:
-/// it is one that the desk may tell, and none of the store where the command alone decides.
+/// The room of the list of outcomes is taken first: where that fails, nothing is applied. Otherwise
+/// there is one outcome for each command. Whatever recorded history `h` the rows stood for before,
+/// each outcome that is no fault is the answer at its place, after `h` and the commands recorded
+/// before it; and at the end the rows are the tables of all recorded commands, which are a recorded
+/// history again. Where none was recorded, the rows are as they were, whatever they are. Where no
+/// outcome is a fault and a stop left the rows before and no others, it leaves those at the end and
+/// no others. A desk that showed its rows still does, unless its disk failed. An outcome is a fault
+/// only where `apply` had it: it is one that the desk may tell, and none of the store where the
+/// command alone decides.
 pub fn run<D: Desk>(
     alloc: Global,
     desk: &mut D,
@@ -198,7 +202,8 @@ pub fn run<D: Desk>(
         → Spared (D.seen desk.old) (D.seen desk.new)) }
     ensures secures { IfOk result (λ outcomes. list_all is_answered outcomes.items ≡ true
         → InHistory D.are_right (λ w h. Secures D.stands (tables w h) (D.seen desk.old)
-        → Secures D.stands (tables w (history_after h commands.now outcomes.items)) (D.seen desk.new))
+        → Secures D.stands (tables w (history_after h commands.now outcomes.items))
+        (D.seen desk.new))
         (D.seen desk.old) (D.seen desk.new)) }
     ensures honest { (D.seen desk.new).is_honest → (D.seen desk.old).is_honest }
     ensures outlasts { Outlasts (D.seen desk.old) (D.seen desk.new) }

@@ -178,7 +178,8 @@ fn move_found<S: Store>(
     made: Move,
 ) -> Result<Plan, Fault>
     ensures plan { IfOk result (λ plan.
-        OfRows (λ t. IsPlan (move_from t made.word row.now) (moved_change t row.now.number made) plan)
+        OfRows (λ t. IsPlan (move_from t made.word row.now) (moved_change t row.now.number made)
+        plan)
         (S.seen store.old) (S.seen store.new)) }
     ensures kept { Plans (S.seen store.old) (S.seen store.new) result }
     ensures fault { IfErr result (MayFail S.tells) }
@@ -248,9 +249,11 @@ pub fn meet<S: Store>(
     text: &Text,
 ) -> Result<Plan, Fault>
     ensures plan { (w : Readings) → IfOk result (λ plan.
-        OfRows (IsPlanOf w (Meet duty day.now text.now) plan) (S.seen store.old) (S.seen store.new)) }
+        OfRows (IsPlanOf w (Meet duty day.now text.now) plan) (S.seen store.old)
+        (S.seen store.new)) }
     ensures kept { Plans (S.seen store.old) (S.seen store.new) result }
-    ensures alone { (w : Readings) → SparesStore (refused_alone w (Meet duty day.now text.now)) result }
+    ensures alone { (w : Readings)
+        → SparesStore (refused_alone w (Meet duty day.now text.now)) result }
     ensures fault { IfErr result (MayFail S.tells) }
 {
     move_duty(alloc, store, Word::Met, duty, day, text, &None)
@@ -285,9 +288,11 @@ pub fn reopen<S: Store>(
     text: &Text,
 ) -> Result<Plan, Fault>
     ensures plan { (w : Readings) → IfOk result (λ plan.
-        OfRows (IsPlanOf w (Reopen duty day.now text.now) plan) (S.seen store.old) (S.seen store.new)) }
+        OfRows (IsPlanOf w (Reopen duty day.now text.now) plan) (S.seen store.old)
+        (S.seen store.new)) }
     ensures kept { Plans (S.seen store.old) (S.seen store.new) result }
-    ensures alone { (w : Readings) → SparesStore (refused_alone w (Reopen duty day.now text.now)) result }
+    ensures alone { (w : Readings)
+        → SparesStore (refused_alone w (Reopen duty day.now text.now)) result }
     ensures fault { IfErr result (MayFail S.tells) }
 {
     move_duty(alloc, store, Word::Reopened, duty, day, text, &None)

@@ -168,7 +168,8 @@ pub fn freeze<T: Texts, S: Store>(
     day: &Text,
 ) -> Result<Plan, Fault>
     ensures plan { (w : Readings) → T.are_right w → IfOk result (λ plan.
-        OfRows (IsPlanOf w (Freeze release.now day.now) plan) (S.seen store.old) (S.seen store.new)) }
+        OfRows (IsPlanOf w (Freeze release.now day.now) plan) (S.seen store.old)
+        (S.seen store.new)) }
     ensures kept { Plans (S.seen store.old) (S.seen store.new) result }
     ensures alone { (w : Readings) → T.are_right w
         → SparesStore (refused_alone w (Freeze release.now day.now)) result }

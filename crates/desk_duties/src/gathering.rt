@@ -37,7 +37,8 @@ fn owed_row(
     rule: &Rule,
     code: &Text,
 ) -> Result<Owed, AllocError>
-    ensures { IfOk result (λ owed. owed ≡ owed_code release.now row.now term.now rule.now code.now) }
+    ensures { IfOk result (λ owed. owed
+        ≡ owed_code release.now row.now term.now rule.now code.now) }
 {
     Ok(Owed {
         release: release.clone()?,
@@ -134,7 +135,8 @@ fn freeze_terms<T: Texts, S: Store>(
     gathered: &mut Gathered,
 ) -> Result<Option<Refusal>, Fault>
     ensures gathered { (w : Readings) → T.are_right w → IfOk result (λ fault.
-        OfRows (λ t. GathersTerms w t.adoption (rules_found t) freezing.now.form.now freezing.now.release.now
+        OfRows (λ t. GathersTerms w t.adoption (rules_found t) freezing.now.form.now
+        freezing.now.release.now
         row.now terms.now gathered.old gathered.new fault)
         (S.seen store.old) (S.seen store.new)) }
     ensures kept { Looked (S.seen store.old) (S.seen store.new) result }

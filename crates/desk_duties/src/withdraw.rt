@@ -19,8 +19,8 @@ use desk_packages::{done, refused};
 use std::alloc::{AllocError, Global};
 
 /// The number of the step after so many. A duty of a recorded history has at most 1,001 changes
-/// (`desk_history_laws::changes_are_few`); where rows that no command made have as many as a step's number can tell, want of memory is
-/// answered.
+/// (`desk_history_laws::changes_are_few`); where rows that no command made have as many as a step's
+/// number can tell, want of memory is answered.
 fn step_after(steps: u64) -> Result<u32, AllocError>
     ensures { IfOk result (λ step. step ≡ steps + 1) }
 {
@@ -82,7 +82,8 @@ fn withdrew(
     standings: Vec<Standing>,
 ) -> Result<Change, AllocError>
     ensures { IfOk result
-        (λ change. change ≡ Change.Withdrew release.now (withdrawn_rows day text.now standings.items)) }
+        (λ change. change ≡ Change.Withdrew release.now
+        (withdrawn_rows day text.now standings.items)) }
 {
     let unmet = unmet_of(standings);
     let made = Move {
@@ -113,7 +114,8 @@ fn ended_rows(
     next_rows(alloc, &made, standings)
 }
 
-/// Withdraws a release: its duties that are not met are withdrawn with it, and it holds no choice any more.
+/// Withdraws a release: its duties that are not met are withdrawn with it, and it holds no choice
+/// any more.
 pub fn withdraw<S: Store>(
     alloc: Global,
     store: &mut S,

@@ -40,7 +40,8 @@ fn page(kind: &Kind) -> &'static str
 
 // Adds a line of a block, if there is something to say.
 fn add_line(text: &mut String, label: &str, words: Option<&str>) -> Result<(), AllocError>
-    ensures { OnOk result (string_bytes text.new ≡ string_bytes text.old ++ line label.now words.entry) }
+    ensures { OnOk result (string_bytes text.new
+        ≡ string_bytes text.old ++ line label.now words.entry) }
 {
     if let Some(words) = words {
         text.push_str("  ")?;
@@ -69,7 +70,8 @@ fn add_block(alloc: Global, text: &mut String, entry: &Entry) -> Result<(), Allo
     add_line(text, "Page", Some(page(&entry.kind)))
 }
 
-/// The text of entries: a block for each, with its name and what it is, what is wrong, the usual cause, and the page that has them.
+/// The text of entries: a block for each, with its name and what it is, what is wrong, the usual
+/// cause, and the page that has them.
 pub fn explanation(alloc: Global, entries: &[Entry]) -> Result<String, AllocError>
     ensures { IfOk result (λ text. string_bytes text ≡ flat_map block entries.now) }
 {

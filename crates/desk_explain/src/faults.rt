@@ -1,4 +1,5 @@
-//! The faults, with the words of docs/REFUSALS.md, and of docs/CATALOGUE.md for those of catalogues.
+//! The faults, with the words of docs/REFUSALS.md, and of docs/CATALOGUE.md for those of
+//! catalogues.
 
 use crate::entry::{Entry, Kind};
 

@@ -1,7 +1,8 @@
 //! What the names mean that the desk prints, and what to do about each.
 //!
-//! A table for each page of `docs/`, with its words: refusals, faults, findings, conditions of an audit, problems of source trees.
-//! Several tables may have a name, as `BadTerm` is a refusal and a fault of catalogues.
+//! A table for each page of `docs/`, with its words: refusals, faults, findings, conditions of an
+//! audit, problems of source trees. Several tables may have a name, as `BadTerm` is a refusal and a
+//! fault of catalogues.
 //!
 //! - `TABLES` is what the pages say, and `entries` what tables have of a name.
 //! - `explanation` is their text, a block for each (`specs/Explanations.antt`).

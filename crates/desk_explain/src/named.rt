@@ -25,7 +25,8 @@ pub const TABLES: [&[Entry]; 8] = [
 
 // Adds the entries of a table that have the name.
 fn add_named(found: &mut Vec<Entry>, table: &[Entry], name: &str) -> Result<(), AllocError>
-    ensures { OnOk result (found.new.items ≡ found.old.items ++ filter (is_named name.now) table.now) }
+    ensures { OnOk result (found.new.items
+        ≡ found.old.items ++ filter (is_named name.now) table.now) }
 {
     for entry in table {
         if name == entry.name {
@@ -35,7 +36,8 @@ fn add_named(found: &mut Vec<Entry>, table: &[Entry], name: &str) -> Result<(), 
     Ok(())
 }
 
-/// What the tables have of a name, as it is written, in their order: nothing where the desk prints no such name.
+/// What the tables have of a name, as it is written, in their order: nothing where the desk prints
+/// no such name.
 pub fn entries(alloc: Global, tables: &[&[Entry]], name: &str) -> Result<Vec<Entry>, AllocError>
     ensures { IfOk result (λ found. found.items ≡ entries_named name.now tables.now) }
 {

@@ -22,7 +22,8 @@ pub(crate) struct Counts {
 
 // The parentheses still open behind a token.
 fn note_parenthesis(open_places: &mut Vec<usize>, token: &Token<'_>) -> Result<(), AllocError>
-    ensures { OnOk result (open_places.new.items ≡ open_after open_places.old.items (lexeme token.now)) }
+    ensures { OnOk result (open_places.new.items
+        ≡ open_after open_places.old.items (lexeme token.now)) }
 {
     match token.kind {
         Kind::Opening => {

@@ -86,7 +86,8 @@ fn is_reference_of_document(bytes: &[u8]) -> bool
     is_idstring_of_bytes(&bytes[..colon]) && is_local_reference(&bytes[colon + 1..])
 }
 
-/// Whether the bytes are a reference: `["DocumentRef-" idstring ":"] "LicenseRef-" idstring` (SPDX 2.3, Annex D.1).
+/// Whether the bytes are a reference: `["DocumentRef-" idstring ":"] "LicenseRef-" idstring` (SPDX
+/// 2.3, Annex D.1).
 pub fn is_reference(bytes: &[u8]) -> bool
     ensures { result ≡ is_reference bytes.now }
 {
@@ -202,7 +203,8 @@ fn first_token<'a>(profile: Profile, rest: &'a str, place: usize) -> Option<(Tok
     Some((token, after))
 }
 
-/// The tokens of a text, from the left: what is left of the text, its place, and the profile of operators that it is read by.
+/// The tokens of a text, from the left: what is left of the text, its place, and the profile of
+/// operators that it is read by.
 #[derive(Drop)]
 pub struct TokenCuts<'a> {
     pub(crate) rest: &'a str,

@@ -8,7 +8,8 @@ use crate::expr::{Expr, Node};
 use crate::term::Term;
 use arrayvec::ArrayVec;
 
-// As many terms as an expression that was read has at most. Of a larger one the others are looked for in the list itself.
+// As many terms as an expression that was read has at most. Of a larger one the others are looked
+// for in the list itself.
 const OWN: usize = 1024;
 
 /// A list of terms, and where those of an expression stand in it first.
@@ -57,7 +58,8 @@ impl Listed<'_> {
         }
     }
 
-    /// The places of the next terms that aren't known to be copies, at most 64, and where the list goes on behind them.
+    /// The places of the next terms that aren't known to be copies, at most 64, and where the list
+    /// goes on behind them.
     pub(crate) fn round(self, from: usize) -> (ArrayVec<usize, 64>, usize)
         requires noted { IsNoted self.chosen.now self.own.now self.places.now }
         requires within { from < length self.chosen.now }
@@ -150,7 +152,8 @@ fn lower(own: &[Option<&Term>], term: &Term) -> usize
 
 // The place of a term among the sorted ones.
 fn find(own: &[Option<&Term>], term: &Term) -> Option<usize>
-    ensures some { IfSome result (λ slot. (slot ≡ lower_in own.now term.now) × (slot < length own.now)
+    ensures some { IfSome result
+        (λ slot. (slot ≡ lower_in own.now term.now) × (slot < length own.now)
         × IsOwn own.now term.now) }
     ensures none { IfNone result (IsOwn own.now term.now → ⊥) }
 {

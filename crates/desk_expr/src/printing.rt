@@ -103,7 +103,8 @@ impl Expr {
 /// The term as a word, with its exception behind `WITH` if it has one (SPDX 2.3, Annex D.2 to D.4).
 pub fn print_term(alloc: Global, term: &Term) -> Result<String, AllocError>
     ensures text { IfOk result (λ s. string_bytes s ≡ printed_term term.now) }
-    ensures spells { IsTrue (is_term term.now) → IfOk result (λ s. SpellsTermAlone (string_bytes s) term.now) }
+    ensures spells { IsTrue (is_term term.now)
+        → IfOk result (λ s. SpellsTermAlone (string_bytes s) term.now) }
 {
     let mut text = String::new(alloc);
     add_term(&mut text, term)?;

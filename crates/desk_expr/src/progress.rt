@@ -110,7 +110,8 @@ pub fn parse_in(alloc: Global, text: &str, profile: Profile) -> Result<Expr, Par
     ensures stop { IfErr result (IsStopBy SpellsTree profile text.now) }
     ensures complete { IfErr result (λ f. f ≡ ParseFault.Memory alloc_error
         ⊎ ((e : Tree) → SpellsWithinBy profile text.now e → ⊥)) }
-    ensures only { (a b : Tree) → SpellsBy profile text.now a → SpellsBy profile text.now b → a ≡ b }
+    ensures only { (a b : Tree) → SpellsBy profile text.now a → SpellsBy profile text.now b
+        → a ≡ b }
 {
     if text.len() > limits::EXPRESSION_BYTES {
         return Err(ParseFault::TooLong(0));

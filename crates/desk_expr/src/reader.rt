@@ -99,7 +99,8 @@ fn operand(
     ensures ok { IfOk result (λ n. Steps
         (record { outer = outer; inner = inner; state = State.Operand })
         (symbol token.now.kind token.now.text.now) n) }
-    ensures err { IfErr result (Stops (record { outer = outer; inner = inner; state = State.Operand })
+    ensures err { IfErr result
+        (Stops (record { outer = outer; inner = inner; state = State.Operand })
         (symbol token.now.kind token.now.text.now)) }
 {
     match token.kind {

@@ -79,8 +79,8 @@ pub fn parse_term(alloc: Global, text: &str) -> Result<Term, ParseFault>
     parse_term_in(alloc, text, Profile::Capitals)
 }
 
-/// The term that the text spells by a profile of operators, or the first place at which it stops, as
-/// `parse_term` says.
+/// The term that the text spells by a profile of operators, or the first place at which it stops,
+/// as `parse_term` says.
 pub fn parse_term_in(alloc: Global, text: &str, profile: Profile) -> Result<Term, ParseFault>
     ensures spelled { IfOk result (SpellsTermWithinBy profile text.now) }
     ensures stop { IfErr result (IsStopBy SpellsTerm profile text.now) }

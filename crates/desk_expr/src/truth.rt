@@ -1,8 +1,9 @@
 //! Whether a choice of terms satisfies an expression, and each of them is needed.
 //!
-//! No memory is taken. Where each term of the expression is listed is noted first (`listed.rt`), so of `n` leaves, up to 1,024,
-//! and `m` chosen terms `holds` makes some `(n + m) * log n` comparisons. `check_choice` passes over copies and leaves the other
-//! terms out by 64 at once, up to the first that the expression lacks: some `n * n` comparisons more at most.
+//! No memory is taken. Where each term of the expression is listed is noted first (`listed.rt`), so
+//! of `n` leaves, up to 1,024, and `m` chosen terms `holds` makes some `(n + m) * log n`
+//! comparisons. `check_choice` passes over copies and leaves the other terms out by 64 at once, up
+//! to the first that the expression lacks: some `n * n` comparisons more at most.
 
 ghost use Rattle.std.specs.Prelude.{◌≡◌, ◌↔◌, ◌≢◌, ◌<◌, ◌≤◌, ℕ, length, slice_get, Some, IsTrue, IfSome, IfNone, Contains};
 ghost use Rattle.std.specs.Int.{bit_at};
@@ -154,11 +155,12 @@ pub fn holds(expr: &Expr, chosen: &[Term]) -> bool
     expr.holds(listed)
 }
 
-/// Whether the chosen terms satisfy the expression, each of them needed. The list stands for the set
-/// of its terms, so a term that can go goes with all its copies.
+/// Whether the chosen terms satisfy the expression, each of them needed. The list stands for the
+/// set of its terms, so a term that can go goes with all its copies.
 pub fn check_choice(expr: &Expr, chosen: &[Term]) -> Verdict
     ensures not_enough { (result ≡ Verdict.NotEnough) ↔ ¬ Holds (Contains chosen.now) expr.now }
-    ensures superfluous { (i : ℕ) → result ≡ Verdict.Superfluous i → IsFirst (CanGo chosen.now expr.now) i }
+    ensures superfluous { (i : ℕ) → result ≡ Verdict.Superfluous i
+        → IsFirst (CanGo chosen.now expr.now) i }
     ensures minimal { (result ≡ Verdict.Minimal) ↔ IsMinimal chosen.now expr.now }
 {
     let own = expr.own_terms();

@@ -1,11 +1,12 @@
-//! Laws of the alternatives of a licence expression (SPDX 2.3, Annex D) and of its cheapest choice, each the contract of a function
-//! with an empty body.
+//! Laws of the alternatives of a licence expression (SPDX 2.3, Annex D) and of its cheapest choice,
+//! each the contract of a function with an empty body.
 //!
-//! The calls of `desk_alts` may answer want of memory, so their contracts say what a listing and a cheapest choice are, and not that
-//! there are any. Here it is said of the definitions alone: each tree has one list of its distinct terms (`AreTermsOf`); it has one
-//! list of its minimal sets (`AreAlternatives`), and either can be listed or has a fault, never both; and each has one cheapest set
-//! (`IsCheapest`) or none with costs, whatever its terms cost. All of it is constructive: there is a function that answers each of
-//! these questions as the definitions say.
+//! The calls of `desk_alts` may answer want of memory, so their contracts say what a listing and a
+//! cheapest choice are, and not that there are any. Here it is said of the definitions alone: each
+//! tree has one list of its distinct terms (`AreTermsOf`); it has one list of its minimal sets
+//! (`AreAlternatives`), and either can be listed or has a fault, never both; and each has one
+//! cheapest set (`IsCheapest`) or none with costs, whatever its terms cost. All of it is
+//! constructive: there is a function that answers each of these questions as the definitions say.
 
 ghost use Rattle.std.specs.Prelude.{◌≡◌, ◌⊎◌, ℕ, List, Option};
 ghost use Rattle.desk_expr.specs.declared.term.Term.{Term};
@@ -25,8 +26,8 @@ pub fn one_list_of_terms()
     ensures { (e : Tree) (a b : List Term) → AreTermsOf e a → AreTermsOf e b → a ≡ b }
 {}
 
-/// Each tree can be listed, and has a list of its minimal sets; or it has more than 128 terms; or it has no more, and a wide front.
-/// What can be listed has neither fault.
+/// Each tree can be listed, and has a list of its minimal sets; or it has more than 128 terms; or
+/// it has no more, and a wide front. What can be listed has neither fault.
 pub fn listing_exists()
     ensures some { (e : Tree) → (IsListable e × (sets : List (List Term)) × AreAlternatives e sets)
         ⊎ (HasMoreTerms 128 e ⊎ ((HasMoreTerms 128 e → ⊥) × HasWideFront e)) }
@@ -34,10 +35,12 @@ pub fn listing_exists()
         ⊎ ((HasMoreTerms 128 e → ⊥) × HasWideFront e) → ⊥ }
 {}
 
-/// Each tree has a list of its minimal sets, whether the limits let it be listed or not, and only one.
+/// Each tree has a list of its minimal sets, whether the limits let it be listed or not, and only
+/// one.
 pub fn one_listing()
     ensures some { (e : Tree) → (sets : List (List Term)) × AreAlternatives e sets }
-    ensures one { (e : Tree) (a b : List (List Term)) → AreAlternatives e a → AreAlternatives e b → a ≡ b }
+    ensures one { (e : Tree) (a b : List (List Term)) → AreAlternatives e a → AreAlternatives e b
+        → a ≡ b }
 {}
 
 /// Each tree has a cheapest set, or no set that satisfies it has costs for all its terms.
@@ -50,6 +53,7 @@ pub fn cheapest_exists()
 
 /// It has only one.
 pub fn one_cheapest()
-    ensures { (cost : Term → Option ℕ) (e : Tree) (p q : ℕ) (s r : List Term) → IsCheapest cost e p s
+    ensures { (cost : Term → Option ℕ) (e : Tree) (p q : ℕ) (s r : List Term)
+        → IsCheapest cost e p s
         → IsCheapest cost e q r → (p ≡ q) × (s ≡ r) }
 {}

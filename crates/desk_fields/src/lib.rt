@@ -1,8 +1,10 @@
-//! Tag-value text as a list of fields (SPDX 2.3, clause 4.4; what the tags mean stands in clauses 6 to 12).
+//! Tag-value text as a list of fields (SPDX 2.3, clause 4.4; what the tags mean stands in clauses 6
+//! to 12).
 //!
-//! A line is blank, a comment that begins with `#`, or a field `Tag: value`. A value that begins with `<text>`
-//! runs to the first `</text>`, over lines if need be. A text is cut into such pieces in one way, and
-//! `fields` gives the fields of the whole cutting, or the fault of its first piece that is none of these:
+//! A line is blank, a comment that begins with `#`, or a field `Tag: value`. A value that begins
+//! with `<text>` runs to the first `</text>`, over lines if need be. A text is cut into such pieces
+//! in one way, and `fields` gives the fields of the whole cutting, or the fault of its first piece
+//! that is none of these:
 //!
 //! - the definition `Reads` of `specs/Cutting.antt` holds the cutting, the fields and the fault;
 //! - `one_reading` says that a text has only one;

@@ -19,7 +19,8 @@ pub struct Field<'a> {
     pub line: u64,
     /// What stands before the first colon, without blanks at its ends.
     pub tag: &'a str,
-    /// What stands between `<text>` and `</text>`, or the rest of the line without blanks at its ends.
+    /// What stands between `<text>` and `</text>`, or the rest of the line without blanks at its
+    /// ends.
     pub value: &'a str,
 }
 
@@ -68,7 +69,8 @@ fn behind_opening(after: &str) -> Option<&str>
 // The end of a text, from where the end of its first line stands.
 fn text_behind<'a>(text: &'a str, line: &str, inner: &str) -> &'a str
     requires line { text.now ≡ line.now ++ drop (length line.now) text.now }
-    requires inner { (front : List ℕ) × (b : ℕ) × (b < 128) × (line.now ≡ front ++ (b ∷ inner.now)) }
+    requires inner { (front : List ℕ) × (b : ℕ) × (b < 128)
+        × (line.now ≡ front ++ (b ∷ inner.now)) }
     ensures { (front : List ℕ) → line.now ≡ front ++ inner.now → text.now ≡ front ++ result.now }
 {
     text.split_at(line.len() - inner.len()).1
@@ -171,7 +173,8 @@ fn first_piece<'a>(text: &'a str, line: u64) -> Result<Found<'a>, DocFault>
     })
 }
 
-// The first field of a text and where the text goes on behind it, or where the text ends without one.
+// The first field of a text and where the text goes on behind it, or where the text ends without
+// one.
 pub(crate) fn first_field<'a>(text: &'a str, line: u64) -> Result<Found<'a>, DocFault>
     requires room { line + length text.now < 2 ^ 64 }
     ensures ok { IfOk result (λ f. Reaches line text.now f.field f.line f.rest.now) }

@@ -83,7 +83,8 @@ impl<'a> Iterator for Scanner<'a> {
 /// The fields of a text, each with the line on which it begins.
 pub fn fields<'a>(alloc: Global, text: &'a str) -> Result<Vec<Field<'a>>, DocFault>
     ensures ok { IfOk result (λ v. Reads 1 (behind_mark text.now) (Ok (map field_text v.items))) }
-    ensures err { IfErr result (λ e. (e ≡ DocFault.Memory) ⊎ Reads 1 (behind_mark text.now) (Err e)) }
+    ensures err { IfErr result
+        (λ e. (e ≡ DocFault.Memory) ⊎ Reads 1 (behind_mark text.now) (Err e)) }
 {
     let mut found = Vec::new(alloc);
     for field in Scanner::of(text) {
@@ -97,6 +98,7 @@ pub fn fields<'a>(alloc: Global, text: &'a str) -> Result<Vec<Field<'a>>, DocFau
 
 /// A text is read in one way, whatever line it begins on: as one list of fields, or with one fault.
 pub fn one_reading()
-    ensures { (line : ℕ) (text : List ℕ) (a b : Result (List FieldText) DocFault) → Reads line text a
+    ensures { (line : ℕ) (text : List ℕ) (a b : Result (List FieldText) DocFault)
+        → Reads line text a
         → Reads line text b → a ≡ b }
 {}

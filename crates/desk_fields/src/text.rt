@@ -31,7 +31,8 @@ fn blanks(bytes: &[u8]) -> usize
 fn kept(bytes: &[u8]) -> usize
     ensures within { result ≤ length bytes.now }
     ensures value { result ≡ length bytes.now - suffix_len is_blank bytes.now }
-    ensures blank { (i : ℕ) → result ≤ i → i < length bytes.now → IsTrue (is_blank (slice_index bytes.now i)) }
+    ensures blank { (i : ℕ) → result ≤ i → i < length bytes.now
+        → IsTrue (is_blank (slice_index bytes.now i)) }
 {
     let mut n = bytes.len();
     while n > 0 && is_blank(bytes[n - 1]) {

@@ -1,9 +1,12 @@
-//! A desk in a database from its creation on: its main contract with nothing left open but the disk.
+//! A desk in a database from its creation on: its main contract with nothing left open but the
+//! disk.
 //!
-//! `run_in_database` creates an empty desk where nothing is and hands it a list of commands, as `run_commands` of `desk_standard` does in
-//! memory. `adopt_left` goes on from what a stop left of such a desk: it is adopted with the rows of its history.
+//! `run_in_database` creates an empty desk where nothing is and hands it a list of commands, as
+//! `run_commands` of `desk_standard` does in memory. `adopt_left` goes on from what a stop left of
+//! such a desk: it is adopted with the rows of its history.
 //!
-//! A disk is honest as long as it gives back what was written. The library says of each connection whether its disk was.
+//! A disk is honest as long as it gives back what was written. The library says of each connection
+//! whether its disk was.
 #![tactic(auto)]
 
 ghost use Rattle.std.specs.Prelude.{◌≡◌, true, false, [], List, IfOk, IfErr, OnErr, length};
@@ -29,12 +32,15 @@ use desk_store::{AdoptFault, CreateFault, SqlDesk};
 use sqlite::{Alter, Connection};
 use std::alloc::{AllocError, Global};
 
-/// Creates an empty desk in a database where nothing is, and hands commands to it. Gives the desk, and what became of each command if
-/// there was memory for their list; without it, the desk is the empty one.
+/// Creates an empty desk in a database where nothing is, and hands commands to it. Gives the desk,
+/// and what became of each command if there was memory for their list; without it, the desk is the
+/// empty one.
 ///
-/// Whatever is repeated or refused, if the disk was honest to the end: each outcome that is no fault is the answer at its place, after
-/// the commands recorded before it; these are a recorded history, and the rows at the end are its tables. Where no outcome is a fault,
-/// the desk shows these rows, and a stop leaves them and no others. A fault of the store comes to no command that is refused by itself.
+/// Whatever is repeated or refused, if the disk was honest to the end: each outcome that is no
+/// fault is the answer at its place, after the commands recorded before it; these are a recorded
+/// history, and the rows at the end are its tables. Where no outcome is a fault, the desk shows
+/// these rows, and a stop leaves them and no others. A fault of the store comes to no command that
+/// is refused by itself.
 ///
 /// Where no desk could be created, that is told and left as by `SqlDesk::create`.
 pub fn run_in_database<S: Alter>(
@@ -60,10 +66,12 @@ pub fn run_in_database<S: Alter>(
         AllSpareStore w commands.now outcomes.items)) }
     ensures count { IfOk result (λ done. IfOk done.1 (λ outcomes.
         length outcomes.items ≡ length commands.now)) }
-    ensures none { IfOk result (λ done. OnErr done.1 (IsEmpty (⟦<SqlDesk<S> as Desk>⟧.seen done.0))) }
+    ensures none { IfOk result
+        (λ done. OnErr done.1 (IsEmpty (⟦<SqlDesk<S> as Desk>⟧.seen done.0))) }
     ensures not_empty { IfErr result (λ e. e.0 ≡ CreateFault.NotEmpty
         → has_meta (state S.Store conn).now.schema ≡ true) }
-    ensures survives { IfErr result (λ e. Survives (state S.Store conn) (state S.Store e.1) StandsEmpty) }
+    ensures survives { IfErr result
+        (λ e. Survives (state S.Store conn) (state S.Store e.1) StandsEmpty) }
     ensures idle { IfErr result (λ e. e.1.in_transaction ≡ false) }
 {
     match SqlDesk::create(alloc, conn) {
@@ -76,9 +84,10 @@ pub fn run_in_database<S: Alter>(
     }
 }
 
-/// Adopts the desk that a stop left, over a connection that was opened on it: where the tables of a recorded history are in what was
-/// left, the desk has them as its rows, and nothing but a fault keeps it from being adopted. Where a stop would leave these tables again
-/// and no others, it leaves no others of the desk.
+/// Adopts the desk that a stop left, over a connection that was opened on it: where the tables of a
+/// recorded history are in what was left, the desk has them as its rows, and nothing but a fault
+/// keeps it from being adopted. Where a stop would leave these tables again and no others, it
+/// leaves no others of the desk.
 pub fn adopt_left<S: Alter>(
     alloc: Global,
     conn: Connection<S>,

@@ -57,8 +57,8 @@ pub(crate) struct Licence {
     is_undefined: bool,
 }
 
-/// The licence field whose value was read last, and what it told. In a document many a licence stands again and again, and one that
-/// equals it isn't read anew.
+/// The licence field whose value was read last, and what it told. In a document many a licence
+/// stands again and again, and one that equals it isn't read anew.
 #[derive(Clone, Copy)]
 pub(crate) struct Told<'a> {
     tag: Tag,
@@ -203,7 +203,8 @@ fn licence_of<'a>(
     licence_told(alloc, known, last, tag, field.entry.value)
 }
 
-// Adds the findings of a field: of its tag and section, of licences, of digests, of codes and of flags.
+// Adds the findings of a field: of its tag and section, of licences, of digests, of codes and of
+// flags.
 fn add_of_field<'a>(
     alloc: Global,
     found: &mut Vec<Finding>,
@@ -294,7 +295,8 @@ fn known_of<'a>(
     requires { Notes (document_text document.now) elements.now }
     ensures profile { IfOk result (λ k. k.profile ≡ profile) }
     ensures defined { IfOk result (λ k. Defines (document_text document.now) k.defined) }
-    ensures states { IfOk result (λ k. AreStates (document_text document.now) (state_in k.states.items)) }
+    ensures states { IfOk result
+        (λ k. AreStates (document_text document.now) (state_in k.states.items)) }
 {
     let contents = Contents::of(alloc, document, elements)?;
     let states = states_in(alloc, document, &contents)?;
@@ -329,8 +331,8 @@ fn gathered(
     Ok(found)
 }
 
-/// All that isn't as the standard has it in a document, by line, by kind, and for missing fields in the order of `MissingField`.
-/// Licence fields are read by the profile of operators.
+/// All that isn't as the standard has it in a document, by line, by kind, and for missing fields in
+/// the order of `MissingField`. Licence fields are read by the profile of operators.
 pub fn findings_in(
     alloc: Global,
     document: &Document,

@@ -46,7 +46,8 @@ pub(crate) fn read_value(
     text: &str,
     profile: Profile,
 ) -> Result<Option<Expr>, AllocError>
-    ensures { (reads : List ℕ → Option Tree) → IsReading profile reads → IfOk result (λ e. e ≡ reads text.now) }
+    ensures { (reads : List ℕ → Option Tree) → IsReading profile reads
+        → IfOk result (λ e. e ≡ reads text.now) }
 {
     match parse_in(alloc, text, profile) {
         Ok(expr) => Ok(Some(expr)),

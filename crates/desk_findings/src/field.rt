@@ -79,7 +79,8 @@ fn is_differing(state: CodeState) -> bool
 
 /// Whether the field is a code that differs from that of the package's files.
 pub(crate) fn differs(states: &[CodeState], field: &Placed) -> bool
-    ensures { result ≡ differs (λ k. slice_index_or states.now k state.Absent) (placed_text field.now) }
+    ensures { result ≡ differs (λ k. slice_index_or states.now k state.Absent)
+        (placed_text field.now) }
 {
     if !is_field(Tag::VerificationCode, field) {
         return false;

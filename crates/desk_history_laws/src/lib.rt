@@ -1,10 +1,13 @@
-//! Laws of the recorded history beside its definitions, each the contract of a function with an empty body.
+//! Laws of the recorded history beside its definitions, each the contract of a function with an
+//! empty body.
 //!
-//! The definitions of `desk_model` go over the commands from the newest to the oldest. Here the same is said by filters and last
-//! entries, with the commands in the order in which they were recorded: which documents, revisions and rules there are, which choices,
-//! conclusions and adoptions stand, and how each duty was moved. The rows of duties and of frozen terms are said both ways, each field
-//! named, a frozen release's choices are its frozen terms, and its bill stays as its freeze made it. Beside it stands that a set of texts has the texts that are listed, that a
-//! duty has few changes, and that written days sort as dates do.
+//! The definitions of `desk_model` go over the commands from the newest to the oldest. Here the
+//! same is said by filters and last entries, with the commands in the order in which they were
+//! recorded: which documents, revisions and rules there are, which choices, conclusions and
+//! adoptions stand, and how each duty was moved. The rows of duties and of frozen terms are said
+//! both ways, each field named, a frozen release's choices are its frozen terms, and its bill stays
+//! as its freeze made it. Beside it stands that a set of texts has the texts that are listed, that
+//! a duty has few changes, and that written days sort as dates do.
 #![tactic(auto)]
 
 ghost use Rattle.std.specs.Prelude.{◌≡◌, ◌≤◌, ◌+◌, ◌++◌, ◌∷◌, ℕ, Some, None, List, false, map, filter, length, reverse, IsTrue, is_some, unwrap_or};
@@ -46,23 +49,26 @@ ghost use Rattle.desk_history_laws.specs.Moved.{left_by, moves_given, step_row, 
 ghost use Rattle.desk_history_laws.specs.Shipping.{IsShipped};
 ghost use Rattle.desk_history_laws.specs.Standing.{frozen_row, IsDutyRow};
 
-/// The revisions of the catalogue are the texts that were loaded, in order and numbered from 1, and the rules of all revisions those of
-/// each. The catalogue in force is that of the last text loaded: in a recorded history there is one as soon as a text was loaded, and
-/// its rules are those of the last revision.
+/// The revisions of the catalogue are the texts that were loaded, in order and numbered from 1, and
+/// the rules of all revisions those of each. The catalogue in force is that of the last text
+/// loaded: in a recorded history there is one as soon as a text was loaded, and its rules are those
+/// of the last revision.
 pub fn catalogues_are_the_loads()
     ensures revisions { (h : List Command)
         → revisions h ≡ map revision_row (enumerate_from 1 (given loaded h)) }
-    ensures rules { (w : Readings) (h : List Command) → rule_rows w h ≡ flat_map (rules_of w) (revisions h) }
+    ensures rules { (w : Readings) (h : List Command)
+        → rule_rows w h ≡ flat_map (rules_of w) (revisions h) }
     ensures last { (w : Readings) (h : List Command)
-        → in_force w h ≡ option_and_then (λ text. result_ok (w.catalogue text)) (last_given loaded h) }
+        → in_force w h ≡ option_and_then (λ text. result_ok (w.catalogue text))
+        (last_given loaded h) }
     ensures some { (w : Readings) (h : List Command)
         → IsHistory w h → is_some (in_force w h) ≡ is_some (last_given loaded h) }
     ensures listed { (w : Readings) (h : List Command) → rules_in (in_force w h)
         ≡ map rule_of (filter (is_rule_of (length (given loaded h))) (rule_rows w h)) }
 {}
 
-/// The documents are those that were imported, in order and numbered from 1, and the packages and references of all documents those of
-/// each.
+/// The documents are those that were imported, in order and numbered from 1, and the packages and
+/// references of all documents those of each.
 pub fn documents_are_the_imports()
     ensures documents { (w : Readings) (h : List Command)
         → documents w h ≡ map (document_row w) (enumerate_from 1 (given imported h)) }
@@ -72,13 +78,15 @@ pub fn documents_are_the_imports()
         → references w h ≡ flat_map (references_of w) (documents w h) }
 {}
 
-/// A release has the form of its opening, and the state that the last Freeze or Withdraw of it gave, open before. Its place is one more
-/// than the releases opened before it, and its revision the number of catalogues loaded before its freeze, 0 where it wasn't frozen.
+/// A release has the form of its opening, and the state that the last Freeze or Withdraw of it
+/// gave, open before. Its place is one more than the releases opened before it, and its revision
+/// the number of catalogues loaded before its freeze, 0 where it wasn't frozen.
 pub fn releases_are_the_last_entries()
     ensures form { (h : List Command) (r : List ℕ) → form_of h r ≡ last_given (form_given r) h }
     ensures state { (h : List Command) (r : List ℕ)
         → state_of h r ≡ unwrap_or (last_given (state_given r) h) IsOpen }
-    ensures place { (later before : List Command) (r form : List ℕ) → list_any (opens r) later ≡ false
+    ensures place { (later before : List Command) (r form : List ℕ)
+        → list_any (opens r) later ≡ false
         → place_in (opened (later ++ OpenRelease r form ∷ before)) r ≡ length (opened before) + 1 }
     ensures revision { (later before : List Command) (r day : List ℕ)
         → list_any (freezes r) later ≡ false
@@ -87,7 +95,8 @@ pub fn releases_are_the_last_entries()
         → list_any (freezes r) h ≡ false → revision_of h r ≡ 0 }
 {}
 
-/// A release ships a package exactly where the package's document was attached to it and ships the package.
+/// A release ships a package exactly where the package's document was attached to it and ships the
+/// package.
 pub fn shipped_exactly()
     ensures held { (w : Readings) (h : List Command) (r : List ℕ) (p : PackageRow)
         → IsShipped w h r p → IsIn p (shipped w h r) }
@@ -95,20 +104,24 @@ pub fn shipped_exactly()
         → IsIn p (shipped w h r) → IsShipped w h r p }
 {}
 
-/// What is chosen for a package in a release is what the last command left that decides it, a Choose or an Unchoose of the package or a
-/// withdrawal of the release: the terms of a Choose, and none else. The rows of the choices are these terms and no others.
+/// What is chosen for a package in a release is what the last command left that decides it, a
+/// Choose or an Unchoose of the package or a withdrawal of the release: the terms of a Choose, and
+/// none else. The rows of the choices are these terms and no others.
 pub fn choices_are_the_last_decisions()
     ensures last { (w : Readings) (h : List Command) (r : List ℕ) (d : ℕ) (p : List ℕ)
         → choice w h r d p ≡ terms_left w (last_decision r d p h) }
     ensures held { (w : Readings) (h : List Command) (row : ChoiceRow)
-        → IsIn row.term (choice w h row.release row.document row.package_id) → IsIn row (choices w h) }
+        → IsIn row.term (choice w h row.release row.document row.package_id)
+        → IsIn row (choices w h) }
     ensures only { (w : Readings) (h : List Command) (row : ChoiceRow)
-        → IsIn row (choices w h) → IsIn row.term (choice w h row.release row.document row.package_id) }
+        → IsIn row (choices w h)
+        → IsIn row.term (choice w h row.release row.document row.package_id) }
 {
     desk_history::last_choice_stands();
 }
 
-/// The rows of the office's conclusions are, for each package, the text of the last Conclude of it, and no others.
+/// The rows of the office's conclusions are, for each package, the text of the last Conclude of it,
+/// and no others.
 pub fn conclusions_are_the_last()
     ensures held { (h : List Command) (row : ConclusionRow)
         → last_given (text_given row.document row.package_id) h ≡ Some row.expression
@@ -117,7 +130,8 @@ pub fn conclusions_are_the_last()
         → last_given (text_given row.document row.package_id) h ≡ Some row.expression }
 {}
 
-/// The rows of the adoptions are, for each reference of a document, the licence of the last Adopt of it, and no others.
+/// The rows of the adoptions are, for each reference of a document, the licence of the last Adopt
+/// of it, and no others.
 pub fn adoptions_are_the_last()
     ensures held { (w : Readings) (h : List Command) (row : AdoptionRow)
         → last_given (licence_given w row.document row.reference) h ≡ Some row.licence
@@ -126,17 +140,20 @@ pub fn adoptions_are_the_last()
         → last_given (licence_given w row.document row.reference) h ≡ Some row.licence }
 {}
 
-/// The moves of a duty, the first one first, are what the commands of the history give by the table of moves, each looked at after those
-/// before it. The duty's changes are these with their steps from 1, and it stands where the last of them left it.
+/// The moves of a duty, the first one first, are what the commands of the history give by the table
+/// of moves, each looked at after those before it. The duty's changes are these with their steps
+/// from 1, and it stands where the last of them left it.
 pub fn moves_are_a_filter()
-    ensures moves { (w : Readings) (h : List Command) (q : ℕ) → reverse (moves w h q) ≡ moves_given w h q }
+    ensures moves { (w : Readings) (h : List Command) (q : ℕ)
+        → reverse (moves w h q) ≡ moves_given w h q }
     ensures changes { (w : Readings) (h : List Command) (q : ℕ)
         → changes w h q ≡ map (step_row q) (enumerate_from 1 (moves_given w h q)) }
     ensures place { (w : Readings) (h : List Command) (q : ℕ)
         → place w h q ≡ left_by (last_or None (moves_given w h q)) }
 {}
 
-/// A duty was moved exactly where a command stands in the history that moves it so after the commands before it.
+/// A duty was moved exactly where a command stands in the history that moves it so after the
+/// commands before it.
 pub fn moved_exactly()
     ensures held { (w : Readings) (h : List Command) (q : ℕ) (m : Move)
         → IsMove w h q m → IsIn m (moves w h q) }
@@ -144,15 +161,15 @@ pub fn moved_exactly()
         → IsIn m (moves w h q) → IsMove w h q m }
 {}
 
-/// A duty of a recorded history has at most 1,001 changes: Meet, Waive and Reopen are refused from 999 on, a waiver that ends may be the
-/// 1,000th, and a withdrawal the last one.
+/// A duty of a recorded history has at most 1,001 changes: Meet, Waive and Reopen are refused from
+/// 999 on, a waiver that ends may be the 1,000th, and a withdrawal the last one.
 pub fn changes_are_few()
     ensures { (w : Readings) (h : List Command)
         → IsHistory w h → (q : ℕ) → length (changes w h q) ≤ 1001 }
 {}
 
-/// Written days compare as dates: by year, then by month, then by day, each as a number. So one day is before another exactly where
-/// its date is.
+/// Written days compare as dates: by year, then by month, then by day, each as a number. So one day
+/// is before another exactly where its date is.
 pub fn days_compare_as_dates()
     ensures order { (a b : List ℕ)
         → IsTrue (is_day a) → IsTrue (is_day b) → slice_cmp nat_cmp a b ≡ date_order a b }
@@ -160,15 +177,19 @@ pub fn days_compare_as_dates()
         → IsTrue (is_day a) → IsTrue (is_day b) → is_before a b ≡ below_by date_order a b }
 {}
 
-/// A text is in the set of some texts exactly where it is one of them, and the set rises: no text stands in it twice.
+/// A text is in the set of some texts exactly where it is one of them, and the set rises: no text
+/// stands in it twice.
 pub fn sets_keep_their_members()
-    ensures held { (text : List ℕ) (texts : List (List ℕ)) → IsIn text texts → IsIn text (sorted_set texts) }
-    ensures only { (text : List ℕ) (texts : List (List ℕ)) → IsIn text (sorted_set texts) → IsIn text texts }
+    ensures held { (text : List ℕ) (texts : List (List ℕ)) → IsIn text texts
+        → IsIn text (sorted_set texts) }
+    ensures only { (text : List ℕ) (texts : List (List ℕ)) → IsIn text (sorted_set texts)
+        → IsIn text texts }
     ensures order { (texts : List (List ℕ)) → Rises text_below (sorted_set texts) }
 {}
 
-/// A row is in the duty table exactly where a duty with its number was raised and the row names the duty's release, document, package,
-/// term and code, the rule as it is spelled, and the place where the duty stands.
+/// A row is in the duty table exactly where a duty with its number was raised and the row names the
+/// duty's release, document, package, term and code, the rule as it is spelled, and the place where
+/// the duty stands.
 pub fn duty_rows_exactly()
     ensures held { (w : Readings) (h : List Command) (row : DutyRow) → IsDutyRow w h row
         → let t = tables w h in IsIn row t.duty }
@@ -179,23 +200,26 @@ pub fn duty_rows_exactly()
     desk_history::duties_are_numbered_on();
 }
 
-/// A row is in the table of frozen terms exactly where a freeze of its release stands in the history, and before it a document that
-/// ships the package was attached, the term was chosen for it, and the catalogue in force had a rule for the term's adopted form, which
-/// is spelled so. A release of a recorded history is frozen once: before all its freezes stand the same commands.
+/// A row is in the table of frozen terms exactly where a freeze of its release stands in the
+/// history, and before it a document that ships the package was attached, the term was chosen for
+/// it, and the catalogue in force had a rule for the term's adopted form, which is spelled so. A
+/// release of a recorded history is frozen once: before all its freezes stand the same commands.
 pub fn frozen_rows_exactly()
     ensures held { (w : Readings) (h : List Command) (row : FrozenRow) → IsFrozenTerm w h row
         → let t = tables w h in IsIn row t.frozen }
     ensures only { (w : Readings) (h : List Command) (row : FrozenRow)
         → (let t = tables w h in IsIn row t.frozen) → IsFrozenTerm w h row }
-    ensures once { (w : Readings) (h later before later' before' : List Command) (r day day' : List ℕ)
+    ensures once { (w : Readings) (h later before later' before' : List Command)
+        (r day day' : List ℕ)
         → IsHistory w h → h ≡ later ++ Freeze r day ∷ before → h ≡ later' ++ Freeze r day' ∷ before'
         → before ≡ before' }
 {
     desk_history::frozen_terms_were_held();
 }
 
-/// A frozen release of a recorded history holds the terms that it was frozen with, and no others: a term is held for a package exactly
-/// where a row of the frozen terms names the release, the package and the term.
+/// A frozen release of a recorded history holds the terms that it was frozen with, and no others: a
+/// term is held for a package exactly where a row of the frozen terms names the release, the
+/// package and the term.
 pub fn frozen_choices_are_the_frozen_terms()
     ensures held { (w : Readings) (h : List Command) (row : FrozenRow) → IsHistory w h
         → state_of h row.release ≡ Frozen → (let t = tables w h in IsIn row t.frozen)
@@ -207,20 +231,23 @@ pub fn frozen_choices_are_the_frozen_terms()
     desk_history::frozen_terms_were_held();
 }
 
-/// The bill of a frozen release is that of its freeze: whatever is recorded while the release is frozen, the answer stays the same, word
-/// for word.
+/// The bill of a frozen release is that of its freeze: whatever is recorded while the release is
+/// frozen, the answer stays the same, word for word.
 pub fn bills_stay()
     ensures { (w : Readings) (later h : List Command) (r : List ℕ) → IsHistory w (later ++ h)
         → state_of h r ≡ Frozen → state_of (later ++ h) r ≡ Frozen
         → queried w (later ++ h) (Bill r) ≡ queried w h (Bill r) }
 {}
 
-/// The bill of a frozen release lists the packages that it shipped at its freeze, each with the rules of the terms that were chosen for
-/// it, by the catalogue then in force and in the order of terms, and the texts of these terms by that catalogue and the documents. This
-/// takes a reading by which no document has two packages with one id: by another one each line would have the rules of both.
+/// The bill of a frozen release lists the packages that it shipped at its freeze, each with the
+/// rules of the terms that were chosen for it, by the catalogue then in force and in the order of
+/// terms, and the texts of these terms by that catalogue and the documents. This takes a reading by
+/// which no document has two packages with one id: by another one each line would have the rules of
+/// both.
 pub fn bills_list_what_was_chosen()
     ensures { (w : Readings) (later before : List Command) (r day : List ℕ)
         → ListsPackagesOnce w → IsHistory w (later ++ Freeze r day ∷ before)
         → state_of (later ++ Freeze r day ∷ before) r ≡ Frozen
-        → queried w (later ++ Freeze r day ∷ before) (Bill r) ≡ answered.Bill (bill_for w before r) }
+        → queried w (later ++ Freeze r day ∷ before) (Bill r)
+        ≡ answered.Bill (bill_for w before r) }
 {}

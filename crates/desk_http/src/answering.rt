@@ -52,7 +52,8 @@ fn wanted_by(alloc: Global, routes: &mut RouteTable, bytes: &[u8]) -> Wanted
 
 /// Applies a command, and hands on the bytes of an import, so that they are not copied.
 fn applied<D: Desk>(desk: &mut D, command: Command) -> Outcome
-    ensures { Replies D.are_right D.tells D.stands (D.seen desk.old) (Act command) (script.Became result) (D.seen desk.new) }
+    ensures { Replies D.are_right D.tells D.stands (D.seen desk.old) (Act command)
+        (script.Became result) (D.seen desk.new) }
 {
     match command {
         Command::Import { bytes, profile } => Outcome::from(desk.import(bytes, profile)),
@@ -62,7 +63,8 @@ fn applied<D: Desk>(desk: &mut D, command: Command) -> Outcome
 
 /// Asks a question.
 fn asked<D: Desk>(desk: &mut D, query: &Query) -> Outcome
-    ensures { Replies D.are_right D.tells D.stands (D.seen desk.old) (Ask query.now) (script.Became result) (D.seen desk.new) }
+    ensures { Replies D.are_right D.tells D.stands (D.seen desk.old) (Ask query.now)
+        (script.Became result) (D.seen desk.new) }
 {
     Outcome::from(desk.ask(query))
 }
@@ -92,7 +94,8 @@ fn reply_for<D: Desk>(desk: &mut D, wanted: Wanted) -> Reply
     }
 }
 
-/// The reply to what was received, if any byte was. The bytes are let go of before the desk answers, which can use their memory.
+/// The reply to what was received, if any byte was. The bytes are let go of before the desk
+/// answers, which can use their memory.
 pub fn answer<D: Desk>(
     alloc: Global,
     routes: &mut RouteTable,
@@ -101,7 +104,8 @@ pub fn answer<D: Desk>(
 ) -> Option<Reply>
     ensures { (bytes : List ℕ) → IsReceived bytes received → MatchOption result
         ((length bytes ≡ 0) × (desk.new ≡ desk.old))
-        (λ reply. (0 < length bytes) × IsReply D.are_right D.tells D.stands D.seen desk.old bytes reply desk.new) }
+        (λ reply. (0 < length bytes)
+        × IsReply D.are_right D.tells D.stands D.seen desk.old bytes reply desk.new) }
 {
     match received {
         Received::Nothing => None,

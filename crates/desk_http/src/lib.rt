@@ -1,9 +1,11 @@
 //! The desk over HTTP (RFC 9110, RFC 9112): bytes in, bytes out, one request for each connection.
 //!
-//! - `request` reads the request that bytes begin with, and `reply` is the reply to an outcome (`desk_http_requests`): JSON, or one of
-//!   the texts of `desk_report` for the routes that ask for them.
-//! - `serve_one` reads a request, has the desk answer it and writes the reply (`specs/Serving.antt`). What it replies depends on the
-//!   bytes alone, however they were cut. Nothing is written where no byte came. `serve_with` is the same for one connection of many,
+//! - `request` reads the request that bytes begin with, and `reply` is the reply to an outcome
+//!   (`desk_http_requests`): JSON, or one of the texts of `desk_report` for the routes that ask for
+//!   them.
+//! - `serve_one` reads a request, has the desk answer it and writes the reply
+//!   (`specs/Serving.antt`). What it replies depends on the bytes alone, however they were cut.
+//!   Nothing is written where no byte came. `serve_with` is the same for one connection of many,
 //!   which keep the table of routes.
 //!
 //! `read_command`, `reply_line` and `script` are the same requests and replies as lines.

@@ -51,13 +51,15 @@ fn write_reply<W: Write>(alloc: Global, writer: &mut W, reply: &Reply) -> Result
     }
 }
 
-/// Serves the one request of a connection: reads it, has the desk answer it, and writes the reply. The table of routes is that of the
-/// connections before.
+/// Serves the one request of a connection: reads it, has the desk answer it, and writes the reply.
+/// The table of routes is that of the connections before.
 ///
-/// What is replied is said by the bytes alone, however they come in pieces; 400 where some came and they end in a part of a request;
-/// nothing where none came. A command is applied once, or not at all where the reply is 503 with `memory`. After a fault of the
-/// reader, or too many reads, nothing was written and the desk is as it was; after one of the writer a front of the reply was
-/// written, and an accepted command stands. The reader isn't read past the piece with which the request is whole.
+/// What is replied is said by the bytes alone, however they come in pieces; 400 where some came and
+/// they end in a part of a request; nothing where none came. A command is applied once, or not at
+/// all where the reply is 503 with `memory`. After a fault of the reader, or too many reads,
+/// nothing was written and the desk is as it was; after one of the writer a front of the reply was
+/// written, and an accepted command stands. The reader isn't read past the piece with which the
+/// request is whole.
 pub fn serve_with<D: Desk, R: Read, W: Write>(
     alloc: Global,
     routes: &mut RouteTable,
@@ -66,8 +68,11 @@ pub fn serve_with<D: Desk, R: Read, W: Write>(
     writer: &mut W,
 ) -> Result<Served, ServeFault>
     ensures ok { IfOk result (λ served. (bytes : List ℕ) × AreLeft (R.remaining reader.old) bytes
-        × IsServed D.are_right D.tells D.stands D.seen desk.old bytes desk.new (W.contents writer.old) (W.contents writer.new) served) }
-    ensures fault { IfErr result (IsStopped D.are_right D.tells D.stands D.seen (R.remaining reader.old) (R.remaining reader.new)
+        × IsServed D.are_right D.tells D.stands D.seen desk.old bytes desk.new
+        (W.contents writer.old) (W.contents writer.new) served) }
+    ensures fault { IfErr result
+        (IsStopped D.are_right D.tells D.stands D.seen (R.remaining reader.old)
+        (R.remaining reader.new)
         desk.old desk.new (W.contents writer.old) (W.contents writer.new)) }
     ensures prompt { IsPrompt (R.remaining reader.old) (R.remaining reader.new) }
 {
@@ -87,8 +92,11 @@ pub fn serve_one<D: Desk, R: Read, W: Write>(
     writer: &mut W,
 ) -> Result<Served, ServeFault>
     ensures ok { IfOk result (λ served. (bytes : List ℕ) × AreLeft (R.remaining reader.old) bytes
-        × IsServed D.are_right D.tells D.stands D.seen desk.old bytes desk.new (W.contents writer.old) (W.contents writer.new) served) }
-    ensures fault { IfErr result (IsStopped D.are_right D.tells D.stands D.seen (R.remaining reader.old) (R.remaining reader.new)
+        × IsServed D.are_right D.tells D.stands D.seen desk.old bytes desk.new
+        (W.contents writer.old) (W.contents writer.new) served) }
+    ensures fault { IfErr result
+        (IsStopped D.are_right D.tells D.stands D.seen (R.remaining reader.old)
+        (R.remaining reader.new)
         desk.old desk.new (W.contents writer.old) (W.contents writer.new)) }
     ensures prompt { IsPrompt (R.remaining reader.old) (R.remaining reader.new) }
 {

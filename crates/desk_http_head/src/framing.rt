@@ -111,8 +111,10 @@ fn judge<'a>(
 ) -> Framing<'a>
     requires within { All (IsHeaderWithin (length front.now)) fields.now }
     requires short { head ≤ head_bytes }
-    ensures reading { framed result ≡ judged method.now target.now (map (header_bytes front.now) fields.now) after.now }
-    ensures awaits { AwaitsFrom head (judged method.now target.now (map (header_bytes front.now) fields.now)) after.now result }
+    ensures reading { framed result
+        ≡ judged method.now target.now (map (header_bytes front.now) fields.now) after.now }
+    ensures awaits { AwaitsFrom head
+        (judged method.now target.now (map (header_bytes front.now) fields.now)) after.now result }
 {
     if is_encoded(front, fields) {
         Framing::Bad(Status::NotImplemented)

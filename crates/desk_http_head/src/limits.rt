@@ -1,5 +1,5 @@
-//! The limits of a request, each in one place. Definitions have their own (`specs/Limits.antt`), so that a limit that is changed
-//! here alone is refused.
+//! The limits of a request, each in one place. Definitions have their own (`specs/Limits.antt`), so
+//! that a limit that is changed here alone is refused.
 
 /// The bytes of the longest head, its last line end included.
 pub const HEAD_BYTES: usize = 16_384;

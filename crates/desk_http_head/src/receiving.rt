@@ -86,9 +86,12 @@ fn awaited_after(awaited: Awaited, came: &[u8], bytes: &[u8]) -> Option<Awaited>
     }
 }
 
-/// Reads until a request is whole or refused, or the reader ends: at most 1,048,576 times, each time at most 16,384 bytes.
+/// Reads until a request is whole or refused, or the reader ends: at most 1,048,576 times, each
+/// time at most 16,384 bytes.
 pub fn receive<R: Read>(alloc: Global, reader: &mut R) -> Result<Received, ServeFault>
-    ensures ok { IfOk result (λ received. (bytes : List ℕ) × AreLeft (R.remaining reader.old) bytes × IsReceived bytes received) }
+    ensures ok { IfOk result
+        (λ received. (bytes : List ℕ) × AreLeft (R.remaining reader.old) bytes
+        × IsReceived bytes received) }
     ensures prompt { IsPrompt (R.remaining reader.old) (R.remaining reader.new) }
     ensures fault { IfErr result (λ fault. (bytes : List ℕ) × IsOfReader fault (length bytes)
         × Consumes (R.remaining reader.old) (R.remaining reader.new) bytes) }

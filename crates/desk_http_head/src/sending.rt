@@ -22,11 +22,12 @@ fn write_some<W: Write>(writer: &mut W, bytes: &[u8]) -> Result<usize, ServeFaul
     }
 }
 
-/// Writes bytes and flushes the writer, as `write_all` and `flush` do. After a fault of `write_all` nothing is known: here a front of
-/// the bytes was written then.
+/// Writes bytes and flushes the writer, as `write_all` and `flush` do. After a fault of `write_all`
+/// nothing is known: here a front of the bytes was written then.
 pub fn send<W: Write>(writer: &mut W, bytes: &[u8]) -> Result<(), ServeFault>
     ensures ok { OnOk result (Appends (W.contents writer.old) (W.contents writer.new) bytes.now) }
-    ensures err { OnErr result (AppendsFront (W.contents writer.old) (W.contents writer.new) bytes.now) }
+    ensures err { OnErr result
+        (AppendsFront (W.contents writer.old) (W.contents writer.new) bytes.now) }
     ensures fault { IfErr result (λ fault. fault ≡ ServeFault.Write) }
 {
     let mut rest = bytes;

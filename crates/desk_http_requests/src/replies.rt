@@ -60,7 +60,8 @@ fn reply_with(
     Ok(text)
 }
 
-/// The media type and the body of an outcome: a bill and rows of duties as the texts that are asked for, all else as its line of JSON.
+/// The media type and the body of an outcome: a bill and rows of duties as the texts that are asked
+/// for, all else as its line of JSON.
 fn content_of(alloc: Global, outcome: &Outcome, shape: Shape) -> Result<Content, AllocError>
     ensures { IfOk result (λ c. (c.media_type.now, c.body.items) ≡ content_of outcome.now shape) }
 {
@@ -122,7 +123,8 @@ fn not_toml_line() -> &'static str
 
 /// The message of a reply for which the desk wasn't asked.
 fn unasked(alloc: Global, status: Status, body: &str) -> Message
-    ensures { (told : Told) × IsMessage told result × ((told ≡ (status, json body.now)) ⊎ (told ≡ no_memory)) }
+    ensures { (told : Told) × IsMessage told result
+        × ((told ≡ (status, json body.now)) ⊎ (told ≡ no_memory)) }
 {
     match reply_with(alloc, status, "application/json", body.as_bytes()) {
         Ok(text) => Message::Made(status, text),
@@ -143,7 +145,8 @@ fn short_message(is_get: bool) -> Message
 
 /// The message of the reply to an outcome.
 fn outcome_message(alloc: Global, outcome: &Outcome, shape: Shape, is_get: bool) -> Message
-    ensures { (told : Told) × IsMessage told result × IsTold (Became outcome.now shape is_get) told }
+    ensures { (told : Told) × IsMessage told result
+        × IsTold (Became outcome.now shape is_get) told }
 {
     match outcome {
         Outcome::Failed(Fault::Memory) => Message::NoMemory,

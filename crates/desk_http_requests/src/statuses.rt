@@ -6,7 +6,8 @@ ghost use Rattle.desk_http_requests.specs.Statuses.{is_absent, is_conflict, refu
 use desk_http_head::Status;
 use desk_model::{Answer, Fault, Outcome};
 
-/// Whether a refusal with this number is for what isn't there: a document, a package, a release, a duty.
+/// Whether a refusal with this number is for what isn't there: a document, a package, a release, a
+/// duty.
 fn is_absent(number: u8) -> bool
     ensures { result ≡ is_absent number }
 {

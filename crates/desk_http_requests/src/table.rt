@@ -109,8 +109,8 @@ fn with_method(method: &[u8], found: Option<Route>) -> Option<Route>
     }
 }
 
-/// The table of the routes. It is made when a path is looked up for the first time, and kept: to make it takes hundreds of times as
-/// long as to look a path up.
+/// The table of the routes. It is made when a path is looked up for the first time, and kept: to
+/// make it takes hundreds of times as long as to look a path up.
 #[derive(Drop)]
 pub struct RouteTable {
     routes: Option<Router<Route>>,

@@ -63,7 +63,8 @@ fn place_of(fault: &ExpressionFault) -> usize
 
 fn expression_fault(alloc: Global, fault: &ExpressionFault) -> Result<Value, AllocError>
     ensures { IfOk result (λ v. view v ≡ list
-        (whole (expression_fault_number fault.now) ∷ whole (expression_fault_place fault.now) ∷ [])) }
+        (whole (expression_fault_number fault.now) ∷ whole (expression_fault_place fault.now)
+        ∷ [])) }
 {
     numbers(alloc, fault.number(), place_of(fault) as u64)
 }
@@ -108,7 +109,8 @@ fn number_part_and_index(
     part: &CataloguePart,
     index: usize,
 ) -> Result<Value, AllocError>
-    ensures { IfOk result (λ v. view v ≡ list (whole number ∷ string (part_name part.now) ∷ whole index ∷ [])) }
+    ensures { IfOk result (λ v. view v
+        ≡ list (whole number ∷ string (part_name part.now) ∷ whole index ∷ [])) }
 {
     let cells = [
         Cell::Number(u64::from(number)),
@@ -140,7 +142,8 @@ fn document_package_and_term<'a>(
     package_id: &'a str,
     term: &'a str,
 ) -> Result<Value, AllocError>
-    ensures { IfOk result (λ v. view v ≡ list (whole document ∷ string package_id.now ∷ string term.now ∷ [])) }
+    ensures { IfOk result (λ v. view v
+        ≡ list (whole document ∷ string package_id.now ∷ string term.now ∷ [])) }
 {
     list(
         alloc,

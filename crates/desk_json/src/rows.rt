@@ -173,7 +173,8 @@ fn finding_row(alloc: Global, finding: &FindingRow) -> Result<Value, AllocError>
 
 /// A row for each finding.
 pub(crate) fn finding_rows(alloc: Global, findings: &[FindingRow]) -> Result<Vec<Value>, AllocError>
-    ensures { IfOk result (λ rows. items_view rows.items ≡ items_of (map finding_line findings.now)) }
+    ensures { IfOk result (λ rows. items_view rows.items
+        ≡ items_of (map finding_line findings.now)) }
 {
     let mut rows = Vec::new(alloc);
     for finding in findings {

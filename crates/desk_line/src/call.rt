@@ -7,21 +7,22 @@ use std::alloc::AllocError;
 /// A subcommand with its values.
 #[derive(Drop)]
 pub enum Call {
-    /// Whether the terms are a minimal set that satisfies the licence expression, whose operators are
-    /// written by the profile.
+    /// Whether the terms are a minimal set that satisfies the licence expression, whose operators
+    /// are written by the profile.
     Check {
         expression: Text,
         profile: Profile,
         terms: Items<Text>,
     },
-    /// The minimal sets of terms that satisfy the licence expression, whose operators are written by
-    /// the profile.
+    /// The minimal sets of terms that satisfy the licence expression, whose operators are written
+    /// by the profile.
     Alternatives {
         expression: Text,
         profile: Profile,
     },
-    /// Replies to the requests of standard input, a line each, over the desk that is kept in a file, or over one in memory. What isn't
-    /// done is explained or not, and ends the script or not.
+    /// Replies to the requests of standard input, a line each, over the desk that is kept in a
+    /// file, or over one in memory. What isn't done is explained or not, and ends the script or
+    /// not.
     Script {
         database: Option<Text>,
         explain: bool,
@@ -32,7 +33,8 @@ pub enum Call {
         database: Text,
         call: FileCall,
     },
-    /// The document of the tree of files in a folder, with its name, its namespace and when it was made.
+    /// The document of the tree of files in a folder, with its name, its namespace and when it was
+    /// made.
     Gather {
         folder: Text,
         name: Text,
@@ -44,7 +46,8 @@ pub enum Call {
         folder: Text,
         json: bool,
     },
-    /// The tag-value document that says what an SPDX document in JSON says, the file of which has this path.
+    /// The tag-value document that says what an SPDX document in JSON says, the file of which has
+    /// this path.
     Convert {
         document: Text,
     },
@@ -52,8 +55,8 @@ pub enum Call {
     Explain {
         name: Text,
     },
-    /// The conclusions that are proposed for the document with a number, the file of which has this path. Operators of its licence
-    /// expressions are written by the profile.
+    /// The conclusions that are proposed for the document with a number, the file of which has this
+    /// path. Operators of its licence expressions are written by the profile.
     Propose {
         document: Text,
         number: u32,
@@ -64,7 +67,8 @@ pub enum Call {
 /// A subcommand for the file that keeps a desk, with its other values.
 #[derive(Drop)]
 pub enum FileCall {
-    /// The import of a document, the file of which has this path. Operators of its licence expressions are written by the profile.
+    /// The import of a document, the file of which has this path. Operators of its licence
+    /// expressions are written by the profile.
     Import { document: Text, profile: Profile },
     /// The loading of a catalogue, the file of which has this path.
     Catalogue { catalogue: Text },
@@ -90,7 +94,8 @@ pub enum FileCall {
     Audit,
     /// The migration of a file of an older version to this one's tables.
     Migrate,
-    /// Replies over HTTP, at a port of this machine's own address, to so many connections. Port 0 is one that is free.
+    /// Replies over HTTP, at a port of this machine's own address, to so many connections. Port 0
+    /// is one that is free.
     Serve { port: u16, limit: u32 },
 }
 
@@ -99,7 +104,8 @@ pub enum FileCall {
 pub enum Listed {
     Releases,
     Documents,
-    /// The duties, or those of a release, with a code, that are open, or whose waivers' last days lie before a day.
+    /// The duties, or those of a release, with a code, that are open, or whose waivers' last days
+    /// lie before a day.
     Duties {
         release: Option<Text>,
         code: Option<Text>,

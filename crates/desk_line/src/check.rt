@@ -63,7 +63,8 @@ pub(crate) const ARGUMENTS: [Argument; 3] = [
     },
 ];
 
-/// The call with the values of these matches, or `None` where they lack one, or the profile is none.
+/// The call with the values of these matches, or `None` where they lack one, or the profile is
+/// none.
 pub(crate) fn check_from(
     alloc: Global,
     matches: &ArgMatches<'_>,

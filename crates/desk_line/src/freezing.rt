@@ -1,4 +1,5 @@
-//! The subcommands that prepare a freeze: what stands in its way, and the choices that leave nothing to choose.
+//! The subcommands that prepare a freeze: what stands in its way, and the choices that leave
+//! nothing to choose.
 
 ghost use Rattle.std.specs.Prelude.{◌≡◌, IfOk};
 ghost use Rattle.clap.specs.Words.{found_of, rows_of};

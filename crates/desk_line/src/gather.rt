@@ -75,7 +75,8 @@ pub(crate) const ARGUMENTS: [Argument; 4] = [
     },
 ];
 
-/// The call with the values of these matches, or `None` where they lack one, or one can't stand in its field.
+/// The call with the values of these matches, or `None` where they lack one, or one can't stand in
+/// its field.
 pub(crate) fn gather_from(
     alloc: Global,
     matches: &ArgMatches<'_>,

@@ -171,7 +171,8 @@ fn listed_in(alloc: Global, matches: &ArgMatches<'_>) -> Result<Option<Listed>, 
     }
 }
 
-/// The call with the values of these matches, or `None` where they lack one, or one is none that it may have.
+/// The call with the values of these matches, or `None` where they lack one, or one is none that it
+/// may have.
 pub(crate) fn list_from(alloc: Global, matches: &ArgMatches<'_>) -> Result<Option<Call>, AllocError>
     ensures { IfOk result (λ r. r ≡ list_in (rows_of (found_of matches.now))) }
 {

@@ -120,7 +120,8 @@ fn held_proposals_from(
     database: &str,
     matches: &ArgMatches<'_>,
 ) -> Result<Option<Call>, AllocError>
-    ensures { IfOk result (λ r. r ≡ held_proposals_in database.now (rows_of (found_of matches.now))) }
+    ensures { IfOk result (λ r. r
+        ≡ held_proposals_in database.now (rows_of (found_of matches.now))) }
 {
     if has_reading(matches) {
         return Ok(None);
@@ -159,8 +160,8 @@ fn filed_proposals_from(alloc: Global, matches: &ArgMatches<'_>) -> Result<Optio
     }))
 }
 
-/// The call with the values of these matches, or `None` where they lack one, or one is no such number or profile, or doesn't go with the
-/// others.
+/// The call with the values of these matches, or `None` where they lack one, or one is no such
+/// number or profile, or doesn't go with the others.
 pub(crate) fn propose_from(
     alloc: Global,
     matches: &ArgMatches<'_>,

@@ -1,4 +1,5 @@
-//! The subcommands that hand out texts: the notices of a release, the table of its duties, their totals, and the changes of a duty.
+//! The subcommands that hand out texts: the notices of a release, the table of its duties, their
+//! totals, and the changes of a duty.
 
 ghost use Rattle.std.specs.Prelude.{◌≡◌, IfOk, codes, option_map};
 ghost use Rattle.clap.specs.Words.{found_of, rows_of};
@@ -226,7 +227,8 @@ pub(crate) fn page_from(alloc: Global, matches: &ArgMatches<'_>) -> Result<Optio
     }
 }
 
-/// The call of `changes` with the values of these matches, or `None` where they lack one, or one is no such number.
+/// The call of `changes` with the values of these matches, or `None` where they lack one, or one is
+/// no such number.
 pub(crate) fn changes_from(
     alloc: Global,
     matches: &ArgMatches<'_>,

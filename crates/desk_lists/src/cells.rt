@@ -61,7 +61,8 @@ fn add_number(alloc: Global, cells: &mut Vec<Text>, number: i64) -> Result<(), A
 
 // Adds a whole number, or an empty cell where there is none.
 fn add_optional(alloc: Global, cells: &mut Vec<Text>, number: Option<i64>) -> Result<(), AllocError>
-    ensures { OnOk result (cells.new.items ≡ cells.old.items ++ option_map_or signed_decimal number [] ∷ []) }
+    ensures { OnOk result (cells.new.items
+        ≡ cells.old.items ++ option_map_or signed_decimal number [] ∷ []) }
 {
     match number {
         Some(number) => add_number(alloc, cells, number),
@@ -83,7 +84,8 @@ fn add_optional_count(
     cells: &mut Vec<Text>,
     count: Option<u64>,
 ) -> Result<(), AllocError>
-    ensures { OnOk result (cells.new.items ≡ cells.old.items ++ option_map_or decimal count [] ∷ []) }
+    ensures { OnOk result (cells.new.items
+        ≡ cells.old.items ++ option_map_or decimal count [] ∷ []) }
 {
     let Some(count) = count else {
         return add_text(alloc, cells, "");

@@ -63,7 +63,8 @@ fn widened(alloc: Global, widths: &[usize], cells: &[Text]) -> Result<Vec<usize>
 
 // The width of each column before the last, by the columns' names.
 fn widths_of_front(alloc: Global, names: &[Text]) -> Result<Vec<usize>, AllocError>
-    ensures { IfOk result (λ found. found.items ≡ map width (take (length names.now - 1) names.now)) }
+    ensures { IfOk result (λ found. found.items
+        ≡ map width (take (length names.now - 1) names.now)) }
 {
     let count = names.len().saturating_sub(1);
     widths_of(alloc, &names[..count])
@@ -148,7 +149,8 @@ fn add_row(text: &mut Vec<u8>, widths: &[usize], cells: &[Text]) -> Result<(), A
     }
 }
 
-/// A line for each row. Each column but the last is as wide as its widest text, and two blanks stand before the next.
+/// A line for each row. Each column but the last is as wide as its widest text, and two blanks
+/// stand before the next.
 #[tactic(auto, unfolding(crate::specs::Columns::columns_text))]
 pub(crate) fn columns_text(alloc: Global, rows: &[Items<Text>]) -> Result<Vec<u8>, AllocError>
     ensures { IfOk result (λ text. text.items ≡ columns_text rows.now) }

@@ -63,7 +63,8 @@ fn package_counts(snapshot: &Snapshot, document: i64) -> (u64, u64)
 
 // The number of the profile that a document is read by.
 fn profile_of(snapshot: &Snapshot, document: i64) -> Option<i64>
-    ensures { result ≡ option_map (λ row. row.profile) (find (is_reading_of document) snapshot.now.reading) }
+    ensures { result ≡ option_map (λ row. row.profile)
+        (find (is_reading_of document) snapshot.now.reading) }
 {
     match snapshot.reading.find(&ByDocument { document }) {
         Some(reading) => Some(reading.profile),
@@ -71,7 +72,8 @@ fn profile_of(snapshot: &Snapshot, document: i64) -> Option<i64>
     }
 }
 
-/// The profile that the licence expressions of a document are read by. Each document of a desk has one.
+/// The profile that the licence expressions of a document are read by. Each document of a desk has
+/// one.
 pub fn profile_at(snapshot: &Snapshot, document: i64) -> Profile
     ensures { result ≡ profile_at snapshot.now document }
 {
@@ -106,10 +108,12 @@ fn document_line(
     })
 }
 
-/// The documents by number. What a document says is read again from its bytes, of one document at a time.
+/// The documents by number. What a document says is read again from its bytes, of one document at a
+/// time.
 pub fn documents(alloc: Global, snapshot: &Snapshot) -> Result<Vec<DocumentLine>, AllocError>
     ensures { (reads : Profile → List ℕ → Option Tree) → AreReadings reads
-        → IfOk result (λ lines. AllZip (IsDocumentLine reads snapshot.now) snapshot.now.document lines.items) }
+        → IfOk result (λ lines. AllZip (IsDocumentLine reads snapshot.now) snapshot.now.document
+        lines.items) }
 {
     let mut lines = Vec::new(alloc);
     for row in snapshot.document.as_slice() {

@@ -182,7 +182,8 @@ fn lines_in_turn(
     wanted: &DutyFilter<'_>,
 ) -> Result<Vec<DutyLine>, AllocError>
     ensures { IfOk result (λ lines. lines.items
-        ≡ map (duty_line snapshot.now titles.now) (filter (is_wanted snapshot.now wanted.now) snapshot.now.duty)) }
+        ≡ map (duty_line snapshot.now titles.now)
+        (filter (is_wanted snapshot.now wanted.now) snapshot.now.duty)) }
 {
     let mut lines = Vec::new(alloc);
     for row in snapshot.duty.as_slice() {
@@ -207,7 +208,8 @@ pub fn duties(
     snapshot: &Snapshot,
     wanted: &DutyFilter<'_>,
 ) -> Result<Vec<DutyLine>, AllocError>
-    ensures members { IfOk result (λ lines. IsPermutation (lines_wanted snapshot.now wanted.now) lines.items) }
+    ensures members { IfOk result
+        (λ lines. IsPermutation (lines_wanted snapshot.now wanted.now) lines.items) }
     ensures order { IfOk result (λ lines. IsSorted raising_order lines.items) }
 {
     let titles = titles_in_force(alloc, snapshot)?;

@@ -33,7 +33,8 @@ pub struct DocumentLine {
     pub packages: u64,
     /// How many of these it ships.
     pub shipped: u64,
-    /// How many findings it has, its licence fields read by its profile. None if its bytes are no document, which no desk has.
+    /// How many findings it has, its licence fields read by its profile. None if its bytes are no
+    /// document, which no desk has.
     pub findings: Option<u64>,
     /// The number of the profile that its expressions are read by. Each document of a desk has one.
     pub profile: Option<i64>,

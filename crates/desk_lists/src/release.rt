@@ -17,7 +17,8 @@ use std::alloc::{AllocError, Global};
 
 // How many of these duties are in a state.
 fn count_in(rows: &[Held<'_>], state: DutyState) -> u64
-    ensures { result ≡ count_by (λ row. bytes_eq row.duty.now.state (duty_state_name state)) rows.now }
+    ensures { result ≡ count_by (λ row. bytes_eq row.duty.now.state (duty_state_name state))
+        rows.now }
 {
     let name = state.name();
     rows.iter()
@@ -45,7 +46,8 @@ fn release_line(
     held: &Sorted<Held<'_>>,
     release: &StoredRelease,
 ) -> Result<ReleaseLine, AllocError>
-    ensures { IfOk result (λ line. line ≡ release_line (duties_held held.now.rows.items) release.now) }
+    ensures { IfOk result (λ line. line
+        ≡ release_line (duties_held held.now.rows.items) release.now) }
 {
     let place = release.place;
     let revision = release.revision;
@@ -66,7 +68,8 @@ fn lines_in_turn(
     held: &Sorted<Held<'_>>,
     rows: &[StoredRelease],
 ) -> Result<Vec<ReleaseLine>, AllocError>
-    ensures { IfOk result (λ lines. lines.items ≡ map (release_line (duties_held held.now.rows.items)) rows.now) }
+    ensures { IfOk result (λ lines. lines.items
+        ≡ map (release_line (duties_held held.now.rows.items)) rows.now) }
 {
     let mut lines = Vec::new(alloc);
     for release in rows {

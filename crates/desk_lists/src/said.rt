@@ -11,7 +11,8 @@ use desk_findings::findings_in;
 use desk_tagvalue::{DocFault, Document, read};
 use std::alloc::{AllocError, Global};
 
-/// What the bytes of a document say: its name, and how many findings it has. Bytes that are no document say nothing.
+/// What the bytes of a document say: its name, and how many findings it has. Bytes that are no
+/// document say nothing.
 #[derive(Drop)]
 pub(crate) struct Said {
     pub name: Text,

@@ -24,7 +24,8 @@ fn fields_of(alloc: Global, cells: &[Text]) -> Result<Vec<&[u8]>, AllocError>
 // A record of these fields.
 fn add_record<W: Write + Drop>(writer: &mut Writer<W>, fields: &[&[u8]]) -> Result<(), AllocError>
     requires { is_between_rows writer.old }
-    ensures bytes { OnOk result (Appends (text_written W.contents writer.old) (text_written W.contents writer.new)
+    ensures bytes { OnOk result
+        (Appends (text_written W.contents writer.old) (text_written W.contents writer.new)
         (record_text (map (λ field. field.now) fields.now))) }
     ensures ready { OnOk result (is_between_rows writer.new) }
 {
@@ -42,7 +43,8 @@ fn add_row<W: Write + Drop>(
     cells: &[Text],
 ) -> Result<(), AllocError>
     requires { is_between_rows writer.old }
-    ensures bytes { OnOk result (Appends (text_written W.contents writer.old) (text_written W.contents writer.new)
+    ensures bytes { OnOk result
+        (Appends (text_written W.contents writer.old) (text_written W.contents writer.new)
         (record_text cells.now)) }
     ensures ready { OnOk result (is_between_rows writer.new) }
 {

@@ -11,9 +11,10 @@ use crate::lines::{DocumentLine, DutyLine, ReleaseLine};
 use crate::table::csv_text;
 use std::alloc::{AllocError, Global};
 
-/// The list of releases as comma-separated values (RFC 4180): a record of the columns' names, `name`, `form`, `state`, `revision`,
-/// `raised`, `open`, `met`, `waived` and `withdrawn`, and one for each line. Each record is ended by LF, and a field is in quotes only
-/// if it has a comma, a quote or a line end.
+/// The list of releases as comma-separated values (RFC 4180): a record of the columns' names,
+/// `name`, `form`, `state`, `revision`, `raised`, `open`, `met`, `waived` and `withdrawn`, and one
+/// for each line. Each record is ended by LF, and a field is in quotes only if it has a comma, a
+/// quote or a line end.
 pub fn releases_csv(alloc: Global, lines: &[ReleaseLine]) -> Result<Vec<u8>, AllocError>
     ensures { IfOk result (λ text. text.items ≡ csv_text (release_table lines.now)) }
 {
@@ -21,8 +22,9 @@ pub fn releases_csv(alloc: Global, lines: &[ReleaseLine]) -> Result<Vec<u8>, All
     csv_text(alloc, releases.as_slice())
 }
 
-/// The list of releases as a terminal shows it: the same rows, each ended by LF. A column is as wide as its widest text, and two blanks
-/// are before the next. A question mark is shown for a control byte.
+/// The list of releases as a terminal shows it: the same rows, each ended by LF. A column is as
+/// wide as its widest text, and two blanks are before the next. A question mark is shown for a
+/// control byte.
 pub fn releases_columns(alloc: Global, lines: &[ReleaseLine]) -> Result<Vec<u8>, AllocError>
     ensures { IfOk result (λ text. text.items ≡ columns_text (release_table lines.now)) }
 {
@@ -30,7 +32,8 @@ pub fn releases_columns(alloc: Global, lines: &[ReleaseLine]) -> Result<Vec<u8>,
     columns_text(alloc, releases.as_slice())
 }
 
-/// The list of documents as comma-separated values: `number`, `name`, `namespace`, `packages`, `shipped`, `findings` and `profile`.
+/// The list of documents as comma-separated values: `number`, `name`, `namespace`, `packages`,
+/// `shipped`, `findings` and `profile`.
 pub fn documents_csv(alloc: Global, lines: &[DocumentLine]) -> Result<Vec<u8>, AllocError>
     ensures { IfOk result (λ text. text.items ≡ csv_text (document_table lines.now)) }
 {
@@ -46,8 +49,9 @@ pub fn documents_columns(alloc: Global, lines: &[DocumentLine]) -> Result<Vec<u8
     columns_text(alloc, documents.as_slice())
 }
 
-/// The list of duties as comma-separated values: `number`, `release`, `document`, `package`, `name`, `rule`, `code`, `title`, `state`,
-/// `raised`, `since` and `until`. `since` is the day of the last change, `until` the last day of a waiver that ends.
+/// The list of duties as comma-separated values: `number`, `release`, `document`, `package`,
+/// `name`, `rule`, `code`, `title`, `state`, `raised`, `since` and `until`. `since` is the day of
+/// the last change, `until` the last day of a waiver that ends.
 pub fn duties_csv(alloc: Global, lines: &[DutyLine]) -> Result<Vec<u8>, AllocError>
     ensures { IfOk result (λ text. text.items ≡ csv_text (duty_table lines.now)) }
 {

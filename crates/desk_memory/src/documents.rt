@@ -16,7 +16,9 @@ use std::alloc::Global;
 pub(crate) struct Documents {
     pub(crate) rows: Appended<DocumentRow>,
     by_namespace: Sorted<NamespacePlace>,
-    ghost placed: { (namespace : List ℕ) → option_map (λ entry. entry.place) (find (is_named namespace) by_namespace.rows.items) ≡ position_from (has_namespace namespace) 0 rows.rows.items },
+    ghost placed: { (namespace : List ℕ)
+        → option_map (λ entry. entry.place) (find (is_named namespace) by_namespace.rows.items)
+        ≡ position_from (has_namespace namespace) 0 rows.rows.items },
 }
 
 impl Documents {
@@ -31,7 +33,8 @@ impl Documents {
 
     /// The first document with a namespace.
     pub(crate) fn find_namespace(&self, namespace: &str) -> Option<&DocumentRow>
-        ensures { option_copied result ≡ find (has_namespace namespace.now) self.now.rows.rows.items }
+        ensures { option_copied result
+            ≡ find (has_namespace namespace.now) self.now.rows.rows.items }
     {
         match self.by_namespace.find(&ByNamespace { namespace }) {
             Some(entry) => item_at(self.rows.rows.as_slice(), entry.place),

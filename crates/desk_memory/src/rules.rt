@@ -18,7 +18,9 @@ pub(crate) struct Rules {
     alloc: Global,
     pub(crate) rows: Vec<RuleRow>,
     places: Sorted<RulePlace>,
-    ghost placed: { (revision : ℕ) (term form : List ℕ) → option_map (λ entry. entry.place) (find (is_placed revision term form) places.rows.items) ≡ position_from (is_rule_row revision term form) 0 rows.items },
+    ghost placed: { (revision : ℕ) (term form : List ℕ)
+        → option_map (λ entry. entry.place) (find (is_placed revision term form) places.rows.items)
+        ≡ position_from (is_rule_row revision term form) 0 rows.items },
 }
 
 /// The places of rules, the first of which stands at a place.

@@ -354,9 +354,11 @@ impl MemStore {
         duties: Items<DutyRow>,
         changes: Items<ChangeRow>,
     ) -> Result<(), Fault>
-        requires { takes (Change.Froze release.now revision frozen duties changes) self.old.ledger ≡ true }
+        requires { takes (Change.Froze release.now revision frozen duties changes) self.old.ledger
+            ≡ true }
         ensures ok { OnOk result (rows_of self.new
-            ≡ applied (Change.Froze release.now revision frozen duties changes) (rows_of self.old)) }
+            ≡ applied (Change.Froze release.now revision frozen duties changes)
+            (rows_of self.old)) }
         ensures err { OnErr result (rows_of self.new ≡ rows_of self.old) }
         ensures tallies { self.new.tallies ≡ self.old.tallies }
         ensures holders { rows_in self.new.choices.holders.blocks.items
@@ -376,7 +378,8 @@ impl MemStore {
 
     fn move_all(&mut self, changes: Items<ChangeRow>) -> Result<(), Fault>
         requires { takes (Change.Moved changes) self.old.ledger ≡ true }
-        ensures ok { OnOk result (rows_of self.new ≡ applied (Change.Moved changes) (rows_of self.old)) }
+        ensures ok { OnOk result
+            (rows_of self.new ≡ applied (Change.Moved changes) (rows_of self.old)) }
         ensures err { OnErr result (rows_of self.new ≡ rows_of self.old) }
         ensures tallies { self.new.tallies ≡ self.old.tallies }
         ensures holders { rows_in self.new.choices.holders.blocks.items
@@ -675,8 +678,9 @@ impl Store for MemStore {
         Ok(self.ledger.last_day(u64::from(duty)))
     }
 
-    // A change that doesn't go on from the rows comes from no command, and nothing is owed to it. Where its duties, their changes or
-    // the place of its release don't go on, it is left undone; any other is written as it stands.
+    // A change that doesn't go on from the rows comes from no command, and nothing is owed to it.
+    // Where its duties, their changes or the place of its release don't go on, it is left undone;
+    // any other is written as it stands.
     fn commit(&mut self, change: Change) -> Result<(), Fault> {
         if !self.ledger.can_take(&change) {
             return Ok(());

@@ -66,7 +66,8 @@ impl Sought<ChoiceRow> for ByHolder<'_> {
     }
 }
 
-/// The release at a place holds none of its choices any more. They are gone through where they stand, which takes no memory.
+/// The release at a place holds none of its choices any more. They are gone through where they
+/// stand, which takes no memory.
 fn drop_holders(
     holders: &mut Blocks<Holder>,
     rows: &Blocks<ChoiceRow>,
@@ -122,7 +123,8 @@ impl Choices {
         ensures held { OnOk result (rows_in self.new.holders.blocks.items
             ≡ choosing release.now place document package_id.now rows
             (rows_in self.old.holders.blocks.items)) }
-        ensures err { OnErr result (rows_in self.new.rows.blocks.items ≡ rows_in self.old.rows.blocks.items) }
+        ensures err { OnErr result
+            (rows_in self.new.rows.blocks.items ≡ rows_in self.old.rows.blocks.items) }
         ensures held_err { OnErr result (rows_in self.new.holders.blocks.items
             ≡ rows_in self.old.holders.blocks.items) }
         ensures fault { IfErr result (λ fault. fault ≡ Fault.Memory) }
@@ -145,7 +147,8 @@ impl Choices {
         Ok(())
     }
 
-    /// Drops all choices of the release at a place. Where the holders are those of the choices, it is a holder no more.
+    /// Drops all choices of the release at a place. Where the holders are those of the choices, it
+    /// is a holder no more.
     pub fn withdraw(&mut self, release: &Text, place: Option<u32>)
         ensures rows { rows_in self.new.rows.blocks.items
             ≡ filter (is_choice_elsewhere release.now) (rows_in self.old.rows.blocks.items) }

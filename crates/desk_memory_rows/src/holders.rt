@@ -134,7 +134,8 @@ pub(crate) fn note(
     ensures ok { OnOk result (rows_in holders.new.blocks.items
         ≡ replaced (below_by holder_order) (is_holding document package_id.now place release.now)
         (holder_of release.now place document package_id.now) (rows_in holders.old.blocks.items)) }
-    ensures err { OnErr result (rows_in holders.new.blocks.items ≡ rows_in holders.old.blocks.items) }
+    ensures err { OnErr result
+        (rows_in holders.new.blocks.items ≡ rows_in holders.old.blocks.items) }
     ensures fault { IfErr result (λ fault. fault ≡ Fault.Memory) }
 {
     let holder = holder_of(release, place, document, package_id)?;

@@ -41,7 +41,8 @@ fn duty_at(rows: &[DutyRow], number: u64) -> Option<&DutyRow>
 /// The changes of a duty.
 fn group_at(groups: &[Items<ChangeRow>], number: u64) -> Option<&Items<ChangeRow>>
     requires { grouped 1 groups.now ≡ true }
-    ensures { unwrap_or (option_copied result) [] ≡ filter (is_change_of number) (all_of groups.now) }
+    ensures { unwrap_or (option_copied result) []
+        ≡ filter (is_change_of number) (all_of groups.now) }
 {
     if number == 0 {
         return None;
@@ -87,7 +88,8 @@ fn set_state(rows: &mut Vec<DutyRow>, place: usize, state: DutyState)
     requires place { place < vec_len rows.old }
     requires numbered { numbered 1 rows.old.items ≡ true }
     ensures len { vec_len rows.new ≡ vec_len rows.old }
-    ensures state { rows.new.items ≡ updated (is_duty (1 + place)) (with_duty_state state) rows.old.items }
+    ensures state { rows.new.items
+        ≡ updated (is_duty (1 + place)) (with_duty_state state) rows.old.items }
 {
     let row = &mut rows[place];
     row.state = state;
@@ -195,7 +197,8 @@ fn ended(
 ) -> Result<Vec<Standing>, AllocError>
     requires { grouped 1 groups.now ≡ true }
     ensures { IfOk result (λ found. found.items
-        ≡ map (standing_in (all_of groups.now)) (filter (ends_in (all_of groups.now) day) rows.now)) }
+        ≡ map (standing_in (all_of groups.now))
+        (filter (ends_in (all_of groups.now) day) rows.now)) }
 {
     let mut found = Vec::new(alloc);
     for row in rows {
@@ -251,9 +254,12 @@ fn push_next(groups: &mut Vec<Items<ChangeRow>>, change: ChangeRow) -> Result<()
     requires grouped { grouped 1 groups.old.items ≡ true }
     requires low { 1 ≤ change.duty }
     requires high { change.duty ≤ vec_len groups.old }
-    requires next { change.step ≡ length (filter (is_change_of change.duty) (all_of groups.old.items)) + 1 }
-    ensures ok { OnOk result (groups.new.items ≡ more_at groups.old.items (change.duty - 1) change) }
-    ensures put { OnOk result (all_of groups.new.items ≡ put change_below change (all_of groups.old.items)) }
+    requires next { change.step
+        ≡ length (filter (is_change_of change.duty) (all_of groups.old.items)) + 1 }
+    ensures ok { OnOk result
+        (groups.new.items ≡ more_at groups.old.items (change.duty - 1) change) }
+    ensures put { OnOk result
+        (all_of groups.new.items ≡ put change_below change (all_of groups.old.items)) }
     ensures grouped { grouped 1 groups.new.items ≡ true }
     ensures err { OnErr result (groups.new.items ≡ groups.old.items) }
     ensures len { vec_len groups.new ≡ vec_len groups.old }
@@ -298,7 +304,8 @@ fn pop_all(alloc: Global, groups: &mut Vec<Items<ChangeRow>>, places: &[Place])
     }
 }
 
-/// Puts each change, the next one of its duty, behind the others, the last one first, or does nothing.
+/// Puts each change, the next one of its duty, behind the others, the last one first, or does
+/// nothing.
 fn push_all(
     alloc: Global,
     groups: &mut Vec<Items<ChangeRow>>,
@@ -307,7 +314,8 @@ fn push_all(
 ) -> Result<(), Fault>
     requires grouped { grouped 1 groups.old.items ≡ true }
     requires places { ArePlaces (vec_len groups.old) changes.items places.now }
-    requires turn { are_in_turn 0 (vec_len groups.old) (all_of groups.old.items) changes.items ≡ true }
+    requires turn { are_in_turn 0 (vec_len groups.old) (all_of groups.old.items) changes.items
+        ≡ true }
     ensures put { OnOk result
         (all_of groups.new.items ≡ put_all change_below changes.items (all_of groups.old.items)) }
     ensures grouped { grouped 1 groups.new.items ≡ true }
@@ -340,7 +348,8 @@ fn set_states(rows: &mut Vec<DutyRow>, places: &[Place])
 /// The first changes of duties, each in a group of its own.
 fn singles(alloc: Global, changes: Vec<ChangeRow>) -> Result<Vec<Items<ChangeRow>>, AllocError>
     ensures { (first : ℕ) → IfOk result
-        (λ groups. are_first first changes.items ≡ true → AreSingles first changes.items groups.items) }
+        (λ groups. are_first first changes.items ≡ true
+        → AreSingles first changes.items groups.items) }
 {
     let mut groups = Vec::new(alloc);
     for change in changes {
@@ -392,7 +401,8 @@ impl Ledger {
 
     /// Where the duties of a release stand.
     pub fn standings_of(&self, release: &str) -> Result<Vec<Standing>, AllocError>
-        ensures { IfOk result (λ found. found.items ≡ map (standing_in (all_of self.now.groups.items))
+        ensures { IfOk result (λ found. found.items
+            ≡ map (standing_in (all_of self.now.groups.items))
             (filter (is_duty_of release.now) self.now.duties.items)) }
     {
         let groups = self.groups.as_slice();
@@ -401,7 +411,8 @@ impl Ledger {
 
     /// Where the duties stand that are waived up to a day before this one.
     pub fn ended(&self, day: Day) -> Result<Vec<Standing>, AllocError>
-        ensures { IfOk result (λ found. found.items ≡ map (standing_in (all_of self.now.groups.items))
+        ensures { IfOk result (λ found. found.items
+            ≡ map (standing_in (all_of self.now.groups.items))
             (filter (ends_in (all_of self.now.groups.items) day) self.now.duties.items)) }
     {
         let groups = self.groups.as_slice();
@@ -444,7 +455,8 @@ impl Ledger {
     /// Whether each of some changes is the next one of its duty, by rising numbers.
     fn can_move(&self, changes: &[ChangeRow]) -> bool
         ensures { result
-            ≡ are_in_turn 0 (length self.now.groups.items) (all_of self.now.groups.items) changes.now }
+            ≡ are_in_turn 0 (length self.now.groups.items) (all_of self.now.groups.items)
+            changes.now }
     {
         are_in_turn(self.groups.as_slice(), changes)
     }
@@ -469,9 +481,11 @@ impl Ledger {
 
     /// Moves each of some duties by a change that is the next of its own, or does nothing.
     pub fn move_all(&mut self, changes: Vec<ChangeRow>) -> Result<(), Fault>
-        requires { are_in_turn 0 (length self.old.groups.items) (all_of self.old.groups.items) changes.items
+        requires { are_in_turn 0 (length self.old.groups.items) (all_of self.old.groups.items)
+            changes.items
             ≡ true }
-        ensures duties { OnOk result (self.new.duties.items ≡ moved_by changes.items self.old.duties.items) }
+        ensures duties { OnOk result
+            (self.new.duties.items ≡ moved_by changes.items self.old.duties.items) }
         ensures changes { OnOk result (all_of self.new.groups.items
             ≡ put_all change_below changes.items (all_of self.old.groups.items)) }
         ensures duties_err { OnErr result (self.new.duties.items ≡ self.old.duties.items) }
@@ -487,7 +501,8 @@ impl Ledger {
     /// Adds duties that are numbered on, with a first change each, or does nothing.
     pub fn append(&mut self, mut duties: Vec<DutyRow>, changes: Vec<ChangeRow>) -> Result<(), Fault>
         requires { can_append (length self.old.duties.items) duties.items changes.items ≡ true }
-        ensures duties { OnOk result (self.new.duties.items ≡ self.old.duties.items ++ duties.items) }
+        ensures duties { OnOk result
+            (self.new.duties.items ≡ self.old.duties.items ++ duties.items) }
         ensures changes { OnOk result
             (all_of self.new.groups.items ≡ all_of self.old.groups.items ++ changes.items) }
         ensures duties_err { OnErr result (self.new.duties.items ≡ self.old.duties.items) }

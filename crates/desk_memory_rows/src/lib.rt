@@ -1,9 +1,12 @@
-//! The rows of a desk in memory that change in more than one place at once: duties with their changes, and what the office decided.
+//! The rows of a desk in memory that change in more than one place at once: duties with their
+//! changes, and what the office decided.
 //!
-//! - `Ledger` has the duties, found by their numbers, which go from 1, and the changes of each by step. What is added goes on from what
-//!   stands: duties by their numbers, and a change by the next step of its duty.
-//! - `Office` has what the office concluded for packages and adopted for references, and `Choices` what it chose. Beside the choices stand
-//!   the releases that hold one, by package and place, so that the first of them is found at once.
+//! - `Ledger` has the duties, found by their numbers, which go from 1, and the changes of each by
+//!   step. What is added goes on from what stands: duties by their numbers, and a change by the
+//!   next step of its duty.
+//! - `Office` has what the office concluded for packages and adopted for references, and `Choices`
+//!   what it chose. Beside the choices stand the releases that hold one, by package and place, so
+//!   that the first of them is found at once.
 #![tactic(auto)]
 
 mod choices;

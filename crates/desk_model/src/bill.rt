@@ -35,7 +35,8 @@ pub struct BillLine {
 /// A text that goes with a release.
 #[derive(Debug, Drop)]
 pub struct BillText {
-    /// The licence or the exception, as the catalogue spells it at its text, else its id; a reference as it is.
+    /// The licence or the exception, as the catalogue spells it at its text, else its id; a
+    /// reference as it is.
     pub title: Text,
     /// The text, where one is recorded.
     pub body: Option<Text>,

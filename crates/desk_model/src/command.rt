@@ -13,7 +13,8 @@ use desk_base::{Day, Items, Text};
 use std::alloc::{AllocError, AllocFailed};
 use thiserror::Error;
 
-/// A command, with texts and numbers as they came: nothing of them is checked before the desk decides.
+/// A command, with texts and numbers as they came: nothing of them is checked before the desk
+/// decides.
 #[derive(Debug, Drop)]
 pub enum Command {
     /// A catalogue is loaded as the next revision.
@@ -167,7 +168,8 @@ pub enum Query {
         /// The SPDXID of a package of it.
         package_id: Text,
     },
-    /// The set of terms that owes the fewest duties in a form, of those that a package's conclusion in force is true under.
+    /// The set of terms that owes the fewest duties in a form, of those that a package's conclusion
+    /// in force is true under.
     Cheapest {
         /// The number of a document, from 1.
         document: u64,

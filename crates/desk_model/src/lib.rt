@@ -1,7 +1,9 @@
-//! What the desk keeps, is asked and answers: the rows of its tables, its commands, queries and answers, the refusals by their
-//! numbers and names; and in `specs/` what each of them means, over the recorded history of commands.
+//! What the desk keeps, is asked and answers: the rows of its tables, its commands, queries and
+//! answers, the refusals by their numbers and names; and in `specs/` what each of them means, over
+//! the recorded history of commands.
 //!
-//! A contract sees each text and each list as its items, and each other value as the record of its fields.
+//! A contract sees each text and each list as its items, and each other value as the record of its
+//! fields.
 #![tactic(auto)]
 
 pub mod bill;

@@ -71,7 +71,8 @@ pub struct Document {
     pub references: Items<Reference>,
 }
 
-/// The licence expression that is concluded for a package, as it was written, and the profile that it is read by.
+/// The licence expression that is concluded for a package, as it was written, and the profile that
+/// it is read by.
 #[derive(Debug, Drop)]
 pub struct Conclusion {
     /// How its operators may be written.
@@ -85,7 +86,8 @@ pub struct Conclusion {
 pub enum ListFault {
     /// It has more than 128 distinct terms.
     TooManyTerms,
-    /// Some part of it, or the first few of the parts that an operator joins, has more than 64 minimal sets.
+    /// Some part of it, or the first few of the parts that an operator joins, has more than 64
+    /// minimal sets.
     TooMany,
 }
 

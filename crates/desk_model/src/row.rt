@@ -24,7 +24,8 @@ pub struct RuleRow {
     pub form: Text,
     /// The term, as the catalogue spells it.
     pub spelled: Text,
-    /// The codes of duties, sorted by their bytes, each once. The reader of texts saw that each has a duty.
+    /// The codes of duties, sorted by their bytes, each once. The reader of texts saw that each has
+    /// a duty.
     pub codes: Items<Text>,
 }
 
@@ -145,7 +146,8 @@ pub struct FrozenRow {
     pub rule: Text,
 }
 
-/// What a duty is owed for: a code of the rule for a term of a package in a release, and the rule's spelling of the term.
+/// What a duty is owed for: a code of the rule for a term of a package in a release, and the rule's
+/// spelling of the term.
 #[derive(Debug, Drop)]
 pub struct Owed {
     /// The name of a release.

@@ -50,7 +50,8 @@ impl DutyState {
     }
 }
 
-/// What a change of a duty was. It is printed as `raised`, `met`, `waived`, `reopened`, `withdrawn` or `ended`.
+/// What a change of a duty was. It is printed as `raised`, `met`, `waived`, `reopened`, `withdrawn`
+/// or `ended`.
 #[derive(Clone, Copy, Debug, PartialEq, Eq)]
 pub enum Word {
     Raised,

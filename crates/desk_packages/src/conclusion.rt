@@ -38,7 +38,8 @@ pub enum InForce<E> {
 /// The profile of a package's document.
 fn profile_of<S: Store>(store: &mut S, row: &PackageRow) -> Result<Profile, Fault>
     ensures found { IfOk result (λ profile.
-        OfRows (λ t. profile ≡ profile_in t.document row.now) (S.seen store.old) (S.seen store.new)) }
+        OfRows (λ t. profile ≡ profile_in t.document row.now) (S.seen store.old)
+        (S.seen store.new)) }
     ensures kept { Looked (S.seen store.old) (S.seen store.new) result }
     ensures fault { IfErr result (MayFail S.tells) }
 {
@@ -115,7 +116,8 @@ pub fn in_force<T: Texts, S: Store>(
     Ok(read_claim(alloc, texts, &claim)?)
 }
 
-/// The conclusion in force for a package: the office's, else its own field, where that is an expression.
+/// The conclusion in force for a package: the office's, else its own field, where that is an
+/// expression.
 pub fn conclusion_of<T: Texts, S: Store>(
     alloc: Global,
     texts: &T,

@@ -40,7 +40,8 @@ pub fn unadopted<T: Texts, S: Store>(
 
 /// The refusal of a term of a package that has no rule.
 pub fn no_rule(row: &PackageRow, term: &Text) -> Result<Refusal, AllocError>
-    ensures { IfOk result (λ refusal. refusal ≡ Refusal.NoRule row.now.document row.now.id term.now) }
+    ensures { IfOk result (λ refusal. refusal
+        ≡ Refusal.NoRule row.now.document row.now.id term.now) }
 {
     Ok(Refusal::NoRule {
         document: row.document,

@@ -14,7 +14,8 @@ use desk_base::Text;
 use desk_model::{Fault, Rule};
 use std::alloc::Global;
 
-/// The form in which a term of a document is looked up: a reference as the licence that it is adopted as, if it is.
+/// The form in which a term of a document is looked up: a reference as the licence that it is
+/// adopted as, if it is.
 fn adopted<T: Texts, S: Store>(
     alloc: Global,
     texts: &T,

@@ -55,7 +55,8 @@ pub(crate) fn add_duties(
     text: &mut String,
     duties: &[DutyLine],
 ) -> Result<(), AllocError>
-    ensures { OnOk result (string_bytes text.new ≡ string_bytes text.old ++ flat_map duty_row duties.now) }
+    ensures { OnOk result (string_bytes text.new
+        ≡ string_bytes text.old ++ flat_map duty_row duties.now) }
 {
     for duty in duties {
         add_duty(alloc, text, duty)?;
@@ -71,7 +72,8 @@ fn add_ending(
     day: &Day,
     reason: &str,
 ) -> Result<(), AllocError>
-    ensures { OnOk result (string_bytes text.new ≡ string_bytes text.old ++ ending_row duty.now day.now reason.now) }
+    ensures { OnOk result (string_bytes text.new
+        ≡ string_bytes text.old ++ ending_row duty.now day.now reason.now) }
 {
     add_link(alloc, text, duty.number)?;
     add_text(text, duty.rule.as_str())?;
@@ -86,7 +88,8 @@ fn add_waiver(
     duty: &DutyLine,
     change: &ChangeRow,
 ) -> Result<(), AllocError>
-    ensures { OnOk result (string_bytes text.new ≡ string_bytes text.old ++ waiver_row duty.now change.now) }
+    ensures { OnOk result (string_bytes text.new
+        ≡ string_bytes text.old ++ waiver_row duty.now change.now) }
 {
     match &change.last_day {
         Some(day) => add_ending(alloc, text, duty, day, change.body.as_str()),
@@ -102,7 +105,8 @@ fn add_last_waiver(
     duty: &DutyLine,
     changes: &[ChangeRow],
 ) -> Result<(), AllocError>
-    ensures { OnOk result (string_bytes text.new ≡ string_bytes text.old ++ last_waiver duty.now changes.now) }
+    ensures { OnOk result (string_bytes text.new
+        ≡ string_bytes text.old ++ last_waiver duty.now changes.now) }
 {
     match changes.last() {
         Some(change) => add_waiver(alloc, text, duty, change),
@@ -110,14 +114,16 @@ fn add_last_waiver(
     }
 }
 
-/// Adds a row for each duty whose last change is a waiver that ends. The changes of each duty are given in its place.
+/// Adds a row for each duty whose last change is a waiver that ends. The changes of each duty are
+/// given in its place.
 pub(crate) fn add_waivers(
     alloc: Global,
     text: &mut String,
     duties: &[DutyLine],
     changes: &[Items<ChangeRow>],
 ) -> Result<(), AllocError>
-    ensures { OnOk result (string_bytes text.new ≡ string_bytes text.old ++ waiver_rows duties.now changes.now) }
+    ensures { OnOk result (string_bytes text.new
+        ≡ string_bytes text.old ++ waiver_rows duties.now changes.now) }
 {
     let mut rest = duties;
     for steps in changes {
@@ -148,7 +154,8 @@ fn add_duty_changes(
     text: &mut String,
     changes: &[ChangeRow],
 ) -> Result<(), AllocError>
-    ensures { OnOk result (string_bytes text.new ≡ string_bytes text.old ++ flat_map change_row changes.now) }
+    ensures { OnOk result (string_bytes text.new
+        ≡ string_bytes text.old ++ flat_map change_row changes.now) }
 {
     for change in changes {
         add_change(alloc, text, change)?;
@@ -162,7 +169,8 @@ pub(crate) fn add_changes(
     text: &mut String,
     changes: &[Items<ChangeRow>],
 ) -> Result<(), AllocError>
-    ensures { OnOk result (string_bytes text.new ≡ string_bytes text.old ++ flat_map (flat_map change_row) changes.now) }
+    ensures { OnOk result (string_bytes text.new
+        ≡ string_bytes text.old ++ flat_map (flat_map change_row) changes.now) }
 {
     for steps in changes {
         add_duty_changes(alloc, text, steps.as_slice())?;

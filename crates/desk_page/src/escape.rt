@@ -44,7 +44,8 @@ pub(crate) fn add_escaped(text: &mut String, value: &str) -> Result<(), AllocErr
     Ok(())
 }
 
-/// An escaped text holds no markup: none of `<`, `>`, `"` and `'`, and each `&` begins one of the five references.
+/// An escaped text holds no markup: none of `<`, `>`, `"` and `'`, and each `&` begins one of the
+/// five references.
 pub fn escaped_texts_are_inert()
     ensures { (text : List ℕ) → IsInert (escaped text) }
 {}

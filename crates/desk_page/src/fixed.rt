@@ -24,7 +24,8 @@ pub(crate) fn page_start() -> &'static str
      initial-scale=1\">\n<title>Release "
 }
 
-/// How a page looks on a screen, light or dark, and on paper: from the title to the page's own text.
+/// How a page looks on a screen, light or dark, and on paper: from the title to the page's own
+/// text.
 #[tactic(auto, unfolding(crate::specs::Fixed::style))]
 pub(crate) fn style() -> &'static str
     ensures { result.now ≡ style }

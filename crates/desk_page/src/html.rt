@@ -29,7 +29,8 @@ fn add_heading(text: &mut String, bill: &Bill) -> Result<(), AllocError>
 
 // Adds rows below the names of their columns, or a word that there are none.
 fn add_listing(text: &mut String, names: &str, rows: &str) -> Result<(), AllocError>
-    ensures { OnOk result (string_bytes text.new ≡ string_bytes text.old ++ listing names.now rows.now) }
+    ensures { OnOk result (string_bytes text.new
+        ≡ string_bytes text.old ++ listing names.now rows.now) }
 {
     match rows.as_bytes() {
         [] => text.push_str("<p>None.</p>\n"),
@@ -43,7 +44,8 @@ fn add_listing(text: &mut String, names: &str, rows: &str) -> Result<(), AllocEr
 
 #[tactic(auto, unfolding(crate::specs::Page::section))]
 fn add_section(text: &mut String, table: Table, rows: &str) -> Result<(), AllocError>
-    ensures { OnOk result (string_bytes text.new ≡ string_bytes text.old ++ section table rows.now) }
+    ensures { OnOk result (string_bytes text.new
+        ≡ string_bytes text.old ++ section table rows.now) }
 {
     text.push_str(opening(table))?;
     add_listing(text, columns(table), rows)?;
@@ -51,7 +53,8 @@ fn add_section(text: &mut String, table: Table, rows: &str) -> Result<(), AllocE
 }
 
 fn add_total_section(alloc: Global, text: &mut String, totals: &Totals) -> Result<(), AllocError>
-    ensures { OnOk result (string_bytes text.new ≡ string_bytes text.old ++ section Table.Totals (totals_rows totals.now)) }
+    ensures { OnOk result (string_bytes text.new
+        ≡ string_bytes text.old ++ section Table.Totals (totals_rows totals.now)) }
 {
     let mut rows = String::new(alloc);
     add_totals(alloc, &mut rows, totals)?;
@@ -94,7 +97,8 @@ fn add_overview(
     totals: &Totals,
     duties: &[DutyLine],
 ) -> Result<(), AllocError>
-    ensures { OnOk result (string_bytes text.new ≡ string_bytes text.old ++ overview bill.now totals.now duties.now) }
+    ensures { OnOk result (string_bytes text.new
+        ≡ string_bytes text.old ++ overview bill.now totals.now duties.now) }
 {
     add_total_section(alloc, text, totals)?;
     add_package_section(alloc, text, bill.lines.as_slice())?;
@@ -145,7 +149,8 @@ fn add_details(
     duties: &[DutyLine],
     changes: &[Items<ChangeRow>],
 ) -> Result<(), AllocError>
-    ensures { OnOk result (string_bytes text.new ≡ string_bytes text.old ++ details duties.now changes.now) }
+    ensures { OnOk result (string_bytes text.new
+        ≡ string_bytes text.old ++ details duties.now changes.now) }
 {
     add_duty_section(alloc, text, duties)?;
     add_waiver_section(alloc, text, duties, changes)?;
@@ -171,7 +176,8 @@ fn add_notice(text: &mut String, given: &BillText) -> Result<(), AllocError>
 }
 
 fn add_texts(text: &mut String, texts: &[BillText]) -> Result<(), AllocError>
-    ensures { OnOk result (string_bytes text.new ≡ string_bytes text.old ++ flat_map notice texts.now) }
+    ensures { OnOk result (string_bytes text.new
+        ≡ string_bytes text.old ++ flat_map notice texts.now) }
 {
     for given in texts {
         add_notice(text, given)?;
@@ -189,9 +195,10 @@ fn add_notices(text: &mut String, texts: &[BillText]) -> Result<(), AllocError>
     text.push_str(page_end())
 }
 
-/// The page of a frozen release, as HTML in UTF-8: its name and form; how many duties are in which state; its packages with their
-/// version, licences and copyright; the duties of each licence, and one by one; the waivers that end; the changes; and the notices.
-/// `changes` has the changes of each duty, by step, in the place of the duty in `duties`.
+/// The page of a frozen release, as HTML in UTF-8: its name and form; how many duties are in which
+/// state; its packages with their version, licences and copyright; the duties of each licence, and
+/// one by one; the waivers that end; the changes; and the notices. `changes` has the changes of
+/// each duty, by step, in the place of the duty in `duties`.
 #[tactic(auto, unfolding(crate::specs::Page::page_text))]
 pub fn page(
     alloc: Global,
@@ -200,7 +207,8 @@ pub fn page(
     duties: &[DutyLine],
     changes: &[Items<ChangeRow>],
 ) -> Result<String, AllocError>
-    ensures { IfOk result (λ text. string_bytes text ≡ page_text bill.now totals.now duties.now changes.now) }
+    ensures { IfOk result (λ text. string_bytes text
+        ≡ page_text bill.now totals.now duties.now changes.now) }
 {
     let mut text = String::new(alloc);
     add_heading(&mut text, bill)?;

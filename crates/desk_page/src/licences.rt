@@ -19,7 +19,8 @@ fn add_total(
     count: u64,
     raised: u64,
 ) -> Result<(), AllocError>
-    ensures { OnOk result (string_bytes text.new ≡ string_bytes text.old ++ total_row name.now count raised) }
+    ensures { OnOk result (string_bytes text.new
+        ≡ string_bytes text.old ++ total_row name.now count raised) }
 {
     add_name(text, name)?;
     add_count(alloc, text, count)?;
@@ -33,7 +34,8 @@ pub(crate) fn add_totals(
     text: &mut String,
     totals: &Totals,
 ) -> Result<(), AllocError>
-    ensures { OnOk result (string_bytes text.new ≡ string_bytes text.old ++ totals_rows totals.now) }
+    ensures { OnOk result (string_bytes text.new
+        ≡ string_bytes text.old ++ totals_rows totals.now) }
 {
     add_total(alloc, text, "Raised", totals.raised, totals.raised)?;
     add_total(alloc, text, "Open", totals.still_open, totals.raised)?;
@@ -98,7 +100,8 @@ fn add_licence(
     duties: &[DutyLine],
     licence: &str,
 ) -> Result<(), AllocError>
-    ensures { OnOk result (string_bytes text.new ≡ string_bytes text.old ++ licence_row duties.now licence.now) }
+    ensures { OnOk result (string_bytes text.new
+        ≡ string_bytes text.old ++ licence_row duties.now licence.now) }
 {
     let raised = raised_for(licence, duties);
     let still_open = standing(licence, "open", duties);
@@ -118,7 +121,8 @@ pub(crate) fn add_licences(
     duties: &[DutyLine],
     licences: &[Text],
 ) -> Result<(), AllocError>
-    ensures { OnOk result (string_bytes text.new ≡ string_bytes text.old ++ flat_map (licence_row duties.now) licences.now) }
+    ensures { OnOk result (string_bytes text.new
+        ≡ string_bytes text.old ++ flat_map (licence_row duties.now) licences.now) }
 {
     for licence in licences {
         add_licence(alloc, text, duties, licence.as_str())?;

@@ -28,7 +28,8 @@ fn add_rule(text: &mut String, rule: &Text) -> Result<(), AllocError>
 }
 
 fn add_rule_lines(text: &mut String, rules: &[Text]) -> Result<(), AllocError>
-    ensures { OnOk result (string_bytes text.new ≡ string_bytes text.old ++ flat_map rule_line rules.now) }
+    ensures { OnOk result (string_bytes text.new
+        ≡ string_bytes text.old ++ flat_map rule_line rules.now) }
 {
     for rule in rules {
         add_rule(text, rule)?;
@@ -57,7 +58,8 @@ fn add_package(text: &mut String, line: &BillLine) -> Result<(), AllocError>
 
 /// Adds a row for each package.
 pub(crate) fn add_packages(text: &mut String, lines: &[BillLine]) -> Result<(), AllocError>
-    ensures { OnOk result (string_bytes text.new ≡ string_bytes text.old ++ flat_map package_row lines.now) }
+    ensures { OnOk result (string_bytes text.new
+        ≡ string_bytes text.old ++ flat_map package_row lines.now) }
 {
     for line in lines {
         add_package(text, line)?;

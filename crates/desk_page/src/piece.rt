@@ -16,7 +16,8 @@ pub(crate) fn add_framed(
     value: &str,
     after: &str,
 ) -> Result<(), AllocError>
-    ensures { OnOk result (string_bytes text.new ≡ string_bytes text.old ++ framed before.now value.now after.now) }
+    ensures { OnOk result (string_bytes text.new
+        ≡ string_bytes text.old ++ framed before.now value.now after.now) }
 {
     text.push_str(before)?;
     add_escaped(text, value)?;
@@ -25,7 +26,8 @@ pub(crate) fn add_framed(
 
 // Adds a number behind a fixed text.
 fn add_number(alloc: Global, text: &mut String, before: &str, number: u64) -> Result<(), AllocError>
-    ensures { OnOk result (string_bytes text.new ≡ string_bytes text.old ++ before.now ++ decimal number) }
+    ensures { OnOk result (string_bytes text.new
+        ≡ string_bytes text.old ++ before.now ++ decimal number) }
 {
     let number = format!(in alloc; "{number}")?;
     text.push_str(before)?;

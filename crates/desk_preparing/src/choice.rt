@@ -153,7 +153,8 @@ fn choice_rows(
     package_id: &Text,
     terms: Vec<Text>,
 ) -> Result<Items<ChoiceRow>, AllocError>
-    ensures { IfOk result (λ rows. rows ≡ map (choice_row release.now document package_id.now) terms.items) }
+    ensures { IfOk result (λ rows. rows
+        ≡ map (choice_row release.now document package_id.now) terms.items) }
 {
     let mut rows = Items::new(alloc);
     for term in terms {
@@ -202,7 +203,8 @@ enum Found {
     Nowhere(Refusal),
 }
 
-/// Whether terms may be chosen at a place, by the state of the release and whether the document is attached.
+/// Whether terms may be chosen at a place, by the state of the release and whether the document is
+/// attached.
 fn open_place(state: ReleaseState, is_attached: bool, place: Place) -> Found
     ensures { IsOpenPlace state is_attached place result }
 {
@@ -310,7 +312,8 @@ pub fn choose<T: Texts, S: Store>(
         (S.seen store.old) (S.seen store.new)) }
     ensures kept { Plans (S.seen store.old) (S.seen store.new) result }
     ensures alone { (w : Readings) → T.are_right w
-        → SparesStore (refused_alone w (Choose release.now document package_id.now words.now)) result }
+        → SparesStore (refused_alone w (Choose release.now document package_id.now words.now))
+        result }
     ensures fault { IfErr result (MayFail S.tells) }
 {
     match read_terms(alloc, texts, words.as_slice())? {
@@ -328,7 +331,8 @@ fn dropped(
     document: u32,
     package_id: &Text,
 ) -> Result<Change, AllocError>
-    ensures { IfOk result (λ change. change ≡ chosen_change release.now document package_id.now []) }
+    ensures { IfOk result (λ change. change
+        ≡ chosen_change release.now document package_id.now []) }
 {
     Ok(Change::Chosen {
         release: release.clone()?,

@@ -20,7 +20,8 @@ use std::alloc::{AllocError, Global};
 
 fn concluded(document: u32, package_id: &Text, expression: &Text) -> Result<Plan, AllocError>
     ensures { IfOk result (λ plan. plan
-        ≡ Plan.Make Done (Change.Concluded (conclusion_row document package_id.now expression.now))) }
+        ≡ Plan.Make Done (Change.Concluded
+        (conclusion_row document package_id.now expression.now))) }
 {
     Ok(done(Change::Concluded(ConclusionRow {
         document,
@@ -91,7 +92,8 @@ fn read_reference<T: Texts>(
     texts: &T,
     text: &Text,
 ) -> Result<Option<Text>, AllocError>
-    ensures { (w : Readings) → T.are_right w → IfOk result (λ found. found ≡ reference_alone w text.now) }
+    ensures { (w : Readings) → T.are_right w
+        → IfOk result (λ found. found ≡ reference_alone w text.now) }
 {
     let Some(term) = texts.term(alloc, text.as_str())? else {
         return Ok(None);
@@ -104,7 +106,8 @@ fn read_reference<T: Texts>(
 
 /// The licence alone that a text spells.
 fn read_licence<T: Texts>(alloc: Global, texts: &T, text: &Text) -> Result<Option<Text>, AllocError>
-    ensures { (w : Readings) → T.are_right w → IfOk result (λ found. found ≡ licence_alone w text.now) }
+    ensures { (w : Readings) → T.are_right w
+        → IfOk result (λ found. found ≡ licence_alone w text.now) }
 {
     match texts.term(alloc, text.as_str())? {
         Some(term) if texts.is_licence(term.as_str()) => Ok(Some(term)),
@@ -118,7 +121,8 @@ fn read_adoption<T: Texts>(
     reference: &Text,
     licence: &Text,
 ) -> Result<AdoptionRead, AllocError>
-    ensures { (w : Readings) → T.are_right w → IfOk result (AreAdopted w reference.now licence.now) }
+    ensures { (w : Readings) → T.are_right w
+        → IfOk result (AreAdopted w reference.now licence.now) }
 {
     let Some(reference) = read_reference(alloc, texts, reference)? else {
         return Ok(AdoptionRead::BadTerm(0));

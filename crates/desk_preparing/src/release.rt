@@ -30,7 +30,8 @@ pub fn open_release<S: Store>(store: &mut S, release: &Text, form: &Text) -> Res
         OfRows (IsPlanOf w (OpenRelease release.now form.now) plan)
         (S.seen store.old) (S.seen store.new)) }
     ensures kept { Plans (S.seen store.old) (S.seen store.new) result }
-    ensures alone { (w : Readings) → SparesStore (refused_alone w (OpenRelease release.now form.now)) result }
+    ensures alone { (w : Readings)
+        → SparesStore (refused_alone w (OpenRelease release.now form.now)) result }
     ensures fault { IfErr result (MayFail S.tells) }
 {
     if !is_release_name(release.as_str()) {
@@ -58,9 +59,11 @@ pub fn open_release<S: Store>(store: &mut S, release: &Text, form: &Text) -> Res
 /// Attaches a document to a release.
 pub fn attach<S: Store>(store: &mut S, release: &Text, document: u64) -> Result<Plan, Fault>
     ensures plan { (w : Readings) → IfOk result (λ plan.
-        OfRows (IsPlanOf w (Attach release.now document) plan) (S.seen store.old) (S.seen store.new)) }
+        OfRows (IsPlanOf w (Attach release.now document) plan) (S.seen store.old)
+        (S.seen store.new)) }
     ensures kept { Plans (S.seen store.old) (S.seen store.new) result }
-    ensures alone { (w : Readings) → SparesStore (refused_alone w (Attach release.now document)) result }
+    ensures alone { (w : Readings)
+        → SparesStore (refused_alone w (Attach release.now document)) result }
     ensures fault { IfErr result (MayFail S.tells) }
 {
     let Some(row) = store.release(release.as_str())? else {

@@ -123,14 +123,16 @@ fn adopted<S: Alter + Drop>(
     }
 }
 
-// Says that a file keeps a new desk, where standard error is watched: a name may have been mistyped.
+// Says that a file keeps a new desk, where standard error is watched: a name may have been
+// mistyped.
 fn tell_new(rt: &HostRuntime, path: &str) {
     if rt.stderr().is_terminal() {
         let _told = eprintln!(rt; "{path:?} is a new desk");
     }
 }
 
-// The desk behind a connection to a file, or why it keeps none. Where there is no table `meta`, an empty desk is created.
+// The desk behind a connection to a file, or why it keeps none. Where there is no table `meta`, an
+// empty desk is created.
 fn desk_of<S: Alter + Drop>(
     rt: &HostRuntime,
     conn: Connection<S>,
@@ -223,7 +225,8 @@ fn do_over<D: Disk + Drop, W: Write>(
     Ok(status)
 }
 
-// The connection to a file whose tables are to be audited. Where there is no table `meta`, an empty desk is created.
+// The connection to a file whose tables are to be audited. Where there is no table `meta`, an empty
+// desk is created.
 fn tables_of<S: Alter + Drop>(
     alloc: Global,
     conn: Connection<S>,
@@ -314,8 +317,9 @@ fn work_over<D: Disk + Drop, W: Write>(
     }
 }
 
-// Does what is to be done with a file. Of the disk it is supposed that a sector whose write has begun is finished, so each commit is synced
-// once. No other function names the connection to a file: each that does costs the gate a minute.
+// Does what is to be done with a file. Of the disk it is supposed that a sector whose write has
+// begun is finished, so each commit is synced once. No other function names the connection to a
+// file: each that does costs the gate a minute.
 fn work_in(rt: &HostRuntime, path: &str, work: Work<'_>) -> Result<u8, Failure> {
     let mut writer = BufWriter::new(rt.alloc(), io::writer(rt))?;
     match Connection::open_from(rt, path, false, Unknown) {

@@ -1,5 +1,5 @@
-//! What is looked at in the desk of a file: lists of what it holds, what stands in the way of a freeze, what is proposed for a document,
-//! and choices that leave nothing to choose.
+//! What is looked at in the desk of a file: lists of what it holds, what stands in the way of a
+//! freeze, what is proposed for a document, and choices that leave nothing to choose.
 
 use desk_base::Text;
 use desk_line::Listed;
@@ -93,7 +93,8 @@ pub fn choices<S: Alter, W: Write, E: Write>(
     }
 }
 
-// Writes the choices of these releases that leave nothing to choose and are for packages of a document.
+// Writes the choices of these releases that leave nothing to choose and are for packages of a
+// document.
 fn choices_for<S: Alter, W: Write, E: Write>(
     alloc: Global,
     desk: &mut SqlDesk<S>,
@@ -114,8 +115,8 @@ fn choices_for<S: Alter, W: Write, E: Write>(
     Ok(0)
 }
 
-/// Writes what is proposed for a document that a desk holds: conclusions, and then, of each open release to which it is attached, the
-/// choices for its packages that leave nothing to choose.
+/// Writes what is proposed for a document that a desk holds: conclusions, and then, of each open
+/// release to which it is attached, the choices for its packages that leave nothing to choose.
 pub fn proposals<S: Alter, W: Write, E: Write>(
     rt: &HostRuntime,
     desk: &mut SqlDesk<S>,
@@ -156,7 +157,8 @@ fn tell_idle(rt: &HostRuntime, numbers: &[u32]) {
     }
 }
 
-/// Writes all that stands in the way of a freeze of a release, and tells on standard error which of its documents ship no package.
+/// Writes all that stands in the way of a freeze of a release, and tells on standard error which of
+/// its documents ship no package.
 pub fn wanting<S: Alter, W: Write, E: Write>(
     rt: &HostRuntime,
     desk: &mut SqlDesk<S>,

@@ -1,8 +1,8 @@
 //! The licence obligation desk as a program.
 //!
-//! `line` of `desk_line` reads the words, a function of `desk_subcommands` does what they ask for, and what
-//! it answers is the program's status: 0 done, 1 refused. Words that are no command line give 2, and
-//! want of memory or a failing file or stream gives 3.
+//! `line` of `desk_line` reads the words, a function of `desk_subcommands` does what they ask for,
+//! and what it answers is the program's status: 0 done, 1 refused. Words that are no command line
+//! give 2, and want of memory or a failing file or stream gives 3.
 #![tactic(auto)]
 
 mod database;
@@ -34,7 +34,8 @@ const USAGE: u8 = 2;
 /// The bytes of a block larger than any that one request takes.
 const LARGE_BYTES: usize = 16_777_216;
 
-/// Does what the words ask for, and answers the status. What takes long is told on standard error where that is watched.
+/// Does what the words ask for, and answers the status. What takes long is told on standard error
+/// where that is watched.
 fn run(rt: &HostRuntime, is_watched: bool) -> Result<u8, Failure> {
     let alloc = rt.alloc();
     let owned = match env::args(rt) {
@@ -63,9 +64,10 @@ fn untold(rt: &impl Eprint, error: io::Error) -> Result<u8, Failure> {
     }
 }
 
-/// Has the memory of large blocks kept for the next ones. The C library gives the pages of a freed block back to the system, and to
-/// take new ones costs more than to fill them; but a block below the largest that was freed so far leaves its pages where they are.
-/// So the first turn is for the size, and the second leaves its room where blocks can grow in place.
+/// Has the memory of large blocks kept for the next ones. The C library gives the pages of a freed
+/// block back to the system, and to take new ones costs more than to fill them; but a block below
+/// the largest that was freed so far leaves its pages where they are. So the first turn is for the
+/// size, and the second leaves its room where blocks can grow in place.
 fn keep_large_blocks(alloc: Global) {
     for _ in 0..2 {
         let block: Result<Vec<u8>, AllocError> = Vec::with_capacity(alloc, LARGE_BYTES);
@@ -113,7 +115,8 @@ fn script(
     }
 }
 
-/// Says which licences the document of a source tree can't hold. They are looked for in the tree as it is by now.
+/// Says which licences the document of a source tree can't hold. They are looked for in the tree as
+/// it is by now.
 fn tell_blanks_in(rt: &HostRuntime, folder: &str) -> Result<(), Failure> {
     let files = files_of(rt, folder, false)?;
     tell_blanks(rt.alloc(), files.as_slice(), &mut rt.stderr())

@@ -1,5 +1,5 @@
-//! The desk over HTTP on 127.0.0.1: connections are served one after the other, and a peer that is slow doesn't keep the next one waiting
-//! for ever.
+//! The desk over HTTP on 127.0.0.1: connections are served one after the other, and a peer that is
+//! slow doesn't keep the next one waiting for ever.
 
 use desk_core::Desk;
 use desk_http::{RouteTable, ServeFault, serve_with};

@@ -52,12 +52,14 @@ fn absent(rt: &HostRuntime, path: &str) -> Trouble {
     }
 }
 
-// Whether no folder stands at a path. The path of no words is that of the folder where the program runs.
+// Whether no folder stands at a path. The path of no words is that of the folder where the program
+// runs.
 fn is_missing(rt: &HostRuntime, folder: Path) -> bool {
     !folder.to_string_lossy().is_empty() && fs::metadata(rt, folder).is_err()
 }
 
-/// Why the database of the file at a path can't be used, by the error that its database told and by what stands there.
+/// Why the database of the file at a path can't be used, by the error that its database told and by
+/// what stands there.
 pub fn trouble_at(rt: &HostRuntime, path: &str, error: Error) -> Trouble {
     match trouble_of(error) {
         Trouble::CannotOpen => match fs::metadata(rt, path) {

@@ -29,7 +29,8 @@ fn packages_of<S: Store>(
     release: &Text,
 ) -> Result<Vec<PackageRow>, Fault>
     ensures found { IfOk result (λ packages.
-        OfRows (λ t. packages.items ≡ shipped_found t release.now) (S.seen store.old) (S.seen store.new)) }
+        OfRows (λ t. packages.items ≡ shipped_found t release.now) (S.seen store.old)
+        (S.seen store.new)) }
     ensures kept { Looked (S.seen store.old) (S.seen store.new) result }
     ensures fault { IfErr result (MayFail S.tells) }
 {
@@ -101,7 +102,8 @@ fn bill_of<T: Texts, S: Store>(
     row: ReleaseRow,
 ) -> Result<Bill, Fault>
     ensures found { (w : Readings) → T.are_right w → IfOk result (λ bill.
-        OfRows (λ t. bill ≡ bill_of w t.catalogue t.extracted t.frozen (shipped_found t row.name) row)
+        OfRows (λ t. bill ≡ bill_of w t.catalogue t.extracted t.frozen (shipped_found t row.name)
+        row)
         (S.seen store.old) (S.seen store.new)) }
     ensures kept { Looked (S.seen store.old) (S.seen store.new) result }
     ensures fault { IfErr result (MayFail S.tells) }

@@ -57,7 +57,8 @@ fn package_of<S: Store>(
     package_id: &Text,
 ) -> Result<Result<PackageRow, Refusal>, Fault>
     ensures found { IfOk result (λ found.
-        OfRows (λ t. IsFound t document package_id.now found) (S.seen store.old) (S.seen store.new)) }
+        OfRows (λ t. IsFound t document package_id.now found) (S.seen store.old)
+        (S.seen store.new)) }
     ensures kept { Looked (S.seen store.old) (S.seen store.new) result }
     ensures fault { IfErr result (MayFail S.tells) }
 {
@@ -70,7 +71,8 @@ fn package_of<S: Store>(
     }
 }
 
-/// The minimal sets of terms that the conclusion in force for a package is true under, if it has one.
+/// The minimal sets of terms that the conclusion in force for a package is true under, if it has
+/// one.
 fn listed_for<T: Texts, S: Store>(
     alloc: Global,
     texts: &T,
@@ -89,7 +91,8 @@ fn listed_for<T: Texts, S: Store>(
     }
 }
 
-/// The minimal sets of terms that the conclusion in force for a package is true under, in the order of sets.
+/// The minimal sets of terms that the conclusion in force for a package is true under, in the order
+/// of sets.
 pub fn alternatives<T: Texts, S: Store>(
     alloc: Global,
     texts: &T,
@@ -147,7 +150,8 @@ fn term_costs<T: Texts, S: Store>(
     terms: &[Text],
 ) -> Result<Vec<Option<u64>>, Fault>
     ensures found { (w : Readings) → T.are_right w → IfOk result (λ costs.
-        OfRows (λ t. costs.items ≡ map (term_cost w t.adoption (rules_found t) form.now document) terms.now)
+        OfRows (λ t. costs.items
+        ≡ map (term_cost w t.adoption (rules_found t) form.now document) terms.now)
         (S.seen store.old) (S.seen store.new)) }
     ensures kept { Looked (S.seen store.old) (S.seen store.new) result }
     ensures fault { IfErr result (MayFail S.tells) }
@@ -160,7 +164,8 @@ fn term_costs<T: Texts, S: Store>(
     Ok(costs)
 }
 
-/// The cheapest set of terms that an expression is true under, by what its terms of a document cost in a form.
+/// The cheapest set of terms that an expression is true under, by what its terms of a document cost
+/// in a form.
 fn priced<T: Texts, S: Store>(
     alloc: Global,
     texts: &T,
@@ -185,7 +190,8 @@ fn priced<T: Texts, S: Store>(
     }
 }
 
-/// The cheapest set of terms that the conclusion in force for a package is true under, if it has one.
+/// The cheapest set of terms that the conclusion in force for a package is true under, if it has
+/// one.
 fn priced_by<T: Texts, S: Store>(
     alloc: Global,
     texts: &T,
@@ -207,8 +213,8 @@ fn priced_by<T: Texts, S: Store>(
     }
 }
 
-/// The cheapest set of terms that the conclusion in force for a package is true under, if the catalogue in force has the form and the
-/// package a conclusion.
+/// The cheapest set of terms that the conclusion in force for a package is true under, if the
+/// catalogue in force has the form and the package a conclusion.
 fn priced_for<T: Texts, S: Store>(
     alloc: Global,
     texts: &T,
@@ -217,7 +223,8 @@ fn priced_for<T: Texts, S: Store>(
     row: PackageRow,
 ) -> Result<Answer, Fault>
     ensures answer { (w : Readings) → T.are_right w → IfOk result (λ answer.
-        OfRows (λ t. answer ≡ priced_found w t form.now row) (S.seen store.old) (S.seen store.new)) }
+        OfRows (λ t. answer ≡ priced_found w t form.now row) (S.seen store.old)
+        (S.seen store.new)) }
     ensures kept { Looked (S.seen store.old) (S.seen store.new) result }
     ensures fault { IfErr result (MayFail S.tells) }
 {
@@ -227,7 +234,8 @@ fn priced_for<T: Texts, S: Store>(
     priced_by(alloc, texts, store, form, row)
 }
 
-/// The set of terms that owes the fewest duties in a form, of those that the conclusion in force for a package is true under.
+/// The set of terms that owes the fewest duties in a form, of those that the conclusion in force
+/// for a package is true under.
 pub fn cheapest<T: Texts, S: Store>(
     alloc: Global,
     texts: &T,

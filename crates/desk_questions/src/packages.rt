@@ -73,7 +73,8 @@ fn package_lines<T: Texts, S: Store>(
     Ok(lines)
 }
 
-/// A release, and its packages by document and id, each with its conclusion in force and what is chosen for it.
+/// A release, and its packages by document and id, each with its conclusion in force and what is
+/// chosen for it.
 pub fn release<T: Texts, S: Store>(
     alloc: Global,
     texts: &T,

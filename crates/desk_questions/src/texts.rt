@@ -1,4 +1,5 @@
-//! The texts that go with a frozen release: those that its terms name, in the order of first use, each once.
+//! The texts that go with a frozen release: those that its terms name, in the order of first use,
+//! each once.
 
 ghost use Rattle.std.specs.Prelude.{◌≡◌, ◌++◌, ℕ, List, Option, IfOk, IfErr, OnOk, map};
 ghost use Rattle.std.specs.List.{flat_map};
@@ -29,7 +30,8 @@ fn main_text<T: Texts>(
     document: u32,
     term: &Text,
 ) -> Result<TextOf, AllocError>
-    ensures { (w : Readings) → T.are_right w → IfOk result (λ text. text ≡ main_text w document term.now) }
+    ensures { (w : Readings) → T.are_right w
+        → IfOk result (λ text. text ≡ main_text w document term.now) }
 {
     match texts.reference(alloc, term.as_str())? {
         Some(reference) => Ok(TextOf::Reference {
@@ -50,7 +52,8 @@ fn add_texts<T: Texts>(
     named: &mut Vec<TextOf>,
 ) -> Result<(), AllocError>
     ensures { (w : Readings) → T.are_right w
-        → OnOk result (named.new.items ≡ named.old.items ++ texts_named w row.now.document row.now.term) }
+        → OnOk result (named.new.items
+        ≡ named.old.items ++ texts_named w row.now.document row.now.term) }
 {
     let main = main_text(alloc, texts, row.document, &row.term)?;
     named.push(main)?;
@@ -76,7 +79,8 @@ pub(crate) fn add_terms<T: Texts>(
     Ok(())
 }
 
-/// What a text is known by: its name, and 0 for an id, or for a reference one more than the number of its document.
+/// What a text is known by: its name, and 0 for an id, or for a reference one more than the number
+/// of its document.
 #[derive(Drop, PartialEq, Eq)]
 pub(crate) struct TextKey {
     document: u64,
@@ -100,9 +104,11 @@ impl Ord for TextKey {
 }
 
 impl PartialOrd for TextKey {
-    ghost partial_cmp = { as_partial_cmp (then_cmp (on (λ k. k.document) nat_cmp) (on (λ k. k.name) (slice_cmp nat_cmp))) };
+    ghost partial_cmp = { as_partial_cmp
+        (then_cmp (on (λ k. k.document) nat_cmp) (on (λ k. k.name) (slice_cmp nat_cmp))) };
 
-    ghost laws = { partial_order_from_own_ties (Prim.search (comparing, rules)) (Prim.search (comparing, rules)) };
+    ghost laws = { partial_order_from_own_ties (Prim.search (comparing, rules))
+        (Prim.search (comparing, rules)) };
 
     fn partial_cmp(&self, other: &TextKey) -> Option<Ordering> {
         Some(self.cmp(other))
@@ -202,7 +208,8 @@ fn bill_text<T: Texts, S: Store>(
 ) -> Result<BillText, Fault>
     ensures found { (w : Readings) → T.are_right w → (catalogue : Option (List ℕ))
         → AreIn T.are_in w catalogue licences.now → IfOk result (λ found.
-        OfRows (λ t. found ≡ bill_text w catalogue t.extracted text) (S.seen store.old) (S.seen store.new)) }
+        OfRows (λ t. found ≡ bill_text w catalogue t.extracted text) (S.seen store.old)
+        (S.seen store.new)) }
     ensures kept { Looked (S.seen store.old) (S.seen store.new) result }
     ensures fault { IfErr result (MayFail S.tells) }
 {
@@ -256,7 +263,8 @@ pub(crate) fn bill_texts_of<T: Texts, S: Store>(
     uses: Vec<TextOf>,
 ) -> Result<Items<BillText>, Fault>
     ensures found { (w : Readings) → T.are_right w → IfOk result (λ found.
-        OfRows (λ t. found ≡ map (bill_text w (revision_text t.catalogue revision) t.extracted) uses.items)
+        OfRows (λ t. found ≡ map (bill_text w (revision_text t.catalogue revision) t.extracted)
+        uses.items)
         (S.seen store.old) (S.seen store.new)) }
     ensures kept { Looked (S.seen store.old) (S.seen store.new) result }
     ensures fault { IfErr result (MayFail S.tells) }

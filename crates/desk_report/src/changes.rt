@@ -62,8 +62,8 @@ fn add_change(alloc: Global, text: &mut Vec<u8>, change: &ChangeRow) -> Result<(
     Ok(())
 }
 
-/// A line for each change, ended by LF: its step, its day and its word, `until` and the last day of a waiver that ends, and the
-/// change's text where it is not empty, one blank apart.
+/// A line for each change, ended by LF: its step, its day and its word, `until` and the last day of
+/// a waiver that ends, and the change's text where it is not empty, one blank apart.
 pub fn changes_text(alloc: Global, changes: &[ChangeRow]) -> Result<Vec<u8>, AllocError>
     ensures { IfOk result (λ text. text.items ≡ flat_map change_text changes.now) }
 {

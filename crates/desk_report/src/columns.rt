@@ -60,7 +60,8 @@ fn widths_of(alloc: Global, texts: &[&str]) -> Result<Vec<usize>, AllocError>
 
 // Adds the widths of columns that have these cells besides.
 fn add_widened(found: &mut Vec<usize>, widths: &[usize], cells: &[&str]) -> Result<(), AllocError>
-    ensures { OnOk result (found.new.items ≡ found.old.items ++ widened widths.now (map (λ cell. cell.now) cells.now)) }
+    ensures { OnOk result (found.new.items
+        ≡ found.old.items ++ widened widths.now (map (λ cell. cell.now) cells.now)) }
 {
     match widths {
         [] => Ok(()),
@@ -130,7 +131,8 @@ fn add_filled(text: &mut Vec<u8>, wide: usize, cell: &str) -> Result<(), AllocEr
 
 // Adds cells, each filled up to the width of its column.
 fn add_front(text: &mut Vec<u8>, widths: &[usize], cells: &[&str]) -> Result<(), AllocError>
-    ensures { OnOk result (text.new.items ≡ text.old.items ++ front_text widths.now (map (λ cell. cell.now) cells.now)) }
+    ensures { OnOk result (text.new.items
+        ≡ text.old.items ++ front_text widths.now (map (λ cell. cell.now) cells.now)) }
 {
     match widths {
         [] => Ok(()),
@@ -151,7 +153,8 @@ fn add_row(
     cells: &[&str],
     last: &[u8],
 ) -> Result<(), AllocError>
-    ensures { OnOk result (text.new.items ≡ text.old.items ++ row_line widths.now (map (λ cell. cell.now) cells.now) last.now) }
+    ensures { OnOk result (text.new.items
+        ≡ text.old.items ++ row_line widths.now (map (λ cell. cell.now) cells.now) last.now) }
 {
     add_front(text, widths, cells)?;
     text.extend_from_slice(last)?;
@@ -175,8 +178,9 @@ fn add_duty(
     add_row(text, widths, &cells, day_cell(&line.day))
 }
 
-/// The table of duties as a terminal shows it: the names of the columns, as in `duties_csv`, and a row for each duty, each ended by LF.
-/// A column is as wide as its widest text, and two blanks stand before the next. A question mark stands for a control byte.
+/// The table of duties as a terminal shows it: the names of the columns, as in `duties_csv`, and a
+/// row for each duty, each ended by LF. A column is as wide as its widest text, and two blanks
+/// stand before the next. A question mark stands for a control byte.
 #[tactic(auto, unfolding(crate::specs::Columns::columns_text))]
 pub fn duties_columns(alloc: Global, lines: &[DutyLine]) -> Result<Vec<u8>, AllocError>
     ensures { IfOk result (λ text. text.items ≡ columns_text lines.now) }

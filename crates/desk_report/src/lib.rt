@@ -1,12 +1,12 @@
 //! The texts that an office hands out of the rows of an answer.
 //!
-//! - `notices` is the text that goes with a frozen release: its packages with the licences and the copyright of each, then the texts of
-//!   these licences (`specs/Notices.antt`).
-//! - `duties_csv` is the table of a release's duties as comma-separated values (RFC 4180), written by `csv`: a row of names and one
-//!   for each duty, each ended by LF (`specs/CsvTable.antt`). `duties_columns` is the same table laid out for a terminal
-//!   (`specs/Columns.antt`).
-//! - `totals_text` counts the duties by where they are, in one line, and `changes_text` has a line for each change of a duty
-//!   (`specs/Lines.antt`).
+//! - `notices` is the text that goes with a frozen release: its packages with the licences and the
+//!   copyright of each, then the texts of these licences (`specs/Notices.antt`).
+//! - `duties_csv` is the table of a release's duties as comma-separated values (RFC 4180), written
+//!   by `csv`: a row of names and one for each duty, each ended by LF (`specs/CsvTable.antt`).
+//!   `duties_columns` is the same table laid out for a terminal (`specs/Columns.antt`).
+//! - `totals_text` counts the duties by where they are, in one line, and `changes_text` has a line
+//!   for each change of a duty (`specs/Lines.antt`).
 //!
 //! No memory left is the only error.
 #![tactic(auto)]

@@ -16,7 +16,8 @@ fn add_framed(
     value: &Text,
     after: &[u8],
 ) -> Result<(), AllocError>
-    ensures { OnOk result (text.new.items ≡ text.old.items ++ framed before.now value.now after.now) }
+    ensures { OnOk result (text.new.items
+        ≡ text.old.items ++ framed before.now value.now after.now) }
 {
     text.extend_from_slice(before)?;
     text.extend_from_slice(value.as_str().as_bytes())?;
@@ -126,9 +127,11 @@ fn add_texts(text: &mut Vec<u8>, texts: &[BillText]) -> Result<(), AllocError>
     Ok(())
 }
 
-/// The notices of a frozen release. `Notices for RELEASE (FORM)`; then for each package, behind an empty line, its name and its version,
-/// `Licence: RULE` for each rule of its terms and `Copyright: ` with its copyright, or `none given`; then for each text, behind an empty
-/// line, `---- TITLE ----` and its body, or `No text recorded.`. Each line is ended by LF, the last of a body too.
+/// The notices of a frozen release. `Notices for RELEASE (FORM)`; then for each package, behind an
+/// empty line, its name and its version, `Licence: RULE` for each rule of its terms and
+/// `Copyright: ` with its copyright, or `none given`; then for each text, behind an empty line,
+/// `---- TITLE ----` and its body, or `No text recorded.`. Each line is ended by LF, the last of a
+/// body too.
 pub fn notices(alloc: Global, bill: &Bill) -> Result<Vec<u8>, AllocError>
     ensures { IfOk result (λ text. text.items ≡ notices_text bill.now) }
 {

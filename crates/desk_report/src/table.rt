@@ -15,7 +15,8 @@ use std::io::Write;
 // A record of these fields.
 fn add_record<W: Write + Drop>(writer: &mut Writer<W>, fields: &[&[u8]]) -> Result<(), AllocError>
     requires { is_between_rows writer.old }
-    ensures bytes { OnOk result (Appends (text_written W.contents writer.old) (text_written W.contents writer.new)
+    ensures bytes { OnOk result
+        (Appends (text_written W.contents writer.old) (text_written W.contents writer.new)
         (record_text (map (λ field. field.now) fields.now))) }
     ensures ready { OnOk result (is_between_rows writer.new) }
 {
@@ -61,7 +62,8 @@ fn add_duty<W: Write + Drop>(
     line: &DutyLine,
 ) -> Result<(), AllocError>
     requires { is_between_rows writer.old }
-    ensures bytes { OnOk result (Appends (text_written W.contents writer.old) (text_written W.contents writer.new)
+    ensures bytes { OnOk result
+        (Appends (text_written W.contents writer.old) (text_written W.contents writer.new)
         (duty_record line.now)) }
     ensures ready { OnOk result (is_between_rows writer.new) }
 {
@@ -76,7 +78,8 @@ fn add_duty<W: Write + Drop>(
 // The record of the columns' names.
 fn add_names<W: Write + Drop>(writer: &mut Writer<W>) -> Result<(), AllocError>
     requires { is_between_rows writer.old }
-    ensures bytes { OnOk result (Appends (text_written W.contents writer.old) (text_written W.contents writer.new)
+    ensures bytes { OnOk result
+        (Appends (text_written W.contents writer.old) (text_written W.contents writer.new)
         (record_text column_names)) }
     ensures ready { OnOk result (is_between_rows writer.new) }
 {
@@ -93,9 +96,10 @@ fn add_names<W: Write + Drop>(writer: &mut Writer<W>) -> Result<(), AllocError>
     add_record(writer, &names)
 }
 
-/// The table of duties as comma-separated values (RFC 4180): a record of the columns' names, `number`, `document`, `package`, `term`,
-/// `rule`, `code`, `state` and `since`, and one for each duty, `since` being the day of its last change. Each record is ended by LF, and
-/// a field stands in quotes only where it holds a comma, a quote or a line end.
+/// The table of duties as comma-separated values (RFC 4180): a record of the columns' names,
+/// `number`, `document`, `package`, `term`, `rule`, `code`, `state` and `since`, and one for each
+/// duty, `since` being the day of its last change. Each record is ended by LF, and a field stands
+/// in quotes only where it holds a comma, a quote or a line end.
 pub fn duties_csv(alloc: Global, lines: &[DutyLine]) -> Result<Vec<u8>, AllocError>
     ensures { IfOk result (λ text. text.items ≡ table_text lines.now) }
 {

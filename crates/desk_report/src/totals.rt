@@ -9,13 +9,15 @@ use std::alloc::{AllocError, Global};
 
 // Adds a word and a count.
 fn add_count(alloc: Global, text: &mut String, word: &str, count: u64) -> Result<(), AllocError>
-    ensures { OnOk result (string_bytes text.new ≡ string_bytes text.old ++ counted word.now count) }
+    ensures { OnOk result (string_bytes text.new
+        ≡ string_bytes text.old ++ counted word.now count) }
 {
     let counted = format!(in alloc; "{word} {count}")?;
     text.push_str(counted.as_str())
 }
 
-/// How many duties of a release were raised, and how many stand where: `raised N open N met N waived N withdrawn N`, ended by LF.
+/// How many duties of a release were raised, and how many stand where:
+/// `raised N open N met N waived N withdrawn N`, ended by LF.
 pub fn totals_text(alloc: Global, totals: &Totals) -> Result<String, AllocError>
     ensures { IfOk result (λ text. string_bytes text ≡ totals_line totals.now) }
 {

@@ -36,8 +36,9 @@ fn first_piece(pattern: &[u8]) -> Option<(Piece, &[u8])>
 
 /// A pattern of paths, seen as its pieces.
 ///
-/// `*` is any bytes but `/`, `**` any bytes, `\*` an asterisk and `\\` a backslash. Read from the left, two asterisks are
-/// `**` first; a backslash before another byte stands for that byte, and at the end for itself. So each text is a pattern.
+/// `*` is any bytes but `/`, `**` any bytes, `\*` an asterisk and `\\` a backslash. Read from the
+/// left, two asterisks are `**` first; a backslash before another byte stands for that byte, and at
+/// the end for itself. So each text is a pattern.
 #[derive(Debug, Drop)]
 pub struct Glob {
     pieces: Vec<Piece>,
@@ -66,8 +67,8 @@ impl Glob {
         Ok(Glob { pieces })
     }
 
-    /// Whether the pattern matches the whole path: whether that divides into stretches, one for each piece in order. Takes
-    /// no memory.
+    /// Whether the pattern matches the whole path: whether that divides into stretches, one for
+    /// each piece in order. Takes no memory.
     pub fn matches(&self, path: &str) -> bool
         ensures { IsTrue result ↔ IsMatch self.now path.now }
     {

@@ -23,7 +23,8 @@ pub struct Info<'a> {
     pub licences: Vec<Tagged<'a>>,
 }
 
-// The notices and licences of a file, where no tag begins in so many bytes. The searches are made once for all lines.
+// The notices and licences of a file, where no tag begins in so many bytes. The searches are made
+// once for all lines.
 fn tagged<'a>(
     alloc: Global,
     file: &'a [u8],
@@ -63,10 +64,11 @@ fn tagged<'a>(
 
 /// The notices and licences of a file, each with its line. The only error is want of memory.
 ///
-/// The first tag of a line outside ignored stretches counts, wherever in the line it stands, and also where its value is read over.
-/// Ignored is what stands from `REUSE-IgnoreStart` to the end of the next `REUSE-IgnoreEnd`, or to the file's end. A value
-/// runs to the line's end or the next ignored stretch, without blanks at its ends and without one trailing `*/`, `-->`, `*)`
-/// or `-}` and the blanks before it. An empty value, or one that isn't UTF-8, is read over.
+/// The first tag of a line outside ignored stretches counts, wherever in the line it stands, and
+/// also where its value is read over. Ignored is what stands from `REUSE-IgnoreStart` to the end of
+/// the next `REUSE-IgnoreEnd`, or to the file's end. A value runs to the line's end or the next
+/// ignored stretch, without blanks at its ends and without one trailing `*/`, `-->`, `*)` or `-}`
+/// and the blanks before it. An empty value, or one that isn't UTF-8, is read over.
 pub fn header<'a>(alloc: Global, file: &'a [u8]) -> Result<Info<'a>, AllocError>
     ensures { IfOk result (λ i. IsInfo file.now (map tag_text i.notices.items)
         (map tag_text i.licences.items)) }
@@ -83,5 +85,6 @@ pub fn header<'a>(alloc: Global, file: &'a [u8]) -> Result<Info<'a>, AllocError>
 
 /// A file has one list of notices and one of licences.
 pub fn one_header()
-    ensures { (file : List ℕ) (a b c d : List TagText) → IsInfo file a b → IsInfo file c d → (a ≡ c) × (b ≡ d) }
+    ensures { (file : List ℕ) (a b c d : List TagText) → IsInfo file a b → IsInfo file c d
+        → (a ≡ c) × (b ≡ d) }
 {}

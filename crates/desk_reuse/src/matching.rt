@@ -1,10 +1,12 @@
 //! The search for a match: from left to right, with two places to go back to.
 //!
-//! The last `*` can always take the place of an earlier one in the same name, and the last `**` that of all wildcards before it:
-//! what an earlier one could reach with a longer stretch, the last one reaches too. So no other place is kept.
+//! The last `*` can always take the place of an earlier one in the same name, and the last `**`
+//! that of all wildcards before it: what an earlier one could reach with a longer stretch, the last
+//! one reaches too. So no other place is kept.
 //!
-//! A `**` is a `*` within the name where it begins, and goes on to the next name only once nothing begins in this one. So the pieces
-//! behind it are held against each name once, and a search takes at most about the pieces times the bytes of the path.
+//! A `**` is a `*` within the name where it begins, and goes on to the next name only once nothing
+//! begins in this one. So the pieces behind it are held against each name once, and a search takes
+//! at most about the pieces times the bytes of the path.
 
 ghost use Rattle.std.specs.Prelude.{◌≡◌, ◌↔◌, ◌<◌, ◌+◌, ℕ, List, length, Some, IsTrue, IfSome, IfNone};
 ghost use Rattle.desk_reuse.specs.declared.glob.Piece.{Piece};
@@ -108,7 +110,8 @@ fn forward<'a>(search: Search<'a>) -> Option<Search<'a>>
     }
 }
 
-// The search behind its last `*` that takes one byte more, or its last `**` that goes on to the next name.
+// The search behind its last `*` that takes one byte more, or its last `**` that goes on to the
+// next name.
 fn backward<'a>(search: Search<'a>) -> Option<Search<'a>>
     ensures some { IfSome result (λ n. Returns (state search.entry) (state n)) }
     ensures none { IfNone result (Spent (state search.entry)) }

@@ -29,8 +29,10 @@ fn before_end<'a>(bytes: &'a [u8], end: &[u8]) -> Option<&'a [u8]>
 
 // What stands before the end of a comment.
 fn before_close(bytes: &[u8]) -> Option<&[u8]>
-    ensures none { IfNone result ((front close : List ℕ) → IsClose close → bytes.now ≡ front ++ close → ⊥) }
-    ensures some { IfSome result (λ r. (close : List ℕ) × IsClose close × (bytes.now ≡ r.now ++ close)) }
+    ensures none { IfNone result
+        ((front close : List ℕ) → IsClose close → bytes.now ≡ front ++ close → ⊥) }
+    ensures some { IfSome result
+        (λ r. (close : List ℕ) × IsClose close × (bytes.now ≡ r.now ++ close)) }
 {
     if let Some(front) = before_end(bytes, b"*/") {
         return Some(front);

@@ -26,7 +26,8 @@ pub enum Reply {
 
 /// Applies a command, and hands on the bytes of an import, so that they are not copied.
 fn applied<D: Desk>(desk: &mut D, command: Command) -> Reply
-    ensures { Replies D.are_right D.tells D.stands (D.seen desk.old) (Act command) result (D.seen desk.new) }
+    ensures { Replies D.are_right D.tells D.stands (D.seen desk.old) (Act command) result
+        (D.seen desk.new) }
 {
     match command {
         Command::Import { bytes, profile } => {
@@ -38,20 +39,22 @@ fn applied<D: Desk>(desk: &mut D, command: Command) -> Reply
 
 /// Asks a question.
 fn asked<D: Desk>(desk: &mut D, query: &Query) -> Reply
-    ensures { Replies D.are_right D.tells D.stands (D.seen desk.old) (Ask query.now) result (D.seen desk.new) }
+    ensures { Replies D.are_right D.tells D.stands (D.seen desk.old) (Ask query.now) result
+        (D.seen desk.new) }
 {
     Reply::Became(Outcome::from(desk.ask(query)))
 }
 
-/// Answers the request that the text of a line is. Where memory is wanting to read it, it failed. The text is let go of before the
-/// desk answers, which can use its memory.
+/// Answers the request that the text of a line is. Where memory is wanting to read it, it failed.
+/// The text is let go of before the desk answers, which can use its memory.
 pub fn answer_line<D: Desk, V: Watch>(
     alloc: Global,
     desk: &mut D,
     watch: &mut V,
     text: Vec<u8>,
 ) -> Reply
-    ensures replies { Replies D.are_right D.tells D.stands (D.seen desk.old) (request_in text.items) result (D.seen desk.new) }
+    ensures replies { Replies D.are_right D.tells D.stands (D.seen desk.old) (request_in text.items)
+        result (D.seen desk.new) }
     ensures same { V.stops watch.new ≡ V.stops watch.old }
 {
     match read_command(alloc, text.as_slice()) {

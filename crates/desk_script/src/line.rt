@@ -91,7 +91,8 @@ impl Line {
 
     /// Adds bytes among which there is no LF.
     pub fn extend(&mut self, run: &[u8]) -> Result<(), AllocError>
-        ensures { (came : List ℕ) → Shows self.old came → OnOk result (Shows self.new (came ++ run.now)) }
+        ensures { (came : List ℕ) → Shows self.old came
+            → OnOk result (Shows self.new (came ++ run.now)) }
     {
         let Some((last, before)) = run.split_last() else {
             return Ok(());

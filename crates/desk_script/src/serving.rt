@@ -66,7 +66,8 @@ impl ScriptEnd {
         requires room { (self.old.refused + 1 < 2 ^ 64) × (self.old.failed + 1 < 2 ^ 64) }
         ensures refused { self.new.refused ≡ self.old.refused + count_refused reply.now }
         ensures failed { self.new.failed ≡ self.old.failed + count_failed reply.now }
-        ensures few { (self.new.refused ≤ self.old.refused + 1) × (self.new.failed ≤ self.old.failed + 1) }
+        ensures few { (self.new.refused ≤ self.old.refused + 1)
+            × (self.new.failed ≤ self.old.failed + 1) }
     {
         match reply {
             Reply::NoRequest | Reply::Became(Outcome::Answered(Answer::Refused(_))) => {
@@ -93,10 +94,12 @@ fn write_some<W: Write>(writer: &mut W, bytes: &[u8]) -> Result<usize, ScriptFau
     }
 }
 
-/// Writes bytes as `write_all` does, of which nothing is known after a fault: here a front of them is written then.
+/// Writes bytes as `write_all` does, of which nothing is known after a fault: here a front of them
+/// is written then.
 fn write_bytes<W: Write>(writer: &mut W, bytes: &[u8]) -> Result<(), ScriptFault>
     ensures ok { OnOk result (Appends (W.contents writer.old) (W.contents writer.new) bytes.now) }
-    ensures err { OnErr result (AppendsFront (W.contents writer.old) (W.contents writer.new) bytes.now) }
+    ensures err { OnErr result
+        (AppendsFront (W.contents writer.old) (W.contents writer.new) bytes.now) }
     ensures fault { IfErr result IsOfWriter }
 {
     let mut rest = bytes;
@@ -112,7 +115,8 @@ fn write_bytes<W: Write>(writer: &mut W, bytes: &[u8]) -> Result<(), ScriptFault
 
 /// Writes a text as a line.
 fn write_line<W: Write>(writer: &mut W, text: &str) -> Result<(), ScriptFault>
-    ensures ok { OnOk result (Appends (W.contents writer.old) (W.contents writer.new) (text.now ++ 10 ∷ [])) }
+    ensures ok { OnOk result
+        (Appends (W.contents writer.old) (W.contents writer.new) (text.now ++ 10 ∷ [])) }
     ensures err { OnErr result (AppendsFront (W.contents writer.old) (W.contents writer.new)
         (text.now ++ 10 ∷ [])) }
     ensures fault { IfErr result IsOfWriter }
@@ -125,9 +129,11 @@ fn write_line<W: Write>(writer: &mut W, text: &str) -> Result<(), ScriptFault>
     }
 }
 
-/// Writes a reply as a line. That memory was wanting, and that there was no request, is told without taking memory.
+/// Writes a reply as a line. That memory was wanting, and that there was no request, is told
+/// without taking memory.
 fn write_reply<W: Write>(alloc: Global, writer: &mut W, reply: &Reply) -> Result<(), ScriptFault>
-    ensures ok { OnOk result (Appends (W.contents writer.old) (W.contents writer.new) (line_of reply.now)) }
+    ensures ok { OnOk result
+        (Appends (W.contents writer.old) (W.contents writer.new) (line_of reply.now)) }
     ensures err { IfErr result (λ fault. Loses fault reply.now (W.contents writer.old)
         (W.contents writer.new)) }
     ensures goes { IfErr result (IfStop ⊥) }
@@ -150,7 +156,8 @@ fn answer_kept<D: Desk, V: Watch>(
     line: &mut Line,
 ) -> Reply
     ensures replies { (text : List ℕ) → HasCome line.old text
-        → Replies D.are_right D.tells D.stands (D.seen desk.old) (request_of text) result (D.seen desk.new) }
+        → Replies D.are_right D.tells D.stands (D.seen desk.old) (request_of text) result
+        (D.seen desk.new) }
     ensures same { V.stops watch.new ≡ V.stops watch.old }
 {
     if line.is_long {
@@ -161,9 +168,11 @@ fn answer_kept<D: Desk, V: Watch>(
     answer_line(alloc, desk, watch, text)
 }
 
-/// Goes on past a reply, or ends the script with it where its line isn't done and it is to end there.
+/// Goes on past a reply, or ends the script with it where its line isn't done and it is to end
+/// there.
 fn go_on(stops: bool, reply: &Reply) -> Result<(), ScriptFault>
-    ensures goes { OnOk result (stops ≡ true → (count_refused reply.now ≡ 0) × (count_failed reply.now ≡ 0)) }
+    ensures goes { OnOk result
+        (stops ≡ true → (count_refused reply.now ≡ 0) × (count_failed reply.now ≡ 0)) }
     ensures ends { IfErr result (IsStopAt reply.now) }
     ensures halts { IfErr result (IfStop (stops ≡ true)) }
     ensures fault { IfErr result IsOfReply }
@@ -187,8 +196,10 @@ fn tell_reply<W: Write, V: Watch>(
     watch: &mut V,
     reply: &Reply,
 ) -> Result<(), ScriptFault>
-    ensures ok { OnOk result (Appends (W.contents writer.old) (W.contents writer.new) (line_of reply.now)) }
-    ensures goes { OnOk result (V.stops watch.old ≡ true → (count_refused reply.now ≡ 0) × (count_failed reply.now ≡ 0)) }
+    ensures ok { OnOk result
+        (Appends (W.contents writer.old) (W.contents writer.new) (line_of reply.now)) }
+    ensures goes { OnOk result
+        (V.stops watch.old ≡ true → (count_refused reply.now ≡ 0) × (count_failed reply.now ≡ 0)) }
     ensures err { IfErr result (λ fault. Loses fault reply.now (W.contents writer.old)
         (W.contents writer.new)) }
     ensures halts { IfErr result (IfStop (V.stops watch.old ≡ true)) }
@@ -199,7 +210,8 @@ fn tell_reply<W: Write, V: Watch>(
     go_on(watch.stops(), reply)
 }
 
-/// Serves a line of which these bytes came: a blank one is passed over; of any other the reply is written and counted.
+/// Serves a line of which these bytes came: a blank one is passed over; of any other the reply is
+/// written and counted.
 pub fn serve<D: Desk, W: Write, V: Watch>(
     alloc: Global,
     desk: &mut D,
@@ -209,9 +221,12 @@ pub fn serve<D: Desk, W: Write, V: Watch>(
     line: &mut Line,
 ) -> Result<(), ScriptFault>
     requires room { (end.old.refused + 1 < 2 ^ 64) × (end.old.failed + 1 < 2 ^ 64) }
-    ensures ok { (text : List ℕ) → HasCome line.old text → OnOk result (Serves D.are_right D.tells D.stands D.seen (request_at text)
+    ensures ok { (text : List ℕ) → HasCome line.old text
+        → OnOk result (Serves D.are_right D.tells D.stands D.seen (request_at text)
         desk.old desk.new (W.contents writer.old) (W.contents writer.new) end.old end.new) }
-    ensures err { (text : List ℕ) → HasCome line.old text → IfErr result (λ fault. ServesUntil D.are_right D.tells D.stands D.seen fault (request_at text)
+    ensures err { (text : List ℕ) → HasCome line.old text
+        → IfErr result (λ fault. ServesUntil D.are_right D.tells D.stands D.seen fault
+        (request_at text)
         desk.old desk.new (W.contents writer.old) (W.contents writer.new)) }
     ensures few { (end.new.refused ≤ end.old.refused + 1) × (end.new.failed ≤ end.old.failed + 1) }
     ensures fault { IfErr result IsOfReply }

@@ -40,9 +40,12 @@ fn end_line<D: Desk, W: Write, V: Watch>(
 ) -> Result<(), ScriptFault>
     requires room { (end.old.refused + 1 < 2 ^ 64) × (end.old.failed + 1 < 2 ^ 64) }
     ensures ok { (number : ℕ) (came : List ℕ) → Shows line.old came → All (λ b. b ≢ 10) came
-        → OnOk result (HasServed D.are_right D.tells D.stands D.seen number (came ++ 10 ∷ []) desk.old desk.new (W.contents writer.old) (W.contents writer.new) end.old end.new line.new) }
+        → OnOk result (HasServed D.are_right D.tells D.stands D.seen number (came ++ 10 ∷ [])
+        desk.old desk.new (W.contents writer.old) (W.contents writer.new) end.old end.new
+        line.new) }
     ensures err { (number : ℕ) (came more : List ℕ) → Shows line.old came → All (λ b. b ≢ 10) came
-        → IfErr result (λ fault. IsFrontAt D.are_right D.tells D.stands D.seen number fault (came ++ 10 ∷ more) desk.old desk.new (W.contents writer.old) (W.contents writer.new)) }
+        → IfErr result (λ fault. IsFrontAt D.are_right D.tells D.stands D.seen number fault
+        (came ++ 10 ∷ more) desk.old desk.new (W.contents writer.old) (W.contents writer.new)) }
     ensures few { (end.new.refused ≤ end.old.refused + 1) × (end.new.failed ≤ end.old.failed + 1) }
     ensures fault { IfErr result IsOfReply }
     ensures still { OnOk result (V.stops watch.old ≡ true → IsUncounted end.old end.new) }
@@ -67,9 +70,13 @@ fn feed<D: Desk, W: Write, V: Watch>(
     requires room { (end.old.refused + length piece.now < 2 ^ 64)
         × (end.old.failed + length piece.now < 2 ^ 64) }
     ensures ok { (number : ℕ) (came : List ℕ) → Shows line.old came → All (λ b. b ≢ 10) came
-        → OnOk result (HasServed D.are_right D.tells D.stands D.seen number (came ++ piece.now) desk.old desk.new (W.contents writer.old) (W.contents writer.new) end.old end.new line.new) }
+        → OnOk result (HasServed D.are_right D.tells D.stands D.seen number (came ++ piece.now)
+        desk.old desk.new (W.contents writer.old) (W.contents writer.new) end.old end.new
+        line.new) }
     ensures err { (number : ℕ) (came more : List ℕ) → Shows line.old came → All (λ b. b ≢ 10) came
-        → IfErr result (λ fault. IsFrontAt D.are_right D.tells D.stands D.seen number fault (came ++ (piece.now ++ more)) desk.old desk.new (W.contents writer.old) (W.contents writer.new)) }
+        → IfErr result (λ fault. IsFrontAt D.are_right D.tells D.stands D.seen number fault
+        (came ++ (piece.now ++ more)) desk.old desk.new (W.contents writer.old)
+        (W.contents writer.new)) }
     ensures few { (end.new.refused ≤ end.old.refused + length piece.now)
         × (end.new.failed ≤ end.old.failed + length piece.now) }
     ensures fault { IfErr result IsOfReply }
@@ -98,9 +105,11 @@ fn finish<D: Desk, W: Write, V: Watch>(
 ) -> Result<(), ScriptFault>
     requires room { (end.old.refused + 1 < 2 ^ 64) × (end.old.failed + 1 < 2 ^ 64) }
     ensures ok { (number : ℕ) (came : List ℕ) → Shows line.old came → All (λ b. b ≢ 10) came
-        → OnOk result (IsPart D.are_right D.tells D.stands D.seen number came desk.old desk.new (W.contents writer.old) (W.contents writer.new) end.old end.new) }
+        → OnOk result (IsPart D.are_right D.tells D.stands D.seen number came desk.old desk.new
+        (W.contents writer.old) (W.contents writer.new) end.old end.new) }
     ensures err { (number : ℕ) (came : List ℕ) → Shows line.old came → All (λ b. b ≢ 10) came
-        → IfErr result (λ fault. IsFrontAt D.are_right D.tells D.stands D.seen number fault came desk.old desk.new (W.contents writer.old) (W.contents writer.new)) }
+        → IfErr result (λ fault. IsFrontAt D.are_right D.tells D.stands D.seen number fault came
+        desk.old desk.new (W.contents writer.old) (W.contents writer.new)) }
     ensures fault { IfErr result IsOfReply }
     ensures still { OnOk result (V.stops watch.old ≡ true → IsUncounted end.old end.new) }
     ensures halts { IfErr result (IfStop (V.stops watch.old ≡ true)) }
@@ -110,16 +119,19 @@ fn finish<D: Desk, W: Write, V: Watch>(
     serve(alloc, desk, writer, watch, end, line)
 }
 
-/// Reads requests, a line each, and writes a reply line for each line that isn't blank. Replies go out line by line: each is
-/// written and flushed before the next line is served.
+/// Reads requests, a line each, and writes a reply line for each line that isn't blank. Replies go
+/// out line by line: each is written and flushed before the next line is served.
 ///
-/// It goes on past refusals and faults, and counts them: want of memory for a request or for its answer is a reply, and ends nothing. At
-/// most 1,048,576 times the reader is asked for bytes, each time for at most 65,536. After a fault of the reader, of the writer or of
-/// memory for a line or a reply's text, what was accepted stands, and all replies are written but for the last one, where the fault
-/// was its: of that one a front of its line is written, and nothing where its text found no memory. Where the reader failed, or was asked
-/// too often, each line that ended among the bytes it gave is replied, and each reply written.
+/// It goes on past refusals and faults, and counts them: want of memory for a request or for its
+/// answer is a reply, and ends nothing. At most 1,048,576 times the reader is asked for bytes, each
+/// time for at most 65,536. After a fault of the reader, of the writer or of memory for a line or a
+/// reply's text, what was accepted stands, and all replies are written but for the last one, where
+/// the fault was its: of that one a front of its line is written, and nothing where its text found
+/// no memory. Where the reader failed, or was asked too often, each line that ended among the bytes
+/// it gave is replied, and each reply written.
 ///
-/// Where the one who watches says so, it ends with the first line that isn't done, whose reply is written.
+/// Where the one who watches says so, it ends with the first line that isn't done, whose reply is
+/// written.
 pub fn script<D: Desk, R: Read, W: Write, V: Watch>(
     alloc: Global,
     desk: &mut D,
@@ -128,15 +140,21 @@ pub fn script<D: Desk, R: Read, W: Write, V: Watch>(
     watch: &mut V,
 ) -> Result<ScriptEnd, ScriptFault>
     ensures ok { IfOk result (λ end. (bytes : List ℕ) × AreLeft (R.remaining reader.old) bytes
-        × IsScript D.are_right D.tells D.stands D.seen bytes desk.old desk.new (W.contents writer.old) (W.contents writer.new) end) }
+        × IsScript D.are_right D.tells D.stands D.seen bytes desk.old desk.new
+        (W.contents writer.old) (W.contents writer.new) end) }
     ensures err { IfErr result (λ fault. (bytes : List ℕ) × AreLeft (R.remaining reader.old) bytes
-        × IsFront D.are_right D.tells D.stands D.seen fault bytes desk.old desk.new (W.contents writer.old) (W.contents writer.new)) }
-    ensures fault { IfErr result (λ fault. IsOfReply fault ⊎ ((bytes : List ℕ) × IsOfReader fault (length bytes)
+        × IsFront D.are_right D.tells D.stands D.seen fault bytes desk.old desk.new
+        (W.contents writer.old) (W.contents writer.new)) }
+    ensures fault { IfErr result
+        (λ fault. IsOfReply fault ⊎ ((bytes : List ℕ) × IsOfReader fault (length bytes)
         × Consumes (R.remaining reader.old) (R.remaining reader.new) bytes
-        × IsCutOff D.are_right D.tells D.stands D.seen bytes desk.old desk.new (W.contents writer.old) (W.contents writer.new))) }
-    ensures taken { (bytes : List ℕ) × Consumes (R.remaining reader.old) (R.remaining reader.new) bytes
+        × IsCutOff D.are_right D.tells D.stands D.seen bytes desk.old desk.new
+        (W.contents writer.old) (W.contents writer.new))) }
+    ensures taken { (bytes : List ℕ)
+        × Consumes (R.remaining reader.old) (R.remaining reader.new) bytes
         × (length bytes ≤ script_reads * 65536) }
-    ensures still { IfOk result (λ end. V.stops watch.old ≡ true → (end.refused ≡ 0) × (end.failed ≡ 0)) }
+    ensures still { IfOk result
+        (λ end. V.stops watch.old ≡ true → (end.refused ≡ 0) × (end.failed ≡ 0)) }
     ensures halts { IfErr result (IfStop (V.stops watch.old ≡ true)) }
 {
     let mut end = ScriptEnd {

@@ -4,7 +4,8 @@ ghost use Rattle.std.specs.Prelude.{◌≡◌, Bool};
 
 use crate::answer::Reply;
 
-/// One who is told of each line of a script, and says whether it ends with the first line that isn't done.
+/// One who is told of each line of a script, and says whether it ends with the first line that
+/// isn't done.
 pub trait Watch {
     /// Whether the script ends with the first line that isn't done.
     ghost stops: { Self → Bool };
@@ -17,7 +18,8 @@ pub trait Watch {
     fn came(&mut self)
         ensures { stops self.new ≡ stops self.old };
 
-    /// The line that came is no request: its bytes, or none where they are more than a request may have.
+    /// The line that came is no request: its bytes, or none where they are more than a request may
+    /// have.
     fn no_request(&mut self, text: Option<&[u8]>)
         ensures { stops self.new ≡ stops self.old };
 

@@ -9,13 +9,15 @@ pub enum AuditFault {
     BadRevision,
     /// The rules of each revision are those of its body.
     BadRule,
-    /// The documents are numbered from 1 on, the bytes of each are a document with that namespace, and each has a profile.
+    /// The documents are numbered from 1 on, the bytes of each are a document with that namespace,
+    /// and each has a profile.
     BadDocument,
     /// The packages and the extracted licences are those of the documents.
     BadPackage,
     /// The office's conclusions, adoptions, places and choices are such as it can have made.
     BadChoice,
-    /// The duties are numbered from 1 on, at most 100,000, and each is of a release that was frozen.
+    /// The duties are numbered from 1 on, at most 100,000, and each is of a release that was
+    /// frozen.
     BadNumber,
     /// The duties of each release are those that its frozen terms owe.
     BadDuty,

@@ -8,8 +8,8 @@ use desk_sorted::{Appended, Keyed, Sought};
 use std::alloc::Global;
 use std::marker::Model;
 
-/// The rows of a table, seen as their list. They are found by halving where they stand in the order of their keys, as they do where a
-/// database lists them so, else one after the other.
+/// The rows of a table, seen as their list. They are found by halving where they stand in the order
+/// of their keys, as they do where a database lists them so, else one after the other.
 #[derive(Drop)]
 pub struct Listed<R: Keyed> {
     appended: Appended<R>,

@@ -1,4 +1,5 @@
-//! The rows of the desk's tables as they stand. The fields are the columns, in their order; numbers may be any.
+//! The rows of the desk's tables as they stand. The fields are the columns, in their order; numbers
+//! may be any.
 
 use desk_base::{Items, Text};
 

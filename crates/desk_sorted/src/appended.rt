@@ -52,9 +52,11 @@ impl<R: Keyed + Drop> Appended<R> {
         self.rows.len()
     }
 
-    /// Rows among which all stand that are sought: those alone, found by halving, where the rows are in order.
+    /// Rows among which all stand that are sought: those alone, found by halving, where the rows
+    /// are in order.
     pub fn among<K: Sought<R>>(&self, key: &K) -> &[R]
-        ensures { filter (K.is_at key.now) result.now ≡ filter (K.is_at key.now) self.now.rows.items }
+        ensures { filter (K.is_at key.now) result.now
+            ≡ filter (K.is_at key.now) self.now.rows.items }
     {
         if !self.in_order {
             return self.rows.as_slice();

@@ -1,4 +1,5 @@
-//! Rows in the order of their keys, cut into blocks: a row that is put in or taken out moves those of its block alone.
+//! Rows in the order of their keys, cut into blocks: a row that is put in or taken out moves those
+//! of its block alone.
 
 ghost use Rattle.std.specs.Prelude.{◌≡◌, refl, ℕ, suc, Bool, true, false, not, ◌+◌, ◌^◌, ◌<◌, ◌≤◌, ◌++◌, [], ◌∷◌, filter, find, map, OnOk, OnErr, IfOk, IfErr, length, vec_len, ◌==◌, List, Vec, get_or, take, drop};
 ghost use Rattle.std.specs.Vec.{vec_capacity};
@@ -140,7 +141,8 @@ fn cut_run<R: Keyed + Drop, K: Sought<R>>(block: &mut Vec<R>, key: &K)
 /// Cuts the rows that are sought out of each block.
 fn cut_each<R: Keyed + Drop, K: Sought<R>>(blocks: &mut [Vec<R>], key: &K)
     requires { ascends (below_by R.order) (rows_in blocks.old) ≡ true }
-    ensures rows { rows_in blocks.new ≡ filter (λ row. not (K.is_at key.now row)) (rows_in blocks.old) }
+    ensures rows { rows_in blocks.new
+        ≡ filter (λ row. not (K.is_at key.now row)) (rows_in blocks.old) }
     ensures length { length blocks.new ≡ length blocks.old }
 {
     for block in blocks.iter_mut() {
@@ -155,14 +157,17 @@ fn has_empty<R>(blocks: &[Vec<R>]) -> bool
     blocks.iter().any(|block| block.is_empty())
 }
 
-/// Cuts the rows that are sought out of the blocks where they stand. Whether one of these has no rows left.
+/// Cuts the rows that are sought out of the blocks where they stand. Whether one of these has no
+/// rows left.
 fn cut_within<R: Keyed + Drop, K: Sought<R>>(blocks: &mut [Vec<R>], key: &K) -> bool
     requires ascending { ascends (below_by R.order) (rows_in blocks.old) ≡ true }
     requires filled { are_filled blocks.old ≡ true }
-    ensures rows { rows_in blocks.new ≡ filter (λ row. not (K.is_at key.now row)) (rows_in blocks.old) }
+    ensures rows { rows_in blocks.new
+        ≡ filter (λ row. not (K.is_at key.now row)) (rows_in blocks.old) }
     ensures length { length blocks.new ≡ length blocks.old }
     ensures filled { result ≡ false → are_filled blocks.new ≡ true }
-    ensures whole { result ≡ false → are_all_filled blocks.old ≡ true → are_all_filled blocks.new ≡ true }
+    ensures whole { result ≡ false → are_all_filled blocks.old ≡ true
+        → are_all_filled blocks.new ≡ true }
 {
     let run = blocks_of(blocks, key);
     let within = &mut blocks[run.start..run.end];
@@ -210,8 +215,8 @@ fn halve<R: Drop>(blocks: &mut Vec<Vec<R>>, at: usize) -> Result<(), AllocError>
     Ok(())
 }
 
-/// Puts rows in place of those that are sought, into the block at a place, which has room for them. Whether a block that was changed has
-/// no rows left.
+/// Puts rows in place of those that are sought, into the block at a place, which has room for them.
+/// Whether a block that was changed has no rows left.
 fn replace_within<R: Keyed + Drop, K: Sought<R>>(
     blocks: &mut [Vec<R>],
     at: usize,
@@ -220,7 +225,8 @@ fn replace_within<R: Keyed + Drop, K: Sought<R>>(
 ) -> bool
     requires ascending { ascends (below_by R.order) (rows_in blocks.old) ≡ true }
     requires filled { are_filled blocks.old ≡ true }
-    requires room { HasRoom (below_by R.order) (λ row. not (K.is_at key.now row)) more.items blocks.old at }
+    requires room { HasRoom (below_by R.order) (λ row. not (K.is_at key.now row)) more.items
+        blocks.old at }
     ensures rows { rows_in blocks.new ≡ put_all (below_by R.order) more.items
         (filter (λ row. not (K.is_at key.now row)) (rows_in blocks.old)) }
     ensures length { length blocks.new ≡ length blocks.old }
@@ -240,7 +246,8 @@ fn replace_within<R: Keyed + Drop, K: Sought<R>>(
 /// Makes room in the block at a place.
 fn reserve_at<R: Drop>(blocks: &mut Vec<Vec<R>>, at: usize, count: usize) -> Result<(), AllocError>
     requires { at < vec_len blocks.old }
-    ensures items { map (λ block. block.items) blocks.new.items ≡ map (λ block. block.items) blocks.old.items }
+    ensures items { map (λ block. block.items) blocks.new.items
+        ≡ map (λ block. block.items) blocks.old.items }
     ensures rows { rows_in blocks.new.items ≡ rows_in blocks.old.items }
     ensures filled { are_filled blocks.new.items ≡ are_filled blocks.old.items }
     ensures len { vec_len blocks.new ≡ vec_len blocks.old }
@@ -261,7 +268,8 @@ fn put_at<R: Keyed + Drop>(blocks: &mut Vec<Vec<R>>, at: usize, row: R)
         ≤ vec_capacity (get_or blocks.old.items at d) }
     requires place { is_between (below_by R.order) (rows_in (take at blocks.old.items))
         (rows_in (drop (suc at) blocks.old.items)) row ≡ true }
-    ensures rows { rows_in blocks.new.items ≡ put (below_by R.order) row (rows_in blocks.old.items) }
+    ensures rows { rows_in blocks.new.items
+        ≡ put (below_by R.order) row (rows_in blocks.old.items) }
     ensures filled { are_filled blocks.new.items ≡ true }
 {
     put_row(&mut blocks[at], row);
@@ -368,7 +376,8 @@ impl<R: Keyed + Drop> Blocks<R> {
         }
     }
 
-    /// The blocks where the rows stand that are sought: `run_in` finds them in each, so no memory is taken for a list of them.
+    /// The blocks where the rows stand that are sought: `run_in` finds them in each, so no memory
+    /// is taken for a list of them.
     pub fn among<K: Sought<R>>(&self, key: &K) -> &[Vec<R>]
         ensures found { filter (K.is_at key.now) (rows_in result.now)
             ≡ filter (K.is_at key.now) (rows_in self.now.blocks.items) }
@@ -480,7 +489,8 @@ impl<R: Keyed + Drop> Blocks<R> {
         }
     }
 
-    /// Makes room for rows in place of those that are sought: all in one block, whose place is the answer.
+    /// Makes room for rows in place of those that are sought: all in one block, whose place is the
+    /// answer.
     pub fn make_room<K: Sought<R>>(&mut self, key: &K, more: &[R]) -> Result<usize, AllocError>
         ensures rows { rows_in self.new.blocks.items ≡ rows_in self.old.blocks.items }
         ensures room { IfOk result (λ at. HasRoom (below_by R.order) (λ row.
@@ -499,7 +509,8 @@ impl<R: Keyed + Drop> Blocks<R> {
     pub fn replace<K: Sought<R>>(&mut self, key: &K, at: usize, more: Vec<R>)
         requires { HasRoom (below_by R.order) (λ row.
             not (K.is_at key.now row)) more.items self.old.blocks.items at }
-        ensures { rows_in self.new.blocks.items ≡ put_all (below_by R.order) more.items (filter (λ row.
+        ensures { rows_in self.new.blocks.items
+            ≡ put_all (below_by R.order) more.items (filter (λ row.
             not (K.is_at key.now row)) (rows_in self.old.blocks.items)) }
     {
         let count = self.count - self.count_of(key) + more.len();
@@ -508,8 +519,9 @@ impl<R: Keyed + Drop> Blocks<R> {
         self.count = count;
     }
 
-    /// Makes room for rows beside those that are there: all in one block, whose place is the answer. Where none of those is sought,
-    /// and all that come are, it is the block into which they go; else all blocks are joined.
+    /// Makes room for rows beside those that are there: all in one block, whose place is the
+    /// answer. Where none of those is sought, and all that come are, it is the block into which
+    /// they go; else all blocks are joined.
     pub fn make_room_beside<K: Sought<R>>(
         &mut self,
         key: &K,

@@ -94,7 +94,8 @@ fn place_of_all<R: Keyed>(rows: &[R], more: &[R]) -> Option<usize>
 fn insert_all<R>(rows: &mut Vec<R>, place: usize, mut more: Vec<R>)
     requires within { place ≤ length rows.old.items }
     requires room { vec_len rows.old + vec_len more ≤ vec_capacity rows.old }
-    ensures { rows.new.items ≡ take place rows.old.items ++ (more.items ++ drop place rows.old.items) }
+    ensures { rows.new.items
+        ≡ take place rows.old.items ++ (more.items ++ drop place rows.old.items) }
 {
     let count = more.len();
     let Ok(()) = rows.append(&mut more) else {
@@ -216,7 +217,8 @@ impl<R: Keyed + Drop> Sorted<R> {
     /// Puts rows in their places, one after another: alike ones stay in their order. There is room.
     pub fn put_in_turn(&mut self, more: Vec<R>)
         requires { vec_len self.old.rows + vec_len more ≤ vec_capacity self.old.rows }
-        ensures { self.new.rows.items ≡ put_in_turn (below_by R.order) more.items self.old.rows.items }
+        ensures { self.new.rows.items
+            ≡ put_in_turn (below_by R.order) more.items self.old.rows.items }
     {
         for row in more {
             self.put(row);

@@ -80,7 +80,8 @@ fn add_checksum_items(
     tag: Tag,
     list: &[Value],
 ) -> Result<(), AllocError>
-    ensures { OnOk result (steps.new ≡ steps.old ++ checksum_steps at.now tag 0 (items_view list.now)) }
+    ensures { OnOk result (steps.new
+        ≡ steps.old ++ checksum_steps at.now tag 0 (items_view list.now)) }
 {
     for (i, value) in list.iter().enumerate() {
         let place = item_at(alloc, at, i)?;
@@ -97,7 +98,8 @@ pub(crate) fn add_checksums(
     tag: Tag,
     value: &Value,
 ) -> Result<(), AllocError>
-    ensures { OnOk result (steps.new ≡ steps.old ++ in_array at.now (checksum_steps at.now tag 0) (as_array (view value.now))) }
+    ensures { OnOk result (steps.new
+        ≡ steps.old ++ in_array at.now (checksum_steps at.now tag 0) (as_array (view value.now))) }
 {
     match value.as_array() {
         Some(list) => add_checksum_items(alloc, steps, at, tag, list.as_slice()),
@@ -112,7 +114,8 @@ fn add_name_fault(
     at: &str,
     value: &Value,
 ) -> Result<(), AllocError>
-    ensures { OnOk result (steps.new ≡ steps.old ++ text_fault at.now is_name (as_str (view value.now))) }
+    ensures { OnOk result (steps.new
+        ≡ steps.old ++ text_fault at.now is_name (as_str (view value.now))) }
 {
     match value.as_str() {
         Some(text) if is_name(text) => Ok(()),
@@ -173,7 +176,8 @@ fn text_or_empty(value: &Value) -> &str
 
 // Adds names behind the first.
 fn add_names(text: &mut String, list: &[Value]) -> Result<(), AllocError>
-    ensures { OnOk result (string_bytes text.new ≡ string_bytes text.old ++ more_names (items_view list.now)) }
+    ensures { OnOk result (string_bytes text.new
+        ≡ string_bytes text.old ++ more_names (items_view list.now)) }
 {
     for value in list {
         text.push_str(", ")?;
@@ -199,7 +203,8 @@ fn names_text(alloc: Global, list: &[Value]) -> Result<String, AllocError>
 
 // What stands behind a verification code.
 fn excluded_text(alloc: Global, value: &Value) -> Result<String, AllocError>
-    ensures { IfOk result (λ s. string_bytes s ≡ excluded_text (option_and_then as_array (names_in (view value.now)))) }
+    ensures { IfOk result (λ s. string_bytes s
+        ≡ excluded_text (option_and_then as_array (names_in (view value.now)))) }
 {
     match names_in(value).and_then(Value::as_array) {
         Some(list) => names_text(alloc, list.as_slice()),

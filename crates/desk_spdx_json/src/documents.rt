@@ -45,7 +45,8 @@ fn add_list<'a>(
     key: &str,
     value: &'a Value,
 ) -> Result<(), AllocError>
-    ensures { OnOk result (steps.new ≡ steps.old ++ all_parts part at.now key.now (view value.now)) }
+    ensures { OnOk result (steps.new
+        ≡ steps.old ++ all_parts part at.now key.now (view value.now)) }
 {
     let place = member_at(alloc, at, key)?;
     let Some(parts) = value.get(key) else {
@@ -67,7 +68,8 @@ fn is_describing(value: &Value) -> bool
 
 // Adds the element that a relationship says the document describes.
 fn add_target<'a>(found: &mut Vec<&'a str>, value: &'a Value) -> Result<(), AllocError>
-    ensures { OnOk result (texts found.new.items ≡ texts found.old.items ++ target_of (view value.now)) }
+    ensures { OnOk result (texts found.new.items
+        ≡ texts found.old.items ++ target_of (view value.now)) }
 {
     if is_describing(value) {
         found.push(word_in(value, "relatedSpdxElement"))?;
@@ -135,7 +137,8 @@ fn add_described_items(
     list: &[Value],
 ) -> Result<(), AllocError>
     ensures { (ids : List (List ℕ)) → IsSetOf ids listed.now
-        → OnOk result (steps.new ≡ steps.old ++ described_items at.now ids 0 (items_view list.now)) }
+        → OnOk result (steps.new
+        ≡ steps.old ++ described_items at.now ids 0 (items_view list.now)) }
 {
     for (i, value) in list.iter().enumerate() {
         let place = item_at(alloc, at, i)?;

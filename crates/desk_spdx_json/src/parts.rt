@@ -40,7 +40,8 @@ fn add_member<'a>(
     value: &'a Value,
     member: &Member,
 ) -> Result<(), AllocError>
-    ensures { OnOk result (steps.new ≡ steps.old ++ member_steps at.now (view value.now) (member_text member.now)) }
+    ensures { OnOk result (steps.new
+        ≡ steps.old ++ member_steps at.now (view value.now) (member_text member.now)) }
 {
     let place = member_at(alloc, at, member.key)?;
     match value.get(member.key) {
@@ -85,7 +86,8 @@ fn leave_unknown(
     members: &[Member],
     key: &str,
 ) -> Result<(), AllocError>
-    ensures { OnOk result (steps.new ≡ steps.old ++ unknown_step (map member_text members.now) key.now) }
+    ensures { OnOk result (steps.new
+        ≡ steps.old ++ unknown_step (map member_text members.now) key.now) }
 {
     if is_known(members, key) {
         return Ok(());
@@ -146,7 +148,8 @@ fn add_words(
     at: &str,
     value: &Value,
 ) -> Result<(), AllocError>
-    ensures { OnOk result (steps.new ≡ steps.old ++ step at.now (put (words_of (view value.now))) ∷ []) }
+    ensures { OnOk result (steps.new
+        ≡ steps.old ++ step at.now (put (words_of (view value.now))) ∷ []) }
 {
     let left = word_in(value, "spdxElementId");
     let kind = word_in(value, "relationshipType");
@@ -180,7 +183,8 @@ pub(crate) fn add_tie(
     kind: &str,
     value: &Value,
 ) -> Result<(), AllocError>
-    ensures { OnOk result (steps.new ≡ steps.old ++ tie_step at.now left.now kind.now (as_str (view value.now)) ∷ []) }
+    ensures { OnOk result (steps.new
+        ≡ steps.old ++ tie_step at.now left.now kind.now (as_str (view value.now)) ∷ []) }
 {
     let Some(right) = value.as_str() else {
         return steps.add(alloc, at, What::BadType);
@@ -200,7 +204,8 @@ fn add_contained_items(
     owner: &str,
     list: &[Value],
 ) -> Result<(), AllocError>
-    ensures { OnOk result (steps.new ≡ steps.old ++ contained_items at.now owner.now 0 (items_view list.now)) }
+    ensures { OnOk result (steps.new
+        ≡ steps.old ++ contained_items at.now owner.now 0 (items_view list.now)) }
 {
     for (i, value) in list.iter().enumerate() {
         let place = item_at(alloc, at, i)?;
@@ -237,7 +242,8 @@ fn add_package<'a>(
     at: &str,
     value: &'a Value,
 ) -> Result<(), AllocError>
-    ensures { OnOk result (steps.new ≡ steps.old ++ part_steps parts.Package at.now (view value.now)) }
+    ensures { OnOk result (steps.new
+        ≡ steps.old ++ part_steps parts.Package at.now (view value.now)) }
 {
     steps.add(alloc, "", What::Blank)?;
     add_object(alloc, steps, at, value, &package_members())?;
@@ -264,7 +270,8 @@ fn add_extracted<'a>(
     at: &str,
     value: &'a Value,
 ) -> Result<(), AllocError>
-    ensures { OnOk result (steps.new ≡ steps.old ++ part_steps parts.Extracted at.now (view value.now)) }
+    ensures { OnOk result (steps.new
+        ≡ steps.old ++ part_steps parts.Extracted at.now (view value.now)) }
 {
     steps.add(alloc, "", What::Blank)?;
     add_object(alloc, steps, at, value, &extracted_members())
@@ -296,7 +303,8 @@ pub(crate) fn add_parts<'a>(
     at: &str,
     list: &'a [Value],
 ) -> Result<(), AllocError>
-    ensures { OnOk result (steps.new ≡ steps.old ++ parts_steps part at.now 0 (items_view list.now)) }
+    ensures { OnOk result (steps.new
+        ≡ steps.old ++ parts_steps part at.now 0 (items_view list.now)) }
 {
     for (i, value) in list.iter().enumerate() {
         let place = item_at(alloc, at, i)?;

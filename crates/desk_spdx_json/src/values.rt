@@ -22,7 +22,8 @@ fn add_one_line<'a>(
     tag: Tag,
     value: &'a Value,
 ) -> Result<(), AllocError>
-    ensures { OnOk result (steps.new ≡ steps.old ++ line_step at.now (one_line tag) (as_str (view value.now)) ∷ []) }
+    ensures { OnOk result (steps.new
+        ≡ steps.old ++ line_step at.now (one_line tag) (as_str (view value.now)) ∷ []) }
 {
     match value.as_str() {
         Some(text) => steps.add(alloc, at, What::OneLine(tag, text)),
@@ -38,7 +39,8 @@ fn add_in_text<'a>(
     tag: Tag,
     value: &'a Value,
 ) -> Result<(), AllocError>
-    ensures { OnOk result (steps.new ≡ steps.old ++ line_step at.now (in_text tag) (as_str (view value.now)) ∷ []) }
+    ensures { OnOk result (steps.new
+        ≡ steps.old ++ line_step at.now (in_text tag) (as_str (view value.now)) ∷ []) }
 {
     match value.as_str() {
         Some(text) => steps.add(alloc, at, What::InText(tag, text)),
@@ -54,7 +56,8 @@ fn add_copyright<'a>(
     tag: Tag,
     value: &'a Value,
 ) -> Result<(), AllocError>
-    ensures { OnOk result (steps.new ≡ steps.old ++ line_step at.now (copyright_line tag) (as_str (view value.now)) ∷ []) }
+    ensures { OnOk result (steps.new
+        ≡ steps.old ++ line_step at.now (copyright_line tag) (as_str (view value.now)) ∷ []) }
 {
     match value.as_str() {
         Some(text) if is_keyword(text) => steps.add(alloc, at, What::OneLine(tag, text)),
@@ -106,7 +109,8 @@ fn add_texts<'a>(
     tag: Tag,
     value: &'a Value,
 ) -> Result<(), AllocError>
-    ensures { OnOk result (steps.new ≡ steps.old ++ in_array at.now (text_steps at.now tag 0) (as_array (view value.now))) }
+    ensures { OnOk result (steps.new
+        ≡ steps.old ++ in_array at.now (text_steps at.now tag 0) (as_array (view value.now))) }
 {
     match value.as_array() {
         Some(list) => add_text_items(alloc, steps, at, tag, list.as_slice()),

@@ -68,7 +68,8 @@ pub fn release_count<S: Alter>(conn: &mut Connection<S>) -> Result<u32, Fault>
 pub fn duty_count<S: Alter>(conn: &mut Connection<S>) -> Result<u32, Fault>
     requires { conn.old.in_transaction ≡ false }
     ensures found { IfOk result (λ count. OfRows (λ t.
-        length t.duty ≡ count) (seen_of (state S.Store conn.old)) (seen_of (state S.Store conn.new))) }
+        length t.duty ≡ count) (seen_of (state S.Store conn.old))
+        (seen_of (state S.Store conn.new))) }
     ensures read { HasRead (state S.Store conn.old) (state S.Store conn.new) result }
     ensures mode { conn.new.in_transaction ≡ false }
 {

@@ -20,7 +20,8 @@ fn has_indexes(schema: &Schema) -> bool
     are(schema.indexes.as_slice(), &INDEXES)
 }
 
-/// Whether a schema is that of a desk: its tables as they are declared, with the indexes of their keys, and nothing beside them.
+/// Whether a schema is that of a desk: its tables as they are declared, with the indexes of their
+/// keys, and nothing beside them.
 pub fn is_declared(schema: &Schema) -> bool
     ensures { Decides result (schema.now ≡ desk_schema) }
 {

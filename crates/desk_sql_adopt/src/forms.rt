@@ -9,8 +9,8 @@ pub(crate) enum ColumnForm {
     Nullable(&'static str, Kind),
 }
 
-/// A table of such columns: the place of the one that is its rowid, and where in a row, whose place 0 is the rowid, its primary key
-/// and each key that it keeps unique stand.
+/// A table of such columns: the place of the one that is its rowid, and where in a row, whose place
+/// 0 is the rowid, its primary key and each key that it keeps unique stand.
 pub(crate) struct TableForm {
     pub(crate) name: &'static str,
     pub(crate) tree: u32,

@@ -83,7 +83,8 @@ fn is_second(schema: &Schema) -> bool
     has_second_tables(schema) && has_older_indexes(schema) && schema.views.is_empty()
 }
 
-/// The older version whose tables a schema has, as they are declared, with the indexes of their keys.
+/// The older version whose tables a schema has, as they are declared, with the indexes of their
+/// keys.
 fn declared_version(schema: &Schema) -> Option<OlderVersion>
     ensures some { IfSome result (λ version. schema.now ≡ older_schema version) }
     ensures none { IfNone result ((version : OlderVersion) → schema.now ≢ older_schema version) }
@@ -117,7 +118,8 @@ fn content_by(told: Option<i64>, declared: Option<OlderVersion>) -> OlderContent
         → declared ≡ Some version → result ≡ OlderContent.Older version }
     ensures bare { (version : OlderVersion) → told ≡ Some (pos (version_number version))
         → declared ≢ Some version → result ≡ OlderContent.Other }
-    ensures other { (n : ℤ) → told ≡ Some n → n ≢ pos 1 → n ≢ pos 2 → result ≡ OlderContent.OtherVersion n }
+    ensures other { (n : ℤ) → told ≡ Some n → n ≢ pos 1 → n ≢ pos 2
+        → result ≡ OlderContent.OtherVersion n }
 {
     let Some(number) = told else {
         return OlderContent::Untold;
@@ -129,14 +131,16 @@ fn content_by(told: Option<i64>, declared: Option<OlderVersion>) -> OlderContent
     }
 }
 
-/// What a database is to a migration, by the version that it tells and by its schema. It is only read.
+/// What a database is to a migration, by the version that it tells and by its schema. It is only
+/// read.
 pub fn examine_older<S: Alter>(conn: &mut Connection<S>) -> Result<OlderContent, Fault>
     requires { conn.old.in_transaction ≡ false }
     ensures found { HasCleanDisk (state S.Store conn.new)
         → IfOk result (IsOlderContent (state S.Store conn.old)) }
     ensures held { HasCleanDisk (state S.Store conn.new) → IsTrue (state S.Store conn.old).is_open
         → IfOk result (λ content. (version : OlderVersion) (t : Tables)
-        → HoldsOlder version t (state S.Store conn.old).now → content ≡ OlderContent.Older version) }
+        → HoldsOlder version t (state S.Store conn.old).now
+        → content ≡ OlderContent.Older version) }
     ensures read { HasRead (state S.Store conn.old) (state S.Store conn.new) result }
     ensures mode { conn.new.in_transaction ≡ false }
 {

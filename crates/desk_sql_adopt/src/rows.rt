@@ -33,7 +33,8 @@ pub fn releases<S: Alter>(alloc: Global, conn: &mut Connection<S>) -> Result<Vec
 pub fn duties<S: Alter>(alloc: Global, conn: &mut Connection<S>) -> Result<Vec<DutyRow>, Fault>
     requires { conn.old.in_transaction ≡ false }
     ensures found { IfOk result (λ found. OfRows (λ t.
-        found.items ≡ t.duty) (seen_of (state S.Store conn.old)) (seen_of (state S.Store conn.new))) }
+        found.items ≡ t.duty) (seen_of (state S.Store conn.old))
+        (seen_of (state S.Store conn.new))) }
     ensures read { HasRead (state S.Store conn.old) (state S.Store conn.new) result }
     ensures mode { conn.new.in_transaction ≡ false }
 {

@@ -79,9 +79,11 @@ pub(crate) fn version<S: Alter>(conn: &mut Connection<S>) -> Result<Option<i64>,
     ensures told { HasCleanDisk (state S.Store conn.new)
         → IfOk result (λ version. TellsVersion version (state S.Store conn.old)) }
     ensures shown { HasCleanDisk (state S.Store conn.new)
-        → IfOk result (λ version. ShowsVersion version (state S.Store conn.old) (state S.Store conn.new)) }
+        → IfOk result (λ version. ShowsVersion version (state S.Store conn.old)
+        (state S.Store conn.new)) }
     ensures held { IfOk result (λ version. OfRows (λ t.
-        version ≡ Some (pos 3)) (seen_of (state S.Store conn.old)) (seen_of (state S.Store conn.new))) }
+        version ≡ Some (pos 3)) (seen_of (state S.Store conn.old))
+        (seen_of (state S.Store conn.new))) }
     ensures read { HasRead (state S.Store conn.old) (state S.Store conn.new) result }
     ensures mode { conn.new.in_transaction ≡ false }
 {
@@ -106,13 +108,16 @@ fn content_by(version: Option<i64>, is_declared: bool) -> Content
 
 /// What a database holds, by the version that it tells and by its schema. It is only read.
 ///
-/// A database that shows a desk's tables, and whose table `meta` tells no other version, is a desk: whether `meta` has just one row is
-/// for an audit to say. A table, an index or a view more, or one that is declared otherwise, makes it `Other`.
+/// A database that shows a desk's tables, and whose table `meta` tells no other version, is a desk:
+/// whether `meta` has just one row is for an audit to say. A table, an index or a view more, or one
+/// that is declared otherwise, makes it `Other`.
 pub fn examine<S: Alter>(conn: &mut Connection<S>) -> Result<Content, Fault>
     requires { conn.old.in_transaction ≡ false }
-    ensures found { HasCleanDisk (state S.Store conn.new) → IfOk result (IsContent (state S.Store conn.old)) }
+    ensures found { HasCleanDisk (state S.Store conn.new)
+        → IfOk result (IsContent (state S.Store conn.old)) }
     ensures held { IfOk result (λ content. IsTrue (state S.Store conn.old).is_open → OfRows (λ t.
-        content ≡ Content.Desk) (seen_of (state S.Store conn.old)) (seen_of (state S.Store conn.new))) }
+        content ≡ Content.Desk) (seen_of (state S.Store conn.old))
+        (seen_of (state S.Store conn.new))) }
     ensures read { HasRead (state S.Store conn.old) (state S.Store conn.new) result }
     ensures mode { conn.new.in_transaction ≡ false }
 {

@@ -29,7 +29,8 @@ fn select_steps<S: Alter>(
     ensures found { IfOk result (λ rows. OfRows (λ t.
         length t.duty ≡ duties → length rows.items ≡ steps_found t duty)
         (seen_of (state S.Store conn.old)) (seen_of (state S.Store conn.new))) }
-    ensures kept { Looked (seen_of (state S.Store conn.old)) (seen_of (state S.Store conn.new)) result }
+    ensures kept { Looked (seen_of (state S.Store conn.old)) (seen_of (state S.Store conn.new))
+        result }
     ensures mode { conn.old.in_transaction ≡ false → conn.new.in_transaction ≡ false }
 {
     query(
@@ -44,7 +45,8 @@ pub fn steps<S: Alter>(conn: &mut Connection<S>, duties: u32, duty: u64) -> Resu
     ensures found { IfOk result (λ found. OfRows (λ t.
         length t.duty ≡ duties → found ≡ steps_found t duty) (seen_of (state S.Store conn.old))
         (seen_of (state S.Store conn.new))) }
-    ensures kept { Looked (seen_of (state S.Store conn.old)) (seen_of (state S.Store conn.new)) result }
+    ensures kept { Looked (seen_of (state S.Store conn.old)) (seen_of (state S.Store conn.new))
+        result }
     ensures mode { conn.old.in_transaction ≡ false → conn.new.in_transaction ≡ false }
 {
     let rows = select_steps(conn, duties, duty)?;
@@ -60,7 +62,8 @@ fn select_changes_of<S: Alter>(
         length t.duty ≡ duties → (rows.items ≡ map change_cells
         (filter (is_change_of duty) t.changes)) × AreSteps (filter (is_change_of duty) t.changes))
         (seen_of (state S.Store conn.old)) (seen_of (state S.Store conn.new))) }
-    ensures kept { Looked (seen_of (state S.Store conn.old)) (seen_of (state S.Store conn.new)) result }
+    ensures kept { Looked (seen_of (state S.Store conn.old)) (seen_of (state S.Store conn.new))
+        result }
     ensures mode { conn.old.in_transaction ≡ false → conn.new.in_transaction ≡ false }
 {
     query(
@@ -79,7 +82,8 @@ fn select_waivers_of<S: Alter>(
         length t.duty ≡ duties → rows.items
         ≡ map ending_cells (waivers_in (filter (is_change_of duty) t.changes)))
         (seen_of (state S.Store conn.old)) (seen_of (state S.Store conn.new))) }
-    ensures kept { Looked (seen_of (state S.Store conn.old)) (seen_of (state S.Store conn.new)) result }
+    ensures kept { Looked (seen_of (state S.Store conn.old)) (seen_of (state S.Store conn.new))
+        result }
     ensures mode { conn.old.in_transaction ≡ false → conn.new.in_transaction ≡ false }
 {
     query(
@@ -106,7 +110,8 @@ fn select_both<S: Alter>(
         length t.duty ≡ duties → both.1.items
         ≡ map ending_cells (waivers_in (filter (is_change_of duty) t.changes)))
         (seen_of (state S.Store conn.old)) (seen_of (state S.Store conn.new))) }
-    ensures kept { Looked (seen_of (state S.Store conn.old)) (seen_of (state S.Store conn.new)) result }
+    ensures kept { Looked (seen_of (state S.Store conn.old)) (seen_of (state S.Store conn.new))
+        result }
     ensures mode { conn.old.in_transaction ≡ false → conn.new.in_transaction ≡ false }
 {
     let changes = select_changes_of(conn, duties, duty)?;
@@ -126,7 +131,8 @@ fn take_waiver(waivers: &[Waiver], step: u32) -> (Option<Day>, &[Waiver])
 
 /// Changes, whose last days stand in waivers in the order of their steps.
 fn with_waivers(alloc: Global, rows: &[Row], waivers: &[Waiver]) -> Result<Vec<ChangeRow>, Fault>
-    ensures { IfOk result (λ found. (xs : List Change) → AreSteps xs → rows.now ≡ map change_cells xs
+    ensures { IfOk result (λ found. (xs : List Change) → AreSteps xs
+        → rows.now ≡ map change_cells xs
         → waivers.now ≡ waivers_in xs → found.items ≡ xs) }
 {
     let mut found = Vec::new(alloc);
@@ -141,7 +147,8 @@ fn with_waivers(alloc: Global, rows: &[Row], waivers: &[Waiver]) -> Result<Vec<C
 
 /// Changes, from the rows of two tables.
 fn read_changes(alloc: Global, rows: &[Row], ends: &[Row]) -> Result<Vec<ChangeRow>, Fault>
-    ensures { IfOk result (λ found. (xs : List Change) → AreSteps xs → rows.now ≡ map change_cells xs
+    ensures { IfOk result (λ found. (xs : List Change) → AreSteps xs
+        → rows.now ≡ map change_cells xs
         → ends.now ≡ map ending_cells (waivers_in xs) → found.items ≡ xs) }
 {
     let waivers: Vec<Waiver> = read_all(alloc, ends)?;
@@ -158,7 +165,8 @@ pub fn changes_of<S: Alter>(
     ensures found { IfOk result (λ found. OfRows (λ t.
         length t.duty ≡ duties → found.items ≡ filter (is_change_of duty) t.changes)
         (seen_of (state S.Store conn.old)) (seen_of (state S.Store conn.new))) }
-    ensures kept { Looked (seen_of (state S.Store conn.old)) (seen_of (state S.Store conn.new)) result }
+    ensures kept { Looked (seen_of (state S.Store conn.old)) (seen_of (state S.Store conn.new))
+        result }
     ensures mode { conn.old.in_transaction ≡ false → conn.new.in_transaction ≡ false }
 {
     let (changes, ends) = select_both(conn, duties, duty)?;
@@ -169,7 +177,8 @@ fn select_days_of<S: Alter>(conn: &mut Connection<S>, duty: u32) -> Result<Vec<R
     ensures found { IfOk result (λ rows. OfRows (λ t.
         rows.items ≡ map day_cells (filter (is_change_of duty) t.changes))
         (seen_of (state S.Store conn.old)) (seen_of (state S.Store conn.new))) }
-    ensures kept { Looked (seen_of (state S.Store conn.old)) (seen_of (state S.Store conn.new)) result }
+    ensures kept { Looked (seen_of (state S.Store conn.old)) (seen_of (state S.Store conn.new))
+        result }
     ensures mode { conn.old.in_transaction ≡ false → conn.new.in_transaction ≡ false }
 {
     query(
@@ -182,7 +191,8 @@ fn select_days_of<S: Alter>(conn: &mut Connection<S>, duty: u32) -> Result<Vec<R
 /// The day of the last of some changes.
 #[tactic(auto, using(crate::proofs::LastDay::last_none))]
 fn last_of(rows: &[Row]) -> Result<Option<Day>, Fault>
-    ensures { IfOk result (λ day. (xs : List Change) → rows.now ≡ map day_cells xs → day ≡ last_day xs) }
+    ensures { IfOk result (λ day. (xs : List Change) → rows.now ≡ map day_cells xs
+        → day ≡ last_day xs) }
 {
     match rows.last() {
         Some(row) => Ok(Some(day_at(row, 0)?)),
@@ -195,7 +205,8 @@ pub fn last_day<S: Alter>(conn: &mut Connection<S>, duty: u32) -> Result<Option<
     ensures found { IfOk result (λ found. OfRows (λ t.
         found ≡ last_day (filter (is_change_of duty) t.changes)) (seen_of (state S.Store conn.old))
         (seen_of (state S.Store conn.new))) }
-    ensures kept { Looked (seen_of (state S.Store conn.old)) (seen_of (state S.Store conn.new)) result }
+    ensures kept { Looked (seen_of (state S.Store conn.old)) (seen_of (state S.Store conn.new))
+        result }
     ensures mode { conn.old.in_transaction ≡ false → conn.new.in_transaction ≡ false }
 {
     let rows = select_days_of(conn, duty)?;

@@ -31,7 +31,8 @@ fn select_document<S: Alter>(
         length t.document ≡ documents → rows.items ≡ map known_cells
         (map known_document (filter (is_document n) t.document))) (seen_of (state S.Store conn.old))
         (seen_of (state S.Store conn.new))) }
-    ensures kept { Looked (seen_of (state S.Store conn.old)) (seen_of (state S.Store conn.new)) result }
+    ensures kept { Looked (seen_of (state S.Store conn.old)) (seen_of (state S.Store conn.new))
+        result }
     ensures mode { conn.old.in_transaction ≡ false → conn.new.in_transaction ≡ false }
 {
     query(
@@ -65,7 +66,8 @@ pub fn document<S: Alter>(
         (find (is_document number) t.document)) (seen_of (state S.Store conn.old))
         (seen_of (state S.Store conn.new))) }
     ensures same { IfOk result (λ found. IfSome found (λ known. known.0 ≡ number)) }
-    ensures kept { Looked (seen_of (state S.Store conn.old)) (seen_of (state S.Store conn.new)) result }
+    ensures kept { Looked (seen_of (state S.Store conn.old)) (seen_of (state S.Store conn.new))
+        result }
     ensures mode { conn.old.in_transaction ≡ false → conn.new.in_transaction ≡ false }
 {
     let rows = select_document(conn, documents, number)?;
@@ -82,7 +84,8 @@ fn select_document_bytes<S: Alter>(
         length t.document ≡ documents → rows.items ≡ map bytes_cells
         (map (λ row. row.bytes) (filter (is_document n) t.document)))
         (seen_of (state S.Store conn.old)) (seen_of (state S.Store conn.new))) }
-    ensures kept { Looked (seen_of (state S.Store conn.old)) (seen_of (state S.Store conn.new)) result }
+    ensures kept { Looked (seen_of (state S.Store conn.old)) (seen_of (state S.Store conn.new))
+        result }
     ensures mode { conn.old.in_transaction ≡ false → conn.new.in_transaction ≡ false }
 {
     query(
@@ -104,7 +107,8 @@ fn document_bytes<S: Alter>(
         length t.document ≡ documents → found ≡ option_map (λ row. row.bytes)
         (find (is_document number) t.document)) (seen_of (state S.Store conn.old))
         (seen_of (state S.Store conn.new))) }
-    ensures kept { Looked (seen_of (state S.Store conn.old)) (seen_of (state S.Store conn.new)) result }
+    ensures kept { Looked (seen_of (state S.Store conn.old)) (seen_of (state S.Store conn.new))
+        result }
     ensures mode { conn.old.in_transaction ≡ false → conn.new.in_transaction ≡ false }
 {
     let rows = select_document_bytes(conn, documents, number)?;
@@ -136,7 +140,8 @@ pub fn document_source<S: Alter>(
         length t.document ≡ documents → found ≡ option_map source_of
         (find (is_document number) t.document)) (seen_of (state S.Store conn.old))
         (seen_of (state S.Store conn.new))) }
-    ensures kept { Looked (seen_of (state S.Store conn.old)) (seen_of (state S.Store conn.new)) result }
+    ensures kept { Looked (seen_of (state S.Store conn.old)) (seen_of (state S.Store conn.new))
+        result }
     ensures mode { conn.old.in_transaction ≡ false → conn.new.in_transaction ≡ false }
 {
     let known = document(alloc, conn, documents, number)?;
@@ -148,7 +153,8 @@ fn select_import<S: Alter>(conn: &mut Connection<S>, namespace: &str) -> Result<
     ensures found { IfOk result (λ rows. OfRows (λ t.
         rows.items ≡ map import_cells (filter (has_namespace namespace.now) t.document))
         (seen_of (state S.Store conn.old)) (seen_of (state S.Store conn.new))) }
-    ensures kept { Looked (seen_of (state S.Store conn.old)) (seen_of (state S.Store conn.new)) result }
+    ensures kept { Looked (seen_of (state S.Store conn.old)) (seen_of (state S.Store conn.new))
+        result }
     ensures mode { conn.old.in_transaction ≡ false → conn.new.in_transaction ≡ false }
 {
     query(
@@ -188,7 +194,8 @@ pub fn import_of<S: Alter>(
     ensures found { IfOk result (λ found. OfRows (λ t.
         found ≡ option_map (known_import bytes.now) (find (has_namespace namespace.now) t.document))
         (seen_of (state S.Store conn.old)) (seen_of (state S.Store conn.new))) }
-    ensures kept { Looked (seen_of (state S.Store conn.old)) (seen_of (state S.Store conn.new)) result }
+    ensures kept { Looked (seen_of (state S.Store conn.old)) (seen_of (state S.Store conn.new))
+        result }
     ensures mode { conn.old.in_transaction ≡ false → conn.new.in_transaction ≡ false }
 {
     let rows = select_import(conn, namespace)?;
@@ -205,7 +212,8 @@ fn select_package<S: Alter>(
         length t.document ≡ documents → rows.items ≡ map package_cells
         (filter (is_package document id.now) t.packages)) (seen_of (state S.Store conn.old))
         (seen_of (state S.Store conn.new))) }
-    ensures kept { Looked (seen_of (state S.Store conn.old)) (seen_of (state S.Store conn.new)) result }
+    ensures kept { Looked (seen_of (state S.Store conn.old)) (seen_of (state S.Store conn.new))
+        result }
     ensures mode { conn.old.in_transaction ≡ false → conn.new.in_transaction ≡ false }
 {
     query(
@@ -227,7 +235,8 @@ pub fn package_row<S: Alter>(
     ensures found { IfOk result (λ found. OfRows (λ t.
         length t.document ≡ documents → found ≡ find (is_package document id.now) t.packages)
         (seen_of (state S.Store conn.old)) (seen_of (state S.Store conn.new))) }
-    ensures kept { Looked (seen_of (state S.Store conn.old)) (seen_of (state S.Store conn.new)) result }
+    ensures kept { Looked (seen_of (state S.Store conn.old)) (seen_of (state S.Store conn.new))
+        result }
     ensures mode { conn.old.in_transaction ≡ false → conn.new.in_transaction ≡ false }
 {
     let rows = select_package(conn, documents, document, id)?;
@@ -238,7 +247,8 @@ fn select_shipped<S: Alter>(conn: &mut Connection<S>, document: u32) -> Result<V
     ensures found { IfOk result (λ rows. OfRows (λ t.
         rows.items ≡ map package_cells (filter (is_shipped_by document) t.packages))
         (seen_of (state S.Store conn.old)) (seen_of (state S.Store conn.new))) }
-    ensures kept { Looked (seen_of (state S.Store conn.old)) (seen_of (state S.Store conn.new)) result }
+    ensures kept { Looked (seen_of (state S.Store conn.old)) (seen_of (state S.Store conn.new))
+        result }
     ensures mode { conn.old.in_transaction ≡ false → conn.new.in_transaction ≡ false }
 {
     query(
@@ -257,7 +267,8 @@ pub fn shipped<S: Alter>(
     ensures found { IfOk result (λ found. OfRows (λ t.
         found.items ≡ filter (is_shipped_by document) t.packages) (seen_of (state S.Store conn.old))
         (seen_of (state S.Store conn.new))) }
-    ensures kept { Looked (seen_of (state S.Store conn.old)) (seen_of (state S.Store conn.new)) result }
+    ensures kept { Looked (seen_of (state S.Store conn.old)) (seen_of (state S.Store conn.new))
+        result }
     ensures mode { conn.old.in_transaction ≡ false → conn.new.in_transaction ≡ false }
 {
     let rows = select_shipped(conn, document)?;

@@ -23,7 +23,8 @@ fn select_duty<S: Alter>(
     ensures found { IfOk result (λ rows. OfRows (λ t.
         length t.duty ≡ duties → rows.items ≡ map duty_cells (filter (is_duty number) t.duty))
         (seen_of (state S.Store conn.old)) (seen_of (state S.Store conn.new))) }
-    ensures kept { Looked (seen_of (state S.Store conn.old)) (seen_of (state S.Store conn.new)) result }
+    ensures kept { Looked (seen_of (state S.Store conn.old)) (seen_of (state S.Store conn.new))
+        result }
     ensures mode { conn.old.in_transaction ≡ false → conn.new.in_transaction ≡ false }
 {
     query(
@@ -56,7 +57,8 @@ pub fn duty<S: Alter>(
         length t.duty ≡ duties → found ≡ duty_found t number) (seen_of (state S.Store conn.old))
         (seen_of (state S.Store conn.new))) }
     ensures same { IfOk result (λ found. IfSome found (λ row. row.number ≡ number)) }
-    ensures kept { Looked (seen_of (state S.Store conn.old)) (seen_of (state S.Store conn.new)) result }
+    ensures kept { Looked (seen_of (state S.Store conn.old)) (seen_of (state S.Store conn.new))
+        result }
     ensures mode { conn.old.in_transaction ≡ false → conn.new.in_transaction ≡ false }
 {
     let rows = select_duty(conn, duties, number)?;
@@ -68,7 +70,8 @@ fn select_duties_of<S: Alter>(conn: &mut Connection<S>, release: &str) -> Result
     ensures found { IfOk result (λ rows. OfRows (λ t.
         rows.items ≡ map duty_cells (filter (is_duty_of release.now) t.duty))
         (seen_of (state S.Store conn.old)) (seen_of (state S.Store conn.new))) }
-    ensures kept { Looked (seen_of (state S.Store conn.old)) (seen_of (state S.Store conn.new)) result }
+    ensures kept { Looked (seen_of (state S.Store conn.old)) (seen_of (state S.Store conn.new))
+        result }
     ensures mode { conn.old.in_transaction ≡ false → conn.new.in_transaction ≡ false }
 {
     query(
@@ -87,7 +90,8 @@ pub fn duties_of<S: Alter>(
     ensures found { IfOk result (λ found. OfRows (λ t.
         found.items ≡ filter (is_duty_of release.now) t.duty) (seen_of (state S.Store conn.old))
         (seen_of (state S.Store conn.new))) }
-    ensures kept { Looked (seen_of (state S.Store conn.old)) (seen_of (state S.Store conn.new)) result }
+    ensures kept { Looked (seen_of (state S.Store conn.old)) (seen_of (state S.Store conn.new))
+        result }
     ensures mode { conn.old.in_transaction ≡ false → conn.new.in_transaction ≡ false }
 {
     let rows = select_duties_of(conn, release)?;

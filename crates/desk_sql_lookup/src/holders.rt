@@ -24,7 +24,8 @@ fn select_releases<S: Alter>(conn: &mut Connection<S>) -> Result<Vec<Row>, Fault
     ensures found { IfOk result (λ rows. OfRows (λ t.
         rows.items ≡ map release_cells t.releases) (seen_of (state S.Store conn.old))
         (seen_of (state S.Store conn.new))) }
-    ensures kept { Looked (seen_of (state S.Store conn.old)) (seen_of (state S.Store conn.new)) result }
+    ensures kept { Looked (seen_of (state S.Store conn.old)) (seen_of (state S.Store conn.new))
+        result }
     ensures mode { conn.old.in_transaction ≡ false → conn.new.in_transaction ≡ false }
 {
     query(
@@ -39,7 +40,8 @@ fn releases<S: Alter>(alloc: Global, conn: &mut Connection<S>) -> Result<Vec<Rel
     ensures found { IfOk result (λ found. OfRows (λ t.
         found.items ≡ t.releases) (seen_of (state S.Store conn.old))
         (seen_of (state S.Store conn.new))) }
-    ensures kept { Looked (seen_of (state S.Store conn.old)) (seen_of (state S.Store conn.new)) result }
+    ensures kept { Looked (seen_of (state S.Store conn.old)) (seen_of (state S.Store conn.new))
+        result }
     ensures mode { conn.old.in_transaction ≡ false → conn.new.in_transaction ≡ false }
 {
     let rows = select_releases(conn)?;
@@ -56,14 +58,16 @@ fn is_holding<S: Alter>(
     ensures found { IfOk result (λ found. OfRows (λ t.
         found ≡ holds t.choice document id.now release.now) (seen_of (state S.Store conn.old))
         (seen_of (state S.Store conn.new))) }
-    ensures kept { Looked (seen_of (state S.Store conn.old)) (seen_of (state S.Store conn.new)) result }
+    ensures kept { Looked (seen_of (state S.Store conn.old)) (seen_of (state S.Store conn.new))
+        result }
     ensures mode { conn.old.in_transaction ≡ false → conn.new.in_transaction ≡ false }
 {
     let rows = select_chosen(conn, release.name.as_str(), document, id)?;
     Ok(!rows.as_slice().is_empty())
 }
 
-/// Of a release, if there is one, and one behind it that may hold the choice, the one that was opened first.
+/// Of a release, if there is one, and one behind it that may hold the choice, the one that was
+/// opened first.
 fn opened_first<'a>(
     first: Option<&'a ReleaseRow>,
     release: &'a ReleaseRow,
@@ -91,7 +95,8 @@ fn first_holding<'a, S: Alter>(
     ensures found { IfOk result (λ found. OfRows (λ t.
         option_copied found ≡ first_opened (filter (holds t.choice document id.now) rows.now))
         (seen_of (state S.Store conn.old)) (seen_of (state S.Store conn.new))) }
-    ensures kept { Looked (seen_of (state S.Store conn.old)) (seen_of (state S.Store conn.new)) result }
+    ensures kept { Looked (seen_of (state S.Store conn.old)) (seen_of (state S.Store conn.new))
+        result }
     ensures mode { conn.old.in_transaction ≡ false → conn.new.in_transaction ≡ false }
 {
     let mut first = None;
@@ -103,7 +108,8 @@ fn first_holding<'a, S: Alter>(
 }
 
 fn name_of(alloc: Global, release: Option<&ReleaseRow>) -> Result<Option<Text>, AllocError>
-    ensures { IfOk result (λ name. name ≡ option_map (λ row. row.name) (option_copied release.entry)) }
+    ensures { IfOk result (λ name. name
+        ≡ option_map (λ row. row.name) (option_copied release.entry)) }
 {
     match release {
         Some(release) => Ok(Some(release.name.clone()?)),
@@ -121,7 +127,8 @@ pub fn holder<S: Alter>(
     ensures found { IfOk result (λ found. OfRows (λ t.
         found ≡ holder_found t document id.now) (seen_of (state S.Store conn.old))
         (seen_of (state S.Store conn.new))) }
-    ensures kept { Looked (seen_of (state S.Store conn.old)) (seen_of (state S.Store conn.new)) result }
+    ensures kept { Looked (seen_of (state S.Store conn.old)) (seen_of (state S.Store conn.new))
+        result }
     ensures mode { conn.old.in_transaction ≡ false → conn.new.in_transaction ≡ false }
 {
     let rows = releases(alloc, conn)?;

@@ -1,14 +1,16 @@
-//! What is looked up in the desk's tables in a SQL database (`desk_sql_layout`): for each look-up of `desk_access::Store` that reads
-//! rows, a function over a connection.
+//! What is looked up in the desk's tables in a SQL database (`desk_sql_layout`): for each look-up
+//! of `desk_access::Store` that reads rows, a function over a connection.
 //!
-//! Each statement is a SELECT over one table: the rows that equal given values in named columns, by the table's key. What more is asked
-//! is told from these rows. A connection shows the rows of the tables that its database holds, in each way in which it may hold them;
-//! the clause `found` says what is told of them as of those of a store, `kept` that the look-up leaves them, and `mode` that no
-//! transaction is open after it where none was before.
+//! Each statement is a SELECT over one table: the rows that equal given values in named columns, by
+//! the table's key. What more is asked is told from these rows. A connection shows the rows of the
+//! tables that its database holds, in each way in which it may hold them; the clause `found` says
+//! what is told of them as of those of a store, `kept` that the look-up leaves them, and `mode`
+//! that no transaction is open after it where none was before.
 //!
-//! Documents, duties and revisions are numbered from 1, and the caller says how many there are. What stands in a column is read as
-//! the desk knows it: a value of another kind, which no desk's table has, is told as a fault of the store's rows. `read_releases` and
-//! `read_duties` read rows that another statement showed.
+//! Documents, duties and revisions are numbered from 1, and the caller says how many there are.
+//! What stands in a column is read as the desk knows it: a value of another kind, which no desk's
+//! table has, is told as a fault of the store's rows. `read_releases` and `read_duties` read rows
+//! that another statement showed.
 #![tactic(auto)]
 
 mod changes;

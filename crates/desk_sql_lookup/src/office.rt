@@ -26,7 +26,8 @@ fn select_conclusion<S: Alter>(
         rows.items ≡ map text_cells (map (λ row. row.expression)
         (filter (is_conclusion document id.now) t.conclusion))) (seen_of (state S.Store conn.old))
         (seen_of (state S.Store conn.new))) }
-    ensures kept { Looked (seen_of (state S.Store conn.old)) (seen_of (state S.Store conn.new)) result }
+    ensures kept { Looked (seen_of (state S.Store conn.old)) (seen_of (state S.Store conn.new))
+        result }
     ensures mode { conn.old.in_transaction ≡ false → conn.new.in_transaction ≡ false }
 {
     query(
@@ -46,7 +47,8 @@ pub fn conclusion<S: Alter>(
     ensures found { IfOk result (λ found. OfRows (λ t.
         found ≡ office_text t.conclusion document id.now) (seen_of (state S.Store conn.old))
         (seen_of (state S.Store conn.new))) }
-    ensures kept { Looked (seen_of (state S.Store conn.old)) (seen_of (state S.Store conn.new)) result }
+    ensures kept { Looked (seen_of (state S.Store conn.old)) (seen_of (state S.Store conn.new))
+        result }
     ensures mode { conn.old.in_transaction ≡ false → conn.new.in_transaction ≡ false }
 {
     let rows = select_conclusion(conn, document, id)?;
@@ -60,9 +62,11 @@ fn select_adoption<S: Alter>(
 ) -> Result<Vec<Row>, Fault>
     ensures found { IfOk result (λ rows. OfRows (λ t.
         rows.items ≡ map text_cells (map (λ row. row.licence)
-        (filter (is_adoption document reference.now) t.adoption))) (seen_of (state S.Store conn.old))
+        (filter (is_adoption document reference.now) t.adoption)))
+        (seen_of (state S.Store conn.old))
         (seen_of (state S.Store conn.new))) }
-    ensures kept { Looked (seen_of (state S.Store conn.old)) (seen_of (state S.Store conn.new)) result }
+    ensures kept { Looked (seen_of (state S.Store conn.old)) (seen_of (state S.Store conn.new))
+        result }
     ensures mode { conn.old.in_transaction ≡ false → conn.new.in_transaction ≡ false }
 {
     query(
@@ -82,7 +86,8 @@ pub fn adoption<S: Alter>(
     ensures found { IfOk result (λ found. OfRows (λ t.
         found ≡ licence_for t.adoption document reference.now) (seen_of (state S.Store conn.old))
         (seen_of (state S.Store conn.new))) }
-    ensures kept { Looked (seen_of (state S.Store conn.old)) (seen_of (state S.Store conn.new)) result }
+    ensures kept { Looked (seen_of (state S.Store conn.old)) (seen_of (state S.Store conn.new))
+        result }
     ensures mode { conn.old.in_transaction ≡ false → conn.new.in_transaction ≡ false }
 {
     let rows = select_adoption(conn, document, reference)?;
@@ -96,7 +101,8 @@ fn select_adoption_count<S: Alter>(
     ensures found { IfOk result (λ rows. OfRows (λ t.
         length rows.items ≡ adoption_count t document) (seen_of (state S.Store conn.old))
         (seen_of (state S.Store conn.new))) }
-    ensures kept { Looked (seen_of (state S.Store conn.old)) (seen_of (state S.Store conn.new)) result }
+    ensures kept { Looked (seen_of (state S.Store conn.old)) (seen_of (state S.Store conn.new))
+        result }
     ensures mode { conn.old.in_transaction ≡ false → conn.new.in_transaction ≡ false }
 {
     query(
@@ -111,7 +117,8 @@ pub fn adoption_count<S: Alter>(conn: &mut Connection<S>, document: u32) -> Resu
     ensures found { IfOk result (λ found. OfRows (λ t.
         found ≡ adoption_count t document) (seen_of (state S.Store conn.old))
         (seen_of (state S.Store conn.new))) }
-    ensures kept { Looked (seen_of (state S.Store conn.old)) (seen_of (state S.Store conn.new)) result }
+    ensures kept { Looked (seen_of (state S.Store conn.old)) (seen_of (state S.Store conn.new))
+        result }
     ensures mode { conn.old.in_transaction ≡ false → conn.new.in_transaction ≡ false }
 {
     let rows = select_adoption_count(conn, document)?;

@@ -31,7 +31,8 @@ pub(crate) fn query<S: Alter>(
         → Shown sql.now (bound params.now) (state S.Store conn.old)
         (state S.Store conn.new) rows.items)) }
     ensures err { IsPlain (understood desk_schema sql.now)
-        → OnErr result (Kept (seen_of (state S.Store conn.old)) (seen_of (state S.Store conn.new))) }
+        → OnErr result (Kept (seen_of (state S.Store conn.old))
+        (seen_of (state S.Store conn.new))) }
     ensures mode { conn.old.in_transaction ≡ false → conn.new.in_transaction ≡ false }
 {
     match conn.query_all(sql, params) {
@@ -47,7 +48,8 @@ pub(crate) fn text<'a>(text: &'a str) -> ValueRef<'a>
     ValueRef::Text(text.as_bytes())
 }
 
-/// A number as a query takes it. Where so many things are numbered from 1, one past the last stands for each that is beyond them.
+/// A number as a query takes it. Where so many things are numbered from 1, one past the last stands
+/// for each that is beyond them.
 pub(crate) fn among(n: u64, count: u32) -> ValueRef<'static>
     ensures { bound_value (owned result) ≡ number (min n (count + 1)) }
 {

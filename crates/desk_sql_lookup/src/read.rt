@@ -19,7 +19,8 @@ pub(crate) trait ReadRow: Sized {
 
 /// All rows.
 pub(crate) fn read_all<T: ReadRow + Drop>(alloc: Global, rows: &[Row]) -> Result<Vec<T>, Fault>
-    ensures { IfOk result (λ found. (xs : List T) → rows.now ≡ map T.ReadRow.cells xs → found.items ≡ xs) }
+    ensures { IfOk result (λ found. (xs : List T) → rows.now ≡ map T.ReadRow.cells xs
+        → found.items ≡ xs) }
 {
     let mut found = Vec::new(alloc);
     for row in rows {

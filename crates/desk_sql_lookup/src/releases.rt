@@ -24,7 +24,8 @@ fn select_release<S: Alter>(conn: &mut Connection<S>, name: &str) -> Result<Vec<
     ensures found { IfOk result (λ rows. OfRows (λ t.
         rows.items ≡ map release_cells (filter (is_release name.now) t.releases))
         (seen_of (state S.Store conn.old)) (seen_of (state S.Store conn.new))) }
-    ensures kept { Looked (seen_of (state S.Store conn.old)) (seen_of (state S.Store conn.new)) result }
+    ensures kept { Looked (seen_of (state S.Store conn.old)) (seen_of (state S.Store conn.new))
+        result }
     ensures mode { conn.old.in_transaction ≡ false → conn.new.in_transaction ≡ false }
 {
     query(
@@ -43,7 +44,8 @@ pub fn release<S: Alter>(
     ensures found { IfOk result (λ found. OfRows (λ t.
         found ≡ release_found t name.now) (seen_of (state S.Store conn.old))
         (seen_of (state S.Store conn.new))) }
-    ensures kept { Looked (seen_of (state S.Store conn.old)) (seen_of (state S.Store conn.new)) result }
+    ensures kept { Looked (seen_of (state S.Store conn.old)) (seen_of (state S.Store conn.new))
+        result }
     ensures mode { conn.old.in_transaction ≡ false → conn.new.in_transaction ≡ false }
 {
     let rows = select_release(conn, name)?;
@@ -54,7 +56,8 @@ fn select_attached<S: Alter>(conn: &mut Connection<S>, release: &str) -> Result<
     ensures found { IfOk result (λ rows. OfRows (λ t.
         rows.items ≡ map attached_cells (attached_to t.attached release.now))
         (seen_of (state S.Store conn.old)) (seen_of (state S.Store conn.new))) }
-    ensures kept { Looked (seen_of (state S.Store conn.old)) (seen_of (state S.Store conn.new)) result }
+    ensures kept { Looked (seen_of (state S.Store conn.old)) (seen_of (state S.Store conn.new))
+        result }
     ensures mode { conn.old.in_transaction ≡ false → conn.new.in_transaction ≡ false }
 {
     query(
@@ -73,7 +76,8 @@ pub fn attached<S: Alter>(
     ensures found { IfOk result (λ found. OfRows (λ t.
         found.items ≡ attached_to t.attached release.now) (seen_of (state S.Store conn.old))
         (seen_of (state S.Store conn.new))) }
-    ensures kept { Looked (seen_of (state S.Store conn.old)) (seen_of (state S.Store conn.new)) result }
+    ensures kept { Looked (seen_of (state S.Store conn.old)) (seen_of (state S.Store conn.new))
+        result }
     ensures mode { conn.old.in_transaction ≡ false → conn.new.in_transaction ≡ false }
 {
     let rows = select_attached(conn, release)?;
@@ -97,7 +101,8 @@ pub fn is_attached<S: Alter>(
     ensures found { IfOk result (λ found. OfRows (λ t.
         found ≡ list_any (is_attachment release.now document) t.attached)
         (seen_of (state S.Store conn.old)) (seen_of (state S.Store conn.new))) }
-    ensures kept { Looked (seen_of (state S.Store conn.old)) (seen_of (state S.Store conn.new)) result }
+    ensures kept { Looked (seen_of (state S.Store conn.old)) (seen_of (state S.Store conn.new))
+        result }
     ensures mode { conn.old.in_transaction ≡ false → conn.new.in_transaction ≡ false }
 {
     let rows = attached(alloc, conn, release)?;
@@ -111,7 +116,8 @@ fn select_attached_count<S: Alter>(
     ensures found { IfOk result (λ rows. OfRows (λ t.
         length rows.items ≡ length (attached_to t.attached release.now))
         (seen_of (state S.Store conn.old)) (seen_of (state S.Store conn.new))) }
-    ensures kept { Looked (seen_of (state S.Store conn.old)) (seen_of (state S.Store conn.new)) result }
+    ensures kept { Looked (seen_of (state S.Store conn.old)) (seen_of (state S.Store conn.new))
+        result }
     ensures mode { conn.old.in_transaction ≡ false → conn.new.in_transaction ≡ false }
 {
     query(
@@ -126,7 +132,8 @@ pub fn attached_count<S: Alter>(conn: &mut Connection<S>, release: &str) -> Resu
     ensures found { IfOk result (λ found. OfRows (λ t.
         found ≡ length (attached_to t.attached release.now)) (seen_of (state S.Store conn.old))
         (seen_of (state S.Store conn.new))) }
-    ensures kept { Looked (seen_of (state S.Store conn.old)) (seen_of (state S.Store conn.new)) result }
+    ensures kept { Looked (seen_of (state S.Store conn.old)) (seen_of (state S.Store conn.new))
+        result }
     ensures mode { conn.old.in_transaction ≡ false → conn.new.in_transaction ≡ false }
 {
     let rows = select_attached_count(conn, release)?;
@@ -143,7 +150,8 @@ pub(crate) fn select_chosen<S: Alter>(
         rows.items ≡ map text_cells (map (λ row. row.term)
         (filter (is_choice_of release.now document id.now) t.choice)))
         (seen_of (state S.Store conn.old)) (seen_of (state S.Store conn.new))) }
-    ensures kept { Looked (seen_of (state S.Store conn.old)) (seen_of (state S.Store conn.new)) result }
+    ensures kept { Looked (seen_of (state S.Store conn.old)) (seen_of (state S.Store conn.new))
+        result }
     ensures mode { conn.old.in_transaction ≡ false → conn.new.in_transaction ≡ false }
 {
     query(
@@ -165,7 +173,8 @@ pub fn chosen<S: Alter>(
         found.items ≡ map (λ row. row.term)
         (filter (is_choice_of release.now document id.now) t.choice))
         (seen_of (state S.Store conn.old)) (seen_of (state S.Store conn.new))) }
-    ensures kept { Looked (seen_of (state S.Store conn.old)) (seen_of (state S.Store conn.new)) result }
+    ensures kept { Looked (seen_of (state S.Store conn.old)) (seen_of (state S.Store conn.new))
+        result }
     ensures mode { conn.old.in_transaction ≡ false → conn.new.in_transaction ≡ false }
 {
     let rows = select_chosen(conn, release, document, id)?;
@@ -176,7 +185,8 @@ fn select_frozen<S: Alter>(conn: &mut Connection<S>, release: &str) -> Result<Ve
     ensures found { IfOk result (λ rows. OfRows (λ t.
         rows.items ≡ map frozen_cells (filter (λ row. bytes_eq row.release release.now) t.frozen))
         (seen_of (state S.Store conn.old)) (seen_of (state S.Store conn.new))) }
-    ensures kept { Looked (seen_of (state S.Store conn.old)) (seen_of (state S.Store conn.new)) result }
+    ensures kept { Looked (seen_of (state S.Store conn.old)) (seen_of (state S.Store conn.new))
+        result }
     ensures mode { conn.old.in_transaction ≡ false → conn.new.in_transaction ≡ false }
 {
     query(
@@ -195,7 +205,8 @@ pub fn frozen<S: Alter>(
     ensures found { IfOk result (λ found. OfRows (λ t.
         found.items ≡ filter (λ row. bytes_eq row.release release.now) t.frozen)
         (seen_of (state S.Store conn.old)) (seen_of (state S.Store conn.new))) }
-    ensures kept { Looked (seen_of (state S.Store conn.old)) (seen_of (state S.Store conn.new)) result }
+    ensures kept { Looked (seen_of (state S.Store conn.old)) (seen_of (state S.Store conn.new))
+        result }
     ensures mode { conn.old.in_transaction ≡ false → conn.new.in_transaction ≡ false }
 {
     let rows = select_frozen(conn, release)?;

@@ -116,7 +116,8 @@ impl ReadRow for DutyRow {
 
 /// The releases whose cells these rows are, in the order of the columns of their table.
 pub fn read_releases(alloc: Global, rows: &[Row]) -> Result<Vec<ReleaseRow>, Fault>
-    ensures { IfOk result (λ found. (releases : List Release) → rows.now ≡ map release_cells releases
+    ensures { IfOk result (λ found. (releases : List Release)
+        → rows.now ≡ map release_cells releases
         → found.items ≡ releases) }
 {
     read_all(alloc, rows)

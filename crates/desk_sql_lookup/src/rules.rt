@@ -82,7 +82,8 @@ fn select_rule<S: Alter>(
         (rows.items ≡ map rule_cells (filter (is_rule_at revision term.now form.now) t.rule))
         × (are_words (filter (is_rule_at revision term.now form.now) t.rule) ≡ true))
         (seen_of (state S.Store conn.old)) (seen_of (state S.Store conn.new))) }
-    ensures kept { Looked (seen_of (state S.Store conn.old)) (seen_of (state S.Store conn.new)) result }
+    ensures kept { Looked (seen_of (state S.Store conn.old)) (seen_of (state S.Store conn.new))
+        result }
     ensures mode { conn.old.in_transaction ≡ false → conn.new.in_transaction ≡ false }
 {
     query(
@@ -103,7 +104,8 @@ pub fn rule<S: Alter>(
     ensures found { IfOk result (λ found. OfRows (λ t.
         length t.catalogue ≡ revisions → found ≡ rule_for (rules_found t) term.now form.now)
         (seen_of (state S.Store conn.old)) (seen_of (state S.Store conn.new))) }
-    ensures kept { Looked (seen_of (state S.Store conn.old)) (seen_of (state S.Store conn.new)) result }
+    ensures kept { Looked (seen_of (state S.Store conn.old)) (seen_of (state S.Store conn.new))
+        result }
     ensures mode { conn.old.in_transaction ≡ false → conn.new.in_transaction ≡ false }
 {
     let rows = select_rule(conn, revisions, term, form)?;

@@ -30,9 +30,11 @@ fn standing<S: Alter>(
     row: &DutyRow,
 ) -> Result<Standing, Fault>
     ensures found { IfOk result (λ found. OfRows (λ t.
-        length t.duty ≡ duties → found ≡ standing_found t row.now) (seen_of (state S.Store conn.old))
+        length t.duty ≡ duties → found ≡ standing_found t row.now)
+        (seen_of (state S.Store conn.old))
         (seen_of (state S.Store conn.new))) }
-    ensures kept { Looked (seen_of (state S.Store conn.old)) (seen_of (state S.Store conn.new)) result }
+    ensures kept { Looked (seen_of (state S.Store conn.old)) (seen_of (state S.Store conn.new))
+        result }
     ensures mode { conn.old.in_transaction ≡ false → conn.new.in_transaction ≡ false }
 {
     let steps = steps(conn, duties, u64::from(row.number))?;
@@ -53,7 +55,8 @@ fn standings<S: Alter>(
     ensures found { IfOk result (λ found. OfRows (λ t.
         length t.duty ≡ duties → found.items ≡ map (standing_found t) rows.now)
         (seen_of (state S.Store conn.old)) (seen_of (state S.Store conn.new))) }
-    ensures kept { Looked (seen_of (state S.Store conn.old)) (seen_of (state S.Store conn.new)) result }
+    ensures kept { Looked (seen_of (state S.Store conn.old)) (seen_of (state S.Store conn.new))
+        result }
     ensures mode { conn.old.in_transaction ≡ false → conn.new.in_transaction ≡ false }
 {
     let mut found = Vec::new(alloc);
@@ -73,7 +76,8 @@ pub fn standings_of<S: Alter>(
     ensures found { IfOk result (λ found. OfRows (λ t.
         length t.duty ≡ duties → found.items ≡ standings_found t release.now)
         (seen_of (state S.Store conn.old)) (seen_of (state S.Store conn.new))) }
-    ensures kept { Looked (seen_of (state S.Store conn.old)) (seen_of (state S.Store conn.new)) result }
+    ensures kept { Looked (seen_of (state S.Store conn.old)) (seen_of (state S.Store conn.new))
+        result }
     ensures mode { conn.old.in_transaction ≡ false → conn.new.in_transaction ≡ false }
 {
     let rows = duties_of(alloc, conn, release)?;
@@ -84,7 +88,8 @@ fn select_duties_at<S: Alter>(conn: &mut Connection<S>, place: DutyState) -> Res
     ensures found { IfOk result (λ rows. OfRows (λ t.
         rows.items ≡ map duty_cells (filter (stands_at (duty_state_name place)) t.duty))
         (seen_of (state S.Store conn.old)) (seen_of (state S.Store conn.new))) }
-    ensures kept { Looked (seen_of (state S.Store conn.old)) (seen_of (state S.Store conn.new)) result }
+    ensures kept { Looked (seen_of (state S.Store conn.old)) (seen_of (state S.Store conn.new))
+        result }
     ensures mode { conn.old.in_transaction ≡ false → conn.new.in_transaction ≡ false }
 {
     query(
@@ -99,7 +104,8 @@ fn waived<S: Alter>(alloc: Global, conn: &mut Connection<S>) -> Result<Vec<DutyR
     ensures found { IfOk result (λ found. OfRows (λ t.
         found.items ≡ filter (stands_at (duty_state_name DutyState.Waived)) t.duty)
         (seen_of (state S.Store conn.old)) (seen_of (state S.Store conn.new))) }
-    ensures kept { Looked (seen_of (state S.Store conn.old)) (seen_of (state S.Store conn.new)) result }
+    ensures kept { Looked (seen_of (state S.Store conn.old)) (seen_of (state S.Store conn.new))
+        result }
     ensures mode { conn.old.in_transaction ≡ false → conn.new.in_transaction ≡ false }
 {
     let rows = select_duties_at(conn, DutyState::Waived)?;
@@ -137,7 +143,8 @@ fn standing_if_ended<S: Alter>(
     ensures found { IfOk result (λ found. OfRows (λ t.
         length t.duty ≡ duties → found ≡ ended_standing t day row.now)
         (seen_of (state S.Store conn.old)) (seen_of (state S.Store conn.new))) }
-    ensures kept { Looked (seen_of (state S.Store conn.old)) (seen_of (state S.Store conn.new)) result }
+    ensures kept { Looked (seen_of (state S.Store conn.old)) (seen_of (state S.Store conn.new))
+        result }
     ensures mode { conn.old.in_transaction ≡ false → conn.new.in_transaction ≡ false }
 {
     let changes = changes_of(alloc, conn, duties, u64::from(row.number))?;
@@ -172,7 +179,8 @@ fn ended_among<S: Alter>(
     ensures found { IfOk result (λ found. OfRows (λ t.
         length t.duty ≡ duties → found.items ≡ filter_map (ended_standing t day) rows.now)
         (seen_of (state S.Store conn.old)) (seen_of (state S.Store conn.new))) }
-    ensures kept { Looked (seen_of (state S.Store conn.old)) (seen_of (state S.Store conn.new)) result }
+    ensures kept { Looked (seen_of (state S.Store conn.old)) (seen_of (state S.Store conn.new))
+        result }
     ensures mode { conn.old.in_transaction ≡ false → conn.new.in_transaction ≡ false }
 {
     let mut found = Vec::new(alloc);
@@ -183,7 +191,8 @@ fn ended_among<S: Alter>(
     Ok(found)
 }
 
-/// Where the duties stand that are waived up to a day before this one, by number, of so many duties.
+/// Where the duties stand that are waived up to a day before this one, by number, of so many
+/// duties.
 pub fn ended<S: Alter>(
     alloc: Global,
     conn: &mut Connection<S>,
@@ -193,7 +202,8 @@ pub fn ended<S: Alter>(
     ensures found { IfOk result (λ found. OfRows (λ t.
         length t.duty ≡ duties → found.items ≡ ended_found t day) (seen_of (state S.Store conn.old))
         (seen_of (state S.Store conn.new))) }
-    ensures kept { Looked (seen_of (state S.Store conn.old)) (seen_of (state S.Store conn.new)) result }
+    ensures kept { Looked (seen_of (state S.Store conn.old)) (seen_of (state S.Store conn.new))
+        result }
     ensures mode { conn.old.in_transaction ≡ false → conn.new.in_transaction ≡ false }
 {
     let rows = waived(alloc, conn)?;

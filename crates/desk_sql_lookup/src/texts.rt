@@ -28,7 +28,8 @@ fn select_catalogue<S: Alter>(
         length t.catalogue ≡ revisions → rows.items ≡ map text_cells
         (map (λ row. row.body) (filter (is_revision n) t.catalogue)))
         (seen_of (state S.Store conn.old)) (seen_of (state S.Store conn.new))) }
-    ensures kept { Looked (seen_of (state S.Store conn.old)) (seen_of (state S.Store conn.new)) result }
+    ensures kept { Looked (seen_of (state S.Store conn.old)) (seen_of (state S.Store conn.new))
+        result }
     ensures mode { conn.old.in_transaction ≡ false → conn.new.in_transaction ≡ false }
 {
     query(
@@ -49,7 +50,8 @@ pub fn catalogue_text<S: Alter>(
     ensures found { IfOk result (λ found. OfRows (λ t.
         length t.catalogue ≡ revisions → found ≡ revision_text t.catalogue revision)
         (seen_of (state S.Store conn.old)) (seen_of (state S.Store conn.new))) }
-    ensures kept { Looked (seen_of (state S.Store conn.old)) (seen_of (state S.Store conn.new)) result }
+    ensures kept { Looked (seen_of (state S.Store conn.old)) (seen_of (state S.Store conn.new))
+        result }
     ensures mode { conn.old.in_transaction ≡ false → conn.new.in_transaction ≡ false }
 {
     let rows = select_catalogue(conn, revisions, revision)?;
@@ -63,9 +65,11 @@ fn select_extracted<S: Alter>(
 ) -> Result<Vec<Row>, Fault>
     ensures found { IfOk result (λ rows. OfRows (λ t.
         rows.items ≡ map extracted_body_cells
-        (filter (is_extracted document reference.now) t.extracted)) (seen_of (state S.Store conn.old))
+        (filter (is_extracted document reference.now) t.extracted))
+        (seen_of (state S.Store conn.old))
         (seen_of (state S.Store conn.new))) }
-    ensures kept { Looked (seen_of (state S.Store conn.old)) (seen_of (state S.Store conn.new)) result }
+    ensures kept { Looked (seen_of (state S.Store conn.old)) (seen_of (state S.Store conn.new))
+        result }
     ensures mode { conn.old.in_transaction ≡ false → conn.new.in_transaction ≡ false }
 {
     query(
@@ -94,9 +98,11 @@ pub fn extracted_text<S: Alter>(
     reference: &str,
 ) -> Result<Option<Text>, Fault>
     ensures found { IfOk result (λ found. OfRows (λ t.
-        found ≡ extracted_text t.extracted document reference.now) (seen_of (state S.Store conn.old))
+        found ≡ extracted_text t.extracted document reference.now)
+        (seen_of (state S.Store conn.old))
         (seen_of (state S.Store conn.new))) }
-    ensures kept { Looked (seen_of (state S.Store conn.old)) (seen_of (state S.Store conn.new)) result }
+    ensures kept { Looked (seen_of (state S.Store conn.old)) (seen_of (state S.Store conn.new))
+        result }
     ensures mode { conn.old.in_transaction ≡ false → conn.new.in_transaction ≡ false }
 {
     let rows = select_extracted(conn, document, reference)?;

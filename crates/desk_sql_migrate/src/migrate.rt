@@ -36,7 +36,8 @@ fn report_inside<S: Alter>(alloc: Global, tx: &mut Transaction<'_, S>) -> Result
     ensures sound { IfOk result (λ report. HasCleanDisk (state S.Store tx.new.conn.now)
         → (w : Readings) → AreRight w → (h : List Command) → IsHistory w h
         → Holds (tables w h) (state S.Store tx.old.conn.now).now → report ≡ AuditReport.Sound) }
-    ensures asked { HasAsked (state S.Store tx.old.conn.now) (state S.Store tx.new.conn.now) result }
+    ensures asked { HasAsked (state S.Store tx.old.conn.now) (state S.Store tx.new.conn.now)
+        result }
 {
     desk_history::listed_tables_are_sorted();
     desk_texts_laws::right_readings_list_in_order();
@@ -53,18 +54,22 @@ fn prepare<S: Alter>(
     version: OlderVersion,
 ) -> Result<AuditReport, Fault>
     ensures same_reference { tx.new.conn.ghost_name ≡ tx.old.conn.ghost_name }
-    ensures prepared { Prepares version (state S.Store tx.old.conn.now) (state S.Store tx.new.conn.now) result }
+    ensures prepared { Prepares version (state S.Store tx.old.conn.now)
+        (state S.Store tx.new.conn.now) result }
     ensures sound { IfOk result (λ report. HasCleanDisk (state S.Store tx.new.conn.now)
         → IsTrue (state S.Store tx.old.conn.now).in_transaction
         → (w : Readings) → AreRight w → (h : List Command) → IsHistory w h
-        → HoldsOlder version (tables w h) (state S.Store tx.old.conn.now).now → report ≡ AuditReport.Sound) }
-    ensures survives { Survives (state S.Store tx.old.conn.now) (state S.Store tx.new.conn.now) (λ _. ⊥) }
+        → HoldsOlder version (tables w h) (state S.Store tx.old.conn.now).now
+        → report ≡ AuditReport.Sound) }
+    ensures survives { Survives (state S.Store tx.old.conn.now) (state S.Store tx.new.conn.now)
+        (λ _. ⊥) }
 {
     upgrade(tx, version)?;
     report_inside(alloc, tx)
 }
 
-/// Migrates the tables in one transaction, which is committed where the rows that come of it are sound, and dropped where they aren't.
+/// Migrates the tables in one transaction, which is committed where the rows that come of it are
+/// sound, and dropped where they aren't.
 fn write<S: Alter>(
     alloc: Global,
     conn: &mut Connection<S>,
@@ -72,13 +77,15 @@ fn write<S: Alter>(
 ) -> Result<AuditReport, Fault>
     requires { conn.old.in_transaction ≡ false }
     ensures ends { HasCleanDisk (state S.Store conn.new)
-        → (IsTrue (state S.Store conn.old).is_open → (state S.Store conn.old).now.schema ≡ older_schema version)
+        → (IsTrue (state S.Store conn.old).is_open
+        → (state S.Store conn.old).now.schema ≡ older_schema version)
         → IfOk result (Ends version (state S.Store conn.old) (state S.Store conn.new)) }
     ensures sound { IfOk result (λ report. InOlderHistory version (λ w h.
         report ≡ AuditReport.Sound) (state S.Store conn.old) (state S.Store conn.new)) }
     ensures left { Leaves version (state S.Store conn.old) (state S.Store conn.new) result }
     ensures stop { OnOk result (IsTrue (state S.Store conn.new).is_open → (trees : _)
-        → (state S.Store conn.new).may_leave trees → trees ≡ (state S.Store conn.new).committed.trees) }
+        → (state S.Store conn.new).may_leave trees
+        → trees ≡ (state S.Store conn.new).committed.trees) }
     ensures mode { conn.new.in_transaction ≡ false }
 {
     let _settled = conn.is_autocommit();
@@ -100,8 +107,10 @@ fn write<S: Alter>(
 fn older_tables<S: Alter>(conn: &mut Connection<S>) -> Result<OlderVersion, MigrateFault>
     requires { conn.old.in_transaction ≡ false }
     ensures found { HasCleanDisk (state S.Store conn.new)
-        → IfOk result (λ version. IsOlderContent (state S.Store conn.old) (OlderContent.Older version)) }
-    ensures reason { HasCleanDisk (state S.Store conn.new) → IfErr result (IsReason (state S.Store conn.old)) }
+        → IfOk result (λ version. IsOlderContent (state S.Store conn.old)
+        (OlderContent.Older version)) }
+    ensures reason { HasCleanDisk (state S.Store conn.new)
+        → IfErr result (IsReason (state S.Store conn.old)) }
     ensures history { IfOk result (λ version. (other : Version) → InOlderHistory other (λ w h.
         version ≡ other) (state S.Store conn.old) (state S.Store conn.new)) }
     ensures faults { IfErr result (λ fault. (other : Version) → InOlderHistory other (λ w h.
@@ -133,24 +142,30 @@ fn outcome(
     }
 }
 
-/// Gives a database that holds a desk's tables in version 1 or 2 those of version 3, and tells the old version.
+/// Gives a database that holds a desk's tables in version 1 or 2 those of version 3, and tells the
+/// old version.
 ///
-/// In one transaction the missing tables are declared, from version 1 profile 1 is noted for each document, and the new version. The
-/// database is refused as `NotADesk` where no table `meta` has a column `version`, or where it names version 1 or 2 and the tables of
-/// that version aren't there as they are declared; as `BadVersion` where it names another version; as `Unsound` with `BadMeta` where
-/// it doesn't name one version, else where the migrated tables wouldn't be sound, by the first condition that they don't meet. After
-/// a refusal the database is as it was. After a fault it shows what it showed, though a stop may leave the migrated tables.
+/// In one transaction the missing tables are declared, from version 1 profile 1 is noted for each
+/// document, and the new version. The database is refused as `NotADesk` where no table `meta` has a
+/// column `version`, or where it names version 1 or 2 and the tables of that version aren't there
+/// as they are declared; as `BadVersion` where it names another version; as `Unsound` with
+/// `BadMeta` where it doesn't name one version, else where the migrated tables wouldn't be sound,
+/// by the first condition that they don't meet. After a refusal the database is as it was. After a
+/// fault it shows what it showed, though a stop may leave the migrated tables.
 pub fn migrate_tables<S: Alter>(
     alloc: Global,
     conn: &mut Connection<S>,
 ) -> Result<OlderVersion, MigrateFault>
     requires { conn.old.in_transaction ≡ false }
     ensures migrated { HasCleanDisk (state S.Store conn.new)
-        → IfOk result (λ version. IsOlderContent (state S.Store conn.old) (OlderContent.Older version)
+        → IfOk result (λ version. IsOlderContent (state S.Store conn.old)
+        (OlderContent.Older version)
         × Migrated version (state S.Store conn.old) (state S.Store conn.new)) }
     ensures stop { OnOk result (IsTrue (state S.Store conn.new).is_open → (trees : _)
-        → (state S.Store conn.new).may_leave trees → trees ≡ (state S.Store conn.new).committed.trees) }
-    ensures reason { HasCleanDisk (state S.Store conn.new) → IfErr result (IsReason (state S.Store conn.old)) }
+        → (state S.Store conn.new).may_leave trees
+        → trees ≡ (state S.Store conn.new).committed.trees) }
+    ensures reason { HasCleanDisk (state S.Store conn.new)
+        → IfErr result (IsReason (state S.Store conn.old)) }
     ensures history { IfOk result (λ version. (other : Version) → InOlderHistory other (λ w h.
         version ≡ other) (state S.Store conn.old) (state S.Store conn.new)) }
     ensures faults { IfErr result (λ fault. (other : Version) → InOlderHistory other (λ w h.

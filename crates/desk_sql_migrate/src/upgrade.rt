@@ -15,9 +15,11 @@ use sqlite::{Alter, Transaction};
 /// Declares the table of profiles beside the tables of version 1.
 fn declare_readings<S: Alter>(tx: &mut Transaction<'_, S>) -> Result<(), Fault>
     ensures same_reference { tx.new.conn.ghost_name ≡ tx.old.conn.ghost_name }
-    ensures gained { HasGained (older_schema OlderVersion.One) (older_schema OlderVersion.Two) with_no_readings
+    ensures gained { HasGained (older_schema OlderVersion.One) (older_schema OlderVersion.Two)
+        with_no_readings
         (state S.Store tx.old.conn.now) (state S.Store tx.new.conn.now) result }
-    ensures survives { Survives (state S.Store tx.old.conn.now) (state S.Store tx.new.conn.now) (λ _. ⊥) }
+    ensures survives { Survives (state S.Store tx.old.conn.now) (state S.Store tx.new.conn.now)
+        (λ _. ⊥) }
 {
     execute(tx, READING_TABLE, &[])
 }
@@ -27,7 +29,8 @@ fn declare_waivers<S: Alter>(tx: &mut Transaction<'_, S>) -> Result<(), Fault>
     ensures same_reference { tx.new.conn.ghost_name ≡ tx.old.conn.ghost_name }
     ensures gained { HasGained (older_schema OlderVersion.Two) desk_schema with_no_waivers
         (state S.Store tx.old.conn.now) (state S.Store tx.new.conn.now) result }
-    ensures survives { Survives (state S.Store tx.old.conn.now) (state S.Store tx.new.conn.now) (λ _. ⊥) }
+    ensures survives { Survives (state S.Store tx.old.conn.now) (state S.Store tx.new.conn.now)
+        (λ _. ⊥) }
 {
     execute(tx, WAIVER_TABLE, &[])
 }
@@ -37,7 +40,8 @@ fn note_readings<S: Alter>(tx: &mut Transaction<'_, S>) -> Result<(), Fault>
     ensures same_reference { tx.new.conn.ghost_name ≡ tx.old.conn.ghost_name }
     ensures gained { HasGained desk_schema desk_schema with_readings (state S.Store tx.old.conn.now)
         (state S.Store tx.new.conn.now) result }
-    ensures survives { Survives (state S.Store tx.old.conn.now) (state S.Store tx.new.conn.now) (λ _. ⊥) }
+    ensures survives { Survives (state S.Store tx.old.conn.now) (state S.Store tx.new.conn.now)
+        (λ _. ⊥) }
 {
     execute(
         tx,
@@ -49,9 +53,11 @@ fn note_readings<S: Alter>(tx: &mut Transaction<'_, S>) -> Result<(), Fault>
 /// Takes the version away.
 fn drop_version<S: Alter>(tx: &mut Transaction<'_, S>) -> Result<(), Fault>
     ensures same_reference { tx.new.conn.ghost_name ≡ tx.old.conn.ghost_name }
-    ensures gained { HasGained desk_schema desk_schema without_version (state S.Store tx.old.conn.now)
+    ensures gained { HasGained desk_schema desk_schema without_version
+        (state S.Store tx.old.conn.now)
         (state S.Store tx.new.conn.now) result }
-    ensures survives { Survives (state S.Store tx.old.conn.now) (state S.Store tx.new.conn.now) (λ _. ⊥) }
+    ensures survives { Survives (state S.Store tx.old.conn.now) (state S.Store tx.new.conn.now)
+        (λ _. ⊥) }
 {
     execute(tx, "DELETE FROM meta", &[])
 }
@@ -61,7 +67,8 @@ fn note_version<S: Alter>(tx: &mut Transaction<'_, S>) -> Result<(), Fault>
     ensures same_reference { tx.new.conn.ghost_name ≡ tx.old.conn.ghost_name }
     ensures gained { HasGained desk_schema desk_schema with_version (state S.Store tx.old.conn.now)
         (state S.Store tx.new.conn.now) result }
-    ensures survives { Survives (state S.Store tx.old.conn.now) (state S.Store tx.new.conn.now) (λ _. ⊥) }
+    ensures survives { Survives (state S.Store tx.old.conn.now) (state S.Store tx.new.conn.now)
+        (λ _. ⊥) }
 {
     execute(tx, "INSERT INTO meta VALUES (3)", &[])
 }
@@ -71,7 +78,8 @@ fn renew_version<S: Alter>(tx: &mut Transaction<'_, S>) -> Result<(), Fault>
     ensures same_reference { tx.new.conn.ghost_name ≡ tx.old.conn.ghost_name }
     ensures gained { HasGained desk_schema desk_schema (λ rows. with_version (without_version rows))
         (state S.Store tx.old.conn.now) (state S.Store tx.new.conn.now) result }
-    ensures survives { Survives (state S.Store tx.old.conn.now) (state S.Store tx.new.conn.now) (λ _. ⊥) }
+    ensures survives { Survives (state S.Store tx.old.conn.now) (state S.Store tx.new.conn.now)
+        (λ _. ⊥) }
 {
     drop_version(tx)?;
     note_version(tx)
@@ -82,7 +90,8 @@ fn upgrade_second<S: Alter>(tx: &mut Transaction<'_, S>) -> Result<(), Fault>
     ensures same_reference { tx.new.conn.ghost_name ≡ tx.old.conn.ghost_name }
     ensures upgraded { Upgrades OlderVersion.Two (state S.Store tx.old.conn.now)
         (state S.Store tx.new.conn.now) result }
-    ensures survives { Survives (state S.Store tx.old.conn.now) (state S.Store tx.new.conn.now) (λ _. ⊥) }
+    ensures survives { Survives (state S.Store tx.old.conn.now) (state S.Store tx.new.conn.now)
+        (λ _. ⊥) }
 {
     declare_waivers(tx)?;
     renew_version(tx)
@@ -91,9 +100,11 @@ fn upgrade_second<S: Alter>(tx: &mut Transaction<'_, S>) -> Result<(), Fault>
 /// Declares what version 1 lacks.
 fn declare_both<S: Alter>(tx: &mut Transaction<'_, S>) -> Result<(), Fault>
     ensures same_reference { tx.new.conn.ghost_name ≡ tx.old.conn.ghost_name }
-    ensures gained { HasGained (older_schema OlderVersion.One) desk_schema (λ rows. with_no_waivers (with_no_readings rows))
+    ensures gained { HasGained (older_schema OlderVersion.One) desk_schema
+        (λ rows. with_no_waivers (with_no_readings rows))
         (state S.Store tx.old.conn.now) (state S.Store tx.new.conn.now) result }
-    ensures survives { Survives (state S.Store tx.old.conn.now) (state S.Store tx.new.conn.now) (λ _. ⊥) }
+    ensures survives { Survives (state S.Store tx.old.conn.now) (state S.Store tx.new.conn.now)
+        (λ _. ⊥) }
 {
     declare_readings(tx)?;
     declare_waivers(tx)
@@ -102,9 +113,11 @@ fn declare_both<S: Alter>(tx: &mut Transaction<'_, S>) -> Result<(), Fault>
 /// Writes the rows that version 1 lacks.
 fn note_both<S: Alter>(tx: &mut Transaction<'_, S>) -> Result<(), Fault>
     ensures same_reference { tx.new.conn.ghost_name ≡ tx.old.conn.ghost_name }
-    ensures gained { HasGained desk_schema desk_schema (λ rows. with_version (without_version (with_readings rows)))
+    ensures gained { HasGained desk_schema desk_schema
+        (λ rows. with_version (without_version (with_readings rows)))
         (state S.Store tx.old.conn.now) (state S.Store tx.new.conn.now) result }
-    ensures survives { Survives (state S.Store tx.old.conn.now) (state S.Store tx.new.conn.now) (λ _. ⊥) }
+    ensures survives { Survives (state S.Store tx.old.conn.now) (state S.Store tx.new.conn.now)
+        (λ _. ⊥) }
 {
     note_readings(tx)?;
     renew_version(tx)
@@ -115,7 +128,8 @@ fn upgrade_first<S: Alter>(tx: &mut Transaction<'_, S>) -> Result<(), Fault>
     ensures same_reference { tx.new.conn.ghost_name ≡ tx.old.conn.ghost_name }
     ensures upgraded { Upgrades OlderVersion.One (state S.Store tx.old.conn.now)
         (state S.Store tx.new.conn.now) result }
-    ensures survives { Survives (state S.Store tx.old.conn.now) (state S.Store tx.new.conn.now) (λ _. ⊥) }
+    ensures survives { Survives (state S.Store tx.old.conn.now) (state S.Store tx.new.conn.now)
+        (λ _. ⊥) }
 {
     declare_both(tx)?;
     note_both(tx)
@@ -129,7 +143,8 @@ pub(crate) fn upgrade<S: Alter>(
     ensures same_reference { tx.new.conn.ghost_name ≡ tx.old.conn.ghost_name }
     ensures upgraded { Upgrades version (state S.Store tx.old.conn.now)
         (state S.Store tx.new.conn.now) result }
-    ensures survives { Survives (state S.Store tx.old.conn.now) (state S.Store tx.new.conn.now) (λ _. ⊥) }
+    ensures survives { Survives (state S.Store tx.old.conn.now) (state S.Store tx.new.conn.now)
+        (λ _. ⊥) }
 {
     match version {
         OlderVersion::One => upgrade_first(tx),

@@ -60,7 +60,8 @@ impl Stored for StoredCatalogue {
 /// All revisions of the catalogue, by number.
 fn catalogue_rows<R: Source>(alloc: Global, source: &mut R) -> Result<Items<StoredCatalogue>, Fault>
     requires { R.is_ready source.old }
-    ensures ok { IfOk result (λ rows. IsRead (IsScan catalogue_table stored_catalogue_cells catalogue_order rows)
+    ensures ok { IfOk result
+        (λ rows. IsRead (IsScan catalogue_table stored_catalogue_cells catalogue_order rows)
         (λ t. rows ≡ map catalogue_stored t.catalogue)
         (R.shows source.old) (R.shows source.new)) }
     ensures asked { HasAsked (R.shows source.old) (R.shows source.new) result }
@@ -118,7 +119,8 @@ pub(crate) struct CataloguePart {
 /// The version of the tables, and the revisions of the catalogue with their rules.
 pub(crate) fn catalogues<R: Source>(alloc: Global, source: &mut R) -> Result<CataloguePart, Fault>
     requires { R.is_ready source.old }
-    ensures ok { IfOk result (λ part. IsRead (HasCatalogues part) (OfCatalogues part) (R.shows source.old)
+    ensures ok { IfOk result
+        (λ part. IsRead (HasCatalogues part) (OfCatalogues part) (R.shows source.old)
         (R.shows source.new)) }
     ensures asked { HasAsked (R.shows source.old) (R.shows source.new) result }
     ensures ready { R.is_ready source.new }

@@ -37,7 +37,8 @@ impl Stored for StoredDocument {
 /// All documents, by number.
 fn document_rows<R: Source>(alloc: Global, source: &mut R) -> Result<Items<StoredDocument>, Fault>
     requires { R.is_ready source.old }
-    ensures ok { IfOk result (λ rows. IsRead (IsScan document_table stored_document_cells document_order rows)
+    ensures ok { IfOk result
+        (λ rows. IsRead (IsScan document_table stored_document_cells document_order rows)
         (λ t. rows ≡ map document_stored t.document)
         (R.shows source.old) (R.shows source.new)) }
     ensures asked { HasAsked (R.shows source.old) (R.shows source.new) result }
@@ -67,7 +68,8 @@ impl Stored for StoredReading {
 /// The profiles of all documents, by number.
 fn reading_rows<R: Source>(alloc: Global, source: &mut R) -> Result<Listed<StoredReading>, Fault>
     requires { R.is_ready source.old }
-    ensures ok { IfOk result (λ rows. IsRead (IsScan reading_table stored_reading_cells reading_order rows)
+    ensures ok { IfOk result
+        (λ rows. IsRead (IsScan reading_table stored_reading_cells reading_order rows)
         (λ t. rows ≡ map reading_stored t.document)
         (R.shows source.old) (R.shows source.new)) }
     ensures asked { HasAsked (R.shows source.old) (R.shows source.new) result }
@@ -102,7 +104,8 @@ impl Stored for StoredPackage {
 /// All packages, by document and id.
 fn package_rows<R: Source>(alloc: Global, source: &mut R) -> Result<Listed<StoredPackage>, Fault>
     requires { R.is_ready source.old }
-    ensures ok { IfOk result (λ rows. IsRead (IsScan package_table stored_package_cells package_order rows)
+    ensures ok { IfOk result
+        (λ rows. IsRead (IsScan package_table stored_package_cells package_order rows)
         (λ t. rows ≡ map package_stored t.packages)
         (R.shows source.old) (R.shows source.new)) }
     ensures asked { HasAsked (R.shows source.old) (R.shows source.new) result }
@@ -133,7 +136,8 @@ impl Stored for StoredExtracted {
 /// All extracted licences, by document and reference.
 fn extracted_rows<R: Source>(alloc: Global, source: &mut R) -> Result<Items<StoredExtracted>, Fault>
     requires { R.is_ready source.old }
-    ensures ok { IfOk result (λ rows. IsRead (IsScan extracted_table stored_extracted_cells extracted_order rows)
+    ensures ok { IfOk result
+        (λ rows. IsRead (IsScan extracted_table stored_extracted_cells extracted_order rows)
         (λ t. AreSortedAsListed t → rows ≡ map extracted_stored t.extracted)
         (R.shows source.old) (R.shows source.new)) }
     ensures asked { HasAsked (R.shows source.old) (R.shows source.new) result }
@@ -159,7 +163,8 @@ pub(crate) struct DocumentPart {
 /// Documents with their profiles, packages and extracted licences.
 pub(crate) fn documents<R: Source>(alloc: Global, source: &mut R) -> Result<DocumentPart, Fault>
     requires { R.is_ready source.old }
-    ensures ok { IfOk result (λ part. IsRead (HasDocuments part) (OfDocuments part) (R.shows source.old)
+    ensures ok { IfOk result
+        (λ part. IsRead (HasDocuments part) (OfDocuments part) (R.shows source.old)
         (R.shows source.new)) }
     ensures asked { HasAsked (R.shows source.old) (R.shows source.new) result }
     ensures ready { R.is_ready source.new }

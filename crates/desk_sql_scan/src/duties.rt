@@ -74,7 +74,8 @@ impl Stored for StoredChange {
 /// All changes, by duty and step.
 fn change_rows<R: Source>(alloc: Global, source: &mut R) -> Result<Listed<StoredChange>, Fault>
     requires { R.is_ready source.old }
-    ensures ok { IfOk result (λ rows. IsRead (IsScan change_table stored_change_cells change_order rows)
+    ensures ok { IfOk result
+        (λ rows. IsRead (IsScan change_table stored_change_cells change_order rows)
         (λ t. rows ≡ map change_stored t.changes)
         (R.shows source.old) (R.shows source.new)) }
     ensures asked { HasAsked (R.shows source.old) (R.shows source.new) result }
@@ -105,7 +106,8 @@ impl Stored for StoredWaiver {
 /// The last days of all waivers that end, by duty and step.
 fn waiver_rows<R: Source>(alloc: Global, source: &mut R) -> Result<Listed<StoredWaiver>, Fault>
     requires { R.is_ready source.old }
-    ensures ok { IfOk result (λ rows. IsRead (IsScan waiver_table stored_waiver_cells waiver_order rows)
+    ensures ok { IfOk result
+        (λ rows. IsRead (IsScan waiver_table stored_waiver_cells waiver_order rows)
         (λ t. rows ≡ map waiver_stored (filter is_waiver t.changes))
         (R.shows source.old) (R.shows source.new)) }
     ensures asked { HasAsked (R.shows source.old) (R.shows source.new) result }

@@ -39,7 +39,8 @@ fn conclusion_rows<R: Source>(
     source: &mut R,
 ) -> Result<Listed<StoredConclusion>, Fault>
     requires { R.is_ready source.old }
-    ensures ok { IfOk result (λ rows. IsRead (IsScan conclusion_table stored_conclusion_cells conclusion_order rows)
+    ensures ok { IfOk result
+        (λ rows. IsRead (IsScan conclusion_table stored_conclusion_cells conclusion_order rows)
         (λ t. rows ≡ map conclusion_stored t.conclusion)
         (R.shows source.old) (R.shows source.new)) }
     ensures asked { HasAsked (R.shows source.old) (R.shows source.new) result }
@@ -70,7 +71,8 @@ impl Stored for StoredAdoption {
 /// All adoptions, by document and reference.
 fn adoption_rows<R: Source>(alloc: Global, source: &mut R) -> Result<Items<StoredAdoption>, Fault>
     requires { R.is_ready source.old }
-    ensures ok { IfOk result (λ rows. IsRead (IsScan adoption_table stored_adoption_cells adoption_order rows)
+    ensures ok { IfOk result
+        (λ rows. IsRead (IsScan adoption_table stored_adoption_cells adoption_order rows)
         (λ t. rows ≡ map adoption_stored t.adoption)
         (R.shows source.old) (R.shows source.new)) }
     ensures asked { HasAsked (R.shows source.old) (R.shows source.new) result }

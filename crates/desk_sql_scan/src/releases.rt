@@ -36,7 +36,8 @@ impl Stored for StoredRelease {
 /// All releases, by name.
 fn release_rows<R: Source>(alloc: Global, source: &mut R) -> Result<Listed<StoredRelease>, Fault>
     requires { R.is_ready source.old }
-    ensures ok { IfOk result (λ rows. IsRead (IsScan releases_table stored_release_cells release_order rows)
+    ensures ok { IfOk result
+        (λ rows. IsRead (IsScan releases_table stored_release_cells release_order rows)
         (λ t. rows ≡ map release_stored t.releases)
         (R.shows source.old) (R.shows source.new)) }
     ensures asked { HasAsked (R.shows source.old) (R.shows source.new) result }
@@ -66,7 +67,8 @@ impl Stored for StoredAttached {
 /// All attached documents, by release and number.
 fn attached_rows<R: Source>(alloc: Global, source: &mut R) -> Result<Listed<StoredAttached>, Fault>
     requires { R.is_ready source.old }
-    ensures ok { IfOk result (λ rows. IsRead (IsScan attached_table stored_attached_cells attached_order rows)
+    ensures ok { IfOk result
+        (λ rows. IsRead (IsScan attached_table stored_attached_cells attached_order rows)
         (λ t. rows ≡ map attached_stored t.attached)
         (R.shows source.old) (R.shows source.new)) }
     ensures asked { HasAsked (R.shows source.old) (R.shows source.new) result }
@@ -98,7 +100,8 @@ impl Stored for StoredChoice {
 /// All chosen terms, by release, document, package and term.
 fn choice_rows<R: Source>(alloc: Global, source: &mut R) -> Result<Listed<StoredChoice>, Fault>
     requires { R.is_ready source.old }
-    ensures ok { IfOk result (λ rows. IsRead (IsScan choice_table stored_choice_cells choice_order rows)
+    ensures ok { IfOk result
+        (λ rows. IsRead (IsScan choice_table stored_choice_cells choice_order rows)
         (λ t. rows ≡ map choice_stored t.choice)
         (R.shows source.old) (R.shows source.new)) }
     ensures asked { HasAsked (R.shows source.old) (R.shows source.new) result }
@@ -131,7 +134,8 @@ impl Stored for StoredFrozen {
 /// All frozen terms, by release, document, package and term.
 fn frozen_rows<R: Source>(alloc: Global, source: &mut R) -> Result<Listed<StoredFrozen>, Fault>
     requires { R.is_ready source.old }
-    ensures ok { IfOk result (λ rows. IsRead (IsScan frozen_table stored_frozen_cells frozen_order rows)
+    ensures ok { IfOk result
+        (λ rows. IsRead (IsScan frozen_table stored_frozen_cells frozen_order rows)
         (λ t. rows ≡ map frozen_stored t.frozen)
         (R.shows source.old) (R.shows source.new)) }
     ensures asked { HasAsked (R.shows source.old) (R.shows source.new) result }
@@ -157,7 +161,8 @@ pub(crate) struct ReleasePart {
 /// Releases with their documents, and their chosen and frozen terms.
 pub(crate) fn releases<R: Source>(alloc: Global, source: &mut R) -> Result<ReleasePart, Fault>
     requires { R.is_ready source.old }
-    ensures ok { IfOk result (λ part. IsRead (HasReleases part) (OfReleases part) (R.shows source.old)
+    ensures ok { IfOk result
+        (λ part. IsRead (HasReleases part) (OfReleases part) (R.shows source.old)
         (R.shows source.new)) }
     ensures asked { HasAsked (R.shows source.old) (R.shows source.new) result }
     ensures ready { R.is_ready source.new }

@@ -29,7 +29,8 @@ pub(crate) trait Stored: Sized {
         ensures { IfOk result (λ found. columns_of width row.now ≡ cells found) };
 }
 
-/// The rows whose cells these are. Each is let go as soon as it is read, so that no table is held twice.
+/// The rows whose cells these are. Each is let go as soon as it is read, so that no table is held
+/// twice.
 fn read_all<T: Stored + Drop>(alloc: Global, rows: Vec<Row>) -> Result<Vec<T>, Fault>
     ensures { IfOk result (λ found. map (columns_of T.width) rows.items ≡ map T.cells found.items) }
 {

@@ -24,8 +24,9 @@ use desk_snapshot::Snapshot;
 use sqlite::{Alter, Connection, Transaction};
 use std::alloc::Global;
 
-/// The documents, whose bytes are the largest cells, and the duties with their changes, which are most of a desk's rows. Each table is
-/// held twice while its rows are read, so these come first, while little else is held.
+/// The documents, whose bytes are the largest cells, and the duties with their changes, which are
+/// most of a desk's rows. Each table is held twice while its rows are read, so these come first,
+/// while little else is held.
 #[derive(Drop)]
 struct FirstPart {
     documents: DocumentPart,
@@ -43,7 +44,8 @@ struct SecondPart {
 /// The tables of the first part, read.
 fn first_part<R: Source>(alloc: Global, source: &mut R) -> Result<FirstPart, Fault>
     requires { R.is_ready source.old }
-    ensures ok { IfOk result (λ part. IsRead (λ db. HasDocuments part.documents db × HasDuties part.duties db)
+    ensures ok { IfOk result
+        (λ part. IsRead (λ db. HasDocuments part.documents db × HasDuties part.duties db)
         (λ t. OfDocuments part.documents t × OfDuties part.duties t) (R.shows source.old)
         (R.shows source.new)) }
     ensures asked { HasAsked (R.shows source.old) (R.shows source.new) result }
@@ -108,7 +110,8 @@ fn joined(first: FirstPart, second: SecondPart) -> Snapshot
 /// All rows of a desk's tables.
 fn read_whole<R: Source>(alloc: Global, source: &mut R) -> Result<Snapshot, Fault>
     requires { R.is_ready source.old }
-    ensures ok { IfOk result (λ s. IsRead (IsSnapshot s) (λ t. AreSortedAsListed t → s ≡ snapshot_of t)
+    ensures ok { IfOk result
+        (λ s. IsRead (IsSnapshot s) (λ t. AreSortedAsListed t → s ≡ snapshot_of t)
         (R.shows source.old) (R.shows source.new)) }
     ensures asked { HasAsked (R.shows source.old) (R.shows source.new) result }
     ensures ready { R.is_ready source.new }
@@ -121,9 +124,9 @@ fn read_whole<R: Source>(alloc: Global, source: &mut R) -> Result<Snapshot, Faul
 
 /// Reads all rows of a desk's tables, each table in the order of its key.
 ///
-/// Where the connection shows a database with a desk's schema, whatever its rows, the snapshot has them (`raw`); where it holds a
-/// desk's tables, the snapshot is theirs (`found`). A fault tells want of memory, that the database refused, or that a cell is none
-/// of its column's.
+/// Where the connection shows a database with a desk's schema, whatever its rows, the snapshot has
+/// them (`raw`); where it holds a desk's tables, the snapshot is theirs (`found`). A fault tells
+/// want of memory, that the database refused, or that a cell is none of its column's.
 pub fn snapshot<S: Alter>(alloc: Global, conn: &mut Connection<S>) -> Result<Snapshot, Fault>
     requires { conn.old.in_transaction ≡ false }
     ensures raw { HasCleanDisk (state S.Store conn.new)
@@ -138,16 +141,19 @@ pub fn snapshot<S: Alter>(alloc: Global, conn: &mut Connection<S>) -> Result<Sna
     read_whole(alloc, conn)
 }
 
-/// Reads all rows of a desk's tables inside a transaction, as `snapshot` does: of what the transaction shows.
+/// Reads all rows of a desk's tables inside a transaction, as `snapshot` does: of what the
+/// transaction shows.
 ///
 /// The transaction goes on. After a fault it may be undone.
 pub fn snapshot_inside<S: Alter>(
     alloc: Global,
     tx: &mut Transaction<'_, S>,
 ) -> Result<Snapshot, Fault>
-    ensures ok { IfOk result (λ s. IsRead (IsSnapshot s) (λ t. AreSortedAsListed t → s ≡ snapshot_of t)
+    ensures ok { IfOk result
+        (λ s. IsRead (IsSnapshot s) (λ t. AreSortedAsListed t → s ≡ snapshot_of t)
         (state S.Store tx.old.conn.now) (state S.Store tx.new.conn.now)) }
-    ensures asked { HasAsked (state S.Store tx.old.conn.now) (state S.Store tx.new.conn.now) result }
+    ensures asked { HasAsked (state S.Store tx.old.conn.now) (state S.Store tx.new.conn.now)
+        result }
     ensures same_reference { tx.new.conn.ghost_name ≡ tx.old.conn.ghost_name }
 {
     read_whole(alloc, tx)

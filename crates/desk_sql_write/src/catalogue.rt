@@ -32,7 +32,8 @@ pub(crate) fn add_revision<S: Alter>(
     ensures wrote { Writes cells_of (with_tables (λ t.
         record t { catalogue = t.catalogue ++ row.now ∷ [] })) (state S.Store tx.old.conn.now)
         (state S.Store tx.new.conn.now) result }
-    ensures survives { Survives (state S.Store tx.old.conn.now) (state S.Store tx.new.conn.now) (λ _. ⊥) }
+    ensures survives { Survives (state S.Store tx.old.conn.now) (state S.Store tx.new.conn.now)
+        (λ _. ⊥) }
 {
     execute(
         tx,
@@ -79,7 +80,8 @@ pub(crate) fn add_rule<S: Alter>(
     ensures same_reference { tx.new.conn.ghost_name ≡ tx.old.conn.ghost_name }
     ensures wrote { Writes cells_of (with_tables (λ t. record t { rule = t.rule ++ row.now ∷ [] }))
         (state S.Store tx.old.conn.now) (state S.Store tx.new.conn.now) result }
-    ensures survives { Survives (state S.Store tx.old.conn.now) (state S.Store tx.new.conn.now) (λ _. ⊥) }
+    ensures survives { Survives (state S.Store tx.old.conn.now) (state S.Store tx.new.conn.now)
+        (λ _. ⊥) }
 {
     let codes = joined(alloc, row.codes.as_slice())?;
     execute(
@@ -98,7 +100,8 @@ pub(crate) fn add_rules<S: Alter>(
     ensures same_reference { tx.new.conn.ghost_name ≡ tx.old.conn.ghost_name }
     ensures wrote { Writes cells_of (with_tables (λ t. record t { rule = t.rule ++ rows.now }))
         (state S.Store tx.old.conn.now) (state S.Store tx.new.conn.now) result }
-    ensures survives { Survives (state S.Store tx.old.conn.now) (state S.Store tx.new.conn.now) (λ _. ⊥) }
+    ensures survives { Survives (state S.Store tx.old.conn.now) (state S.Store tx.new.conn.now)
+        (λ _. ⊥) }
 {
     for row in rows {
         add_rule(alloc, tx, row)?;

@@ -38,7 +38,8 @@ pub(crate) fn load<S: Alter>(
     ensures wrote { Writes cells_of (with_tables (λ t.
         record t { catalogue = t.catalogue ++ row.now ∷ []; rule = t.rule ++ rules.now }))
         (state S.Store tx.old.conn.now) (state S.Store tx.new.conn.now) result }
-    ensures survives { Survives (state S.Store tx.old.conn.now) (state S.Store tx.new.conn.now) (λ _. ⊥) }
+    ensures survives { Survives (state S.Store tx.old.conn.now) (state S.Store tx.new.conn.now)
+        (λ _. ⊥) }
 {
     add_revision(tx, row)?;
     add_rules(alloc, tx, rules)
@@ -52,7 +53,8 @@ pub(crate) fn add_read_document<S: Alter>(
     ensures same_reference { tx.new.conn.ghost_name ≡ tx.old.conn.ghost_name }
     ensures wrote { Writes cells_of (with_document row.now) (state S.Store tx.old.conn.now)
         (state S.Store tx.new.conn.now) result }
-    ensures survives { Survives (state S.Store tx.old.conn.now) (state S.Store tx.new.conn.now) (λ _. ⊥) }
+    ensures survives { Survives (state S.Store tx.old.conn.now) (state S.Store tx.new.conn.now)
+        (λ _. ⊥) }
 {
     add_document(tx, row)?;
     add_reading(tx, row)
@@ -68,7 +70,8 @@ pub(crate) fn add_parts<S: Alter>(
     ensures wrote { Writes cells_of (with_tables (λ t.
         record t { packages = t.packages ++ packages.now; extracted = t.extracted ++ references.now }))
         (state S.Store tx.old.conn.now) (state S.Store tx.new.conn.now) result }
-    ensures survives { Survives (state S.Store tx.old.conn.now) (state S.Store tx.new.conn.now) (λ _. ⊥) }
+    ensures survives { Survives (state S.Store tx.old.conn.now) (state S.Store tx.new.conn.now)
+        (λ _. ⊥) }
 {
     add_packages(tx, packages)?;
     add_references(tx, references)
@@ -86,7 +89,8 @@ pub(crate) fn import<S: Alter>(
         record t { packages = t.packages ++ packages.now; extracted = t.extracted ++ references.now })
         (with_document row.now it))
         (state S.Store tx.old.conn.now) (state S.Store tx.new.conn.now) result }
-    ensures survives { Survives (state S.Store tx.old.conn.now) (state S.Store tx.new.conn.now) (λ _. ⊥) }
+    ensures survives { Survives (state S.Store tx.old.conn.now) (state S.Store tx.new.conn.now)
+        (λ _. ⊥) }
 {
     add_read_document(tx, row)?;
     add_parts(tx, packages, references)
@@ -107,7 +111,8 @@ pub(crate) fn choose<S: Alter>(
               filter (is_other_choice release.now document package_id.now) t.choice ++ rows.now;
         }))
         (state S.Store tx.old.conn.now) (state S.Store tx.new.conn.now) result }
-    ensures survives { Survives (state S.Store tx.old.conn.now) (state S.Store tx.new.conn.now) (λ _. ⊥) }
+    ensures survives { Survives (state S.Store tx.old.conn.now) (state S.Store tx.new.conn.now)
+        (λ _. ⊥) }
 {
     drop_choices(tx, release, document, package_id)?;
     add_choices(tx, rows)
@@ -122,11 +127,13 @@ pub(crate) fn conclude<S: Alter>(
     ensures wrote { Writes cells_of (with_tables (λ t.
         record t {
           conclusion =
-              filter (λ other. not (is_conclusion row.now.document row.now.package_id other)) t.conclusion
+              filter (λ other. not (is_conclusion row.now.document row.now.package_id other))
+              t.conclusion
               ++ row.now ∷ [];
         }))
         (state S.Store tx.old.conn.now) (state S.Store tx.new.conn.now) result }
-    ensures survives { Survives (state S.Store tx.old.conn.now) (state S.Store tx.new.conn.now) (λ _. ⊥) }
+    ensures survives { Survives (state S.Store tx.old.conn.now) (state S.Store tx.new.conn.now)
+        (λ _. ⊥) }
 {
     drop_conclusion(tx, row.document, &row.package_id)?;
     add_conclusion(tx, row)
@@ -138,11 +145,13 @@ pub(crate) fn adopt<S: Alter>(tx: &mut Transaction<'_, S>, row: &AdoptionRow) ->
     ensures wrote { Writes cells_of (with_tables (λ t.
         record t {
           adoption =
-              filter (λ other. not (is_adoption row.now.document row.now.reference other)) t.adoption
+              filter (λ other. not (is_adoption row.now.document row.now.reference other))
+              t.adoption
               ++ row.now ∷ [];
         }))
         (state S.Store tx.old.conn.now) (state S.Store tx.new.conn.now) result }
-    ensures survives { Survives (state S.Store tx.old.conn.now) (state S.Store tx.new.conn.now) (λ _. ⊥) }
+    ensures survives { Survives (state S.Store tx.old.conn.now) (state S.Store tx.new.conn.now)
+        (λ _. ⊥) }
 {
     drop_adoption(tx, row.document, &row.reference)?;
     add_adoption(tx, row)
@@ -159,7 +168,8 @@ pub(crate) fn raise<S: Alter>(
     ensures wrote { Writes cells_of (λ it. with_steps changes.now
         (with_tables (λ t. record t { duty = t.duty ++ duties.now }) it))
         (state S.Store tx.old.conn.now) (state S.Store tx.new.conn.now) result }
-    ensures survives { Survives (state S.Store tx.old.conn.now) (state S.Store tx.new.conn.now) (λ _. ⊥) }
+    ensures survives { Survives (state S.Store tx.old.conn.now) (state S.Store tx.new.conn.now)
+        (λ _. ⊥) }
 {
     add_duties(alloc, tx, duties)?;
     add_steps(alloc, tx, changes)
@@ -178,7 +188,8 @@ pub(crate) fn add_terms<S: Alter>(
         (with_tables (λ t.
         record t { frozen = t.frozen ++ frozen.now; duty = t.duty ++ duties.now }) it))
         (state S.Store tx.old.conn.now) (state S.Store tx.new.conn.now) result }
-    ensures survives { Survives (state S.Store tx.old.conn.now) (state S.Store tx.new.conn.now) (λ _. ⊥) }
+    ensures survives { Survives (state S.Store tx.old.conn.now) (state S.Store tx.new.conn.now)
+        (λ _. ⊥) }
 {
     add_frozen_terms(tx, frozen)?;
     raise(alloc, tx, duties, changes)
@@ -197,12 +208,14 @@ pub(crate) fn freeze<S: Alter>(
     ensures same_reference { tx.new.conn.ghost_name ≡ tx.old.conn.ghost_name }
     ensures wrote { Writes cells_of (λ it. with_steps changes.now
         (with_tables (λ t. record t {
-          releases = updated (is_release release.now) (with_release_state Frozen revision) t.releases;
+          releases = updated (is_release release.now) (with_release_state Frozen revision)
+              t.releases;
           frozen = t.frozen ++ frozen.now;
           duty = t.duty ++ duties.now;
         }) it))
         (state S.Store tx.old.conn.now) (state S.Store tx.new.conn.now) result }
-    ensures survives { Survives (state S.Store tx.old.conn.now) (state S.Store tx.new.conn.now) (λ _. ⊥) }
+    ensures survives { Survives (state S.Store tx.old.conn.now) (state S.Store tx.new.conn.now)
+        (λ _. ⊥) }
 {
     freeze_release(tx, release, revision)?;
     add_terms(alloc, tx, frozen, duties, changes)
@@ -218,7 +231,8 @@ pub(crate) fn move_duties<S: Alter>(
     ensures wrote { Writes cells_of (λ it. with_steps changes.now
         (with_tables (λ t. record t { duty = moved_by changes.now t.duty }) it))
         (state S.Store tx.old.conn.now) (state S.Store tx.new.conn.now) result }
-    ensures survives { Survives (state S.Store tx.old.conn.now) (state S.Store tx.new.conn.now) (λ _. ⊥) }
+    ensures survives { Survives (state S.Store tx.old.conn.now) (state S.Store tx.new.conn.now)
+        (λ _. ⊥) }
 {
     set_duties(tx, changes)?;
     add_steps(alloc, tx, changes)
@@ -239,7 +253,8 @@ pub(crate) fn clear<S: Alter>(
           duty = moved_by changes.now t.duty;
         }) it))
         (state S.Store tx.old.conn.now) (state S.Store tx.new.conn.now) result }
-    ensures survives { Survives (state S.Store tx.old.conn.now) (state S.Store tx.new.conn.now) (λ _. ⊥) }
+    ensures survives { Survives (state S.Store tx.old.conn.now) (state S.Store tx.new.conn.now)
+        (λ _. ⊥) }
 {
     drop_choices_in(tx, release)?;
     move_duties(alloc, tx, changes)
@@ -262,7 +277,8 @@ pub(crate) fn withdraw<S: Alter>(
           duty = moved_by changes.now t.duty;
         }) it))
         (state S.Store tx.old.conn.now) (state S.Store tx.new.conn.now) result }
-    ensures survives { Survives (state S.Store tx.old.conn.now) (state S.Store tx.new.conn.now) (λ _. ⊥) }
+    ensures survives { Survives (state S.Store tx.old.conn.now) (state S.Store tx.new.conn.now)
+        (λ _. ⊥) }
 {
     withdraw_release(tx, release)?;
     clear(alloc, tx, release, changes)
@@ -277,7 +293,8 @@ pub(crate) fn make<S: Alter>(
     ensures same_reference { tx.new.conn.ghost_name ≡ tx.old.conn.ghost_name }
     ensures wrote { Writes rows_of (applied change.now) (state S.Store tx.old.conn.now)
         (state S.Store tx.new.conn.now) result }
-    ensures survives { Survives (state S.Store tx.old.conn.now) (state S.Store tx.new.conn.now) (λ _. ⊥) }
+    ensures survives { Survives (state S.Store tx.old.conn.now) (state S.Store tx.new.conn.now)
+        (λ _. ⊥) }
 {
     match change {
         Change::Loaded {

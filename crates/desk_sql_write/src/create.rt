@@ -63,9 +63,11 @@ fn text_at<'t>(texts: &[&'t str], place: usize) -> &'t str
 /// Declares tables, one after another.
 fn declare<S: Alter>(tx: &mut Transaction<'_, S>, texts: &[&str]) -> Result<(), Fault>
     ensures same_reference { tx.new.conn.ghost_name ≡ tx.old.conn.ghost_name }
-    ensures declared { HasDeclared (map (λ text. text.now) texts.now) (state S.Store tx.old.conn.now)
+    ensures declared { HasDeclared (map (λ text. text.now) texts.now)
+        (state S.Store tx.old.conn.now)
         (state S.Store tx.new.conn.now) result }
-    ensures survives { Survives (state S.Store tx.old.conn.now) (state S.Store tx.new.conn.now) (λ _. ⊥) }
+    ensures survives { Survives (state S.Store tx.old.conn.now) (state S.Store tx.new.conn.now)
+        (λ _. ⊥) }
 {
     for place in 0..texts.len() {
         execute(tx, text_at(texts, place), &[])?;
@@ -76,8 +78,10 @@ fn declare<S: Alter>(tx: &mut Transaction<'_, S>, texts: &[&str]) -> Result<(), 
 /// Declares all tables, and notes their version.
 fn found<S: Alter>(tx: &mut Transaction<'_, S>) -> Result<(), Fault>
     ensures same_reference { tx.new.conn.ghost_name ≡ tx.old.conn.ghost_name }
-    ensures founded { HasFounded (state S.Store tx.old.conn.now) (state S.Store tx.new.conn.now) result }
-    ensures survives { Survives (state S.Store tx.old.conn.now) (state S.Store tx.new.conn.now) (λ _. ⊥) }
+    ensures founded { HasFounded (state S.Store tx.old.conn.now) (state S.Store tx.new.conn.now)
+        result }
+    ensures survives { Survives (state S.Store tx.old.conn.now) (state S.Store tx.new.conn.now)
+        (λ _. ⊥) }
 {
     declare(tx, &TABLES)?;
     execute(tx, "INSERT INTO meta VALUES (3)", &[])
@@ -94,7 +98,8 @@ fn write<S: Alter>(conn: &mut Connection<S>) -> Result<(), Fault>
     ensures crash { Survives (state S.Store conn.old) (state S.Store conn.new)
         (LeavesTables (state S.Store conn.old)) }
     ensures stop { IsTrue (state S.Store conn.new).is_open → (trees : _)
-        → (state S.Store conn.new).may_leave trees → trees ≡ (state S.Store conn.new).committed.trees }
+        → (state S.Store conn.new).may_leave trees
+        → trees ≡ (state S.Store conn.new).committed.trees }
 {
     let mut tx = conn.transaction();
     found(&mut tx)?;
@@ -123,8 +128,8 @@ fn is_blank(schema: &Schema) -> bool
 
 /// Creates the tables of an empty desk in a database where nothing stands, in one transaction.
 ///
-/// A database with a table `meta` is refused as NotEmpty, and one with other tables by a fault of the store. After a refusal or a
-/// fault the tables are as they were.
+/// A database with a table `meta` is refused as NotEmpty, and one with other tables by a fault of
+/// the store. After a refusal or a fault the tables are as they were.
 pub fn create_tables<S: Alter>(conn: &mut Connection<S>) -> Result<(), Refused>
     requires { conn.old.in_transaction ≡ false }
     ensures ok { HasCleanDisk (state S.Store conn.new)
@@ -139,7 +144,8 @@ pub fn create_tables<S: Alter>(conn: &mut Connection<S>) -> Result<(), Refused>
     ensures crash { Survives (state S.Store conn.old) (state S.Store conn.new) (λ trees.
         Stands trees no_tables) }
     ensures stop { OnOk result (IsTrue (state S.Store conn.new).is_open → (trees : _)
-        → (state S.Store conn.new).may_leave trees → trees ≡ (state S.Store conn.new).committed.trees) }
+        → (state S.Store conn.new).may_leave trees
+        → trees ≡ (state S.Store conn.new).committed.trees) }
 {
     let _settled = conn.is_autocommit();
     let schema = conn.schema();

@@ -33,7 +33,8 @@ pub(crate) fn add_document<S: Alter>(
     ensures wrote { Writes cells_of (with_tables (λ t.
         record t { document = t.document ++ row.now ∷ [] })) (state S.Store tx.old.conn.now)
         (state S.Store tx.new.conn.now) result }
-    ensures survives { Survives (state S.Store tx.old.conn.now) (state S.Store tx.new.conn.now) (λ _. ⊥) }
+    ensures survives { Survives (state S.Store tx.old.conn.now) (state S.Store tx.new.conn.now)
+        (λ _. ⊥) }
 {
     execute(
         tx,
@@ -56,7 +57,8 @@ pub(crate) fn add_reading<S: Alter>(
     ensures same_reference { tx.new.conn.ghost_name ≡ tx.old.conn.ghost_name }
     ensures wrote { Writes cells_of (λ it. record it { reading = it.reading ++ row.now ∷ [] })
         (state S.Store tx.old.conn.now) (state S.Store tx.new.conn.now) result }
-    ensures survives { Survives (state S.Store tx.old.conn.now) (state S.Store tx.new.conn.now) (λ _. ⊥) }
+    ensures survives { Survives (state S.Store tx.old.conn.now) (state S.Store tx.new.conn.now)
+        (λ _. ⊥) }
 {
     execute(
         tx,
@@ -88,7 +90,8 @@ pub(crate) fn add_package<S: Alter>(
     ensures wrote { Writes cells_of (with_tables (λ t.
         record t { packages = t.packages ++ row.now ∷ [] })) (state S.Store tx.old.conn.now)
         (state S.Store tx.new.conn.now) result }
-    ensures survives { Survives (state S.Store tx.old.conn.now) (state S.Store tx.new.conn.now) (λ _. ⊥) }
+    ensures survives { Survives (state S.Store tx.old.conn.now) (state S.Store tx.new.conn.now)
+        (λ _. ⊥) }
 {
     execute(
         tx,
@@ -116,7 +119,8 @@ pub(crate) fn add_reference<S: Alter>(
     ensures wrote { Writes cells_of (with_tables (λ t.
         record t { extracted = t.extracted ++ row.now ∷ [] })) (state S.Store tx.old.conn.now)
         (state S.Store tx.new.conn.now) result }
-    ensures survives { Survives (state S.Store tx.old.conn.now) (state S.Store tx.new.conn.now) (λ _. ⊥) }
+    ensures survives { Survives (state S.Store tx.old.conn.now) (state S.Store tx.new.conn.now)
+        (λ _. ⊥) }
 {
     execute(
         tx,
@@ -131,9 +135,11 @@ pub(crate) fn add_packages<S: Alter>(
     rows: &[PackageRow],
 ) -> Result<(), Fault>
     ensures same_reference { tx.new.conn.ghost_name ≡ tx.old.conn.ghost_name }
-    ensures wrote { Writes cells_of (with_tables (λ t. record t { packages = t.packages ++ rows.now }))
+    ensures wrote { Writes cells_of
+        (with_tables (λ t. record t { packages = t.packages ++ rows.now }))
         (state S.Store tx.old.conn.now) (state S.Store tx.new.conn.now) result }
-    ensures survives { Survives (state S.Store tx.old.conn.now) (state S.Store tx.new.conn.now) (λ _. ⊥) }
+    ensures survives { Survives (state S.Store tx.old.conn.now) (state S.Store tx.new.conn.now)
+        (λ _. ⊥) }
 {
     for row in rows {
         add_package(tx, row)?;
@@ -150,7 +156,8 @@ pub(crate) fn add_references<S: Alter>(
     ensures wrote { Writes cells_of (with_tables (λ t.
         record t { extracted = t.extracted ++ rows.now })) (state S.Store tx.old.conn.now)
         (state S.Store tx.new.conn.now) result }
-    ensures survives { Survives (state S.Store tx.old.conn.now) (state S.Store tx.new.conn.now) (λ _. ⊥) }
+    ensures survives { Survives (state S.Store tx.old.conn.now) (state S.Store tx.new.conn.now)
+        (λ _. ⊥) }
 {
     for row in rows {
         add_reference(tx, row)?;

@@ -42,7 +42,8 @@ pub(crate) fn add_duty<S: Alter>(tx: &mut Transaction<'_, S>, row: &DutyRow) -> 
     ensures same_reference { tx.new.conn.ghost_name ≡ tx.old.conn.ghost_name }
     ensures wrote { Writes cells_of (with_tables (λ t. record t { duty = t.duty ++ row.now ∷ [] }))
         (state S.Store tx.old.conn.now) (state S.Store tx.new.conn.now) result }
-    ensures survives { Survives (state S.Store tx.old.conn.now) (state S.Store tx.new.conn.now) (λ _. ⊥) }
+    ensures survives { Survives (state S.Store tx.old.conn.now) (state S.Store tx.new.conn.now)
+        (λ _. ⊥) }
 {
     execute(
         tx,
@@ -72,7 +73,8 @@ pub(crate) fn add_change<S: Alter>(
     ensures wrote { Writes cells_of (with_tables (λ t.
         record t { changes = t.changes ++ row.now ∷ [] })) (state S.Store tx.old.conn.now)
         (state S.Store tx.new.conn.now) result }
-    ensures survives { Survives (state S.Store tx.old.conn.now) (state S.Store tx.new.conn.now) (λ _. ⊥) }
+    ensures survives { Survives (state S.Store tx.old.conn.now) (state S.Store tx.new.conn.now)
+        (λ _. ⊥) }
 {
     execute(
         tx,
@@ -99,7 +101,8 @@ pub(crate) fn add_waiver<S: Alter>(
     ensures same_reference { tx.new.conn.ghost_name ≡ tx.old.conn.ghost_name }
     ensures wrote { Writes cells_of (λ it. record it { waiver = it.waiver ++ row.now ∷ [] })
         (state S.Store tx.old.conn.now) (state S.Store tx.new.conn.now) result }
-    ensures survives { Survives (state S.Store tx.old.conn.now) (state S.Store tx.new.conn.now) (λ _. ⊥) }
+    ensures survives { Survives (state S.Store tx.old.conn.now) (state S.Store tx.new.conn.now)
+        (λ _. ⊥) }
 {
     execute(
         tx,
@@ -118,7 +121,8 @@ pub(crate) fn set_duty<S: Alter>(
     ensures wrote { Writes cells_of (with_tables (λ t.
         record t { duty = updated (is_duty duty) (with_duty_state to) t.duty }))
         (state S.Store tx.old.conn.now) (state S.Store tx.new.conn.now) result }
-    ensures survives { Survives (state S.Store tx.old.conn.now) (state S.Store tx.new.conn.now) (λ _. ⊥) }
+    ensures survives { Survives (state S.Store tx.old.conn.now) (state S.Store tx.new.conn.now)
+        (λ _. ⊥) }
 {
     execute(
         tx,
@@ -148,7 +152,8 @@ fn add_eight_duties<S: Alter>(
     ensures same_reference { tx.new.conn.ghost_name ≡ tx.old.conn.ghost_name }
     ensures wrote { Writes cells_of (with_tables (λ t. record t { duty = t.duty ++ rows.now }))
         (state S.Store tx.old.conn.now) (state S.Store tx.new.conn.now) result }
-    ensures survives { Survives (state S.Store tx.old.conn.now) (state S.Store tx.new.conn.now) (λ _. ⊥) }
+    ensures survives { Survives (state S.Store tx.old.conn.now) (state S.Store tx.new.conn.now)
+        (λ _. ⊥) }
 {
     let values = values_of_duties(alloc, rows)?;
     execute(
@@ -167,7 +172,8 @@ pub(crate) fn add_duties<S: Alter>(
     ensures same_reference { tx.new.conn.ghost_name ≡ tx.old.conn.ghost_name }
     ensures wrote { Writes cells_of (with_tables (λ t. record t { duty = t.duty ++ rows.now }))
         (state S.Store tx.old.conn.now) (state S.Store tx.new.conn.now) result }
-    ensures survives { Survives (state S.Store tx.old.conn.now) (state S.Store tx.new.conn.now) (λ _. ⊥) }
+    ensures survives { Survives (state S.Store tx.old.conn.now) (state S.Store tx.new.conn.now)
+        (λ _. ⊥) }
 {
     let mut left = rows;
     while let Some((first, rest)) = left.split_first() {
@@ -191,9 +197,11 @@ pub(crate) fn set_duties<S: Alter>(
     rows: &[ChangeRow],
 ) -> Result<(), Fault>
     ensures same_reference { tx.new.conn.ghost_name ≡ tx.old.conn.ghost_name }
-    ensures wrote { Writes cells_of (with_tables (λ t. record t { duty = moved_by rows.now t.duty }))
+    ensures wrote { Writes cells_of
+        (with_tables (λ t. record t { duty = moved_by rows.now t.duty }))
         (state S.Store tx.old.conn.now) (state S.Store tx.new.conn.now) result }
-    ensures survives { Survives (state S.Store tx.old.conn.now) (state S.Store tx.new.conn.now) (λ _. ⊥) }
+    ensures survives { Survives (state S.Store tx.old.conn.now) (state S.Store tx.new.conn.now)
+        (λ _. ⊥) }
 {
     let mut left = rows.len();
     while left > 0 {
@@ -225,9 +233,11 @@ fn add_eight_changes<S: Alter>(
 ) -> Result<(), Fault>
     requires { length rows.now ≡ 8 }
     ensures same_reference { tx.new.conn.ghost_name ≡ tx.old.conn.ghost_name }
-    ensures wrote { Writes cells_of (with_tables (λ t. record t { changes = t.changes ++ rows.now }))
+    ensures wrote { Writes cells_of
+        (with_tables (λ t. record t { changes = t.changes ++ rows.now }))
         (state S.Store tx.old.conn.now) (state S.Store tx.new.conn.now) result }
-    ensures survives { Survives (state S.Store tx.old.conn.now) (state S.Store tx.new.conn.now) (λ _. ⊥) }
+    ensures survives { Survives (state S.Store tx.old.conn.now) (state S.Store tx.new.conn.now)
+        (λ _. ⊥) }
 {
     let values = values_of_changes(alloc, rows)?;
     execute(
@@ -244,9 +254,11 @@ fn add_changes<S: Alter>(
     rows: &[ChangeRow],
 ) -> Result<(), Fault>
     ensures same_reference { tx.new.conn.ghost_name ≡ tx.old.conn.ghost_name }
-    ensures wrote { Writes cells_of (with_tables (λ t. record t { changes = t.changes ++ rows.now }))
+    ensures wrote { Writes cells_of
+        (with_tables (λ t. record t { changes = t.changes ++ rows.now }))
         (state S.Store tx.old.conn.now) (state S.Store tx.new.conn.now) result }
-    ensures survives { Survives (state S.Store tx.old.conn.now) (state S.Store tx.new.conn.now) (λ _. ⊥) }
+    ensures survives { Survives (state S.Store tx.old.conn.now) (state S.Store tx.new.conn.now)
+        (λ _. ⊥) }
 {
     let mut left = rows;
     while let Some((first, rest)) = left.split_first() {
@@ -271,7 +283,8 @@ fn add_last_day<S: Alter>(tx: &mut Transaction<'_, S>, row: &ChangeRow) -> Resul
       waiver = it.waiver ++ filter is_waiver
           (row.now ∷ []);
     }) (state S.Store tx.old.conn.now) (state S.Store tx.new.conn.now) result }
-    ensures survives { Survives (state S.Store tx.old.conn.now) (state S.Store tx.new.conn.now) (λ _. ⊥) }
+    ensures survives { Survives (state S.Store tx.old.conn.now) (state S.Store tx.new.conn.now)
+        (λ _. ⊥) }
 {
     match row.last_day {
         Some(_) => add_waiver(tx, row),
@@ -285,7 +298,8 @@ fn add_waivers<S: Alter>(tx: &mut Transaction<'_, S>, rows: &[ChangeRow]) -> Res
     ensures wrote { Writes cells_of (λ it.
         record it { waiver = it.waiver ++ filter is_waiver rows.now })
         (state S.Store tx.old.conn.now) (state S.Store tx.new.conn.now) result }
-    ensures survives { Survives (state S.Store tx.old.conn.now) (state S.Store tx.new.conn.now) (λ _. ⊥) }
+    ensures survives { Survives (state S.Store tx.old.conn.now) (state S.Store tx.new.conn.now)
+        (λ _. ⊥) }
 {
     for row in rows {
         add_last_day(tx, row)?;
@@ -302,7 +316,8 @@ pub(crate) fn add_steps<S: Alter>(
     ensures same_reference { tx.new.conn.ghost_name ≡ tx.old.conn.ghost_name }
     ensures wrote { Writes cells_of (with_steps rows.now) (state S.Store tx.old.conn.now)
         (state S.Store tx.new.conn.now) result }
-    ensures survives { Survives (state S.Store tx.old.conn.now) (state S.Store tx.new.conn.now) (λ _. ⊥) }
+    ensures survives { Survives (state S.Store tx.old.conn.now) (state S.Store tx.new.conn.now)
+        (λ _. ⊥) }
 {
     add_changes(alloc, tx, rows)?;
     add_waivers(tx, rows)

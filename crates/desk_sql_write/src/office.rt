@@ -35,7 +35,8 @@ pub(crate) fn add_conclusion<S: Alter>(
     ensures wrote { Writes cells_of (with_tables (λ t.
         record t { conclusion = t.conclusion ++ row.now ∷ [] })) (state S.Store tx.old.conn.now)
         (state S.Store tx.new.conn.now) result }
-    ensures survives { Survives (state S.Store tx.old.conn.now) (state S.Store tx.new.conn.now) (λ _. ⊥) }
+    ensures survives { Survives (state S.Store tx.old.conn.now) (state S.Store tx.new.conn.now)
+        (λ _. ⊥) }
 {
     execute(
         tx,
@@ -63,7 +64,8 @@ pub(crate) fn add_adoption<S: Alter>(
     ensures wrote { Writes cells_of (with_tables (λ t.
         record t { adoption = t.adoption ++ row.now ∷ [] })) (state S.Store tx.old.conn.now)
         (state S.Store tx.new.conn.now) result }
-    ensures survives { Survives (state S.Store tx.old.conn.now) (state S.Store tx.new.conn.now) (λ _. ⊥) }
+    ensures survives { Survives (state S.Store tx.old.conn.now) (state S.Store tx.new.conn.now)
+        (λ _. ⊥) }
 {
     execute(
         tx,
@@ -85,7 +87,8 @@ pub(crate) fn drop_conclusion<S: Alter>(
               not (is_conclusion document package_id.now row)) t.conclusion;
         }))
         (state S.Store tx.old.conn.now) (state S.Store tx.new.conn.now) result }
-    ensures survives { Survives (state S.Store tx.old.conn.now) (state S.Store tx.new.conn.now) (λ _. ⊥) }
+    ensures survives { Survives (state S.Store tx.old.conn.now) (state S.Store tx.new.conn.now)
+        (λ _. ⊥) }
 {
     execute(
         tx,
@@ -107,7 +110,8 @@ pub(crate) fn drop_adoption<S: Alter>(
               not (is_adoption document reference.now row)) t.adoption;
         })) (state S.Store tx.old.conn.now)
         (state S.Store tx.new.conn.now) result }
-    ensures survives { Survives (state S.Store tx.old.conn.now) (state S.Store tx.new.conn.now) (λ _. ⊥) }
+    ensures survives { Survives (state S.Store tx.old.conn.now) (state S.Store tx.new.conn.now)
+        (λ _. ⊥) }
 {
     execute(
         tx,

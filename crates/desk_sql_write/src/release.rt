@@ -34,7 +34,8 @@ pub(crate) fn add_attached<S: Alter>(
     ensures wrote { Writes cells_of (with_tables (λ t.
         record t { attached = t.attached ++ row.now ∷ [] })) (state S.Store tx.old.conn.now)
         (state S.Store tx.new.conn.now) result }
-    ensures survives { Survives (state S.Store tx.old.conn.now) (state S.Store tx.new.conn.now) (λ _. ⊥) }
+    ensures survives { Survives (state S.Store tx.old.conn.now) (state S.Store tx.new.conn.now)
+        (λ _. ⊥) }
 {
     execute(
         tx,
@@ -60,9 +61,11 @@ pub(crate) fn add_choice<S: Alter>(
     row: &ChoiceRow,
 ) -> Result<(), Fault>
     ensures same_reference { tx.new.conn.ghost_name ≡ tx.old.conn.ghost_name }
-    ensures wrote { Writes cells_of (with_tables (λ t. record t { choice = t.choice ++ row.now ∷ [] }))
+    ensures wrote { Writes cells_of
+        (with_tables (λ t. record t { choice = t.choice ++ row.now ∷ [] }))
         (state S.Store tx.old.conn.now) (state S.Store tx.new.conn.now) result }
-    ensures survives { Survives (state S.Store tx.old.conn.now) (state S.Store tx.new.conn.now) (λ _. ⊥) }
+    ensures survives { Survives (state S.Store tx.old.conn.now) (state S.Store tx.new.conn.now)
+        (λ _. ⊥) }
 {
     execute(
         tx,
@@ -89,9 +92,11 @@ pub(crate) fn add_frozen<S: Alter>(
     row: &FrozenRow,
 ) -> Result<(), Fault>
     ensures same_reference { tx.new.conn.ghost_name ≡ tx.old.conn.ghost_name }
-    ensures wrote { Writes cells_of (with_tables (λ t. record t { frozen = t.frozen ++ row.now ∷ [] }))
+    ensures wrote { Writes cells_of
+        (with_tables (λ t. record t { frozen = t.frozen ++ row.now ∷ [] }))
         (state S.Store tx.old.conn.now) (state S.Store tx.new.conn.now) result }
-    ensures survives { Survives (state S.Store tx.old.conn.now) (state S.Store tx.new.conn.now) (λ _. ⊥) }
+    ensures survives { Survives (state S.Store tx.old.conn.now) (state S.Store tx.new.conn.now)
+        (λ _. ⊥) }
 {
     execute(
         tx,
@@ -122,7 +127,8 @@ pub(crate) fn add_release<S: Alter>(
     ensures wrote { Writes cells_of (with_tables (λ t.
         record t { releases = t.releases ++ row.now ∷ [] })) (state S.Store tx.old.conn.now)
         (state S.Store tx.new.conn.now) result }
-    ensures survives { Survives (state S.Store tx.old.conn.now) (state S.Store tx.new.conn.now) (λ _. ⊥) }
+    ensures survives { Survives (state S.Store tx.old.conn.now) (state S.Store tx.new.conn.now)
+        (λ _. ⊥) }
 {
     let Ok(revision) = u32::try_from(row.revision) else {
         return Err(Fault::Store(StoreFault::Rows));
@@ -147,7 +153,8 @@ pub(crate) fn freeze_release<S: Alter>(
               (with_release_state Frozen revision) t.releases;
         })) (state S.Store tx.old.conn.now)
         (state S.Store tx.new.conn.now) result }
-    ensures survives { Survives (state S.Store tx.old.conn.now) (state S.Store tx.new.conn.now) (λ _. ⊥) }
+    ensures survives { Survives (state S.Store tx.old.conn.now) (state S.Store tx.new.conn.now)
+        (λ _. ⊥) }
 {
     let Ok(told) = u32::try_from(revision) else {
         return Err(Fault::Store(StoreFault::Rows));
@@ -172,7 +179,8 @@ pub(crate) fn withdraw_release<S: Alter>(
     ensures wrote { Writes cells_of (with_tables (λ t.
         record t { releases = updated (is_release name.now) withdrawn_release t.releases }))
         (state S.Store tx.old.conn.now) (state S.Store tx.new.conn.now) result }
-    ensures survives { Survives (state S.Store tx.old.conn.now) (state S.Store tx.new.conn.now) (λ _. ⊥) }
+    ensures survives { Survives (state S.Store tx.old.conn.now) (state S.Store tx.new.conn.now)
+        (λ _. ⊥) }
 {
     execute(
         tx,
@@ -192,7 +200,8 @@ pub(crate) fn drop_choices<S: Alter>(
     ensures wrote { Writes cells_of (with_tables (λ t.
         record t { choice = filter (is_other_choice release.now document package_id.now) t.choice }))
         (state S.Store tx.old.conn.now) (state S.Store tx.new.conn.now) result }
-    ensures survives { Survives (state S.Store tx.old.conn.now) (state S.Store tx.new.conn.now) (λ _. ⊥) }
+    ensures survives { Survives (state S.Store tx.old.conn.now) (state S.Store tx.new.conn.now)
+        (λ _. ⊥) }
 {
     execute(
         tx,
@@ -210,7 +219,8 @@ pub(crate) fn drop_choices_in<S: Alter>(
     ensures wrote { Writes cells_of (with_tables (λ t.
         record t { choice = filter (is_choice_elsewhere release.now) t.choice }))
         (state S.Store tx.old.conn.now) (state S.Store tx.new.conn.now) result }
-    ensures survives { Survives (state S.Store tx.old.conn.now) (state S.Store tx.new.conn.now) (λ _. ⊥) }
+    ensures survives { Survives (state S.Store tx.old.conn.now) (state S.Store tx.new.conn.now)
+        (λ _. ⊥) }
 {
     execute(
         tx,
@@ -227,7 +237,8 @@ pub(crate) fn add_choices<S: Alter>(
     ensures same_reference { tx.new.conn.ghost_name ≡ tx.old.conn.ghost_name }
     ensures wrote { Writes cells_of (with_tables (λ t. record t { choice = t.choice ++ rows.now }))
         (state S.Store tx.old.conn.now) (state S.Store tx.new.conn.now) result }
-    ensures survives { Survives (state S.Store tx.old.conn.now) (state S.Store tx.new.conn.now) (λ _. ⊥) }
+    ensures survives { Survives (state S.Store tx.old.conn.now) (state S.Store tx.new.conn.now)
+        (λ _. ⊥) }
 {
     for row in rows {
         add_choice(tx, row)?;
@@ -243,7 +254,8 @@ pub(crate) fn add_frozen_terms<S: Alter>(
     ensures same_reference { tx.new.conn.ghost_name ≡ tx.old.conn.ghost_name }
     ensures wrote { Writes cells_of (with_tables (λ t. record t { frozen = t.frozen ++ rows.now }))
         (state S.Store tx.old.conn.now) (state S.Store tx.new.conn.now) result }
-    ensures survives { Survives (state S.Store tx.old.conn.now) (state S.Store tx.new.conn.now) (λ _. ⊥) }
+    ensures survives { Survives (state S.Store tx.old.conn.now) (state S.Store tx.new.conn.now)
+        (λ _. ⊥) }
 {
     for row in rows {
         add_frozen(tx, row)?;

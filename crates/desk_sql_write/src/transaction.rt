@@ -25,7 +25,8 @@ fn write<S: Alter>(alloc: Global, conn: &mut Connection<S>, change: &Change) -> 
     ensures crash { Survives (state S.Store conn.old) (state S.Store conn.new)
         (Leaves change.now (state S.Store conn.old)) }
     ensures stop { IsTrue (state S.Store conn.new).is_open → (trees : _)
-        → (state S.Store conn.new).may_leave trees → trees ≡ (state S.Store conn.new).committed.trees }
+        → (state S.Store conn.new).may_leave trees
+        → trees ≡ (state S.Store conn.new).committed.trees }
 {
     let mut tx = conn.transaction();
     make(alloc, &mut tx, change)?;
@@ -37,9 +38,10 @@ fn write<S: Alter>(alloc: Global, conn: &mut Connection<S>, change: &Change) -> 
 
 /// Writes a change whole, in one transaction, or nothing.
 ///
-/// Where the disk was honest: after `Ok` a change that goes on from the rows is made, and a stop leaves the rows after it and no
-/// others; after `Err` the rows are as they were, and a stop may leave the change. `Memory` is told where the database found no
-/// memory, `Store` where it refused or can't hold the rows.
+/// Where the disk was honest: after `Ok` a change that goes on from the rows is made, and a stop
+/// leaves the rows after it and no others; after `Err` the rows are as they were, and a stop may
+/// leave the change. `Memory` is told where the database found no memory, `Store` where it refused
+/// or can't hold the rows.
 pub fn commit<S: Alter>(
     alloc: Global,
     conn: &mut Connection<S>,

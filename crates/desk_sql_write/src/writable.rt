@@ -73,7 +73,8 @@ fn rise(packages: &[PackageRow]) -> bool
     true
 }
 
-/// Whether the tables can hold what a change writes: where it gives rows that they couldn't give back as they were, it isn't written.
+/// Whether the tables can hold what a change writes: where it gives rows that they couldn't give
+/// back as they were, it isn't written.
 pub(crate) fn is_writable(change: &Change) -> bool
     ensures { result ≡ is_writable change.now }
 {

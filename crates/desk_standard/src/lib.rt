@@ -1,7 +1,9 @@
-//! The desk in memory that reads texts by their standards: its main contract with nothing left open.
+//! The desk in memory that reads texts by their standards: its main contract with nothing left
+//! open.
 //!
-//! `run_commands` hands a list of commands to an empty desk. Its contract speaks of each right reading of texts (`AreRight`, of which
-//! `desk_texts_laws` proves that there is one and no other), of the definitions of the recorded history, and of nothing else.
+//! `run_commands` hands a list of commands to an empty desk. Its contract speaks of each right
+//! reading of texts (`AreRight`, of which `desk_texts_laws` proves that there is one and no other),
+//! of the definitions of the recorded history, and of nothing else.
 #![tactic(auto)]
 
 ghost use Rattle.std.specs.Prelude.{◌≡◌, [], IfOk, length};
@@ -23,8 +25,9 @@ pub type StandardDesk = MemDesk<Standard>;
 
 /// Hands commands to an empty desk, and gives what became of each, and the desk.
 ///
-/// Whatever is repeated or refused: each outcome that is no fault is the answer at its place, after the commands recorded before it;
-/// these are a recorded history, and the rows at the end are its tables; the only fault is want of memory.
+/// Whatever is repeated or refused: each outcome that is no fault is the answer at its place, after
+/// the commands recorded before it; these are a recorded history, and the rows at the end are its
+/// tables; the only fault is want of memory.
 pub fn run_commands(
     alloc: Global,
     commands: &[Command],

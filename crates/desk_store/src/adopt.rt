@@ -38,7 +38,8 @@ use std::alloc::Global;
 /// How many revisions, documents, releases and duties a database has.
 fn read_counts<S: Alter>(conn: &mut Connection<S>) -> Result<Counts, Fault>
     requires { conn.old.in_transaction ≡ false }
-    ensures found { IfOk result (λ counts. OfRows (HasCounts counts) (seen_of (state S.Store conn.old))
+    ensures found { IfOk result
+        (λ counts. OfRows (HasCounts counts) (seen_of (state S.Store conn.old))
         (seen_of (state S.Store conn.new))) }
     ensures read { HasRead (state S.Store conn.old) (state S.Store conn.new) result }
     ensures mode { conn.new.in_transaction ≡ false }
@@ -83,14 +84,16 @@ fn read_known<S: Alter>(
     Ok((counts, forms))
 }
 
-/// The tallies of the releases, counted once from the rows of releases and duties, if these can be counted.
+/// The tallies of the releases, counted once from the rows of releases and duties, if these can be
+/// counted.
 fn read_tallies<S: Alter>(alloc: Global, conn: &mut Connection<S>) -> Result<Option<Tallies>, Fault>
     requires { conn.old.in_transaction ≡ false }
     ensures kept { IfOk result (λ found. IfSome found (λ tallies.
         OfRows (AreKept tallies) (seen_of (state S.Store conn.old))
         (seen_of (state S.Store conn.new)))) }
     ensures none { IfOk result (λ found. IfNone found
-        (OfRows IsUncountable (seen_of (state S.Store conn.old)) (seen_of (state S.Store conn.new)))) }
+        (OfRows IsUncountable (seen_of (state S.Store conn.old))
+        (seen_of (state S.Store conn.new)))) }
     ensures read { HasRead (state S.Store conn.old) (state S.Store conn.new) result }
     ensures mode { conn.new.in_transaction ≡ false }
 {
@@ -113,7 +116,8 @@ pub(crate) fn read_beside<S: Alter>(
         OfRows (AreKept beside.2) (seen_of (state S.Store conn.old))
         (seen_of (state S.Store conn.new)))) }
     ensures none { IfOk result (λ found. IfNone found
-        (OfRows IsUncountable (seen_of (state S.Store conn.old)) (seen_of (state S.Store conn.new)))) }
+        (OfRows IsUncountable (seen_of (state S.Store conn.old))
+        (seen_of (state S.Store conn.new)))) }
     ensures read { HasRead (state S.Store conn.old) (state S.Store conn.new) result }
     ensures mode { conn.new.in_transaction ≡ false }
 {
@@ -132,7 +136,8 @@ fn examined<S: Alter>(conn: &mut Connection<S>) -> Result<(), AdoptFault>
     ensures held { IfErr result (λ fault. IsTrue (state S.Store conn.old).is_open
         → OfRows (λ t. IsFault fault) (seen_of (state S.Store conn.old))
         (seen_of (state S.Store conn.new))) }
-    ensures reason { HasCleanDisk (state S.Store conn.new) → IfErr result (IsReason (state S.Store conn.old)) }
+    ensures reason { HasCleanDisk (state S.Store conn.new)
+        → IfErr result (IsReason (state S.Store conn.old)) }
     ensures stayed { OnOk result (HasStayed (state S.Store conn.old) (state S.Store conn.new)) }
     ensures left { IfErr result (IsLeft (state S.Store conn.old) (state S.Store conn.new)) }
     ensures mode { conn.new.in_transaction ≡ false }
@@ -151,9 +156,11 @@ fn audited<S: Alter>(alloc: Global, conn: &mut Connection<S>) -> Result<(), Adop
     ensures sound { IfErr result (λ fault. InHistory AreRight (λ w h. IsFault fault)
         (seen_of (state S.Store conn.old)) (seen_of (state S.Store conn.new))) }
     ensures only { IfErr result IsOfAudit }
-    ensures told { HasCleanDisk (state S.Store conn.new) → (state S.Store conn.old).now.schema ≡ desk_schema
+    ensures told { HasCleanDisk (state S.Store conn.new)
+        → (state S.Store conn.old).now.schema ≡ desk_schema
         → IfErr result (IsFinding (state S.Store conn.old)) }
-    ensures passed { HasCleanDisk (state S.Store conn.new) → (state S.Store conn.old).now.schema ≡ desk_schema
+    ensures passed { HasCleanDisk (state S.Store conn.new)
+        → (state S.Store conn.old).now.schema ≡ desk_schema
         → OnOk result (Reports (state S.Store conn.old) AuditReport.Sound) }
     ensures stayed { OnOk result (HasStayed (state S.Store conn.old) (state S.Store conn.new)) }
     ensures left { IfErr result (IsLeft (state S.Store conn.old) (state S.Store conn.new)) }
@@ -176,7 +183,8 @@ fn vetted<S: Alter>(alloc: Global, conn: &mut Connection<S>) -> Result<(), Adopt
     ensures sound { IfErr result (λ fault. IsTrue (state S.Store conn.old).is_open
         → InHistory AreRight (λ w h. IsFault fault) (seen_of (state S.Store conn.old))
         (seen_of (state S.Store conn.new))) }
-    ensures reason { HasCleanDisk (state S.Store conn.new) → IfErr result (IsReason (state S.Store conn.old)) }
+    ensures reason { HasCleanDisk (state S.Store conn.new)
+        → IfErr result (IsReason (state S.Store conn.old)) }
     ensures stayed { OnOk result (HasStayed (state S.Store conn.old) (state S.Store conn.new)) }
     ensures left { IfErr result (IsLeft (state S.Store conn.old) (state S.Store conn.new)) }
     ensures mode { conn.new.in_transaction ≡ false }
@@ -193,7 +201,8 @@ pub(crate) fn examine_desk<S: Alter>(
     conn: &mut Connection<S>,
 ) -> Result<(Counts, Items<Text>, Tallies), AdoptFault>
     requires { conn.old.in_transaction ≡ false }
-    ensures kept { IfOk result (λ beside. OfRows (AreKept beside.2) (seen_of (state S.Store conn.old))
+    ensures kept { IfOk result
+        (λ beside. OfRows (AreKept beside.2) (seen_of (state S.Store conn.old))
         (seen_of (state S.Store conn.new))) }
     ensures known { IfOk result (λ known. (w : Readings) → AreRight w → OfRows (λ t.
         HasForms w t → known_of t ≡ known_by known.0 known.1) (seen_of (state S.Store conn.old))
@@ -205,7 +214,8 @@ pub(crate) fn examine_desk<S: Alter>(
         → OnOk result (IsContent (state S.Store conn.old) Content.Desk) }
     ensures passed { HasCleanDisk (state S.Store conn.new) → IsTrue (state S.Store conn.old).is_open
         → OnOk result (Reports (state S.Store conn.old) AuditReport.Sound) }
-    ensures reason { HasCleanDisk (state S.Store conn.new) → IfErr result (IsReason (state S.Store conn.old)) }
+    ensures reason { HasCleanDisk (state S.Store conn.new)
+        → IfErr result (IsReason (state S.Store conn.old)) }
     ensures stayed { OnOk result (HasStayed (state S.Store conn.old) (state S.Store conn.new)) }
     ensures left { IfErr result (IsLeft (state S.Store conn.old) (state S.Store conn.new)) }
     ensures mode { conn.new.in_transaction ≡ false }

@@ -14,11 +14,12 @@ use desk_snapshot::AuditReport;
 use sqlite::{Alter, Connection};
 use std::alloc::Global;
 
-/// Audits the tables that a connection shows: whether they meet the ten conditions of a desk's tables, else which of them they don't
-/// meet first. The database is only read.
+/// Audits the tables that a connection shows: whether they meet the ten conditions of a desk's
+/// tables, else which of them they don't meet first. The database is only read.
 ///
-/// Any database may be audited. A fault tells that memory was wanting, that the database failed or lacks a table or a column of a
-/// desk, or that a cell has a value that no such column has. The tables of a recorded history are sound.
+/// Any database may be audited. A fault tells that memory was wanting, that the database failed or
+/// lacks a table or a column of a desk, or that a cell has a value that no such column has. The
+/// tables of a recorded history are sound.
 pub fn audit_connection<S: Alter>(
     alloc: Global,
     conn: &mut Connection<S>,
@@ -26,7 +27,8 @@ pub fn audit_connection<S: Alter>(
     requires { conn.old.in_transaction ≡ false }
     ensures told { IfOk result (IsAudit (state S.Store conn.old) (state S.Store conn.new)) }
     ensures sound { IfOk result (λ report. InHistory AreRight (λ w h.
-        report ≡ AuditReport.Sound) (seen_of (state S.Store conn.old)) (seen_of (state S.Store conn.new))) }
+        report ≡ AuditReport.Sound) (seen_of (state S.Store conn.old))
+        (seen_of (state S.Store conn.new))) }
     ensures read { HasRead (state S.Store conn.old) (state S.Store conn.new) result }
     ensures mode { conn.new.in_transaction ≡ false }
 {

@@ -65,7 +65,8 @@ impl<S: Alter> SqlDesk<S> {
         requires { conn.in_transaction ≡ false }
         ensures same { result.desk.store.conn ≡ conn }
         ensures holds { (t : Tables) → known_of t ≡ known_by counts forms → AreKept tallies t
-            → (seen_of (state S.Store conn)).holds t → (⟦<SqlDesk<S> as Desk>⟧.seen result).holds t }
+            → (seen_of (state S.Store conn)).holds t
+            → (⟦<SqlDesk<S> as Desk>⟧.seen result).holds t }
     {
         let store = SqlStore::over(alloc, conn, counts, forms, tallies);
         SqlDesk {
@@ -75,8 +76,9 @@ impl<S: Alter> SqlDesk<S> {
 
     /// Creates the tables of an empty desk in a database where nothing stands, in one transaction.
     ///
-    /// A database with a table `meta` is refused as `NotEmpty`, and one with other tables by a fault of the store; the connection is
-    /// handed back. After `NotEmpty` it is as it was. After a fault its tables are as they were, and a stop may leave the empty desk.
+    /// A database with a table `meta` is refused as `NotEmpty`, and one with other tables by a
+    /// fault of the store; the connection is handed back. After `NotEmpty` it is as it was. After a
+    /// fault its tables are as they were, and a stop may leave the empty desk.
     pub fn create(
         alloc: Global,
         conn: Connection<S>,
@@ -91,7 +93,8 @@ impl<S: Alter> SqlDesk<S> {
             → has_meta (state S.Store conn).now.schema ≡ true) }
         ensures undone { IfErr result (λ e. HasCleanDisk (state S.Store e.1)
             → Undone (state S.Store conn) (state S.Store e.1)) }
-        ensures survives { IfErr result (λ e. Survives (state S.Store conn) (state S.Store e.1) StandsEmpty) }
+        ensures survives { IfErr result
+            (λ e. Survives (state S.Store conn) (state S.Store e.1) StandsEmpty) }
         ensures idle { IfErr result (λ e. e.1.in_transaction ≡ false) }
     {
         let mut conn = conn;
@@ -106,23 +109,27 @@ impl<S: Alter> SqlDesk<S> {
         }
     }
 
-    /// Adopts a database that holds a desk's tables, as the desk with those rows. The database is only read.
+    /// Adopts a database that holds a desk's tables, as the desk with those rows. The database is
+    /// only read.
     ///
-    /// It isn't adopted as `BadVersion` where its table `meta` tells another version than 3, whatever else stands in it; as
-    /// `NotADesk` where no table `meta` tells one version, or where not all tables of a desk are declared as `create` declares them,
-    /// in its order, or where a table, an index or a view stands beside them; as `Unsound` where `audit_connection` finds that its
-    /// tables aren't sound. After these the connection is as it was. A fault tells that memory was wanting, that the database failed,
-    /// or that it gave rows that no desk has.
+    /// It isn't adopted as `BadVersion` where its table `meta` tells another version than 3,
+    /// whatever else stands in it; as `NotADesk` where no table `meta` tells one version, or where
+    /// not all tables of a desk are declared as `create` declares them, in its order, or where a
+    /// table, an index or a view stands beside them; as `Unsound` where `audit_connection` finds
+    /// that its tables aren't sound. After these the connection is as it was. A fault tells that
+    /// memory was wanting, that the database failed, or that it gave rows that no desk has.
     ///
-    /// The tables of a recorded history are sound, so of them a fault alone is answered. Whatever rows the connection shows, sound as
-    /// they are, are the desk's rows, so that a refusal or a fault leaves them.
+    /// The tables of a recorded history are sound, so of them a fault alone is answered. Whatever
+    /// rows the connection shows, sound as they are, are the desk's rows, so that a refusal or a
+    /// fault leaves them.
     pub fn adopt_connection(
         alloc: Global,
         conn: Connection<S>,
     ) -> Result<SqlDesk<S>, (AdoptFault, Connection<S>)>
         requires { conn.in_transaction ≡ false }
         ensures rows { IfOk result (λ desk. (w : Readings) → AreRight w → OfRows (λ t.
-            HasForms w t → (⟦<SqlDesk<S> as Desk>⟧.seen desk).holds t) (seen_of (state S.Store conn))
+            HasForms w t → (⟦<SqlDesk<S> as Desk>⟧.seen desk).holds t)
+            (seen_of (state S.Store conn))
             (⟦<SqlDesk<S> as Desk>⟧.seen desk)) }
         ensures holds { IfOk result (λ desk. InHistory AreRight (λ w h.
             (⟦<SqlDesk<S> as Desk>⟧.seen desk).holds (tables w h)) (seen_of (state S.Store conn))
@@ -133,7 +140,8 @@ impl<S: Alter> SqlDesk<S> {
         ensures desk { IfOk result (λ desk. HasCleanDisk (state S.Store desk.desk.store.conn)
             → IsContent (state S.Store conn) Content.Desk) }
         ensures passed { IfOk result (λ desk. HasCleanDisk (state S.Store desk.desk.store.conn)
-            → IsTrue (state S.Store conn).is_open → Reports (state S.Store conn) AuditReport.Sound) }
+            → IsTrue (state S.Store conn).is_open
+            → Reports (state S.Store conn) AuditReport.Sound) }
         ensures reason { IfErr result (λ e. HasCleanDisk (state S.Store e.1)
             → IsReason (state S.Store conn) e.0) }
         ensures stayed { IfOk result (λ desk. HasStayed (state S.Store conn)
@@ -150,11 +158,11 @@ impl<S: Alter> SqlDesk<S> {
         }
     }
 
-    /// Gives a database that holds a desk's tables in version 1 or 2 those of version 3, as `migrate_tables` does, and adopts it. The
-    /// old version is answered beside the desk.
+    /// Gives a database that holds a desk's tables in version 1 or 2 those of version 3, as
+    /// `migrate_tables` does, and adopts it. The old version is answered beside the desk.
     ///
-    /// It is refused, and as it was after a refusal, as `migrate_tables` says. A fault may come after the migration too: then the
-    /// database that is handed back shows the migrated tables.
+    /// It is refused, and as it was after a refusal, as `migrate_tables` says. A fault may come
+    /// after the migration too: then the database that is handed back shows the migrated tables.
     pub fn migrate(
         alloc: Global,
         conn: Connection<S>,
@@ -166,7 +174,8 @@ impl<S: Alter> SqlDesk<S> {
         ensures holds { IfOk result (λ made. (version : Version) → InOlderHistory version (λ w h.
             (made.1 ≡ version) × (⟦<SqlDesk<S> as Desk>⟧.seen made.0).holds (tables w h))
             (state S.Store conn) (state S.Store made.0.desk.store.conn)) }
-        ensures leaves { IfOk result (λ made. Survives (state S.Store conn) (state S.Store made.0.desk.store.conn)
+        ensures leaves { IfOk result
+            (λ made. Survives (state S.Store conn) (state S.Store made.0.desk.store.conn)
             (LeavesSome (state S.Store conn))) }
         ensures reason { IfErr result (λ e. HasCleanDisk (state S.Store e.1)
             → IsMigrateReason (state S.Store conn) e.0) }
@@ -197,8 +206,8 @@ impl<S: Alter> SqlDesk<S> {
         self.desk.store.audit()
     }
 
-    /// Hands the connection back, which shows the desk's rows and is in no transaction. A stop leaves of it what it could leave of the
-    /// desk.
+    /// Hands the connection back, which shows the desk's rows and is in no transaction. A stop
+    /// leaves of it what it could leave of the desk.
     pub fn into_connection(self) -> Connection<S>
         ensures shows { Same (⟦<SqlDesk<S> as Desk>⟧.seen self) (seen_of (state S.Store result)) }
         ensures leaves { (left : Trees) → (state S.Store result).may_leave left

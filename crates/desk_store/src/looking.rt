@@ -1,5 +1,5 @@
-//! What is looked at in a desk beside its answers: all its rows, and what stands in the way of a freeze, and choices that leave nothing
-//! to choose.
+//! What is looked at in a desk beside its answers: all its rows, and what stands in the way of a
+//! freeze, and choices that leave nothing to choose.
 
 ghost use Rattle.std.specs.Prelude.{◌≡◌, IfOk};
 ghost use Rattle.std.specs.Result.{result_map_both};
@@ -34,10 +34,12 @@ impl<S: Alter> SqlDesk<S> {
         self.desk.store.snapshot()
     }
 
-    /// All that stands in the way of a freeze of a release, as `desk_wanting::wanting` lists it. The desk is as it was.
+    /// All that stands in the way of a freeze of a release, as `desk_wanting::wanting` lists it.
+    /// The desk is as it was.
     pub fn wanting(&mut self, alloc: Global, release: &Text) -> Result<Vec<Refusal>, Fault>
         ensures found { IfOk result (λ refusals. InHistory AreRight (λ w h.
-            refusals.items ≡ wanting_found w (tables w h) release.now) (⟦<SqlDesk<S> as Desk>⟧.seen self.old)
+            refusals.items ≡ wanting_found w (tables w h) release.now)
+            (⟦<SqlDesk<S> as Desk>⟧.seen self.old)
             (⟦<SqlDesk<S> as Desk>⟧.seen self.new)) }
         ensures kept { Looked (⟦<SqlDesk<S> as Desk>⟧.seen self.old)
             (⟦<SqlDesk<S> as Desk>⟧.seen self.new) result }
@@ -45,7 +47,8 @@ impl<S: Alter> SqlDesk<S> {
         desk_wanting::wanting(alloc, &Standard, &mut self.desk.store, release)
     }
 
-    /// The choices of a release that leave nothing to choose, as `desk_choices::sole_choices` lists them. The desk is as it was.
+    /// The choices of a release that leave nothing to choose, as `desk_choices::sole_choices` lists
+    /// them. The desk is as it was.
     pub fn sole_choices(
         &mut self,
         alloc: Global,
@@ -61,10 +64,12 @@ impl<S: Alter> SqlDesk<S> {
         desk_choices::sole_choices(alloc, &Standard, &mut self.desk.store, release)
     }
 
-    /// The documents of a release that ship no package, as `desk_wanting::idle_documents` lists them. The desk is as it was.
+    /// The documents of a release that ship no package, as `desk_wanting::idle_documents` lists
+    /// them. The desk is as it was.
     pub fn idle_documents(&mut self, alloc: Global, release: &Text) -> Result<Vec<u32>, Fault>
         ensures found { IfOk result (λ numbers. InHistory AreRight (λ w h.
-            numbers.items ≡ idle_found (tables w h) release.now) (⟦<SqlDesk<S> as Desk>⟧.seen self.old)
+            numbers.items ≡ idle_found (tables w h) release.now)
+            (⟦<SqlDesk<S> as Desk>⟧.seen self.old)
             (⟦<SqlDesk<S> as Desk>⟧.seen self.new)) }
         ensures kept { Looked (⟦<SqlDesk<S> as Desk>⟧.seen self.old)
             (⟦<SqlDesk<S> as Desk>⟧.seen self.new) result }

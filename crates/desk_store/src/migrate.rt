@@ -25,7 +25,8 @@ use std::alloc::Global;
 /// What a store keeps beside its tables.
 pub(crate) type Beside = (Counts, Items<Text>, Tallies);
 
-/// Gives a database of an older version the tables of this one, and reads what a store keeps beside them.
+/// Gives a database of an older version the tables of this one, and reads what a store keeps beside
+/// them.
 pub(crate) fn migrated<S: Alter>(
     alloc: Global,
     conn: &mut Connection<S>,
@@ -40,7 +41,8 @@ pub(crate) fn migrated<S: Alter>(
         (state S.Store conn.old) (state S.Store conn.new)) }
     ensures leaves { OnOk result (Survives (state S.Store conn.old) (state S.Store conn.new)
         (LeavesSome (state S.Store conn.old))) }
-    ensures reason { HasCleanDisk (state S.Store conn.new) → IfErr result (IsReason (state S.Store conn.old)) }
+    ensures reason { HasCleanDisk (state S.Store conn.new)
+        → IfErr result (IsReason (state S.Store conn.old)) }
     ensures history { IfErr result (λ fault. (version : Version) → InOlderHistory version (λ w h.
         IsFault fault) (state S.Store conn.old) (state S.Store conn.new)) }
     ensures left { IfErr result (IsLeftBy (state S.Store conn.old) (state S.Store conn.new)) }

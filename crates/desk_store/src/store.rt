@@ -30,8 +30,9 @@ use desk_tally::{Step, Tallies};
 use sqlite::{Alter, Connection};
 use std::alloc::Global;
 
-/// Rows in a database, with how many there are of some, the forms of the catalogue in force, the tallies of the releases, and the count
-/// of adoptions of the document whose count was asked for last, if one was.
+/// Rows in a database, with how many there are of some, the forms of the catalogue in force, the
+/// tallies of the releases, and the count of adoptions of the document whose count was asked for
+/// last, if one was.
 #[derive(Drop)]
 pub struct SqlStore<S: Alter> {
     alloc: Global,
@@ -44,8 +45,9 @@ pub struct SqlStore<S: Alter> {
 }
 
 impl<S: Alter> SqlStore<S> {
-    /// The store over a connection that is in no transaction. Where the connection shows tables that have so many rows, these are the
-    /// forms of the catalogue in force and the tallies are theirs, they are the store's rows.
+    /// The store over a connection that is in no transaction. Where the connection shows tables
+    /// that have so many rows, these are the forms of the catalogue in force and the tallies are
+    /// theirs, they are the store's rows.
     pub fn over(
         alloc: Global,
         conn: Connection<S>,
@@ -55,7 +57,8 @@ impl<S: Alter> SqlStore<S> {
     ) -> SqlStore<S>
         requires { conn.in_transaction ≡ false }
         ensures holds { (t : Tables) → known_of t ≡ known_by counts forms → AreKept tallies t
-            → (seen_of (state S.Store conn)).holds t → (⟦<SqlStore<S> as Store>⟧.seen result).holds t }
+            → (seen_of (state S.Store conn)).holds t
+            → (⟦<SqlStore<S> as Store>⟧.seen result).holds t }
         ensures same { result.conn ≡ conn }
     {
         SqlStore {
@@ -68,8 +71,8 @@ impl<S: Alter> SqlStore<S> {
         }
     }
 
-    /// Hands the connection back, which shows the store's rows and is in no transaction. A stop leaves of it what it could leave of the
-    /// store.
+    /// Hands the connection back, which shows the store's rows and is in no transaction. A stop
+    /// leaves of it what it could leave of the store.
     pub fn into_connection(self) -> Connection<S>
         ensures same { result ≡ self.conn }
         ensures idle { result.in_transaction ≡ false }
@@ -93,7 +96,8 @@ impl<S: Alter> SqlStore<S> {
 impl<S: Alter> SqlStore<S> {
     /// Audits the tables as `audit_connection` does. The store is as it was.
     pub fn audit(&mut self) -> Result<AuditReport, Fault>
-        ensures told { IfOk result (IsAudit (state S.Store self.old.conn) (state S.Store self.new.conn)) }
+        ensures told { IfOk result
+            (IsAudit (state S.Store self.old.conn) (state S.Store self.new.conn)) }
         ensures sound { IfOk result (λ report. InHistory AreRight (λ w h.
             report ≡ AuditReport.Sound) (⟦<SqlStore<S> as Store>⟧.seen self.old)
             (⟦<SqlStore<S> as Store>⟧.seen self.new)) }
@@ -139,7 +143,8 @@ fn place_for<S: Alter>(
 ) -> Result<Option<u32>, Fault>
     ensures found { IfOk result (λ place. OfRows (IsPlaceFor change.now place)
         (seen_of (state S.Store conn.old)) (seen_of (state S.Store conn.new))) }
-    ensures kept { Looked (seen_of (state S.Store conn.old)) (seen_of (state S.Store conn.new)) result }
+    ensures kept { Looked (seen_of (state S.Store conn.old)) (seen_of (state S.Store conn.new))
+        result }
     ensures mode { conn.old.in_transaction ≡ false → conn.new.in_transaction ≡ false }
 {
     let Change::Froze { release, .. } = change else {
@@ -151,7 +156,8 @@ fn place_for<S: Alter>(
     }
 }
 
-/// The count of adoptions after a change: one more where a reference of its document is adopted that wasn't adopted before.
+/// The count of adoptions after a change: one more where a reference of its document is adopted
+/// that wasn't adopted before.
 fn adoptions_after<S: Alter>(
     alloc: Global,
     conn: &mut Connection<S>,
@@ -161,7 +167,8 @@ fn adoptions_after<S: Alter>(
     ensures counted { IfOk result (λ after. OfRows (λ t.
         AreCounted adoptions t → AreCounted after (applied change.now t))
         (seen_of (state S.Store conn.old)) (seen_of (state S.Store conn.new))) }
-    ensures kept { Looked (seen_of (state S.Store conn.old)) (seen_of (state S.Store conn.new)) result }
+    ensures kept { Looked (seen_of (state S.Store conn.old)) (seen_of (state S.Store conn.new))
+        result }
     ensures mode { conn.old.in_transaction ≡ false → conn.new.in_transaction ≡ false }
 {
     let Some(counted) = adoptions else {
@@ -227,7 +234,8 @@ impl<S: Alter> Store for SqlStore<S> {
 
     ghost stands = { Stands };
 
-    ghost seen = { λ s. tallied s.adoptions s.tallies (known_by s.counts s.forms) (seen_of (state S.Store s.conn)) };
+    ghost seen = { λ s. tallied s.adoptions s.tallies (known_by s.counts s.forms)
+        (seen_of (state S.Store s.conn)) };
 
     ghost tells = { λ fault. Unit {0} };
 

@@ -28,12 +28,14 @@ fn report_status(report: AuditReport) -> u8
     }
 }
 
-/// Writes what an audit reports, as a line, `sound` or the name of the first condition that isn't met, and answers the program's status.
+/// Writes what an audit reports, as a line, `sound` or the name of the first condition that isn't
+/// met, and answers the program's status.
 pub fn tell_report<W: Write>(report: AuditReport, writer: &mut W) -> Result<u8, Failure>
     ensures told { IfOk result (λ status. (status ≡ report_status report)
         × Appends (W.contents writer.old) (W.contents writer.new) (report_name report ++ 10 ∷ [])) }
     ensures fails { IfErr result IsOfOutput }
-    ensures memory { IfErr result (IfMemory (Keeps (W.contents writer.old) (W.contents writer.new))) }
+    ensures memory { IfErr result
+        (IfMemory (Keeps (W.contents writer.old) (W.contents writer.new))) }
 {
     write_line(writer, report_name(report))?;
     Ok(report_status(report))

@@ -82,8 +82,9 @@ fn judge<'a>(
     }
 }
 
-/// Writes whether the words spell a minimal choice of terms for the licence expression, whose operators
-/// are written by the profile, as one line, and answers the program's status. Where memory is wanting, nothing is written.
+/// Writes whether the words spell a minimal choice of terms for the licence expression, whose
+/// operators are written by the profile, as one line, and answers the program's status. Where
+/// memory is wanting, nothing is written.
 pub fn check<W: Write>(
     alloc: Global,
     expression: &str,

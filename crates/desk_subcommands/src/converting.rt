@@ -21,7 +21,8 @@ fn is_json_blank(byte: u8) -> bool
     matches!(byte, b' ' | b'\t' | b'\n' | b'\r')
 }
 
-/// Whether bytes are an object of JSON, and no tag-value document: their first byte that is no blank opens one.
+/// Whether bytes are an object of JSON, and no tag-value document: their first byte that is no
+/// blank opens one.
 fn begins_object(bytes: &[u8]) -> bool
     ensures { result ≡ begins_object bytes.now }
 {
@@ -35,7 +36,8 @@ fn begins_object(bytes: &[u8]) -> bool
 
 /// The tag-value document that bytes are, or that says what they say as an SPDX document in JSON.
 pub fn document_of(alloc: Global, bytes: Vec<u8>) -> Result<Vec<u8>, ConvertFault>
-    ensures same { begins_object bytes.items ≡ false → IfOk result (λ text. text.items ≡ bytes.items) }
+    ensures same { begins_object bytes.items ≡ false
+        → IfOk result (λ text. text.items ≡ bytes.items) }
     ensures ok { begins_object bytes.items ≡ true → IfOk result (λ text. (c : Made)
         × IsConverted bytes.items c × (text.items ≡ string_bytes c.text)) }
     ensures err { IfErr result (λ fault. (begins_object bytes.items ≡ true)
@@ -50,7 +52,8 @@ pub fn document_of(alloc: Global, bytes: Vec<u8>) -> Result<Vec<u8>, ConvertFaul
 
 /// Adds the name of a fault and its place.
 fn add_place(line: &mut String, name: &str, place: &Text) -> Result<(), AllocError>
-    ensures { OnOk result (string_bytes line.new ≡ (string_bytes line.old ++ name.now) ++ place.now) }
+    ensures { OnOk result (string_bytes line.new
+        ≡ (string_bytes line.old ++ name.now) ++ place.now) }
 {
     line.push_str(name)?;
     line.push_str(place.as_str())?;
@@ -81,7 +84,8 @@ pub fn refuse_conversion<W: Write>(
         × Appends (W.contents writer.old) (W.contents writer.new) (convert_fault_line fault)) }
     ensures memory_fault { IfOk result (λ _. ¬ (fault ≡ ConvertFault.Memory)) }
     ensures fails { IfErr result IsOfOutput }
-    ensures memory { IfErr result (IfMemory (Keeps (W.contents writer.old) (W.contents writer.new))) }
+    ensures memory { IfErr result
+        (IfMemory (Keeps (W.contents writer.old) (W.contents writer.new))) }
 {
     if let ConvertFault::Memory = &fault {
         return Err(Failure::from(AllocError));
@@ -107,8 +111,8 @@ fn tell_skipped<T: Write>(alloc: Global, skipped: Skipped, teller: &mut T) -> Re
     Ok(())
 }
 
-/// Writes the tag-value document that says what an SPDX document in JSON says, or as a line why there is none, and answers the program's
-/// status. What is left out is told to another writer.
+/// Writes the tag-value document that says what an SPDX document in JSON says, or as a line why
+/// there is none, and answers the program's status. What is left out is told to another writer.
 pub fn convert<W: Write, T: Write>(
     alloc: Global,
     bytes: &[u8],
@@ -118,7 +122,8 @@ pub fn convert<W: Write, T: Write>(
     ensures told { IfOk result (λ status. (text : List ℕ) × Converts bytes.now text status
         × Appends (W.contents writer.old) (W.contents writer.new) text) }
     ensures fails { IfErr result IsOfOutput }
-    ensures memory { IfErr result (IfMemory (Keeps (W.contents writer.old) (W.contents writer.new))) }
+    ensures memory { IfErr result
+        (IfMemory (Keeps (W.contents writer.old) (W.contents writer.new))) }
 {
     match desk_convert::convert(alloc, bytes) {
         Ok(converted) => {

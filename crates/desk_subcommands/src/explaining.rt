@@ -43,7 +43,8 @@ impl Counts {
     }
 }
 
-/// One who watches a script, and tells of each line that isn't done which it is and why, and at the end how many there were.
+/// One who watches a script, and tells of each line that isn't done which it is and why, and at the
+/// end how many there were.
 #[derive(Drop)]
 pub struct Explainer<E: Write> {
     alloc: Global,

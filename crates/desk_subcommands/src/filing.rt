@@ -1,4 +1,5 @@
-//! The commands whose texts stand in files: the import of a document, and the loading of a catalogue.
+//! The commands whose texts stand in files: the import of a document, and the loading of a
+//! catalogue.
 
 ghost use Rattle.std.specs.Prelude.{◌≡◌, ◌++◌, ◌∷◌, [], IfOk, IfErr, OnOk, MatchOption, codes};
 ghost use Rattle.std.specs.String.{string_bytes};
@@ -52,9 +53,11 @@ fn status_of(answer: &Answer) -> u8
 }
 
 pub(crate) fn write_line<W: Write>(writer: &mut W, text: &str) -> Result<(), Failure>
-    ensures ok { OnOk result (Appends (W.contents writer.old) (W.contents writer.new) (text.now ++ 10 ∷ [])) }
+    ensures ok { OnOk result
+        (Appends (W.contents writer.old) (W.contents writer.new) (text.now ++ 10 ∷ [])) }
     ensures err { IfErr result IsOfOutput }
-    ensures memory { IfErr result (IfMemory (Keeps (W.contents writer.old) (W.contents writer.new))) }
+    ensures memory { IfErr result
+        (IfMemory (Keeps (W.contents writer.old) (W.contents writer.new))) }
 {
     writer.write_all(text.as_bytes())?;
     writer.write_all(b"\n")?;
@@ -66,7 +69,8 @@ pub(crate) fn write_line<W: Write>(writer: &mut W, text: &str) -> Result<(), Fai
 pub fn write_text<W: Write>(writer: &mut W, text: &[u8]) -> Result<(), Failure>
     ensures ok { OnOk result (Appends (W.contents writer.old) (W.contents writer.new) text.now) }
     ensures err { IfErr result IsOfOutput }
-    ensures memory { IfErr result (IfMemory (Keeps (W.contents writer.old) (W.contents writer.new))) }
+    ensures memory { IfErr result
+        (IfMemory (Keeps (W.contents writer.old) (W.contents writer.new))) }
 {
     writer.write_all(text)?;
     writer.flush()?;
@@ -78,7 +82,8 @@ fn write_reply<W: Write>(alloc: Global, outcome: &Outcome, writer: &mut W) -> Re
     ensures ok { OnOk result (Appends (W.contents writer.old) (W.contents writer.new)
         (outcome_line outcome.now)) }
     ensures err { IfErr result IsOfOutput }
-    ensures memory { IfErr result (IfMemory (Keeps (W.contents writer.old) (W.contents writer.new))) }
+    ensures memory { IfErr result
+        (IfMemory (Keeps (W.contents writer.old) (W.contents writer.new))) }
 {
     match outcome {
         Outcome::Failed(Fault::Memory) => write_line(writer, memory_line()),
@@ -89,13 +94,18 @@ fn write_reply<W: Write>(alloc: Global, outcome: &Outcome, writer: &mut W) -> Re
     }
 }
 
-/// Writes the reply to an outcome as a line, and answers the program's status. If the desk failed, the reply says so and so does the failure.
+/// Writes the reply to an outcome as a line, and answers the program's status. If the desk failed,
+/// the reply says so and so does the failure.
 pub fn tell<W: Write>(alloc: Global, outcome: &Outcome, writer: &mut W) -> Result<u8, Failure>
     ensures done { IfOk result (λ status. (answer : Answer) × (outcome.now ≡ Answered answer)
-        × Appends (W.contents writer.old) (W.contents writer.new) (outcome_line (Answered answer)) × (status ≡ answer_status answer)) }
+        × Appends (W.contents writer.old) (W.contents writer.new) (outcome_line (Answered answer))
+        × (status ≡ answer_status answer)) }
     ensures failed { IfErr result (OfRequest
-        (λ fault. (outcome.now ≡ Failed fault) × Appends (W.contents writer.old) (W.contents writer.new) (outcome_line outcome.now)) (Unit {0})) }
-    ensures memory { IfErr result (IfMemory (Keeps (W.contents writer.old) (W.contents writer.new))) }
+        (λ fault. (outcome.now ≡ Failed fault)
+        × Appends (W.contents writer.old) (W.contents writer.new) (outcome_line outcome.now))
+        (Unit {0})) }
+    ensures memory { IfErr result
+        (IfMemory (Keeps (W.contents writer.old) (W.contents writer.new))) }
 {
     write_reply(alloc, outcome, writer)?;
     match outcome {
@@ -106,21 +116,24 @@ pub fn tell<W: Write>(alloc: Global, outcome: &Outcome, writer: &mut W) -> Resul
 
 // Imports a document.
 fn imported<D: Desk>(desk: &mut D, bytes: Items<u8>, profile: Profile) -> Outcome
-    ensures { Comes D.are_right D.tells D.stands (Import bytes profile) (D.seen desk.old) (D.seen desk.new) result }
+    ensures { Comes D.are_right D.tells D.stands (Import bytes profile) (D.seen desk.old)
+        (D.seen desk.new) result }
 {
     Outcome::from(desk.import(bytes, profile))
 }
 
 // Loads a catalogue.
 fn loaded<D: Desk>(desk: &mut D, text: Text) -> Outcome
-    ensures { Comes D.are_right D.tells D.stands (LoadCatalogue text) (D.seen desk.old) (D.seen desk.new) result }
+    ensures { Comes D.are_right D.tells D.stands (LoadCatalogue text) (D.seen desk.old)
+        (D.seen desk.new) result }
 {
     let command = Command::LoadCatalogue { text };
     Outcome::from(desk.apply(&command))
 }
 
-/// Has a desk import a document, as the request `import` does, writes the reply as a line, and answers the program's status. Where the
-/// desk fails, the reply tells it and so does the failure. Where the reply can't be written, what the desk did stands.
+/// Has a desk import a document, as the request `import` does, writes the reply as a line, and
+/// answers the program's status. Where the desk fails, the reply tells it and so does the failure.
+/// Where the reply can't be written, what the desk did stands.
 pub fn import<D: Desk, W: Write, E: Write>(
     alloc: Global,
     desk: &mut D,
@@ -129,12 +142,17 @@ pub fn import<D: Desk, W: Write, E: Write>(
     writer: &mut W,
     teller: &mut Teller<E>,
 ) -> Result<u8, Failure>
-    ensures done { IfOk result (IsAnswered D.are_right D.tells D.stands (Import bytes profile) (D.seen desk.old) (D.seen desk.new)
+    ensures done { IfOk result
+        (IsAnswered D.are_right D.tells D.stands (Import bytes profile) (D.seen desk.old)
+        (D.seen desk.new)
         (W.contents writer.old) (W.contents writer.new)) }
     ensures failed { IfErr result (OfRequest
-        (HasFailed D.are_right D.tells D.stands (Import bytes profile) (D.seen desk.old) (D.seen desk.new) (W.contents writer.old) (W.contents writer.new))
-        (IsUntold D.are_right D.tells D.stands (Import bytes profile) (D.seen desk.old) (D.seen desk.new))) }
-    ensures memory { IfErr result (IfMemory (Keeps (W.contents writer.old) (W.contents writer.new))) }
+        (HasFailed D.are_right D.tells D.stands (Import bytes profile) (D.seen desk.old)
+        (D.seen desk.new) (W.contents writer.old) (W.contents writer.new))
+        (IsUntold D.are_right D.tells D.stands (Import bytes profile) (D.seen desk.old)
+        (D.seen desk.new))) }
+    ensures memory { IfErr result
+        (IfMemory (Keeps (W.contents writer.old) (W.contents writer.new))) }
 {
     let outcome = imported(desk, bytes, profile);
     let told = tell(alloc, &outcome, writer);
@@ -142,8 +160,9 @@ pub fn import<D: Desk, W: Write, E: Write>(
     told
 }
 
-/// Has a desk load a catalogue, as the request `catalogue` does, writes the reply as a line, and answers the program's status. Where the
-/// desk fails, the reply tells it and so does the failure. Where the reply can't be written, what the desk did stands.
+/// Has a desk load a catalogue, as the request `catalogue` does, writes the reply as a line, and
+/// answers the program's status. Where the desk fails, the reply tells it and so does the failure.
+/// Where the reply can't be written, what the desk did stands.
 pub fn catalogue<D: Desk, W: Write, E: Write>(
     alloc: Global,
     desk: &mut D,
@@ -151,12 +170,17 @@ pub fn catalogue<D: Desk, W: Write, E: Write>(
     writer: &mut W,
     teller: &mut Teller<E>,
 ) -> Result<u8, Failure>
-    ensures done { IfOk result (IsAnswered D.are_right D.tells D.stands (LoadCatalogue text) (D.seen desk.old) (D.seen desk.new)
+    ensures done { IfOk result
+        (IsAnswered D.are_right D.tells D.stands (LoadCatalogue text) (D.seen desk.old)
+        (D.seen desk.new)
         (W.contents writer.old) (W.contents writer.new)) }
     ensures failed { IfErr result (OfRequest
-        (HasFailed D.are_right D.tells D.stands (LoadCatalogue text) (D.seen desk.old) (D.seen desk.new) (W.contents writer.old) (W.contents writer.new))
-        (IsUntold D.are_right D.tells D.stands (LoadCatalogue text) (D.seen desk.old) (D.seen desk.new))) }
-    ensures memory { IfErr result (IfMemory (Keeps (W.contents writer.old) (W.contents writer.new))) }
+        (HasFailed D.are_right D.tells D.stands (LoadCatalogue text) (D.seen desk.old)
+        (D.seen desk.new) (W.contents writer.old) (W.contents writer.new))
+        (IsUntold D.are_right D.tells D.stands (LoadCatalogue text) (D.seen desk.old)
+        (D.seen desk.new))) }
+    ensures memory { IfErr result
+        (IfMemory (Keeps (W.contents writer.old) (W.contents writer.new))) }
 {
     let outcome = loaded(desk, text);
     let told = tell(alloc, &outcome, writer);
@@ -175,7 +199,8 @@ pub fn text_of(alloc: Global, bytes: &[u8]) -> Result<Option<Text>, AllocError>
     }
 }
 
-/// Writes the reply to the loading of a catalogue that is no text: it is refused as no TOML document. It answers the program's status.
+/// Writes the reply to the loading of a catalogue that is no text: it is refused as no TOML
+/// document. It answers the program's status.
 pub fn refuse_catalogue<W: Write, E: Write>(
     alloc: Global,
     writer: &mut W,
@@ -184,7 +209,8 @@ pub fn refuse_catalogue<W: Write, E: Write>(
     ensures told { IfOk result (λ status. (status ≡ 1)
         × Appends (W.contents writer.old) (W.contents writer.new) (outcome_line no_text)) }
     ensures fails { IfErr result IsOfOutput }
-    ensures memory { IfErr result (IfMemory (Keeps (W.contents writer.old) (W.contents writer.new))) }
+    ensures memory { IfErr result
+        (IfMemory (Keeps (W.contents writer.old) (W.contents writer.new))) }
 {
     let outcome = Outcome::Answered(Answer::Refused(Refusal::BadCatalogue(
         CatalogueFault::NotToml,
@@ -212,7 +238,8 @@ pub fn refuse_database<W: Write>(
     ensures told { IfOk result (λ status. (status ≡ 1)
         × Appends (W.contents writer.old) (W.contents writer.new) (no_desk_line reason)) }
     ensures fails { IfErr result IsOfOutput }
-    ensures memory { IfErr result (IfMemory (Keeps (W.contents writer.old) (W.contents writer.new))) }
+    ensures memory { IfErr result
+        (IfMemory (Keeps (W.contents writer.old) (W.contents writer.new))) }
 {
     let text = no_desk_text(alloc, reason)?;
     write_line(writer, text.as_str())?;

@@ -59,7 +59,8 @@ fn gaps(alloc: Global, text: &str) -> Result<Option<String>, AllocError> {
     Ok(Some(told))
 }
 
-// Tells what was gathered beside what is written, which may go into a file: a fault, or what the document lacks.
+// Tells what was gathered beside what is written, which may go into a file: a fault, or what the
+// document lacks.
 fn tell<T: Write>(alloc: Global, status: u8, text: &str, teller: &mut T) -> Result<(), Failure> {
     if status != 0 {
         teller.write_all(text.as_bytes())?;
@@ -69,9 +70,10 @@ fn tell<T: Write>(alloc: Global, status: u8, text: &str, teller: &mut T) -> Resu
     Ok(())
 }
 
-/// Writes the document of a tree of files, or one line with the fault for which it has none, and answers the program's status.
-/// Where memory is wanting, or some value can't stand in its field, nothing is written. A fault, and how many files state no licence or
-/// no notice, is told a second time to another writer.
+/// Writes the document of a tree of files, or one line with the fault for which it has none, and
+/// answers the program's status. Where memory is wanting, or some value can't stand in its field,
+/// nothing is written. A fault, and how many files state no licence or no notice, is told a second
+/// time to another writer.
 pub fn gather<W: Write, T: Write>(
     alloc: Global,
     files: Vec<SourceFile>,
@@ -85,9 +87,11 @@ pub fn gather<W: Write, T: Write>(
         × Gathers r files.items (record { name = name.now; namespace = namespace.now; created = created.now }) text status
         × Appends (W.contents writer.old) (W.contents writer.new) text) }
     ensures bad_value { (r : Reader) → IsRightReader r → IfErr result
-        (IfBadValue (IsUnwritable r files.items (record { name = name.now; namespace = namespace.now; created = created.now }))) }
+        (IfBadValue (IsUnwritable r files.items
+        (record { name = name.now; namespace = namespace.now; created = created.now }))) }
     ensures fails { IfErr result IsOfDocument }
-    ensures untold { IfErr result (IfUntold (Keeps (W.contents writer.old) (W.contents writer.new))) }
+    ensures untold { IfErr result
+        (IfUntold (Keeps (W.contents writer.old) (W.contents writer.new))) }
 {
     let answer = gathered(alloc, files, name, namespace, created)?;
     let status = status_of(&answer);

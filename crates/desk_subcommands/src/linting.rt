@@ -19,8 +19,8 @@ fn status_of(report: &Report) -> u8
     if report.is_clean { 0 } else { 1 }
 }
 
-/// Writes the problems of a tree of files, as one JSON object or a line each, and answers the program's status. Where memory is
-/// wanting, nothing is written.
+/// Writes the problems of a tree of files, as one JSON object or a line each, and answers the
+/// program's status. Where memory is wanting, nothing is written.
 pub fn lint<W: Write>(
     alloc: Global,
     files: &[SourceFile],
@@ -31,7 +31,8 @@ pub fn lint<W: Write>(
         × Lints r files.now json text status
         × Appends (W.contents writer.old) (W.contents writer.new) text) }
     ensures fails { IfErr result IsOfOutput }
-    ensures memory { IfErr result (IfMemory (Keeps (W.contents writer.old) (W.contents writer.new))) }
+    ensures memory { IfErr result
+        (IfMemory (Keeps (W.contents writer.old) (W.contents writer.new))) }
 {
     let report = report_on(alloc, files, json)?;
     writer.write_all(report.text.as_slice())?;
@@ -39,7 +40,8 @@ pub fn lint<W: Write>(
     Ok(status_of(&report))
 }
 
-/// Tells which licences in REUSE.toml files have a blank at an end, a line each, where a tree's document can't hold them.
+/// Tells which licences in REUSE.toml files have a blank at an end, a line each, where a tree's
+/// document can't hold them.
 pub fn tell_blanks<T: Write>(
     alloc: Global,
     files: &[SourceFile],

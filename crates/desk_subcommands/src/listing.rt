@@ -99,8 +99,9 @@ fn list(alloc: Global, expression: &str, profile: Profile) -> Result<Listing, Al
     }
 }
 
-/// Writes the minimal sets of terms that satisfy the licence expression, whose operators are written
-/// by the profile, a line each, or why they aren't listed, and answers the program's status. Where memory is wanting, nothing is written.
+/// Writes the minimal sets of terms that satisfy the licence expression, whose operators are
+/// written by the profile, a line each, or why they aren't listed, and answers the program's
+/// status. Where memory is wanting, nothing is written.
 pub fn alternatives<W: Write>(
     alloc: Global,
     expression: &str,
@@ -111,7 +112,8 @@ pub fn alternatives<W: Write>(
         × Appends (W.contents writer.old) (W.contents writer.new) text) }
     ensures once { ListsOnce profile expression.now }
     ensures fails { IfErr result IsOfOutput }
-    ensures memory { IfErr result (IfMemory (Keeps (W.contents writer.old) (W.contents writer.new))) }
+    ensures memory { IfErr result
+        (IfMemory (Keeps (W.contents writer.old) (W.contents writer.new))) }
 {
     let listing = list(alloc, expression, profile)?;
     let text = listing.text(alloc)?;

@@ -11,8 +11,8 @@ use desk_explain::{Entry, entries, explanation};
 use std::alloc::Global;
 use std::io::Write;
 
-/// Writes what the tables say of a name, a block for each entry that has it, and returns the program's status. Where none has it, or
-/// memory is wanting, nothing is written.
+/// Writes what the tables say of a name, a block for each entry that has it, and returns the
+/// program's status. Where none has it, or memory is wanting, nothing is written.
 pub fn explain<W: Write>(
     alloc: Global,
     tables: &[&[Entry]],
@@ -20,9 +20,11 @@ pub fn explain<W: Write>(
     writer: &mut W,
 ) -> Result<u8, Failure>
     ensures told { IfOk result
-        (Explains (entries_named name.now tables.now) (W.contents writer.old) (W.contents writer.new)) }
+        (Explains (entries_named name.now tables.now) (W.contents writer.old)
+        (W.contents writer.new)) }
     ensures fails { IfErr result (IsOfName name.now (entries_named name.now tables.now ≡ [])) }
-    ensures untold { IfErr result (IfUntold (Keeps (W.contents writer.old) (W.contents writer.new))) }
+    ensures untold { IfErr result
+        (IfUntold (Keeps (W.contents writer.old) (W.contents writer.new))) }
 {
     let found = entries(alloc, tables, name)?;
     if found.is_empty() {

@@ -15,7 +15,8 @@ pub fn tell_migration<W: Write>(alloc: Global, version: u32, writer: &mut W) -> 
     ensures told { OnOk result (Appends (W.contents writer.old) (W.contents writer.new)
         (migration_text version ++ 10 ∷ [])) }
     ensures fails { IfErr result IsOfOutput }
-    ensures memory { IfErr result (IfMemory (Keeps (W.contents writer.old) (W.contents writer.new))) }
+    ensures memory { IfErr result
+        (IfMemory (Keeps (W.contents writer.old) (W.contents writer.new))) }
 {
     let line = format!(in alloc; "migrated {version} to 3")?;
     write_line(writer, line.as_str())

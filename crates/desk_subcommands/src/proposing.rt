@@ -32,8 +32,8 @@ fn tell_counts<T: Write>(
     Ok(())
 }
 
-/// Writes the requests that conclude, for each package of a document that ships without a conclusion, its declared licence, as `propose`
-/// does for the bytes of one.
+/// Writes the requests that conclude, for each package of a document that ships without a
+/// conclusion, its declared licence, as `propose` does for the bytes of one.
 pub fn write_proposals<W: Write, T: Write>(
     alloc: Global,
     number: u32,
@@ -42,11 +42,13 @@ pub fn write_proposals<W: Write, T: Write>(
     writer: &mut W,
     teller: &mut T,
 ) -> Result<u8, Failure>
-    ensures told { (reads : List ℕ → Option Tree) → IsReading profile reads → IfOk result (λ status. (text : List ℕ)
+    ensures told { (reads : List ℕ → Option Tree) → IsReading profile reads
+        → IfOk result (λ status. (text : List ℕ)
         × HasLines reads number (document_text document.now) text status
         × Appends (W.contents writer.old) (W.contents writer.new) text) }
     ensures fails { IfErr result IsOfOutput }
-    ensures memory { IfErr result (IfMemory (Keeps (W.contents writer.old) (W.contents writer.new))) }
+    ensures memory { IfErr result
+        (IfMemory (Keeps (W.contents writer.old) (W.contents writer.new))) }
 {
     let proposals = proposals_of(alloc, number, document, profile)?;
     writer.write_all(proposals.lines.as_bytes())?;
@@ -64,9 +66,11 @@ pub fn refuse_document<X: Texts, W: Write>(
     writer: &mut W,
 ) -> Result<u8, Failure>
     ensures told { (w : Readings) → X.are_right w → IfOk result (λ status. (text : List ℕ)
-        × IsRefused w bytes.now text status × Appends (W.contents writer.old) (W.contents writer.new) text) }
+        × IsRefused w bytes.now text status
+        × Appends (W.contents writer.old) (W.contents writer.new) text) }
     ensures fails { IfErr result IsOfOutput }
-    ensures memory { IfErr result (IfMemory (Keeps (W.contents writer.old) (W.contents writer.new))) }
+    ensures memory { IfErr result
+        (IfMemory (Keeps (W.contents writer.old) (W.contents writer.new))) }
 {
     match texts.document(alloc, bytes)? {
         Err(fault) => {
@@ -78,10 +82,11 @@ pub fn refuse_document<X: Texts, W: Write>(
     }
 }
 
-/// Writes the requests that conclude, for each package of a document that ships without a conclusion, its declared licence, and returns
-/// the program's status. The desk knows the document by a number, and its licence expressions are read by the profile. Bytes that are no
-/// document get the reply that an import of them has. How many conclusions are proposed, and how many packages are left out, is told to
-/// another writer.
+/// Writes the requests that conclude, for each package of a document that ships without a
+/// conclusion, its declared licence, and returns the program's status. The desk knows the document
+/// by a number, and its licence expressions are read by the profile. Bytes that are no document get
+/// the reply that an import of them has. How many conclusions are proposed, and how many packages
+/// are left out, is told to another writer.
 pub fn propose<X: Texts, W: Write, T: Write>(
     alloc: Global,
     texts: &X,
@@ -91,11 +96,13 @@ pub fn propose<X: Texts, W: Write, T: Write>(
     writer: &mut W,
     teller: &mut T,
 ) -> Result<u8, Failure>
-    ensures told { (w : Readings) (reads : List ℕ → Option Tree) → X.are_right w → IsReading profile reads
+    ensures told { (w : Readings) (reads : List ℕ → Option Tree) → X.are_right w
+        → IsReading profile reads
         → IfOk result (λ status. (text : List ℕ) × Proposes w reads number bytes.now text status
         × Appends (W.contents writer.old) (W.contents writer.new) text) }
     ensures fails { IfErr result IsOfOutput }
-    ensures memory { IfErr result (IfMemory (Keeps (W.contents writer.old) (W.contents writer.new))) }
+    ensures memory { IfErr result
+        (IfMemory (Keeps (W.contents writer.old) (W.contents writer.new))) }
 {
     match read(alloc, bytes) {
         Ok(document) => write_proposals(alloc, number, &document, profile, writer, teller),

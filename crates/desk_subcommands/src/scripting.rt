@@ -14,8 +14,8 @@ use desk_script::{ScriptFault, Watch};
 use std::alloc::Global;
 use std::io::{Read, Write};
 
-/// Replies to the requests that the reader gives, a line each, and answers the program's status. Where the one who watches says so, it
-/// ends with the first line that isn't done.
+/// Replies to the requests that the reader gives, a line each, and answers the program's status.
+/// Where the one who watches says so, it ends with the first line that isn't done.
 pub fn script<D: Desk, R: Read, W: Write, V: Watch>(
     alloc: Global,
     desk: &mut D,
@@ -23,20 +23,31 @@ pub fn script<D: Desk, R: Read, W: Write, V: Watch>(
     writer: &mut W,
     watch: &mut V,
 ) -> Result<u8, Failure>
-    ensures done { IfOk result (λ status. ((bytes : List ℕ) × AreLeft (R.remaining reader.old) bytes × (end : ScriptEnd)
-        × IsScript D.are_right D.tells D.stands D.seen bytes desk.old desk.new (W.contents writer.old) (W.contents writer.new) end
+    ensures done { IfOk result
+        (λ status. ((bytes : List ℕ) × AreLeft (R.remaining reader.old) bytes × (end : ScriptEnd)
+        × IsScript D.are_right D.tells D.stands D.seen bytes desk.old desk.new
+        (W.contents writer.old) (W.contents writer.new) end
         × (end.failed ≡ 0) × (status ≡ (if end.refused == 0 then 0 else 1)))
-        ⊎ ((V.stops watch.old ≡ true) × (status ≡ 1) × (bytes : List ℕ) × AreLeft (R.remaining reader.old) bytes
-        × IsFront D.are_right D.tells D.stands D.seen stop.Refused bytes desk.old desk.new (W.contents writer.old) (W.contents writer.new))) }
+        ⊎ ((V.stops watch.old ≡ true) × (status ≡ 1) × (bytes : List ℕ)
+        × AreLeft (R.remaining reader.old) bytes
+        × IsFront D.are_right D.tells D.stands D.seen stop.Refused bytes desk.old desk.new
+        (W.contents writer.old) (W.contents writer.new))) }
     ensures failed { IfErr result (OfScript
-        (λ fault. ((bytes : List ℕ) × AreLeft (R.remaining reader.old) bytes × IsFront D.are_right D.tells D.stands D.seen fault bytes desk.old desk.new (W.contents writer.old) (W.contents writer.new))
-        × (IsOfReply fault ⊎ ((bytes : List ℕ) × IsOfReader fault (length bytes) × Consumes (R.remaining reader.old) (R.remaining reader.new) bytes
-        × IsCutOff D.are_right D.tells D.stands D.seen bytes desk.old desk.new (W.contents writer.old) (W.contents writer.new))))
+        (λ fault. ((bytes : List ℕ) × AreLeft (R.remaining reader.old) bytes
+        × IsFront D.are_right D.tells D.stands D.seen fault bytes desk.old desk.new
+        (W.contents writer.old) (W.contents writer.new))
+        × (IsOfReply fault ⊎ ((bytes : List ℕ) × IsOfReader fault (length bytes)
+        × Consumes (R.remaining reader.old) (R.remaining reader.new) bytes
+        × IsCutOff D.are_right D.tells D.stands D.seen bytes desk.old desk.new
+        (W.contents writer.old) (W.contents writer.new))))
         (λ count. ((bytes : List ℕ) × AreLeft (R.remaining reader.old) bytes × (end : ScriptEnd)
-        × IsScript D.are_right D.tells D.stands D.seen bytes desk.old desk.new (W.contents writer.old) (W.contents writer.new) end
+        × IsScript D.are_right D.tells D.stands D.seen bytes desk.old desk.new
+        (W.contents writer.old) (W.contents writer.new) end
         × (end.failed ≡ count) × (0 < count))
-        ⊎ ((V.stops watch.old ≡ true) × (count ≡ 1) × (bytes : List ℕ) × AreLeft (R.remaining reader.old) bytes
-        × IsFront D.are_right D.tells D.stands D.seen stop.Failed bytes desk.old desk.new (W.contents writer.old) (W.contents writer.new)))) }
+        ⊎ ((V.stops watch.old ≡ true) × (count ≡ 1) × (bytes : List ℕ)
+        × AreLeft (R.remaining reader.old) bytes
+        × IsFront D.are_right D.tells D.stands D.seen stop.Failed bytes desk.old desk.new
+        (W.contents writer.old) (W.contents writer.new)))) }
 {
     let end = match desk_script::script(alloc, desk, reader, writer, watch) {
         Ok(end) => end,

@@ -20,7 +20,8 @@ pub(crate) fn words_of(alloc: Global, outcome: &Outcome) -> Result<Option<String
     }
 }
 
-/// One who tells in words why a request isn't done, beside its reply, or keeps silent where nobody reads them.
+/// One who tells in words why a request isn't done, beside its reply, or keeps silent where nobody
+/// reads them.
 #[derive(Drop)]
 pub struct Teller<E: Write> {
     alloc: Global,

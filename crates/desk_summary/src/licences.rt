@@ -27,7 +27,8 @@ pub(crate) fn expression_in(
     text: &str,
     profile: Profile,
 ) -> Result<Option<Expr>, AllocError>
-    ensures { (reads : List ℕ → Option Tree) → IsReading profile reads → IfOk result (λ tree. tree ≡ reads text.now) }
+    ensures { (reads : List ℕ → Option Tree) → IsReading profile reads
+        → IfOk result (λ tree. tree ≡ reads text.now) }
 {
     match parse_in(alloc, text, profile) {
         Ok(expression) => Ok(Some(expression)),
@@ -40,12 +41,14 @@ pub(crate) fn expression_in(
 
 // Whether a value is an expression by the profile of operators.
 fn is_read(alloc: Global, text: &str, profile: Profile) -> Result<bool, AllocError>
-    ensures { (reads : List ℕ → Option Tree) → IsReading profile reads → IfOk result (λ is. is ≡ is_some (reads text.now)) }
+    ensures { (reads : List ℕ → Option Tree) → IsReading profile reads
+        → IfOk result (λ is. is ≡ is_some (reads text.now)) }
 {
     Ok(expression_in(alloc, text, profile)?.is_some())
 }
 
-/// Whether a field tells of a licence: it is an expression by the profile of operators, and neither `NONE` nor `NOASSERTION`.
+/// Whether a field tells of a licence: it is an expression by the profile of operators, and neither
+/// `NONE` nor `NOASSERTION`.
 pub(crate) fn is_licence(
     alloc: Global,
     field: Option<&str>,

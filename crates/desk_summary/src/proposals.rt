@@ -23,8 +23,8 @@ use serde_json::{Value, json};
 use std::alloc::{AllocError, Global};
 use std::fmt;
 
-/// The conclusions that are proposed for a document: how each of its packages stands, and a line for each that ships with a declared
-/// licence alone, the request `conclude`.
+/// The conclusions that are proposed for a document: how each of its packages stands, and a line
+/// for each that ships with a declared licence alone, the request `conclude`.
 #[derive(Debug, Drop)]
 pub struct Proposals {
     pub standings: Vec<Standing>,
@@ -39,7 +39,8 @@ impl Proposals {
         summary::count_of(self.standings.as_slice(), Standing::Declared)
     }
 
-    /// How many packages that ship without a conclusion are left out, since no declared licence is an expression.
+    /// How many packages that ship without a conclusion are left out, since no declared licence is
+    /// an expression.
     pub fn left_out(&self) -> usize
         ensures { result ≡ count_of Neither self.now }
     {
@@ -56,7 +57,8 @@ fn request(alloc: Global, document: u32, id: &str, expression: &str) -> Result<V
 
 // The line that proposes an expression for a package.
 fn line_of(alloc: Global, document: u32, id: &str, expression: &Expr) -> Result<String, AllocError>
-    ensures text { IfOk result (λ line. string_bytes line ≡ request_line document id.now (printed expression.now)) }
+    ensures text { IfOk result
+        (λ line. string_bytes line ≡ request_line document id.now (printed expression.now)) }
     ensures spells { OnOk result (Spells (printed expression.now) expression.now) }
 {
     let text = print(alloc, expression)?;
@@ -91,7 +93,8 @@ fn proposal_of(
 ) -> Result<String, AllocError>
     ensures { (reads : List ℕ → Option Tree) (ships : Bool) → IsReading profile reads
         → standing ≡ standing_of reads (package_text text.now) ships
-        → IfOk result (λ line. IsLine reads document (package_text text.now) standing (string_bytes line)) }
+        → IfOk result (λ line. IsLine reads document (package_text text.now) standing
+        (string_bytes line)) }
 {
     if !standing.is(Standing::Declared) {
         return Ok(String::new(alloc));
@@ -111,7 +114,8 @@ fn proposals_for(
 ) -> Result<Proposals, AllocError>
     ensures { (reads : List ℕ → Option Tree) → IsReading profile reads → IfOk result (λ found.
         (found.standings.items ≡ standings_of reads (map package_text packages.now) marks.now)
-        × AreLines reads document (map package_text packages.now) found.standings.items (string_bytes found.lines)) }
+        × AreLines reads document (map package_text packages.now) found.standings.items
+        (string_bytes found.lines)) }
 {
     let mut standings = Vec::with_capacity(alloc, packages.len())?;
     let mut lines = String::new(alloc);
@@ -127,8 +131,8 @@ fn proposals_for(
     Ok(Proposals { standings, lines })
 }
 
-/// The conclusions that are proposed for the packages of a document, which the desk knows by a number. Its licence expressions are read
-/// by the profile of operators.
+/// The conclusions that are proposed for the packages of a document, which the desk knows by a
+/// number. Its licence expressions are read by the profile of operators.
 pub fn proposals_of(
     alloc: Global,
     number: u32,

@@ -28,7 +28,8 @@ pub enum Standing {
     Neither,
 }
 
-/// What a document comes to: how each of its packages stands, and what in it isn't as the standard has it.
+/// What a document comes to: how each of its packages stands, and what in it isn't as the standard
+/// has it.
 #[derive(Debug, Drop)]
 pub struct Summary {
     pub standings: Vec<Standing>,
@@ -130,7 +131,8 @@ fn standings_of(
     profile: Profile,
 ) -> Result<Vec<Standing>, AllocError>
     ensures { (reads : List ℕ → Option Tree) → IsReading profile reads
-        → IfOk result (λ found. found.items ≡ standings_of reads (map package_text packages.now) marks.now) }
+        → IfOk result (λ found. found.items
+        ≡ standings_of reads (map package_text packages.now) marks.now) }
 {
     let mut found = Vec::with_capacity(alloc, packages.len())?;
     let mut rest = marks;

@@ -34,7 +34,8 @@ fn entry_of<'a>(field: &Field<'a>) -> Entry<'a>
     }
 }
 
-// How many fields a text has at most: each has a line and three bytes, of which the last alone may lack its line's end.
+// How many fields a text has at most: each has a line and three bytes, of which the last alone may
+// lack its line's end.
 fn most_fields(text: &str) -> usize
     ensures { result ≤ length text.now / 3 + 1 }
 {
@@ -43,11 +44,13 @@ fn most_fields(text: &str) -> usize
     (ends + 1).min(bytes.len() / 3 + 1)
 }
 
-/// All fields of a text with their tags read. Room for the most of them is taken once, and what they don't need given back.
+/// All fields of a text with their tags read. Room for the most of them is taken once, and what
+/// they don't need given back.
 pub(crate) fn entries_of<'a>(alloc: Global, text: &'a str) -> Result<Vec<Entry<'a>>, DocFault>
     requires { length text.now ≤ document_bytes }
     ensures ok { IfOk result (λ v. AreEntries text.now (map entry_text v.items)) }
-    ensures err { IfErr result (λ e. (e ≡ DocFault.Memory) ⊎ Reads 1 (behind_mark text.now) (Err e)) }
+    ensures err { IfErr result
+        (λ e. (e ≡ DocFault.Memory) ⊎ Reads 1 (behind_mark text.now) (Err e)) }
 {
     let mut entries = Vec::with_capacity(alloc, most_fields(text))?;
     for field in Scanner::of(text) {

@@ -130,7 +130,8 @@ fn add<'a>(ids: &mut BTreeSet<&'a str>, entry: &Entry<'a>) -> Result<(), DocFaul
     ensures added { OnOk result ((q : List ℕ) → has_key q ids.new ≡
         (bytes_eq entry.now.value.now q || has_key q ids.old)) }
     ensures err { IfErr result (λ e. (e ≡ DocFault.Memory)
-        ⊎ ((has_key entry.now.value.now ids.old ≡ true) × (e ≡ DocFault.DuplicateId entry.now.line))) }
+        ⊎ ((has_key entry.now.value.now ids.old ≡ true)
+        × (e ≡ DocFault.DuplicateId entry.now.line))) }
 {
     match ids.insert(entry.value) {
         Ok(true) => Ok(()),
@@ -142,7 +143,8 @@ fn add<'a>(ids: &mut BTreeSet<&'a str>, entry: &Entry<'a>) -> Result<(), DocFaul
 // Notes what a field names.
 fn note<'a>(ids: &mut Ids<'a>, form: Option<IdForm>, entry: &Entry<'a>) -> Result<(), DocFault>
     ensures ok { (before : List EntryText) → form ≡ names before (entry_text entry.now)
-        → HoldsIds before ids.old → OnOk result (double_fault before (entry_text entry.now) ≡ None) }
+        → HoldsIds before ids.old
+        → OnOk result (double_fault before (entry_text entry.now) ≡ None) }
     ensures holds { (before : List EntryText) → form ≡ names before (entry_text entry.now)
         → HoldsIds before ids.old → OnOk result (HoldsIds (entry_text entry.now ∷ before) ids.new) }
     ensures err { (before : List EntryText) → form ≡ names before (entry_text entry.now)

@@ -55,7 +55,8 @@ fn missing_of_elements(entries: &[Entry]) -> Option<DocFault>
     None
 }
 
-/// The first field that isn't there: of the document, then of its packages and files in the order of the text.
+/// The first field that isn't there: of the document, then of its packages and files in the order
+/// of the text.
 pub(crate) fn missing_of(entries: &[Entry]) -> Option<DocFault>
     ensures { result ≡ missing_of (map entry_text entries.now) }
 {

@@ -113,7 +113,8 @@ pub(crate) fn text_of<'a>(entries: &[Entry<'a>], tag: Tag) -> &'a str
 
 /// A package, from the field that begins it and the fields behind that.
 pub(crate) fn package_of<'a>(start: &Entry<'a>, rest: &[Entry<'a>]) -> Package<'a>
-    ensures { package_text result ≡ package_of (section_at (entry_text start.now) (map entry_text rest.now)) }
+    ensures { package_text result
+        ≡ package_of (section_at (entry_text start.now) (map entry_text rest.now)) }
 {
     let fields = head_of(rest);
     Package {
@@ -179,7 +180,8 @@ fn sha1_of<'a>(fields: &[Entry<'a>]) -> Option<&'a str>
 
 /// A file, from the field that begins it and the fields behind that.
 pub(crate) fn file_of<'a>(start: &Entry<'a>, rest: &[Entry<'a>]) -> FileEntry<'a>
-    ensures { file_text result ≡ file_of (section_at (entry_text start.now) (map entry_text rest.now)) }
+    ensures { file_text result
+        ≡ file_of (section_at (entry_text start.now) (map entry_text rest.now)) }
 {
     let fields = head_of(rest);
     FileEntry {

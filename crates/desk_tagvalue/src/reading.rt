@@ -41,7 +41,8 @@ pub struct Document<'a> {
 
 // The document of these fields.
 fn document_of<'a>(alloc: Global, entries: Vec<Entry<'a>>) -> Result<Document<'a>, AllocError>
-    ensures { IfOk result (λ d. document_text d ≡ document_of (map entry_text entries.entry.items)) }
+    ensures { IfOk result (λ d. document_text d
+        ≡ document_of (map entry_text entries.entry.items)) }
 {
     let name = text_of(&entries, Tag::DocumentName);
     let namespace = text_of(&entries, Tag::DocumentNamespace);
@@ -64,7 +65,8 @@ fn document_of<'a>(alloc: Global, entries: Vec<Entry<'a>>) -> Result<Document<'a
 
 // The document of these fields, or the fault for which they are none.
 fn judged<'a>(alloc: Global, entries: Vec<Entry<'a>>) -> Result<Document<'a>, DocFault>
-    ensures ok { IfOk result (λ d. judged (map entry_text entries.entry.items) ≡ Ok (document_text d)) }
+    ensures ok { IfOk result
+        (λ d. judged (map entry_text entries.entry.items) ≡ Ok (document_text d)) }
     ensures err { IfErr result (λ e. (e ≡ DocFault.Memory)
         ⊎ (judged (map entry_text entries.entry.items) ≡ Err e)) }
 {

@@ -96,7 +96,8 @@ fn put_field(
 
 // Adds a field on one line.
 fn put_one_line(alloc: Global, out: &mut String, tag: Tag, value: &str) -> Result<(), WriteFault>
-    ensures ok { OnOk result (string_bytes out.new ≡ string_bytes out.old ++ spelled (one_line tag value.now)) }
+    ensures ok { OnOk result
+        (string_bytes out.new ≡ string_bytes out.old ++ spelled (one_line tag value.now)) }
     ensures stands { OnOk result (Stands (one_line tag value.now)) }
     ensures err { IfErr result (λ e. (e ≡ WriteFault.Memory)
         ⊎ ((e ≡ WriteFault.BadValue) × (Stands (one_line tag value.now) → ⊥))) }
@@ -110,7 +111,8 @@ fn put_one_line(alloc: Global, out: &mut String, tag: Tag, value: &str) -> Resul
 
 // Adds a field in `<text>`.
 fn put_in_text(alloc: Global, out: &mut String, tag: Tag, value: &str) -> Result<(), WriteFault>
-    ensures ok { OnOk result (string_bytes out.new ≡ string_bytes out.old ++ spelled (in_text tag value.now)) }
+    ensures ok { OnOk result
+        (string_bytes out.new ≡ string_bytes out.old ++ spelled (in_text tag value.now)) }
     ensures stands { OnOk result (Stands (in_text tag value.now)) }
     ensures err { IfErr result (λ e. (e ≡ WriteFault.Memory)
         ⊎ ((e ≡ WriteFault.BadValue) × (Stands (in_text tag value.now) → ⊥))) }
@@ -124,7 +126,8 @@ fn put_in_text(alloc: Global, out: &mut String, tag: Tag, value: &str) -> Result
 
 // Adds the text of a line.
 fn put(alloc: Global, out: &mut String, line: DraftLine) -> Result<(), WriteFault>
-    ensures ok { OnOk result (string_bytes out.new ≡ string_bytes out.old ++ spelled (line_text line.entry)) }
+    ensures ok { OnOk result
+        (string_bytes out.new ≡ string_bytes out.old ++ spelled (line_text line.entry)) }
     ensures stands { OnOk result (Stands (line_text line.entry)) }
     ensures err { IfErr result (λ e. (e ≡ WriteFault.Memory)
         ⊎ ((e ≡ WriteFault.BadValue) × (Stands (line_text line.entry) → ⊥))) }
@@ -141,7 +144,8 @@ fn put(alloc: Global, out: &mut String, line: DraftLine) -> Result<(), WriteFaul
 
 // Adds the text of some lines.
 fn put_all(alloc: Global, out: &mut String, lines: &[DraftLine]) -> Result<(), WriteFault>
-    ensures ok { OnOk result (Adds (string_bytes out.old) (map line_text lines.now) (string_bytes out.new)) }
+    ensures ok { OnOk result
+        (Adds (string_bytes out.old) (map line_text lines.now) (string_bytes out.new)) }
     ensures err { IfErr result (λ e. IsStopped (map line_text lines.now) e) }
 {
     for line in lines {
@@ -170,7 +174,8 @@ fn file_id(alloc: Global, number: u64) -> Result<String, AllocError>
 // The checksum of a file, from which its digest is read back.
 fn file_checksum(alloc: Global, digest: &[u8; 20]) -> Result<String, AllocError>
     ensures text { IfOk result (λ s. string_bytes s ≡ codes "SHA1: " ++ encode_lower digest.now) }
-    ensures read { IfOk result (λ s. sha1_digits (string_bytes s) ≡ Some (encode_lower digest.now)) }
+    ensures read { IfOk result
+        (λ s. sha1_digits (string_bytes s) ≡ Some (encode_lower digest.now)) }
 {
     let digits = hex::encode(alloc, digest)?;
     let digits = digits.as_str();
@@ -184,7 +189,8 @@ fn put_file(
     number: u64,
     file: &DraftFile,
 ) -> Result<(), WriteFault>
-    ensures ok { OnOk result (Adds (string_bytes out.old) (file_lines number file.now) (string_bytes out.new)) }
+    ensures ok { OnOk result
+        (Adds (string_bytes out.old) (file_lines number file.now) (string_bytes out.new)) }
     ensures digest { OnOk result (IsDigestRead file.now) }
     ensures err { IfErr result (λ e. IsStopped (file_lines number file.now) e) }
 {
@@ -203,7 +209,8 @@ fn put_file(
 
 // Adds the text of all files, numbered from 1.
 fn put_files(alloc: Global, out: &mut String, files: &[DraftFile]) -> Result<(), WriteFault>
-    ensures ok { OnOk result (Adds (string_bytes out.old) (files_lines 1 files.now) (string_bytes out.new)) }
+    ensures ok { OnOk result
+        (Adds (string_bytes out.old) (files_lines 1 files.now) (string_bytes out.new)) }
     ensures digests { OnOk result (All IsDigestRead files.now) }
     ensures err { IfErr result (λ e. IsStopped (files_lines 1 files.now) e) }
 {
@@ -224,7 +231,8 @@ pub fn write(alloc: Global, draft: &Draft) -> Result<String, WriteFault>
     ensures fields { IfOk result (λ t. Reads 1 (behind_mark (string_bytes t))
         (Ok (fields_of_lines 1 (draft_lines draft.now)))) }
     // What is read from it says what the draft says.
-    ensures read { IfOk result (λ t. length (string_bytes t) ≤ 4194304 → length draft.now.files ≤ 9999
+    ensures read { IfOk result
+        (λ t. length (string_bytes t) ≤ 4194304 → length draft.now.files ≤ 9999
         → (x : DocumentText) × Spells (string_bytes t) (Ok x) × GivesDraft draft.now x) }
     // Memory ran out, or some value can't be read back from its field.
     ensures err { IfErr result (λ e. IsStopped (draft_lines draft.now) e) }

@@ -46,7 +46,8 @@ pub(crate) fn shifts_of(
     changes: &[ChangeRow],
 ) -> Result<Option<Items<Shift>>, AllocError>
     ensures is { IfOk result (λ found. IfSome found (λ shifts. shifts ≡ map shift_of changes.now)) }
-    ensures within { IfOk result (λ found. IfSome found (λ shifts. are_duties count shifts ≡ true)) }
+    ensures within { IfOk result
+        (λ found. IfSome found (λ shifts. are_duties count shifts ≡ true)) }
     ensures none { IfOk result (λ found. IfNone found
         (are_duties count (map shift_of changes.now) ≡ true → ⊥)) }
 {

@@ -14,7 +14,8 @@ use std::alloc::{AllocError, Global};
 
 /// Whether these are the places from 1 to their number, in any order.
 pub(crate) fn are_places(alloc: Global, places: &[u32]) -> Result<bool, AllocError>
-    ensures { IfOk result (λ are. are ≡ are_places (length places.now) (λ place. false) places.now) }
+    ensures { IfOk result (λ are. are
+        ≡ are_places (length places.now) (λ place. false) places.now) }
 {
     let count = places.len();
     let mut is_taken = vec![in alloc; false; count + 1]?;
@@ -121,7 +122,8 @@ fn place_after(releases: &[ReleaseRow], last: &str, place: u32, name: &str) -> u
     }
 }
 
-/// Where duties stand. Those that one freeze raised stand side by side, so the place of their release is looked up once.
+/// Where duties stand. Those that one freeze raised stand side by side, so the place of their
+/// release is looked up once.
 pub(crate) fn stands_of(
     alloc: Global,
     releases: &[ReleaseRow],

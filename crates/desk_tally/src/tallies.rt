@@ -12,8 +12,8 @@ use desk_base::limits;
 use desk_model::{Change, ChangeRow, DutyRow, ReleaseRow, Totals};
 use std::alloc::{AllocError, Global};
 
-/// The tallies of all releases by their places, and where each duty stands by its number, both from 1. There are at most 100,000
-/// duties.
+/// The tallies of all releases by their places, and where each duty stands by its number, both from
+/// 1. There are at most 100,000 duties.
 #[derive(Drop)]
 pub struct Tallies {
     alloc: Global,
@@ -50,7 +50,8 @@ impl Tallies {
     ) -> Result<Option<Tallies>, AllocError>
         ensures kept { IfOk result (λ found. IfSome found (λ tallies.
             (t : Tables) → AreCounted places.now stands.items t → AreKept tallies t)) }
-        ensures none { IfOk result (λ found. IfNone found (can_count places.now stands.items ≡ false)) }
+        ensures none { IfOk result
+            (λ found. IfNone found (can_count places.now stands.items ≡ false)) }
     {
         let releases = places.len();
         if stands.len() > limits::DUTIES as usize || !are_placed(releases, stands.as_slice()) {
@@ -67,8 +68,9 @@ impl Tallies {
         }))
     }
 
-    /// Those of the rows of releases and duties, counted once. There are none where the releases' places aren't those from 1 to their
-    /// number, the duties aren't numbered from 1 on, one is of no such release, or they are more than 100,000.
+    /// Those of the rows of releases and duties, counted once. There are none where the releases'
+    /// places aren't those from 1 to their number, the duties aren't numbered from 1 on, one is of
+    /// no such release, or they are more than 100,000.
     pub fn counted(
         alloc: Global,
         releases: &[ReleaseRow],
@@ -76,7 +78,8 @@ impl Tallies {
     ) -> Result<Option<Tallies>, AllocError>
         ensures kept { IfOk result (λ found. IfSome found (λ tallies.
             (t : Tables) → releases.now ≡ t.releases → duties.now ≡ t.duty → AreKept tallies t)) }
-        ensures none { IfOk result (λ found. IfNone found (are_countable releases.now duties.now ≡ false)) }
+        ensures none { IfOk result
+            (λ found. IfNone found (are_countable releases.now duties.now ≡ false)) }
     {
         if !are_numbered(duties) {
             return Ok(None);
@@ -91,7 +94,8 @@ impl Tallies {
         ensures kept { (t : Tables) (name : List ℕ) → AreKept self.now t
             → place_found t.releases name ≡ Some place
             → result ≡ Some (totals_of (filter (is_duty_of name) t.duty)) }
-        ensures within { IfSome result (λ found. (1 ≤ place) × (place ≤ length self.now.tallies.items)) }
+        ensures within { IfSome result
+            (λ found. (1 ≤ place) × (place ≤ length self.now.tallies.items)) }
     {
         if place == 0 {
             return None;
@@ -202,10 +206,12 @@ impl Tallies {
         }
     }
 
-    /// What a change of the rows comes to. Room is made for it, and nothing is done yet. Of a freeze, `place` is that of its release.
+    /// What a change of the rows comes to. Room is made for it, and nothing is done yet. Of a
+    /// freeze, `place` is that of its release.
     ///
-    /// There is a step for each change that goes on from the rows, and none for what no command does: releases that aren't opened
-    /// one after the other, duties that aren't numbered on or are more than 100,000, and changes of duties that don't stand.
+    /// There is a step for each change that goes on from the rows, and none for what no command
+    /// does: releases that aren't opened one after the other, duties that aren't numbered on or are
+    /// more than 100,000, and changes of duties that don't stand.
     pub fn plan(&mut self, change: &Change, place: Option<u32>) -> Result<Option<Step>, AllocError>
         ensures kept { (t : Tables) → AreKept self.old t → AreKept self.new t }
         ensures fits { IfOk result (λ found. IfSome found (λ step. Fits step self.new)) }
@@ -230,7 +236,8 @@ impl Tallies {
     /// Duties of the release at a place are raised.
     fn raise(&mut self, place: u32, count: usize)
         requires { Fits (Step.Raise place count) self.old }
-        ensures stands { self.new.stands.items ≡ self.old.stands.items ++ replicate count (open_at place) }
+        ensures stands { self.new.stands.items
+            ≡ self.old.stands.items ++ replicate count (open_at place) }
         ensures count { length self.new.tallies.items ≡ length self.old.tallies.items }
     {
         raise_at(&mut self.tallies, (place - 1) as usize, count);

@@ -23,7 +23,8 @@ impl Tally {
 
     /// That of a release with no duties.
     pub fn new() -> Tally
-        ensures { totals_in result ≡ record { raised = 0; still_open = 0; met = 0; waived = 0; withdrawn = 0 } }
+        ensures { totals_in result
+            ≡ record { raised = 0; still_open = 0; met = 0; waived = 0; withdrawn = 0 } }
     {
         Tally {
             raised: 0,
@@ -54,7 +55,8 @@ impl Tally {
         ensures still_open { self.new.still_open + one_if (is_open from)
             ≡ self.old.still_open + one_if (is_open to) }
         ensures met { self.new.met + one_if (is_met from) ≡ self.old.met + one_if (is_met to) }
-        ensures waived { self.new.waived + one_if (is_waived from) ≡ self.old.waived + one_if (is_waived to) }
+        ensures waived { self.new.waived + one_if (is_waived from)
+            ≡ self.old.waived + one_if (is_waived to) }
         ensures withdrawn { self.new.withdrawn + one_if (is_withdrawn from)
             ≡ self.old.withdrawn + one_if (is_withdrawn to) }
     {

@@ -79,7 +79,8 @@ fn package_copies(
     alloc: Global,
     shipments: VecDeque<&Shipment<'_, '_>>,
 ) -> Result<Items<Package>, AllocError>
-    ensures { IfOk result (λ kept. kept ≡ map (λ s. package_of (shipment_text s.now)) shipments.entry.items) }
+    ensures { IfOk result (λ kept. kept
+        ≡ map (λ s. package_of (shipment_text s.now)) shipments.entry.items) }
 {
     let mut kept = Vec::with_capacity(alloc, shipments.len())?;
     for shipment in shipments {
@@ -200,7 +201,8 @@ fn fault_of(alloc: Global, fault: DocFault) -> Result<DocumentFault, AllocError>
     }
 }
 
-/// The document that bytes spell, as the desk keeps it, with which of its packages ship, or their fault.
+/// The document that bytes spell, as the desk keeps it, with which of its packages ship, or their
+/// fault.
 pub(crate) fn read_document(
     alloc: Global,
     bytes: &[u8],

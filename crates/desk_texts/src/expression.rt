@@ -57,8 +57,8 @@ fn fault_of(fault: ParseFault) -> Result<ExpressionFault, AllocError>
     }
 }
 
-/// Why a value is no licence expression by a profile of operators, if it is none. A text that stops is told by its stop, also
-/// where it is too long.
+/// Why a value is no licence expression by a profile of operators, if it is none. A text that stops
+/// is told by its stop, also where it is too long.
 pub(crate) fn expression_fault(
     alloc: Global,
     text: &str,

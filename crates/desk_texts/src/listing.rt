@@ -107,7 +107,8 @@ impl Cost for Costs<'_> {
     }
 }
 
-/// The cheapest set of terms of an expression, where each of its distinct terms costs what stands at its place, at most 1,000,000.
+/// The cheapest set of terms of an expression, where each of its distinct terms costs what stands
+/// at its place, at most 1,000,000.
 pub(crate) fn cheapest(
     alloc: Global,
     expr: &Expr,

@@ -21,7 +21,8 @@ pub(crate) trait Identified {
 /// Whether the id of a part is below another.
 fn is_below<P: Identified>(sorted: &VecDeque<&P>, place: usize, id: &str) -> bool
     requires { place < length sorted.now.items }
-    ensures { (d : Bor P) → result ≡ text_below (P.id_of (get_or sorted.now.items place d).now) id.now }
+    ensures { (d : Bor P) → result
+        ≡ text_below (P.id_of (get_or sorted.now.items place d).now) id.now }
 {
     sorted[place].id() < id
 }
@@ -47,7 +48,8 @@ fn lower<P: Identified>(sorted: &VecDeque<&P>, id: &str) -> usize
 /// Whether a part goes in at a place: there is none with its id.
 fn is_new<P: Identified>(sorted: &VecDeque<&P>, place: usize, id: &str) -> bool
     requires { place ≤ length sorted.now.items }
-    ensures { result ≡ is_below_first id.now (drop place (map (λ p. P.id_of p.now) sorted.now.items)) }
+    ensures { result ≡ is_below_first id.now
+        (drop place (map (λ p. P.id_of p.now) sorted.now.items)) }
 {
     place == sorted.len() || id < sorted[place].id()
 }
@@ -70,8 +72,8 @@ fn put_by<'s, P: Identified>(sorted: &mut VecDeque<&'s P>, part: &'s P) -> Resul
     Ok(())
 }
 
-/// The parts by their ids, each id once. They are taken from the last, so those of a document that numbers them go in near the
-/// front, where a `VecDeque` moves few.
+/// The parts by their ids, each id once. They are taken from the last, so those of a document that
+/// numbers them go in near the front, where a `VecDeque` moves few.
 pub(crate) fn sorted_by<'s, P: Identified>(
     alloc: Global,
     parts: &'s [P],

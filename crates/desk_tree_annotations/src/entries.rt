@@ -107,7 +107,8 @@ pub(crate) fn annotation_at(
     value: &Value,
     index: usize,
 ) -> Result<Result<Annotation, AnnotationsFault>, AllocError>
-    ensures { (r : Reading) → IsRight r → IfOk result (λ a. a ≡ annotation_at r index (view value.now)) }
+    ensures { (r : Reading) → IsRight r
+        → IfOk result (λ a. a ≡ annotation_at r index (view value.now)) }
 {
     match written_at(alloc, value, index)? {
         Ok(written) => annotation_of(alloc, &written, index),

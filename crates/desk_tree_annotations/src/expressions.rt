@@ -8,7 +8,8 @@ ghost use Rattle.desk_base.specs.Borrowed.{texts};
 use desk_expr::{parse, told};
 use std::alloc::{AllocError, Global};
 
-/// Whether a text is a licence expression, with operators in capitals (SPDX 2.3, Annex D). The only error is want of memory.
+/// Whether a text is a licence expression, with operators in capitals (SPDX 2.3, Annex D). The only
+/// error is want of memory.
 pub fn is_expression(alloc: Global, text: &str) -> Result<bool, AllocError>
     ensures { IfOk result (Tells text.now) }
 {
@@ -21,7 +22,8 @@ pub fn is_expression(alloc: Global, text: &str) -> Result<bool, AllocError>
     }
 }
 
-/// The same where another text, if any, is known to be an expression: one that equals it isn't read again.
+/// The same where another text, if any, is known to be an expression: one that equals it isn't read
+/// again.
 pub fn is_expression_beside(
     alloc: Global,
     text: &str,
@@ -40,7 +42,8 @@ pub fn is_expression_beside(
 
 /// Whether each text is a licence expression.
 pub(crate) fn are_expressions(alloc: Global, listed: &[&str]) -> Result<bool, AllocError>
-    ensures { (r : Reading) → IsRight r → IfOk result (λ b. b ≡ list_all r.is_expression (texts listed.now)) }
+    ensures { (r : Reading) → IsRight r
+        → IfOk result (λ b. b ≡ list_all r.is_expression (texts listed.now)) }
 {
     for text in listed {
         let is_read = is_expression(alloc, text)?;

@@ -24,7 +24,8 @@ pub enum AnnotationFault {
 }
 
 impl AnnotationFault {
-    /// The number, by which it is told: from 1, in the order in which the faults of an annotation are looked for.
+    /// The number, by which it is told: from 1, in the order in which the faults of an annotation
+    /// are looked for.
     pub fn number(self) -> u8
         ensures { result ≡ kind_number self }
     {

@@ -12,8 +12,10 @@ pub fn one_reading()
         → annotations_of r text ≡ annotations_of s text }
 {}
 
-/// The annotations that are read are all that can be, and then there are no faults; or the fault is the first one.
+/// The annotations that are read are all that can be, and then there are no faults; or the fault is
+/// the first one.
 pub fn reading_is_sifting()
-    ensures { (r : Reading) (text : List ℕ) → Agrees (annotations_of r text) (annotation_faults r text)
+    ensures { (r : Reading) (text : List ℕ)
+        → Agrees (annotations_of r text) (annotation_faults r text)
         (good_annotations r text) }
 {}

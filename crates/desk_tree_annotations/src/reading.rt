@@ -47,7 +47,8 @@ pub(crate) fn table_of(
     alloc: Global,
     text: &str,
 ) -> Result<Result<Table, AnnotationsFault>, AllocError>
-    ensures { IfOk result (Gives (ok_or (parse_document text.now) AnnotationsFault.BadToml) table_view) }
+    ensures { IfOk result (Gives (ok_or (parse_document text.now) AnnotationsFault.BadToml)
+        table_view) }
 {
     match toml::table_from_str(alloc, text) {
         Ok(table) => Ok(Ok(table)),
@@ -66,7 +67,8 @@ fn of_text(
     alloc: Global,
     text: &str,
 ) -> Result<Result<Vec<Annotation>, AnnotationsFault>, AllocError>
-    ensures { (r : Reading) → IsRight r → IfOk result (Gives (annotations_of r text.now) (λ list. list.items)) }
+    ensures { (r : Reading) → IsRight r
+        → IfOk result (Gives (annotations_of r text.now) (λ list. list.items)) }
 {
     let table = match table_of(alloc, text)? {
         Ok(table) => table,
@@ -79,11 +81,14 @@ fn of_text(
 }
 
 impl Annotations {
-    /// The annotations of a REUSE.toml, or its first fault: those of the whole document first, then those of each annotation in turn.
+    /// The annotations of a REUSE.toml, or its first fault: those of the whole document first, then
+    /// those of each annotation in turn.
     ///
-    /// For each right reading the answer is that of `annotations_of`; `Memory` is want of memory and nothing else.
+    /// For each right reading the answer is that of `annotations_of`; `Memory` is want of memory
+    /// and nothing else.
     pub fn read(alloc: Global, text: &str) -> Result<Annotations, AnnotationsFault>
-        ensures ok { (r : Reading) → IsRight r → IfOk result (λ a. annotations_of r text.now ≡ Ok a.list) }
+        ensures ok { (r : Reading) → IsRight r
+            → IfOk result (λ a. annotations_of r text.now ≡ Ok a.list) }
         ensures err { (r : Reading) → IsRight r → IfErr result (λ f.
             (f ≡ AnnotationsFault.Memory alloc_error) ⊎ (annotations_of r text.now ≡ Err f)) }
     {

@@ -19,13 +19,15 @@ use toml::Value;
 pub struct Sifted {
     /// The annotations that can be read, in their order.
     pub annotations: Items<Annotation>,
-    /// The faults of the others, in their order, or the one of the whole document. None is want of memory.
+    /// The faults of the others, in their order, or the one of the whole document. None is want of
+    /// memory.
     pub faults: Items<AnnotationsFault>,
 }
 
 // An annotation that can be read, or its fault, behind the others.
 fn put(sifted: &mut Sifted, read: Result<Annotation, AnnotationsFault>) -> Result<(), AllocError>
-    ensures annotations { OnOk result (sifted.new.annotations ≡ sifted.old.annotations ++ good read) }
+    ensures annotations { OnOk result
+        (sifted.new.annotations ≡ sifted.old.annotations ++ good read) }
     ensures faults { OnOk result (sifted.new.faults ≡ sifted.old.faults ++ bad read) }
 {
     match read {
@@ -66,8 +68,8 @@ fn none_but(alloc: Global, fault: AnnotationsFault) -> Result<Sifted, AllocError
 }
 
 impl Annotations {
-    /// The annotations of a REUSE.toml that can be read, and the faults of the others, or the one of the whole document. The only
-    /// error is want of memory.
+    /// The annotations of a REUSE.toml that can be read, and the faults of the others, or the one
+    /// of the whole document. The only error is want of memory.
     pub fn sift(alloc: Global, text: &str) -> Result<Sifted, AllocError>
         ensures annotations { (r : Reading) → IsRight r
             → IfOk result (λ s. s.annotations ≡ good_annotations r text.now) }

@@ -65,7 +65,8 @@ pub(crate) fn texts_at<'a>(
     table: &'a Table,
     key: &str,
 ) -> Result<Option<Vec<&'a str>>, AllocError>
-    ensures { IfOk result (λ r. option_map texts_in r ≡ texts_at (get_member key.now (table_view table.now))) }
+    ensures { IfOk result (λ r. option_map texts_in r
+        ≡ texts_at (get_member key.now (table_view table.now))) }
 {
     match member(table, key) {
         Some(value) => texts_of(alloc, value),

@@ -109,7 +109,8 @@ fn text_of(alloc: Global, draft: &Draft) -> Result<String, TextFault>
 
 /// What is told of the document of a tree of files, which has a name, a namespace and a time.
 ///
-/// For each right reader it is that of `IsGathering`. A value can't stand only where the draft has such a value.
+/// For each right reader it is that of `IsGathering`. A value can't stand only where the draft has
+/// such a value.
 pub fn document_of(
     alloc: Global,
     files: Vec<SourceFile>,

@@ -75,7 +75,8 @@ fn drafted(
     title: Title<'_>,
 ) -> Result<Result<Draft, GatherFault>, AllocError>
     ensures ok { (r : Reader) → IsRightReader r
-        → IfOk result (λ x. IfOk x (λ d. draft_of r files.items (named title.entry) d.code ≡ Ok d)) }
+        → IfOk result (λ x. IfOk x
+        (λ d. draft_of r files.items (named title.entry) d.code ≡ Ok d)) }
     ensures code { IfOk result (λ x. IfOk x (λ d. IsCode (map (λ f. f.digest) d.files) d.code)) }
     ensures err { (r : Reader) → IsRightReader r
         → IfOk result (λ x. IfErr x (λ f.
@@ -93,12 +94,13 @@ fn drafted(
     draft_with(alloc, title, infos.as_slice(), files)
 }
 
-/// The draft of a tree: of the document, its package and each covered file by path. The first fault is that of what is gathered;
-/// then comes `ExpressionTooLong`, where joined licences aren't one expression. The bytes of each file are let go once its digest is
-/// known, so that the draft is made without them.
+/// The draft of a tree: of the document, its package and each covered file by path. The first fault
+/// is that of what is gathered; then comes `ExpressionTooLong`, where joined licences aren't one
+/// expression. The bytes of each file are let go once its digest is known, so that the draft is
+/// made without them.
 ///
-/// For each right reader the answer is that of `draft_of`, with the verification code of the files' digests; `Memory` is want of
-/// memory and nothing else.
+/// For each right reader the answer is that of `draft_of`, with the verification code of the files'
+/// digests; `Memory` is want of memory and nothing else.
 pub fn draft(
     alloc: Global,
     files: Vec<SourceFile>,
@@ -108,12 +110,14 @@ pub fn draft(
 ) -> Result<Draft, GatherFault>
     ensures ok { (r : Reader) → IsRightReader r
         → IfOk result (λ d. draft_of r files.items
-        (record { name = name.now; namespace = namespace.now; created = created.now }) d.code ≡ Ok d) }
+        (record { name = name.now; namespace = namespace.now; created = created.now }) d.code
+        ≡ Ok d) }
     ensures code { IfOk result (λ d. IsCode (map (λ f. f.digest) d.files) d.code) }
     ensures err { (r : Reader) → IsRightReader r
         → IfErr result (λ f. (f ≡ GatherFault.Memory alloc_error)
         ⊎ ((code : List ℕ) → draft_of r files.items
-        (record { name = name.now; namespace = namespace.now; created = created.now }) code ≡ Err f)) }
+        (record { name = name.now; namespace = namespace.now; created = created.now }) code
+        ≡ Err f)) }
 {
     let title = Title {
         name,

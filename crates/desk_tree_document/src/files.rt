@@ -37,7 +37,8 @@ pub(crate) fn files_of(
     alloc: Global,
     told: &[ToldFile],
 ) -> Result<Result<Vec<DraftFile>, GatherFault>, AllocError>
-    ensures { (r : Reader) → IsRightReader r → IfOk result (Gives (files_told r told.now) (λ v. v.items)) }
+    ensures { (r : Reader) → IsRightReader r
+        → IfOk result (Gives (files_told r told.now) (λ v. v.items)) }
 {
     let mut files = Vec::new(alloc);
     for one in told {

@@ -1,8 +1,10 @@
-//! Laws of drafts (SPDX 2.3, clauses 6 to 8 and 11), each the contract of a function with an empty body.
+//! Laws of drafts (SPDX 2.3, clauses 6 to 8 and 11), each the contract of a function with an empty
+//! body.
 //!
-//! A draft is written by `desk_tagvalue` and read by it as a document that says what the draft says. These laws add what
-//! `desk_bom` says of each document that a draft's text spells: it ships the draft's package and no other, and the package's
-//! verification code agrees with its files. `drafts_ship` says so of any draft, `drafts_of_trees_ship` of those of `draft`.
+//! A draft is written by `desk_tagvalue` and read by it as a document that says what the draft
+//! says. These laws add what `desk_bom` says of each document that a draft's text spells: it ships
+//! the draft's package and no other, and the package's verification code agrees with its files.
+//! `drafts_ship` says so of any draft, `drafts_of_trees_ship` of those of `draft`.
 
 ghost use Rattle.std.specs.Prelude.{◌≡◌, List, ℕ, All, Ok};
 ghost use Rattle.desk_tree_document.specs.Drafts.{Named, draft_of};
@@ -11,14 +13,15 @@ ghost use Rattle.desk_tree_gather.specs.Readers.{Reader};
 ghost use Rattle.desk_tree_gather.specs.declared.files.SourceFile.{SourceFile};
 ghost use Rattle.desk_tagvalue.specs.declared.drafts.Draft.{Draft};
 
-/// What a draft's text spells ships the draft's package, and the package's code agrees, where the draft's code is that of its
-/// files' digests.
+/// What a draft's text spells ships the draft's package, and the package's code agrees, where the
+/// draft's code is that of its files' digests.
 pub fn drafts_ship()
-    ensures { (d : Draft) (text : List ℕ) → All IsDigest d.files → IsTextOf d text → ShipsWhenRead d text }
+    ensures { (d : Draft) (text : List ℕ) → All IsDigest d.files → IsTextOf d text
+        → ShipsWhenRead d text }
 {}
 
-/// What the text of a tree's draft spells ships the draft's package, and the package's code agrees, where the draft's code is that
-/// of its files' digests.
+/// What the text of a tree's draft spells ships the draft's package, and the package's code agrees,
+/// where the draft's code is that of its files' digests.
 pub fn drafts_of_trees_ship()
     ensures { (r : Reader) (files : List SourceFile) (title : Named) (d : Draft) (text : List ℕ)
         → draft_of r files title d.code ≡ Ok d → IsTextOf d text → ShipsWhenRead d text }

@@ -16,7 +16,8 @@ const CLOSE: &[u8] = b"</text>";
 
 // Adds licences, each in parentheses, behind one.
 fn add_others(text: &mut String, licences: &[Text]) -> Result<(), AllocError>
-    ensures { OnOk result (string_bytes text.new ≡ string_bytes text.old ++ others_joined licences.now) }
+    ensures { OnOk result (string_bytes text.new
+        ≡ string_bytes text.old ++ others_joined licences.now) }
 {
     for licence in licences {
         text.push_str(" AND (")?;
@@ -48,7 +49,8 @@ pub(crate) fn expression_read(
     alloc: Global,
     licences: &[Text],
 ) -> Result<Result<Text, GatherFault>, AllocError>
-    ensures { (r : Reading) → IsRight r → IfOk result (Gives (expression_read r licences.now) (λ t. t)) }
+    ensures { (r : Reading) → IsRight r
+        → IfOk result (Gives (expression_read r licences.now) (λ t. t)) }
 {
     let text = expression_of(alloc, licences)?;
     let told = is_expression(alloc, text.as_str())?;
@@ -87,7 +89,8 @@ fn some_hold_close(notices: &[Text]) -> bool
 
 // Adds notices, each on a line of its own, below one.
 fn add_below(text: &mut String, notices: &[Text]) -> Result<(), AllocError>
-    ensures { OnOk result (string_bytes text.new ≡ string_bytes text.old ++ others_below notices.now) }
+    ensures { OnOk result (string_bytes text.new
+        ≡ string_bytes text.old ++ others_below notices.now) }
 {
     for notice in notices {
         text.push_str("\n")?;

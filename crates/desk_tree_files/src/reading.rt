@@ -15,7 +15,8 @@ use std::rt::Files;
 /// After how many files the count of those that are read is told.
 const FILES_A_STEP: usize = 1_000;
 
-// How much of a file is read at first. More at once would leave the processor's caches before it is looked at.
+// How much of a file is read at first. More at once would leave the processor's caches before it is
+// looked at.
 const FIRST_READ: usize = 128 * 1024;
 
 // Reads what fits into some bytes, and says how many were read: none, where a signal interrupts it.
@@ -29,9 +30,11 @@ fn read_some<F: Read>(file: &mut F, bytes: &mut [u8]) -> io::Result<usize>
     }
 }
 
-// What a file holds, and nothing where a file isn't there any more but a pipe, a link or something else, which isn't opened: to open a
-// pipe would wait for a writer. Its room is taken by what the file's size is said to be, so that no more of it is taken than the file
-// needs, and so much is read at first: then most files are read by one call. What grows is read as far as it went when it was opened.
+// What a file holds, and nothing where a file isn't there any more but a pipe, a link or something
+// else, which isn't opened: to open a pipe would wait for a writer. Its room is taken by what the
+// file's size is said to be, so that no more of it is taken than the file needs, and so much is
+// read at first: then most files are read by one call. What grows is read as far as it went when it
+// was opened.
 fn bytes_at<R: Files + AllocGlobal + Clone + Drop>(
     rt: &R,
     place: &str,
@@ -143,9 +146,10 @@ fn named<R: Files + AllocGlobal + Clone + Drop>(
     Ok(files)
 }
 
-/// The files below a folder by path: all but links, what else is neither a file nor a folder, and `.git` at the root. Of a folder
-/// with more than 10,000 files, of which nothing is gathered, 10,001 or more are given, and no bytes. After each 1,000 files it is told on
-/// standard error how many are read, if it is to be, each time in place of the last, and it is gone at the end.
+/// The files below a folder by path: all but links, what else is neither a file nor a folder, and
+/// `.git` at the root. Of a folder with more than 10,000 files, of which nothing is gathered,
+/// 10,001 or more are given, and no bytes. After each 1,000 files it is told on standard error how
+/// many are read, if it is to be, each time in place of the last, and it is gone at the end.
 pub fn files_of<R: Files + Eprint + AllocGlobal + Clone + Drop>(
     rt: &R,
     root: &str,

@@ -49,8 +49,8 @@ fn placed<'a>(
     Ok(Ok(tree))
 }
 
-/// The bytes of files by path, or the first fault: more than 10,000 files, or the first path that can't stand in a tree or stands
-/// there already.
+/// The bytes of files by path, or the first fault: more than 10,000 files, or the first path that
+/// can't stand in a tree or stands there already.
 pub fn tree_of<'a>(
     alloc: Global,
     files: &'a [SourceFile],

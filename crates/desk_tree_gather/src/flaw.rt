@@ -16,6 +16,7 @@ pub enum Flaw {
     BadToml(Text),
     /// An annotation of a REUSE.toml: its path, the index from 0, and what is wrong.
     BadAnnotation(Text, usize, AnnotationFault),
-    /// A tag whose value is no licence expression: the path of the file that holds it, the line from 1, and the value.
+    /// A tag whose value is no licence expression: the path of the file that holds it, the line
+    /// from 1, and the value.
     BadExpression(Text, u64, Text),
 }

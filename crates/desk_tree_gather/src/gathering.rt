@@ -50,7 +50,8 @@ pub(crate) struct Held<'a> {
 
 // The line of the first licence that is no expression.
 fn bad_line(alloc: Global, tags: &[Tagged<'_>]) -> Result<Option<u64>, AllocError>
-    ensures { (r : Reader) → IsRightReader r → IfOk result (λ line. line ≡ bad_line r (map tag_text tags.now)) }
+    ensures { (r : Reader) → IsRightReader r
+        → IfOk result (λ line. line ≡ bad_line r (map tag_text tags.now)) }
 {
     let mut known = None;
     for tag in tags {
@@ -131,7 +132,8 @@ pub(crate) fn info_with(
     counting: &[&Annotation],
     own: &Info<'_>,
 ) -> Result<FileInfo, AllocError>
-    ensures { IfOk result (λ i. i ≡ info_with path.now (annotations_of counting.now) (stated_of own.now)) }
+    ensures { IfOk result (λ i. i
+        ≡ info_with path.now (annotations_of counting.now) (stated_of own.now)) }
 {
     let notices = values(alloc, own.notices.as_slice())?;
     let notices = given(alloc, Subject::Notices, notices.as_slice(), counting)?;
@@ -150,7 +152,8 @@ fn info_of<'a>(
     known: &Known<'a>,
     file: File<'a>,
 ) -> Result<Result<FileInfo, GatherFault>, AllocError>
-    ensures { (r : Reader) → IsRightReader r → (tomls : List TomlText) → Holds tomls known.now.folders
+    ensures { (r : Reader) → IsRightReader r → (tomls : List TomlText)
+        → Holds tomls known.now.folders
         → IfOk result (λ i. i ≡ info_of r tomls (tree_in known.now.tree) (file_of file.entry)) }
 {
     let own = match own_of(alloc, &known.tree, file)? {
@@ -168,7 +171,8 @@ fn infos_of<'a>(
     known: &Known<'a>,
     files: &[File<'a>],
 ) -> Result<Result<Vec<FileInfo>, GatherFault>, AllocError>
-    ensures { (r : Reader) → IsRightReader r → (tomls : List TomlText) → Holds tomls known.now.folders
+    ensures { (r : Reader) → IsRightReader r → (tomls : List TomlText)
+        → Holds tomls known.now.folders
         → IfOk result (Gives (each is_covered (info_of r tomls (tree_in known.now.tree))
         (files_of files.now)) (λ v. v.items)) }
 {
@@ -190,7 +194,8 @@ pub fn gathered(
     alloc: Global,
     files: &[SourceFile],
 ) -> Result<Result<Vec<FileInfo>, GatherFault>, AllocError>
-    ensures { (r : Reader) → IsRightReader r → IfOk result (Gives (gathered r files.now) (λ v. v.items)) }
+    ensures { (r : Reader) → IsRightReader r
+        → IfOk result (Gives (gathered r files.now) (λ v. v.items)) }
 {
     let tree = match tree_of(alloc, files)? {
         Ok(tree) => tree,
@@ -206,14 +211,17 @@ pub fn gathered(
     infos_of(alloc, &known, files.as_slice())
 }
 
-/// The information of each covered file by path, or the first fault: too many files; of the paths in turn; of the REUSE.toml files
-/// by path; of what the covered files state, by path.
+/// The information of each covered file by path, or the first fault: too many files; of the paths
+/// in turn; of the REUSE.toml files by path; of what the covered files state, by path.
 ///
-/// For each right reader the answer is that of `gathered`; `Memory` is want of memory and nothing else.
+/// For each right reader the answer is that of `gathered`; `Memory` is want of memory and nothing
+/// else.
 pub fn gather(alloc: Global, files: &[SourceFile]) -> Result<Vec<FileInfo>, GatherFault>
-    ensures ok { (r : Reader) → IsRightReader r → IfOk result (λ v. gathered r files.now ≡ Ok v.items) }
+    ensures ok { (r : Reader) → IsRightReader r
+        → IfOk result (λ v. gathered r files.now ≡ Ok v.items) }
     ensures err { (r : Reader) → IsRightReader r
-        → IfErr result (λ f. (f ≡ GatherFault.Memory alloc_error) ⊎ (gathered r files.now ≡ Err f)) }
+        → IfErr result (λ f. (f ≡ GatherFault.Memory alloc_error)
+        ⊎ (gathered r files.now ≡ Err f)) }
 {
     match gathered(alloc, files) {
         Ok(Ok(infos)) => Ok(infos),

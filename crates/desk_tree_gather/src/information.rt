@@ -51,7 +51,8 @@ fn add_own<'m>(
     own: &[&'m str],
     others: &'m [Text],
 ) -> Result<(), AllocError>
-    ensures { OnOk result (texts_in list.new ≡ texts_in list.old ++ some_or (texts own.now) others.now) }
+    ensures { OnOk result (texts_in list.new
+        ≡ texts_in list.old ++ some_or (texts own.now) others.now) }
 {
     if own.is_empty() {
         return add(list, others);
@@ -66,7 +67,8 @@ pub(crate) fn given<'m>(
     own: &[&'m str],
     counting: &[&'m Annotation],
 ) -> Result<Vec<&'m str>, AllocError>
-    ensures { IfOk result (λ v. texts_in v ≡ given of (texts own.now) (annotations_of counting.now)) }
+    ensures { IfOk result (λ v. texts_in v
+        ≡ given of (texts own.now) (annotations_of counting.now)) }
 {
     let mut list = Vec::new(alloc);
     let mut closest: &[Text] = &[];

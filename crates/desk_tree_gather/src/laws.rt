@@ -12,7 +12,8 @@ pub fn one_reader()
     ensures { (r s : Reader) → IsRightReader r → IsRightReader s → r ≡ s }
 {}
 
-/// What is gathered is what a survey gives where nothing is wrong, and else the fault is the first flaw.
+/// What is gathered is what a survey gives where nothing is wrong, and else the fault is the first
+/// flaw.
 pub fn gathered_is_surveyed()
     ensures answer { (r : Reader) (files : List SourceFile)
         → Agrees (gathered r files) (flaws_of r files) (infos_sifted r (kept files)) }

@@ -27,12 +27,14 @@ use std::collections::BTreeMap;
 /// All that is wrong in a tree, and what is gathered of the rest.
 #[derive(Drop)]
 pub struct Surveyed<'a> {
-    /// The bytes of its files by path, without those whose path is wrong; of more than 10,000 files none.
+    /// The bytes of its files by path, without those whose path is wrong; of more than 10,000 files
+    /// none.
     pub tree: BTreeMap<&'a str, &'a [u8]>,
-    /// What is wrong: of the paths in turn, of the REUSE.toml files by path, and of what the covered files state, by path.
+    /// What is wrong: of the paths in turn, of the REUSE.toml files by path, and of what the
+    /// covered files state, by path.
     pub flaws: Items<Flaw>,
-    /// The information of the covered files by path, by the annotations that can be read. A tag that is no licence expression
-    /// stands there as it is written.
+    /// The information of the covered files by path, by the annotations that can be read. A tag
+    /// that is no licence expression stands there as it is written.
     pub infos: Vec<FileInfo>,
 }
 
@@ -196,7 +198,8 @@ fn tomls_sifted<'a>(
     Ok(tomls)
 }
 
-// Adds a tag that is no licence expression, and tells a text that is known to be one: the tag's, or what was known before.
+// Adds a tag that is no licence expression, and tells a text that is known to be one: the tag's, or
+// what was known before.
 fn add_tag<'a>(
     alloc: Global,
     path: &str,
@@ -321,13 +324,15 @@ fn survey_of<'a>(
     Ok(Surveyed { tree, flaws, infos })
 }
 
-/// All that is wrong in a tree, and what is gathered of the rest of it. The only error is want of memory.
+/// All that is wrong in a tree, and what is gathered of the rest of it. The only error is want of
+/// memory.
 ///
-/// Where `gathered` gives the information of the files, nothing is wrong and it is that; else its fault is the first flaw
-/// (`gathered_is_surveyed`).
+/// Where `gathered` gives the information of the files, nothing is wrong and it is that; else its
+/// fault is the first flaw (`gathered_is_surveyed`).
 pub fn survey<'a>(alloc: Global, files: &'a [SourceFile]) -> Result<Surveyed<'a>, AllocError>
     ensures tree { IfOk result (λ s. tree_in s.tree ≡ kept files.now) }
-    ensures flaws { (r : Reader) → IsRightReader r → IfOk result (λ s. s.flaws ≡ flaws_of r files.now) }
+    ensures flaws { (r : Reader) → IsRightReader r
+        → IfOk result (λ s. s.flaws ≡ flaws_of r files.now) }
     ensures infos { (r : Reader) → IsRightReader r
         → IfOk result (λ s. s.infos.items ≡ infos_sifted r (kept files.now)) }
 {

@@ -93,7 +93,8 @@ fn folders_of(
     tree: &BTreeMap<Key, Items<u8>>,
 ) -> Result<Result<BTreeMap<Vec<u8>, Annotations>, GatherFault>, AllocError>
     ensures ok { (r : Reader) → IsRightReader r → IfOk result (λ x. IfOk x (λ folders.
-        (tomls : List TomlText) × (tomls_of r (left_in tree.now) ≡ Ok tomls) × Holds tomls folders)) }
+        (tomls : List TomlText) × (tomls_of r (left_in tree.now) ≡ Ok tomls)
+        × Holds tomls folders)) }
     ensures err { (r : Reader) → IsRightReader r
         → IfOk result (λ x. IfErr x (λ f. tomls_of r (left_in tree.now) ≡ Err f)) }
 {
@@ -116,7 +117,8 @@ fn bytes_at<'a>(tree: &'a BTreeMap<Key, Items<u8>>, path: &Key) -> Option<&'a [u
     }
 }
 
-// The file whose tags are a file's own information: the one beside it, among those that are left, or itself.
+// The file whose tags are a file's own information: the one beside it, among those that are left,
+// or itself.
 fn holder<'a>(
     alloc: Global,
     left: &'a BTreeMap<Key, Items<u8>>,
@@ -160,7 +162,8 @@ fn told_beside(
     Ok(Ok(ToldFile { info, digest }))
 }
 
-// What is told of the covered files of a tree. A file beside another stands behind it, and so among those that are left.
+// What is told of the covered files of a tree. A file beside another stands behind it, and so among
+// those that are left.
 fn told_in(
     alloc: Global,
     tree: BTreeMap<Key, Items<u8>>,
@@ -187,16 +190,17 @@ fn told_in(
     Ok(Ok(list))
 }
 
-/// What is told of each covered file by path, or the first fault, as `gathered` has it. The bytes of each file are let go once it
-/// is told of.
+/// What is told of each covered file by path, or the first fault, as `gathered` has it. The bytes
+/// of each file are let go once it is told of.
 ///
-/// For each right reader it is what `told` says: what is gathered, each with the SHA1 digest of its file. The only error is want of
-/// memory.
+/// For each right reader it is what `told` says: what is gathered, each with the SHA1 digest of its
+/// file. The only error is want of memory.
 pub fn told(
     alloc: Global,
     files: Vec<SourceFile>,
 ) -> Result<Result<Vec<ToldFile>, GatherFault>, AllocError>
-    ensures { (r : Reader) → IsRightReader r → IfOk result (Gives (told r files.items) (λ v. v.items)) }
+    ensures { (r : Reader) → IsRightReader r
+        → IfOk result (Gives (told r files.items) (λ v. v.items)) }
 {
     let tree = match tree_of(alloc, files)? {
         Ok(tree) => tree,

@@ -38,7 +38,8 @@ fn told_of(alloc: Global, path: &str, fault: AnnotationsFault) -> Result<GatherF
 
 // What a REUSE.toml says.
 fn toml_of<'a>(alloc: Global, file: File<'a>) -> Result<Result<Toml<'a>, GatherFault>, AllocError>
-    ensures { (r : Reader) → IsRightReader r → IfOk result (Gives (toml_of r (file_of file.entry)) toml_in) }
+    ensures { (r : Reader) → IsRightReader r
+        → IfOk result (Gives (toml_of r (file_of file.entry)) toml_in) }
 {
     let Ok(text) = str::from_utf8(file.bytes) else {
         return Ok(Err(GatherFault::BadToml(Text::of(alloc, file.path)?)));
@@ -100,7 +101,8 @@ pub(crate) fn annotations_in<'m>(
     folders: &'m BTreeMap<Vec<u8>, Annotations>,
     folder: &[u8],
 ) -> &'m [Annotation]
-    ensures { (tomls : List TomlText) → Holds tomls folders.now → result.now ≡ annotations_in tomls folder.now }
+    ensures { (tomls : List TomlText) → Holds tomls folders.now
+        → result.now ≡ annotations_in tomls folder.now }
 {
     match folders.get(folder) {
         Some(annotations) => annotations.list.as_slice(),

@@ -8,6 +8,7 @@ ghost use Rattle.desk_tree_lint.specs.Lists.{IsLint};
 
 /// A tree has one answer.
 pub fn one_lint()
-    ensures { (r : Reader) (files : List SourceFile) (a b : Lint) → IsLint r files a → IsLint r files b
+    ensures { (r : Reader) (files : List SourceFile) (a b : Lint) → IsLint r files a
+        → IsLint r files b
         → a ≡ b }
 {}

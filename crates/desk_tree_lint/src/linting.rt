@@ -16,8 +16,8 @@ use desk_tree_gather::{FileInfo, GatherFault, SourceFile, gathered, tree_of};
 use std::alloc::{AllocError, Global};
 use std::collections::BTreeMap;
 
-/// The lists of a tree, from the information of its covered files. A licence that is no expression uses nothing. The only error is want
-/// of memory.
+/// The lists of a tree, from the information of its covered files. A licence that is no expression
+/// uses nothing. The only error is want of memory.
 pub fn lists_of<'a>(
     alloc: Global,
     tree: &BTreeMap<&'a str, &'a [u8]>,
@@ -53,12 +53,13 @@ fn linted(alloc: Global, files: &[SourceFile]) -> Result<Result<Lint, GatherFaul
 
 /// What a tree lacks (REUSE Specification 3.3), or the fault for which nothing is gathered of it.
 ///
-/// For each right reader the lists are those of `IsLint`, and the fault that of `gathered`; `Memory` is want of memory and nothing
-/// else.
+/// For each right reader the lists are those of `IsLint`, and the fault that of `gathered`;
+/// `Memory` is want of memory and nothing else.
 pub fn lint(alloc: Global, files: &[SourceFile]) -> Result<Lint, GatherFault>
     ensures ok { (r : Reader) → IsRightReader r → IfOk result (IsLint r files.now) }
     ensures err { (r : Reader) → IsRightReader r
-        → IfErr result (λ f. (f ≡ GatherFault.Memory alloc_error) ⊎ (gathered r files.now ≡ Err f)) }
+        → IfErr result (λ f. (f ≡ GatherFault.Memory alloc_error)
+        ⊎ (gathered r files.now ≡ Err f)) }
 {
     match linted(alloc, files) {
         Ok(Ok(lists)) => Ok(lists),

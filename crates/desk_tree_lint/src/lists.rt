@@ -16,7 +16,8 @@ use std::collections::BTreeSet;
 /// What a tree lacks.
 #[derive(Debug, Drop)]
 pub struct Lint {
-    /// Licences, exceptions and references that are used and have no text, by their keys, in byte order.
+    /// Licences, exceptions and references that are used and have no text, by their keys, in byte
+    /// order.
     pub missing: Items<Text>,
     /// Paths of licences' texts that nothing uses, in byte order.
     pub unused: Items<Text>,

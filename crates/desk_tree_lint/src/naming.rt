@@ -82,7 +82,8 @@ fn add_runs<'a>(
     path: &'a str,
     listed: &[&'a str],
 ) -> Result<(), AllocError>
-    ensures { OnOk result (mentions_shown found.new.items ≡ mentions_shown found.old.items ++ map (mention path.now) (ids_in (texts listed.now))) }
+    ensures { OnOk result (mentions_shown found.new.items
+        ≡ mentions_shown found.old.items ++ map (mention path.now) (ids_in (texts listed.now))) }
 {
     for run in listed {
         if !is_operator(run) {
@@ -100,7 +101,8 @@ fn add_ids<'a>(
     path: &'a str,
     licence: &'a str,
 ) -> Result<(), AllocError>
-    ensures { OnOk result (mentions_shown found.new.items ≡ mentions_shown found.old.items ++ mentions_by path.now licence.now) }
+    ensures { OnOk result (mentions_shown found.new.items
+        ≡ mentions_shown found.old.items ++ mentions_by path.now licence.now) }
 {
     let runs = runs(alloc, licence)?;
     add_runs(found, path, runs.as_slice())
@@ -113,7 +115,8 @@ fn add_each<'a>(
     path: &'a str,
     licences: &'a [Text],
 ) -> Result<(), AllocError>
-    ensures { OnOk result (mentions_shown found.new.items ≡ mentions_shown found.old.items ++ flat_map (mentions_by path.now) licences.now) }
+    ensures { OnOk result (mentions_shown found.new.items
+        ≡ mentions_shown found.old.items ++ flat_map (mentions_by path.now) licences.now) }
 {
     for licence in licences {
         add_ids(alloc, found, path, licence.as_str())?;
@@ -127,7 +130,8 @@ fn add_file<'a>(
     found: &mut Vec<Mention<'a>>,
     info: &'a FileInfo,
 ) -> Result<(), AllocError>
-    ensures { OnOk result (mentions_shown found.new.items ≡ mentions_shown found.old.items ++ mentions_in info.now) }
+    ensures { OnOk result (mentions_shown found.new.items
+        ≡ mentions_shown found.old.items ++ mentions_in info.now) }
 {
     add_each(alloc, found, info.path.as_str(), info.licences.as_slice())
 }
@@ -205,7 +209,8 @@ fn each_name(
     Ok(names)
 }
 
-/// How keys are written where files first name them, each with the first file. The only error is want of memory.
+/// How keys are written where files first name them, each with the first file. The only error is
+/// want of memory.
 pub fn names_of(alloc: Global, infos: &[FileInfo], keys: &[Text]) -> Result<Items<Name>, AllocError>
     ensures { IfOk result (λ names. names ≡ map (name_of infos.now) keys.now) }
 {

@@ -86,7 +86,8 @@ fn add_file(
     bytes: &[u8],
 ) -> Result<(), AllocError>
     ensures { (r : Reading) → IsRight r
-        → OnOk result (blanks.new ≡ blanks.old ++ blanks_of r (record { path = path.now; bytes = bytes.now })) }
+        → OnOk result (blanks.new
+        ≡ blanks.old ++ blanks_of r (record { path = path.now; bytes = bytes.now })) }
 {
     if !is_toml_path(path) {
         return Ok(());
@@ -101,13 +102,14 @@ fn add_file(
     }
 }
 
-/// The annotations of the REUSE.toml files of a tree with a licence that has a blank at an end, by path, of each file of which all
-/// annotations can be read.
+/// The annotations of the REUSE.toml files of a tree with a licence that has a blank at an end, by
+/// path, of each file of which all annotations can be read.
 pub(crate) fn blanks_in<'a>(
     alloc: Global,
     tree: &BTreeMap<&'a str, &'a [u8]>,
 ) -> Result<Items<Blank>, AllocError>
-    ensures { (r : Reading) → IsRight r → IfOk result (λ blanks. blanks ≡ blanks_in r (tree_in tree.now)) }
+    ensures { (r : Reading) → IsRight r
+        → IfOk result (λ blanks. blanks ≡ blanks_in r (tree_in tree.now)) }
 {
     let mut blanks = Items::new(alloc);
     for (path, bytes) in tree {

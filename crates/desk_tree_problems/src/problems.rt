@@ -22,16 +22,19 @@ use std::collections::BTreeMap;
 pub struct Problems {
     /// Whether the tree has the older file of annotations, `.reuse/dep5`, which isn't read.
     pub dep5: bool,
-    /// What is wrong in it: of the paths in turn, of the REUSE.toml files by path, and of what the covered files state, by path.
+    /// What is wrong in it: of the paths in turn, of the REUSE.toml files by path, and of what the
+    /// covered files state, by path.
     pub flaws: Items<Flaw>,
-    /// Annotations with a licence that no document can hold, by path, of each REUSE.toml of which all annotations can be read.
+    /// Annotations with a licence that no document can hold, by path, of each REUSE.toml of which
+    /// all annotations can be read.
     pub blanks: Items<Blank>,
-    /// Licences, exceptions and references that are used and have no text, by their keys, in byte order.
+    /// Licences, exceptions and references that are used and have no text, by their keys, in byte
+    /// order.
     pub missing: Items<Text>,
     /// How each of these is first written, and the first file that names it.
     pub names: Items<Name>,
-    /// Paths of licences' texts that nothing uses, in byte order; none where some use may not have been read, for a flaw or older
-    /// annotations.
+    /// Paths of licences' texts that nothing uses, in byte order; none where some use may not have
+    /// been read, for a flaw or older annotations.
     pub unused: Items<Text>,
     /// Covered files without a copyright notice or without a licence, by path.
     pub bare: Items<Bare>,
@@ -84,15 +87,19 @@ fn surveyed(alloc: Global, files: &[SourceFile]) -> Result<Problems, AllocError>
     })
 }
 
-/// All problems of a tree (REUSE Specification 3.3). The lists are those of what can be read past the flaws: annotations that can't
-/// be read give nothing, and a tag that is no expression is a licence that uses nothing. The only error is want of memory.
+/// All problems of a tree (REUSE Specification 3.3). The lists are those of what can be read past
+/// the flaws: annotations that can't be read give nothing, and a tag that is no expression is a
+/// licence that uses nothing. The only error is want of memory.
 ///
-/// For each right reader they are those of `AreProblems`. Where `desk_tree_lint::lint` has lists, there are no flaws, and they are those
-/// lists, without unused texts if there are older annotations (`lint`); where nothing is gathered of the tree, the fault is the first flaw (`first`).
+/// For each right reader they are those of `AreProblems`. Where `desk_tree_lint::lint` has lists,
+/// there are no flaws, and they are those lists, without unused texts if there are older
+/// annotations (`lint`); where nothing is gathered of the tree, the fault is the first flaw
+/// (`first`).
 pub fn problems_of(alloc: Global, files: &[SourceFile]) -> Result<Problems, AllocError>
     ensures problems { (r : Reader) → IsRightReader r → IfOk result (AreProblems r files.now) }
     ensures lint { (r : Reader) → IsRightReader r
-        → IfOk result (λ p. (l : Lint) → IsLint r files.now l → (p.flaws ≡ []) × (lists_in p ≡ told_beside p.dep5 l)) }
+        → IfOk result (λ p. (l : Lint) → IsLint r files.now l
+        → (p.flaws ≡ []) × (lists_in p ≡ told_beside p.dep5 l)) }
     ensures first { (r : Reader) → IsRightReader r
         → IfOk result (λ p. (fault : GatherFault) → gathered r files.now ≡ Err fault
         → BeginsWith p.flaws fault) }

@@ -15,7 +15,8 @@ use std::alloc::{AllocError, Global};
 /// The report on a tree.
 #[derive(Debug, Drop)]
 pub struct Report {
-    /// Its text: a line for each problem and one that counts them, or a JSON object and a line feed.
+    /// Its text: a line for each problem and one that counts them, or a JSON object and a line
+    /// feed.
     pub text: Vec<u8>,
     /// Whether the tree has no problem.
     pub is_clean: bool,
@@ -53,11 +54,13 @@ pub fn report_on(alloc: Global, files: &[SourceFile], json: bool) -> Result<Repo
     })
 }
 
-/// The lines of the report on a tree that tell of licences in REUSE.toml files which no document can hold. The only error is no memory.
+/// The lines of the report on a tree that tell of licences in REUSE.toml files which no document
+/// can hold. The only error is no memory.
 ///
 /// For each right reader they are those of `AreBlankLines`.
 pub fn blank_lines(alloc: Global, files: &[SourceFile]) -> Result<Vec<u8>, AllocError>
-    ensures { (r : Reader) → IsRightReader r → IfOk result (λ text. AreBlankLines r files.now text.items) }
+    ensures { (r : Reader) → IsRightReader r
+        → IfOk result (λ text. AreBlankLines r files.now text.items) }
 {
     let problems = problems_of(alloc, files)?;
     let rows = rows_of(alloc, &problems)?;

@@ -348,8 +348,9 @@ fn add_bare(alloc: Global, rows: &mut Vec<Row>, files: &[Bare]) -> Result<(), Al
     Ok(())
 }
 
-/// What is told of each problem: older annotations first, the flaws, licences that no document can hold, then the texts that are
-/// missing, those that nothing uses, and the files that lack something. The only error is want of memory.
+/// What is told of each problem: older annotations first, the flaws, licences that no document can
+/// hold, then the texts that are missing, those that nothing uses, and the files that lack
+/// something. The only error is want of memory.
 pub fn rows_of(alloc: Global, problems: &Problems) -> Result<Vec<Row>, AllocError>
     ensures { IfOk result (λ rows. AreRows problems.now rows.items) }
 {

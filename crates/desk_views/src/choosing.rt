@@ -12,7 +12,8 @@ use desk_subcommands::{Failure, write_text};
 use std::alloc::Global;
 use std::io::Write;
 
-/// Writes choices for packages of a release as requests, a line of JSON each, and answers the program's status.
+/// Writes choices for packages of a release as requests, a line of JSON each, and answers the
+/// program's status.
 pub fn write_choices<W: Write>(
     alloc: Global,
     release: &Text,
@@ -20,9 +21,11 @@ pub fn write_choices<W: Write>(
     writer: &mut W,
 ) -> Result<u8, Failure>
     ensures told { IfOk result (λ status. (status ≡ 0)
-        × Appends (W.contents writer.old) (W.contents writer.new) (choice_lines_text release.now choices.now)) }
+        × Appends (W.contents writer.old) (W.contents writer.new)
+        (choice_lines_text release.now choices.now)) }
     ensures fails { IfErr result IsOfOutput }
-    ensures memory { IfErr result (IfMemory (Keeps (W.contents writer.old) (W.contents writer.new))) }
+    ensures memory { IfErr result
+        (IfMemory (Keeps (W.contents writer.old) (W.contents writer.new))) }
 {
     let lines = choice_lines(alloc, release, choices)?;
     write_text(writer, lines.as_bytes())?;
@@ -37,7 +40,8 @@ fn choices_for(mut choices: Vec<SoleChoice>, document: u32) -> Vec<SoleChoice>
     choices
 }
 
-/// Writes those of some choices for packages of a release that are for packages of a document, as `write_choices` does.
+/// Writes those of some choices for packages of a release that are for packages of a document, as
+/// `write_choices` does.
 pub fn write_choices_for<W: Write>(
     alloc: Global,
     release: &Text,
@@ -49,7 +53,8 @@ pub fn write_choices_for<W: Write>(
         × Appends (W.contents writer.old) (W.contents writer.new)
         (choice_lines_text release.now (filter (is_choice_for document) choices.items))) }
     ensures fails { IfErr result IsOfOutput }
-    ensures memory { IfErr result (IfMemory (Keeps (W.contents writer.old) (W.contents writer.new))) }
+    ensures memory { IfErr result
+        (IfMemory (Keeps (W.contents writer.old) (W.contents writer.new))) }
 {
     let choices = choices_for(choices, document);
     write_choices(alloc, release, choices.as_slice(), writer)

@@ -1,15 +1,21 @@
-//! What an office looks at in a desk, written out: the texts of its answers, lists of what it holds, what stands in the way of a freeze.
+//! What an office looks at in a desk, written out: the texts of its answers, lists of what it
+//! holds, what stands in the way of a freeze.
 //!
-//! Each function is handed what it writes of and a writer, and answers the program's status, as those of `desk_subcommands` do.
+//! Each function is handed what it writes of and a writer, and answers the program's status, as
+//! those of `desk_subcommands` do.
 //!
-//! - `show` writes the text of an answer: notices, the table of duties, totals, changes (`specs/Showing.antt`).
-//! - `write_releases`, `write_documents` and `write_duties` write lists of `desk_lists` as comma-separated values or in columns
-//!   (`specs/Listing.antt`).
+//! - `show` writes the text of an answer: notices, the table of duties, totals, changes
+//!   (`specs/Showing.antt`).
+//! - `write_releases`, `write_documents` and `write_duties` write lists of `desk_lists` as
+//!   comma-separated values or in columns (`specs/Listing.antt`).
 //! - `page` writes a page on a release (`specs/Paging.antt`).
-//! - `write_choices` writes choices as the requests that make them, `write_choices_for` those for a document.
-//! - `propose_held` writes the conclusions that are proposed for a document that a desk holds (`specs/Proposing.antt`); `document_row` finds
-//!   it, and `open_releases` the releases that choices of its packages are for.
-//! - `tell_wanting` writes the refusals that stand in the way of a freeze, a line each (`specs/Wanting.antt`).
+//! - `write_choices` writes choices as the requests that make them, `write_choices_for` those for a
+//!   document.
+//! - `propose_held` writes the conclusions that are proposed for a document that a desk holds
+//!   (`specs/Proposing.antt`); `document_row` finds it, and `open_releases` the releases that
+//!   choices of its packages are for.
+//! - `tell_wanting` writes the refusals that stand in the way of a freeze, a line each
+//!   (`specs/Wanting.antt`).
 #![tactic(auto)]
 
 mod choosing;

@@ -59,18 +59,21 @@ fn duties_text(alloc: Global, lines: &[DutyLine], in_columns: bool) -> Result<Ve
     }
 }
 
-/// Writes the list of the releases that these rows hold, in the order of their opening, as comma-separated values or in columns. It
-/// answers the program's status.
+/// Writes the list of the releases that these rows hold, in the order of their opening, as
+/// comma-separated values or in columns. It answers the program's status.
 pub fn write_releases<W: Write>(
     alloc: Global,
     snapshot: &Snapshot,
     in_columns: bool,
     writer: &mut W,
 ) -> Result<u8, Failure>
-    ensures told { IfOk result (λ status. (status ≡ 0) × (lines : List Released) × AreReleases snapshot.now lines
-        × Appends (W.contents writer.old) (W.contents writer.new) (table_text in_columns (release_table lines))) }
+    ensures told { IfOk result
+        (λ status. (status ≡ 0) × (lines : List Released) × AreReleases snapshot.now lines
+        × Appends (W.contents writer.old) (W.contents writer.new)
+        (table_text in_columns (release_table lines))) }
     ensures fails { IfErr result IsOfOutput }
-    ensures memory { IfErr result (IfMemory (Keeps (W.contents writer.old) (W.contents writer.new))) }
+    ensures memory { IfErr result
+        (IfMemory (Keeps (W.contents writer.old) (W.contents writer.new))) }
 {
     let lines = releases(alloc, snapshot)?;
     let text = releases_text(alloc, lines.as_slice(), in_columns)?;
@@ -86,10 +89,13 @@ pub fn write_documents<W: Write>(
     writer: &mut W,
 ) -> Result<u8, Failure>
     ensures told { (reads : Profile → List ℕ → Option Tree) → AreReadings reads
-        → IfOk result (λ status. (status ≡ 0) × (lines : List Documented) × AreDocuments reads snapshot.now lines
-        × Appends (W.contents writer.old) (W.contents writer.new) (table_text in_columns (document_table lines))) }
+        → IfOk result (λ status. (status ≡ 0) × (lines : List Documented)
+        × AreDocuments reads snapshot.now lines
+        × Appends (W.contents writer.old) (W.contents writer.new)
+        (table_text in_columns (document_table lines))) }
     ensures fails { IfErr result IsOfOutput }
-    ensures memory { IfErr result (IfMemory (Keeps (W.contents writer.old) (W.contents writer.new))) }
+    ensures memory { IfErr result
+        (IfMemory (Keeps (W.contents writer.old) (W.contents writer.new))) }
 {
     let lines = documents(alloc, snapshot)?;
     let text = documents_text(alloc, lines.as_slice(), in_columns)?;
@@ -97,8 +103,8 @@ pub fn write_documents<W: Write>(
     Ok(0)
 }
 
-/// Writes the list of the duties that these rows hold and a filter asks for, the one that was raised first before the others, as
-/// `write_releases` does.
+/// Writes the list of the duties that these rows hold and a filter asks for, the one that was
+/// raised first before the others, as `write_releases` does.
 pub fn write_duties<W: Write>(
     alloc: Global,
     snapshot: &Snapshot,
@@ -106,10 +112,13 @@ pub fn write_duties<W: Write>(
     in_columns: bool,
     writer: &mut W,
 ) -> Result<u8, Failure>
-    ensures told { IfOk result (λ status. (status ≡ 0) × (lines : List Owed) × AreDuties wanted.now snapshot.now lines
-        × Appends (W.contents writer.old) (W.contents writer.new) (table_text in_columns (duty_table lines))) }
+    ensures told { IfOk result
+        (λ status. (status ≡ 0) × (lines : List Owed) × AreDuties wanted.now snapshot.now lines
+        × Appends (W.contents writer.old) (W.contents writer.new)
+        (table_text in_columns (duty_table lines))) }
     ensures fails { IfErr result IsOfOutput }
-    ensures memory { IfErr result (IfMemory (Keeps (W.contents writer.old) (W.contents writer.new))) }
+    ensures memory { IfErr result
+        (IfMemory (Keeps (W.contents writer.old) (W.contents writer.new))) }
 {
     let lines = duties(alloc, snapshot, wanted)?;
     let text = duties_text(alloc, lines.as_slice(), in_columns)?;

@@ -31,7 +31,8 @@ pub(crate) struct Contents {
 
 fn bill_of<D: Desk>(desk: &mut D, release: &Text) -> Result<Result<Bill, Answer>, Fault>
     ensures found { IfOk result (λ asked. InHistory D.are_right (λ w h.
-        IsAsked answered.Bill w h (query.Bill release.now) asked) (D.seen desk.old) (D.seen desk.new)) }
+        IsAsked answered.Bill w h (query.Bill release.now) asked) (D.seen desk.old)
+        (D.seen desk.new)) }
     ensures kept { Looked (D.seen desk.old) (D.seen desk.new) result }
 {
     let release = release.clone()?;
@@ -43,7 +44,8 @@ fn bill_of<D: Desk>(desk: &mut D, release: &Text) -> Result<Result<Bill, Answer>
 
 fn totals_of<D: Desk>(desk: &mut D, release: &Text) -> Result<Result<Totals, Answer>, Fault>
     ensures found { IfOk result (λ asked. InHistory D.are_right (λ w h.
-        IsAsked answered.Totals w h (query.Totals release.now) asked) (D.seen desk.old) (D.seen desk.new)) }
+        IsAsked answered.Totals w h (query.Totals release.now) asked) (D.seen desk.old)
+        (D.seen desk.new)) }
     ensures kept { Looked (D.seen desk.old) (D.seen desk.new) result }
 {
     let release = release.clone()?;
@@ -58,7 +60,8 @@ fn duties_of<D: Desk>(
     release: &Text,
 ) -> Result<Result<Items<DutyLine>, Answer>, Fault>
     ensures found { IfOk result (λ asked. InHistory D.are_right (λ w h.
-        IsAsked answered.Duties w h (query.Duties release.now) asked) (D.seen desk.old) (D.seen desk.new)) }
+        IsAsked answered.Duties w h (query.Duties release.now) asked) (D.seen desk.old)
+        (D.seen desk.new)) }
     ensures kept { Looked (D.seen desk.old) (D.seen desk.new) result }
 {
     let release = release.clone()?;
@@ -70,7 +73,8 @@ fn duties_of<D: Desk>(
 
 fn changes_of<D: Desk>(desk: &mut D, number: u32) -> Result<Result<Items<ChangeRow>, Answer>, Fault>
     ensures found { IfOk result (λ asked. InHistory D.are_right (λ w h.
-        IsAsked answered.Changes w h (query.Changes number) asked) (D.seen desk.old) (D.seen desk.new)) }
+        IsAsked answered.Changes w h (query.Changes number) asked) (D.seen desk.old)
+        (D.seen desk.new)) }
     ensures kept { Looked (D.seen desk.old) (D.seen desk.new) result }
 {
     let duty = u64::from(number);
@@ -106,7 +110,8 @@ fn contents_of<D: Desk>(
     desk: &mut D,
     release: &Text,
 ) -> Result<Result<Contents, Answer>, Fault>
-    ensures found { IfOk result (λ asked. InHistory D.are_right (λ w h. Gathers w h release.now asked)
+    ensures found { IfOk result
+        (λ asked. InHistory D.are_right (λ w h. Gathers w h release.now asked)
         (D.seen desk.old) (D.seen desk.new)) }
     ensures kept { Looked (D.seen desk.old) (D.seen desk.new) result }
 {
@@ -145,9 +150,10 @@ fn page_of(alloc: Global, contents: &Contents) -> Result<String, AllocError>
     )
 }
 
-/// Writes a page on a frozen release of a desk, as HTML: what it ships, its duties with their changes, and the notices. If one of the
-/// questions that the desk is asked for it is answered by something else, as a refusal, the line of that reply is written. It answers the
-/// program's status. If the desk fails, the reply says so and so does the failure. The desk is as it was.
+/// Writes a page on a frozen release of a desk, as HTML: what it ships, its duties with their
+/// changes, and the notices. If one of the questions that the desk is asked for it is answered by
+/// something else, as a refusal, the line of that reply is written. It answers the program's
+/// status. If the desk fails, the reply says so and so does the failure. The desk is as it was.
 pub fn page<D: Desk, W: Write, E: Write>(
     alloc: Global,
     desk: &mut D,
@@ -156,12 +162,15 @@ pub fn page<D: Desk, W: Write, E: Write>(
     teller: &mut Teller<E>,
 ) -> Result<u8, Failure>
     ensures done { IfOk result (λ status. (text : List ℕ)
-        × InHistory D.are_right (λ w h. IsPaged w h release.now text status) (D.seen desk.old) (D.seen desk.new)
+        × InHistory D.are_right (λ w h. IsPaged w h release.now text status) (D.seen desk.old)
+        (D.seen desk.new)
         × Appends (W.contents writer.old) (W.contents writer.new) text) }
-    ensures failed { IfErr result (OfRequest (λ fault. Appends (W.contents writer.old) (W.contents writer.new)
+    ensures failed { IfErr result
+        (OfRequest (λ fault. Appends (W.contents writer.old) (W.contents writer.new)
         (outcome_line (Failed fault))) (Unit {0})) }
     ensures kept { Kept (D.seen desk.old) (D.seen desk.new) }
-    ensures memory { IfErr result (IfMemory (Keeps (W.contents writer.old) (W.contents writer.new))) }
+    ensures memory { IfErr result
+        (IfMemory (Keeps (W.contents writer.old) (W.contents writer.new))) }
 {
     match contents_of(alloc, desk, release) {
         Ok(Ok(contents)) => {

@@ -74,7 +74,8 @@ fn document_held<'a>(
     number: i64,
     document: Document<'a>,
 ) -> Result<Document<'a>, AllocError>
-    ensures { IfOk result (λ held. document_text held ≡ document_held snapshot.now number (document_text document.entry)) }
+    ensures { IfOk result (λ held. document_text held
+        ≡ document_held snapshot.now number (document_text document.entry)) }
 {
     let packages = packages_held(alloc, snapshot, number, document.packages.as_slice())?;
     Ok(Document {
@@ -83,9 +84,10 @@ fn document_held<'a>(
     })
 }
 
-/// Writes the requests that conclude, for each package of a document that ships without a conclusion, its declared licence, and returns
-/// the program's status. The desk holds the document under a number, with these bytes. What the office concluded is a conclusion too, read
-/// by the document's profile as those of the document are. The rest is as of `desk_subcommands::propose`.
+/// Writes the requests that conclude, for each package of a document that ships without a
+/// conclusion, its declared licence, and returns the program's status. The desk holds the document
+/// under a number, with these bytes. What the office concluded is a conclusion too, read by the
+/// document's profile as those of the document are. The rest is as of `desk_subcommands::propose`.
 pub fn propose_held<X: Texts, W: Write, T: Write>(
     alloc: Global,
     texts: &X,
@@ -97,10 +99,12 @@ pub fn propose_held<X: Texts, W: Write, T: Write>(
 ) -> Result<u8, Failure>
     ensures told { (w : Readings) (reads : List ℕ → Option Tree) → X.are_right w
         → IsReading (profile_at snapshot.now (pos number)) reads
-        → IfOk result (λ status. (text : List ℕ) × ProposesHeld w reads snapshot.now number bytes.now text status
+        → IfOk result (λ status. (text : List ℕ)
+        × ProposesHeld w reads snapshot.now number bytes.now text status
         × Appends (W.contents writer.old) (W.contents writer.new) text) }
     ensures fails { IfErr result IsOfOutput }
-    ensures memory { IfErr result (IfMemory (Keeps (W.contents writer.old) (W.contents writer.new))) }
+    ensures memory { IfErr result
+        (IfMemory (Keeps (W.contents writer.old) (W.contents writer.new))) }
 {
     match read(alloc, bytes) {
         Ok(document) => {

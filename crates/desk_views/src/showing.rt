@@ -1,4 +1,5 @@
-//! The texts that an office hands out: the notices of a release, the table of its duties, their totals, and the changes of a duty.
+//! The texts that an office hands out: the notices of a release, the table of its duties, their
+//! totals, and the changes of a duty.
 
 ghost use Rattle.std.specs.Prelude.{◌≡◌, IfOk, IfErr, option_map, if◌then◌else◌};
 ghost use Rattle.std.specs.Io.KnownBytes.{Appends, Keeps};
@@ -26,7 +27,8 @@ fn totals_bytes(alloc: Global, totals: &Totals) -> Result<Vec<u8>, AllocError>
 
 // The table of duties.
 fn duties_table(alloc: Global, lines: &[DutyLine], in_columns: bool) -> Result<Vec<u8>, AllocError>
-    ensures { IfOk result (λ text. text.items ≡ (if in_columns then columns_text lines.now else table_text lines.now)) }
+    ensures { IfOk result (λ text. text.items
+        ≡ (if in_columns then columns_text lines.now else table_text lines.now)) }
 {
     if in_columns {
         duties_columns(alloc, lines)
@@ -41,7 +43,8 @@ fn answer_text(
     answer: &Answer,
     in_columns: bool,
 ) -> Result<Option<Vec<u8>>, AllocError>
-    ensures { IfOk result (λ found. option_map (λ text. text.items) found ≡ answer_text in_columns answer.now) }
+    ensures { IfOk result (λ found. option_map (λ text. text.items) found
+        ≡ answer_text in_columns answer.now) }
 {
     match answer {
         Answer::Bill(bill) => Ok(Some(notices(alloc, bill)?)),
@@ -57,7 +60,8 @@ fn outcome_text(
     outcome: &Outcome,
     in_columns: bool,
 ) -> Result<Option<Vec<u8>>, AllocError>
-    ensures { IfOk result (λ found. option_map (λ text. text.items) found ≡ outcome_text in_columns outcome.now) }
+    ensures { IfOk result (λ found. option_map (λ text. text.items) found
+        ≡ outcome_text in_columns outcome.now) }
 {
     match outcome {
         Outcome::Answered(answer) => answer_text(alloc, answer, in_columns),
@@ -73,10 +77,14 @@ fn write_outcome<W: Write>(
     writer: &mut W,
 ) -> Result<u8, Failure>
     ensures done { IfOk result (λ status. (answer : Answer) × (outcome.now ≡ Answered answer)
-        × Appends (W.contents writer.old) (W.contents writer.new) (shown in_columns answer) × (status ≡ answer_status answer)) }
+        × Appends (W.contents writer.old) (W.contents writer.new) (shown in_columns answer)
+        × (status ≡ answer_status answer)) }
     ensures failed { IfErr result (OfRequest
-        (λ fault. (outcome.now ≡ Failed fault) × Appends (W.contents writer.old) (W.contents writer.new) (outcome_line outcome.now)) (Unit {0})) }
-    ensures memory { IfErr result (IfMemory (Keeps (W.contents writer.old) (W.contents writer.new))) }
+        (λ fault. (outcome.now ≡ Failed fault)
+        × Appends (W.contents writer.old) (W.contents writer.new) (outcome_line outcome.now))
+        (Unit {0})) }
+    ensures memory { IfErr result
+        (IfMemory (Keeps (W.contents writer.old) (W.contents writer.new))) }
 {
     match outcome_text(alloc, outcome, in_columns)? {
         Some(text) => {
@@ -89,14 +97,16 @@ fn write_outcome<W: Write>(
 
 // Asks a question.
 fn asked<D: Desk>(desk: &mut D, query: &Query) -> Outcome
-    ensures { Asks D.are_right D.tells D.stands query.now (D.seen desk.old) (D.seen desk.new) result }
+    ensures { Asks D.are_right D.tells D.stands query.now (D.seen desk.old) (D.seen desk.new)
+        result }
 {
     Outcome::from(desk.ask(query))
 }
 
-/// Asks a desk a question and writes the text of its answer: the notices of a bill, the table of duties, in columns if that is wanted,
-/// the line of totals, the lines of changes; any other answer, a refusal among them, is written as the line of its reply. It returns
-/// the program's status. If the desk fails, the reply says so and so does the failure. The desk is as it was.
+/// Asks a desk a question and writes the text of its answer: the notices of a bill, the table of
+/// duties, in columns if that is wanted, the line of totals, the lines of changes; any other
+/// answer, a refusal among them, is written as the line of its reply. It returns the program's
+/// status. If the desk fails, the reply says so and so does the failure. The desk is as it was.
 pub fn show<D: Desk, W: Write, E: Write>(
     alloc: Global,
     desk: &mut D,
@@ -105,12 +115,16 @@ pub fn show<D: Desk, W: Write, E: Write>(
     writer: &mut W,
     teller: &mut Teller<E>,
 ) -> Result<u8, Failure>
-    ensures done { IfOk result (IsShown D.are_right D.tells D.stands query.now (D.seen desk.old) (D.seen desk.new) in_columns
+    ensures done { IfOk result
+        (IsShown D.are_right D.tells D.stands query.now (D.seen desk.old) (D.seen desk.new)
+        in_columns
         (W.contents writer.old) (W.contents writer.new)) }
     ensures failed { IfErr result (OfRequest
-        (HasFailed D.are_right D.tells D.stands query.now (D.seen desk.old) (D.seen desk.new) (W.contents writer.old) (W.contents writer.new))
+        (HasFailed D.are_right D.tells D.stands query.now (D.seen desk.old) (D.seen desk.new)
+        (W.contents writer.old) (W.contents writer.new))
         (IsUntold D.are_right D.tells D.stands query.now (D.seen desk.old) (D.seen desk.new))) }
-    ensures memory { IfErr result (IfMemory (Keeps (W.contents writer.old) (W.contents writer.new))) }
+    ensures memory { IfErr result
+        (IfMemory (Keeps (W.contents writer.old) (W.contents writer.new))) }
 {
     let outcome = asked(desk, query);
     let told = write_outcome(alloc, &outcome, in_columns, writer);

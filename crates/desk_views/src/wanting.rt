@@ -62,8 +62,8 @@ fn explain_all<E: Write>(outcomes: &[Outcome], teller: &mut Teller<E>) {
     }
 }
 
-/// Writes the refusals that stand in the way of a freeze, each as the line of a reply, and answers the program's status: 0 if there are
-/// none, and else 1. What each means is told beside the lines.
+/// Writes the refusals that stand in the way of a freeze, each as the line of a reply, and answers
+/// the program's status: 0 if there are none, and else 1. What each means is told beside the lines.
 pub fn tell_wanting<W: Write, E: Write>(
     alloc: Global,
     refusals: Vec<Refusal>,
@@ -73,7 +73,8 @@ pub fn tell_wanting<W: Write, E: Write>(
     ensures told { IfOk result (λ status. (status ≡ wanting_status refusals.items)
         × Appends (W.contents writer.old) (W.contents writer.new) (refusal_lines refusals.items)) }
     ensures fails { IfErr result IsOfOutput }
-    ensures memory { IfErr result (IfMemory (Keeps (W.contents writer.old) (W.contents writer.new))) }
+    ensures memory { IfErr result
+        (IfMemory (Keeps (W.contents writer.old) (W.contents writer.new))) }
 {
     let status = status_of(refusals.as_slice());
     let outcomes = outcomes_of(alloc, refusals)?;

@@ -53,8 +53,9 @@ fn idle_among<S: Store>(
     Ok(numbers)
 }
 
-/// The numbers, from 1, of the documents that are attached to a release and ship no package, in the order of its documents. They raise
-/// no duty, and no refusal speaks of them. If there is no such release, there are none.
+/// The numbers, from 1, of the documents that are attached to a release and ship no package, in the
+/// order of its documents. They raise no duty, and no refusal speaks of them. If there is no such
+/// release, there are none.
 ///
 /// # Errors
 ///

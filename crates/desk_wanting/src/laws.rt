@@ -21,11 +21,12 @@ ghost use Rattle.desk_history.specs.FromTables.{answer_from, owed_found, release
 ghost use Rattle.desk_wanting.specs.Against.{IsPrepared, StandsAgainst};
 ghost use Rattle.desk_wanting.specs.Obstacles.{names_reference, wanting_found};
 
-/// Over any tables, a freeze at a day of the calendar is refused with the first refusal of the list (`refused`). If there is none, it is
-/// accepted where its duties fit (`accepted`), and else refused as full (`full`). So the list is empty where a freeze is accepted
-/// (`only`).
+/// Over any tables, a freeze at a day of the calendar is refused with the first refusal of the list
+/// (`refused`). If there is none, it is accepted where its duties fit (`accepted`), and else
+/// refused as full (`full`). So the list is empty where a freeze is accepted (`only`).
 pub fn freeze_meets_the_first_refusal()
-    ensures refused { (w : Readings) (t : Tables) (r day : List ℕ) (first : Refusal) (others : List Refusal)
+    ensures refused { (w : Readings) (t : Tables) (r day : List ℕ) (first : Refusal)
+        (others : List Refusal)
         → is_day day ≡ true → wanting_found w t r ≡ first ∷ others
         → answer_from w t (Freeze r day) ≡ Refused first }
     ensures accepted { (w : Readings) (t : Tables) (r day : List ℕ)
@@ -42,7 +43,8 @@ pub fn freeze_meets_the_first_refusal()
 
 /// The same after any commands: a freeze is answered by the list over their tables.
 pub fn recorded_freeze_meets_the_first_refusal()
-    ensures refused { (w : Readings) (h : List Command) (r day : List ℕ) (first : Refusal) (others : List Refusal)
+    ensures refused { (w : Readings) (h : List Command) (r day : List ℕ) (first : Refusal)
+        (others : List Refusal)
         → is_day day ≡ true → wanting_found w (tables w h) r ≡ first ∷ others
         → answer w h (Freeze r day) ≡ Refused first }
     ensures accepted { (w : Readings) (h : List Command) (r day : List ℕ)
@@ -57,9 +59,10 @@ pub fn recorded_freeze_meets_the_first_refusal()
         → answer w h (Freeze r day) ≡ Frozen first count → wanting_found w (tables w h) r ≡ [] }
 {}
 
-/// What is in the list, over any tables. A release that isn't there (`unknown`), isn't open (`shut`) or has no document (`empty`) has one
-/// refusal alone. Of any other, each refusal that stands against a package that it ships is in the list (`held`), and nothing else is
-/// (`only`); a reference of a document is there once at most (`once`).
+/// What is in the list, over any tables. A release that isn't there (`unknown`), isn't open
+/// (`shut`) or has no document (`empty`) has one refusal alone. Of any other, each refusal that
+/// stands against a package that it ships is in the list (`held`), and nothing else is (`only`); a
+/// reference of a document is there once at most (`once`).
 pub fn list_holds_what_stands_against_a_freeze()
     ensures unknown { (w : Readings) (t : Tables) (r : List ℕ)
         → release_found t r ≡ None → wanting_found w t r ≡ UnknownRelease ∷ [] }
@@ -69,7 +72,8 @@ pub fn list_holds_what_stands_against_a_freeze()
     ensures empty { (w : Readings) (t : Tables) (r : List ℕ) (row : ReleaseRow)
         → release_found t r ≡ Some row → row.state ≡ IsOpen → attached_to t.attached r ≡ []
         → wanting_found w t r ≡ EmptyRelease ∷ [] }
-    ensures held { (w : Readings) (t : Tables) (r : List ℕ) (row : ReleaseRow) (p : PackageRow) (x : Refusal)
+    ensures held { (w : Readings) (t : Tables) (r : List ℕ) (row : ReleaseRow) (p : PackageRow)
+        (x : Refusal)
         → IsPrepared t r row → IsIn p (shipped_found t r) → StandsAgainst w t r row.form p x
         → IsIn x (wanting_found w t r) }
     ensures only { (w : Readings) (t : Tables) (r : List ℕ) (row : ReleaseRow) (x : Refusal)

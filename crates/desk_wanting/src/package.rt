@@ -93,7 +93,8 @@ pub(crate) fn refusals_of<T: Texts, S: Store>(
     packages: &[PackageRow],
 ) -> Result<Vec<Refusal>, Fault>
     ensures found { (w : Readings) → T.are_right w → IfOk result (λ refusals.
-        OfRows (λ t. refusals.items ≡ flat_map (refusals_found w t release.now form.now) packages.now)
+        OfRows (λ t. refusals.items
+        ≡ flat_map (refusals_found w t release.now form.now) packages.now)
         (S.seen store.old) (S.seen store.new)) }
     ensures kept { Looked (S.seen store.old) (S.seen store.new) result }
     ensures fault { IfErr result (MayFail S.tells) }

@@ -47,10 +47,12 @@ fn open_wanting<T: Texts, S: Store>(
     Ok(told_once(alloc, refusals)?)
 }
 
-/// All that stands in the way of a freeze of a release, in the order in which a freeze meets it. If there is no such release, it isn't
-/// open or no document is attached, that refusal is alone. Otherwise it is what stands against each package that it ships, by document
-/// and id: NoConclusion, NoChoice, NotAdopted for each chosen reference without adoption, unless the list names that reference of
-/// the document already, and NoRule for each other chosen term without a rule in the release's form. The limit of duties isn't checked.
+/// All that stands in the way of a freeze of a release, in the order in which a freeze meets it. If
+/// there is no such release, it isn't open or no document is attached, that refusal is alone.
+/// Otherwise it is what stands against each package that it ships, by document and id:
+/// NoConclusion, NoChoice, NotAdopted for each chosen reference without adoption, unless the list
+/// names that reference of the document already, and NoRule for each other chosen term without a
+/// rule in the release's form. The limit of duties isn't checked.
 ///
 /// # Errors
 ///

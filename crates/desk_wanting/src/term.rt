@@ -101,7 +101,8 @@ fn unruled_terms<T: Texts, S: Store>(
     Ok(refusals)
 }
 
-/// What stands against the terms of a package: first the references without adoption, then the other terms without a rule.
+/// What stands against the terms of a package: first the references without adoption, then the
+/// other terms without a rule.
 pub(crate) fn term_refusals<T: Texts, S: Store>(
     alloc: Global,
     texts: &T,

@@ -1,7 +1,9 @@
 //! Replies of the desk in words for people.
 //!
-//! - `RefusalWords` says a refusal with its fault and its place: `BadDocument: TooLarge, more than 4 MiB`.
-//! - `request_trouble` finds why a line is no request, and `RequestTrouble` says it (`specs/Troubles.antt`).
+//! - `RefusalWords` says a refusal with its fault and its place:
+//!   `BadDocument: TooLarge, more than 4 MiB`.
+//! - `request_trouble` finds why a line is no request, and `RequestTrouble` says it
+//!   (`specs/Troubles.antt`).
 #![tactic(auto)]
 
 mod forms;

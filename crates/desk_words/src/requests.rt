@@ -139,7 +139,8 @@ fn unknown_key(
     form: &Form,
     own: &str,
 ) -> Result<Option<String>, AllocError>
-    ensures { IfOk result (λ found. IfSome found (λ name. get (string_bytes name) (view value.now) ≢ None)) }
+    ensures { IfOk result (λ found. IfSome found
+        (λ name. get (string_bytes name) (view value.now) ≢ None)) }
 {
     let Some(members) = value.as_object() else {
         return Ok(None);
