@@ -26,12 +26,13 @@ style =
     ++ codes "th,td{vertical-align:top;overflow-wrap:anywhere}\nth:last-child,td:last-child{padding-right:0}\n"
     ++ codes "thead th{color:var(--soft);font-weight:500;overflow-wrap:normal}\n"
     ++ codes ".number{text-align:right;font-variant-numeric:tabular-nums}\n.lines{white-space:pre-line}\n"
+    ++ codes "#duties td:nth-child(n+6),#waivers td:nth-child(4),#changes td:nth-child(-n+4){white-space:nowrap}\n"
     ++ codes "svg{display:block;width:100%;min-width:4rem;max-width:10rem;height:.75rem;margin-top:.3rem}\n"
-    ++ codes "svg{border:1px solid var(--line)}\nrect{fill:var(--accent)}\n"
+    ++ codes "svg{box-sizing:border-box;border:1px solid var(--line)}\nrect{fill:var(--accent)}\n"
     ++ codes "pre{margin:0;font:.8rem/1.5 ui-monospace,monospace;white-space:pre-wrap;overflow-wrap:anywhere}\n"
     ++ codes "@page{size:A4;margin:18mm 15mm}\n@media print{\n:root{color-scheme:light}\nbody{font-size:10pt}\n"
     ++ codes "main{max-width:none;padding:0}\nnav{display:none}\na{color:inherit;text-decoration:none}\nthead{display:table-header-group}\n"
-    ++ codes "tr,h1,h2,h3{break-inside:avoid}\nh1,h2,h3{break-after:avoid}\n#notices{break-before:page}}\n</style>\n</head>\n<body>\n"
+    ++ codes "tr,h1,h2,h3{break-inside:avoid}\nh1,h2,h3,h2+p{break-after:avoid}\n#notices{break-before:page}}\n</style>\n</head>\n<body>\n"
     ++ codes "<main>\n"
 
 -- behind the form: the contents

@@ -50,14 +50,17 @@ pub(crate) fn style() -> &'static str
      thead th{color:var(--soft);font-weight:500;overflow-wrap:normal}\n\
      .number{text-align:right;font-variant-numeric:tabular-nums}\n\
      .lines{white-space:pre-line}\n\
+     #duties td:nth-child(n+6),#waivers td:nth-child(4),#changes \
+     td:nth-child(-n+4){white-space:nowrap}\n\
      svg{display:block;width:100%;min-width:4rem;max-width:10rem;height:.75rem;\
-     margin-top:.3rem}\nsvg{border:1px solid var(--line)}\nrect{fill:var(--accent)}\n\
+     margin-top:.3rem}\nsvg{box-sizing:border-box;border:1px solid var(--line)}\n\
+     rect{fill:var(--accent)}\n\
      pre{margin:0;font:.8rem/1.5 \
      ui-monospace,monospace;white-space:pre-wrap;overflow-wrap:anywhere}\n\
      @page{size:A4;margin:18mm 15mm}\n@media print{\n:root{color-scheme:light}\n\
      body{font-size:10pt}\nmain{max-width:none;padding:0}\nnav{display:none}\n\
      a{color:inherit;text-decoration:none}\nthead{display:table-header-group}\n\
-     tr,h1,h2,h3{break-inside:avoid}\nh1,h2,h3{break-after:avoid}\n\
+     tr,h1,h2,h3{break-inside:avoid}\nh1,h2,h3,h2+p{break-after:avoid}\n\
      #notices{break-before:page}}\n</style>\n</head>\n<body>\n<main>\n"
 }
 
