@@ -4,9 +4,10 @@ ghost use Rattle.std.specs.Prelude.{◌≡◌, false, IfOk};
 
 use crate::differences::{Difference, first_difference};
 use crate::input::{bytes_at, require_file};
+use crate::progress::Step;
 use crate::scripts::{self, Course};
 use crate::trouble::{trouble_at, trouble_of};
-use crate::{looking, serving, summaries};
+use crate::{looking, progress, serving, summaries};
 use desk_base::{Items, Profile, Text};
 use desk_line::Listed;
 use desk_model::Query;
@@ -214,7 +215,9 @@ fn do_over<D: Disk + Drop, W: Write>(
 ) -> Result<u8, Failure>
     requires { conn.in_transaction ≡ false }
 {
-    let mut desk = match desk_of(rt, conn, path)? {
+    let opened = desk_of(rt, conn, path);
+    progress::clear(rt, path);
+    let mut desk = match opened? {
         Ok(desk) => desk,
         Err(refused) => return refuse(rt, refused, path, writer),
     };
@@ -228,32 +231,38 @@ fn do_over<D: Disk + Drop, W: Write>(
 // The connection to a file whose tables are to be audited. Where there is no table `meta`, an empty
 // desk is created.
 fn tables_of<S: Alter + Drop>(
-    alloc: Global,
+    rt: &HostRuntime,
     conn: Connection<S>,
     path: &str,
 ) -> Result<Connection<S>, Failure>
     requires { conn.in_transaction ≡ false }
     ensures { IfOk result (λ conn. conn.in_transaction ≡ false) }
 {
+    let alloc = rt.alloc();
     match SqlDesk::create(alloc, conn) {
         Ok(desk) => Ok(desk.into_connection()),
         Err((CreateFault::NotEmpty, conn)) => Ok(conn),
-        Err((CreateFault::Fault(fault), _)) => Err(unusable(alloc, path, Trouble::from(fault))),
+        Err((CreateFault::Fault(fault), _)) => {
+            progress::clear(rt, path);
+            Err(unusable(alloc, path, Trouble::from(fault)))
+        }
     }
 }
 
 // Audits the tables that a connection shows, and returns the program's status.
 fn audited<S: Alter, W: Write>(
-    alloc: Global,
+    rt: &HostRuntime,
     conn: &mut Connection<S>,
     path: &str,
     writer: &mut W,
 ) -> Result<u8, Failure>
     requires { conn.old.in_transaction ≡ false }
 {
-    match audit_connection(alloc, conn) {
+    let audited = audit_connection(rt.alloc(), conn);
+    progress::clear(rt, path);
+    match audited {
         Ok(report) => tell_report(report, writer),
-        Err(fault) => Err(unusable(alloc, path, Trouble::from(fault))),
+        Err(fault) => Err(unusable(rt.alloc(), path, Trouble::from(fault))),
     }
 }
 
@@ -266,8 +275,8 @@ fn audit_over<D: Disk + Drop, W: Write>(
 ) -> Result<u8, Failure>
     requires { conn.in_transaction ≡ false }
 {
-    let mut conn = tables_of(rt.alloc(), conn, path)?;
-    let told = audited(rt.alloc(), &mut conn, path, writer);
+    let mut conn = tables_of(rt, conn, path)?;
+    let told = audited(rt, &mut conn, path, writer);
     let closed = close(rt.alloc(), conn, path);
     let status = told?;
     closed?;
@@ -284,7 +293,9 @@ fn migrate_over<D: Disk + Drop, W: Write>(
     requires { conn.in_transaction ≡ false }
 {
     let alloc = rt.alloc();
-    let reason = match SqlDesk::migrate(alloc, conn) {
+    let migrated = SqlDesk::migrate(alloc, conn);
+    progress::clear(rt, path);
+    let reason = match migrated {
         Ok((desk, version)) => {
             close(alloc, desk.into_connection(), path)?;
             tell_migration(alloc, version.number(), writer)?;
@@ -322,9 +333,16 @@ fn work_over<D: Disk + Drop, W: Write>(
 // file: each that does costs the gate a minute.
 fn work_in(rt: &HostRuntime, path: &str, work: Work<'_>) -> Result<u8, Failure> {
     let mut writer = BufWriter::new(rt.alloc(), io::writer(rt))?;
+    progress::tell(rt, path, Step::Pages);
     match Connection::open_from(rt, path, false, Unknown) {
-        Ok(conn) => work_over(rt, conn, path, work, &mut writer),
-        Err((error, _)) => Err(unusable(rt.alloc(), path, trouble_at(rt, path, error))),
+        Ok(conn) => {
+            progress::tell(rt, path, Step::Rows);
+            work_over(rt, conn, path, work, &mut writer)
+        }
+        Err((error, _)) => {
+            progress::clear(rt, path);
+            Err(unusable(rt.alloc(), path, trouble_at(rt, path, error)))
+        }
     }
 }
 

@@ -9,6 +9,7 @@ mod database;
 mod differences;
 mod input;
 mod looking;
+mod progress;
 mod scripts;
 mod serving;
 mod summaries;

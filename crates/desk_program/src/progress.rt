@@ -1,0 +1,53 @@
+//! How far the opening of a large file is: it is told on standard error where that is a terminal.
+
+use std::fs;
+use std::io::IsTerminal;
+
+/// From how many bytes on a file takes about a second to open.
+const LARGE_FILE: u64 = 16_777_216;
+
+/// What is done with a file before its desk does anything.
+#[derive(Clone, Copy)]
+pub enum Step {
+    /// Its pages are read and checked.
+    Pages,
+    /// Its rows are audited.
+    Rows,
+}
+
+impl Step {
+    // What is told of it. The later words cover the earlier ones.
+    fn words(self) -> &'static str {
+        match self {
+            Step::Pages => "step 1 of 2: checking pages",
+            Step::Rows => "step 2 of 2: auditing rows ",
+        }
+    }
+}
+
+// Whether anybody watches, and the file at a path takes long.
+fn is_told(rt: &HostRuntime, path: &str) -> bool {
+    if !rt.stderr().is_terminal() {
+        return false;
+    }
+    match fs::metadata(rt, path) {
+        Ok(file) => file.len() >= LARGE_FILE,
+        Err(_) => false,
+    }
+}
+
+/// Tells which step is begun with the file at a path, on the line of the step before.
+pub fn tell(rt: &HostRuntime, path: &str, step: Step) {
+    if is_told(rt, path) {
+        let words = step.words();
+        // Where it can't be told, the file is opened all the same.
+        let _told = eprint!(rt; "\r{words}");
+    }
+}
+
+/// Takes off the line what was told.
+pub fn clear(rt: &HostRuntime, path: &str) {
+    if is_told(rt, path) {
+        let _told = eprint!(rt; "\r                           \r");
+    }
+}
