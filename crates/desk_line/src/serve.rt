@@ -6,51 +6,10 @@ ghost use Rattle.desk_line.specs.Calls.{number_in, serve_in};
 
 use crate::arguments::{Argument, DATABASE, Form};
 use crate::call::{Call, FileCall};
-use crate::subcommands::Help;
 use crate::values::text_in;
 use clap::ArgMatches;
 use desk_base::Text;
 use std::alloc::{AllocError, Global};
-
-const ABOUT: &str = "Replies over HTTP by the desk that a file keeps, to this machine alone";
-
-const LONG_ABOUT: &str = "\
-Replies over HTTP by the desk that a file keeps, to this machine alone
-
-Listens at PORT of 127.0.0.1, which no other machine reaches, and prints one line:
-
-  listening on 127.0.0.1:PORT
-
-It serves N connections, one after the other, and ends. Port 0 takes a port that is free, which the line
-names.";
-
-const AFTER_HELP: &str = "\
-A FILE that is not there, is empty, or is a database with no tables becomes an empty desk first.
-Any other that keeps no desk of this version is left as it is, and one line says so:
-
-  fault: NotADesk    it is a database of something else
-  fault: BadVersion  it keeps a desk of another version
-  fault: Bad..       its tables aren't sound: desk audit --help has the names
-
-One program at a time has FILE open. While one does, and after it was stopped, the last changes stand in
-FILE-wal beside it: keep and copy both files together.
-
-Examples:
-  desk serve --db desk.db --port 8080 --limit 1000
-  desk serve --db desk.db --port 0 --limit 1
-
-Statuses:
-  0  so many connections were served
-  1  FILE keeps no such desk
-  2  the command line is wrong
-  3  no memory, or a file, stream or socket failed";
-
-/// The help of the subcommand.
-pub(crate) const HELP: Help = Help {
-    about: ABOUT,
-    long_about: LONG_ABOUT,
-    after_help: AFTER_HELP,
-};
 
 /// Its arguments.
 pub(crate) const ARGUMENTS: [Argument; 3] = [

@@ -14,6 +14,7 @@ use crate::{
     migrate, propose, reports, script, serve,
 };
 use clap::Command;
+use desk_help::Help;
 use std::alloc::{AllocError, Global};
 
 const VERSION: &str = "0.1.0";
@@ -170,37 +171,29 @@ pub(crate) const SUBCOMMANDS: [Subcommand; 21] = [
     },
 ];
 
-/// The help of a subcommand.
-#[derive(Clone, Copy)]
-pub(crate) struct Help {
-    pub(crate) about: &'static str,
-    pub(crate) long_about: &'static str,
-    pub(crate) after_help: &'static str,
-}
-
 fn help_of(kind: Kind) -> Help {
     match kind {
-        Kind::Check => check::HELP,
-        Kind::Alternatives => alternatives::HELP,
-        Kind::Script => script::HELP,
-        Kind::Import => import::HELP,
-        Kind::Catalogue => catalogue::HELP,
-        Kind::Notices => reports::NOTICES_HELP,
-        Kind::Duties => reports::DUTIES_HELP,
-        Kind::Totals => reports::TOTALS_HELP,
-        Kind::Changes => reports::CHANGES_HELP,
-        Kind::Audit => audit::HELP,
-        Kind::Migrate => migrate::HELP,
-        Kind::Gather => gather::HELP,
-        Kind::Lint => lint::HELP,
-        Kind::Serve => serve::HELP,
-        Kind::Explain => explain::HELP,
-        Kind::Propose => propose::HELP,
-        Kind::Choices => freezing::CHOICES_HELP,
-        Kind::Wanting => freezing::WANTING_HELP,
-        Kind::List => lists::HELP,
-        Kind::Page => reports::PAGE_HELP,
-        Kind::Convert => convert::HELP,
+        Kind::Check => desk_help::CHECK,
+        Kind::Alternatives => desk_help::ALTERNATIVES,
+        Kind::Script => desk_help::SCRIPT,
+        Kind::Import => desk_help::IMPORT,
+        Kind::Catalogue => desk_help::CATALOGUE,
+        Kind::Notices => desk_help::NOTICES,
+        Kind::Duties => desk_help::DUTIES,
+        Kind::Totals => desk_help::TOTALS,
+        Kind::Changes => desk_help::CHANGES,
+        Kind::Audit => desk_help::AUDIT,
+        Kind::Migrate => desk_help::MIGRATE,
+        Kind::Gather => desk_help::GATHER,
+        Kind::Lint => desk_help::LINT,
+        Kind::Serve => desk_help::SERVE,
+        Kind::Explain => desk_help::EXPLAIN,
+        Kind::Propose => desk_help::PROPOSE,
+        Kind::Choices => desk_help::CHOICES,
+        Kind::Wanting => desk_help::WANTING,
+        Kind::List => desk_help::LISTS,
+        Kind::Page => desk_help::PAGE,
+        Kind::Convert => desk_help::CONVERT,
     }
 }
 

@@ -1,0 +1,30 @@
+//! The help of converting documents.
+
+use crate::Help;
+
+/// The help of `convert`.
+pub const CONVERT: Help = Help {
+    about: "Writes an SPDX document in JSON as a tag-value document",
+    long_about: "\
+Writes an SPDX document in JSON as a tag-value document
+
+JSON is a document of SPDX 2.2 or 2.3 in JSON, as many tools write it. What is written says the same of
+the document, its packages, files, extracted licences and relationships. Standard error counts what the
+desk doesn't read and is left out, as annotations and snippets.
+
+A value that can't stand in a tag-value document is refused with its place, a JSON pointer (RFC 6901):
+
+  fault: BadValue at /packages/0/name",
+    after_help: "\
+import takes such a document as it is. JSON may be /dev/stdin.
+
+Examples:
+  desk convert kettle.spdx.json >kettle.spdx
+  desk convert kettle.spdx.json | desk import --db desk.db /dev/stdin
+
+Statuses:
+  0  the document was written
+  1  it was refused
+  2  the command line is wrong
+  3  no memory, or a file or stream failed",
+};

@@ -1,0 +1,48 @@
+//! The words of `desk --help`: what each subcommand is for, as the command line, the manual page and
+//! the completions show it. No contract speaks of them; `tests/acceptance` has them byte for byte.
+#![tactic(auto)]
+
+mod alternatives;
+mod audit;
+mod catalogue;
+mod check;
+mod convert;
+mod explain;
+mod freezing;
+mod gather;
+mod import;
+mod lint;
+mod lists;
+mod migrate;
+mod propose;
+mod reports;
+mod script;
+mod serve;
+
+pub use alternatives::ALTERNATIVES;
+pub use audit::AUDIT;
+pub use catalogue::CATALOGUE;
+pub use check::CHECK;
+pub use convert::CONVERT;
+pub use explain::EXPLAIN;
+pub use freezing::{CHOICES, WANTING};
+pub use gather::GATHER;
+pub use import::IMPORT;
+pub use lint::LINT;
+pub use lists::LISTS;
+pub use migrate::MIGRATE;
+pub use propose::PROPOSE;
+pub use reports::{CHANGES, DUTIES, NOTICES, PAGE, TOTALS};
+pub use script::SCRIPT;
+pub use serve::SERVE;
+
+/// The help of a subcommand.
+#[derive(Clone, Copy)]
+pub struct Help {
+    /// One line, in the list of subcommands.
+    pub about: &'static str,
+    /// What it does, over its usage.
+    pub long_about: &'static str,
+    /// What follows its arguments: examples and statuses.
+    pub after_help: &'static str,
+}

@@ -1,0 +1,121 @@
+//! The help of scripts.
+
+use crate::Help;
+
+/// The help of `script`.
+pub const SCRIPT: Help = Help {
+    about: "Replies to requests, a line each, over a desk in memory or in a file",
+    long_about: "\
+Replies to requests, a line each, over a desk in memory or in a file
+
+Reads requests from standard input, one JSON object on each line, and writes one line of JSON for
+each line that is not blank, before it reads on. It goes on past what is refused. A line of more
+than 8 MiB is no request. It stops after 1,048,576 reads.
+
+With --db FILE the desk is kept in the file, and the next script goes on with it. A file that is
+not there, is empty, or is a database with no tables becomes an empty desk first. Without
+--db the desk is in memory, empty at first and gone at the end.
+
+With --explain, and wherever standard error is a terminal, each line that is not done is told there
+with its number and the reason in words, and at the end how many lines were done and how many not:
+
+  line 3: no request: the key \"relase\" is not known here
+  line 7: BadDocument: TooLarge, more than 4 MiB
+  done: 5, refused: 1, no request: 1, failed: 0
+
+With --stop the script ends with the first line that is not done. Use it where a freeze follows: an
+attach that was refused is missing in the release, and a freeze is for good.
+
+Requests, with an example of each and its reply:
+
+  load a catalogue of duties, as TOML
+    > {\"do\":\"catalogue\",\"text\":\"forms = [\\\"binary\\\"]\"}
+    < {\"revision\":1}
+  import an SPDX 2.3 document, as tag-value
+    > {\"do\":\"import\",\"text\":\"SPDXVersion: SPDX-2.3\\n..\"}
+    < {\"document\":1,\"new\":true}
+  the same, of a document whose expressions may have and, or, with in small letters
+    > {\"do\":\"import\",\"profile\":2,\"text\":\"SPDXVersion: SPDX-2.3\\n..\"}
+    < {\"document\":2,\"new\":true}
+  open a release that ships in a form of the catalogue
+    > {\"do\":\"open\",\"form\":\"binary\",\"release\":\"r1\"}
+    < {\"done\":true}
+  attach a document to it
+    > {\"do\":\"attach\",\"document\":1,\"release\":\"r1\"}
+    < {\"done\":true}
+  conclude a licence expression for a package, in place of the document's
+    > {\"do\":\"conclude\",\"document\":1,\"expression\":\"MIT\",\"package\":\"SPDXRef-p\"}
+    < {\"done\":true}
+  adopt a reference of a document as a licence
+    > {\"do\":\"adopt\",\"document\":1,\"licence\":\"MIT\",\"reference\":\"LicenseRef-1\"}
+    < {\"done\":true}
+  choose terms for a package of the document
+    > {\"do\":\"choose\",\"document\":1,\"package\":\"SPDXRef-p\",\"release\":\"r1\",\"terms\":[\"MIT\"]}
+    < {\"done\":true}
+  freeze the release, which raises its duties
+    > {\"do\":\"freeze\",\"day\":\"2025-03-03\",\"release\":\"r1\"}
+    < {\"count\":1,\"first\":1}
+  meet a duty
+    > {\"do\":\"meet\",\"day\":\"2025-03-04\",\"duty\":1,\"text\":\"notices.txt\"}
+    < {\"done\":true}
+  drop the choice for a package
+    > {\"do\":\"unchoose\",\"document\":1,\"package\":\"SPDXRef-p\",\"release\":\"r1\"}
+    < {\"done\":true}
+  waive a duty, for good or up to a last day
+    > {\"do\":\"waive\",\"day\":\"2025-03-04\",\"duty\":1,\"text\":\"asked\",\"until\":\"2025-03-31\"}
+    < {\"done\":true}
+  reopen a duty that is met or waived
+    > {\"do\":\"reopen\",\"day\":\"2025-03-06\",\"duty\":1,\"text\":\"not so\"}
+    < {\"done\":true}
+  end the waivers whose last day is before this one
+    > {\"do\":\"close\",\"day\":\"2025-04-01\"}
+    < {\"closed\":1}
+  withdraw a release, with its duties that are not met
+    > {\"do\":\"withdraw\",\"day\":\"2025-03-05\",\"release\":\"r1\",\"text\":\"not shipped\"}
+    < {\"done\":true}
+  list the duties of a release
+    > {\"ask\":\"duties\",\"release\":\"r1\"}
+    < {\"rows\":[[1,1,\"SPDXRef-p\",\"mit\",\"MIT\",\"include-text\",\"met\",\"2025-03-04\"]]}
+  count them: raised, open, met, waived, withdrawn
+    > {\"ask\":\"totals\",\"release\":\"r1\"}
+    < {\"rows\":[[1,0,1,0,0]]}
+  list the changes of a duty: step, day, what it was, text
+    > {\"ask\":\"changes\",\"duty\":1}
+    < {\"rows\":[[1,\"2025-03-03\",\"raised\",\"\"],[2,\"2025-03-04\",\"met\",\"notices.txt\"]]}
+  list what in a document is not as the standard has it: line, number and name of the kind
+    > {\"ask\":\"findings\",\"document\":1}
+    < {\"rows\":[[13,3,\"BadExpression\"]]}
+  tell a release, its form, state and revision, and its packages with conclusion and choice
+    > {\"ask\":\"release\",\"release\":\"r1\"}
+    < {\"rows\":[[\"r1\",\"binary\",\"frozen\",1],[1,\"SPDXRef-p\",\"p\",\"MIT\",[\"mit\"]]]}
+  list the sets of terms that a package's conclusion is true under, none of them too large
+    > {\"ask\":\"alternatives\",\"document\":1,\"package\":\"SPDXRef-p\"}
+    < {\"rows\":[[\"mit\"],[\"a\",\"b\"]]}
+  tell the set that owes the fewest duties in a form, with their number
+    > {\"ask\":\"cheapest\",\"document\":1,\"form\":\"binary\",\"package\":\"SPDXRef-p\"}
+    < {\"rows\":[[1,[\"a\",\"b\"]]]}
+
+What is refused changes nothing, and is told with its number, its name and where it is:
+
+    < {\"at\":[\"mit\"],\"name\":\"NotMinimal\",\"refused\":18}",
+    after_help: "\
+Any other file that keeps no desk of this version is left as it is, and one line says so:
+
+  fault: NotADesk    it is a database of something else
+  fault: BadVersion  it keeps a desk of another version
+  fault: Bad..       its tables aren't sound: desk audit --help has the names
+
+One program at a time has the file open. While one does, and after it was stopped, the last changes
+stand in FILE-wal beside it: keep and copy both files together.
+
+Examples:
+  desk script <requests.jsonl
+  desk script --db desk.db <requests.jsonl
+  desk script --db desk.db --explain --stop <requests.jsonl >replies.jsonl
+
+Statuses:
+  0  every request was answered
+  1  a line was refused, or was no request; or the file keeps no such desk
+  2  the command line is wrong
+  3  no memory, or a file or stream failed",
+};
