@@ -1,10 +1,10 @@
 -- The answer to each query.
-use Rattle.std.specs.Prelude.{ℕ, List, [], ◌∷◌, length, filter, map, find, count_by, Option, Some, None, is_some, if◌then◌else◌}
+use Rattle.std.specs.Prelude.{ℕ, ◌&&◌, Bool, List, [], ◌∷◌, length, filter, map, find, count_by, Option, Some, None, is_some, if◌then◌else◌}
 use Rattle.desk_model.specs.Readings.{Readings}
-use Rattle.std.specs.List.{list_any}
+use Rattle.std.specs.List.{flat_map, list_any}
 use Rattle.std.specs.Str.{bytes_eq}
-use Rattle.desk_model.specs.Keys.{is_document, is_duty_of}
-use Rattle.desk_model.specs.History.{documents, form_of, forms_in, in_force, rules_in, state_of}
+use Rattle.desk_model.specs.Keys.{is_document, is_duty_of, is_shipped_by}
+use Rattle.desk_model.specs.History.{documents, form_of, forms_in, in_force, packages, rules_in, state_of}
 use Rattle.desk_model.specs.Conclusions.{adoptions}
 use Rattle.desk_model.specs.Bills.{bill_answer, bill_of}
 use Rattle.desk_model.specs.Findings.{findings_answer}
@@ -15,14 +15,20 @@ use Rattle.desk_model.specs.Moves.{duty_at}
 use Rattle.desk_model.specs.declared.refusal.Refusal.TheVariants as why
 use Rattle.std.specs.Option.{option_map, option_and_then}
 use Rattle.desk_model.specs.Raised.{chosen_in, shipped}
-use Rattle.desk_model.specs.Tables.{release_row, tables}
+use Rattle.desk_model.specs.Tables.{release_row, release_rows, tables}
 use Rattle.desk_model.specs.Answers.{conclusion, has_document, package_at}
 use Rattle.desk_model.specs.declared.reading.Conclusion.{Conclusion}
 use Rattle.desk_model.specs.declared.row.PackageRow.{PackageRow}
-use Rattle.desk_model.specs.declared.command.PackageLine.{PackageLine}
+use Rattle.desk_model.specs.declared.row.DocumentHead.{DocumentHead}
+use Rattle.desk_model.specs.declared.row.DocumentRow.{DocumentRow}
 use Rattle.desk_model.specs.declared.row.DutyRow.{DutyRow}
 use Rattle.desk_model.specs.declared.row.ChangeRow.{ChangeRow}
+use Rattle.desk_model.specs.declared.row.ReleaseRow.{ReleaseRow}
+use Rattle.desk_model.specs.declared.command.DocumentLine.{DocumentLine}
 use Rattle.desk_model.specs.declared.command.DutyLine.{DutyLine}
+use Rattle.desk_model.specs.declared.command.OpenDuty.{OpenDuty}
+use Rattle.desk_model.specs.declared.command.PackageLine.{PackageLine}
+use Rattle.desk_model.specs.declared.command.ReleaseLine.{ReleaseLine}
 use Rattle.desk_model.specs.declared.command.Totals.{Totals}
 use Rattle.desk_model.specs.declared.command.Answer.{Answer}
 use Rattle.desk_model.specs.declared.command.Answer.TheVariants as answered
@@ -72,6 +78,29 @@ package_line concluded chosen p = record {
   terms = chosen p;
 }
 
+-- the line of a release, by all duties
+abbrev pub release_line : List DutyRow → ReleaseRow → ReleaseLine
+release_line rows release = record { release = release; totals = totals_of (filter (is_duty_of release.name) rows) }
+
+-- a document without its bytes
+abbrev pub head_of : DocumentRow → DocumentHead
+head_of row = record { number = row.number; namespace = row.namespace; profile = row.profile }
+
+-- the line of a document, by all packages
+abbrev pub document_line : List PackageRow → DocumentRow → DocumentLine
+document_line rows document = record { head = head_of document; shipped = length (filter (is_shipped_by document.number) rows) }
+
+-- a duty was raised for a release, and is open
+abbrev pub is_open_of : List ℕ → DutyRow → Bool
+is_open_of r row = is_duty_of r row && is_open row.state
+
+abbrev pub open_duty : (ℕ → List ChangeRow) → DutyRow → OpenDuty
+open_duty changed row = record { duty = row; day = last_day (changed row.number) }
+
+-- the open duties of a release, by number
+abbrev pub open_duties : (ℕ → List ChangeRow) → List DutyRow → ReleaseRow → List OpenDuty
+open_duties changed rows release = map (open_duty changed) (filter (is_open_of release.name) rows)
+
 -- what Alternatives and Cheapest look up in a history
 abbrev pub listing : Readings → List Command → ℕ → List ℕ → Listing
 listing w h d p = record {
@@ -98,3 +127,6 @@ queried w h (query.Bill r) =
     let t = tables w h in
     if is_some (form_of h r) then bill_answer (bill_of w t.catalogue t.extracted t.frozen (shipped w h r) (release_row h r)) (state_of h r)
     else answered.Refused why.UnknownRelease
+queried w h query.Releases = answered.Releases (map (release_line (duties w h)) (release_rows h))
+queried w h query.Documents = answered.Documents (map (document_line (packages w h)) (documents w h))
+queried w h query.OpenDuties = answered.OpenDuties (flat_map (open_duties (changes w h) (duties w h)) (release_rows h))

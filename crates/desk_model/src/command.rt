@@ -5,8 +5,8 @@ use crate::finding::FindingRow;
 use crate::reading::{Cheapest, Profile};
 use crate::refusal::Refusal;
 use crate::row::{
-    AdoptionRow, AttachedRow, CatalogueRow, ChangeRow, ChoiceRow, ConclusionRow, DocumentRow,
-    DutyRow, ExtractedRow, FrozenRow, PackageRow, ReleaseRow, RuleRow,
+    AdoptionRow, AttachedRow, CatalogueRow, ChangeRow, ChoiceRow, ConclusionRow, DocumentHead,
+    DocumentRow, DutyRow, ExtractedRow, FrozenRow, PackageRow, ReleaseRow, RuleRow,
 };
 use crate::state::DutyState;
 use desk_base::{Day, Items, Text};
@@ -183,6 +183,12 @@ pub enum Query {
         /// The name of a release.
         release: Text,
     },
+    /// All releases by name, with how many duties of each stand where.
+    Releases,
+    /// All documents by number, with how many packages each ships.
+    Documents,
+    /// The open duties of all releases, release by release.
+    OpenDuties,
 }
 
 /// A duty of a release, and the day of its last change.
@@ -236,6 +242,33 @@ pub struct Totals {
     pub withdrawn: u64,
 }
 
+/// A release, and how many of its duties stand where.
+#[derive(Debug, Drop)]
+pub struct ReleaseLine {
+    /// The release itself.
+    pub release: ReleaseRow,
+    /// Its duties, counted.
+    pub totals: Totals,
+}
+
+/// A document, and how many packages it ships.
+#[derive(Debug, Drop)]
+pub struct DocumentLine {
+    /// The document, without its bytes.
+    pub head: DocumentHead,
+    /// How many of its packages it ships.
+    pub shipped: u64,
+}
+
+/// An open duty, and the day of its last change.
+#[derive(Debug, Drop)]
+pub struct OpenDuty {
+    /// The duty itself.
+    pub duty: DutyRow,
+    /// The day of the last change.
+    pub day: Option<Day>,
+}
+
 /// What a command or a query is answered.
 #[derive(Debug, Drop)]
 pub enum Answer {
@@ -277,6 +310,12 @@ pub enum Answer {
     Cheapest(Option<Cheapest>),
     /// What the notices of a frozen release are written of.
     Bill(Bill),
+    /// All releases by name, with how many duties of each stand where.
+    Releases(Items<ReleaseLine>),
+    /// All documents by number, with how many packages each ships.
+    Documents(Items<DocumentLine>),
+    /// The open duties of all releases, release by release, each by number.
+    OpenDuties(Items<OpenDuty>),
     /// Nothing was recorded, for this reason.
     Refused(Refusal),
 }

@@ -16,7 +16,8 @@ pub mod state;
 
 pub use bill::{Bill, BillLine, BillText, TextOf};
 pub use command::{
-    Answer, Change, Command, DutyLine, Fault, Outcome, PackageLine, Plan, Query, StoreFault, Totals,
+    Answer, Change, Command, DocumentLine, DutyLine, Fault, OpenDuty, Outcome, PackageLine, Plan,
+    Query, ReleaseLine, StoreFault, Totals,
 };
 pub use finding::FindingRow;
 pub use reading::{
@@ -25,7 +26,8 @@ pub use reading::{
 };
 pub use refusal::{CatalogueFault, CataloguePart, DocumentFault, ExpressionFault, Limit, Refusal};
 pub use row::{
-    AdoptionRow, AttachedRow, CatalogueRow, ChangeRow, ChoiceRow, ConclusionRow, DocumentRow,
-    DutyRow, ExtractedRow, FrozenRow, Move, Owed, PackageRow, ReleaseRow, RuleRow, Standing,
+    AdoptionRow, AttachedRow, CatalogueRow, ChangeRow, ChoiceRow, ConclusionRow, DocumentHead,
+    DocumentRow, DutyRow, ExtractedRow, FrozenRow, Move, Owed, PackageRow, ReleaseRow, RuleRow,
+    Standing,
 };
 pub use state::{DutyState, ReleaseState, Word};

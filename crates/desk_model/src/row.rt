@@ -42,6 +42,17 @@ pub struct DocumentRow {
     pub profile: Profile,
 }
 
+/// A document without its bytes.
+#[derive(Debug, Drop)]
+pub struct DocumentHead {
+    /// Its number, from 1, in the order of import.
+    pub number: u32,
+    /// Its DocumentNamespace, which no other document has.
+    pub namespace: Text,
+    /// How its operators may be written.
+    pub profile: Profile,
+}
+
 /// A package of a document.
 #[derive(Debug, Drop)]
 pub struct PackageRow {
