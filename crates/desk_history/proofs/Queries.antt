@@ -1,7 +1,7 @@
 -- The answers to queries, from tables.
 use Rattle.std.proofs.Common.{◌≡◌, ℕ, ◌+◌, ◌≤◌, Bool, true, false, List, [], ◌∷◌, Option, Some, None, length, map, refl, sym, ap, ◌∙◌, arith}
 use Rattle.std.specs.Prelude.{if◌then◌else◌, filter, is_some, cond}
-use Rattle.std.specs.List.{enumerate_from}
+use Rattle.std.specs.List.{enumerate_from, flat_map}
 use Rattle.std.specs.Option.{option_map, option_map_or}
 use Rattle.std.proofs.lemmas.Bool.Decides.{nat_tests}
 use Rattle.desk_model.specs.Readings.{Readings}
@@ -13,13 +13,13 @@ use Rattle.desk_model.specs.Conclusions.{adoptions}
 use Rattle.desk_model.specs.Listings.{cheapest_answer, term_cost}
 use Rattle.desk_model.specs.declared.row.Owed.{Owed}
 use Rattle.desk_model.specs.Raised.{raised, chosen_in, shipped}
-use Rattle.desk_model.specs.Moves.{duty_row, changes, place, all_changes}
-use Rattle.desk_model.specs.Tables.{Tables, tables, release_row}
+use Rattle.desk_model.specs.Moves.{duties, duty_row, changes, place, all_changes}
+use Rattle.desk_model.specs.Tables.{Tables, tables, release_row, release_rows}
 use Rattle.desk_model.specs.Answers.{conclusion}
 use Rattle.desk_model.specs.Bills.{bill_answer, bill_of}
-use Rattle.desk_model.specs.Queries.{queried, listing, duty_line, package_line, duties_of, totals_of}
+use Rattle.desk_model.specs.Queries.{queried, listing, duty_line, is_open_of, open_duties, open_duty, package_line, duties_of, totals_of}
 use Rattle.desk_model.specs.Moves.{duty_at}
-use Rattle.desk_history.specs.FromTables.{queried_from, choice_found, duty_found}
+use Rattle.desk_history.specs.FromTables.{queried_from, choice_found, duty_found, open_found}
 use Rattle.desk_history.proofs.Lookups.{is_found, release_found-tables, rules-found}
 use Rattle.desk_history.proofs.Chosen.{choice-found}
 use Rattle.desk_history.proofs.Moving.{changes-numbered, in_range, duty-found, known_at}
@@ -41,21 +41,29 @@ in_all n l k le e = grind (arith, nat_tests)
 pub changes-found : (w : Readings) (h : List Command) (n : ℕ) → in_range 1 n (length (raised w h)) ≡ true → filter (is_change_of n) (all_changes w h) ≡ changes w h n
 changes-found w h n e = changes-numbered w h n 1 (raised w h) ∙ rw e refl
 
-lines_from : (w : Readings) (h : List Command) (r : List ℕ) (n : ℕ) (xs : List Owed) → 1 ≤ n → n + length xs ≡ 1 + length (raised w h) → map (duty_line (λ q. filter (is_change_of q) (all_changes w h))) (filter (is_duty_of r) (map (λ (d : ℕ × Owed). duty_row (place w h d.0) d) (enumerate_from n xs))) ≡ map (duty_line (changes w h)) (filter (is_duty_of r) (map (λ (d : ℕ × Owed). duty_row (place w h d.0) d) (enumerate_from n xs)))
-lines_from w h r n [] le e = refl
-lines_from w h r n (x ∷ xs) le e =
+-- what is told of some duties, each with its changes
+told_from : {A : Type 0} (tell : List ChangeRow → DutyRow → A) (p : DutyRow → Bool) (w : Readings) (h : List Command) (n : ℕ) (xs : List Owed) → 1 ≤ n → n + length xs ≡ 1 + length (raised w h)
+    → map (λ row. tell (filter (is_change_of row.number) (all_changes w h)) row) (filter p (map (λ (d : ℕ × Owed). duty_row (place w h d.0) d) (enumerate_from n xs)))
+    ≡ map (λ row. tell (changes w h row.number) row) (filter p (map (λ (d : ℕ × Owed). duty_row (place w h d.0) d) (enumerate_from n xs)))
+told_from tell p w h n [] le e = refl
+told_from {A} tell p w h n (x ∷ xs) le e =
     let row : DutyRow = duty_row (place w h n) (n, x) in
-    let rest : List DutyRow = filter (is_duty_of r) (map (λ (d : ℕ × Owed). duty_row (place w h d.0) d) (enumerate_from (n + 1) xs)) in
+    let rest : List DutyRow = filter p (map (λ (d : ℕ × Owed). duty_row (place w h d.0) d) (enumerate_from (n + 1) xs)) in
+    let found : DutyRow → A = λ row. tell (filter (is_change_of row.number) (all_changes w h)) row in
+    let told : DutyRow → A = λ row. tell (changes w h row.number) row in
     let here : in_range 1 n (length (raised w h)) ≡ true = in_all n (length (raised w h)) (length xs) le (omega arith) in
-    let line : duty_line (λ q. filter (is_change_of q) (all_changes w h)) row ≡ duty_line (changes w h) row =
-    ap (λ rows. let found : ℕ → List ChangeRow = λ q. rows in duty_line found row) (changes-found w h n here) in
-    elim (is_duty_of r row) as (λ b. map (duty_line (λ q. filter (is_change_of q) (all_changes w h))) (cond b (row ∷ rest) rest) ≡ map (duty_line (changes w h)) (cond b (row ∷ rest) rest)) [
-      | true ↦ rw line (ap (λ xs. duty_line (changes w h) row ∷ xs) (lines_from w h r (n + 1) xs (omega arith) (omega arith)))
-      | false ↦ lines_from w h r (n + 1) xs (omega arith) (omega arith)
+    let one : found row ≡ told row = ap (λ rows. tell rows row) (changes-found w h n here) in
+    elim (p row) as (λ b. map found (cond b (row ∷ rest) rest) ≡ map told (cond b (row ∷ rest) rest)) [
+      | true ↦ rw one (ap (λ xs. told row ∷ xs) (told_from tell p w h (n + 1) xs (omega arith) (omega arith)))
+      | false ↦ told_from tell p w h (n + 1) xs (omega arith) (omega arith)
     ]
 
 lines-found : (w : Readings) (h : List Command) (r : List ℕ) → map (duty_line (λ q. filter (is_change_of q) (all_changes w h))) (duties_of w h r) ≡ map (duty_line (changes w h)) (duties_of w h r)
-lines-found w h r = lines_from w h r 1 (raised w h) (omega arith) refl
+lines-found w h r = told_from (λ rows row. duty_line (λ q. rows) row) (is_duty_of r) w h 1 (raised w h) (omega arith) refl
+
+-- the open duties of a release
+open-found : (w : Readings) (h : List Command) (row : ReleaseRow) → open_found (tables w h) row ≡ open_duties (changes w h) (duties w h) row
+open-found w h row = told_from (λ rows duty. open_duty (λ q. rows) duty) (is_open_of row.name) w h 1 (raised w h) (omega arith) refl
 
 -- the changes of a duty are told just where it is known
 is_mapped : {A B : Type 0} (f : A → B) (o : Option A) → is_some (option_map f o) ≡ is_some o
@@ -99,6 +107,9 @@ query-answer w h (query.Bill r) = bill_told w h r
 query-answer w h (query.Alternatives d p) = refl
 query-answer w h (query.Cheapest d p form) =
     ap (λ rules. cheapest_answer w (list_any (bytes_eq form) (forms_in (in_force w h))) (term_cost w (adoptions w h) rules form) (listing w h d p)) (rules-found w h)
+query-answer w h query.Releases = refl
+query-answer w h query.Documents = refl
+query-answer w h query.OpenDuties = λ i. answered.OpenDuties (flat_map (λ row. open-found w h row i) (release_rows h))
 
 pub query_at_history : (w : Readings) (h : List Command) (q : Query) (t : Tables) → t ≡ tables w h → queried_from w t q ≡ queried w h q
 query_at_history w h q t e = ap (λ u. queried_from w u q) e ∙ query-answer w h q

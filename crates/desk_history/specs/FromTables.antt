@@ -1,6 +1,6 @@
 -- The answer and the change of a command, from the rows of tables: what the code computes.
 use Rattle.std.specs.Prelude.{ℕ, ◌+◌, Bool, not, List, [], ◌∷◌, length, filter, map, find, Option, None, is_some, unwrap_or, if◌then◌else◌}
-use Rattle.std.specs.List.{list_any, enumerate_from, last_or}
+use Rattle.std.specs.List.{list_any, enumerate_from, flat_map, last_or}
 use Rattle.std.specs.Option.{option_map, option_map_or, option_and_then}
 use Rattle.std.specs.Result.{result_ok}
 use Rattle.desk_model.specs.Readings.{Readings}
@@ -16,7 +16,7 @@ use Rattle.desk_model.specs.declared.row.Standing.{Standing}
 use Rattle.desk_model.specs.declared.state.Word.{Word}
 use Rattle.desk_model.specs.Tables.{Tables, applied, choice_row}
 use Rattle.desk_model.specs.Answers.{load_answer, import_answer, open_answer, attach_answer, choose_answer, freeze_answer, unchoose_answer, Loading, Importing, Opening, Attaching, Choosing, Unchoosing, Freezing, Withdrawing, Closing, Moving, Concluding, Adopting, move_answer, withdraw_answer, close_answer, conclude_answer, adopt_answer, walk, is_recorded}
-use Rattle.desk_model.specs.Queries.{duty_line, package_line, totals_of}
+use Rattle.desk_model.specs.Queries.{document_line, duty_line, open_duties, package_line, release_line, totals_of}
 use Rattle.desk_model.specs.Bills.{bill_answer, bill_of}
 use Rattle.desk_model.specs.Findings.{findings_answer}
 use Rattle.desk_model.specs.Listings.{Listing, alternatives_answer, cheapest_answer, term_cost}
@@ -46,6 +46,7 @@ use Rattle.desk_model.specs.declared.command.Change.TheVariants as change
 use Rattle.desk_model.specs.declared.command.Command.{Command}
 use Rattle.desk_model.specs.declared.command.Command.TheVariants.{LoadCatalogue, Import, OpenRelease, Attach, Choose, Unchoose, Freeze, Meet, Waive, Reopen, Withdraw, CloseDay, Conclude, Adopt}
 use Rattle.desk_model.specs.declared.command.DutyLine.{DutyLine}
+use Rattle.desk_model.specs.declared.command.OpenDuty.{OpenDuty}
 use Rattle.desk_model.specs.declared.command.Query.{Query}
 use Rattle.desk_model.specs.declared.command.Query.TheVariants as query
 
@@ -326,6 +327,10 @@ known_document row = (row.number, row.profile)
 abbrev pub line_found : Tables → DutyRow → DutyLine
 line_found t row = duty_line (λ q. filter (is_change_of q) t.changes) row
 
+-- the open duties of a release
+abbrev pub open_found : Tables → ReleaseRow → List OpenDuty
+open_found t row = open_duties (λ q. filter (is_change_of q) t.changes) t.duty row
+
 -- what Alternatives and Cheapest look up in tables
 abbrev pub listing_found : Readings → Tables → ℕ → List ℕ → Listing
 listing_found w t d p = record {
@@ -353,3 +358,6 @@ queried_from w t (query.Cheapest d p form) =
 queried_from w t (query.Bill r) =
     option_map_or (λ row. bill_answer (bill_of w t.catalogue t.extracted t.frozen (shipped_found t r) row) row.state) (release_found t r)
     (answered.Refused why.UnknownRelease)
+queried_from w t query.Releases = answered.Releases (map (release_line t.duty) t.releases)
+queried_from w t query.Documents = answered.Documents (map (document_line t.packages) t.document)
+queried_from w t query.OpenDuties = answered.OpenDuties (flat_map (open_found t) t.releases)
