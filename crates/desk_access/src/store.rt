@@ -10,7 +10,7 @@ ghost use Rattle.desk_model.specs.Tables.{Tables};
 ghost use Rattle.desk_access.specs.Seen.{Seen, Looked, OfRows, Wrote};
 ghost use Rattle.desk_model.specs.Faults.{MayFail};
 ghost use Rattle.desk_model.specs.History.{attached_to, rule_for};
-ghost use Rattle.desk_model.specs.Queries.{last_day, totals_of};
+ghost use Rattle.desk_model.specs.Queries.{head_of, last_day, totals_of};
 ghost use Rattle.desk_model.specs.Conclusions.{licence_for, office_text};
 ghost use Rattle.desk_model.specs.Findings.{source_of};
 ghost use Rattle.desk_history.specs.FromTables.{adoption_count, holder_found, release_found, rules_found, duty_found, steps_found, standings_found, ended_found, known_import, known_document};
@@ -18,8 +18,8 @@ ghost use Rattle.desk_model.specs.declared.command.StoreFault.{StoreFault};
 
 use desk_base::{Day, Items, Text};
 use desk_model::{
-    AttachedRow, Change, ChangeRow, DutyRow, Fault, FrozenRow, PackageRow, Profile, ReleaseRow,
-    Rule, Standing, Totals,
+    AttachedRow, Change, ChangeRow, DocumentHead, DutyRow, Fault, FrozenRow, PackageRow, Profile,
+    ReleaseRow, Rule, Standing, Totals,
 };
 
 /// Tables of rows, in memory or in a database. Look-ups leave the rows; `commit` alone writes, all
@@ -100,6 +100,13 @@ pub trait Store {
         ensures misses { OnErr result may_miss }
         ensures fault { IfErr result (MayFail tells) };
 
+    /// All documents by number, without their bytes.
+    fn documents(&mut self) -> Result<Vec<DocumentHead>, Fault>
+        ensures found { IfOk result (λ found. OfRows (λ t.
+            found.items ≡ map head_of t.document) (seen self.old) (seen self.new)) }
+        ensures kept { Looked (seen self.old) (seen self.new) result }
+        ensures fault { IfErr result (MayFail tells) };
+
     /// The bytes of a document, and its profile.
     fn document_source(&mut self, number: u64) -> Result<Option<(Items<u8>, Profile)>, Fault>
         ensures found { IfOk result (λ found. OfRows (λ t.
@@ -134,6 +141,13 @@ pub trait Store {
     fn release(&mut self, name: &str) -> Result<Option<ReleaseRow>, Fault>
         ensures found { IfOk result (λ found. OfRows (λ t.
             found ≡ release_found t name.now) (seen self.old) (seen self.new)) }
+        ensures kept { Looked (seen self.old) (seen self.new) result }
+        ensures fault { IfErr result (MayFail tells) };
+
+    /// All releases, by name.
+    fn releases(&mut self) -> Result<Vec<ReleaseRow>, Fault>
+        ensures found { IfOk result (λ found. OfRows (λ t.
+            found.items ≡ t.releases) (seen self.old) (seen self.new)) }
         ensures kept { Looked (seen self.old) (seen self.new) result }
         ensures fault { IfErr result (MayFail tells) };
 
