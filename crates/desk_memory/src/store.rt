@@ -7,6 +7,7 @@ ghost use Rattle.std.specs.List.{list_any};
 ghost use Rattle.std.specs.Str.{bytes_eq};
 ghost use Rattle.desk_model.specs.Lists.{updated};
 ghost use Rattle.desk_model.specs.Keys.{is_release, is_document, is_revision, has_namespace, is_package, is_adoption, is_adoption_in, is_conclusion, is_shipped_by, is_attached_to, is_attachment, is_choice_of, is_duty, is_duty_of, is_change_of, is_rule, is_rule_of};
+ghost use Rattle.desk_model.specs.Queries.{head_of};
 ghost use Rattle.desk_model.specs.Tables.{Tables, applied, with_release_state, withdrawn_release};
 ghost use Rattle.desk_model.specs.declared.state.ReleaseState.TheVariants.{Frozen};
 ghost use Rattle.desk_tally.specs.Kept.{place_found, AreKept, IsPlaceFor};
@@ -25,9 +26,9 @@ use desk_access::store::Store;
 use desk_base::{Day, Items, Text};
 use desk_memory_rows::{ByAdopting, ByConcluded, ByPackage, ByReference, Choices, Ledger, Office};
 use desk_model::{
-    AttachedRow, CatalogueRow, Change, ChangeRow, ChoiceRow, DocumentRow, DutyRow, ExtractedRow,
-    Fault, FrozenRow, PackageRow, Profile, ReleaseRow, ReleaseState, Rule, RuleRow, Standing,
-    Totals,
+    AttachedRow, CatalogueRow, Change, ChangeRow, ChoiceRow, DocumentHead, DocumentRow, DutyRow,
+    ExtractedRow, Fault, FrozenRow, PackageRow, Profile, ReleaseRow, ReleaseState, Rule, RuleRow,
+    Standing, Totals,
 };
 use desk_sorted::{Appended, Blocks, Sorted, reserve, run_of};
 use desk_tally::Tallies;
@@ -52,6 +53,37 @@ fn release_copy(row: &ReleaseRow) -> Result<ReleaseRow, AllocError>
         state: row.state,
         revision: row.revision,
     })
+}
+
+fn release_copies(alloc: Global, rows: &[ReleaseRow]) -> Result<Vec<ReleaseRow>, AllocError>
+    ensures { IfOk result (λ copies. copies.items ≡ rows.now) }
+{
+    let mut copies = Vec::new(alloc);
+    for row in rows {
+        copies.push(release_copy(row)?)?;
+    }
+    Ok(copies)
+}
+
+/// A document without its bytes.
+fn head_of(row: &DocumentRow) -> Result<DocumentHead, AllocError>
+    ensures { IfOk result (λ head. head ≡ head_of row.now) }
+{
+    Ok(DocumentHead {
+        number: row.number,
+        namespace: row.namespace.clone()?,
+        profile: row.profile,
+    })
+}
+
+fn heads_of(alloc: Global, rows: &[DocumentRow]) -> Result<Vec<DocumentHead>, AllocError>
+    ensures { IfOk result (λ heads. heads.items ≡ map head_of rows.now) }
+{
+    let mut heads = Vec::new(alloc);
+    for row in rows {
+        heads.push(head_of(row)?)?;
+    }
+    Ok(heads)
 }
 
 fn package_copy(row: &PackageRow) -> Result<PackageRow, AllocError>
@@ -540,6 +572,10 @@ impl Store for MemStore {
         }
     }
 
+    fn documents(&mut self) -> Result<Vec<DocumentHead>, Fault> {
+        Ok(heads_of(self.alloc, self.documents.rows.rows.as_slice())?)
+    }
+
     fn document_source(&mut self, number: u64) -> Result<Option<(Items<u8>, Profile)>, Fault> {
         let Some(row) = self.documents.rows.find(&ByNumber { number }) else {
             return Ok(None);
@@ -575,6 +611,10 @@ impl Store for MemStore {
             Some(row) => Ok(Some(release_copy(row)?)),
             None => Ok(None),
         }
+    }
+
+    fn releases(&mut self) -> Result<Vec<ReleaseRow>, Fault> {
+        Ok(release_copies(self.alloc, self.releases.rows.as_slice())?)
     }
 
     fn release_count(&mut self) -> Result<u64, Fault> {
