@@ -24,8 +24,9 @@ use Rattle.desk_model.specs.Tables.{Tables}
 use Rattle.desk_model.specs.Keys.{is_document, has_namespace, is_package, is_shipped_by}
 use Rattle.desk_model.specs.declared.row.DocumentRow.{DocumentRow}
 use Rattle.desk_model.specs.declared.row.PackageRow.{PackageRow}
+use Rattle.desk_sql_lookup.specs.Shown.{name_cells}
 use Rattle.desk_sql_lookup.proofs.Ties.{is_key}
-use Rattle.desk_sql_lookup.proofs.Keyed.{same_number, same_text, packages_sorted}
+use Rattle.desk_sql_lookup.proofs.Keyed.{same_number, same_text, documents_sorted, packages_sorted}
 use Rattle.desk_sql_lookup.proofs.Selects.{order_by, by_rowid, by_unique, at_one_key, shows}
 
 -- ---- the profile of a document
@@ -169,3 +170,42 @@ pub shipped_read : (document : ℕ) (old new : State) (rows : List Row) (t : Tab
 shipped_read document old new rows t shown holds =
     let this = d.package_table in
     shows this.name 6 this.columns this.key this.primary this.uniques this.orders 4 refl package_cells (rows_of t) t.packages refl old.now holds.rows shipped_text (codes "document" ∷ codes "id" ∷ codes "name" ∷ codes "version" ∷ codes "concluded" ∷ codes "copyright" ∷ codes "shipped" ∷ []) (same 1 0 ∷ same 7 1 ∷ []) (col 1 1 ∷ col 1 2 ∷ col 1 3 ∷ col 1 4 ∷ col 1 5 ∷ col 1 6 ∷ col 1 7 ∷ []) (1 ∷ 2 ∷ []) shipped_parsed shipped_plain (number document ∷ number 1 ∷ []) (shipped_test document) (λ (cs : Row). (column cs 0 ∷ column cs 1 ∷ [], column cs 0 ∷ column cs 1 ∷ column cs 2 ∷ column cs 3 ∷ column cs 4 ∷ column cs 5 ∷ column cs 6 ∷ [])) (is_shipped_by document) (λ r. refl) (λ r. refl) (shipped_picks document) old new rows shown refl (by_unique this.name 6 this.columns this.key this.primary this.uniques this.orders 4 refl package_cells (rows_of t) t.packages refl old.now holds.rows 0 (1 ∷ 2 ∷ []) refl refl (λ (cs : Row). is_key (column cs 0) && (is_key (column cs 1) && true)) (λ r. refl) (λ x. refl)) (ascending-filter _ (is_shipped_by document) t.packages (packages_sorted t.packages holds.orderly.packages))
+
+-- ---- all documents, without their bytes
+
+abbrev every : DocumentRow → Bool
+every x = true
+
+abbrev pub names_text : List ℕ
+names_text = codes "SELECT number, namespace FROM document ORDER BY number"
+
+names_is : (command_of (understood d.desk_schema names_text) ≡ Select (record { lets = []; body = query_on 4 [] (col 1 0 ∷ col 1 2 ∷ []) (order_by (0 ∷ [])) }) (codes "number" ∷ codes "namespace" ∷ [])) × (reads_listing d.desk_schema names_text ≡ false)
+unfolding understood everything
+names_is = (refl, refl)
+
+pub names_plain : IsPlain (understood d.desk_schema names_text)
+unfolding understood everything
+names_plain = (refl, refl)
+
+pub names_read : (old new : State) (rows : List Row) (t : Tables) → Shown names_text [] old new rows → Holds t old.now → rows ≡ map name_cells (filter every t.document)
+names_read old new rows t shown holds =
+    let this = d.document_table in
+    shows this.name 4 this.columns this.key this.primary this.uniques this.orders 3 refl document_cells (rows_of t) t.document refl old.now holds.rows names_text (codes "number" ∷ codes "namespace" ∷ []) [] (col 1 0 ∷ col 1 2 ∷ []) (0 ∷ []) names_is names_plain [] (λ (cs : Row). true) (λ (cs : Row). (column cs 0 ∷ [], column cs 0 ∷ column cs 1 ∷ [])) every (λ r. refl) (λ r. refl) (λ x. refl) old new rows shown refl (by_rowid this.name 4 this.columns this.key this.primary this.uniques this.orders 3 refl document_cells (rows_of t) t.document refl old.now holds.rows) (ascending-filter _ every t.document (documents_sorted t.document holds.orderly.sorted.document))
+
+-- ---- the profiles of all documents
+
+abbrev pub readings_text : List ℕ
+readings_text = codes "SELECT document, profile FROM reading ORDER BY document"
+
+readings_is : (command_of (understood d.desk_schema readings_text) ≡ Select (record { lets = []; body = query_on 27 [] (col 1 0 ∷ col 1 2 ∷ []) (order_by (0 ∷ [])) }) (codes "document" ∷ codes "profile" ∷ [])) × (reads_listing d.desk_schema readings_text ≡ false)
+unfolding understood everything
+readings_is = (refl, refl)
+
+pub readings_plain : IsPlain (understood d.desk_schema readings_text)
+unfolding understood everything
+readings_plain = (refl, refl)
+
+pub readings_read : (old new : State) (rows : List Row) (t : Tables) → Shown readings_text [] old new rows → Holds t old.now → rows ≡ map reading_cells (filter every t.document)
+readings_read old new rows t shown holds =
+    let this = d.reading_table in
+    shows this.name 27 this.columns this.key this.primary this.uniques this.orders 14 refl reading_cells (rows_of t) t.document refl old.now holds.rows readings_text (codes "document" ∷ codes "profile" ∷ []) [] (col 1 0 ∷ col 1 2 ∷ []) (0 ∷ []) readings_is readings_plain [] (λ (cs : Row). true) (λ (cs : Row). (column cs 0 ∷ [], column cs 0 ∷ column cs 1 ∷ [])) every (λ r. refl) (λ r. refl) (λ x. refl) old new rows shown refl (by_rowid this.name 27 this.columns this.key this.primary this.uniques this.orders 14 refl reading_cells (rows_of t) t.document refl old.now holds.rows) (ascending-filter _ every t.document (documents_sorted t.document holds.orderly.sorted.document))

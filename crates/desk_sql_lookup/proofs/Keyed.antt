@@ -13,11 +13,12 @@ use Rattle.sqlite_value.proofs.OrderLemmas.{value_cmp-Int, value_cmp-Text, then-
 use Rattle.sqlite_trees.specs.Tree.{IsAscending}
 use Rattle.sqlite_trees.proofs.ListLemmas.{ascending_weaker}
 use Rattle.sqlite_sql.specs.Query.{key_cmp}
-use Rattle.desk_history.specs.Laws.{Ascends, duty_below}
+use Rattle.desk_history.specs.Laws.{Ascends, document_below, duty_below}
 use Rattle.desk_model.specs.Keys.{below_by, attached_order, choice_order, frozen_order, change_below, release_below}
 use Rattle.desk_model.specs.declared.row.AttachedRow.{AttachedRow}
 use Rattle.desk_model.specs.declared.row.ChoiceRow.{ChoiceRow}
 use Rattle.desk_model.specs.declared.row.ChangeRow.{ChangeRow}
+use Rattle.desk_model.specs.declared.row.DocumentRow.{DocumentRow}
 use Rattle.desk_model.specs.declared.row.DutyRow.{DutyRow}
 use Rattle.desk_model.specs.declared.row.FrozenRow.{FrozenRow}
 use Rattle.desk_model.specs.declared.row.PackageRow.{PackageRow}
@@ -51,6 +52,11 @@ in_order below cmp xs same up = ascending_weaker (λ a b. below b a ≡ false) (
 pub duties_sorted : (rows : List DutyRow) → Ascends duty_below rows → IsAscending (λ a b. is_lt (key_cmp 0 (keys (0 ∷ [])) (number b.number ∷ []) (number a.number ∷ [])) ≡ false) rows
 duties_sorted rows up =
     in_order duty_below (λ a b. key_cmp 0 (keys (0 ∷ [])) (number a.number ∷ []) (number b.number ∷ [])) rows
+    (λ a b. ap is_lt (then-Equal (value_cmp (number a.number) (number b.number)) ∙ numbers a.number b.number) ∙ lower a.number b.number) up
+
+pub documents_sorted : (rows : List DocumentRow) → Ascends document_below rows → IsAscending (λ a b. is_lt (key_cmp 0 (keys (0 ∷ [])) (number b.number ∷ []) (number a.number ∷ [])) ≡ false) rows
+documents_sorted rows up =
+    in_order document_below (λ a b. key_cmp 0 (keys (0 ∷ [])) (number a.number ∷ []) (number b.number ∷ [])) rows
     (λ a b. ap is_lt (then-Equal (value_cmp (number a.number) (number b.number)) ∙ numbers a.number b.number) ∙ lower a.number b.number) up
 
 two_lower : (a b : ℕ) (o : Ordering) → is_lt (ordering_then (nat_cmp a b) o) ≡ (nat_lt a b || ((a == b) && is_lt o))

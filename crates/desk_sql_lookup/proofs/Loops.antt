@@ -12,6 +12,13 @@ front_more f [] i d low = absurd (omega arith)
 front_more f (x ∷ xs) zero d low = (x, refl, refl)
 front_more f (x ∷ xs) (suc i) d low = let r = front_more f xs i d (omega arith) in (r.0, r.1, ap (λ l. x ∷ l) r.2)
 
+-- the items at one place of two lists, each made of the same list
+pub front_two : {X Y Z : Type 0} (f : X → Y) (g : X → Z) (xs : List X) (i : ℕ) (d : Y) (z : Z) → i < length (map f xs) → z ≡ get_or (map g xs) i z
+    → (x : X) × (get_or (map f xs) i d ≡ f x) × (z ≡ g x) × (take (suc i) xs ≡ take i xs ++ x ∷ [])
+front_two f g [] i d z low is = absurd (omega arith)
+front_two f g (x ∷ xs) zero d z low is = (x, refl, is, refl)
+front_two f g (x ∷ xs) (suc i) d z low is = let r = front_two f g xs i d z (omega arith) is in (r.0, r.1, r.2, ap (λ l. x ∷ l) r.3)
+
 -- the first that passes
 pub first_is : {X : Type 0} (p : X → Bool) (xs : List X) → slice_get (filter p xs) 0 ≡ find p xs
 first_is p [] = refl

@@ -18,6 +18,10 @@ bytes_cells bytes = Blob bytes ∷ []
 abbrev pub known_cells : ℕ × Profile → Row
 known_cells known = number known.0 ∷ number (profile_number known.1) ∷ []
 
+-- the number of a document, and its namespace
+abbrev pub name_cells : DocumentRow → Row
+name_cells row = number row.number ∷ Text row.namespace ∷ []
+
 -- the number of a document, and its bytes
 abbrev pub import_cells : DocumentRow → Row
 import_cells row = number row.number ∷ Blob row.bytes ∷ []

@@ -7,46 +7,15 @@ ghost use Rattle.sqlite.specs.Held.{state};
 ghost use Rattle.desk_access.specs.Seen.{Looked, OfRows};
 ghost use Rattle.desk_sql_layout.specs.Held.{seen_of};
 ghost use Rattle.desk_history.specs.FromTables.{holder_found};
-ghost use Rattle.desk_sql_layout.specs.Cells.{release_cells};
 ghost use Rattle.desk_model.specs.Conclusions.{first_opened, holds};
 ghost use Rattle.desk_model.specs.Keys.{is_choice_of};
 ghost use Rattle.desk_sql_lookup.specs.Holders.{and_then_opened};
 
-use crate::query::query;
-use crate::read::read_all;
-use crate::releases::select_chosen;
+use crate::releases::{release_rows, select_chosen};
 use desk_base::Text;
 use desk_model::{Fault, ReleaseRow};
-use sqlite::{Alter, Connection, Row};
+use sqlite::{Alter, Connection};
 use std::alloc::{AllocError, Global};
-
-fn select_releases<S: Alter>(conn: &mut Connection<S>) -> Result<Vec<Row>, Fault>
-    ensures found { IfOk result (λ rows. OfRows (λ t.
-        rows.items ≡ map release_cells t.releases) (seen_of (state S.Store conn.old))
-        (seen_of (state S.Store conn.new))) }
-    ensures kept { Looked (seen_of (state S.Store conn.old)) (seen_of (state S.Store conn.new))
-        result }
-    ensures mode { conn.old.in_transaction ≡ false → conn.new.in_transaction ≡ false }
-{
-    query(
-        conn,
-        "SELECT name, place, form, state, revision FROM releases ORDER BY name",
-        &[],
-    )
-}
-
-/// All releases, by name.
-fn releases<S: Alter>(alloc: Global, conn: &mut Connection<S>) -> Result<Vec<ReleaseRow>, Fault>
-    ensures found { IfOk result (λ found. OfRows (λ t.
-        found.items ≡ t.releases) (seen_of (state S.Store conn.old))
-        (seen_of (state S.Store conn.new))) }
-    ensures kept { Looked (seen_of (state S.Store conn.old)) (seen_of (state S.Store conn.new))
-        result }
-    ensures mode { conn.old.in_transaction ≡ false → conn.new.in_transaction ≡ false }
-{
-    let rows = select_releases(conn)?;
-    read_all(alloc, &rows)
-}
 
 /// Whether a release holds a choice for a package of a document.
 fn is_holding<S: Alter>(
@@ -131,7 +100,7 @@ pub fn holder<S: Alter>(
         result }
     ensures mode { conn.old.in_transaction ≡ false → conn.new.in_transaction ≡ false }
 {
-    let rows = releases(alloc, conn)?;
+    let rows = release_rows(alloc, conn)?;
     let first = first_holding(conn, &rows, document, id)?;
     Ok(name_of(alloc, first)?)
 }

@@ -52,6 +52,37 @@ pub fn release<S: Alter>(
     read_first(alloc, &rows)
 }
 
+fn select_releases<S: Alter>(conn: &mut Connection<S>) -> Result<Vec<Row>, Fault>
+    ensures found { IfOk result (λ rows. OfRows (λ t.
+        rows.items ≡ map release_cells t.releases) (seen_of (state S.Store conn.old))
+        (seen_of (state S.Store conn.new))) }
+    ensures kept { Looked (seen_of (state S.Store conn.old)) (seen_of (state S.Store conn.new))
+        result }
+    ensures mode { conn.old.in_transaction ≡ false → conn.new.in_transaction ≡ false }
+{
+    query(
+        conn,
+        "SELECT name, place, form, state, revision FROM releases ORDER BY name",
+        &[],
+    )
+}
+
+/// All releases, by name.
+pub fn release_rows<S: Alter>(
+    alloc: Global,
+    conn: &mut Connection<S>,
+) -> Result<Vec<ReleaseRow>, Fault>
+    ensures found { IfOk result (λ found. OfRows (λ t.
+        found.items ≡ t.releases) (seen_of (state S.Store conn.old))
+        (seen_of (state S.Store conn.new))) }
+    ensures kept { Looked (seen_of (state S.Store conn.old)) (seen_of (state S.Store conn.new))
+        result }
+    ensures mode { conn.old.in_transaction ≡ false → conn.new.in_transaction ≡ false }
+{
+    let rows = select_releases(conn)?;
+    read_all(alloc, &rows)
+}
+
 fn select_attached<S: Alter>(conn: &mut Connection<S>, release: &str) -> Result<Vec<Row>, Fault>
     ensures found { IfOk result (λ rows. OfRows (λ t.
         rows.items ≡ map attached_cells (attached_to t.attached release.now))

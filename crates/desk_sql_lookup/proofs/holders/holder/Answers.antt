@@ -9,12 +9,12 @@ use Rattle.desk_sql_lookup.proofs.holders.holder.Goals as goal
 
 pub returns-in_err-first-clause-kept : goal.returns-in_err-first-clause-kept
 returns-in_err-first-clause-kept g c =
-    let kept = same_then_kept (seen_of (state g.S.Store c.args.conn.now)) (seen_of (state g.S.Store c.releases.new.conn)) (seen_of (state g.S.Store c.first_holding.new.conn)) c.in_ok-rows.ensures.kept c.in_err-first.ensures.kept in
+    let kept = same_then_kept (seen_of (state g.S.Store c.args.conn.now)) (seen_of (state g.S.Store c.release_rows.new.conn)) (seen_of (state g.S.Store c.first_holding.new.conn)) c.in_ok-rows.ensures.kept c.in_err-first.ensures.kept in
     search rules
 
 pub returns-in_err-name_of-clause-kept : goal.returns-in_err-name_of-clause-kept
 returns-in_err-name_of-clause-kept g c =
-    let same = same_then_same (seen_of (state g.S.Store c.args.conn.now)) (seen_of (state g.S.Store c.releases.new.conn)) (seen_of (state g.S.Store c.first_holding.new.conn)) c.in_ok-rows.ensures.kept c.in_ok-first.ensures.kept in
+    let same = same_then_same (seen_of (state g.S.Store c.args.conn.now)) (seen_of (state g.S.Store c.release_rows.new.conn)) (seen_of (state g.S.Store c.first_holding.new.conn)) c.in_ok-rows.ensures.kept c.in_ok-first.ensures.kept in
     search rules
 
 pub returns-clause-found : goal.returns-clause-found
@@ -28,4 +28,4 @@ returns-clause-found g c = λ clean t held.
 
 pub returns-clause-kept : goal.returns-clause-kept
 returns-clause-kept g c =
-    same_then_same (seen_of (state g.S.Store c.args.conn.now)) (seen_of (state g.S.Store c.releases.new.conn)) (seen_of (state g.S.Store c.first_holding.new.conn)) c.in_ok-rows.ensures.kept c.in_ok-first.ensures.kept
+    same_then_same (seen_of (state g.S.Store c.args.conn.now)) (seen_of (state g.S.Store c.release_rows.new.conn)) (seen_of (state g.S.Store c.first_holding.new.conn)) c.in_ok-rows.ensures.kept c.in_ok-first.ensures.kept

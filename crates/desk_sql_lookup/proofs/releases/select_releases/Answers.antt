@@ -4,7 +4,7 @@ use Rattle.desk_sql_lookup.proofs.HolderLemmas.{all_pass}
 use Rattle.sqlite.specs.Held.{state}
 use Rattle.desk_sql_lookup.proofs.Calls.{found_by, looked_by}
 use Rattle.desk_sql_lookup.proofs.ReleaseQueries.{releases_text, releases_plain, releases_read}
-use Rattle.desk_sql_lookup.proofs.holders.select_releases.Goals as goal
+use Rattle.desk_sql_lookup.proofs.releases.select_releases.Goals as goal
 
 pub returns-clause-found : goal.returns-clause-found
 returns-clause-found g c =

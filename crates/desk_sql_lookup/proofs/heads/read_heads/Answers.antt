@@ -1,0 +1,18 @@
+use Rattle.std.proofs.Common.{◌≡◌, ◌<◌, ◌++◌, ◌∷◌, [], map, ap, ap₂, sym, ◌∙◌, add-one, length, get_or, take}
+use Rattle.std.proofs.lemmas.List.{map-append}
+use Rattle.desk_sql_layout.specs.Cells.{reading_cells}
+use Rattle.desk_model.specs.Queries.{head_of}
+use Rattle.desk_sql_lookup.specs.Shown.{name_cells}
+use Rattle.desk_sql_lookup.proofs.Loops.{front_two}
+use Rattle.desk_sql_lookup.proofs.heads.read_heads.Goals as goal
+
+pub loop-i-preserved : goal.loop-i-preserved
+loop-i-preserved c = λ xs is are.
+    let i = c.loop-i.i in
+    let name = c.index-names-i.result in
+    let reading = c.in-Some.reading.now in
+    let low : i < length (map name_cells xs) = rw (← is) c.loop-i-test.true in
+    let x = front_two name_cells reading_cells xs i name reading low (c.in-Some.ensures.lookup.1 ∙ ap (λ l. get_or l i reading) are) in
+    let one = c.in_ok-read_head.ensures x.0 (c.index-names-i.is ∙ ap (λ l. get_or l i name) is ∙ x.1) x.2 in
+    rw (c.in_ok-push.ensures.items, add-one i)
+    (ap₂ (λ a b. a ++ b ∷ []) (c.loop-i.invariant xs is are) one ∙ (sym (map-append head_of (take i xs) (x.0 ∷ [])) ∙ ap (map head_of) (sym x.3)))

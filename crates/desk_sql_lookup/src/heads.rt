@@ -1,0 +1,109 @@
+//! All documents, without their bytes.
+
+ghost use Rattle.std.specs.Prelude.{◌≡◌, false, IfOk, List, map};
+ghost use Rattle.sqlite.specs.Held.{state};
+ghost use Rattle.desk_access.specs.Seen.{Looked, OfRows};
+ghost use Rattle.desk_sql_layout.specs.Held.{seen_of};
+ghost use Rattle.desk_sql_layout.specs.Cells.{reading_cells};
+ghost use Rattle.desk_model.specs.Queries.{head_of};
+ghost use Rattle.desk_model.specs.declared.row.DocumentRow.{DocumentRow as Document};
+ghost use Rattle.desk_sql_lookup.specs.Shown.{name_cells};
+
+use crate::columns::{ROWS, number_at, profile_at, text_at};
+use crate::query::query;
+use desk_model::{DocumentHead, Fault};
+use sqlite::{Alter, Connection, Row};
+use std::alloc::Global;
+
+fn select_names<S: Alter>(conn: &mut Connection<S>) -> Result<Vec<Row>, Fault>
+    ensures found { IfOk result (λ rows. OfRows (λ t.
+        rows.items ≡ map name_cells t.document) (seen_of (state S.Store conn.old))
+        (seen_of (state S.Store conn.new))) }
+    ensures kept { Looked (seen_of (state S.Store conn.old)) (seen_of (state S.Store conn.new))
+        result }
+    ensures mode { conn.old.in_transaction ≡ false → conn.new.in_transaction ≡ false }
+{
+    query(
+        conn,
+        "SELECT number, namespace FROM document ORDER BY number",
+        &[],
+    )
+}
+
+fn select_readings<S: Alter>(conn: &mut Connection<S>) -> Result<Vec<Row>, Fault>
+    ensures found { IfOk result (λ rows. OfRows (λ t.
+        rows.items ≡ map reading_cells t.document) (seen_of (state S.Store conn.old))
+        (seen_of (state S.Store conn.new))) }
+    ensures kept { Looked (seen_of (state S.Store conn.old)) (seen_of (state S.Store conn.new))
+        result }
+    ensures mode { conn.old.in_transaction ≡ false → conn.new.in_transaction ≡ false }
+{
+    query(
+        conn,
+        "SELECT document, profile FROM reading ORDER BY document",
+        &[],
+    )
+}
+
+type RowsOfTwo = (Vec<Row>, Vec<Row>);
+
+/// The rows of all documents, and of their profiles.
+#[tactic(auto, using(crate::proofs::Chains::same_then_kept, crate::proofs::Chains::same_then_same, crate::proofs::Chains::of_rows_after, crate::proofs::Chains::of_rows_still))]
+fn select_both<S: Alter>(conn: &mut Connection<S>) -> Result<RowsOfTwo, Fault>
+    ensures names { IfOk result (λ both. OfRows (λ t.
+        both.0.items ≡ map name_cells t.document) (seen_of (state S.Store conn.old))
+        (seen_of (state S.Store conn.new))) }
+    ensures readings { IfOk result (λ both. OfRows (λ t.
+        both.1.items ≡ map reading_cells t.document) (seen_of (state S.Store conn.old))
+        (seen_of (state S.Store conn.new))) }
+    ensures kept { Looked (seen_of (state S.Store conn.old)) (seen_of (state S.Store conn.new))
+        result }
+    ensures mode { conn.old.in_transaction ≡ false → conn.new.in_transaction ≡ false }
+{
+    let names = select_names(conn)?;
+    let readings = select_readings(conn)?;
+    Ok((names, readings))
+}
+
+/// A document, from its rows in two tables.
+fn read_head(alloc: Global, name: &Row, reading: &Row) -> Result<DocumentHead, Fault>
+    ensures { IfOk result (λ head. (x : Document) → name.now ≡ name_cells x
+        → reading.now ≡ reading_cells x → head ≡ head_of x) }
+{
+    Ok(DocumentHead {
+        number: number_at(name, 0)?,
+        namespace: text_at(alloc, name, 1)?,
+        profile: profile_at(reading, 1)?,
+    })
+}
+
+/// Documents, from their rows in two tables.
+fn read_heads(alloc: Global, names: &[Row], readings: &[Row]) -> Result<Vec<DocumentHead>, Fault>
+    ensures { IfOk result (λ heads. (xs : List Document) → names.now ≡ map name_cells xs
+        → readings.now ≡ map reading_cells xs → heads.items ≡ map head_of xs) }
+{
+    let mut heads = Vec::new(alloc);
+    for (i, name) in names.iter().enumerate() {
+        let Some(reading) = readings.get(i) else {
+            return Err(ROWS);
+        };
+        heads.push(read_head(alloc, name, reading)?)?;
+    }
+    Ok(heads)
+}
+
+/// All documents by number, without their bytes.
+pub fn document_heads<S: Alter>(
+    alloc: Global,
+    conn: &mut Connection<S>,
+) -> Result<Vec<DocumentHead>, Fault>
+    ensures found { IfOk result (λ found. OfRows (λ t.
+        found.items ≡ map head_of t.document) (seen_of (state S.Store conn.old))
+        (seen_of (state S.Store conn.new))) }
+    ensures kept { Looked (seen_of (state S.Store conn.old)) (seen_of (state S.Store conn.new))
+        result }
+    ensures mode { conn.old.in_transaction ≡ false → conn.new.in_transaction ≡ false }
+{
+    let (names, readings) = select_both(conn)?;
+    read_heads(alloc, &names, &readings)
+}
