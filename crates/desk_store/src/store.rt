@@ -22,8 +22,8 @@ use crate::counts::{Adoptions, Counts, counts_after};
 use desk_access::store::Store;
 use desk_base::{Day, Items, Text};
 use desk_model::{
-    AttachedRow, Change, ChangeRow, DutyRow, Fault, FrozenRow, PackageRow, Profile, ReleaseRow,
-    Rule, Standing, StoreFault, Totals,
+    AttachedRow, Change, ChangeRow, DocumentHead, DutyRow, Fault, FrozenRow, PackageRow, Profile,
+    ReleaseRow, Rule, Standing, StoreFault, Totals,
 };
 use desk_snapshot::{AuditReport, Snapshot};
 use desk_tally::{Step, Tallies};
@@ -275,6 +275,10 @@ impl<S: Alter> Store for SqlStore<S> {
         desk_sql_lookup::document(self.alloc, &mut self.conn, self.counts.documents, number)
     }
 
+    fn documents(&mut self) -> Result<Vec<DocumentHead>, Fault> {
+        desk_sql_lookup::document_heads(self.alloc, &mut self.conn)
+    }
+
     fn document_source(&mut self, number: u64) -> Result<Option<(Items<u8>, Profile)>, Fault> {
         desk_sql_lookup::document_source(self.alloc, &mut self.conn, self.counts.documents, number)
     }
@@ -294,6 +298,10 @@ impl<S: Alter> Store for SqlStore<S> {
 
     fn release(&mut self, name: &str) -> Result<Option<ReleaseRow>, Fault> {
         desk_sql_lookup::release(self.alloc, &mut self.conn, name)
+    }
+
+    fn releases(&mut self) -> Result<Vec<ReleaseRow>, Fault> {
+        desk_sql_lookup::release_rows(self.alloc, &mut self.conn)
     }
 
     fn release_count(&mut self) -> Result<u64, Fault> {
