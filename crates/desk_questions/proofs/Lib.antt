@@ -1,3 +1,4 @@
 mod Listings
+mod Lines
 mod Bills
 mod Uses

@@ -11,6 +11,7 @@ ghost use Rattle.desk_history.specs.FromTables.{queried_from, line_found};
 use crate::bill::bill;
 use crate::findings::findings;
 use crate::listing::{alternatives, cheapest};
+use crate::lists::{documents, open_duties, releases};
 use crate::packages::release;
 use desk_access::store::Store;
 use desk_access::texts::Texts;
@@ -120,5 +121,8 @@ pub fn answer_to<T: Texts, S: Store>(
             form,
         } => cheapest(alloc, texts, store, *document, package_id, form),
         Query::Bill { release: name } => bill(alloc, texts, store, name),
+        Query::Releases => releases(alloc, store),
+        Query::Documents => documents(alloc, store),
+        Query::OpenDuties => open_duties(alloc, store),
     }
 }

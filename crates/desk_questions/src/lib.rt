@@ -7,7 +7,8 @@
 //!
 //! - `answer_to` is all questions; `ask` has those of duties, `findings` reads a document,
 //!   `packages` tells a release, `listing` the sets of terms that a conclusion is true under,
-//!   `bill` what the notices of a release are written of.
+//!   `bill` what the notices of a release are written of, `lists` all releases, documents and open
+//!   duties.
 #![tactic(auto)]
 
 pub mod ask;
@@ -15,5 +16,6 @@ pub mod bill;
 pub mod findings;
 mod frozen;
 pub mod listing;
+pub mod lists;
 pub mod packages;
 mod texts;

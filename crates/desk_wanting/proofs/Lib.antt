@@ -1,4 +1,4 @@
 mod Firsts
-mod Lists
+pub mod Lists
 mod Against
 mod Once
