@@ -4,14 +4,17 @@ use Rattle.std.specs.Prelude.{map}
 use Rattle.serde_json.specs.Data.{string}
 use Rattle.serde_json.specs.View.{items_of}
 use Rattle.serde_json.specs.Written.{has_float, items_have_float}
-use Rattle.desk_json.specs.Parts.{duty_row, change_values, ending, change_line, finding_line, package_values, term_list}
+use Rattle.desk_json.specs.Parts.{duty_row, change_values, ending, change_line, finding_line, package_values, term_list, listed_release, listed_document, open_row}
 use Rattle.desk_json.specs.Refusals.{document_fault_values, catalogue_fault_values, refusal_values}
 use Rattle.desk_json.specs.Replies.{answer_reply, reply_of}
 use Rattle.desk_model.specs.declared.command.Answer.{Answer}
 use Rattle.desk_model.specs.declared.command.Answer.TheVariants as answer
 use Rattle.desk_model.specs.declared.row.ChangeRow.{ChangeRow}
+use Rattle.desk_model.specs.declared.command.DocumentLine.{DocumentLine}
 use Rattle.desk_model.specs.declared.command.DutyLine.{DutyLine}
+use Rattle.desk_model.specs.declared.command.OpenDuty.{OpenDuty}
 use Rattle.desk_model.specs.declared.command.PackageLine.{PackageLine}
+use Rattle.desk_model.specs.declared.command.ReleaseLine.{ReleaseLine}
 use Rattle.desk_model.specs.declared.finding.FindingRow.{FindingRow}
 use Rattle.desk_model.specs.declared.command.Outcome.{Outcome}
 use Rattle.desk_model.specs.declared.command.Outcome.TheVariants as outcome
@@ -49,6 +52,18 @@ sets_have_no_float (set ∷ sets) = rw (terms_have_no_float set) (sets_have_no_f
 packages_have_no_float : (lines : List PackageLine) → items_have_float (items_of (map package_values lines)) ≡ false
 packages_have_no_float [] = refl
 packages_have_no_float (line ∷ lines) = rw (terms_have_no_float line.terms) (packages_have_no_float lines)
+
+releases_have_no_float : (lines : List ReleaseLine) → items_have_float (items_of (map listed_release lines)) ≡ false
+releases_have_no_float [] = refl
+releases_have_no_float (line ∷ lines) = releases_have_no_float lines
+
+documents_have_no_float : (lines : List DocumentLine) → items_have_float (items_of (map listed_document lines)) ≡ false
+documents_have_no_float [] = refl
+documents_have_no_float (line ∷ lines) = documents_have_no_float lines
+
+open_duties_have_no_float : (lines : List OpenDuty) → items_have_float (items_of (map open_row lines)) ≡ false
+open_duties_have_no_float [] = refl
+open_duties_have_no_float (line ∷ lines) = open_duties_have_no_float lines
 
 catalogue_fault_has_no_float : (fault : CatalogueFault) → items_have_float (items_of (catalogue_fault_values fault)) ≡ false
 catalogue_fault_has_no_float catalogue.NotToml = refl
@@ -122,6 +137,9 @@ answer_has_no_float (answer.Alternatives sets) = rw (sets_have_no_float sets) re
 answer_has_no_float (answer.Cheapest None) = refl
 answer_has_no_float (answer.Cheapest (Some c)) = rw (terms_have_no_float c.terms) refl
 answer_has_no_float (answer.Bill bill) = refl
+answer_has_no_float (answer.Releases lines) = rw (releases_have_no_float lines) refl
+answer_has_no_float (answer.Documents lines) = rw (documents_have_no_float lines) refl
+answer_has_no_float (answer.OpenDuties lines) = rw (open_duties_have_no_float lines) refl
 answer_has_no_float (answer.Refused refusal) = rw (refusal_has_no_float refusal) refl
 
 pub reply_has_no_float : (o : Outcome) → has_float (reply_of o) ≡ false

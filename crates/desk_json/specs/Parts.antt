@@ -3,11 +3,15 @@ use Rattle.std.specs.Prelude.{ℕ, List, [], ◌∷◌, ◌++◌, map, unwrap_or
 use Rattle.std.specs.Str.{is_utf8}
 use Rattle.serde_json.specs.Data.{Data, number, unsigned, string, array}
 use Rattle.serde_json.specs.View.{items_of}
+use Rattle.desk_base.specs.Profiles.{profile_number}
 use Rattle.desk_model.specs.Names.{duty_state_name, release_state_name, word_name}
 use Rattle.desk_model.specs.declared.row.ChangeRow.{ChangeRow}
 use Rattle.desk_model.specs.declared.row.ReleaseRow.{ReleaseRow}
+use Rattle.desk_model.specs.declared.command.DocumentLine.{DocumentLine}
 use Rattle.desk_model.specs.declared.command.DutyLine.{DutyLine}
+use Rattle.desk_model.specs.declared.command.OpenDuty.{OpenDuty}
 use Rattle.desk_model.specs.declared.command.PackageLine.{PackageLine}
+use Rattle.desk_model.specs.declared.command.ReleaseLine.{ReleaseLine}
 use Rattle.desk_model.specs.declared.command.Totals.{Totals}
 use Rattle.desk_model.specs.declared.finding.FindingRow.{FindingRow}
 use Rattle.desk_model.specs.declared.reading.Cheapest.{Cheapest}
@@ -45,6 +49,20 @@ totals_row t = list (whole t.raised ∷ whole t.still_open ∷ whole t.met ∷ w
 -- the release, its form and state, and the revision of the catalogue at its freeze
 abbrev pub release_line : ReleaseRow → Data
 release_line row = list (string row.name ∷ string row.form ∷ string (release_state_name row.state) ∷ whole row.revision ∷ [])
+
+-- a release of all: as above, and how many of its duties stand where
+abbrev pub listed_release : ReleaseLine → Data
+listed_release line = list (string line.release.name ∷ string line.release.form ∷ string (release_state_name line.release.state) ∷ whole line.release.revision
+    ∷ whole line.totals.raised ∷ whole line.totals.still_open ∷ whole line.totals.met ∷ whole line.totals.waived ∷ whole line.totals.withdrawn ∷ [])
+
+-- a document of all: its number, namespace and profile, and how many packages it ships
+abbrev pub listed_document : DocumentLine → Data
+listed_document line = list (whole line.head.number ∷ string line.head.namespace ∷ whole (profile_number line.head.profile) ∷ whole line.shipped ∷ [])
+
+-- an open duty of all: its number, its release, what it is owed for, and the day of its last change
+abbrev pub open_row : OpenDuty → Data
+open_row line = list (whole line.duty.number ∷ string line.duty.release ∷ whole line.duty.document ∷ string line.duty.package_id ∷ string line.duty.term
+    ∷ string line.duty.rule ∷ string line.duty.code ∷ string (day_text line.day) ∷ [])
 
 abbrev pub term_list : List (List ℕ) → Data
 term_list terms = list (map string terms)

@@ -2,7 +2,7 @@
 use Rattle.std.specs.Prelude.{ℕ, Bool, true, false, List, [], ◌∷◌, codes, map}
 use Rattle.serde_json.specs.Data.{Data, boolean, string, object, no_members, member}
 use Rattle.serde_json.specs.Written.{compact_text}
-use Rattle.desk_json.specs.Parts.{whole, list, duty_row, totals_row, change_line, finding_line, release_line, package_values, term_list, cheapest_rows}
+use Rattle.desk_json.specs.Parts.{whole, list, duty_row, totals_row, change_line, finding_line, release_line, package_values, term_list, cheapest_rows, listed_release, listed_document, open_row}
 use Rattle.desk_json.specs.Refusals.{refusal_values}
 use Rattle.desk_model.specs.Names.{refusal_name}
 use Rattle.desk_model.specs.Numbers.{refusal_number}
@@ -60,6 +60,9 @@ answer_reply (answer.Release row lines) = rows_reply (release_line row ∷ map p
 answer_reply (answer.Alternatives sets) = rows_reply (map term_list sets)
 answer_reply (answer.Cheapest found) = rows_reply (cheapest_rows found)
 answer_reply (answer.Bill bill) = bill_reply bill
+answer_reply (answer.Releases lines) = rows_reply (map listed_release lines)
+answer_reply (answer.Documents lines) = rows_reply (map listed_document lines)
+answer_reply (answer.OpenDuties lines) = rows_reply (map open_row lines)
 answer_reply (answer.Refused refusal) = refusal_reply refusal
 
 abbrev pub fault_reply : List ℕ → Data

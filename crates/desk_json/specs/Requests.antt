@@ -179,6 +179,16 @@ cheapest_request d = with_members 4 d
     with_text (codes "form") d (λ form.
     Ask (query.Cheapest document package_id form)))))
 
+-- a query without other members
+abbrev pub releases_request : Data → Request
+releases_request d = with_members 1 d (Ask query.Releases)
+
+abbrev pub documents_request : Data → Request
+documents_request d = with_members 1 d (Ask query.Documents)
+
+abbrev pub open_duties_request : Data → Request
+open_duties_request d = with_members 1 d (Ask query.OpenDuties)
+
 -- the form that the word behind `ask` names
 abbrev pub query_request : List ℕ → Data → Request
 query_request word d =
@@ -189,6 +199,9 @@ query_request word d =
     else if bytes_eq word (codes "release") then release_request d
     else if bytes_eq word (codes "alternatives") then alternatives_request d
     else if bytes_eq word (codes "cheapest") then cheapest_request d
+    else if bytes_eq word (codes "releases") then releases_request d
+    else if bytes_eq word (codes "documents") then documents_request d
+    else if bytes_eq word (codes "open") then open_duties_request d
     else BadCommand
 
 -- the request that a value is; one with both `do` and `ask` has a member too many

@@ -27,6 +27,9 @@ pub(crate) enum Form {
     Release,
     Alternatives,
     Cheapest,
+    Releases,
+    Documents,
+    OpenDuties,
 }
 
 /// The word that names a form.
@@ -97,7 +100,7 @@ pub(crate) const COMMANDS: [Name; 14] = [
 ];
 
 /// The words behind `ask`.
-pub(crate) const QUERIES: [Name; 7] = [
+pub(crate) const QUERIES: [Name; 10] = [
     Name {
         word: "duties",
         form: Form::Duties,
@@ -125,6 +128,18 @@ pub(crate) const QUERIES: [Name; 7] = [
     Name {
         word: "cheapest",
         form: Form::Cheapest,
+    },
+    Name {
+        word: "releases",
+        form: Form::Releases,
+    },
+    Name {
+        word: "documents",
+        form: Form::Documents,
+    },
+    Name {
+        word: "open",
+        form: Form::OpenDuties,
     },
 ];
 

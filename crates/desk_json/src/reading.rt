@@ -2,8 +2,9 @@
 
 ghost use Rattle.std.specs.Prelude.{◌≡◌, IfOk};
 ghost use Rattle.serde_json.specs.View.{view};
-ghost use Rattle.desk_json.specs.Requests.{catalogue_request, import_profile, import_request, open_request, attach_request, choose_request, freeze_request, meet_request, unchoose_request, waive_until, waive_request, reopen_request, withdraw_request, close_request, conclude_request, adopt_request, duties_request, totals_request, changes_request, findings_request, release_request, alternatives_request, cheapest_request, request_of, request_in};
+ghost use Rattle.desk_json.specs.Requests.{catalogue_request, import_profile, import_request, open_request, attach_request, choose_request, freeze_request, meet_request, unchoose_request, waive_until, waive_request, reopen_request, withdraw_request, close_request, conclude_request, adopt_request, duties_request, totals_request, changes_request, findings_request, release_request, alternatives_request, cheapest_request, with_members, request_of, request_in};
 ghost use Rattle.desk_json.specs.Forms.{form_request, request_by};
+ghost use Rattle.desk_json.specs.declared.request.Request.TheVariants.{Ask};
 
 use crate::fields::{number_at, profile_at, size_of, take_text, text_at, texts_at};
 use crate::forms::{COMMANDS, Form, QUERIES, form_named};
@@ -421,6 +422,16 @@ fn read_cheapest(alloc: Global, value: &Value) -> Result<Request, AllocError>
     }))
 }
 
+/// A query that needs no other member.
+fn read_bare(value: &Value, query: Query) -> Request
+    ensures { result ≡ with_members 1 (view value.now) (Ask query) }
+{
+    if size_of(value) != 1 {
+        return Request::BadCommand;
+    }
+    Request::Ask(query)
+}
+
 /// The form that the word behind `do` names, or else the one behind `ask`.
 fn form_of(value: &Value) -> Option<Form>
     ensures { request_by result (view value.now) ≡ request_of (view value.now) }
@@ -456,6 +467,9 @@ fn read_form(alloc: Global, form: Form, value: &mut Value) -> Result<Request, Al
         Form::Release => read_release(alloc, value),
         Form::Alternatives => read_alternatives(alloc, value),
         Form::Cheapest => read_cheapest(alloc, value),
+        Form::Releases => Ok(read_bare(value, Query::Releases)),
+        Form::Documents => Ok(read_bare(value, Query::Documents)),
+        Form::OpenDuties => Ok(read_bare(value, Query::OpenDuties)),
     }
 }
 

@@ -10,7 +10,8 @@ ghost use Rattle.desk_json.specs.Parts.{list};
 
 use crate::refusals::refusal_values;
 use crate::rows::{
-    change_rows, cheapest_rows, duty_rows, finding_rows, release_rows, set_rows, totals_row,
+    change_rows, cheapest_rows, duty_rows, finding_rows, listed_documents, listed_releases,
+    open_rows, release_rows, set_rows, totals_row,
 };
 use desk_model::{Answer, Bill, Fault, Outcome, Refusal};
 use serde_json::{Value, json};
@@ -96,6 +97,9 @@ fn answer(alloc: Global, answer: &Answer) -> Result<Value, AllocError>
         Answer::Alternatives(sets) => rows(alloc, set_rows(alloc, sets.as_slice())?),
         Answer::Cheapest(found) => rows(alloc, cheapest_rows(alloc, found)?),
         Answer::Bill(given) => bill(alloc, given),
+        Answer::Releases(lines) => rows(alloc, listed_releases(alloc, lines.as_slice())?),
+        Answer::Documents(lines) => rows(alloc, listed_documents(alloc, lines.as_slice())?),
+        Answer::OpenDuties(lines) => rows(alloc, open_rows(alloc, lines.as_slice())?),
         Answer::Refused(reason) => refusal(alloc, reason),
     }
 }

@@ -3,11 +3,14 @@
 ghost use Rattle.std.specs.Prelude.{◌≡◌, ◌∷◌, [], ℕ, List, IfOk, IsTrue, Some, map, unwrap_or};
 ghost use Rattle.serde_json.specs.View.{view, items_view, items_of};
 ghost use Rattle.desk_base.specs.Day.{is_day};
-ghost use Rattle.desk_json.specs.Parts.{day_text, duty_row, change_line, totals_row, finding_line, release_line, term_list, package_values, cheapest_row, cheapest_rows};
+ghost use Rattle.desk_json.specs.Parts.{day_text, duty_row, change_line, totals_row, finding_line, release_line, term_list, package_values, cheapest_row, cheapest_rows, listed_release, listed_document, open_row};
 
 use crate::cells::{Cell, list, texts};
 use desk_base::{Day, Items, Text};
-use desk_model::{ChangeRow, Cheapest, DutyLine, FindingRow, PackageLine, ReleaseRow, Totals};
+use desk_model::{
+    ChangeRow, Cheapest, DocumentLine, DutyLine, FindingRow, OpenDuty, PackageLine, ReleaseLine,
+    ReleaseRow, Totals,
+};
 use serde_json::Value;
 use std::alloc::{AllocError, Global};
 
@@ -118,6 +121,94 @@ fn release_row(alloc: Global, row: &ReleaseRow) -> Result<Value, AllocError>
         Cell::Number(row.revision),
     ];
     list(alloc, &cells)
+}
+
+/// A release of all, and how many of its duties stand where.
+fn listed_release(alloc: Global, line: &ReleaseLine) -> Result<Value, AllocError>
+    ensures { IfOk result (λ v. view v ≡ listed_release line.now) }
+{
+    let cells = [
+        Cell::Text(line.release.name.as_str()),
+        Cell::Text(line.release.form.as_str()),
+        Cell::Text(line.release.state.name()),
+        Cell::Number(line.release.revision),
+        Cell::Number(line.totals.raised),
+        Cell::Number(line.totals.still_open),
+        Cell::Number(line.totals.met),
+        Cell::Number(line.totals.waived),
+        Cell::Number(line.totals.withdrawn),
+    ];
+    list(alloc, &cells)
+}
+
+/// A row for each release.
+pub(crate) fn listed_releases(
+    alloc: Global,
+    lines: &[ReleaseLine],
+) -> Result<Vec<Value>, AllocError>
+    ensures { IfOk result (λ rows. items_view rows.items ≡ items_of (map listed_release lines.now)) }
+{
+    let mut rows = Vec::new(alloc);
+    for line in lines {
+        rows.push(listed_release(alloc, line)?)?;
+    }
+    Ok(rows)
+}
+
+/// A document of all, and how many packages it ships.
+fn listed_document(alloc: Global, line: &DocumentLine) -> Result<Value, AllocError>
+    ensures { IfOk result (λ v. view v ≡ listed_document line.now) }
+{
+    let cells = [
+        Cell::Number(u64::from(line.head.number)),
+        Cell::Text(line.head.namespace.as_str()),
+        Cell::Number(line.head.profile.number()),
+        Cell::Number(line.shipped),
+    ];
+    list(alloc, &cells)
+}
+
+/// A row for each document.
+pub(crate) fn listed_documents(
+    alloc: Global,
+    lines: &[DocumentLine],
+) -> Result<Vec<Value>, AllocError>
+    ensures { IfOk result (λ rows. items_view rows.items
+        ≡ items_of (map listed_document lines.now)) }
+{
+    let mut rows = Vec::new(alloc);
+    for line in lines {
+        rows.push(listed_document(alloc, line)?)?;
+    }
+    Ok(rows)
+}
+
+/// An open duty of all.
+fn open_row(alloc: Global, line: &OpenDuty) -> Result<Value, AllocError>
+    ensures { IfOk result (λ v. view v ≡ open_row line.now) }
+{
+    let cells = [
+        Cell::Number(u64::from(line.duty.number)),
+        Cell::Text(line.duty.release.as_str()),
+        Cell::Number(u64::from(line.duty.document)),
+        Cell::Text(line.duty.package_id.as_str()),
+        Cell::Text(line.duty.term.as_str()),
+        Cell::Text(line.duty.rule.as_str()),
+        Cell::Text(line.duty.code.as_str()),
+        Cell::Text(day_text(&line.day)),
+    ];
+    list(alloc, &cells)
+}
+
+/// A row for each open duty.
+pub(crate) fn open_rows(alloc: Global, lines: &[OpenDuty]) -> Result<Vec<Value>, AllocError>
+    ensures { IfOk result (λ rows. items_view rows.items ≡ items_of (map open_row lines.now)) }
+{
+    let mut rows = Vec::new(alloc);
+    for line in lines {
+        rows.push(open_row(alloc, line)?)?;
+    }
+    Ok(rows)
 }
 
 /// The text, and an empty one where there is none.
