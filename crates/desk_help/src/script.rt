@@ -94,6 +94,15 @@ Requests, with an example of each and its reply:
   tell the set that owes the fewest duties in a form, with their number
     > {\"ask\":\"cheapest\",\"document\":1,\"form\":\"binary\",\"package\":\"SPDXRef-p\"}
     < {\"rows\":[[1,[\"a\",\"b\"]]]}
+  list all releases, each with its totals
+    > {\"ask\":\"releases\"}
+    < {\"rows\":[[\"r1\",\"binary\",\"frozen\",1,1,0,1,0,0]]}
+  list all documents: number, namespace, profile, how many packages each ships
+    > {\"ask\":\"documents\"}
+    < {\"rows\":[[1,\"https://example.org/spdx/p-1\",1,1]]}
+  list the open duties of all releases
+    > {\"ask\":\"open\"}
+    < {\"rows\":[[2,\"r2\",1,\"SPDXRef-p\",\"mit\",\"MIT\",\"include-text\",\"2025-03-05\"]]}
 
 What is refused changes nothing, and is told with its number, its name and where it is:
 

@@ -164,7 +164,7 @@ pub(crate) const COMMANDS: [Form; 14] = [
 ];
 
 /// The forms that a word behind `ask` names.
-pub(crate) const QUERIES: [Form; 7] = [
+pub(crate) const QUERIES: [Form; 10] = [
     Form {
         word: "duties",
         keys: &[RELEASE],
@@ -192,6 +192,18 @@ pub(crate) const QUERIES: [Form; 7] = [
     Form {
         word: "cheapest",
         keys: &[DOCUMENT, PACKAGE, FORM],
+    },
+    Form {
+        word: "releases",
+        keys: &[],
+    },
+    Form {
+        word: "documents",
+        keys: &[],
+    },
+    Form {
+        word: "open",
+        keys: &[],
     },
 ];
 
