@@ -119,7 +119,7 @@ pub(crate) const REFUSALS: [Entry; 30] = [
         name: "UnknownRelease",
         kind: Kind::Refusal {
             number: 12,
-            requests: "attach, choose, unchoose, freeze, withdraw, duties, totals, release",
+            requests: "attach, choose, unchoose, freeze, withdraw, duties, totals, release, wanting",
         },
         meaning: None,
         cause: Some("a wrong name, or its opening was refused"),
@@ -128,7 +128,7 @@ pub(crate) const REFUSALS: [Entry; 30] = [
         name: "ReleaseState",
         kind: Kind::Refusal {
             number: 13,
-            requests: "attach, choose, unchoose, freeze, meet, waive, reopen, withdraw",
+            requests: "attach, choose, unchoose, freeze, meet, waive, reopen, withdraw, wanting",
         },
         meaning: None,
         cause: Some("the release is frozen, or was withdrawn"),

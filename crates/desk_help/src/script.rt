@@ -103,6 +103,9 @@ Requests, with an example of each and its reply:
   list the open duties of all releases
     > {\"ask\":\"open\"}
     < {\"rows\":[[2,\"r2\",1,\"SPDXRef-p\",\"mit\",\"MIT\",\"include-text\",\"2025-03-05\"]]}
+  list all that stands in the way of a freeze, as the refusals that a freeze would meet
+    > {\"ask\":\"wanting\",\"release\":\"r3\"}
+    < {\"rows\":[{\"at\":[1,\"SPDXRef-p\"],\"name\":\"NoChoice\",\"refused\":19}]}
 
 What is refused changes nothing, and is told with its number, its name and where it is:
 

@@ -3,6 +3,7 @@ pub mod Orders
 mod Same
 pub mod Lookups
 mod Chosen
+mod Obstacles
 pub mod Concluding
 mod Recorded
 mod Opening

@@ -22,6 +22,7 @@ use Rattle.desk_model.specs.Moves.{duty_at}
 use Rattle.desk_history.specs.FromTables.{queried_from, choice_found, duty_found, open_found}
 use Rattle.desk_history.proofs.Lookups.{is_found, release_found-tables, rules-found}
 use Rattle.desk_history.proofs.Chosen.{choice-found}
+use Rattle.desk_history.proofs.Obstacles.{wanting_told}
 use Rattle.desk_history.proofs.Moving.{changes-numbered, in_range, duty-found, known_at}
 use Rattle.desk_model.specs.declared.row.DutyRow.{DutyRow}
 use Rattle.desk_model.specs.declared.row.PackageRow.{PackageRow}
@@ -110,6 +111,7 @@ query-answer w h (query.Cheapest d p form) =
 query-answer w h query.Releases = refl
 query-answer w h query.Documents = refl
 query-answer w h query.OpenDuties = λ i. answered.OpenDuties (flat_map (λ row. open-found w h row i) (release_rows h))
+query-answer w h (query.Wanting r) = wanting_told w h r
 
 pub query_at_history : (w : Readings) (h : List Command) (q : Query) (t : Tables) → t ≡ tables w h → queried_from w t q ≡ queried w h q
 query_at_history w h q t e = ap (λ u. queried_from w u q) e ∙ query-answer w h q

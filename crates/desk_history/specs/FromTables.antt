@@ -16,6 +16,7 @@ use Rattle.desk_model.specs.declared.row.Standing.{Standing}
 use Rattle.desk_model.specs.declared.state.Word.{Word}
 use Rattle.desk_model.specs.Tables.{Tables, applied, choice_row}
 use Rattle.desk_model.specs.Answers.{load_answer, import_answer, open_answer, attach_answer, choose_answer, freeze_answer, unchoose_answer, Loading, Importing, Opening, Attaching, Choosing, Unchoosing, Freezing, Withdrawing, Closing, Moving, Concluding, Adopting, move_answer, withdraw_answer, close_answer, conclude_answer, adopt_answer, walk, is_recorded}
+use Rattle.desk_model.specs.Obstacles.{Obstacles, package_refusals, shipped_refusals, wanting_answer}
 use Rattle.desk_model.specs.Queries.{document_line, duty_line, open_duties, package_line, release_line, totals_of}
 use Rattle.desk_model.specs.Bills.{bill_answer, bill_of}
 use Rattle.desk_model.specs.Findings.{findings_answer}
@@ -26,6 +27,7 @@ use Rattle.desk_base.specs.declared.profile.Profile.{Profile}
 use Rattle.desk_base.specs.declared.profile.Profile.TheVariants.{Capitals}
 use Rattle.desk_model.specs.declared.reading.Conclusion.{Conclusion}
 use Rattle.desk_model.specs.declared.reading.Rule.{Rule}
+use Rattle.desk_model.specs.declared.refusal.Refusal.{Refusal}
 use Rattle.desk_model.specs.declared.refusal.Refusal.TheVariants as why
 use Rattle.std.specs.Str.{bytes_eq}
 use Rattle.desk_model.specs.declared.row.DocumentRow.{DocumentRow}
@@ -331,6 +333,18 @@ line_found t row = duty_line (λ q. filter (is_change_of q) t.changes) row
 abbrev pub open_found : Tables → ReleaseRow → List OpenDuty
 open_found t row = open_duties (λ q. filter (is_change_of q) t.changes) t.duty row
 
+-- what stands against a package that a release with this form ships
+abbrev pub refusals_found : Readings → Tables → List ℕ → List ℕ → PackageRow → List Refusal
+refusals_found w t r form p = package_refusals w t.adoption (rules_found t) form (conclusion_found w t p) (choice_found t r p) p
+
+-- what Wanting looks up in tables
+abbrev pub obstacles_found : Readings → Tables → List ℕ → Obstacles
+obstacles_found w t r = record {
+  state = state_found t r;
+  attached = length (attached_to t.attached r);
+  refusals = shipped_refusals w t.adoption (rules_found t) (form_found t r) (conclusion_found w t) (choice_found t r) (shipped_found t r);
+}
+
 -- what Alternatives and Cheapest look up in tables
 abbrev pub listing_found : Readings → Tables → ℕ → List ℕ → Listing
 listing_found w t d p = record {
@@ -361,3 +375,4 @@ queried_from w t (query.Bill r) =
 queried_from w t query.Releases = answered.Releases (map (release_line t.duty) t.releases)
 queried_from w t query.Documents = answered.Documents (map (document_line t.packages) t.document)
 queried_from w t query.OpenDuties = answered.OpenDuties (flat_map (open_found t) t.releases)
+queried_from w t (query.Wanting r) = wanting_answer (obstacles_found w t r)

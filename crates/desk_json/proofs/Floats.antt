@@ -6,7 +6,7 @@ use Rattle.serde_json.specs.View.{items_of}
 use Rattle.serde_json.specs.Written.{has_float, items_have_float}
 use Rattle.desk_json.specs.Parts.{duty_row, change_values, ending, change_line, finding_line, package_values, term_list, listed_release, listed_document, open_row}
 use Rattle.desk_json.specs.Refusals.{document_fault_values, catalogue_fault_values, refusal_values}
-use Rattle.desk_json.specs.Replies.{answer_reply, reply_of}
+use Rattle.desk_json.specs.Replies.{answer_reply, refusal_reply, reply_of}
 use Rattle.desk_model.specs.declared.command.Answer.{Answer}
 use Rattle.desk_model.specs.declared.command.Answer.TheVariants as answer
 use Rattle.desk_model.specs.declared.row.ChangeRow.{ChangeRow}
@@ -121,6 +121,10 @@ refusal_has_no_float why.TooMany = refl
 refusal_has_no_float why.TooManyTerms = refl
 refusal_has_no_float why.BadEnd = refl
 
+refusals_have_no_float : (refusals : List Refusal) → items_have_float (items_of (map refusal_reply refusals)) ≡ false
+refusals_have_no_float [] = refl
+refusals_have_no_float (refusal ∷ refusals) = rw (refusal_has_no_float refusal) (refusals_have_no_float refusals)
+
 answer_has_no_float : (a : Answer) → has_float (answer_reply a) ≡ false
 answer_has_no_float (answer.Revision n) = refl
 answer_has_no_float (answer.Imported n) = refl
@@ -140,6 +144,7 @@ answer_has_no_float (answer.Bill bill) = refl
 answer_has_no_float (answer.Releases lines) = rw (releases_have_no_float lines) refl
 answer_has_no_float (answer.Documents lines) = rw (documents_have_no_float lines) refl
 answer_has_no_float (answer.OpenDuties lines) = rw (open_duties_have_no_float lines) refl
+answer_has_no_float (answer.Wanting refusals) = rw (refusals_have_no_float refusals) refl
 answer_has_no_float (answer.Refused refusal) = rw (refusal_has_no_float refusal) refl
 
 pub reply_has_no_float : (o : Outcome) → has_float (reply_of o) ≡ false

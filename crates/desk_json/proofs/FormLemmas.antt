@@ -21,7 +21,7 @@ abbrev pub commands : List (List ℕ × Form)
 commands = (codes "catalogue", form.Catalogue) ∷ (codes "import", form.Import) ∷ (codes "open", form.Open) ∷ (codes "attach", form.Attach) ∷ (codes "choose", form.Choose) ∷ (codes "freeze", form.Freeze) ∷ (codes "unchoose", form.Unchoose) ∷ (codes "conclude", form.Conclude) ∷ (codes "adopt", form.Adopt) ∷ (codes "meet", form.Meet) ∷ (codes "waive", form.Waive) ∷ (codes "reopen", form.Reopen) ∷ (codes "withdraw", form.Withdraw) ∷ (codes "close", form.Close) ∷ []
 
 abbrev pub queries : List (List ℕ × Form)
-queries = (codes "duties", form.Duties) ∷ (codes "totals", form.Totals) ∷ (codes "changes", form.Changes) ∷ (codes "findings", form.Findings) ∷ (codes "release", form.Release) ∷ (codes "alternatives", form.Alternatives) ∷ (codes "cheapest", form.Cheapest) ∷ (codes "releases", form.Releases) ∷ (codes "documents", form.Documents) ∷ (codes "open", form.OpenDuties) ∷ []
+queries = (codes "duties", form.Duties) ∷ (codes "totals", form.Totals) ∷ (codes "changes", form.Changes) ∷ (codes "findings", form.Findings) ∷ (codes "release", form.Release) ∷ (codes "alternatives", form.Alternatives) ∷ (codes "cheapest", form.Cheapest) ∷ (codes "releases", form.Releases) ∷ (codes "documents", form.Documents) ∷ (codes "open", form.OpenDuties) ∷ (codes "wanting", form.Wanting) ∷ []
 
 -- whichever is chosen
 chosen : (test : Bool) (first : Form) (other : Option Form) (d : Data) (request : Request) → request_by other d ≡ request
@@ -33,7 +33,7 @@ pub command_named : (word : List ℕ) (d : Data) → request_by (named_in word c
 command_named word d = chosen _ form.Catalogue _ d _ (chosen _ form.Import _ d _ (chosen _ form.Open _ d _ (chosen _ form.Attach _ d _ (chosen _ form.Choose _ d _ (chosen _ form.Freeze _ d _ (chosen _ form.Unchoose _ d _ (chosen _ form.Conclude _ d _ (chosen _ form.Adopt _ d _ (chosen _ form.Meet _ d _ (chosen _ form.Waive _ d _ (chosen _ form.Reopen _ d _ (chosen _ form.Withdraw _ d _ (chosen _ form.Close _ d _ refl)))))))))))))
 
 pub query_named : (word : List ℕ) (d : Data) → request_by (named_in word queries) d ≡ query_request word d
-query_named word d = chosen _ form.Duties _ d _ (chosen _ form.Totals _ d _ (chosen _ form.Changes _ d _ (chosen _ form.Findings _ d _ (chosen _ form.Release _ d _ (chosen _ form.Alternatives _ d _ (chosen _ form.Cheapest _ d _ (chosen _ form.Releases _ d _ (chosen _ form.Documents _ d _ (chosen _ form.OpenDuties _ d _ refl)))))))))
+query_named word d = chosen _ form.Duties _ d _ (chosen _ form.Totals _ d _ (chosen _ form.Changes _ d _ (chosen _ form.Findings _ d _ (chosen _ form.Release _ d _ (chosen _ form.Alternatives _ d _ (chosen _ form.Cheapest _ d _ (chosen _ form.Releases _ d _ (chosen _ form.Documents _ d _ (chosen _ form.OpenDuties _ d _ (chosen _ form.Wanting _ d _ refl))))))))))
 
 -- the name at a place is the word, or the names behind it decide
 pub named_here : (word : List ℕ) (names : List Name) (place : ℕ) (name : Name) → place < length names

@@ -2,7 +2,7 @@
 use Rattle.std.specs.Prelude.{ℕ, List, [], ◌∷◌, if◌then◌else◌, Option, None, Some}
 use Rattle.std.specs.Str.{bytes_eq}
 use Rattle.serde_json.specs.Data.{Data}
-use Rattle.desk_json.specs.Requests.{catalogue_request, import_request, open_request, attach_request, choose_request, freeze_request, unchoose_request, conclude_request, adopt_request, meet_request, waive_request, reopen_request, withdraw_request, close_request, duties_request, totals_request, changes_request, findings_request, release_request, alternatives_request, cheapest_request, releases_request, documents_request, open_duties_request}
+use Rattle.desk_json.specs.Requests.{catalogue_request, import_request, open_request, attach_request, choose_request, freeze_request, unchoose_request, conclude_request, adopt_request, meet_request, waive_request, reopen_request, withdraw_request, close_request, duties_request, totals_request, changes_request, findings_request, release_request, alternatives_request, cheapest_request, releases_request, documents_request, open_duties_request, wanting_request}
 use Rattle.desk_json.specs.declared.forms.Form.{Form}
 use Rattle.desk_json.specs.declared.forms.Form.TheVariants as form
 use Rattle.desk_json.specs.declared.forms.Name.{Name}
@@ -39,6 +39,7 @@ form_request form.Cheapest d = cheapest_request d
 form_request form.Releases d = releases_request d
 form_request form.Documents d = documents_request d
 form_request form.OpenDuties d = open_duties_request d
+form_request form.Wanting d = wanting_request d
 
 -- the request of a form, if there is one
 abbrev pub request_by : Option Form → Data → Request

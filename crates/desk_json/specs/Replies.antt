@@ -63,6 +63,7 @@ answer_reply (answer.Bill bill) = bill_reply bill
 answer_reply (answer.Releases lines) = rows_reply (map listed_release lines)
 answer_reply (answer.Documents lines) = rows_reply (map listed_document lines)
 answer_reply (answer.OpenDuties lines) = rows_reply (map open_row lines)
+answer_reply (answer.Wanting refusals) = rows_reply (map refusal_reply refusals)
 answer_reply (answer.Refused refusal) = refusal_reply refusal
 
 abbrev pub fault_reply : List ℕ → Data

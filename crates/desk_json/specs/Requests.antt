@@ -189,6 +189,10 @@ documents_request d = with_members 1 d (Ask query.Documents)
 abbrev pub open_duties_request : Data → Request
 open_duties_request d = with_members 1 d (Ask query.OpenDuties)
 
+abbrev pub wanting_request : Data → Request
+wanting_request d = with_members 2 d
+    (with_text (codes "release") d (λ release. Ask (query.Wanting release)))
+
 -- the form that the word behind `ask` names
 abbrev pub query_request : List ℕ → Data → Request
 query_request word d =
@@ -202,6 +206,7 @@ query_request word d =
     else if bytes_eq word (codes "releases") then releases_request d
     else if bytes_eq word (codes "documents") then documents_request d
     else if bytes_eq word (codes "open") then open_duties_request d
+    else if bytes_eq word (codes "wanting") then wanting_request d
     else BadCommand
 
 -- the request that a value is; one with both `do` and `ask` has a member too many

@@ -30,6 +30,7 @@ pub(crate) enum Form {
     Releases,
     Documents,
     OpenDuties,
+    Wanting,
 }
 
 /// The word that names a form.
@@ -100,7 +101,7 @@ pub(crate) const COMMANDS: [Name; 14] = [
 ];
 
 /// The words behind `ask`.
-pub(crate) const QUERIES: [Name; 10] = [
+pub(crate) const QUERIES: [Name; 11] = [
     Name {
         word: "duties",
         form: Form::Duties,
@@ -140,6 +141,10 @@ pub(crate) const QUERIES: [Name; 10] = [
     Name {
         word: "open",
         form: Form::OpenDuties,
+    },
+    Name {
+        word: "wanting",
+        form: Form::Wanting,
     },
 ];
 

@@ -27,6 +27,7 @@
 //! | `alternatives` | `document`, `package` |
 //! | `cheapest` | `document`, `package`, `form` |
 //! | `releases`, `documents`, `open` | |
+//! | `wanting` | `release` |
 //!
 //! `document` and `duty` are whole numbers from 0 to 9,223,372,036,854,775,807, `profile` is 1 or 2
 //! (`desk_base::Profile`), and 1 where it is absent, `terms` is a list of texts, the others are

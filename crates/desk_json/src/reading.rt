@@ -2,7 +2,7 @@
 
 ghost use Rattle.std.specs.Prelude.{◌≡◌, IfOk};
 ghost use Rattle.serde_json.specs.View.{view};
-ghost use Rattle.desk_json.specs.Requests.{catalogue_request, import_profile, import_request, open_request, attach_request, choose_request, freeze_request, meet_request, unchoose_request, waive_until, waive_request, reopen_request, withdraw_request, close_request, conclude_request, adopt_request, duties_request, totals_request, changes_request, findings_request, release_request, alternatives_request, cheapest_request, with_members, request_of, request_in};
+ghost use Rattle.desk_json.specs.Requests.{catalogue_request, import_profile, import_request, open_request, attach_request, choose_request, freeze_request, meet_request, unchoose_request, waive_until, waive_request, reopen_request, withdraw_request, close_request, conclude_request, adopt_request, duties_request, totals_request, changes_request, findings_request, release_request, alternatives_request, cheapest_request, wanting_request, with_members, request_of, request_in};
 ghost use Rattle.desk_json.specs.Forms.{form_request, request_by};
 ghost use Rattle.desk_json.specs.declared.request.Request.TheVariants.{Ask};
 
@@ -432,6 +432,19 @@ fn read_bare(value: &Value, query: Query) -> Request
     Request::Ask(query)
 }
 
+fn read_wanting(alloc: Global, value: &Value) -> Result<Request, AllocError>
+    ensures { IfOk result (λ r. r ≡ wanting_request (view value.now)) }
+{
+    if size_of(value) != 2 {
+        return Ok(Request::BadCommand);
+    }
+    let Some(release) = text_at(value, "release") else {
+        return Ok(Request::BadCommand);
+    };
+    let release = Text::of(alloc, release)?;
+    Ok(Request::Ask(Query::Wanting { release }))
+}
+
 /// The form that the word behind `do` names, or else the one behind `ask`.
 fn form_of(value: &Value) -> Option<Form>
     ensures { request_by result (view value.now) ≡ request_of (view value.now) }
@@ -470,6 +483,7 @@ fn read_form(alloc: Global, form: Form, value: &mut Value) -> Result<Request, Al
         Form::Releases => Ok(read_bare(value, Query::Releases)),
         Form::Documents => Ok(read_bare(value, Query::Documents)),
         Form::OpenDuties => Ok(read_bare(value, Query::OpenDuties)),
+        Form::Wanting => read_wanting(alloc, value),
     }
 }
 

@@ -1,8 +1,8 @@
 //! Replies as JSON.
 
-ghost use Rattle.std.specs.Prelude.{◌≡◌, ◌∷◌, [], IfOk, codes, string_bytes};
+ghost use Rattle.std.specs.Prelude.{◌≡◌, ◌∷◌, [], IfOk, codes, map, string_bytes};
 ghost use Rattle.serde_json.specs.Data.{array, object, member, no_members};
-ghost use Rattle.serde_json.specs.View.{view, items_view};
+ghost use Rattle.serde_json.specs.View.{view, items_view, items_of};
 ghost use Rattle.desk_json.specs.Replies.{revision_reply, document_reply, done_reply, frozen_reply, closed_reply, bill_reply, refusal_reply, answer_reply, fault_reply, reply_of, reply_text, bad_command_text, fault_word};
 ghost use Rattle.desk_model.specs.declared.command.Fault.TheVariants.{Memory};
 ghost use Rattle.desk_model.specs.declared.command.Outcome.TheVariants.{Failed};
@@ -77,6 +77,18 @@ fn refusal(alloc: Global, refusal: &Refusal) -> Result<Value, AllocError>
     json!(in alloc; {"at": at, "name": name, "refused": number})
 }
 
+/// A row for each refusal.
+fn refusal_rows(alloc: Global, refusals: &[Refusal]) -> Result<Vec<Value>, AllocError>
+    ensures { IfOk result (λ rows. items_view rows.items
+        ≡ items_of (map refusal_reply refusals.now)) }
+{
+    let mut rows = Vec::new(alloc);
+    for reason in refusals {
+        rows.push(refusal(alloc, reason)?)?;
+    }
+    Ok(rows)
+}
+
 fn answer(alloc: Global, answer: &Answer) -> Result<Value, AllocError>
     ensures { IfOk result (λ v. view v ≡ answer_reply answer.now) }
 {
@@ -100,6 +112,7 @@ fn answer(alloc: Global, answer: &Answer) -> Result<Value, AllocError>
         Answer::Releases(lines) => rows(alloc, listed_releases(alloc, lines.as_slice())?),
         Answer::Documents(lines) => rows(alloc, listed_documents(alloc, lines.as_slice())?),
         Answer::OpenDuties(lines) => rows(alloc, open_rows(alloc, lines.as_slice())?),
+        Answer::Wanting(refusals) => rows(alloc, refusal_rows(alloc, refusals.as_slice())?),
         Answer::Refused(reason) => refusal(alloc, reason),
     }
 }

@@ -8,6 +8,7 @@ pub mod Raised
 pub mod Moves
 pub mod Tables
 pub mod Answers
+pub mod Obstacles
 pub mod Findings
 pub mod Listings
 pub mod Bills

@@ -9,6 +9,7 @@ use Rattle.desk_model.specs.Conclusions.{adoptions}
 use Rattle.desk_model.specs.Bills.{bill_answer, bill_of}
 use Rattle.desk_model.specs.Findings.{findings_answer}
 use Rattle.desk_model.specs.Listings.{Listing, alternatives_answer, cheapest_answer, term_cost}
+use Rattle.desk_model.specs.Obstacles.{obstacles, wanting_answer}
 use Rattle.desk_model.specs.Moves.{changes, duties}
 use Rattle.desk_model.specs.States.{is_open, is_met, is_waived, is_withdrawn}
 use Rattle.desk_model.specs.Moves.{duty_at}
@@ -130,3 +131,4 @@ queried w h (query.Bill r) =
 queried w h query.Releases = answered.Releases (map (release_line (duties w h)) (release_rows h))
 queried w h query.Documents = answered.Documents (map (document_line (packages w h)) (documents w h))
 queried w h query.OpenDuties = answered.OpenDuties (flat_map (open_duties (changes w h) (duties w h)) (release_rows h))
+queried w h (query.Wanting r) = wanting_answer (obstacles w h r)

@@ -189,6 +189,11 @@ pub enum Query {
     Documents,
     /// The open duties of all releases, release by release.
     OpenDuties,
+    /// All that stands in the way of a freeze of an open release.
+    Wanting {
+        /// The name of a release.
+        release: Text,
+    },
 }
 
 /// A duty of a release, and the day of its last change.
@@ -316,6 +321,8 @@ pub enum Answer {
     Documents(Items<DocumentLine>),
     /// The open duties of all releases, release by release, each by number.
     OpenDuties(Items<OpenDuty>),
+    /// What stands in the way of a freeze, in a freeze's order.
+    Wanting(Items<Refusal>),
     /// Nothing was recorded, for this reason.
     Refused(Refusal),
 }

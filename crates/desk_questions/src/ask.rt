@@ -13,6 +13,7 @@ use crate::findings::findings;
 use crate::listing::{alternatives, cheapest};
 use crate::lists::{documents, open_duties, releases};
 use crate::packages::release;
+use crate::wanting::wanting;
 use desk_access::store::Store;
 use desk_access::texts::Texts;
 use desk_base::{Items, Text};
@@ -124,5 +125,6 @@ pub fn answer_to<T: Texts, S: Store>(
         Query::Releases => releases(alloc, store),
         Query::Documents => documents(alloc, store),
         Query::OpenDuties => open_duties(alloc, store),
+        Query::Wanting { release } => wanting(alloc, texts, store, release),
     }
 }

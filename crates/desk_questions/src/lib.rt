@@ -8,7 +8,7 @@
 //! - `answer_to` is all questions; `ask` has those of duties, `findings` reads a document,
 //!   `packages` tells a release, `listing` the sets of terms that a conclusion is true under,
 //!   `bill` what the notices of a release are written of, `lists` all releases, documents and open
-//!   duties.
+//!   duties, `wanting` what stands in the way of a freeze.
 #![tactic(auto)]
 
 pub mod ask;
@@ -19,3 +19,4 @@ pub mod listing;
 pub mod lists;
 pub mod packages;
 mod texts;
+pub mod wanting;

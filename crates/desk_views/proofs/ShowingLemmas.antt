@@ -32,6 +32,7 @@ done b (answer.Bill bill) text e = refl
 done b (answer.Releases lines) text e = refl
 done b (answer.Documents lines) text e = refl
 done b (answer.OpenDuties lines) text e = refl
+done b (answer.Wanting refusals) text e = refl
 
 -- an outcome that has a text is an answer, which is written as that
 pub has_text : (in_columns : Bool) (o : Outcome) (text : List ℕ) (old new : Option (List ℕ)) → outcome_text in_columns o ≡ Some text → Appends old new text

@@ -23,10 +23,11 @@ use Rattle.desk_model.specs.declared.row.PackageRow.{PackageRow}
 use Rattle.desk_model.specs.declared.row.ReleaseRow.{ReleaseRow}
 use Rattle.desk_model.specs.declared.state.ReleaseState.{ReleaseState}
 use Rattle.desk_model.specs.declared.state.ReleaseState.TheVariants.{IsOpen, Frozen, Withdrawn}
-use Rattle.desk_history.specs.FromTables.{choice_found, conclusion_found, release_found, rules_found, shipped_found}
+use Rattle.desk_history.specs.FromTables.{choice_found, conclusion_found, refusals_found, release_found, rules_found, shipped_found}
 use Rattle.desk_history.proofs.Members.{in_cases, in_flat_map, in_left, in_right, from_flat_map}
 use Rattle.desk_wanting.specs.Against.{IsPrepared, StandsAgainst}
-use Rattle.desk_wanting.specs.Obstacles.{alone_or, applying, is_told, names_reference, open_wanting, refusals_found, term_refusals, told_once, unruled_alone, wanting_found}
+use Rattle.desk_model.specs.Obstacles.{alone_or, applying, is_told, names_reference, term_refusals, told_once, unruled_alone}
+use Rattle.desk_wanting.specs.Obstacles.{open_wanting, wanting_found}
 
 -- Lists
 

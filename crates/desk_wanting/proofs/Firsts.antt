@@ -22,8 +22,9 @@ use Rattle.desk_model.specs.declared.refusal.Refusal.{Refusal}
 use Rattle.desk_model.specs.declared.refusal.Refusal.TheVariants as why
 use Rattle.desk_model.specs.declared.row.AdoptionRow.{AdoptionRow}
 use Rattle.desk_model.specs.declared.row.PackageRow.{PackageRow}
-use Rattle.desk_history.specs.FromTables.{answer_from, choice_found, conclusion_found, form_found, owed_found, rules_found, shipped_found, state_found}
-use Rattle.desk_wanting.specs.Obstacles.{alone_or, applying, is_told, package_refusals, refusals_found, term_refusals, told_once, unruled_alone, wanting_found}
+use Rattle.desk_history.specs.FromTables.{answer_from, choice_found, conclusion_found, form_found, owed_found, refusals_found, rules_found, shipped_found, state_found}
+use Rattle.desk_model.specs.Obstacles.{alone_or, applying, is_told, package_refusals, term_refusals, told_once, unruled_alone}
+use Rattle.desk_wanting.specs.Obstacles.{wanting_found}
 
 abbrev first : List Refusal → Option Refusal
 first [] = None

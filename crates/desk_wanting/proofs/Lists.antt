@@ -4,7 +4,7 @@ use Rattle.std.specs.Prelude.{◌==◌, not, if◌then◌else◌}
 use Rattle.std.specs.List.{cons_option, filter_map, flat_map, list_any}
 use Rattle.std.proofs.lemmas.Bool.Decides.{nat_tests}
 use Rattle.std.proofs.lemmas.List.{append-nil}
-use Rattle.desk_wanting.specs.Obstacles.{is_told, told_once}
+use Rattle.desk_model.specs.Obstacles.{is_told, told_once}
 use Rattle.desk_model.specs.declared.refusal.Refusal.{Refusal}
 
 -- an item and those after it

@@ -10,9 +10,10 @@ use Rattle.desk_model.specs.History.{attached_to}
 use Rattle.desk_model.specs.Answers.{first_refusal, unless, unready}
 use Rattle.desk_model.specs.declared.refusal.Refusal.{Refusal}
 use Rattle.desk_model.specs.declared.refusal.Refusal.TheVariants as why
-use Rattle.desk_history.specs.FromTables.{form_found, shipped_found, state_found}
+use Rattle.desk_history.specs.FromTables.{form_found, refusals_found, shipped_found, state_found}
 use Rattle.desk_wanting.proofs.Against.{named}
-use Rattle.desk_wanting.specs.Obstacles.{alone_or, is_told, names_reference, open_wanting, refusals_found, told_once, wanting_found}
+use Rattle.desk_model.specs.Obstacles.{alone_or, is_told, names_reference, told_once}
+use Rattle.desk_wanting.specs.Obstacles.{open_wanting, wanting_found}
 
 module _ (d : ℕ) (reference : List ℕ) where
   abbrev names : Refusal → Bool

@@ -19,7 +19,8 @@ ghost use Rattle.desk_model.specs.declared.row.ReleaseRow.{ReleaseRow};
 ghost use Rattle.desk_model.specs.declared.state.ReleaseState.TheVariants.{IsOpen};
 ghost use Rattle.desk_history.specs.FromTables.{answer_from, owed_found, release_found, shipped_found};
 ghost use Rattle.desk_wanting.specs.Against.{IsPrepared, StandsAgainst};
-ghost use Rattle.desk_wanting.specs.Obstacles.{names_reference, wanting_found};
+ghost use Rattle.desk_model.specs.Obstacles.{names_reference};
+ghost use Rattle.desk_wanting.specs.Obstacles.{wanting_found};
 
 /// Over any tables, a freeze at a day of the calendar is refused with the first refusal of the list
 /// (`refused`). If there is none, it is accepted where its duties fit (`accepted`), and else

@@ -2,7 +2,7 @@
 //! alone.
 //!
 //! - `wanting` lists the refusals in the order in which a freeze meets them: the first is the one
-//!   that a freeze of today is refused with.
+//!   that a freeze of today is refused with. `open_wanting` does so for a release that is open.
 //! - `idle_documents` lists the attached documents that ship no package. They raise no duty, and no
 //!   refusal names them.
 //!
@@ -25,4 +25,4 @@ pub use laws::{
     freeze_meets_the_first_refusal, list_holds_what_stands_against_a_freeze,
     recorded_freeze_meets_the_first_refusal,
 };
-pub use release::wanting;
+pub use release::{open_wanting, wanting};

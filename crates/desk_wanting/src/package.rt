@@ -6,7 +6,8 @@ ghost use Rattle.desk_model.specs.Readings.{Readings};
 ghost use Rattle.desk_model.specs.Faults.{MayFail};
 ghost use Rattle.desk_model.specs.Answers.{unchosen, unconcluded};
 ghost use Rattle.desk_access.specs.Seen.{Looked, OfRows};
-ghost use Rattle.desk_wanting.specs.Obstacles.{applying, refusals_found};
+ghost use Rattle.desk_history.specs.FromTables.{refusals_found};
+ghost use Rattle.desk_model.specs.Obstacles.{applying};
 
 use crate::term::{add_refusal, term_refusals};
 use desk_access::store::Store;

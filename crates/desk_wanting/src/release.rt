@@ -24,8 +24,13 @@ fn alone(alloc: Global, refusal: Refusal) -> Result<Vec<Refusal>, AllocError>
     Ok(refusals)
 }
 
-/// What stands in the way of a freeze of an open release with this form.
-fn open_wanting<T: Texts, S: Store>(
+/// What stands in the way of a freeze of an open release with this form, in the order in which a
+/// freeze meets it.
+///
+/// # Errors
+///
+/// The store's fault, or out of memory.
+pub fn open_wanting<T: Texts, S: Store>(
     alloc: Global,
     texts: &T,
     store: &mut S,

@@ -7,7 +7,7 @@ ghost use Rattle.desk_model.specs.Faults.{MayFail};
 ghost use Rattle.desk_model.specs.Answers.{unadopted};
 ghost use Rattle.desk_history.specs.FromTables.{rules_found};
 ghost use Rattle.desk_access.specs.Seen.{Looked, OfRows};
-ghost use Rattle.desk_wanting.specs.Obstacles.{term_refusals, unruled_alone};
+ghost use Rattle.desk_model.specs.Obstacles.{term_refusals, unruled_alone};
 
 use desk_access::store::Store;
 use desk_access::texts::Texts;

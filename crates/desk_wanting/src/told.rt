@@ -2,7 +2,7 @@
 
 ghost use Rattle.std.specs.Prelude.{◌≡◌, ◌++◌, ◌∷◌, [], IfOk, OnOk, if◌then◌else◌};
 ghost use Rattle.std.specs.List.{list_any};
-ghost use Rattle.desk_wanting.specs.Obstacles.{is_told, names_reference, told_once};
+ghost use Rattle.desk_model.specs.Obstacles.{is_told, names_reference, told_once};
 
 use desk_base::Text;
 use desk_model::Refusal;

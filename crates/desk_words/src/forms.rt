@@ -164,7 +164,7 @@ pub(crate) const COMMANDS: [Form; 14] = [
 ];
 
 /// The forms that a word behind `ask` names.
-pub(crate) const QUERIES: [Form; 10] = [
+pub(crate) const QUERIES: [Form; 11] = [
     Form {
         word: "duties",
         keys: &[RELEASE],
@@ -204,6 +204,10 @@ pub(crate) const QUERIES: [Form; 10] = [
     Form {
         word: "open",
         keys: &[],
+    },
+    Form {
+        word: "wanting",
+        keys: &[RELEASE],
     },
 ];
 

@@ -1,6 +1,6 @@
 use Rattle.std.specs.List.{flat_map}
 use Rattle.desk_access.proofs.Chains.{looked_err, same_then_kept, same_then_same}
-use Rattle.desk_wanting.specs.Obstacles.{refusals_found}
+use Rattle.desk_history.specs.FromTables.{refusals_found}
 use Rattle.desk_wanting.proofs.Lists.{flat_map_step}
 use Rattle.desk_wanting.proofs.package.refusals_of.Goals as goal
 

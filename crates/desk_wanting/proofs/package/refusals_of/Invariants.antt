@@ -2,7 +2,7 @@ use Rattle.std.proofs.Common.{◌≡◌, ◌++◌, drop}
 use Rattle.std.specs.List.{flat_map}
 use Rattle.desk_model.specs.Readings.{Readings}
 use Rattle.desk_access.specs.Seen.{Same, OfRows}
-use Rattle.desk_wanting.specs.Obstacles.{refusals_found}
+use Rattle.desk_history.specs.FromTables.{refusals_found}
 use Rattle.desk_wanting.proofs.package.refusals_of.Given as goal
 
 abbrev pub invariant-loop-row : goal.invariant-loop-row

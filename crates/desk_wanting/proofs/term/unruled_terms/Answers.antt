@@ -1,6 +1,6 @@
 use Rattle.std.specs.List.{filter_map}
 use Rattle.desk_history.specs.FromTables.{rules_found}
-use Rattle.desk_wanting.specs.Obstacles.{unruled_alone}
+use Rattle.desk_model.specs.Obstacles.{unruled_alone}
 use Rattle.desk_access.proofs.Chains.{looked_err, same_then_kept, same_then_same}
 use Rattle.desk_wanting.proofs.Lists.{filter_map_step}
 use Rattle.desk_wanting.proofs.term.unruled_terms.Goals as goal

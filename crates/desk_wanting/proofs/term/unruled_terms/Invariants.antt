@@ -2,7 +2,7 @@ use Rattle.std.proofs.Common.{◌≡◌, ◌++◌, drop}
 use Rattle.std.specs.List.{filter_map}
 use Rattle.desk_model.specs.Readings.{Readings}
 use Rattle.desk_history.specs.FromTables.{rules_found}
-use Rattle.desk_wanting.specs.Obstacles.{unruled_alone}
+use Rattle.desk_model.specs.Obstacles.{unruled_alone}
 use Rattle.desk_access.specs.Seen.{Same, OfRows}
 use Rattle.desk_wanting.proofs.term.unruled_terms.Given as goal
 
