@@ -176,16 +176,23 @@ def forms_of_requests():
     """The words behind `do` and `ask`, each with the members that its form must have, by the definition."""
     text = text_of("crates/desk_json/specs/Requests.antt")
     bodies = dict(re.findall(r"^(\w+)_request \w+ = (.*\n(?: .*\n)*)", text, flags=re.M))
-    words = re.findall(r'bytes_eq word \(codes "(\w+)"\) then (\w+)_request', text)
-    return {word: set(re.findall(r'with_\w+ \(codes "(\w+)"\)', bodies[name])) for word, name in words}
+    commands, _, questions = text.partition("\nquery_request word d =\n")
+    forms = {}
+    for first, part in (("do", commands), ("ask", questions)):
+        for word, name in re.findall(r'bytes_eq word \(codes "(\w+)"\) then (\w+)_request', part):
+            forms[first, word] = set(re.findall(r'with_\w+ \(codes "(\w+)"\)', bodies[name]))
+    return forms
 
 
 def forms_of_head():
     """The members of each form by the head of the crate that reads them, without those that may be left out."""
-    forms = {}
-    for names, members in re.findall(r"^//! \| (`.*`) \| (`.*) \|$", text_of("crates/desk_json/src/lib.rt"), flags=re.M):
+    forms, first = {}, None
+    for names, members in re.findall(r"^//! \| (`.*`) \| (.*)\|$", text_of("crates/desk_json/src/lib.rt"), flags=re.M):
+        if members == "Other members ":
+            first = names.strip("`")
+            continue
         needed = members.partition(", and perhaps")[0]
-        forms.update((name, set(re.findall(r"`(\w+)`", needed))) for name in re.findall(r"`(\w+)`", names))
+        forms.update(((first, name), set(re.findall(r"`(\w+)`", needed))) for name in re.findall(r"`(\w+)`", names))
     return forms
 
 
@@ -194,8 +201,22 @@ def forms_in_words():
     text = text_of("crates/desk_words/src/forms.rt")
     keys = re.findall(r'^const (\w+): Key = Key \{\n +name: "(\w+)",\n +wanted: .*\n +is_optional: (\w+),', text, flags=re.M)
     needed = {constant: name for constant, name, is_optional in keys if is_optional == "false"}
-    forms = re.findall(r'word: "(\w+)",\s*keys: &\[([^\]]*)\]', text)
-    return {word: {needed[key] for key in re.findall(r"\w+", listed) if key in needed} for word, listed in forms}
+    forms = {}
+    for first, names in (("do", "COMMANDS"), ("ask", "QUERIES")):
+        listed = re.search(rf"^pub\(crate\) const {names}: .*?^\];$", text, flags=re.M | re.S).group()
+        for word, members in re.findall(r'word: "(\w+)",\s*keys: &\[([^\]]*)\]', listed):
+            forms[first, word] = {needed[key] for key in re.findall(r"\w+", members) if key in needed}
+    return forms
+
+
+def sections_of_requests():
+    """What docs/REQUESTS.md says of each form, commands behind `do` and questions behind `ask`."""
+    page, sections = text_of("docs/REQUESTS.md"), {}
+    for first, part in (("do", "Commands"), ("ask", "Questions")):
+        text = re.split(r"^## ", page.split(f"\n## {part}\n", 1)[1], maxsplit=1, flags=re.M)[0]
+        for line, word in re.findall(r"^(### (\w+): .*)$", text, flags=re.M):
+            sections[first, word] = section(text, line)
+    return sections
 
 
 def check_requests():
@@ -203,15 +224,13 @@ def check_requests():
     forms = forms_of_requests()
     compare("the head of desk_json", forms_of_head(), forms)
     compare("the forms of desk_words", forms_in_words(), forms)
-    page = text_of("docs/REQUESTS.md")
-    headings = re.findall(r"^### (\w+): ", page, flags=re.M)
-    compare("the sections of docs/REQUESTS.md", {name: name for name in headings}, {name: name for name in forms})
-    sections = {name: section(page, line) for line, name in re.findall(r"^(### (\w+): .*)$", page, flags=re.M)}
+    sections = sections_of_requests()
+    compare("the sections of docs/REQUESTS.md", {name: name for name in sections}, {name: name for name in forms})
     for place, texts in (("docs/REQUESTS.md", sections), ("the help of script", dict.fromkeys(forms, text_of(HELP)))):
-        for name, members in forms.items():
-            shown = re.findall(rf'^ *> (\{{"(?:do|ask)":"{name}",.*\}})$', texts.get(name, ""), flags=re.M)
+        for (first, word), members in forms.items():
+            shown = re.findall(rf'^ *> (\{{"{first}":"{word}"(?:,.*)?\}})$', texts.get((first, word), ""), flags=re.M)
             if not any(set(json.loads(request)) - {"do", "ask", "profile", "until"} == members for request in shown):
-                failures.append(f"{place} has no {name} with {', '.join(sorted(members))}")
+                failures.append(f"{place} has no {first} {word} with {', '.join(sorted(members))}")
 
 
 def check_decisions():

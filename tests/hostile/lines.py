@@ -82,7 +82,7 @@ def grown(turn):
     kind = turn.choice(KINDS if first == "do" else list(requests_read.QUESTIONS))
     if turn.random() > RARE.get(kind, 1) and first == "do":
         kind = turn.choice(["choose", "meet", "waive", "reopen"])
-    keys = (requests_read.KEYS if first == "do" else requests_read.QUESTIONS)[kind].split(" ")
+    keys = (requests_read.KEYS if first == "do" else requests_read.QUESTIONS)[kind].split()
     if kind in requests_read.MAY_BE_LEFT_OUT and first == "do" and turn.random() < 0.4:
         keys = [*keys, requests_read.MAY_BE_LEFT_OUT[kind]]
     of_key = values(turn)

@@ -10,7 +10,8 @@ KEYS = {
 }
 QUESTIONS = {
     "duties": "release", "totals": "release", "changes": "duty", "findings": "document", "release": "release",
-    "alternatives": "document package", "cheapest": "document form package",
+    "alternatives": "document package", "cheapest": "document form package", "releases": "", "documents": "", "open": "",
+    "wanting": "release",
 }
 MAY_BE_LEFT_OUT = {"import": "profile", "waive": "until"}
 NUMBERS = {"document", "duty", "profile"}
@@ -61,7 +62,7 @@ def keys_of(request):
     for first, kinds in (("do", KEYS), ("ask", QUESTIONS)):
         kind = request.get(first)
         if is_text(kind) and kind in kinds:
-            return {first, *kinds[kind].split(" ")}, {MAY_BE_LEFT_OUT.get(kind, first)} if first == "do" else set()
+            return {first, *kinds[kind].split()}, {MAY_BE_LEFT_OUT.get(kind, first)} if first == "do" else set()
     return None, None
 
 

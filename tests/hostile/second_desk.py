@@ -333,3 +333,37 @@ class SecondDesk:
 
         paid = [(sum(map(cost, some)), place, some) for place, some in enumerate(sets) if None not in map(cost, some)]
         return {"rows": [[total, [term.decode() for term in some]] for total, _, some in [min(paid)]] if paid else []}
+
+    def ask_releases(self, request):
+        rows = []
+        for name in sorted(self.releases):
+            release = self.releases[name]
+            rows.append([name, release.form, release.state, release.revision, *self.ask_totals({"release": name})["rows"][0]])
+        return {"rows": rows}
+
+    def ask_documents(self, request):
+        rows = [[document.read.namespace.decode(), 1 + (document.profile != second_judge.CAPITALS), len(document.shipped())] for document in self.documents]
+        return {"rows": [[number, *row] for number, row in enumerate(rows, 1)]}
+
+    def ask_open(self, request):
+        duties = [duty for name in sorted(self.releases) for duty in self.releases[name].duties if duty.state == "open"]
+        return {"rows": [[duty.number, duty.release.name, *duty.row, duty.changes[-1][1]] for duty in duties]}
+
+    def stands_against(self, release, number, package):
+        """The refusals against a package, each with its values."""
+        document, rules = self.documents[number - 1], self.rules()
+        terms = release.choices.get((number, package), [])
+        adopted = {term: second_lists.adopted(document.adopted, term) for term in terms}
+        lacks_conclusion = document.concluded(package)[1] is None
+        return [
+            *([(16, number, package)] if lacks_conclusion else []),
+            *([] if terms else [(19, number, package)]),
+            *((21, number, term.partition(b" WITH ")[0].decode()) for term in terms if adopted[term] is None),
+            *((22, number, package, term.decode()) for term in terms if adopted[term] and (adopted[term], release.form) not in rules),
+        ]
+
+    def ask_wanting(self, request):
+        release = self.release(request)
+        refuse_if(release.state != "open", 13, release.state)
+        found = [refusal for number, name in self.shipped(release) for refusal in self.stands_against(release, number, name)]
+        return {"rows": [Refused(*refusal).told for refusal in (dict.fromkeys(found) if release.documents else [(20,)])]}
