@@ -1,4 +1,4 @@
 pub mod Days
-pub mod Floats
+pub mod RowTexts
 pub mod Texts
 pub mod FormLemmas

@@ -1,7 +1,10 @@
 pub mod Fields
+pub mod Unread
 pub mod Requests
 pub mod Forms
 pub mod Parts
 pub mod Cells
 pub mod Refusals
 pub mod Replies
+pub mod Rows
+pub mod Integers

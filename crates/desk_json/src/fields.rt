@@ -1,9 +1,10 @@
 //! Reads the members of a JSON object.
 
-ghost use Rattle.std.specs.Prelude.{◌≡◌, IfOk, option_map};
+ghost use Rattle.std.specs.Prelude.{◌≡◌, ◌==◌, true, false, IfOk, IfErr, Some, None, option_map};
 ghost use Rattle.std.specs.String.{string_bytes};
 ghost use Rattle.serde_json.specs.View.{view, items_view};
 ghost use Rattle.desk_json.specs.Fields.{size, text_in, number_in, profile_in, texts, texts_in};
+ghost use Rattle.desk_json.specs.Unread.{IsFound};
 
 use desk_base::{Items, Profile, Text, limits};
 use serde_json::Value;
@@ -43,7 +44,7 @@ pub(crate) fn take_text(value: &mut Value, key: &str) -> Option<String>
 }
 
 /// The whole number of a member.
-pub(crate) fn number_at(value: &Value, key: &str) -> Option<u64>
+fn number_at(value: &Value, key: &str) -> Option<u64>
     ensures { result ≡ number_in key.now (view value.now) }
 {
     match value.get(key) {
@@ -77,11 +78,7 @@ fn texts_of(alloc: Global, list: &[Value]) -> Result<Option<Items<Text>>, AllocE
 }
 
 /// Copies of the texts of a member that is a list of texts.
-pub(crate) fn texts_at(
-    alloc: Global,
-    value: &Value,
-    key: &str,
-) -> Result<Option<Items<Text>>, AllocError>
+fn texts_at(alloc: Global, value: &Value, key: &str) -> Result<Option<Items<Text>>, AllocError>
     ensures { IfOk result (λ r. r ≡ texts_in key.now (view value.now)) }
 {
     match value.get(key) {
@@ -90,5 +87,66 @@ pub(crate) fn texts_at(
             None => Ok(None),
         },
         None => Ok(None),
+    }
+}
+
+/// Why a value gives no request.
+#[derive(Clone, Copy, Debug, Drop)]
+pub(crate) enum Unread {
+    /// It is none.
+    BadCommand,
+    /// There is no memory for it.
+    Memory,
+}
+
+impl From<AllocError> for Unread {
+    ghost use Rattle.std.specs.Prelude.{◌≡◌};
+    ghost use Rattle.desk_json.specs.declared.fields.Unread.TheVariants.{Memory};
+
+    ghost from_gives = { λ _ unread. unread ≡ Memory };
+
+    fn from(_error: AllocError) -> Unread {
+        Unread::Memory
+    }
+}
+
+/// Refuses an object that hasn't so many members.
+pub(crate) fn require_members(value: &Value, count: usize) -> Result<(), Unread>
+    ensures right { IfOk result (λ _. (size (view value.now) == count) ≡ true) }
+    ensures wrong { IfErr result (λ why. (size (view value.now) == count) ≡ false) }
+    ensures why { IfErr result (λ why. why ≡ Unread.BadCommand) }
+{
+    if size_of(value) == count {
+        Ok(())
+    } else {
+        Err(Unread::BadCommand)
+    }
+}
+
+/// A copy of the text of a member.
+pub(crate) fn wanted_text(alloc: Global, value: &Value, key: &str) -> Result<Text, Unread>
+    ensures { IsFound (text_in key.now (view value.now)) result }
+{
+    match text_at(value, key) {
+        Some(text) => Ok(Text::of(alloc, text)?),
+        None => Err(Unread::BadCommand),
+    }
+}
+
+/// The whole number of a member.
+pub(crate) fn wanted_number(value: &Value, key: &str) -> Result<u64, Unread>
+    ensures found { IsFound (number_in key.now (view value.now)) result }
+    ensures why { IfErr result (λ why. why ≡ Unread.BadCommand) }
+{
+    number_at(value, key).ok_or(Unread::BadCommand)
+}
+
+/// Copies of the texts of a member that is a list of texts.
+pub(crate) fn wanted_texts(alloc: Global, value: &Value, key: &str) -> Result<Items<Text>, Unread>
+    ensures { IsFound (texts_in key.now (view value.now)) result }
+{
+    match texts_at(alloc, value, key)? {
+        Some(texts) => Ok(texts),
+        None => Err(Unread::BadCommand),
     }
 }

@@ -50,6 +50,7 @@ mod reading;
 mod refusals;
 mod replies;
 mod request;
+mod row;
 mod rows;
 
 pub use reading::read_command;

@@ -4,9 +4,13 @@ ghost use Rattle.std.specs.Prelude.{◌≡◌, IfOk};
 ghost use Rattle.serde_json.specs.View.{view};
 ghost use Rattle.desk_json.specs.Requests.{catalogue_request, import_profile, import_request, open_request, attach_request, choose_request, freeze_request, meet_request, unchoose_request, waive_until, waive_request, reopen_request, withdraw_request, close_request, conclude_request, adopt_request, duties_request, totals_request, changes_request, findings_request, release_request, alternatives_request, cheapest_request, wanting_request, with_members, request_of, request_in};
 ghost use Rattle.desk_json.specs.Forms.{form_request, request_by};
+ghost use Rattle.desk_json.specs.Unread.{IsFound, IsRead};
 ghost use Rattle.desk_json.specs.declared.request.Request.TheVariants.{Ask};
 
-use crate::fields::{number_at, profile_at, size_of, take_text, text_at, texts_at};
+use crate::fields::{
+    Unread, profile_at, require_members, size_of, take_text, text_at, wanted_number, wanted_text,
+    wanted_texts,
+};
 use crate::forms::{COMMANDS, Form, QUERIES, form_named};
 use crate::request::Request;
 use desk_base::{Items, Text};
@@ -14,16 +18,11 @@ use desk_model::{Command, Profile, Query};
 use serde_json::Value;
 use std::alloc::{AllocError, Global};
 
-fn read_catalogue(alloc: Global, value: &Value) -> Result<Request, AllocError>
-    ensures { IfOk result (λ r. r ≡ catalogue_request (view value.now)) }
+fn read_catalogue(alloc: Global, value: &Value) -> Result<Request, Unread>
+    ensures { IsRead (catalogue_request (view value.now)) result }
 {
-    if size_of(value) != 2 {
-        return Ok(Request::BadCommand);
-    }
-    let Some(text) = text_at(value, "text") else {
-        return Ok(Request::BadCommand);
-    };
-    let text = Text::of(alloc, text)?;
+    require_members(value, 2)?;
+    let text = wanted_text(alloc, value, "text")?;
     Ok(Request::Act(Command::LoadCatalogue { text }))
 }
 
@@ -38,74 +37,47 @@ fn import_profile(value: &Value) -> Option<Profile>
     }
 }
 
-fn read_import(value: &mut Value) -> Request
-    ensures { result ≡ import_request (view value.old) }
+fn read_import(value: &mut Value) -> Result<Request, Unread>
+    ensures { IsRead (import_request (view value.old)) result }
 {
     let Some(profile) = import_profile(value) else {
-        return Request::BadCommand;
+        return Err(Unread::BadCommand);
     };
     let Some(text) = take_text(value, "text") else {
-        return Request::BadCommand;
+        return Err(Unread::BadCommand);
     };
-    Request::Act(Command::Import {
+    Ok(Request::Act(Command::Import {
         bytes: Items::from_vec(text.into_bytes()),
         profile,
-    })
+    }))
 }
 
-fn read_open(alloc: Global, value: &Value) -> Result<Request, AllocError>
-    ensures { IfOk result (λ r. r ≡ open_request (view value.now)) }
+fn read_open(alloc: Global, value: &Value) -> Result<Request, Unread>
+    ensures { IsRead (open_request (view value.now)) result }
 {
-    if size_of(value) != 3 {
-        return Ok(Request::BadCommand);
-    }
-    let Some(release) = text_at(value, "release") else {
-        return Ok(Request::BadCommand);
-    };
-    let Some(form) = text_at(value, "form") else {
-        return Ok(Request::BadCommand);
-    };
-    let release = Text::of(alloc, release)?;
-    let form = Text::of(alloc, form)?;
+    require_members(value, 3)?;
+    let release = wanted_text(alloc, value, "release")?;
+    let form = wanted_text(alloc, value, "form")?;
     Ok(Request::Act(Command::OpenRelease { release, form }))
 }
 
-fn read_attach(alloc: Global, value: &Value) -> Result<Request, AllocError>
-    ensures { IfOk result (λ r. r ≡ attach_request (view value.now)) }
+fn read_attach(alloc: Global, value: &Value) -> Result<Request, Unread>
+    ensures { IsRead (attach_request (view value.now)) result }
 {
-    if size_of(value) != 3 {
-        return Ok(Request::BadCommand);
-    }
-    let Some(release) = text_at(value, "release") else {
-        return Ok(Request::BadCommand);
-    };
-    let Some(document) = number_at(value, "document") else {
-        return Ok(Request::BadCommand);
-    };
-    let release = Text::of(alloc, release)?;
+    require_members(value, 3)?;
+    let release = wanted_text(alloc, value, "release")?;
+    let document = wanted_number(value, "document")?;
     Ok(Request::Act(Command::Attach { release, document }))
 }
 
-fn read_choose(alloc: Global, value: &Value) -> Result<Request, AllocError>
-    ensures { IfOk result (λ r. r ≡ choose_request (view value.now)) }
+fn read_choose(alloc: Global, value: &Value) -> Result<Request, Unread>
+    ensures { IsRead (choose_request (view value.now)) result }
 {
-    if size_of(value) != 5 {
-        return Ok(Request::BadCommand);
-    }
-    let Some(release) = text_at(value, "release") else {
-        return Ok(Request::BadCommand);
-    };
-    let Some(document) = number_at(value, "document") else {
-        return Ok(Request::BadCommand);
-    };
-    let Some(package_id) = text_at(value, "package") else {
-        return Ok(Request::BadCommand);
-    };
-    let Some(terms) = texts_at(alloc, value, "terms")? else {
-        return Ok(Request::BadCommand);
-    };
-    let release = Text::of(alloc, release)?;
-    let package_id = Text::of(alloc, package_id)?;
+    require_members(value, 5)?;
+    let release = wanted_text(alloc, value, "release")?;
+    let document = wanted_number(value, "document")?;
+    let package_id = wanted_text(alloc, value, "package")?;
+    let terms = wanted_texts(alloc, value, "terms")?;
     Ok(Request::Act(Command::Choose {
         release,
         document,
@@ -114,98 +86,43 @@ fn read_choose(alloc: Global, value: &Value) -> Result<Request, AllocError>
     }))
 }
 
-fn read_freeze(alloc: Global, value: &Value) -> Result<Request, AllocError>
-    ensures { IfOk result (λ r. r ≡ freeze_request (view value.now)) }
+fn read_freeze(alloc: Global, value: &Value) -> Result<Request, Unread>
+    ensures { IsRead (freeze_request (view value.now)) result }
 {
-    if size_of(value) != 3 {
-        return Ok(Request::BadCommand);
-    }
-    let Some(release) = text_at(value, "release") else {
-        return Ok(Request::BadCommand);
-    };
-    let Some(day) = text_at(value, "day") else {
-        return Ok(Request::BadCommand);
-    };
-    let release = Text::of(alloc, release)?;
-    let day = Text::of(alloc, day)?;
+    require_members(value, 3)?;
+    let release = wanted_text(alloc, value, "release")?;
+    let day = wanted_text(alloc, value, "day")?;
     Ok(Request::Act(Command::Freeze { release, day }))
 }
 
-fn read_meet(alloc: Global, value: &Value) -> Result<Request, AllocError>
-    ensures { IfOk result (λ r. r ≡ meet_request (view value.now)) }
+fn read_meet(alloc: Global, value: &Value) -> Result<Request, Unread>
+    ensures { IsRead (meet_request (view value.now)) result }
 {
-    if size_of(value) != 4 {
-        return Ok(Request::BadCommand);
-    }
-    let Some(duty) = number_at(value, "duty") else {
-        return Ok(Request::BadCommand);
-    };
-    let Some(day) = text_at(value, "day") else {
-        return Ok(Request::BadCommand);
-    };
-    let Some(text) = text_at(value, "text") else {
-        return Ok(Request::BadCommand);
-    };
-    let day = Text::of(alloc, day)?;
-    let text = Text::of(alloc, text)?;
+    require_members(value, 4)?;
+    let duty = wanted_number(value, "duty")?;
+    let day = wanted_text(alloc, value, "day")?;
+    let text = wanted_text(alloc, value, "text")?;
     Ok(Request::Act(Command::Meet { duty, day, text }))
 }
 
-fn read_unchoose(alloc: Global, value: &Value) -> Result<Request, AllocError>
-    ensures { IfOk result (λ r. r ≡ unchoose_request (view value.now)) }
-{
-    if size_of(value) != 4 {
-        return Ok(Request::BadCommand);
-    }
-    let Some(release) = text_at(value, "release") else {
-        return Ok(Request::BadCommand);
-    };
-    let Some(document) = number_at(value, "document") else {
-        return Ok(Request::BadCommand);
-    };
-    let Some(package_id) = text_at(value, "package") else {
-        return Ok(Request::BadCommand);
-    };
-    let release = Text::of(alloc, release)?;
-    let package_id = Text::of(alloc, package_id)?;
-    Ok(Request::Act(Command::Unchoose {
-        release,
-        document,
-        package_id,
-    }))
-}
-
 /// The last day of a waiver, where the request has room for one.
-fn waive_until(alloc: Global, value: &Value) -> Result<Option<Option<Text>>, AllocError>
-    ensures { IfOk result (λ r. r ≡ waive_until (view value.now)) }
+fn waive_until(alloc: Global, value: &Value) -> Result<Option<Text>, Unread>
+    ensures { IsFound (waive_until (view value.now)) result }
 {
     match size_of(value) {
-        4 => Ok(Some(None)),
-        5 => match text_at(value, "until") {
-            Some(day) => Ok(Some(Some(Text::of(alloc, day)?))),
-            None => Ok(None),
-        },
-        _ => Ok(None),
+        4 => Ok(None),
+        5 => Ok(Some(wanted_text(alloc, value, "until")?)),
+        _ => Err(Unread::BadCommand),
     }
 }
 
-fn read_waive(alloc: Global, value: &Value) -> Result<Request, AllocError>
-    ensures { IfOk result (λ r. r ≡ waive_request (view value.now)) }
+fn read_waive(alloc: Global, value: &Value) -> Result<Request, Unread>
+    ensures { IsRead (waive_request (view value.now)) result }
 {
-    let Some(until) = waive_until(alloc, value)? else {
-        return Ok(Request::BadCommand);
-    };
-    let Some(duty) = number_at(value, "duty") else {
-        return Ok(Request::BadCommand);
-    };
-    let Some(day) = text_at(value, "day") else {
-        return Ok(Request::BadCommand);
-    };
-    let Some(text) = text_at(value, "text") else {
-        return Ok(Request::BadCommand);
-    };
-    let day = Text::of(alloc, day)?;
-    let text = Text::of(alloc, text)?;
+    let until = waive_until(alloc, value)?;
+    let duty = wanted_number(value, "duty")?;
+    let day = wanted_text(alloc, value, "day")?;
+    let text = wanted_text(alloc, value, "text")?;
     Ok(Request::Act(Command::Waive {
         duty,
         day,
@@ -214,43 +131,37 @@ fn read_waive(alloc: Global, value: &Value) -> Result<Request, AllocError>
     }))
 }
 
-fn read_reopen(alloc: Global, value: &Value) -> Result<Request, AllocError>
-    ensures { IfOk result (λ r. r ≡ reopen_request (view value.now)) }
+fn read_reopen(alloc: Global, value: &Value) -> Result<Request, Unread>
+    ensures { IsRead (reopen_request (view value.now)) result }
 {
-    if size_of(value) != 4 {
-        return Ok(Request::BadCommand);
-    }
-    let Some(duty) = number_at(value, "duty") else {
-        return Ok(Request::BadCommand);
-    };
-    let Some(day) = text_at(value, "day") else {
-        return Ok(Request::BadCommand);
-    };
-    let Some(text) = text_at(value, "text") else {
-        return Ok(Request::BadCommand);
-    };
-    let day = Text::of(alloc, day)?;
-    let text = Text::of(alloc, text)?;
+    require_members(value, 4)?;
+    let duty = wanted_number(value, "duty")?;
+    let day = wanted_text(alloc, value, "day")?;
+    let text = wanted_text(alloc, value, "text")?;
     Ok(Request::Act(Command::Reopen { duty, day, text }))
 }
 
-fn read_conclude(alloc: Global, value: &Value) -> Result<Request, AllocError>
-    ensures { IfOk result (λ r. r ≡ conclude_request (view value.now)) }
+fn read_unchoose(alloc: Global, value: &Value) -> Result<Request, Unread>
+    ensures { IsRead (unchoose_request (view value.now)) result }
 {
-    if size_of(value) != 4 {
-        return Ok(Request::BadCommand);
-    }
-    let Some(document) = number_at(value, "document") else {
-        return Ok(Request::BadCommand);
-    };
-    let Some(package_id) = text_at(value, "package") else {
-        return Ok(Request::BadCommand);
-    };
-    let Some(expression) = text_at(value, "expression") else {
-        return Ok(Request::BadCommand);
-    };
-    let package_id = Text::of(alloc, package_id)?;
-    let expression = Text::of(alloc, expression)?;
+    require_members(value, 4)?;
+    let release = wanted_text(alloc, value, "release")?;
+    let document = wanted_number(value, "document")?;
+    let package_id = wanted_text(alloc, value, "package")?;
+    Ok(Request::Act(Command::Unchoose {
+        release,
+        document,
+        package_id,
+    }))
+}
+
+fn read_conclude(alloc: Global, value: &Value) -> Result<Request, Unread>
+    ensures { IsRead (conclude_request (view value.now)) result }
+{
+    require_members(value, 4)?;
+    let document = wanted_number(value, "document")?;
+    let package_id = wanted_text(alloc, value, "package")?;
+    let expression = wanted_text(alloc, value, "expression")?;
     Ok(Request::Act(Command::Conclude {
         document,
         package_id,
@@ -258,23 +169,13 @@ fn read_conclude(alloc: Global, value: &Value) -> Result<Request, AllocError>
     }))
 }
 
-fn read_adopt(alloc: Global, value: &Value) -> Result<Request, AllocError>
-    ensures { IfOk result (λ r. r ≡ adopt_request (view value.now)) }
+fn read_adopt(alloc: Global, value: &Value) -> Result<Request, Unread>
+    ensures { IsRead (adopt_request (view value.now)) result }
 {
-    if size_of(value) != 4 {
-        return Ok(Request::BadCommand);
-    }
-    let Some(document) = number_at(value, "document") else {
-        return Ok(Request::BadCommand);
-    };
-    let Some(reference) = text_at(value, "reference") else {
-        return Ok(Request::BadCommand);
-    };
-    let Some(licence) = text_at(value, "licence") else {
-        return Ok(Request::BadCommand);
-    };
-    let reference = Text::of(alloc, reference)?;
-    let licence = Text::of(alloc, licence)?;
+    require_members(value, 4)?;
+    let document = wanted_number(value, "document")?;
+    let reference = wanted_text(alloc, value, "reference")?;
+    let licence = wanted_text(alloc, value, "licence")?;
     Ok(Request::Act(Command::Adopt {
         document,
         reference,
@@ -282,139 +183,91 @@ fn read_adopt(alloc: Global, value: &Value) -> Result<Request, AllocError>
     }))
 }
 
-fn read_withdraw(alloc: Global, value: &Value) -> Result<Request, AllocError>
-    ensures { IfOk result (λ r. r ≡ withdraw_request (view value.now)) }
+fn read_withdraw(alloc: Global, value: &Value) -> Result<Request, Unread>
+    ensures { IsRead (withdraw_request (view value.now)) result }
 {
-    if size_of(value) != 4 {
-        return Ok(Request::BadCommand);
-    }
-    let Some(release) = text_at(value, "release") else {
-        return Ok(Request::BadCommand);
-    };
-    let Some(day) = text_at(value, "day") else {
-        return Ok(Request::BadCommand);
-    };
-    let Some(text) = text_at(value, "text") else {
-        return Ok(Request::BadCommand);
-    };
-    let release = Text::of(alloc, release)?;
-    let day = Text::of(alloc, day)?;
-    let text = Text::of(alloc, text)?;
+    require_members(value, 4)?;
+    let release = wanted_text(alloc, value, "release")?;
+    let day = wanted_text(alloc, value, "day")?;
+    let text = wanted_text(alloc, value, "text")?;
     Ok(Request::Act(Command::Withdraw { release, day, text }))
 }
 
-fn read_close(alloc: Global, value: &Value) -> Result<Request, AllocError>
-    ensures { IfOk result (λ r. r ≡ close_request (view value.now)) }
+fn read_close(alloc: Global, value: &Value) -> Result<Request, Unread>
+    ensures { IsRead (close_request (view value.now)) result }
 {
-    if size_of(value) != 2 {
-        return Ok(Request::BadCommand);
-    }
-    let Some(day) = text_at(value, "day") else {
-        return Ok(Request::BadCommand);
-    };
-    let day = Text::of(alloc, day)?;
+    require_members(value, 2)?;
+    let day = wanted_text(alloc, value, "day")?;
     Ok(Request::Act(Command::CloseDay { day }))
 }
 
-fn read_duties(alloc: Global, value: &Value) -> Result<Request, AllocError>
-    ensures { IfOk result (λ r. r ≡ duties_request (view value.now)) }
+fn read_duties(alloc: Global, value: &Value) -> Result<Request, Unread>
+    ensures { IsRead (duties_request (view value.now)) result }
 {
-    if size_of(value) != 2 {
-        return Ok(Request::BadCommand);
-    }
-    let Some(release) = text_at(value, "release") else {
-        return Ok(Request::BadCommand);
-    };
-    let release = Text::of(alloc, release)?;
+    require_members(value, 2)?;
+    let release = wanted_text(alloc, value, "release")?;
     Ok(Request::Ask(Query::Duties { release }))
 }
 
-fn read_totals(alloc: Global, value: &Value) -> Result<Request, AllocError>
-    ensures { IfOk result (λ r. r ≡ totals_request (view value.now)) }
+fn read_totals(alloc: Global, value: &Value) -> Result<Request, Unread>
+    ensures { IsRead (totals_request (view value.now)) result }
 {
-    if size_of(value) != 2 {
-        return Ok(Request::BadCommand);
-    }
-    let Some(release) = text_at(value, "release") else {
-        return Ok(Request::BadCommand);
-    };
-    let release = Text::of(alloc, release)?;
+    require_members(value, 2)?;
+    let release = wanted_text(alloc, value, "release")?;
     Ok(Request::Ask(Query::Totals { release }))
 }
 
-fn read_changes(value: &Value) -> Request
-    ensures { result ≡ changes_request (view value.now) }
+fn read_release(alloc: Global, value: &Value) -> Result<Request, Unread>
+    ensures { IsRead (release_request (view value.now)) result }
 {
-    if size_of(value) != 2 {
-        return Request::BadCommand;
-    }
-    let Some(duty) = number_at(value, "duty") else {
-        return Request::BadCommand;
-    };
-    Request::Ask(Query::Changes { duty })
-}
-
-fn read_findings(value: &Value) -> Request
-    ensures { result ≡ findings_request (view value.now) }
-{
-    if size_of(value) != 2 {
-        return Request::BadCommand;
-    }
-    let Some(document) = number_at(value, "document") else {
-        return Request::BadCommand;
-    };
-    Request::Ask(Query::Findings { document })
-}
-
-fn read_release(alloc: Global, value: &Value) -> Result<Request, AllocError>
-    ensures { IfOk result (λ r. r ≡ release_request (view value.now)) }
-{
-    if size_of(value) != 2 {
-        return Ok(Request::BadCommand);
-    }
-    let Some(release) = text_at(value, "release") else {
-        return Ok(Request::BadCommand);
-    };
-    let release = Text::of(alloc, release)?;
+    require_members(value, 2)?;
+    let release = wanted_text(alloc, value, "release")?;
     Ok(Request::Ask(Query::Release { release }))
 }
 
-fn read_alternatives(alloc: Global, value: &Value) -> Result<Request, AllocError>
-    ensures { IfOk result (λ r. r ≡ alternatives_request (view value.now)) }
+fn read_wanting(alloc: Global, value: &Value) -> Result<Request, Unread>
+    ensures { IsRead (wanting_request (view value.now)) result }
 {
-    if size_of(value) != 3 {
-        return Ok(Request::BadCommand);
-    }
-    let Some(document) = number_at(value, "document") else {
-        return Ok(Request::BadCommand);
-    };
-    let Some(package_id) = text_at(value, "package") else {
-        return Ok(Request::BadCommand);
-    };
-    let package_id = Text::of(alloc, package_id)?;
+    require_members(value, 2)?;
+    let release = wanted_text(alloc, value, "release")?;
+    Ok(Request::Ask(Query::Wanting { release }))
+}
+
+fn read_changes(value: &Value) -> Result<Request, Unread>
+    ensures { IsRead (changes_request (view value.now)) result }
+{
+    require_members(value, 2)?;
+    let duty = wanted_number(value, "duty")?;
+    Ok(Request::Ask(Query::Changes { duty }))
+}
+
+fn read_findings(value: &Value) -> Result<Request, Unread>
+    ensures { IsRead (findings_request (view value.now)) result }
+{
+    require_members(value, 2)?;
+    let document = wanted_number(value, "document")?;
+    Ok(Request::Ask(Query::Findings { document }))
+}
+
+fn read_alternatives(alloc: Global, value: &Value) -> Result<Request, Unread>
+    ensures { IsRead (alternatives_request (view value.now)) result }
+{
+    require_members(value, 3)?;
+    let document = wanted_number(value, "document")?;
+    let package_id = wanted_text(alloc, value, "package")?;
     Ok(Request::Ask(Query::Alternatives {
         document,
         package_id,
     }))
 }
 
-fn read_cheapest(alloc: Global, value: &Value) -> Result<Request, AllocError>
-    ensures { IfOk result (λ r. r ≡ cheapest_request (view value.now)) }
+fn read_cheapest(alloc: Global, value: &Value) -> Result<Request, Unread>
+    ensures { IsRead (cheapest_request (view value.now)) result }
 {
-    if size_of(value) != 4 {
-        return Ok(Request::BadCommand);
-    }
-    let Some(document) = number_at(value, "document") else {
-        return Ok(Request::BadCommand);
-    };
-    let Some(package_id) = text_at(value, "package") else {
-        return Ok(Request::BadCommand);
-    };
-    let Some(form) = text_at(value, "form") else {
-        return Ok(Request::BadCommand);
-    };
-    let package_id = Text::of(alloc, package_id)?;
-    let form = Text::of(alloc, form)?;
+    require_members(value, 4)?;
+    let document = wanted_number(value, "document")?;
+    let package_id = wanted_text(alloc, value, "package")?;
+    let form = wanted_text(alloc, value, "form")?;
     Ok(Request::Ask(Query::Cheapest {
         document,
         package_id,
@@ -423,26 +276,11 @@ fn read_cheapest(alloc: Global, value: &Value) -> Result<Request, AllocError>
 }
 
 /// A query that needs no other member.
-fn read_bare(value: &Value, query: Query) -> Request
-    ensures { result ≡ with_members 1 (view value.now) (Ask query) }
+fn read_bare(value: &Value, query: Query) -> Result<Request, Unread>
+    ensures { IsRead (with_members 1 (view value.now) (Ask query)) result }
 {
-    if size_of(value) != 1 {
-        return Request::BadCommand;
-    }
-    Request::Ask(query)
-}
-
-fn read_wanting(alloc: Global, value: &Value) -> Result<Request, AllocError>
-    ensures { IfOk result (λ r. r ≡ wanting_request (view value.now)) }
-{
-    if size_of(value) != 2 {
-        return Ok(Request::BadCommand);
-    }
-    let Some(release) = text_at(value, "release") else {
-        return Ok(Request::BadCommand);
-    };
-    let release = Text::of(alloc, release)?;
-    Ok(Request::Ask(Query::Wanting { release }))
+    require_members(value, 1)?;
+    Ok(Request::Ask(query))
 }
 
 /// The form that the word behind `do` names, or else the one behind `ask`.
@@ -455,12 +293,12 @@ fn form_of(value: &Value) -> Option<Form>
     }
 }
 
-fn read_form(alloc: Global, form: Form, value: &mut Value) -> Result<Request, AllocError>
-    ensures { IfOk result (λ r. r ≡ form_request form (view value.old)) }
+fn read_form(alloc: Global, form: Form, value: &mut Value) -> Result<Request, Unread>
+    ensures { IsRead (form_request form (view value.old)) result }
 {
     match form {
         Form::Catalogue => read_catalogue(alloc, value),
-        Form::Import => Ok(read_import(value)),
+        Form::Import => read_import(value),
         Form::Open => read_open(alloc, value),
         Form::Attach => read_attach(alloc, value),
         Form::Choose => read_choose(alloc, value),
@@ -475,14 +313,14 @@ fn read_form(alloc: Global, form: Form, value: &mut Value) -> Result<Request, Al
         Form::Close => read_close(alloc, value),
         Form::Duties => read_duties(alloc, value),
         Form::Totals => read_totals(alloc, value),
-        Form::Changes => Ok(read_changes(value)),
-        Form::Findings => Ok(read_findings(value)),
+        Form::Changes => read_changes(value),
+        Form::Findings => read_findings(value),
         Form::Release => read_release(alloc, value),
         Form::Alternatives => read_alternatives(alloc, value),
         Form::Cheapest => read_cheapest(alloc, value),
-        Form::Releases => Ok(read_bare(value, Query::Releases)),
-        Form::Documents => Ok(read_bare(value, Query::Documents)),
-        Form::OpenDuties => Ok(read_bare(value, Query::OpenDuties)),
+        Form::Releases => read_bare(value, Query::Releases),
+        Form::Documents => read_bare(value, Query::Documents),
+        Form::OpenDuties => read_bare(value, Query::OpenDuties),
         Form::Wanting => read_wanting(alloc, value),
     }
 }
@@ -490,9 +328,13 @@ fn read_form(alloc: Global, form: Form, value: &mut Value) -> Result<Request, Al
 fn read_value(alloc: Global, value: &mut Value) -> Result<Request, AllocError>
     ensures { IfOk result (λ r. r ≡ request_of (view value.old)) }
 {
-    match form_of(value) {
-        Some(form) => read_form(alloc, form, value),
-        None => Ok(Request::BadCommand),
+    let Some(form) = form_of(value) else {
+        return Ok(Request::BadCommand);
+    };
+    match read_form(alloc, form, value) {
+        Ok(request) => Ok(request),
+        Err(Unread::BadCommand) => Ok(Request::BadCommand),
+        Err(Unread::Memory) => Err(AllocError),
     }
 }
 

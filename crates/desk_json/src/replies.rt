@@ -1,19 +1,17 @@
 //! Replies as JSON.
 
-ghost use Rattle.std.specs.Prelude.{◌≡◌, ◌∷◌, [], IfOk, codes, map, string_bytes};
-ghost use Rattle.serde_json.specs.Data.{array, object, member, no_members};
-ghost use Rattle.serde_json.specs.View.{view, items_view, items_of};
-ghost use Rattle.desk_json.specs.Replies.{revision_reply, document_reply, done_reply, frozen_reply, closed_reply, bill_reply, refusal_reply, answer_reply, fault_reply, reply_of, reply_text, bad_command_text, fault_word};
+ghost use Rattle.std.specs.Prelude.{◌≡◌, IfOk, string_bytes};
+ghost use Rattle.serde_json.specs.View.{view};
+ghost use Rattle.serde_json.specs.Written.{compact_text};
+ghost use Rattle.desk_json.specs.Parts.{cheapest_rows};
+ghost use Rattle.desk_json.specs.Integers.{refusal_has_integers};
+ghost use Rattle.desk_json.specs.Replies.{revision_reply, document_reply, done_reply, frozen_reply, closed_reply, rows_reply, bill_reply, refusal_reply, answer_reply, fault_reply, reply_text, bad_command_text, fault_word};
 ghost use Rattle.desk_model.specs.declared.command.Fault.TheVariants.{Memory};
 ghost use Rattle.desk_model.specs.declared.command.Outcome.TheVariants.{Failed};
-ghost use Rattle.desk_json.specs.Parts.{list};
 
 use crate::refusals::refusal_values;
-use crate::rows::{
-    change_rows, cheapest_rows, duty_rows, finding_rows, listed_documents, listed_releases,
-    open_rows, release_rows, set_rows, totals_row,
-};
-use desk_model::{Answer, Bill, Fault, Outcome, Refusal};
+use crate::row::{Row, reply_from, reply_of, row_text, value_text};
+use desk_model::{Answer, Bill, Cheapest, Fault, Outcome, Refusal, Totals};
 use serde_json::{Value, json};
 use std::alloc::{AllocError, Global};
 
@@ -47,18 +45,23 @@ fn closed(alloc: Global, count: u64) -> Result<Value, AllocError>
     json!(in alloc; {"closed": count})
 }
 
-fn rows(alloc: Global, rows: Vec<Value>) -> Result<Value, AllocError>
-    ensures { IfOk result (λ v. view v ≡ object
-        (member (codes "rows") (array (items_view rows.items)) no_members)) }
+fn totals(alloc: Global, totals: &Totals) -> Result<String, AllocError>
+    ensures { IfOk result (λ text. string_bytes text
+        ≡ compact_text (answer_reply (Answer.Totals totals.now))) }
 {
-    let rows = Value::Array(rows);
-    json!(in alloc; {"rows": rows})
+    let others: [Totals; 0] = [];
+    reply_from(alloc, totals, &others)
 }
 
-fn totals(alloc: Global, row: Value) -> Result<Value, AllocError>
-    ensures { IfOk result (λ v. view v ≡ object (member (codes "rows") (list (view row ∷ [])) no_members)) }
+fn cheapest(alloc: Global, found: &Option<Cheapest>) -> Result<String, AllocError>
+    ensures { IfOk result (λ text. string_bytes text
+        ≡ compact_text (rows_reply (cheapest_rows found.now))) }
 {
-    json!(in alloc; {"rows": [row]})
+    let others: [Cheapest; 0] = [];
+    match found {
+        Some(found) => reply_from(alloc, found, &others),
+        None => reply_of(alloc, &others),
+    }
 }
 
 fn bill(alloc: Global, bill: &Bill) -> Result<Value, AllocError>
@@ -68,52 +71,16 @@ fn bill(alloc: Global, bill: &Bill) -> Result<Value, AllocError>
     json!(in alloc; {"bill": release})
 }
 
-fn refusal(alloc: Global, refusal: &Refusal) -> Result<Value, AllocError>
-    ensures { IfOk result (λ v. view v ≡ refusal_reply refusal.now) }
-{
-    let at = refusal_values(alloc, refusal)?;
-    let name = refusal.name();
-    let number = refusal.number();
-    json!(in alloc; {"at": at, "name": name, "refused": number})
-}
+impl Row for Refusal {
+    ghost json = { refusal_reply };
 
-/// A row for each refusal.
-fn refusal_rows(alloc: Global, refusals: &[Refusal]) -> Result<Vec<Value>, AllocError>
-    ensures { IfOk result (λ rows. items_view rows.items
-        ≡ items_of (map refusal_reply refusals.now)) }
-{
-    let mut rows = Vec::new(alloc);
-    for reason in refusals {
-        rows.push(refusal(alloc, reason)?)?;
-    }
-    Ok(rows)
-}
+    ghost has_integers = { refusal_has_integers };
 
-fn answer(alloc: Global, answer: &Answer) -> Result<Value, AllocError>
-    ensures { IfOk result (λ v. view v ≡ answer_reply answer.now) }
-{
-    match answer {
-        Answer::Revision(number) => revision(alloc, *number),
-        Answer::Imported(number) => document(alloc, *number, true),
-        Answer::Again(number) => document(alloc, *number, false),
-        Answer::Done => done(alloc),
-        Answer::Frozen { first, count } => frozen(alloc, *first, *count),
-        Answer::Closed(count) => closed(alloc, *count),
-        Answer::Duties(lines) => rows(alloc, duty_rows(alloc, lines.as_slice())?),
-        Answer::Totals(row) => totals(alloc, totals_row(alloc, row)?),
-        Answer::Changes(changes) => rows(alloc, change_rows(alloc, changes.as_slice())?),
-        Answer::Findings(findings) => rows(alloc, finding_rows(alloc, findings.as_slice())?),
-        Answer::Release { release, packages } => {
-            rows(alloc, release_rows(alloc, release, packages.as_slice())?)
-        }
-        Answer::Alternatives(sets) => rows(alloc, set_rows(alloc, sets.as_slice())?),
-        Answer::Cheapest(found) => rows(alloc, cheapest_rows(alloc, found)?),
-        Answer::Bill(given) => bill(alloc, given),
-        Answer::Releases(lines) => rows(alloc, listed_releases(alloc, lines.as_slice())?),
-        Answer::Documents(lines) => rows(alloc, listed_documents(alloc, lines.as_slice())?),
-        Answer::OpenDuties(lines) => rows(alloc, open_rows(alloc, lines.as_slice())?),
-        Answer::Wanting(refusals) => rows(alloc, refusal_rows(alloc, refusals.as_slice())?),
-        Answer::Refused(reason) => refusal(alloc, reason),
+    fn value(&self, alloc: Global) -> Result<Value, AllocError> {
+        let at = refusal_values(alloc, self)?;
+        let name = self.name();
+        let number = self.number();
+        json!(in alloc; {"at": at, "name": name, "refused": number})
     }
 }
 
@@ -127,12 +94,29 @@ fn fault(alloc: Global, fault: &Fault) -> Result<Value, AllocError>
     json!(in alloc; {"fault": word})
 }
 
-fn reply(alloc: Global, outcome: &Outcome) -> Result<Value, AllocError>
-    ensures { IfOk result (λ v. view v ≡ reply_of outcome.now) }
+fn answer_text(alloc: Global, answer: &Answer) -> Result<String, AllocError>
+    ensures { IfOk result (λ text. string_bytes text ≡ compact_text (answer_reply answer.now)) }
 {
-    match outcome {
-        Outcome::Answered(given) => answer(alloc, given),
-        Outcome::Failed(reason) => fault(alloc, reason),
+    match answer {
+        Answer::Revision(number) => value_text(alloc, &revision(alloc, *number)?),
+        Answer::Imported(number) => value_text(alloc, &document(alloc, *number, true)?),
+        Answer::Again(number) => value_text(alloc, &document(alloc, *number, false)?),
+        Answer::Done => value_text(alloc, &done(alloc)?),
+        Answer::Frozen { first, count } => value_text(alloc, &frozen(alloc, *first, *count)?),
+        Answer::Closed(count) => value_text(alloc, &closed(alloc, *count)?),
+        Answer::Duties(lines) => reply_of(alloc, lines.as_slice()),
+        Answer::Totals(row) => totals(alloc, row),
+        Answer::Changes(changes) => reply_of(alloc, changes.as_slice()),
+        Answer::Findings(findings) => reply_of(alloc, findings.as_slice()),
+        Answer::Release { release, packages } => reply_from(alloc, release, packages.as_slice()),
+        Answer::Alternatives(sets) => reply_of(alloc, sets.as_slice()),
+        Answer::Cheapest(found) => cheapest(alloc, found),
+        Answer::Bill(given) => value_text(alloc, &bill(alloc, given)?),
+        Answer::Releases(lines) => reply_of(alloc, lines.as_slice()),
+        Answer::Documents(lines) => reply_of(alloc, lines.as_slice()),
+        Answer::OpenDuties(lines) => reply_of(alloc, lines.as_slice()),
+        Answer::Wanting(refusals) => reply_of(alloc, refusals.as_slice()),
+        Answer::Refused(reason) => row_text(alloc, reason),
     }
 }
 
@@ -140,7 +124,10 @@ fn reply(alloc: Global, outcome: &Outcome) -> Result<Value, AllocError>
 pub fn reply_line(alloc: Global, outcome: &Outcome) -> Result<String, AllocError>
     ensures { IfOk result (λ line. string_bytes line ≡ reply_text outcome.now) }
 {
-    reply(alloc, outcome)?.to_string(alloc)
+    match outcome {
+        Outcome::Answered(answer) => answer_text(alloc, answer),
+        Outcome::Failed(reason) => value_text(alloc, &fault(alloc, reason)?),
+    }
 }
 
 /// The reply to what is no request, without a line end.

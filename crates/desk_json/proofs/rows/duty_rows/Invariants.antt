@@ -1,7 +1,0 @@
-use Rattle.std.proofs.Common.{◌≡◌, map, take}
-use Rattle.serde_json.specs.View.{view}
-use Rattle.desk_json.specs.Parts.{duty_row}
-use Rattle.desk_json.proofs.rows.duty_rows.Given as goal
-
-abbrev pub invariant-loop-line : goal.invariant-loop-line
-invariant-loop-line l = map view l.rows.items ≡ map duty_row (take l.line-index l.lines)

@@ -1,0 +1,18 @@
+-- What a reader of members gives, or why it gives nothing.
+use Rattle.std.specs.Prelude.{◌≡◌, ⊤, Option, Some, None, Result, Ok, Err}
+use Rattle.desk_json.specs.declared.fields.Unread.{Unread}
+use Rattle.desk_json.specs.declared.fields.Unread.TheVariants as why
+use Rattle.desk_json.specs.declared.request.Request.{Request}
+use Rattle.desk_json.specs.declared.request.Request.TheVariants.{BadCommand}
+
+-- the request, or none where it is none; without memory nothing is said
+abbrev pub IsRead : Request → Result Request Unread → Type 0
+IsRead request (Ok read) = read ≡ request
+IsRead request (Err why.BadCommand) = request ≡ BadCommand
+IsRead request (Err why.Memory) = ⊤
+
+-- what is there, if anything is
+abbrev pub IsFound : {X : Type 0} → Option X → Result X Unread → Type 0
+IsFound found (Ok x) = found ≡ Some x
+IsFound found (Err why.BadCommand) = found ≡ None
+IsFound found (Err why.Memory) = ⊤
