@@ -6,7 +6,7 @@ use Rattle.std.proofs.lemmas.List.{length-append}
 use Rattle.std.proofs.lemmas.List.Filters.{length-filter_both}
 use Rattle.desk_model.specs.Lists.{put, put_all}
 use Rattle.desk_sorted.specs.Blocks.{rows_in}
-use Rattle.desk_sorted.proofs.Walking.{drop_one, filter_split}
+use Rattle.desk_sorted.proofs.Walking.{filter_split}
 
 -- the rows that are sought from one block on
 

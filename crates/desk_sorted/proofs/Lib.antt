@@ -8,3 +8,4 @@ mod Changing
 pub mod Walking
 mod Counting
 mod Beside
+mod Nearby

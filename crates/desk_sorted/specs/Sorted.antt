@@ -1,8 +1,8 @@
 -- Rows in the order of their keys.
-use Rattle.std.specs.Prelude.{◌≡◌, ℕ, ◌≤◌, Bool, true, false, List, [], ◌∷◌, length, take, drop}
+use Rattle.std.specs.Prelude.{◌≡◌, ℕ, ◌-◌, ◌<◌, ◌≤◌, Bool, true, false, List, [], ◌∷◌, length, take, drop, get_or}
 use Rattle.std.specs.List.{list_all, list_any, AllWithin, AllAdjacentBelow}
 use Rattle.std.specs.List.Sorted.{IsNonDecreasingBy}
-use Rattle.std.specs.Ordering.{is_lt, ordering_index}
+use Rattle.std.specs.Ordering.{is_lt, is_le, ordering_index}
 use Rattle.desk_model.specs.Lists.{put}
 use Rattle.std.specs.declared.cmp.Ordering.{Ordering}
 use Rattle.std.specs.declared.cmp.Ordering.TheVariants.{Less, Equal, Greater}
@@ -30,6 +30,19 @@ pub record IsRun {A : Type 0} (side : A → Ordering) (xs : List A) (low high : 
   pub before : AllWithin (λ x. side x ≡ Less) xs 0 low
   pub sought : AllWithin (λ x. side x ≡ Equal) xs low high
   pub behind : AllWithin (λ x. side x ≡ Greater) xs high (length xs)
+
+-- a place with a row before what is sought in front of it, if there is any, and none such at it
+pub record Begins {A : Type 0} (side : A → Ordering) (xs : List A) (n : ℕ) : Type 0 where
+  pub within : n ≤ length xs
+  pub front : (d : A) → 0 < n → is_lt (side (get_or xs (n - 1) d)) ≡ true
+  pub back : (d : A) → n < length xs → is_lt (side (get_or xs n d)) ≡ false
+
+-- from n up to high stand rows that aren't behind what is sought, and at high one that is, if there is any
+pub record IsEnd {A : Type 0} (side : A → Ordering) (xs : List A) (n high : ℕ) : Type 0 where
+  pub ordered : n ≤ high
+  pub within : high ≤ length xs
+  pub front : AllWithin (λ x. is_le (side x) ≡ true) xs n high
+  pub back : (d : A) → high < length xs → is_le (side (get_or xs high d)) ≡ false
 
 -- x goes in at n: behind those that it isn't below, and before those that it is below
 pub record IsPlace {A : Type 0} (below : A → A → Bool) (x : A) (xs : List A) (n : ℕ) : Type 0 where

@@ -1,13 +1,13 @@
 //! Rows in the order in which they came.
 
-ghost use Rattle.std.specs.Prelude.{◌≡◌, ℕ, true, ◌+◌, ◌<◌, ◌≤◌, ◌++◌, [], ◌∷◌, filter, find, OnOk, IfErr, length, vec_len};
+ghost use Rattle.std.specs.Prelude.{◌≡◌, ℕ, true, ◌+◌, ◌<◌, ◌≤◌, ◌++◌, [], ◌∷◌, filter, find, OnOk, IfErr, length, vec_len, slice_range};
 ghost use Rattle.std.specs.Vec.{vec_capacity};
 ghost use Rattle.std.specs.Option.{option_copied};
 ghost use Rattle.std.specs.Ordering.{is_eq};
 ghost use Rattle.desk_model.specs.Keys.{below_by};
 ghost use Rattle.desk_model.specs.Lists.{ascends};
 
-use crate::sorted::{Keyed, Sought, reserve, run_of};
+use crate::sorted::{Keyed, Run, Sought, reserve, run_near, run_of};
 use desk_model::Fault;
 use std::alloc::Global;
 
@@ -63,6 +63,25 @@ impl<R: Keyed + Drop> Appended<R> {
         }
         let run = run_of(self.rows.as_slice(), key);
         &self.rows[run.start..run.end]
+    }
+
+    /// A run in which all stand that are sought: of those alone, and found without halving where it
+    /// begins at a place, where the rows are in order.
+    pub fn run_near<K: Sought<R>>(&self, key: &K, place: usize) -> Run
+        ensures ordered { result.start ≤ result.end }
+        ensures within { result.end ≤ length self.now.rows.items }
+        ensures found { filter (K.is_at key.now)
+            (slice_range self.now.rows.items result.start result.end)
+            ≡ filter (K.is_at key.now) self.now.rows.items }
+    {
+        if self.in_order {
+            run_near(self.rows.as_slice(), key, place)
+        } else {
+            Run {
+                start: 0,
+                end: self.rows.len(),
+            }
+        }
     }
 
     /// The first of the rows that are sought.

@@ -8,7 +8,7 @@ ghost use Rattle.std.specs.Ordering.{is_eq, is_lt};
 ghost use Rattle.std.specs.declared.cmp.Ordering.{Ordering};
 ghost use Rattle.desk_model.specs.Lists.{put, put_all, ascends};
 ghost use Rattle.desk_model.specs.Keys.{below_by};
-ghost use Rattle.desk_sorted.specs.Sorted.{put_in_turn, Climbs, IsSideOf, IsRun, IsPlace, Rises};
+ghost use Rattle.desk_sorted.specs.Sorted.{put_in_turn, Begins, Climbs, IsEnd, IsSideOf, IsRun, IsPlace, Rises};
 
 use desk_model::Fault;
 use std::alloc::Global;
@@ -54,6 +54,41 @@ pub fn run_of<R: Keyed, K: Sought<R>>(rows: &[R], key: &K) -> Run
     Run {
         start: rows.partition_point(|row| key.side_of(row).is_lt()),
         end: rows.partition_point(|row| key.side_of(row).is_le()),
+    }
+}
+
+/// Whether what is sought begins at a place, by the rows on both sides of it.
+fn begins_at<R: Keyed, K: Sought<R>>(rows: &[R], key: &K, place: usize) -> bool
+    ensures { result ≡ true → Begins (K.side key.now) rows.now place }
+{
+    if rows.len() < place || (0 < place && !key.side_of(&rows[place - 1]).is_lt()) {
+        return false;
+    }
+    place == rows.len() || !key.side_of(&rows[place]).is_lt()
+}
+
+/// Up to where the rows from a place on aren't behind what is sought.
+fn end_from<R: Keyed, K: Sought<R>>(rows: &[R], key: &K, place: usize) -> usize
+    requires { place ≤ length rows.now }
+    ensures { IsEnd (K.side key.now) rows.now place result }
+{
+    let mut end = place;
+    while end < rows.len() && key.side_of(&rows[end]).is_le() {
+        end += 1;
+    }
+    end
+}
+
+/// The run of the rows that are sought, without halving where it begins at a place.
+pub fn run_near<R: Keyed, K: Sought<R>>(rows: &[R], key: &K, place: usize) -> Run
+    requires { ascends (below_by R.order) rows.now ≡ true }
+    ensures { IsRun (K.side key.now) rows.now result.start result.end }
+{
+    if begins_at(rows, key, place) {
+        let end = end_from(rows, key, place);
+        Run { start: place, end }
+    } else {
+        run_of(rows, key)
     }
 }
 
