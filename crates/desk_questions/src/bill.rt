@@ -85,8 +85,9 @@ fn parts_of<T: Texts>(
 {
     let mut lines = Items::new(alloc);
     let mut named = Vec::new(alloc);
+    let mut place = 0;
     for row in packages {
-        let terms = terms_of(alloc, frozen, release, &row)?;
+        let terms = terms_of(alloc, frozen, &mut place, release, &row)?;
         add_terms(alloc, texts, terms.as_slice(), &mut named)?;
         let line = line_of(alloc, terms.as_slice(), row)?;
         lines.push(line)?;

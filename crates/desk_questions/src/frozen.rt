@@ -68,10 +68,30 @@ pub(crate) fn frozen_rows<S: Store>(
     appended(alloc, rows)
 }
 
-/// The terms that a release was frozen with for a row, in their order.
+/// Those of some rows that are sought.
+fn sought<'a>(
+    alloc: Global,
+    rows: &'a [FrozenRow],
+    key: &ByPackage<'_>,
+) -> Result<Vec<&'a FrozenRow>, AllocError>
+    ensures { IfOk result (λ found. map (λ row. row.now) found.items
+        ≡ filter (is_frozen_of key.now.release.now key.now.document key.now.id.now) rows.now) }
+{
+    let mut found = Vec::new(alloc);
+    for row in rows {
+        if key.side_of(row).is_eq() {
+            found.push(row)?;
+        }
+    }
+    Ok(found)
+}
+
+/// The terms that a release was frozen with for a row, in their order. They are looked for at a
+/// place first, which moves behind them: both tables are in the order of packages.
 pub(crate) fn terms_of<'a>(
     alloc: Global,
     frozen: &'a Appended<FrozenRow>,
+    place: &mut usize,
     release: &Text,
     row: &PackageRow,
 ) -> Result<Vec<&'a FrozenRow>, AllocError>
@@ -83,11 +103,7 @@ pub(crate) fn terms_of<'a>(
         document: row.document,
         id: row.id.as_str(),
     };
-    let mut terms = Vec::new(alloc);
-    for term in frozen.among(&key) {
-        if key.side_of(term).is_eq() {
-            terms.push(term)?;
-        }
-    }
-    Ok(terms)
+    let run = frozen.run_near(&key, *place);
+    *place = run.end;
+    sought(alloc, &frozen.rows[run.start..run.end], &key)
 }
