@@ -1,5 +1,5 @@
 -- What a query does to what is seen of a connection.
-use Rattle.std.proofs.Common.{◌≡◌, ◌⊎◌, inl, inr, ℕ, List, IsTrue, Option, Some, None, Ok, Err, Result, IfOk, OnErr, sym, subst, ◌∙◌, ap, arith}
+use Rattle.std.proofs.Common.{◌≡◌, ◌⊎◌, inl, inr, ℕ, List, IsTrue, Option, Some, None, Ok, Err, Result, IfOk, OnErr, Vec, Global, sym, subst, ◌∙◌, ap, arith}
 use Rattle.sqlite_trees.specs.Tree.{Trees}
 use Rattle.sqlite_value.specs.Order.{Row}
 use Rattle.sqlite_schema.specs.declared.command.Returning.{Returning}
@@ -14,6 +14,7 @@ use Rattle.desk_model.specs.Tables.{Tables}
 use Rattle.desk_access.specs.Seen.{Kept, Same, Looked, OfRows}
 use Rattle.desk_sql_layout.specs.Layout.{desk_schema}
 use Rattle.desk_sql_layout.specs.Held.{Holds, Showing, seen_of}
+use Rattle.desk_sql_lookup.specs.Streamed.{AreRead, ShowsRead}
 
 module _ (sql : List ℕ) (params : Row) (old new : State) where
   abbrev Moves : Type 0
@@ -48,6 +49,18 @@ module _ (sql : List ℕ) (params : Row) (old new : State) where
       let known = sym h.1.is ∙ ap (λ s. understood s sql) has in
       let bare = subst IsPlain (sym known) plain in
       let it = subst (ShowsRows old new sql h.0 (timed params h.0.formats h.1.now) rows) bare.0 h.2 in it.3
+
+  -- a query whose rows are to come left all as it was, or is none
+  abbrev pub Begins : Type 0
+  Begins = IsUnchanged old new ⊎ ((rows : List Row) × Shown sql params old new rows)
+
+  begins_unchanged : old.now.schema ≡ desk_schema → IsPlain (understood desk_schema sql) → Begins → IsUnchanged old new
+  begins_unchanged has plain (inl same) = same
+  begins_unchanged has plain (inr shown) = shown_unchanged shown.0 has plain shown.1
+
+  pub begins_open : Begins → IsTrue old.is_open × IsTrue new.is_open
+  begins_open (inl same) = (same.0.was_open, same.0.is_open)
+  begins_open (inr shown) = shown_open shown.0 shown.1
 
   was_open : Moves → IsTrue new.is_open → IsTrue old.is_open
   was_open (inl same) is = same.0.was_open
@@ -86,6 +99,13 @@ module _ (sql : List ℕ) (params : Row) (old new : State) where
     pub failed : (e : Error) → (HasCleanDisk new → FailsToQuery sql params old new e) → Kept (seen_of old) (seen_of new)
     failed e fails = keeps (λ clean t shows is. fails_to_query e (fails clean)) (λ clean is. was_open (fails_to_query e (fails clean)) is)
 
+    -- a query that began
+    pub begun : (HasCleanDisk new → Begins) → Same (seen_of old) (seen_of new)
+    begun has = record {
+      kept = keeps (λ clean t shows is. inl (begins_unchanged shows.holds.rows.declared plain (has clean))) (λ clean is. (begins_open (has clean)).0);
+      stays = λ clean is. (begins_open (has clean)).1;
+    }
+
     -- a query that answered
     pub answered : (rows : List Row) → (HasCleanDisk new → Shown sql params old new rows) → Same (seen_of old) (seen_of new)
     answered rows shown = record {
@@ -113,4 +133,36 @@ module _ (sql : List ℕ) (params : Row) (old new : State) {V : Type 0} (r : Res
     where
       go : (r : Result V Fault) → IfOk r (λ rows. Same (seen_of old) (seen_of new) × (HasCleanDisk new → Shown sql params old new (items rows))) → OnErr r (Kept (seen_of old) (seen_of new)) → Looked (seen_of old) (seen_of new) r
       go (Ok rows) it kept = it.0
+      go (Err e) it kept = kept
+
+module _ (sql : List ℕ) (params : Row) (old new : State) {T : Type 0} (cells : T → Row) (r : Result (Vec T Global) Fault) where
+  -- what `read_rows` tells of its call
+  abbrev pub HasReadRows : Type 0
+  HasReadRows =
+      IfOk r (λ found. Same (seen_of old) (seen_of new)
+      × (HasCleanDisk new → IsTrue old.is_open × (old.now.schema ≡ desk_schema → ShowsRead cells sql params old new found.items)))
+
+  -- what the rows that were read are of the tables that were held
+  pub read_by : (Is : Tables → List T → Type 0)
+      → ((rows : List Row) (found : List T) (t : Tables) → Shown sql params old new rows → Holds t old.now → AreRead cells rows found → Is t found)
+      → HasReadRows → IfOk r (λ found. OfRows (λ t. Is t found.items) (seen_of old) (seen_of new))
+  read_by Is right = go r
+    where
+      go : (r : Result (Vec T Global) Fault)
+          → IfOk r (λ found. Same (seen_of old) (seen_of new) × (HasCleanDisk new → IsTrue old.is_open × (old.now.schema ≡ desk_schema → ShowsRead cells sql params old new found.items)))
+          → IfOk r (λ found. OfRows (λ t. Is t found.items) (seen_of old) (seen_of new))
+      go (Ok found) it = λ clean t holds.
+          let was = it.1 clean in
+          let held = (holds (it.0.kept.spared.honest clean) was.0).holds in
+          let shown = was.1 held.rows.declared in
+          right shown.0 found.items t shown.1 held shown.2
+      go (Err e) it = tt
+
+  pub read_looked_by : HasReadRows → OnErr r (Kept (seen_of old) (seen_of new)) → Looked (seen_of old) (seen_of new) r
+  read_looked_by = go r
+    where
+      go : (r : Result (Vec T Global) Fault)
+          → IfOk r (λ found. Same (seen_of old) (seen_of new) × (HasCleanDisk new → IsTrue old.is_open × (old.now.schema ≡ desk_schema → ShowsRead cells sql params old new found.items)))
+          → OnErr r (Kept (seen_of old) (seen_of new)) → Looked (seen_of old) (seen_of new) r
+      go (Ok found) it kept = it.0
       go (Err e) it kept = kept

@@ -9,6 +9,7 @@ pub mod Ruling
 pub mod Ending
 pub mod Among
 pub mod Chains
+pub mod Streaming
 pub mod Loops
 pub mod DutyQueries
 pub mod ReleaseQueries

@@ -2,4 +2,5 @@ pub mod Holders
 pub mod Rules
 pub mod Shown
 pub mod Standings
+pub mod Streamed
 pub mod Waivers

@@ -13,7 +13,7 @@ ghost use Rattle.desk_model.specs.declared.row.DocumentRow.{DocumentRow as Docum
 ghost use Rattle.desk_sql_lookup.specs.Shown.{bytes_cells, import_cells, known_cells};
 
 use crate::columns::{ROWS, number_at};
-use crate::query::{among, query, text};
+use crate::query::{among, query, read_rows, text};
 use crate::read::{read_all, read_first};
 use desk_base::{Items, Profile};
 use desk_model::{Fault, PackageRow};
@@ -243,21 +243,6 @@ pub fn package_row<S: Alter>(
     read_first(alloc, &rows)
 }
 
-fn select_shipped<S: Alter>(conn: &mut Connection<S>, document: u32) -> Result<Vec<Row>, Fault>
-    ensures found { IfOk result (λ rows. OfRows (λ t.
-        rows.items ≡ map package_cells (filter (is_shipped_by document) t.packages))
-        (seen_of (state S.Store conn.old)) (seen_of (state S.Store conn.new))) }
-    ensures kept { Looked (seen_of (state S.Store conn.old)) (seen_of (state S.Store conn.new))
-        result }
-    ensures mode { conn.old.in_transaction ≡ false → conn.new.in_transaction ≡ false }
-{
-    query(
-        conn,
-        "SELECT document, id, name, version, concluded, copyright, shipped FROM package WHERE document = ?1 AND shipped = ?2 ORDER BY document, id",
-        &[number(document), flag(true)],
-    )
-}
-
 /// The shipped packages of a document, by id.
 pub fn shipped<S: Alter>(
     alloc: Global,
@@ -271,6 +256,10 @@ pub fn shipped<S: Alter>(
         result }
     ensures mode { conn.old.in_transaction ≡ false → conn.new.in_transaction ≡ false }
 {
-    let rows = select_shipped(conn, document)?;
-    read_all(alloc, &rows)
+    read_rows(
+        alloc,
+        conn,
+        "SELECT document, id, name, version, concluded, copyright, shipped FROM package WHERE document = ?1 AND shipped = ?2 ORDER BY document, id",
+        &[number(document), flag(true)],
+    )
 }

@@ -1,22 +1,27 @@
 //! A query of the database.
 
-ghost use Rattle.std.specs.Prelude.{◌≡◌, ◌+◌, min, false, IfOk, OnErr};
+ghost use Rattle.std.specs.Prelude.{◌≡◌, ◌+◌, ℕ, List, min, false, IsTrue, IfOk, OnErr};
 ghost use Rattle.desk_sql_layout.specs.Cells.{number};
-ghost use Rattle.sqlite.specs.Given.{IsPlain};
+ghost use Rattle.sqlite.specs.Given.{HasGiven, IsPlain};
 ghost use Rattle.sqlite.specs.Held.{state};
 ghost use Rattle.sqlite.specs.Listing.{understood};
-ghost use Rattle.sqlite.specs.State.{HasCleanDisk, Shown};
+ghost use Rattle.sqlite.specs.State.{HasCleanDisk, IsUnchanged, Shown};
 ghost use Rattle.sqlite.specs.Values.{bound, bound_value};
+ghost use Rattle.sqlite_value.specs.Order.{Row as Cells};
 ghost use Rattle.sqlite_value.specs.Value.{owned};
 ghost use Rattle.sqlite_value.specs.declared.value.Value.TheVariants.{Text as Words};
-ghost use Rattle.desk_access.specs.Seen.{Kept, Same};
+ghost use Rattle.desk_access.specs.Seen.{Kept, Looked, Same};
 ghost use Rattle.desk_sql_layout.specs.Held.{seen_of};
 ghost use Rattle.desk_sql_layout.specs.Layout.{desk_schema};
+ghost use Rattle.desk_sql_lookup.specs.Streamed.{ReadsOn, ShowsRead};
 
+use crate::columns::ROWS;
+use crate::read::ReadRow;
 use desk_model::Fault;
 use desk_sql_layout::fault::fault_of;
-use sqlite::{Alter, Connection, Row};
+use sqlite::{Alter, Connection, Row, Rows};
 use sqlite_value::value::ValueRef;
+use std::alloc::Global;
 
 /// The rows of a query that changes nothing.
 pub(crate) fn query<S: Alter>(
@@ -39,6 +44,67 @@ pub(crate) fn query<S: Alter>(
         Ok(rows) => Ok(rows),
         Err(error) => Err(fault_of(&error)),
     }
+}
+
+/// The next row of a query, read, if there is one.
+fn read_next<S: Alter, T: ReadRow + Drop>(
+    alloc: Global,
+    rows: &mut Rows<'_, S>,
+) -> Result<Option<T>, Fault>
+    ensures same_reference { rows.new.conn.ghost_name ≡ rows.old.conn.ghost_name }
+    ensures reads { HasCleanDisk (state S.Store rows.new.conn.now)
+        → IfOk result (λ found. IsUnchanged (state S.Store rows.old.conn.now)
+        (state S.Store rows.new.conn.now)
+        × ((sql : List ℕ) (params : Cells) (given : List Cells)
+        → HasGiven S.Store sql params rows.old.conn.now given
+        → ReadsOn S.Store T.ReadRow.cells sql params rows.old.conn.now rows.new.conn.now given
+        found)) }
+    ensures kept { Looked (seen_of (state S.Store rows.old.conn.now))
+        (seen_of (state S.Store rows.new.conn.now)) result }
+    ensures mode { rows.old.conn.now.in_transaction ≡ false
+        → rows.new.conn.now.in_transaction ≡ false }
+{
+    if let Err(error) = rows.advance() {
+        return Err(fault_of(&error));
+    }
+    match rows.get() {
+        Some(row) => Ok(Some(T::read(alloc, row)?)),
+        None => Ok(None),
+    }
+}
+
+/// The rows of a query that changes nothing, each read before the next, so that none is kept as
+/// cells.
+pub(crate) fn read_rows<S: Alter, T: ReadRow + Drop>(
+    alloc: Global,
+    conn: &mut Connection<S>,
+    sql: &str,
+    params: &[ValueRef<'_>],
+) -> Result<Vec<T>, Fault>
+    ensures ok { IsPlain (understood desk_schema sql.now)
+        → IfOk result (λ found. Same (seen_of (state S.Store conn.old))
+        (seen_of (state S.Store conn.new))
+        × (HasCleanDisk (state S.Store conn.new) → IsTrue (state S.Store conn.old).is_open
+        × ((state S.Store conn.old).now.schema ≡ desk_schema
+        → ShowsRead T.ReadRow.cells sql.now (bound params.now) (state S.Store conn.old)
+        (state S.Store conn.new) found.items))) }
+    ensures err { IsPlain (understood desk_schema sql.now)
+        → OnErr result (Kept (seen_of (state S.Store conn.old))
+        (seen_of (state S.Store conn.new))) }
+    ensures mode { conn.old.in_transaction ≡ false → conn.new.in_transaction ≡ false }
+{
+    let mut found = Vec::new(alloc);
+    let mut rows = match conn.query(sql, params) {
+        Ok(rows) => rows,
+        Err(error) => return Err(fault_of(&error)),
+    };
+    'rows: for _ in 0..u64::MAX {
+        match read_next(alloc, &mut rows)? {
+            Some(row) => found.push(row)?,
+            None => return Ok(found),
+        }
+    }
+    Err(ROWS)
 }
 
 /// A text as a query takes it.

@@ -7,12 +7,12 @@ ghost use Rattle.sqlite.specs.Held.{state};
 ghost use Rattle.desk_access.specs.Seen.{Looked, OfRows};
 ghost use Rattle.desk_sql_layout.specs.Held.{seen_of};
 ghost use Rattle.desk_history.specs.FromTables.{release_found};
-ghost use Rattle.desk_sql_layout.specs.Cells.{attached_cells, frozen_cells, release_cells};
+ghost use Rattle.desk_sql_layout.specs.Cells.{attached_cells, release_cells};
 ghost use Rattle.desk_model.specs.History.{attached_to};
 ghost use Rattle.desk_model.specs.Keys.{is_attachment, is_choice_of, is_release};
 ghost use Rattle.desk_sql_lookup.specs.Shown.{text_cells};
 
-use crate::query::{query, text};
+use crate::query::{query, read_rows, text};
 use crate::read::{read_all, read_first};
 use desk_base::Text;
 use desk_model::{AttachedRow, Fault, FrozenRow, ReleaseRow};
@@ -212,21 +212,6 @@ pub fn chosen<S: Alter>(
     read_all(alloc, &rows)
 }
 
-fn select_frozen<S: Alter>(conn: &mut Connection<S>, release: &str) -> Result<Vec<Row>, Fault>
-    ensures found { IfOk result (λ rows. OfRows (λ t.
-        rows.items ≡ map frozen_cells (filter (λ row. bytes_eq row.release release.now) t.frozen))
-        (seen_of (state S.Store conn.old)) (seen_of (state S.Store conn.new))) }
-    ensures kept { Looked (seen_of (state S.Store conn.old)) (seen_of (state S.Store conn.new))
-        result }
-    ensures mode { conn.old.in_transaction ≡ false → conn.new.in_transaction ≡ false }
-{
-    query(
-        conn,
-        "SELECT release, document, package, term, rule FROM frozen WHERE release = ?1 ORDER BY release, document, package, term",
-        &[text(release)],
-    )
-}
-
 /// The terms that a release was frozen with, by document and package, each with its rule.
 pub fn frozen<S: Alter>(
     alloc: Global,
@@ -240,6 +225,10 @@ pub fn frozen<S: Alter>(
         result }
     ensures mode { conn.old.in_transaction ≡ false → conn.new.in_transaction ≡ false }
 {
-    let rows = select_frozen(conn, release)?;
-    read_all(alloc, &rows)
+    read_rows(
+        alloc,
+        conn,
+        "SELECT release, document, package, term, rule FROM frozen WHERE release = ?1 ORDER BY release, document, package, term",
+        &[text(release)],
+    )
 }

@@ -8,35 +8,43 @@ ghost use Rattle.desk_sql_layout.specs.Held.{seen_of};
 ghost use Rattle.desk_model.specs.Bills.{extracted_text, revision_text};
 ghost use Rattle.desk_model.specs.Keys.{is_extracted, is_revision};
 ghost use Rattle.desk_model.specs.declared.row.ExtractedRow.{ExtractedRow as Extracted};
-ghost use Rattle.desk_sql_lookup.specs.Shown.{extracted_body_cells, text_cells};
+ghost use Rattle.desk_sql_lookup.specs.Shown.{extracted_body_cells};
 
 use crate::columns::text_or_null_at;
-use crate::query::{among, query, text};
-use crate::read::read_first;
+use crate::query::{among, query, read_rows, text};
 use desk_base::Text;
 use desk_model::Fault;
 use desk_sql_layout::values::number;
 use sqlite::{Alter, Connection, Row};
 use std::alloc::Global;
 
-fn select_catalogue<S: Alter>(
+/// The text of each revision with a number: of one, or there is none.
+fn catalogue_texts<S: Alter>(
+    alloc: Global,
     conn: &mut Connection<S>,
     revisions: u32,
     n: u64,
-) -> Result<Vec<Row>, Fault>
-    ensures found { IfOk result (λ rows. OfRows (λ t.
-        length t.catalogue ≡ revisions → rows.items ≡ map text_cells
-        (map (λ row. row.body) (filter (is_revision n) t.catalogue)))
+) -> Result<Vec<Text>, Fault>
+    ensures found { IfOk result (λ found. OfRows (λ t.
+        length t.catalogue ≡ revisions → found.items
+        ≡ map (λ row. row.body) (filter (is_revision n) t.catalogue))
         (seen_of (state S.Store conn.old)) (seen_of (state S.Store conn.new))) }
     ensures kept { Looked (seen_of (state S.Store conn.old)) (seen_of (state S.Store conn.new))
         result }
     ensures mode { conn.old.in_transaction ≡ false → conn.new.in_transaction ≡ false }
 {
-    query(
+    read_rows(
+        alloc,
         conn,
         "SELECT body FROM catalogue WHERE revision = ?1 ORDER BY revision",
         &[among(n, revisions)],
     )
+}
+
+fn first_of(texts: Vec<Text>) -> Option<Text>
+    ensures { result ≡ slice_get texts.items 0 }
+{
+    texts.into_iter().next()
 }
 
 /// The text of a revision of the catalogue, of so many revisions.
@@ -54,8 +62,8 @@ pub fn catalogue_text<S: Alter>(
         result }
     ensures mode { conn.old.in_transaction ≡ false → conn.new.in_transaction ≡ false }
 {
-    let rows = select_catalogue(conn, revisions, revision)?;
-    read_first(alloc, &rows)
+    let texts = catalogue_texts(alloc, conn, revisions, revision)?;
+    Ok(first_of(texts))
 }
 
 fn select_extracted<S: Alter>(

@@ -1,10 +1,23 @@
-use Rattle.std.proofs.Common.{◌∙◌, filter}
+use Rattle.std.proofs.Common.{◌≡◌, ◌∷◌, [], filter}
 use Rattle.std.specs.Str.{bytes_eq}
-use Rattle.std.proofs.lemmas.Result.{IfOk-weaker}
+use Rattle.sqlite_value.specs.declared.value.Value.TheVariants.{Text}
+use Rattle.sqlite.specs.Held.{state}
+use Rattle.desk_sql_layout.specs.Cells.{frozen_cells}
+use Rattle.desk_sql_lookup.proofs.Calls.{read_by, read_looked_by}
+use Rattle.desk_sql_lookup.proofs.ReleaseQueries.{frozen_text, frozen_plain, frozen_read}
 use Rattle.desk_sql_lookup.proofs.releases.frozen.Goals as goal
 
 pub returns-clause-found : goal.returns-clause-found
 returns-clause-found g c =
-    IfOk-weaker c.read_all.result _ _
-    (λ found read clean t held. read (filter (λ row. bytes_eq row.release c.args.release.now) t.frozen) (c.deref.ensures.value ∙ c.in_ok-rows.ensures.found clean t held))
-    c.read_all.ensures
+    let old = state g.S.Store c.args.conn.now in
+    let new = state g.S.Store c.read_rows.new.conn in
+    let release = c.args.release.now in
+    read_by frozen_text (Text release ∷ []) old new frozen_cells c.read_rows.result (λ t found. found ≡ filter (λ row. bytes_eq row.release release) t.frozen)
+    (λ rows found t shown holds are. are (filter (λ row. bytes_eq row.release release) t.frozen) (frozen_read release old new rows t shown holds))
+    (rw c.text.ensures at (c.read_rows.ensures.ok frozen_plain))
+
+pub returns-clause-kept : goal.returns-clause-kept
+returns-clause-kept g c =
+    let old = state g.S.Store c.args.conn.now in
+    let new = state g.S.Store c.read_rows.new.conn in
+    read_looked_by frozen_text (Text c.args.release.now ∷ []) old new frozen_cells c.read_rows.result (rw c.text.ensures at (c.read_rows.ensures.ok frozen_plain)) (c.read_rows.ensures.err frozen_plain)
