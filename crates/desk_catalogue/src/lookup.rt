@@ -16,18 +16,6 @@ fn is_text_of(text: &LicenceText, id: &str) -> bool
     text.licence.as_str().eq_ignore_ascii_case(id)
 }
 
-// The text of an id in any case.
-fn text_for<'a>(catalogue: &'a Catalogue, id: &str) -> Option<&'a LicenceText>
-    ensures { option_map (λ text. text.now) result ≡ text_for catalogue.now id.now }
-{
-    for text in catalogue.texts.as_slice() {
-        if is_text_of(text, id) {
-            return Some(text);
-        }
-    }
-    None
-}
-
 impl Catalogue {
     /// The codes that a term owes in a form; none where the catalogue has no rule for them.
     pub fn rule(&self, term: &Term, form: &str) -> Option<&[Text]>
@@ -56,21 +44,34 @@ impl Catalogue {
         is_kept(self.forms.as_slice(), form)
     }
 
-    /// The text of a licence or an exception, by its id in any case (SPDX 2.3, Annex D.2).
+    /// The text of a licence or an exception, by its id in any case (SPDX 2.3, Annex D.2), with the
+    /// catalogue's own spelling of the id.
+    pub fn text(&self, id: &str) -> Option<&LicenceText>
+        ensures { option_map (λ text. text.now) result ≡ text_for self.now id.now }
+    {
+        for text in self.texts.as_slice() {
+            if is_text_of(text, id) {
+                return Some(text);
+            }
+        }
+        None
+    }
+
+    /// The body of that text.
     pub fn body(&self, id: &str) -> Option<&str>
         ensures { option_map (λ text. text.now) result ≡ body_for self.now id.now }
     {
-        match text_for(self, id) {
+        match self.text(id) {
             Some(found) => Some(found.body.as_str()),
             None => None,
         }
     }
 
-    /// The catalogue's own spelling of the id of a licence or an exception that has a text.
+    /// The catalogue's own spelling of its id.
     pub fn title(&self, id: &str) -> Option<&str>
         ensures { option_map (λ text. text.now) result ≡ title_for self.now id.now }
     {
-        match text_for(self, id) {
+        match self.text(id) {
             Some(found) => Some(found.licence.as_str()),
             None => None,
         }

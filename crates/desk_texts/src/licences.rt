@@ -7,7 +7,6 @@ ghost use Rattle.desk_catalogue.specs.Reading.{catalogue_of};
 ghost use Rattle.desk_catalogue.specs.Terms.{ReadsTerms};
 ghost use Rattle.desk_texts.specs.Catalogues.{found_text};
 
-use desk_base::Text;
 use desk_catalogue::{CatFault, Catalogue};
 use desk_model::LicenceText;
 use std::alloc::{AllocError, Global};
@@ -25,32 +24,27 @@ pub(crate) fn whole_catalogue(alloc: Global, text: &str) -> Result<Option<Catalo
 }
 
 /// A copy of the text that a catalogue has of a licence or an exception.
-fn found_text(
-    alloc: Global,
-    catalogue: &Catalogue,
-    id: &str,
-) -> Result<Option<LicenceText>, AllocError>
+fn found_text(catalogue: &Catalogue, id: &str) -> Result<Option<LicenceText>, AllocError>
     ensures { IfOk result (λ found. found ≡ found_text id.now catalogue.now) }
 {
-    match (catalogue.title(id), catalogue.body(id)) {
-        (Some(title), Some(body)) => Ok(Some(LicenceText {
-            title: Text::of(alloc, title)?,
-            body: Text::of(alloc, body)?,
+    match catalogue.text(id) {
+        Some(text) => Ok(Some(LicenceText {
+            title: text.licence.clone()?,
+            body: text.body.clone()?,
         })),
-        _ => Ok(None),
+        None => Ok(None),
     }
 }
 
 /// The same where there is a catalogue.
 pub(crate) fn licence_text(
-    alloc: Global,
     catalogue: &Option<Catalogue>,
     id: &str,
 ) -> Result<Option<LicenceText>, AllocError>
     ensures { IfOk result (λ found. found ≡ option_and_then (found_text id.now) catalogue.now) }
 {
     match catalogue {
-        Some(catalogue) => found_text(alloc, catalogue, id),
+        Some(catalogue) => found_text(catalogue, id),
         None => Ok(None),
     }
 }

@@ -87,11 +87,11 @@ impl Texts for Standard {
 
     fn licence_text(
         &self,
-        alloc: Global,
+        _alloc: Global,
         licences: &Option<desk_catalogue::Catalogue>,
         id: &str,
     ) -> Result<Option<LicenceText>, AllocError> {
-        licence_text(alloc, licences, id)
+        licence_text(licences, id)
     }
 
     fn expression(
