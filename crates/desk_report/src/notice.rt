@@ -1,6 +1,6 @@
 //! The notices of a release as a text.
 
-ghost use Rattle.std.specs.Prelude.{◌≡◌, ◌++◌, IfOk, OnOk};
+ghost use Rattle.std.specs.Prelude.{◌≡◌, ◌++◌, [], IfOk, OnOk};
 ghost use Rattle.std.specs.List.{flat_map};
 ghost use Rattle.desk_report.specs.Notices.{framed, heading, name_line, rule_line, copyright_line, package_notice, ended, body_text, text_notice, notices_text};
 
@@ -127,6 +127,53 @@ fn add_texts(text: &mut Vec<u8>, texts: &[BillText]) -> Result<(), AllocError>
     Ok(())
 }
 
+// About how many bytes a value takes, with the words around it.
+fn room_of(value: &Option<Text>) -> usize {
+    match value {
+        Some(text) => text.as_str().len().saturating_add(16),
+        None => 32,
+    }
+}
+
+// About how many bytes a package takes.
+fn package_room(package: &BillLine) -> usize {
+    let mut room = package.name.as_str().len();
+    for rule in package.rules.as_slice() {
+        room = room.saturating_add(rule.as_str().len()).saturating_add(16);
+    }
+    room.saturating_add(room_of(&package.version))
+        .saturating_add(room_of(&package.copyright))
+}
+
+// About how many bytes the packages take.
+fn packages_room(packages: &[BillLine]) -> usize {
+    let mut room = 0usize;
+    for package in packages {
+        room = room.saturating_add(package_room(package));
+    }
+    room
+}
+
+// About how many bytes the texts take.
+fn texts_room(texts: &[BillText]) -> usize {
+    let mut room = 0usize;
+    for text in texts {
+        room = room
+            .saturating_add(text.title.as_str().len())
+            .saturating_add(room_of(&text.body));
+    }
+    room
+}
+
+// An empty text with room for about all that a bill comes to, so that it hardly moves as it grows.
+fn with_room(alloc: Global, bill: &Bill) -> Result<Vec<u8>, AllocError>
+    ensures { IfOk result (λ text. text.items ≡ []) }
+{
+    let packages = packages_room(bill.lines.as_slice());
+    let texts = texts_room(bill.texts.as_slice());
+    Vec::with_capacity(alloc, packages.saturating_add(texts))
+}
+
 /// The notices of a frozen release. `Notices for RELEASE (FORM)`; then for each package, behind an
 /// empty line, its name and its version, `Licence: RULE` for each rule of its terms and
 /// `Copyright: ` with its copyright, or `none given`; then for each text, behind an empty line,
@@ -135,7 +182,7 @@ fn add_texts(text: &mut Vec<u8>, texts: &[BillText]) -> Result<(), AllocError>
 pub fn notices(alloc: Global, bill: &Bill) -> Result<Vec<u8>, AllocError>
     ensures { IfOk result (λ text. text.items ≡ notices_text bill.now) }
 {
-    let mut text = Vec::new(alloc);
+    let mut text = with_room(alloc, bill)?;
     add_heading(&mut text, bill)?;
     add_packages(&mut text, bill.lines.as_slice())?;
     add_texts(&mut text, bill.texts.as_slice())?;
