@@ -2,3 +2,4 @@ mod Listings
 mod Lines
 mod Bills
 mod Uses
+pub mod InTurn

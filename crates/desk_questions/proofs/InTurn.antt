@@ -1,0 +1,13 @@
+-- One line more, looked up after those before it.
+use Rattle.std.proofs.Common.{◌≡◌, ◌∙◌, List, [], ◌∷◌, ◌++◌, map, sym, ap}
+use Rattle.std.proofs.lemmas.List.{map-append}
+use Rattle.desk_model.specs.Tables.{Tables}
+use Rattle.desk_access.specs.Seen.{Seen, Same, OfRows}
+
+pub one_more : {Left X L : Type 0} (line_of : Tables → X → L) (done : List X) (x : X) (lines after : List L) (line : L) (a b c : Seen Left) → Same a b → Same b c
+    → OfRows (λ t. lines ≡ map (line_of t) done) a b → OfRows (λ t. line ≡ line_of t x) b c → after ≡ lines ++ line ∷ []
+    → OfRows (λ t. after ≡ map (line_of t) (done ++ x ∷ [])) a c
+one_more line_of done x lines after line a b c first second told one pushed honest t held =
+    pushed
+    ∙ (ap (λ xs. xs ++ line ∷ []) (told (second.kept.spared.honest honest) t held)
+    ∙ (ap (λ l. map (line_of t) done ++ l ∷ []) (one honest t (first.kept.spared.holds t held)) ∙ sym (map-append (line_of t) done (x ∷ []))))
