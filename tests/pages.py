@@ -29,7 +29,7 @@ MOST_WORDS = {
     "docs/DECISIONS.md": 3_500,
     "docs/DEFINITIONS.md": 4_500,
     "docs/EXTENDING.md": 1_500,
-    "docs/LINT.md": 1_100,
+    "docs/LINT.md": 1_000,
     "docs/PROVED.md": 4_000,
     "docs/REFUSALS.md": 1_500,
     "docs/REQUESTS.md": 3_000,
