@@ -22,7 +22,7 @@ pub trait Cost {
 }
 
 /// A set of terms, and the sum of their costs.
-#[derive(Debug, Drop)]
+#[derive(Drop)]
 pub struct Choice {
     /// The sum of the terms' costs.
     pub cost: u64,

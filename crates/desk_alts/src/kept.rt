@@ -9,7 +9,7 @@ use crate::masks::{Mask, Union};
 use std::alloc::{AllocError, Global};
 use std::marker::Model;
 
-#[derive(Debug, Drop)]
+#[derive(Drop)]
 pub(crate) struct Kept {
     lows: Vec<u64>,
     highs: Vec<u64>,

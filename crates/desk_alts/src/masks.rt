@@ -8,14 +8,14 @@ ghost use Rattle.desk_alts.specs.Choices.{HasPlace};
 use crate::covering::is_within;
 
 /// A set of places: bit k of `low` is place k, and bit k of `high` is place 64 + k.
-#[derive(Clone, Copy, Debug, PartialEq, Eq, PartialOrd, Ord)]
+#[derive(Clone, Copy, PartialEq, Eq, PartialOrd, Ord)]
 pub(crate) struct Mask {
     pub(crate) low: u64,
     pub(crate) high: u64,
 }
 
 /// A union of two sets, behind how many places it has, so that small ones come first.
-#[derive(Clone, Copy, Debug, PartialEq, Eq, PartialOrd, Ord)]
+#[derive(Clone, Copy, PartialEq, Eq, PartialOrd, Ord)]
 pub(crate) struct Union {
     size: u32,
     pub(crate) mask: Mask,

@@ -18,7 +18,7 @@ use std::marker::Model;
 /// A set of at most 128 terms, seen as the list of its terms in the order of terms, each once.
 ///
 /// Sets are ordered by size, then by their terms one by one.
-#[derive(Debug, Drop)]
+#[derive(Drop)]
 pub struct TermSet {
     terms: Vec<Term>,
 }

@@ -11,7 +11,7 @@ use std::marker::Model;
 
 /// A day that exists, seen as its ten bytes `YYYY-MM-DD`. The order of these bytes is the order of
 /// the days.
-#[derive(Debug, Drop)]
+#[derive(Drop)]
 pub struct Day {
     text: [u8; 10],
 }

@@ -16,7 +16,7 @@ use std::marker::Model;
 ///
 /// Licence and exception ids are compared without regard to case (SPDX 2.3, Annex D.2), so their
 /// keys are made by `folded`; references keep their bytes and are made by `exact`.
-#[derive(Debug, Drop)]
+#[derive(Drop)]
 pub struct Key {
     text: String,
 }

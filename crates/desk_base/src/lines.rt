@@ -9,7 +9,7 @@ use memchr::memchr;
 use std::alloc::{AllocError, Global};
 
 /// How a line ends.
-#[derive(Debug, Clone, Copy)]
+#[derive(Clone, Copy)]
 pub enum LineEnd {
     /// By a line feed alone.
     Lf,
@@ -20,7 +20,7 @@ pub enum LineEnd {
 }
 
 /// A line of some bytes.
-#[derive(Debug, Clone, Copy)]
+#[derive(Clone, Copy)]
 pub struct Line<'a> {
     /// Its number, from 1.
     pub number: u64,

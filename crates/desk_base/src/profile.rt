@@ -4,7 +4,7 @@ ghost use Rattle.std.specs.Prelude.{◌≡◌};
 ghost use Rattle.desk_base.specs.Profiles.{profile_number, profile_numbered};
 
 /// How the operators of a licence expression are written.
-#[derive(Clone, Copy, Debug, PartialEq, Eq)]
+#[derive(Clone, Copy, PartialEq, Eq)]
 pub enum Profile {
     /// In capitals alone: `AND`, `OR`, `WITH` (SPDX 2.3, Annex D.4).
     Capitals,

@@ -11,7 +11,7 @@ use std::alloc::{AllocError, Global};
 
 /// An arrow from one place to another. Arrows are ordered by where they come from, then by where
 /// they lead.
-#[derive(Debug, Clone, Copy, PartialEq, Eq, PartialOrd, Ord)]
+#[derive(Clone, Copy, PartialEq, Eq, PartialOrd, Ord)]
 pub(crate) struct Arrow {
     pub from: usize,
     pub to: usize,

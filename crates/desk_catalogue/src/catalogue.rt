@@ -4,7 +4,7 @@ use crate::ordered::OrderedRules;
 use desk_base::{Items, Text};
 
 /// The text of a licence or of an exception.
-#[derive(Debug, Drop)]
+#[derive(Drop)]
 pub struct LicenceText {
     /// The id, as the catalogue spells it.
     pub licence: Text,
@@ -12,7 +12,7 @@ pub struct LicenceText {
 }
 
 /// A catalogue: no form, no term with a form and no licence of a text stands in it twice.
-#[derive(Debug, Drop)]
+#[derive(Drop)]
 pub struct Catalogue {
     /// The forms, in their order.
     pub forms: Items<Text>,

@@ -73,7 +73,7 @@ fn side_of(rule: &Rule, term: &Term, form: &str) -> Ordering
 }
 
 /// Rules sorted by term and form, each pair once; seen as a list.
-#[derive(Debug, Drop)]
+#[derive(Drop)]
 pub struct OrderedRules {
     rules: Items<Rule>,
 }

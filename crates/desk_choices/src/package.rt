@@ -15,7 +15,7 @@ use desk_model::{Fault, PackageRow};
 use std::alloc::{AllocError, Global};
 
 /// The terms to choose for a package whose conclusion is true under one minimal set alone.
-#[derive(Debug, Drop)]
+#[derive(Drop)]
 pub struct SoleChoice {
     /// The number of the package's document, from 1.
     pub document: u32,

@@ -14,7 +14,7 @@ use serde_json::Value;
 use std::alloc::Global;
 
 /// How much was left out.
-#[derive(Clone, Copy, Debug, PartialEq, Eq)]
+#[derive(Clone, Copy, PartialEq, Eq)]
 pub struct Skipped {
     /// References to other documents (`externalDocumentRefs`).
     pub external_documents: usize,
@@ -29,7 +29,7 @@ pub struct Skipped {
 }
 
 /// A converted document.
-#[derive(Debug, Drop)]
+#[derive(Drop)]
 pub struct Converted {
     /// The document in tag-value form.
     pub text: String,

@@ -10,7 +10,7 @@ use std::marker::Model;
 
 /// A term that is well formed: its key is a folded id, or a reference without a plus, and its
 /// exception is a folded id.
-#[derive(Debug, Drop)]
+#[derive(Drop)]
 pub(crate) struct Leaf {
     term: Term,
 }
@@ -64,13 +64,13 @@ impl Clone for Leaf {
 
 /// A licence expression, seen as its tree. Each All and Any has two or more parts, and each term is
 /// well formed.
-#[derive(Debug, Drop)]
+#[derive(Drop)]
 #[cycle(expr)]
 pub struct Expr {
     pub(crate) node: Node,
 }
 
-#[derive(Debug, Drop)]
+#[derive(Drop)]
 #[cycle(expr)]
 pub(crate) enum Node {
     One(Leaf),

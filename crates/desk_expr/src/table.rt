@@ -11,7 +11,7 @@ use std::alloc::{AllocError, Global};
 use std::marker::Model;
 
 /// The distinct terms of an expression, in the order of terms.
-#[derive(Debug, Drop)]
+#[derive(Drop)]
 pub struct TermTable {
     terms: Vec<Term>,
 }

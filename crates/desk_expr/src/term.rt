@@ -6,7 +6,7 @@ use desk_base::Key;
 ///
 /// Terms are ordered by key, then without a plus before with one, then without an exception before
 /// with one, then by the exception.
-#[derive(Clone, Debug, Drop, PartialEq, Eq, PartialOrd, Ord)]
+#[derive(Clone, Drop, PartialEq, Eq, PartialOrd, Ord)]
 pub struct Term {
     /// The folded licence id, or the reference byte for byte.
     pub key: Key,

@@ -33,7 +33,7 @@ pub enum Kind {
 }
 
 /// A parenthesis, or a longest run of bytes that are neither blanks nor parentheses.
-#[derive(Clone, Copy, Debug)]
+#[derive(Clone, Copy)]
 pub struct Token<'a> {
     /// The token's slice of the text.
     pub text: &'a str,

@@ -18,7 +18,7 @@ use crate::listed::{Listed, places_of};
 use crate::term::Term;
 
 /// What a choice of terms is worth.
-#[derive(Clone, Copy, Debug, PartialEq, Eq)]
+#[derive(Clone, Copy, PartialEq, Eq)]
 pub enum Verdict {
     /// It doesn't satisfy the expression.
     NotEnough,

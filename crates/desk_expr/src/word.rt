@@ -16,7 +16,7 @@ use desk_base::Key;
 use std::alloc::{AllocError, Global};
 
 /// Why reading goes no further.
-#[derive(Clone, Copy, Debug)]
+#[derive(Clone, Copy)]
 pub(crate) enum Halt {
     /// The token, or the end, can't stand there.
     Unexpected,

@@ -13,7 +13,7 @@ use crate::DocFault;
 use crate::text::{first_line, skip_blanks, trimmed};
 
 /// A field of a document.
-#[derive(Debug, Clone, Copy)]
+#[derive(Clone, Copy)]
 pub struct Field<'a> {
     /// The line on which it begins, from 1.
     pub line: u64,

@@ -12,7 +12,7 @@ use desk_fields::Tag;
 use desk_tagvalue::{Document, Entry, SectionKind, is_placed, sha1_digits};
 
 /// A field, the section in which it stands, and how many packages have begun up to it.
-#[derive(Debug, Clone, Copy)]
+#[derive(Clone, Copy)]
 pub(crate) struct Placed<'a> {
     pub section: SectionKind,
     pub packages: usize,

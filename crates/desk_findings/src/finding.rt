@@ -7,7 +7,7 @@ use std::alloc::AllocError;
 
 /// A field that a document should have and hasn't, in the order in which such findings of one line
 /// are told.
-#[derive(Debug, Clone, Copy, PartialEq, Eq)]
+#[derive(Clone, Copy, PartialEq, Eq)]
 pub enum MissingField {
     /// `DataLicense` (clause 6.2).
     DataLicense,
@@ -25,7 +25,7 @@ pub enum MissingField {
 
 /// What isn't as the standard has it. The kinds have numbers, names, the clause of SPDX 2.3 that
 /// they are about, and a usual cause.
-#[derive(Debug, Clone, Copy, PartialEq, Eq)]
+#[derive(Clone, Copy, PartialEq, Eq)]
 pub enum FindingKind {
     /// 1: a tag that the standard doesn't have (clauses 6 to 12). A misspelt tag, or one of another
     /// tool.
@@ -141,7 +141,7 @@ impl FindingKind {
 }
 
 /// Something in a document that isn't as the standard has it.
-#[derive(Debug, Clone, Copy, PartialEq, Eq)]
+#[derive(Clone, Copy, PartialEq, Eq)]
 pub struct Finding {
     /// The line, from 1.
     pub line: u64,

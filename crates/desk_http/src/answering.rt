@@ -15,7 +15,7 @@ use desk_model::{Command, Outcome, Query};
 use std::alloc::Global;
 
 /// What is wanted of the desk.
-#[derive(Debug, Drop)]
+#[derive(Drop)]
 pub enum Wanted {
     /// This request, which may come by GET.
     Request(Request, bool),

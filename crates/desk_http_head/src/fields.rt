@@ -7,7 +7,7 @@ ghost use Rattle.desk_http_head.specs.Fields.{number_text, has_field, is_named, 
 use httparse::spans::HeaderSpan;
 
 /// What the fields say of the body's length.
-#[derive(Clone, Copy, Debug)]
+#[derive(Clone, Copy)]
 pub enum BodyLength {
     /// No field gives it: there is no body.
     Unsaid,

@@ -12,7 +12,7 @@ use httparse::Status as Parsed;
 use httparse::spans::{EMPTY_HEADER_SPAN, HeaderSpan, parse_request};
 
 /// What is awaited.
-#[derive(Clone, Copy, Debug)]
+#[derive(Clone, Copy)]
 pub enum Awaited {
     /// A first byte of the head: line ends may stand before it.
     Start,
@@ -23,7 +23,7 @@ pub enum Awaited {
 }
 
 /// What the bytes that came so far begin with.
-#[derive(Clone, Copy, Debug)]
+#[derive(Clone, Copy)]
 pub enum Framing<'a> {
     /// A part of a request: more bytes are awaited.
     Part(Awaited),

@@ -29,7 +29,7 @@ pub enum ServeFault {
 }
 
 /// What was received.
-#[derive(Debug, Drop)]
+#[derive(Drop)]
 pub enum Received {
     /// No byte came.
     Nothing,

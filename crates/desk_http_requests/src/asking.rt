@@ -4,7 +4,7 @@ use desk_http_head::Status;
 use desk_model::{Command, Outcome, Query};
 
 /// The form in which an answer is written.
-#[derive(Clone, Copy, Debug, PartialEq, Eq)]
+#[derive(Clone, Copy, PartialEq, Eq)]
 pub enum Shape {
     /// A line of JSON.
     Json,
@@ -15,7 +15,7 @@ pub enum Shape {
 }
 
 /// What a request asks of the desk.
-#[derive(Debug, Drop)]
+#[derive(Drop)]
 pub enum Request {
     /// The command is to be applied.
     Act(Command),
@@ -30,7 +30,7 @@ pub enum Request {
 }
 
 /// What bytes begin with.
-#[derive(Debug, Drop)]
+#[derive(Drop)]
 pub enum Reading<'a> {
     /// A request, and the bytes after its body.
     Whole(Request, &'a [u8]),
@@ -41,7 +41,7 @@ pub enum Reading<'a> {
 }
 
 /// What a connection is replied.
-#[derive(Debug, Drop)]
+#[derive(Drop)]
 pub enum Reply {
     /// What became of its command or query, the shape of an answer, and whether it was a GET.
     Became(Outcome, Shape, bool),

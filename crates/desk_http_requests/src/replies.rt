@@ -14,7 +14,7 @@ use desk_report::{duties_csv, notices};
 use std::alloc::{AllocError, Global};
 
 /// What is written of a reply: its bytes, or one of those that take no memory.
-#[derive(Debug, Drop)]
+#[derive(Drop)]
 pub enum Message {
     Made(Status, Vec<u8>),
     NoMemory,
@@ -23,7 +23,7 @@ pub enum Message {
 }
 
 /// What an outcome is written as.
-#[derive(Debug, Drop)]
+#[derive(Drop)]
 struct Content {
     media_type: &'static str,
     body: Vec<u8>,

@@ -7,14 +7,14 @@ use matchit::{InsertError, Router};
 use std::alloc::{AllocError, Global};
 
 /// What a path leads to: by POST a request to be read from the body, by GET an answer.
-#[derive(Clone, Copy, Debug)]
+#[derive(Clone, Copy)]
 pub enum Route {
     Post(Posted),
     Get(Shown),
 }
 
 /// What the body is that is posted.
-#[derive(Clone, Copy, Debug)]
+#[derive(Clone, Copy)]
 pub enum Posted {
     /// A command or a query as JSON.
     Request,
@@ -25,7 +25,7 @@ pub enum Posted {
 }
 
 /// What is shown.
-#[derive(Clone, Copy, Debug)]
+#[derive(Clone, Copy)]
 pub enum Shown {
     Findings,
     Alternatives,

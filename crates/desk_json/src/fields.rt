@@ -91,7 +91,7 @@ fn texts_at(alloc: Global, value: &Value, key: &str) -> Result<Option<Items<Text
 }
 
 /// Why a value gives no request.
-#[derive(Clone, Copy, Debug, Drop)]
+#[derive(Clone, Copy, Drop)]
 pub(crate) enum Unread {
     /// It is none.
     BadCommand,

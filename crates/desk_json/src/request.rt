@@ -3,7 +3,7 @@
 use desk_model::{Command, Query};
 
 /// What a text asks of the desk.
-#[derive(Debug, Drop)]
+#[derive(Drop)]
 pub enum Request {
     /// The command is to be applied.
     Act(Command),

@@ -4,7 +4,7 @@ use desk_base::Text;
 use desk_model::Totals;
 
 /// A release, and how many of its duties are in which state.
-#[derive(Debug, Drop)]
+#[derive(Drop)]
 pub struct ReleaseLine {
     /// Its name.
     pub name: Text,
@@ -21,7 +21,7 @@ pub struct ReleaseLine {
 }
 
 /// A document, and how many packages it has.
-#[derive(Debug, Drop)]
+#[derive(Drop)]
 pub struct DocumentLine {
     /// Its number, from 1.
     pub number: i64,
@@ -41,7 +41,7 @@ pub struct DocumentLine {
 }
 
 /// A duty of a release. Days are written `YYYY-MM-DD`.
-#[derive(Debug, Drop)]
+#[derive(Drop)]
 pub struct DutyLine {
     /// Its number, from 1.
     pub number: i64,

@@ -3,7 +3,7 @@
 use desk_base::{Items, Text};
 
 /// Whose text it is.
-#[derive(Debug, Drop)]
+#[derive(Drop)]
 pub enum TextOf {
     /// A licence's or an exception's.
     Licence {
@@ -20,7 +20,7 @@ pub enum TextOf {
 }
 
 /// A package that a release shipped, with the rules of the terms that it was frozen with.
-#[derive(Debug, Drop)]
+#[derive(Drop)]
 pub struct BillLine {
     /// The value of PackageName.
     pub name: Text,
@@ -33,7 +33,7 @@ pub struct BillLine {
 }
 
 /// A text that goes with a release.
-#[derive(Debug, Drop)]
+#[derive(Drop)]
 pub struct BillText {
     /// The licence or the exception, as the catalogue spells it at its text, else its id; a
     /// reference as it is.
@@ -43,7 +43,7 @@ pub struct BillText {
 }
 
 /// What the notices of a frozen release are written of.
-#[derive(Debug, Drop)]
+#[derive(Drop)]
 pub struct Bill {
     /// The name of the release.
     pub release: Text,

@@ -15,7 +15,7 @@ use thiserror::Error;
 
 /// A command, with texts and numbers as they came: nothing of them is checked before the desk
 /// decides.
-#[derive(Debug, Drop)]
+#[derive(Drop)]
 pub enum Command {
     /// A catalogue is loaded as the next revision.
     LoadCatalogue {
@@ -134,7 +134,7 @@ pub enum Command {
 }
 
 /// A question.
-#[derive(Debug, Drop)]
+#[derive(Drop)]
 pub enum Query {
     /// The duties of a release, by number.
     Duties {
@@ -197,7 +197,7 @@ pub enum Query {
 }
 
 /// A duty of a release, and the day of its last change.
-#[derive(Debug, Drop)]
+#[derive(Drop)]
 pub struct DutyLine {
     /// Its number, from 1.
     pub number: u32,
@@ -218,7 +218,7 @@ pub struct DutyLine {
 }
 
 /// A package that a release ships, with the text of its conclusion and what is chosen for it.
-#[derive(Debug, Drop)]
+#[derive(Drop)]
 pub struct PackageLine {
     /// The number of the document, from 1.
     pub document: u32,
@@ -233,7 +233,7 @@ pub struct PackageLine {
 }
 
 /// How many duties of a release were raised, and how many of these stand where.
-#[derive(Clone, Copy, Debug, PartialEq, Eq)]
+#[derive(Clone, Copy, PartialEq, Eq)]
 pub struct Totals {
     /// All that were raised: the sum of the others.
     pub raised: u64,
@@ -248,7 +248,7 @@ pub struct Totals {
 }
 
 /// A release, and how many of its duties stand where.
-#[derive(Debug, Drop)]
+#[derive(Drop)]
 pub struct ReleaseLine {
     /// The release itself.
     pub release: ReleaseRow,
@@ -257,7 +257,7 @@ pub struct ReleaseLine {
 }
 
 /// A document, and how many packages it ships.
-#[derive(Debug, Drop)]
+#[derive(Drop)]
 pub struct DocumentLine {
     /// The document, without its bytes.
     pub head: DocumentHead,
@@ -266,7 +266,7 @@ pub struct DocumentLine {
 }
 
 /// An open duty, and the day of its last change.
-#[derive(Debug, Drop)]
+#[derive(Drop)]
 pub struct OpenDuty {
     /// The duty itself.
     pub duty: DutyRow,
@@ -275,7 +275,7 @@ pub struct OpenDuty {
 }
 
 /// What a command or a query is answered.
-#[derive(Debug, Drop)]
+#[derive(Drop)]
 pub enum Answer {
     /// The catalogue was loaded as this revision.
     Revision(u32),
@@ -328,7 +328,7 @@ pub enum Answer {
 }
 
 /// What a recorded command does to the rows.
-#[derive(Debug, Drop)]
+#[derive(Drop)]
 pub enum Change {
     /// A revision of the catalogue is loaded.
     Loaded {
@@ -395,7 +395,7 @@ pub enum Change {
 }
 
 /// What a command comes to, decided before anything is written.
-#[derive(Debug, Drop)]
+#[derive(Drop)]
 pub enum Plan {
     /// It is answered so, and the rows stay.
     Leave(Answer),
@@ -446,7 +446,7 @@ impl<T: Drop> From<AllocFailed<T>> for Fault {
 }
 
 /// What became of a command.
-#[derive(Debug, Drop)]
+#[derive(Drop)]
 pub enum Outcome {
     /// There is an answer.
     Answered(Answer),

@@ -3,7 +3,7 @@
 use desk_base::Text;
 
 /// A finding of a document.
-#[derive(Debug, Drop)]
+#[derive(Drop)]
 pub struct FindingRow {
     /// The line, from 1.
     pub line: u64,

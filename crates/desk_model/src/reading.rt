@@ -4,7 +4,7 @@ pub use desk_base::Profile;
 use desk_base::{Items, Text};
 
 /// A rule of a catalogue: what a term owes in a form.
-#[derive(Debug, Drop)]
+#[derive(Drop)]
 pub struct Rule {
     /// The term, as it is printed.
     pub term: Text,
@@ -17,7 +17,7 @@ pub struct Rule {
 }
 
 /// A catalogue of rules.
-#[derive(Debug, Drop)]
+#[derive(Drop)]
 pub struct Catalogue {
     /// The forms, in the order of the text, each once.
     pub forms: Items<Text>,
@@ -26,7 +26,7 @@ pub struct Catalogue {
 }
 
 /// The text that a catalogue has of a licence or an exception.
-#[derive(Debug, Drop)]
+#[derive(Drop)]
 pub struct LicenceText {
     /// The id, as the catalogue spells it.
     pub title: Text,
@@ -35,7 +35,7 @@ pub struct LicenceText {
 }
 
 /// A package of a document.
-#[derive(Debug, Drop)]
+#[derive(Drop)]
 pub struct Package {
     /// Its SPDXID.
     pub id: Text,
@@ -52,7 +52,7 @@ pub struct Package {
 }
 
 /// A licence reference that a document defines.
-#[derive(Debug, Drop)]
+#[derive(Drop)]
 pub struct Reference {
     /// The value of LicenseID.
     pub id: Text,
@@ -61,7 +61,7 @@ pub struct Reference {
 }
 
 /// A document.
-#[derive(Debug, Drop)]
+#[derive(Drop)]
 pub struct Document {
     /// The value of DocumentNamespace.
     pub namespace: Text,
@@ -73,7 +73,7 @@ pub struct Document {
 
 /// The licence expression that is concluded for a package, as it was written, and the profile that
 /// it is read by.
-#[derive(Debug, Drop)]
+#[derive(Drop)]
 pub struct Conclusion {
     /// How its operators may be written.
     pub profile: Profile,
@@ -82,7 +82,7 @@ pub struct Conclusion {
 }
 
 /// Why the minimal sets of terms of a licence expression aren't listed.
-#[derive(Clone, Copy, Debug, PartialEq, Eq)]
+#[derive(Clone, Copy, PartialEq, Eq)]
 pub enum ListFault {
     /// It has more than 128 distinct terms.
     TooManyTerms,
@@ -92,7 +92,7 @@ pub enum ListFault {
 }
 
 /// The cheapest set of terms that a licence expression is true under, printed, and what it costs.
-#[derive(Debug, Drop)]
+#[derive(Drop)]
 pub struct Cheapest {
     /// The number of duties that the terms owe.
     pub cost: u64,
@@ -101,7 +101,7 @@ pub struct Cheapest {
 }
 
 /// What a list of terms is to a licence expression.
-#[derive(Clone, Copy, Debug, PartialEq, Eq)]
+#[derive(Clone, Copy, PartialEq, Eq)]
 pub enum Verdict {
     /// The expression isn't true under these terms.
     NotEnough,

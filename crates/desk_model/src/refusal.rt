@@ -4,7 +4,7 @@ use crate::state::{DutyState, ReleaseState};
 use desk_base::Text;
 
 /// Why a text is no licence expression (SPDX 2.3, Annex D), with the byte where it stops.
-#[derive(Clone, Copy, Debug, PartialEq, Eq)]
+#[derive(Clone, Copy, PartialEq, Eq)]
 pub enum ExpressionFault {
     /// There is nothing but blanks.
     Empty(usize),
@@ -43,7 +43,7 @@ impl ExpressionFault {
 }
 
 /// Why a text is no tag-value document (SPDX 2.3), with the line, counted from 1.
-#[derive(Debug, Drop, PartialEq)]
+#[derive(Drop, PartialEq)]
 pub enum DocumentFault {
     /// The bytes are no UTF-8.
     NotUtf8,
@@ -169,7 +169,7 @@ impl CatalogueFault {
 }
 
 /// What is full.
-#[derive(Clone, Copy, Debug, PartialEq, Eq)]
+#[derive(Clone, Copy, PartialEq, Eq)]
 pub enum Limit {
     /// Revisions of the catalogue.
     Revisions,
@@ -208,7 +208,7 @@ impl Limit {
 }
 
 /// Why a command or a query is refused.
-#[derive(Debug, Drop, PartialEq)]
+#[derive(Drop, PartialEq)]
 pub enum Refusal {
     /// The text is no catalogue.
     BadCatalogue(CatalogueFault),

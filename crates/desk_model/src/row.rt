@@ -5,7 +5,7 @@ use crate::state::{DutyState, ReleaseState, Word};
 use desk_base::{Day, Items, Text};
 
 /// A revision of the catalogue.
-#[derive(Debug, Drop)]
+#[derive(Drop)]
 pub struct CatalogueRow {
     /// Its number, from 1, in the order of loading.
     pub revision: u32,
@@ -14,7 +14,7 @@ pub struct CatalogueRow {
 }
 
 /// A rule of a revision.
-#[derive(Debug, Drop)]
+#[derive(Drop)]
 pub struct RuleRow {
     /// The revision, from 1.
     pub revision: u32,
@@ -30,7 +30,7 @@ pub struct RuleRow {
 }
 
 /// A document, with the profile that it was imported with.
-#[derive(Debug, Drop)]
+#[derive(Drop)]
 pub struct DocumentRow {
     /// Its number, from 1, in the order of import.
     pub number: u32,
@@ -43,7 +43,7 @@ pub struct DocumentRow {
 }
 
 /// A document without its bytes.
-#[derive(Debug, Drop)]
+#[derive(Drop)]
 pub struct DocumentHead {
     /// Its number, from 1, in the order of import.
     pub number: u32,
@@ -54,7 +54,7 @@ pub struct DocumentHead {
 }
 
 /// A package of a document.
-#[derive(Debug, Drop)]
+#[derive(Drop)]
 pub struct PackageRow {
     /// The number of the document, from 1.
     pub document: u32,
@@ -73,7 +73,7 @@ pub struct PackageRow {
 }
 
 /// A licence reference that a document defines.
-#[derive(Debug, Drop)]
+#[derive(Drop)]
 pub struct ExtractedRow {
     /// The number of the document, from 1.
     pub document: u32,
@@ -84,7 +84,7 @@ pub struct ExtractedRow {
 }
 
 /// The office's conclusion for a package, as it was written.
-#[derive(Debug, Drop)]
+#[derive(Drop)]
 pub struct ConclusionRow {
     /// The number of the document, from 1.
     pub document: u32,
@@ -95,7 +95,7 @@ pub struct ConclusionRow {
 }
 
 /// The licence that a reference of a document was adopted as.
-#[derive(Debug, Drop)]
+#[derive(Drop)]
 pub struct AdoptionRow {
     /// The number of the document, from 1.
     pub document: u32,
@@ -106,7 +106,7 @@ pub struct AdoptionRow {
 }
 
 /// A release.
-#[derive(Debug, Drop)]
+#[derive(Drop)]
 pub struct ReleaseRow {
     /// An idstring of 1 to 64 bytes, which OpenRelease checks.
     pub name: Text,
@@ -121,7 +121,7 @@ pub struct ReleaseRow {
 }
 
 /// A document that is attached to a release.
-#[derive(Debug, Drop)]
+#[derive(Drop)]
 pub struct AttachedRow {
     /// The name of a release.
     pub release: Text,
@@ -130,7 +130,7 @@ pub struct AttachedRow {
 }
 
 /// A term that is chosen for a package of a document in a release.
-#[derive(Debug, Drop)]
+#[derive(Drop)]
 pub struct ChoiceRow {
     /// The name of a release.
     pub release: Text,
@@ -143,7 +143,7 @@ pub struct ChoiceRow {
 }
 
 /// A term that a release was frozen with, and the rule's spelling of its adopted form.
-#[derive(Debug, Drop)]
+#[derive(Drop)]
 pub struct FrozenRow {
     /// The name of a release.
     pub release: Text,
@@ -159,7 +159,7 @@ pub struct FrozenRow {
 
 /// What a duty is owed for: a code of the rule for a term of a package in a release, and the rule's
 /// spelling of the term.
-#[derive(Debug, Drop)]
+#[derive(Drop)]
 pub struct Owed {
     /// The name of a release.
     pub release: Text,
@@ -176,7 +176,7 @@ pub struct Owed {
 }
 
 /// A duty.
-#[derive(Debug, Drop)]
+#[derive(Drop)]
 pub struct DutyRow {
     /// Its number, from 1, in the order of freezes.
     pub number: u32,
@@ -197,7 +197,7 @@ pub struct DutyRow {
 }
 
 /// A move of a duty: its day, word and text, and the last day of a waiver that ends.
-#[derive(Debug, Drop)]
+#[derive(Drop)]
 pub struct Move {
     /// The day, `YYYY-MM-DD`.
     pub day: Day,
@@ -210,7 +210,7 @@ pub struct Move {
 }
 
 /// A change of a duty.
-#[derive(Debug, Drop)]
+#[derive(Drop)]
 pub struct ChangeRow {
     /// The number of the duty, from 1.
     pub duty: u32,
@@ -227,7 +227,7 @@ pub struct ChangeRow {
 }
 
 /// Where a duty stands: its state, and how many changes it has.
-#[derive(Debug, Drop)]
+#[derive(Drop)]
 pub struct Standing {
     /// The number of the duty, from 1.
     pub number: u32,

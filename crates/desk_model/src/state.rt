@@ -1,7 +1,7 @@
 //! Where a release and a duty stand.
 
 /// Where a release stands. It is printed as `open`, `frozen` or `withdrawn`.
-#[derive(Clone, Copy, Debug, PartialEq, Eq)]
+#[derive(Clone, Copy, PartialEq, Eq)]
 pub enum ReleaseState {
     IsOpen,
     Frozen,
@@ -25,7 +25,7 @@ impl ReleaseState {
 }
 
 /// Where a duty stands. It is printed as `open`, `met`, `waived` or `withdrawn`.
-#[derive(Clone, Copy, Debug, PartialEq, Eq)]
+#[derive(Clone, Copy, PartialEq, Eq)]
 pub enum DutyState {
     IsOpen,
     Met,
@@ -52,7 +52,7 @@ impl DutyState {
 
 /// What a change of a duty was. It is printed as `raised`, `met`, `waived`, `reopened`, `withdrawn`
 /// or `ended`.
-#[derive(Clone, Copy, Debug, PartialEq, Eq)]
+#[derive(Clone, Copy, PartialEq, Eq)]
 pub enum Word {
     Raised,
     Met,

@@ -9,7 +9,7 @@ use std::alloc::{AllocError, Global};
 use std::marker::Model;
 
 /// A piece of a pattern.
-#[derive(Debug, Clone, Copy)]
+#[derive(Clone, Copy)]
 pub enum Piece {
     /// A byte that stands for itself.
     Byte(u8),
@@ -39,7 +39,7 @@ fn first_piece(pattern: &[u8]) -> Option<(Piece, &[u8])>
 /// `*` is any bytes but `/`, `**` any bytes, `\*` an asterisk and `\\` a backslash. Read from the
 /// left, two asterisks are `**` first; a backslash before another byte stands for that byte, and at
 /// the end for itself. So each text is a pattern.
-#[derive(Debug, Drop)]
+#[derive(Drop)]
 pub struct Glob {
     pieces: Vec<Piece>,
 }

@@ -15,7 +15,7 @@ const NOTICE: &[u8] = b"SPDX-FileCopyrightText:";
 const LICENCE: &[u8] = b"SPDX-License-Identifier:";
 
 /// What a file states itself. Its texts are parts of the file.
-#[derive(Debug, Drop)]
+#[derive(Drop)]
 pub struct Info<'a> {
     /// The values of `SPDX-FileCopyrightText:`, by line.
     pub notices: Vec<Tagged<'a>>,

@@ -11,7 +11,7 @@ use memchr::memmem::Finder;
 use std::alloc::AllocError;
 
 /// The value of a tag, and its line.
-#[derive(Debug, Clone, Copy)]
+#[derive(Clone, Copy)]
 pub struct Tagged<'a> {
     /// The line, from 1.
     pub line: u64,

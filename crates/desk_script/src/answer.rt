@@ -16,7 +16,7 @@ use desk_model::{Command, Fault, Outcome, Query};
 use std::alloc::Global;
 
 /// What a line is replied.
-#[derive(Debug, Drop)]
+#[derive(Drop)]
 pub enum Reply {
     /// What became of its request.
     Became(Outcome),

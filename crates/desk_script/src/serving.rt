@@ -23,7 +23,7 @@ use std::mem;
 use thiserror::Error;
 
 /// How many lines of a script were refused, and how many failed.
-#[derive(Clone, Copy, Debug, PartialEq, Eq)]
+#[derive(Clone, Copy, PartialEq, Eq)]
 pub struct ScriptEnd {
     /// The lines that are no request, and those whose request was refused.
     pub refused: u64,

@@ -51,7 +51,7 @@ impl AuditFault {
 }
 
 /// What an audit tells of a desk's tables.
-#[derive(Clone, Copy, Debug, PartialEq, Eq)]
+#[derive(Clone, Copy, PartialEq, Eq)]
 pub enum AuditReport {
     /// They meet all ten conditions.
     Sound,

@@ -4,21 +4,21 @@
 use desk_base::{Items, Text};
 
 /// A row of `meta`.
-#[derive(Debug, Drop)]
+#[derive(Drop)]
 pub struct StoredMeta {
     /// The version of the schema.
     pub version: i64,
 }
 
 /// A row of `catalogue`.
-#[derive(Debug, Drop)]
+#[derive(Drop)]
 pub struct StoredCatalogue {
     pub revision: i64,
     pub body: Text,
 }
 
 /// A row of `rule`.
-#[derive(Debug, Drop)]
+#[derive(Drop)]
 pub struct StoredRule {
     pub revision: i64,
     pub term: Text,
@@ -29,7 +29,7 @@ pub struct StoredRule {
 }
 
 /// A row of `document`.
-#[derive(Debug, Drop)]
+#[derive(Drop)]
 pub struct StoredDocument {
     pub number: i64,
     pub namespace: Text,
@@ -37,14 +37,14 @@ pub struct StoredDocument {
 }
 
 /// A row of `reading`: the profile that a document is read by.
-#[derive(Debug, Drop)]
+#[derive(Drop)]
 pub struct StoredReading {
     pub document: i64,
     pub profile: i64,
 }
 
 /// A row of `package`.
-#[derive(Debug, Drop)]
+#[derive(Drop)]
 pub struct StoredPackage {
     pub document: i64,
     pub id: Text,
@@ -57,7 +57,7 @@ pub struct StoredPackage {
 }
 
 /// A row of `extracted`.
-#[derive(Debug, Drop)]
+#[derive(Drop)]
 pub struct StoredExtracted {
     pub document: i64,
     pub reference: Text,
@@ -65,7 +65,7 @@ pub struct StoredExtracted {
 }
 
 /// A row of `conclusion`.
-#[derive(Debug, Drop)]
+#[derive(Drop)]
 pub struct StoredConclusion {
     pub document: i64,
     pub package_id: Text,
@@ -73,7 +73,7 @@ pub struct StoredConclusion {
 }
 
 /// A row of `adoption`.
-#[derive(Debug, Drop)]
+#[derive(Drop)]
 pub struct StoredAdoption {
     pub document: i64,
     pub reference: Text,
@@ -81,7 +81,7 @@ pub struct StoredAdoption {
 }
 
 /// A row of `releases`.
-#[derive(Debug, Drop)]
+#[derive(Drop)]
 pub struct StoredRelease {
     pub name: Text,
     pub place: i64,
@@ -91,14 +91,14 @@ pub struct StoredRelease {
 }
 
 /// A row of `attached`.
-#[derive(Debug, Drop)]
+#[derive(Drop)]
 pub struct StoredAttached {
     pub release: Text,
     pub document: i64,
 }
 
 /// A row of `choice`.
-#[derive(Debug, Drop)]
+#[derive(Drop)]
 pub struct StoredChoice {
     pub release: Text,
     pub document: i64,
@@ -107,7 +107,7 @@ pub struct StoredChoice {
 }
 
 /// A row of `frozen`.
-#[derive(Debug, Drop)]
+#[derive(Drop)]
 pub struct StoredFrozen {
     pub release: Text,
     pub document: i64,
@@ -117,7 +117,7 @@ pub struct StoredFrozen {
 }
 
 /// A row of `duty`.
-#[derive(Debug, Drop)]
+#[derive(Drop)]
 pub struct StoredDuty {
     pub number: i64,
     pub release: Text,
@@ -130,7 +130,7 @@ pub struct StoredDuty {
 }
 
 /// A row of `change`.
-#[derive(Debug, Drop)]
+#[derive(Drop)]
 pub struct StoredChange {
     pub duty: i64,
     pub step: i64,
@@ -140,7 +140,7 @@ pub struct StoredChange {
 }
 
 /// A row of `waiver`: the last day of a waiver that ends.
-#[derive(Debug, Drop)]
+#[derive(Drop)]
 pub struct StoredWaiver {
     pub duty: i64,
     pub step: i64,

@@ -9,7 +9,7 @@ use std::alloc::{AllocError, Global};
 use std::marker::Model;
 
 /// What is left out.
-#[derive(Clone, Copy, Debug, PartialEq, Eq)]
+#[derive(Clone, Copy, PartialEq, Eq)]
 pub enum Kind {
     /// A reference to another document.
     ExternalDocument,
@@ -24,7 +24,7 @@ pub enum Kind {
 }
 
 /// What is done.
-#[derive(Debug, Drop)]
+#[derive(Drop)]
 pub enum What<'a> {
     /// A blank line is written.
     Blank,
@@ -45,7 +45,7 @@ pub enum What<'a> {
 }
 
 /// What is done at a place.
-#[derive(Debug, Drop)]
+#[derive(Drop)]
 pub struct Step<'a> {
     /// The place, a JSON pointer.
     pub at: String,
@@ -54,7 +54,7 @@ pub struct Step<'a> {
 }
 
 /// Steps, in order.
-#[derive(Debug, Drop)]
+#[derive(Drop)]
 pub struct Steps<'a> {
     steps: Vec<Step<'a>>,
 }

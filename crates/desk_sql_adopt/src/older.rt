@@ -17,7 +17,7 @@ use sqlite::{Alter, Connection};
 use sqlite_schema::schema::Schema;
 
 /// A version of a desk's tables before this one.
-#[derive(Clone, Copy, Debug, Drop, PartialEq, Eq)]
+#[derive(Clone, Copy, Drop, PartialEq, Eq)]
 pub enum OlderVersion {
     /// Version 1: neither profiles of documents nor last days of waivers.
     One,
@@ -38,7 +38,7 @@ impl OlderVersion {
 }
 
 /// What a database is to a migration.
-#[derive(Clone, Copy, Debug, Drop, PartialEq, Eq)]
+#[derive(Clone, Copy, Drop, PartialEq, Eq)]
 pub enum OlderContent {
     /// The tables of an older version.
     Older(OlderVersion),

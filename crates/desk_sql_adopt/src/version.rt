@@ -23,7 +23,7 @@ use sqlite_value::value::ValueRef;
 const VERSION: i64 = 3;
 
 /// What a database holds.
-#[derive(Clone, Copy, Debug, Drop, PartialEq, Eq)]
+#[derive(Clone, Copy, Drop, PartialEq, Eq)]
 pub enum Content {
     /// The tables of a desk, which tell no other version.
     Desk,

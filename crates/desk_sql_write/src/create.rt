@@ -45,7 +45,7 @@ const TABLES: [&str; 16] = [
 ];
 
 /// Why no tables were created.
-#[derive(Clone, Copy, Debug, Drop, PartialEq, Eq)]
+#[derive(Clone, Copy, Drop, PartialEq, Eq)]
 pub enum Refused {
     /// The database has a table `meta`.
     NotEmpty,

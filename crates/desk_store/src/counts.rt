@@ -6,7 +6,7 @@ ghost use Rattle.desk_store.specs.Counting.{counts_after};
 use desk_model::Change;
 
 /// How many revisions, documents, releases and duties there are.
-#[derive(Clone, Copy, Debug, PartialEq, Eq)]
+#[derive(Clone, Copy, PartialEq, Eq)]
 pub struct Counts {
     pub revisions: u32,
     pub documents: u32,

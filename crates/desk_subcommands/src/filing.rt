@@ -22,7 +22,7 @@ use std::alloc::{AllocError, Global};
 use std::io::Write;
 
 /// Why a file keeps no desk that this program goes on with.
-#[derive(Clone, Copy, Debug, Drop, PartialEq, Eq)]
+#[derive(Clone, Copy, Drop, PartialEq, Eq)]
 pub enum NoDesk {
     /// It has a table `meta`, and not all tables of a desk and no others.
     NotADesk,

@@ -15,7 +15,7 @@ use std::alloc::{AllocError, Global};
 use std::io::Write;
 
 /// The answer to `alternatives`.
-#[derive(Debug, Drop)]
+#[derive(Drop)]
 pub enum Listing {
     /// The minimal sets of the expression.
     Sets(Vec<TermSet>),

@@ -4,7 +4,7 @@ use desk_expr::ParseFault;
 use std::fmt;
 
 /// The answer to `check`, which prints as its line.
-#[derive(Debug, Drop)]
+#[derive(Drop)]
 pub enum Report<'a> {
     /// The terms satisfy the expression, and no smaller set of them does.
     Minimal,

@@ -25,7 +25,7 @@ use std::fmt;
 
 /// The conclusions that are proposed for a document: how each of its packages stands, and a line
 /// for each that ships with a declared licence alone, the request `conclude`.
-#[derive(Debug, Drop)]
+#[derive(Drop)]
 pub struct Proposals {
     pub standings: Vec<Standing>,
     pub lines: String,

@@ -16,7 +16,7 @@ use std::alloc::{AllocError, Global};
 use std::fmt;
 
 /// How a package of a document stands.
-#[derive(Clone, Copy, Debug, PartialEq, Eq)]
+#[derive(Clone, Copy, PartialEq, Eq)]
 pub enum Standing {
     /// It doesn't ship.
     Aside,
@@ -30,7 +30,7 @@ pub enum Standing {
 
 /// What a document comes to: how each of its packages stands, and what in it isn't as the standard
 /// has it.
-#[derive(Debug, Drop)]
+#[derive(Drop)]
 pub struct Summary {
     pub standings: Vec<Standing>,
     pub findings: Vec<Finding>,

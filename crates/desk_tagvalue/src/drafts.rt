@@ -7,7 +7,7 @@ use desk_base::{Items, Text};
 use desk_fields::Tag;
 
 /// A document of one package and its files that is to be written.
-#[derive(Debug, Drop)]
+#[derive(Drop)]
 pub struct Draft {
     /// The name of the document and of its package.
     pub name: Text,
@@ -26,7 +26,7 @@ pub struct Draft {
 }
 
 /// A file of a draft.
-#[derive(Debug, Drop)]
+#[derive(Drop)]
 pub struct DraftFile {
     /// Its path in the tree, without `./`.
     pub path: Text,

@@ -12,7 +12,7 @@ use memchr::memchr_iter;
 use std::alloc::Global;
 
 /// A field whose tag is read.
-#[derive(Debug, Clone, Copy)]
+#[derive(Clone, Copy)]
 pub struct Entry<'a> {
     /// The line on which it begins, from 1. A document of 4 MiB has fewer than 32 bits count.
     pub line: u32,

@@ -19,7 +19,7 @@ use std::alloc::{AllocError, Global};
 use std::str;
 
 /// A document, each text a slice of the source.
-#[derive(Debug, Drop)]
+#[derive(Drop)]
 pub struct Document<'a> {
     /// All fields, in order.
     pub entries: Items<Entry<'a>>,

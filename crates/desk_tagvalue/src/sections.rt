@@ -6,7 +6,7 @@ ghost use Rattle.desk_tagvalue.specs.Sections.{section_begun, is_placed, once_in
 use desk_fields::Tag;
 
 /// A kind of section.
-#[derive(Debug, Clone, Copy, PartialEq, Eq)]
+#[derive(Clone, Copy, PartialEq, Eq)]
 pub enum SectionKind {
     /// The document's own (SPDX 2.3, clause 6), with which each document begins.
     Document,
@@ -21,7 +21,7 @@ pub enum SectionKind {
 }
 
 /// What an identifier names.
-#[derive(Debug, Clone, Copy, PartialEq, Eq)]
+#[derive(Clone, Copy, PartialEq, Eq)]
 pub(crate) enum IdForm {
     Document,
     Element,

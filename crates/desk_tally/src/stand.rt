@@ -4,21 +4,21 @@ use desk_base::Items;
 use desk_model::DutyState;
 
 /// Where a duty stands: the place of its release, from 1, and its state.
-#[derive(Clone, Copy, Debug, PartialEq, Eq)]
+#[derive(Clone, Copy, PartialEq, Eq)]
 pub struct Stand {
     pub place: u32,
     pub state: DutyState,
 }
 
 /// A duty, by its number, goes to a state.
-#[derive(Clone, Copy, Debug, PartialEq, Eq)]
+#[derive(Clone, Copy, PartialEq, Eq)]
 pub struct Shift {
     pub duty: u32,
     pub state: DutyState,
 }
 
 /// What a change of the rows does to the tallies.
-#[derive(Debug, Drop)]
+#[derive(Drop)]
 pub enum Step {
     /// Nothing.
     Stay,

@@ -7,7 +7,7 @@ ghost use Rattle.desk_tally.specs.Numbers.{number_of, one_if};
 use desk_model::{DutyState, Totals};
 
 /// How many duties of a release were raised, and how many of these stand where.
-#[derive(Clone, Copy, Debug, PartialEq, Eq)]
+#[derive(Clone, Copy, PartialEq, Eq)]
 pub struct Tally {
     pub raised: u64,
     pub still_open: u64,

@@ -23,7 +23,7 @@ use desk_model::{
 use std::alloc::{AllocError, Global};
 
 /// Reads texts as their standards say.
-#[derive(Clone, Copy, Debug)]
+#[derive(Clone, Copy)]
 pub struct Standard;
 
 impl Texts for Standard {

@@ -4,7 +4,7 @@ use desk_base::{Items, Text};
 use desk_reuse::Glob;
 
 /// How an annotation stands to what a file states itself.
-#[derive(Clone, Copy, Debug, PartialEq, Eq)]
+#[derive(Clone, Copy, PartialEq, Eq)]
 pub enum Precedence {
     /// It counts where the file states nothing itself.
     Closest,
@@ -15,7 +15,7 @@ pub enum Precedence {
 }
 
 /// What a REUSE.toml says of the files that match one of its paths.
-#[derive(Debug, Drop)]
+#[derive(Drop)]
 pub struct Annotation {
     /// Patterns of paths, which are relative to the folder of the REUSE.toml.
     pub paths: Items<Glob>,
@@ -28,7 +28,7 @@ pub struct Annotation {
 }
 
 /// The annotations of a REUSE.toml.
-#[derive(Debug, Drop)]
+#[derive(Drop)]
 pub struct Annotations {
     /// In their order.
     pub list: Items<Annotation>,

@@ -15,7 +15,7 @@ use std::alloc::{AllocError, Global};
 use toml::Value;
 
 /// What of a REUSE.toml can be read, and what can't.
-#[derive(Debug, Drop)]
+#[derive(Drop)]
 pub struct Sifted {
     /// The annotations that can be read, in their order.
     pub annotations: Items<Annotation>,

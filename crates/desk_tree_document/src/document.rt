@@ -25,7 +25,7 @@ pub enum TextFault {
 }
 
 /// What is told of the document of a tree.
-#[derive(Debug, Drop)]
+#[derive(Drop)]
 pub enum Gathering {
     /// The text of the document.
     Document(String),

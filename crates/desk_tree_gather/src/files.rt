@@ -12,7 +12,7 @@ use std::alloc::{AllocError, Global};
 use std::collections::BTreeMap;
 
 /// A file of a source tree.
-#[derive(Debug, Drop)]
+#[derive(Drop)]
 pub struct SourceFile {
     /// Its path from the tree's root, with `/` between its parts.
     pub path: Text,

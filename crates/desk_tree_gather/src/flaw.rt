@@ -4,7 +4,7 @@ use desk_base::Text;
 use desk_tree_annotations::AnnotationFault;
 
 /// Something in a tree for which nothing is gathered of it.
-#[derive(Debug, Drop)]
+#[derive(Drop)]
 pub enum Flaw {
     /// More than 10,000 files.
     TooManyFiles,

@@ -24,7 +24,7 @@ use std::alloc::{AllocError, Global};
 use std::collections::BTreeMap;
 
 /// What a file is under.
-#[derive(Debug, Drop)]
+#[derive(Drop)]
 pub struct FileInfo {
     /// Its path.
     pub path: Text,

@@ -23,7 +23,7 @@ use std::alloc::{AllocError, Global};
 use std::collections::BTreeMap;
 
 /// What is told of a file.
-#[derive(Debug, Drop)]
+#[derive(Drop)]
 pub struct ToldFile {
     /// What it is under.
     pub info: FileInfo,

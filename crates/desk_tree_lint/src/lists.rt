@@ -14,7 +14,7 @@ use std::alloc::{AllocError, Global};
 use std::collections::BTreeSet;
 
 /// What a tree lacks.
-#[derive(Debug, Drop)]
+#[derive(Drop)]
 pub struct Lint {
     /// Licences, exceptions and references that are used and have no text, by their keys, in byte
     /// order.

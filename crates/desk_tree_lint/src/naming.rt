@@ -13,7 +13,7 @@ use std::alloc::{AllocError, Global};
 use std::collections::BTreeMap;
 
 /// How a licence, an exception or a reference is shown.
-#[derive(Debug, Drop)]
+#[derive(Drop)]
 pub struct Name {
     /// The identifier as it was first written.
     pub id: Text,

@@ -9,7 +9,7 @@ use desk_tree_gather::FileInfo;
 use std::alloc::{AllocError, Global};
 
 /// What a file lacks.
-#[derive(Clone, Copy, Debug, PartialEq, Eq)]
+#[derive(Clone, Copy, PartialEq, Eq)]
 pub enum Lacking {
     /// A copyright notice.
     Notice,
@@ -20,7 +20,7 @@ pub enum Lacking {
 }
 
 /// A covered file that lacks something.
-#[derive(Debug, Drop)]
+#[derive(Drop)]
 pub struct Bare {
     /// Its path.
     pub path: Text,

@@ -11,7 +11,7 @@ use std::alloc::{AllocError, Global};
 use std::collections::BTreeMap;
 
 /// An annotation with a licence that has a blank at an end.
-#[derive(Debug, Drop)]
+#[derive(Drop)]
 pub struct Blank {
     /// The path of its REUSE.toml.
     pub path: Text,

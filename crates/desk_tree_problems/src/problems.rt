@@ -18,7 +18,7 @@ use std::alloc::{AllocError, Global};
 use std::collections::BTreeMap;
 
 /// The problems of a tree.
-#[derive(Debug, Drop)]
+#[derive(Drop)]
 pub struct Problems {
     /// Whether the tree has the older file of annotations, `.reuse/dep5`, which isn't read.
     pub dep5: bool,

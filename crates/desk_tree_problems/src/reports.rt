@@ -13,7 +13,7 @@ use desk_tree_gather::SourceFile;
 use std::alloc::{AllocError, Global};
 
 /// The report on a tree.
-#[derive(Debug, Drop)]
+#[derive(Drop)]
 pub struct Report {
     /// Its text: a line for each problem and one that counts them, or a JSON object and a line
     /// feed.

@@ -7,7 +7,7 @@ use desk_base::Text;
 use std::alloc::{AllocError, Global};
 
 /// The kinds of problems.
-#[derive(Clone, Copy, Debug, PartialEq, Eq)]
+#[derive(Clone, Copy, PartialEq, Eq)]
 pub enum Kind {
     /// The older file of annotations, which isn't read.
     Dep5,
@@ -93,7 +93,7 @@ pub(crate) fn kinds() -> [Kind; 11]
 }
 
 /// What is told of a problem.
-#[derive(Debug, Drop)]
+#[derive(Drop)]
 pub struct Row {
     /// Its kind.
     pub kind: Kind,
