@@ -3,9 +3,9 @@
 
     python3 tests/slowest.py CRATE [COUNT]
 
-The crate is proved from nothing in a copy, one function after another, over the libraries that earlier runs built. What is
-printed are processor seconds, the largest first (40 of them): a line's seconds are all that passed since the function before it
-was done, with what both need and nobody had made yet. The last line has the seconds of the whole crate.
+The crate is proved from nothing in a copy, one function after another, over the libraries that `rt lib` built in this checkout.
+What is printed are processor seconds, the largest first (40 of them): a line's seconds are all that passed since the function
+before it was done, with what both need and nobody had made yet. The last line has the seconds of the whole crate.
 """
 import os
 import shutil
@@ -14,6 +14,8 @@ import sys
 import tempfile
 
 TICKS = os.sysconf("SC_CLK_TCK")
+# `rt check` itself would begin with the work that another checkout kept of the crate.
+CHECK = [sys.executable, f"{os.path.dirname(os.path.realpath(shutil.which('rt')))}/rtlib.py", "check", "--progress", "--jobs", "1"]
 
 
 def crates_below(lines, name):
@@ -54,8 +56,7 @@ def seconds_of(root):
 def timed(folder):
     """The seconds of each function, and of all, as the check of the crate in a folder goes on."""
     times, last = [], 0.0
-    check = subprocess.Popen(["rt", "check", "--progress", "--jobs", "1"], cwd=folder, stdout=subprocess.PIPE,
-                             stderr=subprocess.STDOUT, text=True, bufsize=1)
+    check = subprocess.Popen(CHECK, cwd=folder, stdout=subprocess.PIPE, stderr=subprocess.STDOUT, text=True, bufsize=1)
     said = []
     for line in check.stdout:
         said.append(line)
@@ -81,7 +82,7 @@ def main():
     with tempfile.TemporaryDirectory() as scratch:
         wanted = crates_below(lines, name)
         for crate in wanted:
-            left_out = ["out"] if crate == name else []
+            left_out = ["out"] if crate == name else ["incremental"]
             shutil.copytree(f"{root}/crates/{crate}", f"{scratch}/crates/{crate}", symlinks=True,
                             ignore=lambda folder, names, out=left_out: [n for n in names if n in out])
         with open(f"{scratch}/crates.txt", "w") as file:
