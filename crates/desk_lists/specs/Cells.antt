@@ -1,11 +1,24 @@
 -- The cells of the lists: a row of the columns' names, and one for each line. A cell is empty if its line has nothing there.
-use Rattle.std.specs.Prelude.{ℕ, List, [], ◌∷◌, ◌++◌, codes, decimal, map, unwrap_or}
+use Rattle.std.specs.Prelude.{ℕ, ℤ, List, [], ◌∷◌, ◌++◌, Option, codes, decimal, map, unwrap_or}
 use Rattle.std.specs.Fmt.{signed_decimal}
 use Rattle.std.specs.Option.{option_map_or}
 use Rattle.desk_model.specs.declared.command.Totals.{Totals}
+use Rattle.desk_lists.specs.declared.cells.Cell.{Cell}
+use Rattle.desk_lists.specs.declared.cells.Cell.TheVariants.{Text, Number, Count}
 use Rattle.desk_lists.specs.declared.lines.DocumentLine.{DocumentLine}
 use Rattle.desk_lists.specs.declared.lines.DutyLine.{DutyLine}
 use Rattle.desk_lists.specs.declared.lines.ReleaseLine.{ReleaseLine}
+
+abbrev pub cell_text : Cell → List ℕ
+cell_text (Text text) = text.now
+cell_text (Number number) = signed_decimal number
+cell_text (Count count) = decimal count
+
+abbrev pub number_text : Option ℤ → List ℕ
+number_text number = option_map_or signed_decimal number []
+
+abbrev pub count_text : Option ℕ → List ℕ
+count_text count = option_map_or decimal count []
 
 abbrev pub totals_cells : Totals → List (List ℕ)
 totals_cells totals =
@@ -29,7 +42,7 @@ document_names =
 abbrev pub document_cells : DocumentLine → List (List ℕ)
 document_cells line =
     signed_decimal line.number ∷ line.name ∷ line.namespace ∷ decimal line.packages ∷ decimal line.shipped
-    ∷ option_map_or decimal line.findings [] ∷ option_map_or signed_decimal line.profile [] ∷ []
+    ∷ count_text line.findings ∷ number_text line.profile ∷ []
 
 abbrev pub document_table : List DocumentLine → List (List (List ℕ))
 document_table lines = document_names ∷ map document_cells lines

@@ -1,5 +1,5 @@
 -- The duties that are asked for, and the line of each: what the table has of it, its package's name, its title and its days.
-use Rattle.std.specs.Prelude.{ℕ, ℤ, pos, ◌&&◌, ◌||◌, not, Bool, true, false, List, [], Option, find, filter, map, reverse, option_and_then}
+use Rattle.std.specs.Prelude.{ℕ, ℤ, pos, ◌&&◌, ◌||◌, not, Bool, true, false, List, [], ◌∷◌, Option, find, filter, map, reverse, option_and_then}
 use Rattle.std.specs.Cmp.{IsTotalOrder}
 use Rattle.std.specs.Cmp.Lexicographic.{slice_cmp}
 use Rattle.std.specs.Option.{option_copied, option_map_or}
@@ -60,6 +60,12 @@ is_wanted snapshot wanted row =
     && (is_asked (option_copied wanted.code) row.code
     && ((not wanted.still_open || bytes_eq row.state (duty_state_name duty.IsOpen))
     && is_past_if_asked snapshot (option_copied wanted.past) row))
+
+-- the texts of a duty's line
+abbrev pub line_texts : Snapshot → List Title → StoredDuty → List (List ℕ)
+line_texts snapshot titles row =
+    row.release ∷ row.package_id ∷ package_name snapshot row.document row.package_id ∷ row.rule ∷ row.code ∷ title_among row.code titles
+    ∷ row.state ∷ raising_day snapshot row.number ∷ changing_day snapshot row.number ∷ []
 
 abbrev pub duty_line : Snapshot → List Title → StoredDuty → DutyLine
 duty_line snapshot titles row = record {

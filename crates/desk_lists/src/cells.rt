@@ -1,160 +1,105 @@
 //! The cells of the lists, row by row.
 
-ghost use Rattle.std.specs.Prelude.{◌≡◌, ◌++◌, ◌∷◌, [], decimal, map, unwrap_or, IfOk, OnOk};
+ghost use Rattle.std.specs.Prelude.{◌≡◌, ◌∷◌, List, ℕ, map, IfOk, unwrap_or, []};
 ghost use Rattle.std.specs.Fmt.{signed_decimal};
 ghost use Rattle.std.specs.Option.{option_map_or};
-ghost use Rattle.desk_lists.specs.Cells.{document_cells, document_table, duty_cells, duty_standing, duty_subject, duty_table, release_cells, release_table, totals_cells};
+ghost use Rattle.desk_lists.specs.Cells.{cell_text, count_text, document_cells, document_table, duty_cells, duty_table, number_text, release_cells, release_table};
 
 use crate::lines::{DocumentLine, DutyLine, ReleaseLine};
 use desk_base::{Items, Text};
-use desk_model::Totals;
 use std::alloc::{AllocError, Global};
+
+/// What a cell shows.
+#[derive(Clone, Copy)]
+pub(crate) enum Cell<'a> {
+    Text(&'a str),
+    Number(i64),
+    Count(u64),
+}
 
 /// A table, row by row. The first row has the names of the columns.
 pub(crate) type Table = Vec<Items<Text>>;
 
 /// The names of the columns of releases.
-const RELEASE_NAMES: [&str; 9] = [
-    "name",
-    "form",
-    "state",
-    "revision",
-    "raised",
-    "open",
-    "met",
-    "waived",
-    "withdrawn",
+const RELEASE_NAMES: [Cell<'static>; 9] = [
+    Cell::Text("name"),
+    Cell::Text("form"),
+    Cell::Text("state"),
+    Cell::Text("revision"),
+    Cell::Text("raised"),
+    Cell::Text("open"),
+    Cell::Text("met"),
+    Cell::Text("waived"),
+    Cell::Text("withdrawn"),
 ];
 
 /// The names of the columns of documents.
-const DOCUMENT_NAMES: [&str; 7] = [
-    "number",
-    "name",
-    "namespace",
-    "packages",
-    "shipped",
-    "findings",
-    "profile",
+const DOCUMENT_NAMES: [Cell<'static>; 7] = [
+    Cell::Text("number"),
+    Cell::Text("name"),
+    Cell::Text("namespace"),
+    Cell::Text("packages"),
+    Cell::Text("shipped"),
+    Cell::Text("findings"),
+    Cell::Text("profile"),
 ];
 
 /// The names of the columns of duties.
-const DUTY_NAMES: [&str; 12] = [
-    "number", "release", "document", "package", "name", "rule", "code", "title", "state", "raised",
-    "since", "until",
+const DUTY_NAMES: [Cell<'static>; 12] = [
+    Cell::Text("number"),
+    Cell::Text("release"),
+    Cell::Text("document"),
+    Cell::Text("package"),
+    Cell::Text("name"),
+    Cell::Text("rule"),
+    Cell::Text("code"),
+    Cell::Text("title"),
+    Cell::Text("state"),
+    Cell::Text("raised"),
+    Cell::Text("since"),
+    Cell::Text("until"),
 ];
 
-// Adds a text.
-fn add_text(alloc: Global, cells: &mut Vec<Text>, text: &str) -> Result<(), AllocError>
-    ensures { OnOk result (cells.new.items ≡ cells.old.items ++ text.now ∷ []) }
+// The text of a cell.
+fn cell_text(alloc: Global, cell: Cell<'_>) -> Result<Text, AllocError>
+    ensures { IfOk result (λ text. text ≡ cell_text cell.entry) }
 {
-    cells.push(Text::of(alloc, text)?)?;
-    Ok(())
+    match cell {
+        Cell::Text(text) => Text::of(alloc, text),
+        Cell::Number(number) => Text::of(alloc, &format!(in alloc; "{number}")?),
+        Cell::Count(count) => Text::of(alloc, &format!(in alloc; "{count}")?),
+    }
 }
 
-// Adds a whole number.
-fn add_number(alloc: Global, cells: &mut Vec<Text>, number: i64) -> Result<(), AllocError>
-    ensures { OnOk result (cells.new.items ≡ cells.old.items ++ signed_decimal number ∷ []) }
+// The row of these cells.
+fn row_of(alloc: Global, cells: &[Cell<'_>]) -> Result<Items<Text>, AllocError>
+    ensures { IfOk result (λ row. row ≡ map cell_text cells.now) }
 {
-    let number = format!(in alloc; "{number}")?;
-    add_text(alloc, cells, number.as_str())
+    let mut row = Vec::new(alloc);
+    for cell in cells {
+        row.push(cell_text(alloc, *cell)?)?;
+    }
+    Ok(Items::from_vec(row))
 }
 
-// Adds a whole number, or an empty cell where there is none.
-fn add_optional(alloc: Global, cells: &mut Vec<Text>, number: Option<i64>) -> Result<(), AllocError>
-    ensures { OnOk result (cells.new.items
-        ≡ cells.old.items ++ option_map_or signed_decimal number [] ∷ []) }
+// A whole number, or an empty cell if there is none.
+fn number_cell(number: Option<i64>) -> Cell<'static>
+    ensures { cell_text result ≡ number_text number }
 {
     match number {
-        Some(number) => add_number(alloc, cells, number),
-        None => add_text(alloc, cells, ""),
+        Some(number) => Cell::Number(number),
+        None => Cell::Text(""),
     }
 }
 
-// Adds a count.
-fn add_count(alloc: Global, cells: &mut Vec<Text>, count: u64) -> Result<(), AllocError>
-    ensures { OnOk result (cells.new.items ≡ cells.old.items ++ decimal count ∷ []) }
+// A count, or an empty cell if there is none.
+fn count_cell(count: Option<u64>) -> Cell<'static>
+    ensures { cell_text result ≡ count_text count }
 {
-    let count = format!(in alloc; "{count}")?;
-    add_text(alloc, cells, count.as_str())
-}
-
-// Adds a count, or an empty cell where there is none.
-fn add_optional_count(
-    alloc: Global,
-    cells: &mut Vec<Text>,
-    count: Option<u64>,
-) -> Result<(), AllocError>
-    ensures { OnOk result (cells.new.items
-        ≡ cells.old.items ++ option_map_or decimal count [] ∷ []) }
-{
-    let Some(count) = count else {
-        return add_text(alloc, cells, "");
-    };
-    add_count(alloc, cells, count)
-}
-
-// Adds how many duties are in which state.
-fn add_totals(alloc: Global, cells: &mut Vec<Text>, totals: &Totals) -> Result<(), AllocError>
-    ensures { OnOk result (cells.new.items ≡ cells.old.items ++ totals_cells totals.now) }
-{
-    add_count(alloc, cells, totals.raised)?;
-    add_count(alloc, cells, totals.still_open)?;
-    add_count(alloc, cells, totals.met)?;
-    add_count(alloc, cells, totals.waived)?;
-    add_count(alloc, cells, totals.withdrawn)
-}
-
-// The row of the columns' names.
-fn names_row(alloc: Global, names: &[&str]) -> Result<Items<Text>, AllocError>
-    ensures { IfOk result (λ row. row ≡ map (λ name. name.now) names.now) }
-{
-    let mut cells = Vec::new(alloc);
-    for name in names {
-        add_text(alloc, &mut cells, name)?;
+    match count {
+        Some(count) => Cell::Count(count),
+        None => Cell::Text(""),
     }
-    Ok(Items::from_vec(cells))
-}
-
-// The row of a release.
-fn release_row(alloc: Global, line: &ReleaseLine) -> Result<Items<Text>, AllocError>
-    ensures { IfOk result (λ row. row ≡ release_cells line.now) }
-{
-    let mut cells = Vec::new(alloc);
-    add_text(alloc, &mut cells, line.name.as_str())?;
-    add_text(alloc, &mut cells, line.form.as_str())?;
-    add_text(alloc, &mut cells, line.state.as_str())?;
-    add_number(alloc, &mut cells, line.revision)?;
-    add_totals(alloc, &mut cells, &line.duties)?;
-    Ok(Items::from_vec(cells))
-}
-
-// The row of a document.
-fn document_row(alloc: Global, line: &DocumentLine) -> Result<Items<Text>, AllocError>
-    ensures { IfOk result (λ row. row ≡ document_cells line.now) }
-{
-    let mut cells = Vec::new(alloc);
-    add_number(alloc, &mut cells, line.number)?;
-    add_text(alloc, &mut cells, line.name.as_str())?;
-    add_text(alloc, &mut cells, line.namespace.as_str())?;
-    add_count(alloc, &mut cells, line.packages)?;
-    add_count(alloc, &mut cells, line.shipped)?;
-    add_optional_count(alloc, &mut cells, line.findings)?;
-    add_optional(alloc, &mut cells, line.profile)?;
-    Ok(Items::from_vec(cells))
-}
-
-// Adds what a duty is.
-fn add_subject(alloc: Global, cells: &mut Vec<Text>, line: &DutyLine) -> Result<(), AllocError>
-    ensures { OnOk result (cells.new.items ≡ cells.old.items ++ duty_subject line.now) }
-{
-    add_number(alloc, cells, line.number)?;
-    add_text(alloc, cells, line.release.as_str())?;
-    add_number(alloc, cells, line.document)?;
-    add_text(alloc, cells, line.package_id.as_str())?;
-    add_text(alloc, cells, line.package_name.as_str())?;
-    add_text(alloc, cells, line.rule.as_str())?;
-    add_text(alloc, cells, line.code.as_str())?;
-    add_text(alloc, cells, line.title.as_str())
 }
 
 // The last day of a waiver that ends, else an empty text.
@@ -167,59 +112,104 @@ fn last_day_cell(last_day: &Option<Text>) -> &str
     }
 }
 
-// Adds in which state a duty is, and since when.
-fn add_standing(alloc: Global, cells: &mut Vec<Text>, line: &DutyLine) -> Result<(), AllocError>
-    ensures { OnOk result (cells.new.items ≡ cells.old.items ++ duty_standing line.now) }
-{
-    add_text(alloc, cells, line.state.as_str())?;
-    add_text(alloc, cells, line.raised.as_str())?;
-    add_text(alloc, cells, line.changed.as_str())?;
-    add_text(alloc, cells, last_day_cell(&line.last_day))
+/// What a table has a row for.
+trait Line {
+    ghost cells: { Self → List (List ℕ) };
+
+    /// The row.
+    fn row(&self, alloc: Global) -> Result<Items<Text>, AllocError>
+        ensures { IfOk result (λ row. row ≡ cells self.now) };
 }
 
-// The row of a duty.
-#[tactic(auto, unfolding(crate::specs::Cells::duty_cells))]
-fn duty_row(alloc: Global, line: &DutyLine) -> Result<Items<Text>, AllocError>
-    ensures { IfOk result (λ row. row ≡ duty_cells line.now) }
+impl Line for ReleaseLine {
+    ghost cells = { release_cells };
+
+    fn row(&self, alloc: Global) -> Result<Items<Text>, AllocError> {
+        let cells = [
+            Cell::Text(self.name.as_str()),
+            Cell::Text(self.form.as_str()),
+            Cell::Text(self.state.as_str()),
+            Cell::Number(self.revision),
+            Cell::Count(self.duties.raised),
+            Cell::Count(self.duties.still_open),
+            Cell::Count(self.duties.met),
+            Cell::Count(self.duties.waived),
+            Cell::Count(self.duties.withdrawn),
+        ];
+        row_of(alloc, &cells)
+    }
+}
+
+impl Line for DocumentLine {
+    ghost cells = { document_cells };
+
+    fn row(&self, alloc: Global) -> Result<Items<Text>, AllocError> {
+        let cells = [
+            Cell::Number(self.number),
+            Cell::Text(self.name.as_str()),
+            Cell::Text(self.namespace.as_str()),
+            Cell::Count(self.packages),
+            Cell::Count(self.shipped),
+            count_cell(self.findings),
+            number_cell(self.profile),
+        ];
+        row_of(alloc, &cells)
+    }
+}
+
+impl Line for DutyLine {
+    ghost cells = { duty_cells };
+
+    #[tactic(auto, unfolding(crate::specs::Cells::duty_cells))]
+    fn row(&self, alloc: Global) -> Result<Items<Text>, AllocError> {
+        let cells = [
+            Cell::Number(self.number),
+            Cell::Text(self.release.as_str()),
+            Cell::Number(self.document),
+            Cell::Text(self.package_id.as_str()),
+            Cell::Text(self.package_name.as_str()),
+            Cell::Text(self.rule.as_str()),
+            Cell::Text(self.code.as_str()),
+            Cell::Text(self.title.as_str()),
+            Cell::Text(self.state.as_str()),
+            Cell::Text(self.raised.as_str()),
+            Cell::Text(self.changed.as_str()),
+            Cell::Text(last_day_cell(&self.last_day)),
+        ];
+        row_of(alloc, &cells)
+    }
+}
+
+// A table of these names and a row for each line.
+fn table_of<L: Line>(alloc: Global, names: &[Cell<'_>], lines: &[L]) -> Result<Table, AllocError>
+    ensures { IfOk result (λ table. table.items
+        ≡ map cell_text names.now ∷ map L.cells lines.now) }
 {
-    let mut cells = Vec::new(alloc);
-    add_subject(alloc, &mut cells, line)?;
-    add_standing(alloc, &mut cells, line)?;
-    Ok(Items::from_vec(cells))
+    let mut rows = Vec::new(alloc);
+    rows.push(row_of(alloc, names)?)?;
+    for line in lines {
+        rows.push(line.row(alloc)?)?;
+    }
+    Ok(rows)
 }
 
 /// The table of releases.
 pub(crate) fn release_table(alloc: Global, lines: &[ReleaseLine]) -> Result<Table, AllocError>
     ensures { IfOk result (λ table. table.items ≡ release_table lines.now) }
 {
-    let mut rows = Vec::new(alloc);
-    rows.push(names_row(alloc, &RELEASE_NAMES)?)?;
-    for line in lines {
-        rows.push(release_row(alloc, line)?)?;
-    }
-    Ok(rows)
+    table_of(alloc, &RELEASE_NAMES, lines)
 }
 
 /// The table of documents.
 pub(crate) fn document_table(alloc: Global, lines: &[DocumentLine]) -> Result<Table, AllocError>
     ensures { IfOk result (λ table. table.items ≡ document_table lines.now) }
 {
-    let mut rows = Vec::new(alloc);
-    rows.push(names_row(alloc, &DOCUMENT_NAMES)?)?;
-    for line in lines {
-        rows.push(document_row(alloc, line)?)?;
-    }
-    Ok(rows)
+    table_of(alloc, &DOCUMENT_NAMES, lines)
 }
 
 /// The table of duties.
 pub(crate) fn duty_table(alloc: Global, lines: &[DutyLine]) -> Result<Table, AllocError>
     ensures { IfOk result (λ table. table.items ≡ duty_table lines.now) }
 {
-    let mut rows = Vec::new(alloc);
-    rows.push(names_row(alloc, &DUTY_NAMES)?)?;
-    for line in lines {
-        rows.push(duty_row(alloc, line)?)?;
-    }
-    Ok(rows)
+    table_of(alloc, &DUTY_NAMES, lines)
 }

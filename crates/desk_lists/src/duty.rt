@@ -1,12 +1,14 @@
 //! The list of duties.
 
-ghost use Rattle.std.specs.Prelude.{◌≡◌, filter, find, map, reverse, IfOk, IsPermutation};
+ghost use Rattle.std.specs.Prelude.{◌≡◌, List, filter, find, map, reverse, IfOk, IsPermutation};
 ghost use Rattle.std.specs.List.Sorted.{IsSorted};
 ghost use Rattle.std.specs.Option.{option_copied};
 ghost use Rattle.desk_snapshot.specs.Changes.{last_day_at};
 ghost use Rattle.desk_snapshot.specs.Rows.{is_change_of};
-ghost use Rattle.desk_lists.specs.Duties.{changing_day, duty_line, is_asked, is_end_before, is_past, is_past_if_asked, is_wanted, last_change, lines_wanted, package_name, raising_day, raising_order, waiver_end};
+ghost use Rattle.desk_lists.specs.Duties.{changing_day, duty_line, is_asked, is_end_before, is_past, is_past_if_asked, is_wanted, last_change, line_texts, lines_wanted, package_name, raising_day, raising_order, waiver_end};
 ghost use Rattle.desk_lists.specs.Titles.{titles_in_force};
+ghost use Rattle.desk_lists.specs.declared.titles.Title.{Title as Titled};
+ghost use Rattle.desk_snapshot.specs.declared.snapshot.Snapshot.{Snapshot as Held};
 
 use crate::lines::{DutyFilter, DutyLine};
 use crate::titles::{Title, title_among, titles_in_force};
@@ -142,6 +144,65 @@ fn copy_of(alloc: Global, text: Option<&str>) -> Result<Option<Text>, AllocError
     }
 }
 
+// The texts of a duty's line.
+fn line_texts<'a>(snapshot: &'a Snapshot, titles: &'a [Title], row: &'a StoredDuty) -> [&'a str; 9]
+    ensures { map (λ text. text.now) result ≡ line_texts snapshot.now titles.now row.now }
+{
+    [
+        row.release.as_str(),
+        row.package_id.as_str(),
+        package_name(snapshot, row.document, row.package_id.as_str()),
+        row.rule.as_str(),
+        row.code.as_str(),
+        title_among(row.code.as_str(), titles),
+        row.state.as_str(),
+        raising_day(snapshot, row.number),
+        changing_day(snapshot, row.number),
+    ]
+}
+
+// Copies of texts.
+fn copies(alloc: Global, texts: [&str; 9]) -> Result<[Text; 9], AllocError>
+    ensures { IfOk result (λ copies. copies ≡ map (λ text. text.now) texts.entry) }
+{
+    texts.try_map(|text| Text::of(alloc, text))
+}
+
+// The line of a duty with these texts.
+fn line_with(row: &StoredDuty, texts: [Text; 9], last_day: Option<Text>) -> DutyLine
+    ensures { (snapshot : Held) (titles : List Titled)
+        → texts ≡ line_texts snapshot titles row.now
+        → last_day ≡ waiver_end snapshot row.now.number
+        → result ≡ duty_line snapshot titles row.now }
+{
+    let (number, document) = (row.number, row.document);
+    let [
+        release,
+        package_id,
+        package_name,
+        rule,
+        code,
+        title,
+        state,
+        raised,
+        changed,
+    ] = texts;
+    DutyLine {
+        number,
+        release,
+        document,
+        package_id,
+        package_name,
+        rule,
+        code,
+        title,
+        state,
+        raised,
+        changed,
+        last_day,
+    }
+}
+
 // The line of a duty.
 fn duty_line(
     alloc: Global,
@@ -151,27 +212,9 @@ fn duty_line(
 ) -> Result<DutyLine, AllocError>
     ensures { IfOk result (λ line. line ≡ duty_line snapshot.now titles.now row.now) }
 {
-    let number = row.number;
-    let document = row.document;
-    let package_name = package_name(snapshot, document, row.package_id.as_str());
-    let title = title_among(row.code.as_str(), titles);
-    let raised = raising_day(snapshot, number);
-    let changed = changing_day(snapshot, number);
-    let last_day = waiver_end(snapshot, number);
-    Ok(DutyLine {
-        number,
-        release: row.release.clone()?,
-        document,
-        package_id: row.package_id.clone()?,
-        package_name: Text::of(alloc, package_name)?,
-        rule: row.rule.clone()?,
-        code: row.code.clone()?,
-        title: Text::of(alloc, title)?,
-        state: row.state.clone()?,
-        raised: Text::of(alloc, raised)?,
-        changed: Text::of(alloc, changed)?,
-        last_day: copy_of(alloc, last_day)?,
-    })
+    let last_day = copy_of(alloc, waiver_end(snapshot, row.number))?;
+    let texts = copies(alloc, line_texts(snapshot, titles, row))?;
+    Ok(line_with(row, texts, last_day))
 }
 
 // The line of each duty that is asked for, in the order of the table.
