@@ -1,5 +1,6 @@
--- The pieces that rows are made of. The cell that names a row begins it, and one of two kinds ends it.
+-- The pieces that cells are made of. The cell that names a row begins it, and one of two kinds ends it.
 use Rattle.std.specs.Prelude.{ℕ, List, ◌++◌, codes, decimal}
+use Rattle.std.specs.List.{flat_map}
 use Rattle.desk_page.specs.Escapes.{escaped}
 
 -- a text between fixed ones
@@ -31,6 +32,13 @@ text_cell text = framed (codes "<td>") text (codes "</td>")
 
 unfoldable pub number_cell : ℕ → List ℕ
 number_cell number = counted (codes "<td class=\"number\">") number (codes "</td>")
+
+-- a licence that was chosen, as its rule spells it
+unfoldable pub rule_line : List ℕ → List ℕ
+rule_line rule = framed (codes "<div>") rule (codes "</div>")
+
+unfoldable pub rules_cell : List (List ℕ) → List ℕ
+rules_cell rules = codes "<td>" ++ flat_map rule_line rules ++ codes "</td>"
 
 -- the last cell of a row, with a text that keeps its lines
 unfoldable pub last_cell : List ℕ → List ℕ

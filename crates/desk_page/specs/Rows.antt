@@ -8,32 +8,26 @@ use Rattle.desk_model.specs.declared.bill.BillLine.{BillLine}
 use Rattle.desk_model.specs.declared.command.DutyLine.{DutyLine}
 use Rattle.desk_model.specs.declared.command.Totals.{Totals}
 use Rattle.desk_model.specs.declared.row.ChangeRow.{ChangeRow}
-use Rattle.desk_page.specs.Pieces.{anchor_cell, bar_cell, framed, last_cell, link_cell, name_cell, number_cell, text_cell}
+use Rattle.desk_page.specs.Cells.{CellText, name, anchor, link, plain, count, rules, last, bar, row_text}
 
 -- ---- how many duties are in which state
 
 -- a name, a count, and a bar for its share of all duties
-unfoldable pub total_row : List ℕ → ℕ → ℕ → List ℕ
-total_row name count raised = name_cell name ++ number_cell count ++ bar_cell count raised
+abbrev pub total_cells : List ℕ → ℕ → ℕ → List CellText
+total_cells word number raised = name word ∷ count number ∷ bar number raised ∷ []
 
 unfoldable pub totals_rows : Totals → List ℕ
-totals_rows t = total_row (codes "Raised") t.raised t.raised ++ total_row (codes "Open") t.still_open t.raised
-    ++ total_row (codes "Met") t.met t.raised ++ total_row (codes "Waived") t.waived t.raised
-    ++ total_row (codes "Withdrawn") t.withdrawn t.raised
+totals_rows t =
+    row_text (total_cells (codes "Raised") t.raised t.raised ++ total_cells (codes "Open") t.still_open t.raised
+    ++ total_cells (codes "Met") t.met t.raised ++ total_cells (codes "Waived") t.waived t.raised
+    ++ total_cells (codes "Withdrawn") t.withdrawn t.raised)
 
 -- ---- packages
 
--- a licence that was chosen, as its rule spells it
-unfoldable pub rule_line : List ℕ → List ℕ
-rule_line rule = framed (codes "<div>") rule (codes "</div>")
-
-unfoldable pub rules_cell : List (List ℕ) → List ℕ
-rules_cell rules = codes "<td>" ++ flat_map rule_line rules ++ codes "</td>"
-
 -- its name, its version, its licences and its copyright
 unfoldable pub package_row : BillLine → List ℕ
-package_row line = name_cell line.name ++ text_cell (unwrap_or line.version []) ++ rules_cell line.rules
-    ++ last_cell (unwrap_or line.copyright (codes "none given"))
+package_row line =
+    row_text (name line.name ∷ plain (unwrap_or line.version []) ∷ rules line.rules ∷ last (unwrap_or line.copyright (codes "none given")) ∷ [])
 
 -- ---- licences
 
@@ -63,10 +57,9 @@ standing licence state duties = count_by (is_in licence state) duties
 -- how many duties a licence has and how many are in which state, with a bar for those that are open
 unfoldable pub licence_row : List DutyLine → List ℕ → List ℕ
 licence_row duties licence =
-    name_cell licence ++ number_cell (raised_for licence duties) ++ number_cell (standing licence (codes "met") duties)
-    ++ number_cell (standing licence (codes "waived") duties) ++ number_cell (standing licence (codes "withdrawn") duties)
-    ++ number_cell (standing licence (codes "open") duties)
-    ++ bar_cell (standing licence (codes "open") duties) (raised_for licence duties)
+    row_text (name licence ∷ count (raised_for licence duties) ∷ count (standing licence (codes "met") duties)
+    ∷ count (standing licence (codes "waived") duties) ∷ count (standing licence (codes "withdrawn") duties)
+    ∷ count (standing licence (codes "open") duties) ∷ bar (standing licence (codes "open") duties) (raised_for licence duties) ∷ [])
 
 -- ---- duties
 
@@ -78,8 +71,8 @@ day_text (Some day) = if is_utf8 day then day else []
 
 unfoldable pub duty_row : DutyLine → List ℕ
 duty_row duty =
-    anchor_cell duty.number ++ number_cell duty.document ++ text_cell duty.package_id ++ text_cell duty.rule ++ text_cell duty.code
-    ++ text_cell (duty_state_name duty.state) ++ last_cell (day_text duty.day)
+    row_text (anchor duty.number ∷ count duty.document ∷ plain duty.package_id ∷ plain duty.rule ∷ plain duty.code
+    ∷ plain (duty_state_name duty.state) ∷ last (day_text duty.day) ∷ [])
 
 -- ---- waivers that end
 
@@ -88,7 +81,8 @@ last_change changes = slice_get changes (length changes - 1)
 
 -- what becomes due again after a day, and why it was waived
 unfoldable pub ending_row : DutyLine → List ℕ → List ℕ → List ℕ
-ending_row duty day reason = link_cell duty.number ++ text_cell duty.rule ++ text_cell duty.code ++ text_cell (day_text (Some day)) ++ last_cell reason
+ending_row duty day reason =
+    row_text (link duty.number ∷ plain duty.rule ∷ plain duty.code ∷ plain (day_text (Some day)) ∷ last reason ∷ [])
 
 -- only a waiver has a last day
 abbrev pub waiver_row : DutyLine → ChangeRow → List ℕ
@@ -107,5 +101,6 @@ waiver_rows (duty ∷ duties) (changes ∷ more) = last_waiver duty changes ++ w
 -- ---- changes
 
 unfoldable pub change_row : ChangeRow → List ℕ
-change_row change = link_cell change.duty ++ text_cell (day_text (Some change.day)) ++ text_cell (word_name change.word)
-    ++ text_cell (day_text change.last_day) ++ last_cell change.body
+change_row change =
+    row_text (link change.duty ∷ plain (day_text (Some change.day)) ∷ plain (word_name change.word) ∷ plain (day_text change.last_day)
+    ∷ last change.body ∷ [])

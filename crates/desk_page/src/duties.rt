@@ -6,7 +6,7 @@ ghost use Rattle.std.specs.String.{string_bytes};
 ghost use Rattle.desk_base.specs.Day.{is_day};
 ghost use Rattle.desk_page.specs.Rows.{change_row, day_text, duty_row, ending_row, waiver_row, last_waiver, waiver_rows};
 
-use crate::piece::{add_anchor, add_count, add_last, add_link, add_text};
+use crate::cell::{Cell, add_row};
 use desk_base::{Day, Items};
 use desk_model::{ChangeRow, DutyLine};
 use std::alloc::{AllocError, Global};
@@ -40,13 +40,16 @@ pub fn written_days_are_shown()
 fn add_duty(alloc: Global, text: &mut String, duty: &DutyLine) -> Result<(), AllocError>
     ensures { OnOk result (string_bytes text.new ≡ string_bytes text.old ++ duty_row duty.now) }
 {
-    add_anchor(alloc, text, duty.number)?;
-    add_count(alloc, text, u64::from(duty.document))?;
-    add_text(text, duty.package_id.as_str())?;
-    add_text(text, duty.rule.as_str())?;
-    add_text(text, duty.code.as_str())?;
-    add_text(text, duty.state.name())?;
-    add_last(text, day_text(&duty.day))
+    let cells = [
+        Cell::Anchor(duty.number),
+        Cell::Count(u64::from(duty.document)),
+        Cell::Text(duty.package_id.as_str()),
+        Cell::Text(duty.rule.as_str()),
+        Cell::Text(duty.code.as_str()),
+        Cell::Text(duty.state.name()),
+        Cell::Last(day_text(&duty.day)),
+    ];
+    add_row(alloc, text, &cells)
 }
 
 /// Adds a row for each duty.
@@ -65,21 +68,24 @@ pub(crate) fn add_duties(
 }
 
 #[tactic(auto, unfolding(crate::specs::Rows::ending_row))]
-fn add_ending(
+fn add_ending<'a>(
     alloc: Global,
     text: &mut String,
-    duty: &DutyLine,
-    day: &Day,
-    reason: &str,
+    duty: &'a DutyLine,
+    day: &'a Day,
+    reason: &'a str,
 ) -> Result<(), AllocError>
     ensures { OnOk result (string_bytes text.new
         ≡ string_bytes text.old ++ ending_row duty.now day.now reason.now) }
 {
-    add_link(alloc, text, duty.number)?;
-    add_text(text, duty.rule.as_str())?;
-    add_text(text, duty.code.as_str())?;
-    add_text(text, written_day(day))?;
-    add_last(text, reason)
+    let cells = [
+        Cell::Link(duty.number),
+        Cell::Text(duty.rule.as_str()),
+        Cell::Text(duty.code.as_str()),
+        Cell::Text(written_day(day)),
+        Cell::Last(reason),
+    ];
+    add_row(alloc, text, &cells)
 }
 
 fn add_waiver(
@@ -142,11 +148,14 @@ pub(crate) fn add_waivers(
 fn add_change(alloc: Global, text: &mut String, change: &ChangeRow) -> Result<(), AllocError>
     ensures { OnOk result (string_bytes text.new ≡ string_bytes text.old ++ change_row change.now) }
 {
-    add_link(alloc, text, change.duty)?;
-    add_text(text, written_day(&change.day))?;
-    add_text(text, change.word.name())?;
-    add_text(text, day_text(&change.last_day))?;
-    add_last(text, change.body.as_str())
+    let cells = [
+        Cell::Link(change.duty),
+        Cell::Text(written_day(&change.day)),
+        Cell::Text(change.word.name()),
+        Cell::Text(day_text(&change.last_day)),
+        Cell::Last(change.body.as_str()),
+    ];
+    add_row(alloc, text, &cells)
 }
 
 fn add_duty_changes(

@@ -70,7 +70,7 @@ fn add_package_section(
         ++ section Table.Packages (flat_map package_row lines.now)) }
 {
     let mut rows = String::new(alloc);
-    add_packages(&mut rows, lines)?;
+    add_packages(alloc, &mut rows, lines)?;
     add_section(text, Table::Packages, rows.as_str())
 }
 

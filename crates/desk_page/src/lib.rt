@@ -3,7 +3,7 @@
 //!
 //! - `page` writes it of what the desk answers: the notices' bill, the totals, the duties and the
 //!   changes of each. Its bytes are a function of these (`specs/Page.antt`), made of rows
-//!   (`specs/Rows.antt`), cells (`specs/Pieces.antt`) and fixed texts (`specs/Fixed.antt`).
+//!   (`specs/Rows.antt`), cells (`specs/Cells.antt`, `specs/Pieces.antt`) and fixed texts (`specs/Fixed.antt`).
 //! - Each text is escaped (`specs/Escapes.antt`), and U+FFFD stands for a character that HTML
 //!   doesn't allow. `escaped_texts_are_inert` says that no text of the desk's can bring markup into
 //!   the page.
@@ -12,6 +12,7 @@
 //! memory left is the only error.
 #![tactic(auto)]
 
+mod cell;
 mod duties;
 mod escape;
 mod fixed;

@@ -4,28 +4,12 @@ ghost use Rattle.std.specs.Prelude.{◌≡◌, ◌++◌, count_by, map, IfOk, On
 ghost use Rattle.std.specs.List.{flat_map, list_any};
 ghost use Rattle.std.specs.Str.{bytes_eq};
 ghost use Rattle.std.specs.String.{string_bytes};
-ghost use Rattle.desk_page.specs.Rows.{first_uses, is_in, is_of, licence_row, licences, raised_for, standing, total_row, totals_rows};
+ghost use Rattle.desk_page.specs.Rows.{first_uses, is_in, is_of, licence_row, licences, raised_for, standing, totals_rows};
 
-use crate::piece::{add_bar, add_count, add_name};
+use crate::cell::{Cell, add_row};
 use desk_base::Text;
 use desk_model::{DutyLine, Totals};
 use std::alloc::{AllocError, Global};
-
-#[tactic(auto, unfolding(crate::specs::Rows::total_row))]
-fn add_total(
-    alloc: Global,
-    text: &mut String,
-    name: &str,
-    count: u64,
-    raised: u64,
-) -> Result<(), AllocError>
-    ensures { OnOk result (string_bytes text.new
-        ≡ string_bytes text.old ++ total_row name.now count raised) }
-{
-    add_name(text, name)?;
-    add_count(alloc, text, count)?;
-    add_bar(alloc, text, count, raised)
-}
 
 /// Adds a row for all duties, and one for each state.
 #[tactic(auto, unfolding(crate::specs::Rows::totals_rows))]
@@ -37,11 +21,25 @@ pub(crate) fn add_totals(
     ensures { OnOk result (string_bytes text.new
         ≡ string_bytes text.old ++ totals_rows totals.now) }
 {
-    add_total(alloc, text, "Raised", totals.raised, totals.raised)?;
-    add_total(alloc, text, "Open", totals.still_open, totals.raised)?;
-    add_total(alloc, text, "Met", totals.met, totals.raised)?;
-    add_total(alloc, text, "Waived", totals.waived, totals.raised)?;
-    add_total(alloc, text, "Withdrawn", totals.withdrawn, totals.raised)
+    let raised = totals.raised;
+    let cells = [
+        Cell::Name("Raised"),
+        Cell::Count(raised),
+        Cell::Bar(raised, raised),
+        Cell::Name("Open"),
+        Cell::Count(totals.still_open),
+        Cell::Bar(totals.still_open, raised),
+        Cell::Name("Met"),
+        Cell::Count(totals.met),
+        Cell::Bar(totals.met, raised),
+        Cell::Name("Waived"),
+        Cell::Count(totals.waived),
+        Cell::Bar(totals.waived, raised),
+        Cell::Name("Withdrawn"),
+        Cell::Count(totals.withdrawn),
+        Cell::Bar(totals.withdrawn, raised),
+    ];
+    add_row(alloc, text, &cells)
 }
 
 fn is_known(known: &[Text], licence: &Text) -> bool
@@ -105,13 +103,16 @@ fn add_licence(
 {
     let raised = raised_for(licence, duties);
     let still_open = standing(licence, "open", duties);
-    add_name(text, licence)?;
-    add_count(alloc, text, raised)?;
-    add_count(alloc, text, standing(licence, "met", duties))?;
-    add_count(alloc, text, standing(licence, "waived", duties))?;
-    add_count(alloc, text, standing(licence, "withdrawn", duties))?;
-    add_count(alloc, text, still_open)?;
-    add_bar(alloc, text, still_open, raised)
+    let cells = [
+        Cell::Name(licence),
+        Cell::Count(raised),
+        Cell::Count(standing(licence, "met", duties)),
+        Cell::Count(standing(licence, "waived", duties)),
+        Cell::Count(standing(licence, "withdrawn", duties)),
+        Cell::Count(still_open),
+        Cell::Bar(still_open, raised),
+    ];
+    add_row(alloc, text, &cells)
 }
 
 /// Adds a row for each licence.

@@ -3,12 +3,12 @@
 ghost use Rattle.std.specs.Prelude.{◌≡◌, ◌++◌, unwrap_or, OnOk};
 ghost use Rattle.std.specs.List.{flat_map};
 ghost use Rattle.std.specs.String.{string_bytes};
-ghost use Rattle.desk_page.specs.Rows.{package_row, rule_line, rules_cell};
+ghost use Rattle.desk_page.specs.Rows.{package_row};
 
-use crate::piece::{add_framed, add_last, add_name, add_text};
+use crate::cell::{Cell, add_row};
 use desk_base::Text;
 use desk_model::BillLine;
-use std::alloc::AllocError;
+use std::alloc::{AllocError, Global};
 
 // The text, or another one if there is none.
 fn text_or<'a>(text: &'a Option<Text>, other: &'a str) -> &'a str
@@ -20,49 +20,30 @@ fn text_or<'a>(text: &'a Option<Text>, other: &'a str) -> &'a str
     }
 }
 
-#[tactic(auto, unfolding(crate::specs::Rows::rule_line))]
-fn add_rule(text: &mut String, rule: &Text) -> Result<(), AllocError>
-    ensures { OnOk result (string_bytes text.new ≡ string_bytes text.old ++ rule_line rule.now) }
-{
-    add_framed(text, "<div>", rule.as_str(), "</div>")
-}
-
-fn add_rule_lines(text: &mut String, rules: &[Text]) -> Result<(), AllocError>
-    ensures { OnOk result (string_bytes text.new
-        ≡ string_bytes text.old ++ flat_map rule_line rules.now) }
-{
-    for rule in rules {
-        add_rule(text, rule)?;
-    }
-    Ok(())
-}
-
-#[tactic(auto, unfolding(crate::specs::Rows::rules_cell))]
-fn add_rules(text: &mut String, rules: &[Text]) -> Result<(), AllocError>
-    ensures { OnOk result (string_bytes text.new ≡ string_bytes text.old ++ rules_cell rules.now) }
-{
-    text.push_str("<td>")?;
-    add_rule_lines(text, rules)?;
-    text.push_str("</td>")
-}
-
 #[tactic(auto, unfolding(crate::specs::Rows::package_row))]
-fn add_package(text: &mut String, line: &BillLine) -> Result<(), AllocError>
+fn add_package(alloc: Global, text: &mut String, line: &BillLine) -> Result<(), AllocError>
     ensures { OnOk result (string_bytes text.new ≡ string_bytes text.old ++ package_row line.now) }
 {
-    add_name(text, line.name.as_str())?;
-    add_text(text, text_or(&line.version, ""))?;
-    add_rules(text, line.rules.as_slice())?;
-    add_last(text, text_or(&line.copyright, "none given"))
+    let cells = [
+        Cell::Name(line.name.as_str()),
+        Cell::Text(text_or(&line.version, "")),
+        Cell::Rules(line.rules.as_slice()),
+        Cell::Last(text_or(&line.copyright, "none given")),
+    ];
+    add_row(alloc, text, &cells)
 }
 
 /// Adds a row for each package.
-pub(crate) fn add_packages(text: &mut String, lines: &[BillLine]) -> Result<(), AllocError>
+pub(crate) fn add_packages(
+    alloc: Global,
+    text: &mut String,
+    lines: &[BillLine],
+) -> Result<(), AllocError>
     ensures { OnOk result (string_bytes text.new
         ≡ string_bytes text.old ++ flat_map package_row lines.now) }
 {
     for line in lines {
-        add_package(text, line)?;
+        add_package(alloc, text, line)?;
     }
     Ok(())
 }
