@@ -8,14 +8,17 @@ use Rattle.desk_spdx_json.specs.declared.steps.Kind.{Kind}
 use Rattle.desk_spdx_json.specs.declared.members.Form.{Form}
 use Rattle.desk_spdx_json.specs.declared.members.Form.TheVariants as forms
 use Rattle.desk_spdx_json.specs.Words.{is_word, is_name, is_keyword}
-use Rattle.desk_spdx_json.specs.Steps.{StepText, step, put, left_out, missing, bad_type, bad_value, member_at, item_at}
+use Rattle.desk_spdx_json.specs.Steps.{StepText, WhatText, step, put, left_out, missing, bad_type, bad_value, member_at, item_at}
 
 -- ---- texts and flags
 
 -- the line of a text, if the value is one
+abbrev pub line_what : (List ℕ → LineText) → Option (List ℕ) → WhatText
+line_what line None = bad_type
+line_what line (Some text) = put (line text)
+
 abbrev pub line_step : List ℕ → (List ℕ → LineText) → Option (List ℕ) → StepText
-line_step at line None = step at bad_type
-line_step at line (Some text) = step at (put (line text))
+line_step at line text = step at (line_what line text)
 
 abbrev pub copyright_line : Tag → List ℕ → LineText
 copyright_line tag text = if is_keyword text then one_line tag text else in_text tag text

@@ -174,31 +174,29 @@ fn text_or_empty(value: &Value) -> &str
     value.as_str().unwrap_or("")
 }
 
-// Adds names behind the first.
-fn add_names(text: &mut String, list: &[Value]) -> Result<(), AllocError>
-    ensures { OnOk result (string_bytes text.new
-        ≡ string_bytes text.old ++ more_names (items_view list.now)) }
+// The names behind the first.
+fn more_names(alloc: Global, list: &[Value]) -> Result<String, AllocError>
+    ensures { IfOk result (λ s. string_bytes s ≡ more_names (items_view list.now)) }
 {
+    let mut text = String::new(alloc);
     for value in list {
         text.push_str(", ")?;
         text.push_str(text_or_empty(value))?;
     }
-    Ok(())
+    Ok(text)
 }
 
 // The names of a list, as they stand behind a verification code.
 fn names_text(alloc: Global, list: &[Value]) -> Result<String, AllocError>
     ensures { IfOk result (λ s. string_bytes s ≡ names_text (items_view list.now)) }
 {
-    let mut text = String::new(alloc);
-    let Some((first, more)) = list.split_first() else {
-        return Ok(text);
-    };
-    text.push_str(" (excludes: ")?;
-    text.push_str(text_or_empty(first))?;
-    add_names(&mut text, more)?;
-    text.push_str(")")?;
-    Ok(text)
+    match list {
+        [] => Ok(String::new(alloc)),
+        [first, more @ ..] => {
+            let (first, more) = (text_or_empty(first), more_names(alloc, more)?);
+            format!(in alloc; " (excludes: {first}{more})")
+        }
+    }
 }
 
 // What stands behind a verification code.

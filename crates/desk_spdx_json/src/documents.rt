@@ -10,7 +10,7 @@ ghost use Rattle.desk_spdx_json.specs.Documents.{creation_steps, list_steps, all
 ghost use Rattle.desk_spdx_json.specs.Sets.{IsSetOf};
 
 use crate::composed::word_in;
-use crate::members::{creation_members, document_members};
+use crate::members::{CREATION_MEMBERS, DOCUMENT_MEMBERS};
 use crate::parts::{Part, add_object, add_parts, add_tie};
 use crate::steps::{Steps, What, item_at, member_at};
 use serde_json::Value;
@@ -31,7 +31,7 @@ fn add_creation<'a>(
 {
     let place = member_at(alloc, at, "creationInfo")?;
     match value.get("creationInfo") {
-        Some(creation) => add_object(alloc, steps, &place, creation, &creation_members()),
+        Some(creation) => add_object(alloc, steps, &place, creation, &CREATION_MEMBERS),
         None => Ok(()),
     }
 }
@@ -178,7 +178,7 @@ fn add_document<'a>(
 ) -> Result<(), AllocError>
     ensures { OnOk result (steps.new ≡ steps.old ++ steps_at at.now (view value.now)) }
 {
-    add_object(alloc, steps, at, value, &document_members())?;
+    add_object(alloc, steps, at, value, &DOCUMENT_MEMBERS)?;
     add_creation(alloc, steps, at, value)?;
     add_list(alloc, steps, Part::File, at, "files", value)?;
     add_list(alloc, steps, Part::Package, at, "packages", value)?;

@@ -1,8 +1,5 @@
 //! The members of the objects of a document.
 
-ghost use Rattle.std.specs.Prelude.{◌≡◌, map};
-ghost use Rattle.desk_spdx_json.specs.Members.{member_text, needed, perhaps, document_members, creation_members, package_members, file_members, extracted_members, relationship_members};
-
 use crate::steps::Kind;
 use desk_fields::Tag;
 
@@ -38,114 +35,90 @@ pub(crate) struct Member {
 }
 
 // A member that must be there.
-fn needed(key: &'static str, form: Form) -> Member
-    ensures { member_text result ≡ needed key.now form }
-{
-    Member {
-        key,
-        form,
-        is_needed: true,
-    }
+macro_rules! needed {
+    ($key:literal, $form:expr) => {
+        Member {
+            key: $key,
+            form: $form,
+            is_needed: true,
+        }
+    };
 }
 
 // A member that needn't be there.
-fn perhaps(key: &'static str, form: Form) -> Member
-    ensures { member_text result ≡ perhaps key.now form }
-{
-    Member {
-        key,
-        form,
-        is_needed: false,
-    }
+macro_rules! perhaps {
+    ($key:literal, $form:expr) => {
+        Member {
+            key: $key,
+            form: $form,
+            is_needed: false,
+        }
+    };
 }
 
 /// The members of the document.
-pub(crate) fn document_members() -> [Member; 14]
-    ensures { map member_text result ≡ document_members }
-{
-    [
-        needed("spdxVersion", Form::OneLine(Tag::Version)),
-        perhaps("dataLicense", Form::OneLine(Tag::DataLicense)),
-        needed("SPDXID", Form::OneLine(Tag::Identifier)),
-        needed("name", Form::OneLine(Tag::DocumentName)),
-        needed("documentNamespace", Form::OneLine(Tag::DocumentNamespace)),
-        perhaps(
-            "externalDocumentRefs",
-            Form::LeftOut(Kind::ExternalDocument),
-        ),
-        perhaps("snippets", Form::LeftOut(Kind::Snippet)),
-        perhaps("annotations", Form::LeftOut(Kind::Annotation)),
-        perhaps("creationInfo", Form::Elsewhere),
-        perhaps("files", Form::Elsewhere),
-        perhaps("packages", Form::Elsewhere),
-        perhaps("hasExtractedLicensingInfos", Form::Elsewhere),
-        perhaps("documentDescribes", Form::Elsewhere),
-        perhaps("relationships", Form::Elsewhere),
-    ]
-}
+pub(crate) const DOCUMENT_MEMBERS: [Member; 14] = [
+    needed!("spdxVersion", Form::OneLine(Tag::Version)),
+    perhaps!("dataLicense", Form::OneLine(Tag::DataLicense)),
+    needed!("SPDXID", Form::OneLine(Tag::Identifier)),
+    needed!("name", Form::OneLine(Tag::DocumentName)),
+    needed!("documentNamespace", Form::OneLine(Tag::DocumentNamespace)),
+    perhaps!(
+        "externalDocumentRefs",
+        Form::LeftOut(Kind::ExternalDocument)
+    ),
+    perhaps!("snippets", Form::LeftOut(Kind::Snippet)),
+    perhaps!("annotations", Form::LeftOut(Kind::Annotation)),
+    perhaps!("creationInfo", Form::Elsewhere),
+    perhaps!("files", Form::Elsewhere),
+    perhaps!("packages", Form::Elsewhere),
+    perhaps!("hasExtractedLicensingInfos", Form::Elsewhere),
+    perhaps!("documentDescribes", Form::Elsewhere),
+    perhaps!("relationships", Form::Elsewhere),
+];
 
 /// The members of `creationInfo`.
-pub(crate) fn creation_members() -> [Member; 2]
-    ensures { map member_text result ≡ creation_members }
-{
-    [
-        perhaps("creators", Form::Texts(Tag::Creator)),
-        perhaps("created", Form::OneLine(Tag::Created)),
-    ]
-}
+pub(crate) const CREATION_MEMBERS: [Member; 2] = [
+    perhaps!("creators", Form::Texts(Tag::Creator)),
+    perhaps!("created", Form::OneLine(Tag::Created)),
+];
 
 /// The members of a package.
-pub(crate) fn package_members() -> [Member; 12]
-    ensures { map member_text result ≡ package_members }
-{
-    [
-        needed("name", Form::OneLine(Tag::PackageName)),
-        needed("SPDXID", Form::OneLine(Tag::Identifier)),
-        perhaps("versionInfo", Form::OneLine(Tag::PackageVersion)),
-        perhaps("downloadLocation", Form::OneLine(Tag::DownloadLocation)),
-        perhaps("filesAnalyzed", Form::Flag(Tag::FilesAnalyzed)),
-        perhaps("packageVerificationCode", Form::Code(Tag::VerificationCode)),
-        perhaps("licenseConcluded", Form::OneLine(Tag::PackageConcluded)),
-        perhaps("licenseDeclared", Form::OneLine(Tag::PackageDeclared)),
-        perhaps("copyrightText", Form::Copyright(Tag::PackageCopyright)),
-        perhaps("externalRefs", Form::LeftOut(Kind::ExternalReference)),
-        perhaps("annotations", Form::LeftOut(Kind::Annotation)),
-        perhaps("hasFiles", Form::Elsewhere),
-    ]
-}
+pub(crate) const PACKAGE_MEMBERS: [Member; 12] = [
+    needed!("name", Form::OneLine(Tag::PackageName)),
+    needed!("SPDXID", Form::OneLine(Tag::Identifier)),
+    perhaps!("versionInfo", Form::OneLine(Tag::PackageVersion)),
+    perhaps!("downloadLocation", Form::OneLine(Tag::DownloadLocation)),
+    perhaps!("filesAnalyzed", Form::Flag(Tag::FilesAnalyzed)),
+    perhaps!("packageVerificationCode", Form::Code(Tag::VerificationCode)),
+    perhaps!("licenseConcluded", Form::OneLine(Tag::PackageConcluded)),
+    perhaps!("licenseDeclared", Form::OneLine(Tag::PackageDeclared)),
+    perhaps!("copyrightText", Form::Copyright(Tag::PackageCopyright)),
+    perhaps!("externalRefs", Form::LeftOut(Kind::ExternalReference)),
+    perhaps!("annotations", Form::LeftOut(Kind::Annotation)),
+    perhaps!("hasFiles", Form::Elsewhere),
+];
 
 /// The members of a file.
-pub(crate) fn file_members() -> [Member; 7]
-    ensures { map member_text result ≡ file_members }
-{
-    [
-        needed("fileName", Form::OneLine(Tag::FileName)),
-        needed("SPDXID", Form::OneLine(Tag::Identifier)),
-        perhaps("checksums", Form::Checksums(Tag::FileChecksum)),
-        perhaps("licenseConcluded", Form::OneLine(Tag::FileConcluded)),
-        perhaps("licenseInfoInFiles", Form::Texts(Tag::FileLicense)),
-        perhaps("copyrightText", Form::Copyright(Tag::FileCopyright)),
-        perhaps("annotations", Form::LeftOut(Kind::Annotation)),
-    ]
-}
+pub(crate) const FILE_MEMBERS: [Member; 7] = [
+    needed!("fileName", Form::OneLine(Tag::FileName)),
+    needed!("SPDXID", Form::OneLine(Tag::Identifier)),
+    perhaps!("checksums", Form::Checksums(Tag::FileChecksum)),
+    perhaps!("licenseConcluded", Form::OneLine(Tag::FileConcluded)),
+    perhaps!("licenseInfoInFiles", Form::Texts(Tag::FileLicense)),
+    perhaps!("copyrightText", Form::Copyright(Tag::FileCopyright)),
+    perhaps!("annotations", Form::LeftOut(Kind::Annotation)),
+];
 
 /// The members of an extracted licence.
-pub(crate) fn extracted_members() -> [Member; 2]
-    ensures { map member_text result ≡ extracted_members }
-{
-    [
-        needed("licenseId", Form::OneLine(Tag::LicenseIdentifier)),
-        perhaps("extractedText", Form::InText(Tag::ExtractedText)),
-    ]
-}
+pub(crate) const EXTRACTED_MEMBERS: [Member; 2] = [
+    needed!("licenseId", Form::OneLine(Tag::LicenseIdentifier)),
+    perhaps!("extractedText", Form::InText(Tag::ExtractedText)),
+];
 
 /// The members of a relationship.
-pub(crate) fn relationship_members() -> [Member; 3]
-    ensures { map member_text result ≡ relationship_members }
-{
-    [
-        perhaps("spdxElementId", Form::Elsewhere),
-        perhaps("relationshipType", Form::Elsewhere),
-        perhaps("relatedSpdxElement", Form::Elsewhere),
-    ]
-}
+pub(crate) const RELATIONSHIP_MEMBERS: [Member; 3] = [
+    perhaps!("spdxElementId", Form::Elsewhere),
+    perhaps!("relationshipType", Form::Elsewhere),
+    perhaps!("relatedSpdxElement", Form::Elsewhere),
+];

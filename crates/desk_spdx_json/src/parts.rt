@@ -5,7 +5,7 @@ ghost use Rattle.std.specs.List.{flat_map};
 ghost use Rattle.std.specs.String.{string_bytes};
 ghost use Rattle.serde_json.specs.Find.{as_str, as_array, as_object, get};
 ghost use Rattle.serde_json.specs.View.{view, items_view, members_view};
-ghost use Rattle.desk_tagvalue.specs.Drafts.{one_line};
+ghost use Rattle.desk_tagvalue.specs.Drafts.{blank, one_line};
 ghost use Rattle.desk_spdx_json.specs.declared.parts.Part.TheVariants as parts;
 ghost use Rattle.desk_spdx_json.specs.Steps.{step, put, member_at};
 ghost use Rattle.desk_spdx_json.specs.Members.{member_text};
@@ -14,7 +14,7 @@ ghost use Rattle.desk_spdx_json.specs.Parts.{missing_steps, member_steps, is_kno
 
 use crate::composed::{add_word_fault, word_in};
 use crate::members::{
-    Member, extracted_members, file_members, package_members, relationship_members,
+    EXTRACTED_MEMBERS, FILE_MEMBERS, Member, PACKAGE_MEMBERS, RELATIONSHIP_MEMBERS,
 };
 use crate::steps::{Kind, Steps, What, item_at, member_at};
 use crate::values::add_value;
@@ -167,7 +167,7 @@ fn add_relationship<'a>(
 ) -> Result<(), AllocError>
     ensures { OnOk result (steps.new ≡ steps.old ++ relationship_steps at.now (view value.now)) }
 {
-    add_object(alloc, steps, at, value, &relationship_members())?;
+    add_object(alloc, steps, at, value, &RELATIONSHIP_MEMBERS)?;
     add_word_fault(alloc, steps, at, value, "spdxElementId")?;
     add_word_fault(alloc, steps, at, value, "relationshipType")?;
     add_word_fault(alloc, steps, at, value, "relatedSpdxElement")?;
@@ -235,6 +235,21 @@ fn add_contained(
     }
 }
 
+// Adds an object that has some members, behind a blank line.
+fn add_element<'a>(
+    alloc: Global,
+    steps: &mut Steps<'a>,
+    at: &str,
+    value: &'a Value,
+    members: &[Member],
+) -> Result<(), AllocError>
+    ensures { OnOk result (steps.new ≡ steps.old ++ step [] (put blank)
+        ∷ object_steps at.now (map member_text members.now) (view value.now)) }
+{
+    steps.add(alloc, "", What::Blank)?;
+    add_object(alloc, steps, at, value, members)
+}
+
 // Adds a package.
 fn add_package<'a>(
     alloc: Global,
@@ -245,36 +260,8 @@ fn add_package<'a>(
     ensures { OnOk result (steps.new
         ≡ steps.old ++ part_steps parts.Package at.now (view value.now)) }
 {
-    steps.add(alloc, "", What::Blank)?;
-    add_object(alloc, steps, at, value, &package_members())?;
+    add_element(alloc, steps, at, value, &PACKAGE_MEMBERS)?;
     add_contained(alloc, steps, at, value)
-}
-
-// Adds a file.
-fn add_file<'a>(
-    alloc: Global,
-    steps: &mut Steps<'a>,
-    at: &str,
-    value: &'a Value,
-) -> Result<(), AllocError>
-    ensures { OnOk result (steps.new ≡ steps.old ++ part_steps parts.File at.now (view value.now)) }
-{
-    steps.add(alloc, "", What::Blank)?;
-    add_object(alloc, steps, at, value, &file_members())
-}
-
-// Adds an extracted licence.
-fn add_extracted<'a>(
-    alloc: Global,
-    steps: &mut Steps<'a>,
-    at: &str,
-    value: &'a Value,
-) -> Result<(), AllocError>
-    ensures { OnOk result (steps.new
-        ≡ steps.old ++ part_steps parts.Extracted at.now (view value.now)) }
-{
-    steps.add(alloc, "", What::Blank)?;
-    add_object(alloc, steps, at, value, &extracted_members())
 }
 
 // Adds a part.
@@ -288,9 +275,9 @@ fn add_part<'a>(
     ensures { OnOk result (steps.new ≡ steps.old ++ part_steps part at.now (view value.now)) }
 {
     match part {
-        Part::File => add_file(alloc, steps, at, value),
+        Part::File => add_element(alloc, steps, at, value, &FILE_MEMBERS),
         Part::Package => add_package(alloc, steps, at, value),
-        Part::Extracted => add_extracted(alloc, steps, at, value),
+        Part::Extracted => add_element(alloc, steps, at, value, &EXTRACTED_MEMBERS),
         Part::Relationship => add_relationship(alloc, steps, at, value),
     }
 }

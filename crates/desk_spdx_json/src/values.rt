@@ -4,7 +4,8 @@ ghost use Rattle.std.specs.Prelude.{◌≡◌, ◌++◌, ◌∷◌, [], OnOk, op
 ghost use Rattle.desk_tagvalue.specs.Drafts.{one_line, in_text};
 ghost use Rattle.serde_json.specs.Find.{as_str, as_bool, as_array};
 ghost use Rattle.serde_json.specs.View.{view, items_view};
-ghost use Rattle.desk_spdx_json.specs.Values.{line_step, copyright_line, flag_text, text_steps, in_array, left_items, left_steps, value_steps};
+ghost use Rattle.desk_spdx_json.specs.Steps.{what_text};
+ghost use Rattle.desk_spdx_json.specs.Values.{line_what, copyright_line, flag_text, text_steps, in_array, left_items, left_steps, value_steps};
 
 use crate::composed::{add_checksums, add_code};
 use crate::members::Form;
@@ -14,73 +15,46 @@ use desk_fields::Tag;
 use serde_json::Value;
 use std::alloc::{AllocError, Global};
 
-// Adds a text on one line.
-fn add_one_line<'a>(
-    alloc: Global,
-    steps: &mut Steps<'a>,
-    at: &str,
-    tag: Tag,
-    value: &'a Value,
-) -> Result<(), AllocError>
-    ensures { OnOk result (steps.new
-        ≡ steps.old ++ line_step at.now (one_line tag) (as_str (view value.now)) ∷ []) }
+// A text on one line.
+fn one_line(tag: Tag, value: &Value) -> What<'_>
+    ensures { what_text result ≡ line_what (one_line tag) (as_str (view value.now)) }
 {
     match value.as_str() {
-        Some(text) => steps.add(alloc, at, What::OneLine(tag, text)),
-        None => steps.add(alloc, at, What::BadType),
+        Some(text) => What::OneLine(tag, text),
+        None => What::BadType,
     }
 }
 
-// Adds a text in `<text>`.
-fn add_in_text<'a>(
-    alloc: Global,
-    steps: &mut Steps<'a>,
-    at: &str,
-    tag: Tag,
-    value: &'a Value,
-) -> Result<(), AllocError>
-    ensures { OnOk result (steps.new
-        ≡ steps.old ++ line_step at.now (in_text tag) (as_str (view value.now)) ∷ []) }
+// A text in `<text>`.
+fn in_text(tag: Tag, value: &Value) -> What<'_>
+    ensures { what_text result ≡ line_what (in_text tag) (as_str (view value.now)) }
 {
     match value.as_str() {
-        Some(text) => steps.add(alloc, at, What::InText(tag, text)),
-        None => steps.add(alloc, at, What::BadType),
+        Some(text) => What::InText(tag, text),
+        None => What::BadType,
     }
 }
 
-// Adds a copyright.
-fn add_copyright<'a>(
-    alloc: Global,
-    steps: &mut Steps<'a>,
-    at: &str,
-    tag: Tag,
-    value: &'a Value,
-) -> Result<(), AllocError>
-    ensures { OnOk result (steps.new
-        ≡ steps.old ++ line_step at.now (copyright_line tag) (as_str (view value.now)) ∷ []) }
+// A copyright.
+fn copyright(tag: Tag, value: &Value) -> What<'_>
+    ensures { what_text result ≡ line_what (copyright_line tag) (as_str (view value.now)) }
 {
     match value.as_str() {
-        Some(text) if is_keyword(text) => steps.add(alloc, at, What::OneLine(tag, text)),
-        Some(text) => steps.add(alloc, at, What::InText(tag, text)),
-        None => steps.add(alloc, at, What::BadType),
+        Some(text) if is_keyword(text) => What::OneLine(tag, text),
+        Some(text) => What::InText(tag, text),
+        None => What::BadType,
     }
 }
 
-// Adds a flag.
-fn add_flag<'a>(
-    alloc: Global,
-    steps: &mut Steps<'a>,
-    at: &str,
-    tag: Tag,
-    value: &'a Value,
-) -> Result<(), AllocError>
-    ensures { OnOk result (steps.new ≡ steps.old
-        ++ line_step at.now (one_line tag) (option_map flag_text (as_bool (view value.now))) ∷ []) }
+// A flag.
+fn flag(tag: Tag, value: &Value) -> What<'_>
+    ensures { what_text result
+        ≡ line_what (one_line tag) (option_map flag_text (as_bool (view value.now))) }
 {
     match value.as_bool() {
-        Some(true) => steps.add(alloc, at, What::OneLine(tag, "true")),
-        Some(false) => steps.add(alloc, at, What::OneLine(tag, "false")),
-        None => steps.add(alloc, at, What::BadType),
+        Some(true) => What::OneLine(tag, "true"),
+        Some(false) => What::OneLine(tag, "false"),
+        None => What::BadType,
     }
 }
 
@@ -96,7 +70,7 @@ fn add_text_items<'a>(
 {
     for (i, value) in list.iter().enumerate() {
         let place = item_at(alloc, at, i)?;
-        add_one_line(alloc, steps, &place, tag, value)?;
+        steps.add(alloc, &place, one_line(tag, value))?;
     }
     Ok(())
 }
@@ -159,10 +133,10 @@ pub(crate) fn add_value<'a>(
     ensures { OnOk result (steps.new ≡ steps.old ++ value_steps at.now form (view value.now)) }
 {
     match form {
-        Form::OneLine(tag) => add_one_line(alloc, steps, at, tag, value),
-        Form::InText(tag) => add_in_text(alloc, steps, at, tag, value),
-        Form::Copyright(tag) => add_copyright(alloc, steps, at, tag, value),
-        Form::Flag(tag) => add_flag(alloc, steps, at, tag, value),
+        Form::OneLine(tag) => steps.add(alloc, at, one_line(tag, value)),
+        Form::InText(tag) => steps.add(alloc, at, in_text(tag, value)),
+        Form::Copyright(tag) => steps.add(alloc, at, copyright(tag, value)),
+        Form::Flag(tag) => steps.add(alloc, at, flag(tag, value)),
         Form::Texts(tag) => add_texts(alloc, steps, at, tag, value),
         Form::Checksums(tag) => add_checksums(alloc, steps, at, tag, value),
         Form::Code(tag) => add_code(alloc, steps, at, tag, value),
