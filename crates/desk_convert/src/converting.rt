@@ -14,7 +14,7 @@ use serde_json::Value;
 use std::alloc::Global;
 
 /// How much was left out.
-#[derive(Clone, Copy, PartialEq, Eq)]
+#[derive(Clone, Copy)]
 pub struct Skipped {
     /// References to other documents (`externalDocumentRefs`).
     pub external_documents: usize,
