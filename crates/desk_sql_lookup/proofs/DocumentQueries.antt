@@ -27,6 +27,8 @@ use Rattle.desk_model.specs.declared.row.PackageRow.{PackageRow}
 use Rattle.desk_sql_lookup.specs.Shown.{name_cells}
 use Rattle.desk_sql_lookup.proofs.Ties.{is_key}
 use Rattle.desk_sql_lookup.proofs.Keyed.{same_number, same_text, documents_sorted, packages_sorted}
+use Rattle.desk_sql_lookup.specs.Causes.{IsAsked}
+use Rattle.desk_sql_lookup.proofs.Causes.{Suits, asked}
 use Rattle.desk_sql_lookup.proofs.Selects.{order_by, by_rowid, by_unique, at_one_key, shows}
 
 -- ---- the profile of a document
@@ -41,6 +43,13 @@ document_is = (refl, refl)
 pub document_plain : IsPlain (understood d.desk_schema document_text)
 unfolding understood everything
 document_plain = (refl, refl)
+
+pub document_suits : Suits document_text 1 (understood d.desk_schema document_text)
+unfolding understood everything
+document_suits = (refl, refl)
+
+pub document_asked : (n : ℕ) → IsAsked document_text (number n ∷ [])
+document_asked n = asked document_text (number n ∷ []) 27 (same 0 0 ∷ []) (col 1 0 ∷ col 1 2 ∷ []) (order_by (0 ∷ [])) (codes "document" ∷ codes "profile" ∷ []) document_is document_plain document_suits refl
 
 abbrev document_test : ℕ → Row → Bool
 document_test n cs = is_true (binary (Compare Eq Binary) (column cs 0) (number n)) && true
@@ -69,6 +78,13 @@ pub document_bytes_plain : IsPlain (understood d.desk_schema document_bytes_text
 unfolding understood everything
 document_bytes_plain = (refl, refl)
 
+pub document_bytes_suits : Suits document_bytes_text 1 (understood d.desk_schema document_bytes_text)
+unfolding understood everything
+document_bytes_suits = (refl, refl)
+
+pub document_bytes_asked : (n : ℕ) → IsAsked document_bytes_text (number n ∷ [])
+document_bytes_asked n = asked document_bytes_text (number n ∷ []) 4 (same 0 0 ∷ []) (col 1 3 ∷ []) (order_by (0 ∷ [])) (codes "bytes" ∷ []) document_bytes_is document_bytes_plain document_bytes_suits refl
+
 abbrev document_bytes_test : ℕ → Row → Bool
 document_bytes_test n cs = is_true (binary (Compare Eq Binary) (column cs 0) (number n)) && true
 
@@ -95,6 +111,13 @@ import_of_is = (refl, refl)
 pub import_of_plain : IsPlain (understood d.desk_schema import_of_text)
 unfolding understood everything
 import_of_plain = (refl, refl)
+
+pub import_of_suits : Suits import_of_text 1 (understood d.desk_schema import_of_text)
+unfolding understood everything
+import_of_suits = (refl, refl)
+
+pub import_of_asked : (namespace : List ℕ) → IsAsked import_of_text (Text namespace ∷ [])
+import_of_asked namespace = asked import_of_text (Text namespace ∷ []) 4 (same 2 0 ∷ []) (col 1 0 ∷ col 1 3 ∷ []) (order_by (2 ∷ [])) (codes "number" ∷ codes "bytes" ∷ []) import_of_is import_of_plain import_of_suits refl
 
 abbrev import_of_test : List ℕ → Row → Bool
 import_of_test namespace cs = is_true (binary (Compare Eq Binary) (column cs 1) (Text namespace)) && true
@@ -123,6 +146,13 @@ pub package_plain : IsPlain (understood d.desk_schema package_text)
 unfolding understood everything
 package_plain = (refl, refl)
 
+pub package_suits : Suits package_text 2 (understood d.desk_schema package_text)
+unfolding understood everything
+package_suits = (refl, refl)
+
+pub package_asked : (document : ℕ) (id : List ℕ) → IsAsked package_text (number document ∷ Text id ∷ [])
+package_asked document id = asked package_text (number document ∷ Text id ∷ []) 6 (same 1 0 ∷ same 2 1 ∷ []) (col 1 1 ∷ col 1 2 ∷ col 1 3 ∷ col 1 4 ∷ col 1 5 ∷ col 1 6 ∷ col 1 7 ∷ []) (order_by (1 ∷ 2 ∷ [])) (codes "document" ∷ codes "id" ∷ codes "name" ∷ codes "version" ∷ codes "concluded" ∷ codes "copyright" ∷ codes "shipped" ∷ []) package_is package_plain package_suits refl
+
 abbrev package_test : ℕ → List ℕ → Row → Bool
 package_test document id cs = is_true (binary (Compare Eq Binary) (column cs 0) (number document)) && (is_true (binary (Compare Eq Binary) (column cs 1) (Text id)) && true)
 
@@ -149,6 +179,13 @@ shipped_parsed = (refl, refl)
 pub shipped_plain : IsPlain (understood d.desk_schema shipped_text)
 unfolding understood everything
 shipped_plain = (refl, refl)
+
+pub shipped_suits : Suits shipped_text 2 (understood d.desk_schema shipped_text)
+unfolding understood everything
+shipped_suits = (refl, refl)
+
+pub shipped_asked : (document : ℕ) → IsAsked shipped_text (number document ∷ number 1 ∷ [])
+shipped_asked document = asked shipped_text (number document ∷ number 1 ∷ []) 6 (same 1 0 ∷ same 7 1 ∷ []) (col 1 1 ∷ col 1 2 ∷ col 1 3 ∷ col 1 4 ∷ col 1 5 ∷ col 1 6 ∷ col 1 7 ∷ []) (order_by (1 ∷ 2 ∷ [])) (codes "document" ∷ codes "id" ∷ codes "name" ∷ codes "version" ∷ codes "concluded" ∷ codes "copyright" ∷ codes "shipped" ∷ []) shipped_parsed shipped_plain shipped_suits refl
 
 abbrev shipped_number : PackageRow → ℕ
 shipped_number x = if x.shipped then 1 else 0
@@ -187,6 +224,13 @@ pub names_plain : IsPlain (understood d.desk_schema names_text)
 unfolding understood everything
 names_plain = (refl, refl)
 
+pub names_suits : Suits names_text 0 (understood d.desk_schema names_text)
+unfolding understood everything
+names_suits = (refl, refl)
+
+pub names_asked : IsAsked names_text []
+names_asked = asked names_text [] 4 [] (col 1 0 ∷ col 1 2 ∷ []) (order_by (0 ∷ [])) (codes "number" ∷ codes "namespace" ∷ []) names_is names_plain names_suits refl
+
 pub names_read : (old new : State) (rows : List Row) (t : Tables) → Shown names_text [] old new rows → Holds t old.now → rows ≡ map name_cells (filter every t.document)
 names_read old new rows t shown holds =
     let this = d.document_table in
@@ -204,6 +248,13 @@ readings_is = (refl, refl)
 pub readings_plain : IsPlain (understood d.desk_schema readings_text)
 unfolding understood everything
 readings_plain = (refl, refl)
+
+pub readings_suits : Suits readings_text 0 (understood d.desk_schema readings_text)
+unfolding understood everything
+readings_suits = (refl, refl)
+
+pub readings_asked : IsAsked readings_text []
+readings_asked = asked readings_text [] 27 [] (col 1 0 ∷ col 1 2 ∷ []) (order_by (0 ∷ [])) (codes "document" ∷ codes "profile" ∷ []) readings_is readings_plain readings_suits refl
 
 pub readings_read : (old new : State) (rows : List Row) (t : Tables) → Shown readings_text [] old new rows → Holds t old.now → rows ≡ map reading_cells (filter every t.document)
 readings_read old new rows t shown holds =

@@ -30,6 +30,8 @@ use Rattle.desk_model.specs.declared.row.ChangeRow.{ChangeRow}
 use Rattle.desk_sql_lookup.specs.Waivers.{day_cells}
 use Rattle.desk_sql_lookup.proofs.Ties.{is_key, keys}
 use Rattle.desk_sql_lookup.proofs.Keyed.{same_number, duties_sorted, changes_sorted}
+use Rattle.desk_sql_lookup.specs.Causes.{IsAsked}
+use Rattle.desk_sql_lookup.proofs.Causes.{Suits, asked}
 use Rattle.desk_sql_lookup.proofs.Selects.{order_by, by_rowid, by_unique, at_one_key, counts, shows, apart_shown}
 
 -- ---- the duty with a number
@@ -44,6 +46,13 @@ duty_is = (refl, refl)
 pub duty_plain : IsPlain (understood d.desk_schema duty_text)
 unfolding understood everything
 duty_plain = (refl, refl)
+
+pub duty_suits : Suits duty_text 1 (understood d.desk_schema duty_text)
+unfolding understood everything
+duty_suits = (refl, refl)
+
+pub duty_asked : (n : ℕ) → IsAsked duty_text (number n ∷ [])
+duty_asked n = asked duty_text (number n ∷ []) 23 (same 0 0 ∷ []) (col 1 0 ∷ col 1 2 ∷ col 1 3 ∷ col 1 4 ∷ col 1 5 ∷ col 1 6 ∷ col 1 7 ∷ col 1 8 ∷ []) (order_by (0 ∷ [])) (codes "number" ∷ codes "release" ∷ codes "document" ∷ codes "package" ∷ codes "term" ∷ codes "code" ∷ codes "rule" ∷ codes "state" ∷ []) duty_is duty_plain duty_suits refl
 
 abbrev duty_test : ℕ → Row → Bool
 duty_test n cs = is_true (binary (Compare Eq Binary) (column cs 0) (number n)) && true
@@ -72,6 +81,13 @@ pub duties_of_plain : IsPlain (understood d.desk_schema duties_of_text)
 unfolding understood everything
 duties_of_plain = (refl, refl)
 
+pub duties_of_suits : Suits duties_of_text 1 (understood d.desk_schema duties_of_text)
+unfolding understood everything
+duties_of_suits = (refl, refl)
+
+pub duties_of_asked : (release : List ℕ) → IsAsked duties_of_text (Text release ∷ [])
+duties_of_asked release = asked duties_of_text (Text release ∷ []) 23 (same 2 0 ∷ []) (col 1 0 ∷ col 1 2 ∷ col 1 3 ∷ col 1 4 ∷ col 1 5 ∷ col 1 6 ∷ col 1 7 ∷ col 1 8 ∷ []) (order_by (0 ∷ [])) (codes "number" ∷ codes "release" ∷ codes "document" ∷ codes "package" ∷ codes "term" ∷ codes "code" ∷ codes "rule" ∷ codes "state" ∷ []) duties_of_is duties_of_plain duties_of_suits refl
+
 abbrev duties_of_test : List ℕ → Row → Bool
 duties_of_test release cs = is_true (binary (Compare Eq Binary) (column cs 1) (Text release)) && true
 
@@ -96,6 +112,13 @@ pub steps_plain : IsPlain (understood d.desk_schema steps_text)
 unfolding understood everything
 steps_plain = (refl, refl)
 
+pub steps_suits : Suits steps_text 1 (understood d.desk_schema steps_text)
+unfolding understood everything
+steps_suits = (refl, refl)
+
+pub steps_asked : (duty : ℕ) → IsAsked steps_text (number duty ∷ [])
+steps_asked duty = asked steps_text (number duty ∷ []) 25 (same 1 0 ∷ []) (col 1 2 ∷ []) (order_by ([])) (codes "step" ∷ []) steps_is steps_plain steps_suits refl
+
 abbrev steps_test : ℕ → Row → Bool
 steps_test duty cs = is_true (binary (Compare Eq Binary) (column cs 0) (number duty)) && true
 
@@ -119,6 +142,13 @@ changes_of_is = (refl, refl)
 pub changes_of_plain : IsPlain (understood d.desk_schema changes_of_text)
 unfolding understood everything
 changes_of_plain = (refl, refl)
+
+pub changes_of_suits : Suits changes_of_text 1 (understood d.desk_schema changes_of_text)
+unfolding understood everything
+changes_of_suits = (refl, refl)
+
+pub changes_of_asked : (duty : ℕ) → IsAsked changes_of_text (number duty ∷ [])
+changes_of_asked duty = asked changes_of_text (number duty ∷ []) 25 (same 1 0 ∷ []) (col 1 1 ∷ col 1 2 ∷ col 1 3 ∷ col 1 4 ∷ col 1 5 ∷ []) (order_by (1 ∷ 2 ∷ [])) (codes "duty" ∷ codes "step" ∷ codes "day" ∷ codes "word" ∷ codes "body" ∷ []) changes_of_is changes_of_plain changes_of_suits refl
 
 abbrev changes_of_test : ℕ → Row → Bool
 changes_of_test duty cs = is_true (binary (Compare Eq Binary) (column cs 0) (number duty)) && true
@@ -151,6 +181,13 @@ pub waivers_of_plain : IsPlain (understood d.desk_schema waivers_of_text)
 unfolding understood everything
 waivers_of_plain = (refl, refl)
 
+pub waivers_of_suits : Suits waivers_of_text 1 (understood d.desk_schema waivers_of_text)
+unfolding understood everything
+waivers_of_suits = (refl, refl)
+
+pub waivers_of_asked : (duty : ℕ) → IsAsked waivers_of_text (number duty ∷ [])
+waivers_of_asked duty = asked waivers_of_text (number duty ∷ []) 28 (same 1 0 ∷ []) (col 1 2 ∷ col 1 3 ∷ []) (order_by (1 ∷ 2 ∷ [])) (codes "step" ∷ codes "last_day" ∷ []) waivers_of_is waivers_of_plain waivers_of_suits refl
+
 abbrev waivers_of_test : ℕ → Row → Bool
 waivers_of_test duty cs = is_true (binary (Compare Eq Binary) (column cs 0) (number duty)) && true
 
@@ -175,6 +212,13 @@ pub duties_at_plain : IsPlain (understood d.desk_schema duties_at_text)
 unfolding understood everything
 duties_at_plain = (refl, refl)
 
+pub duties_at_suits : Suits duties_at_text 1 (understood d.desk_schema duties_at_text)
+unfolding understood everything
+duties_at_suits = (refl, refl)
+
+pub duties_at_asked : (state : List ℕ) → IsAsked duties_at_text (Text state ∷ [])
+duties_at_asked state = asked duties_at_text (Text state ∷ []) 23 (same 8 0 ∷ []) (col 1 0 ∷ col 1 2 ∷ col 1 3 ∷ col 1 4 ∷ col 1 5 ∷ col 1 6 ∷ col 1 7 ∷ col 1 8 ∷ []) (order_by (0 ∷ [])) (codes "number" ∷ codes "release" ∷ codes "document" ∷ codes "package" ∷ codes "term" ∷ codes "code" ∷ codes "rule" ∷ codes "state" ∷ []) duties_at_is duties_at_plain duties_at_suits refl
+
 abbrev duties_at_test : List ℕ → Row → Bool
 duties_at_test state cs = is_true (binary (Compare Eq Binary) (column cs 7) (Text state)) && true
 
@@ -198,6 +242,13 @@ days_of_is = (refl, refl)
 pub days_of_plain : IsPlain (understood d.desk_schema days_of_text)
 unfolding understood everything
 days_of_plain = (refl, refl)
+
+pub days_of_suits : Suits days_of_text 1 (understood d.desk_schema days_of_text)
+unfolding understood everything
+days_of_suits = (refl, refl)
+
+pub days_of_asked : (duty : ℕ) → IsAsked days_of_text (number duty ∷ [])
+days_of_asked duty = asked days_of_text (number duty ∷ []) 25 (same 1 0 ∷ []) (col 1 3 ∷ []) (order_by (1 ∷ 2 ∷ [])) (codes "day" ∷ []) days_of_is days_of_plain days_of_suits refl
 
 abbrev days_of_test : ℕ → Row → Bool
 days_of_test duty cs = is_true (binary (Compare Eq Binary) (column cs 0) (number duty)) && true

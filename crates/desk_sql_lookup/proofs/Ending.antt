@@ -11,10 +11,12 @@ use Rattle.sqlite_sql.specs.Query.{key_cmp}
 use Rattle.sqlite_sql.proofs.QueryLemmas.{key_cmp_total}
 use Rattle.sqlite_rules.specs.Lists.{Has}
 use Rattle.sqlite_rules.proofs.ListLemmas.{has_filtered}
-use Rattle.desk_sql_layout.specs.Cells.{number, text_or_null, is_waiver}
+use Rattle.desk_sql_layout.specs.Cells.{number, text_or_null, is_waiver, waiver_cells}
 use Rattle.desk_model.specs.Keys.{is_change_of}
 use Rattle.desk_model.specs.declared.row.ChangeRow.{ChangeRow}
-use Rattle.desk_sql_lookup.specs.Waivers.{AreSteps, waivers_in, ending_cells, taken}
+use Rattle.desk_sql_lookup.specs.Waivers.{AreSteps, EndsOnDay, waivers_in, ending_cells, taken}
+use Rattle.desk_sql_lookup.specs.Causes.{HasLastDay, IsRow}
+use Rattle.desk_sql_lookup.proofs.Causes.{filter_written}
 use Rattle.desk_sql_lookup.proofs.Keyed.{same_number}
 use Rattle.desk_sql_lookup.proofs.Ties.{keys, ascending_among}
 
@@ -93,3 +95,16 @@ pub front_rest : {X Y : Type 0} (f : X → Y) (R : X → X → Type 0) (xs : Lis
 front_rest f R [] i d low up = absurd (omega arith)
 front_rest f R (x ∷ xs) zero d low up = (x, xs, refl, refl, refl, refl, up.0)
 front_rest f R (x ∷ xs) (suc i) d low up = let r = front_rest f R xs i d (omega arith) up.1 in (r.0, r.1, r.2, ap (λ l. x ∷ l) r.3, r.4, r.5, r.6)
+
+-- the waivers of some changes can be read, as the table of waivers can
+pub ends_written : (p : ChangeRow → Bool) (xs : List ChangeRow) → AllByRecursion IsRow (map waiver_cells (filter is_waiver xs)) → AllByRecursion IsRow (map ending_cells (waivers_in (filter p xs)))
+ends_written p xs all =
+    subst (AllByRecursion IsRow) (ap (map shown) (filters_swap p is_waiver xs) ∙ shown_is (filter p xs)) (filter_written waiver_cells shown (λ x row. row.1) p (filter is_waiver xs) all)
+
+pub ends_on_days : (xs : List ChangeRow) → AllByRecursion HasLastDay xs → AllByRecursion EndsOnDay (waivers_in xs)
+ends_on_days [] all = tt
+ends_on_days (x ∷ xs) all = go (ends_on_days xs all.1) x.last_day refl
+  where
+    go : AllByRecursion EndsOnDay (waivers_in xs) → (last : Option (List ℕ)) → x.last_day ≡ last → AllByRecursion EndsOnDay (waivers_in (x ∷ xs))
+    go more None e = rw e more
+    go more (Some day) e = rw e (rw e at all.0, more)

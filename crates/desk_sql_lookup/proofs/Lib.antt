@@ -2,6 +2,7 @@ pub mod Ties
 pub mod Selects
 pub mod Keyed
 pub mod Calls
+pub mod Causes
 pub mod HolderLemmas
 pub mod StandingLemmas
 pub mod LastDay

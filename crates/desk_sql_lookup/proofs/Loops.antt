@@ -1,7 +1,8 @@
 -- A loop over rows, and the first of some.
-use Rattle.std.proofs.Common.{◌≡◌, ℕ, zero, suc, ◌<◌, Bool, true, false, List, [], ◌∷◌, ◌++◌, map, take, length, get_or, filter, find, refl, ap, arith, slice_get}
+use Rattle.std.proofs.Common.{◌≡◌, ℕ, zero, suc, ◌<◌, Bool, true, false, List, [], ◌∷◌, ◌++◌, map, take, length, get_or, filter, find, refl, ap, arith, slice_get, Some, IfSome, ◌∙◌}
 use Rattle.std.specs.Prelude.{◌==◌, ◌||◌, bytes_eq}
-use Rattle.std.specs.List.{list_any}
+use Rattle.std.specs.List.{AllByRecursion, list_any}
+use Rattle.sqlite_value.specs.Order.{Row}
 use Rattle.std.specs.Option.{option_map}
 use Rattle.desk_model.specs.History.{attached_to}
 use Rattle.desk_model.specs.Keys.{is_attachment}
@@ -44,3 +45,53 @@ any_attached release document (x ∷ xs) = go (any_attached release document xs)
         → list_any (λ row. row.document == document) (attached_to (x ∷ xs) release) ≡ list_any (is_attachment release document) (x ∷ xs)
     go more true is = rw is (ap (λ b. (x.document == document) || b) more)
     go more false is = rw is more
+
+-- what is so of each row, and of each of the values that they are the cells of, is so at one place
+pub at_place : {X : Type 0} (f : X → Row) (P : Row → Type 0) (Q : X → Type 0) (xs : List X) (rows : List Row) (i : ℕ) (d : Row) → rows ≡ map f xs → i < length rows → AllByRecursion P rows → AllByRecursion Q xs
+    → (x : X) × (get_or rows i d ≡ f x) × P (get_or rows i d) × Q x
+at_place f P Q [] [] i d is low all each = absurd (omega (arith, low))
+at_place f P Q [] (r ∷ rows) i d is low all each = absurd cc
+at_place f P Q (x ∷ xs) [] i d is low all each = absurd (omega (arith, low))
+at_place f P Q (x ∷ xs) (r ∷ rows) zero d is low all each = let one : r ≡ f x = cc in (x, one, all.0, each.0)
+at_place f P Q (x ∷ xs) (r ∷ rows) (suc i) d is low all each = let rest : rows ≡ map f xs = cc in at_place f P Q xs rows i d rest (omega (arith, low)) all.1 each.1
+
+-- and at the place that a look into the rows told
+pub got_place : {X : Type 0} (f : X → Row) (P : Row → Type 0) (Q : X → Type 0) (xs : List X) (rows : List Row) (k : ℕ) (row : Row) → rows ≡ map f xs → Some row ≡ slice_get rows k → AllByRecursion P rows → AllByRecursion Q xs
+    → (x : X) × (row ≡ f x) × P row × Q x
+got_place f P Q [] [] k row is got all each = absurd cc
+got_place f P Q [] (r ∷ rows) k row is got all each = absurd cc
+got_place f P Q (x ∷ xs) [] k row is got all each = absurd cc
+got_place f P Q (x ∷ xs) (r ∷ rows) zero row is got all each = let one : r ≡ f x = cc in let it : row ≡ r = cc in (x, it ∙ one, rw it all.0, each.0)
+got_place f P Q (x ∷ xs) (r ∷ rows) (suc k) row is got all each = let rest : rows ≡ map f xs = cc in got_place f P Q xs rows k row rest got all.1 each.1
+
+pub first_value : {X : Type 0} (f : X → Row) (xs : List X) (rows : List Row) (row : Row) → rows ≡ map f xs → Some row ≡ slice_get rows 0 → (x : X) × (row ≡ f x) × (Some x ≡ slice_get xs 0)
+first_value f [] [] row is first = absurd cc
+first_value f [] (r ∷ rows) row is first = absurd cc
+first_value f (x ∷ xs) [] row is first = absurd cc
+first_value f (x ∷ xs) (r ∷ rows) row is first = let one : r ≡ f x = cc in let it : row ≡ r = cc in (x, it ∙ one, refl)
+
+pub passed_first : {X : Type 0} (p : X → Bool) (Q : X → Type 0) → ((x : X) → p x ≡ true → Q x) → (xs : List X) → IfSome (slice_get (filter p xs) 0) Q
+passed_first p Q right [] = tt
+passed_first {X} p Q right (x ∷ xs) = go (passed_first p Q right xs) (p x) refl
+  where
+    go : IfSome (slice_get (filter p xs) 0) Q → (b : Bool) → p x ≡ b → IfSome (slice_get (filter p (x ∷ xs)) 0) Q
+    go more true is = rw is (right x is)
+    go more false is = rw is more
+
+pub passed_mapped : {X Y : Type 0} (f : X → Y) (p : X → Bool) (Q : Y → Type 0) → ((x : X) → p x ≡ true → Q (f x)) → (xs : List X) → IfSome (slice_get (map f (filter p xs)) 0) Q
+passed_mapped f p Q right [] = tt
+passed_mapped {X} f p Q right (x ∷ xs) = go (passed_mapped f p Q right xs) (p x) refl
+  where
+    go : IfSome (slice_get (map f (filter p xs)) 0) Q → (b : Bool) → p x ≡ b → IfSome (slice_get (map f (filter p (x ∷ xs))) 0) Q
+    go more true is = rw is (right x is)
+    go more false is = rw is more
+
+-- the rows at one place of two lists, each made of the same list
+pub at_two : {X : Type 0} (f g : X → Row) (P : Row → Type 0) (xs : List X) (rows others : List Row) (i : ℕ) (d e : Row) → rows ≡ map f xs → others ≡ map g xs → i < length rows → AllByRecursion P rows → AllByRecursion P others
+    → (x : X) × (get_or rows i d ≡ f x) × P (get_or rows i d) × (get_or others i e ≡ g x) × P (get_or others i e)
+at_two f g P xs [] others i d e is are low all each = absurd (omega (arith, low))
+at_two f g P [] (r ∷ rows) others i d e is are low all each = absurd cc
+at_two f g P (x ∷ xs) (r ∷ rows) [] i d e is are low all each = absurd cc
+at_two f g P (x ∷ xs) (r ∷ rows) (o ∷ others) zero d e is are low all each = let one : r ≡ f x = cc in let two : o ≡ g x = cc in (x, one, all.0, two, each.0)
+at_two f g P (x ∷ xs) (r ∷ rows) (o ∷ others) (suc i) d e is are low all each =
+    let rest : rows ≡ map f xs = cc in let more : others ≡ map g xs = cc in at_two f g P xs rows others i d e rest more (omega (arith, low)) all.1 each.1

@@ -27,6 +27,8 @@ use Rattle.desk_model.specs.declared.row.RuleRow.{RuleRow}
 use Rattle.desk_sql_lookup.specs.Rules.{is_rule_at}
 use Rattle.desk_sql_lookup.proofs.Ties.{is_key}
 use Rattle.desk_sql_lookup.proofs.Keyed.{same_number, same_text}
+use Rattle.desk_sql_lookup.specs.Causes.{IsAsked}
+use Rattle.desk_sql_lookup.proofs.Causes.{Suits, asked}
 use Rattle.desk_sql_lookup.proofs.Selects.{order_by, by_unique, at_one_key, counts, shows}
 
 -- ---- what the office concluded for a package
@@ -41,6 +43,13 @@ conclusion_is = (refl, refl)
 pub conclusion_plain : IsPlain (understood d.desk_schema conclusion_text)
 unfolding understood everything
 conclusion_plain = (refl, refl)
+
+pub conclusion_suits : Suits conclusion_text 2 (understood d.desk_schema conclusion_text)
+unfolding understood everything
+conclusion_suits = (refl, refl)
+
+pub conclusion_asked : (document : ℕ) (id : List ℕ) → IsAsked conclusion_text (number document ∷ Text id ∷ [])
+conclusion_asked document id = asked conclusion_text (number document ∷ Text id ∷ []) 10 (same 1 0 ∷ same 2 1 ∷ []) (col 1 3 ∷ []) (order_by (1 ∷ 2 ∷ [])) (codes "expression" ∷ []) conclusion_is conclusion_plain conclusion_suits refl
 
 abbrev conclusion_test : ℕ → List ℕ → Row → Bool
 conclusion_test document id cs = is_true (binary (Compare Eq Binary) (column cs 0) (number document)) && (is_true (binary (Compare Eq Binary) (column cs 1) (Text id)) && true)
@@ -69,6 +78,13 @@ pub adoption_plain : IsPlain (understood d.desk_schema adoption_text)
 unfolding understood everything
 adoption_plain = (refl, refl)
 
+pub adoption_suits : Suits adoption_text 2 (understood d.desk_schema adoption_text)
+unfolding understood everything
+adoption_suits = (refl, refl)
+
+pub adoption_asked : (document : ℕ) (reference : List ℕ) → IsAsked adoption_text (number document ∷ Text reference ∷ [])
+adoption_asked document reference = asked adoption_text (number document ∷ Text reference ∷ []) 12 (same 1 0 ∷ same 2 1 ∷ []) (col 1 3 ∷ []) (order_by (1 ∷ 2 ∷ [])) (codes "licence" ∷ []) adoption_is adoption_plain adoption_suits refl
+
 abbrev adoption_test : ℕ → List ℕ → Row → Bool
 adoption_test document reference cs = is_true (binary (Compare Eq Binary) (column cs 0) (number document)) && (is_true (binary (Compare Eq Binary) (column cs 1) (Text reference)) && true)
 
@@ -96,6 +112,13 @@ pub adoption_count_plain : IsPlain (understood d.desk_schema adoption_count_text
 unfolding understood everything
 adoption_count_plain = (refl, refl)
 
+pub adoption_count_suits : Suits adoption_count_text 1 (understood d.desk_schema adoption_count_text)
+unfolding understood everything
+adoption_count_suits = (refl, refl)
+
+pub adoption_count_asked : (document : ℕ) → IsAsked adoption_count_text (number document ∷ [])
+adoption_count_asked document = asked adoption_count_text (number document ∷ []) 12 (same 1 0 ∷ []) (col 1 2 ∷ []) (order_by ([])) (codes "reference" ∷ []) adoption_count_is adoption_count_plain adoption_count_suits refl
+
 abbrev adoption_count_test : ℕ → Row → Bool
 adoption_count_test document cs = is_true (binary (Compare Eq Binary) (column cs 0) (number document)) && true
 
@@ -119,6 +142,13 @@ rule_is = (refl, refl)
 pub rule_plain : IsPlain (understood d.desk_schema rule_text)
 unfolding understood everything
 rule_plain = (refl, refl)
+
+pub rule_suits : Suits rule_text 3 (understood d.desk_schema rule_text)
+unfolding understood everything
+rule_suits = (refl, refl)
+
+pub rule_asked : (revision : ℕ) (term : List ℕ) (form : List ℕ) → IsAsked rule_text (number revision ∷ Text term ∷ Text form ∷ [])
+rule_asked revision term form = asked rule_text (number revision ∷ Text term ∷ Text form ∷ []) 2 (same 1 0 ∷ same 2 1 ∷ same 3 2 ∷ []) (col 1 1 ∷ col 1 2 ∷ col 1 3 ∷ col 1 4 ∷ col 1 5 ∷ []) (order_by (1 ∷ 2 ∷ 3 ∷ [])) (codes "revision" ∷ codes "term" ∷ codes "form" ∷ codes "spelled" ∷ codes "codes" ∷ []) rule_is rule_plain rule_suits refl
 
 abbrev rule_test : ℕ → List ℕ → List ℕ → Row → Bool
 rule_test revision term form cs = is_true (binary (Compare Eq Binary) (column cs 0) (number revision)) && (is_true (binary (Compare Eq Binary) (column cs 1) (Text term)) && (is_true (binary (Compare Eq Binary) (column cs 2) (Text form)) && true))

@@ -27,6 +27,8 @@ use Rattle.desk_model.specs.declared.row.ChoiceRow.{ChoiceRow}
 use Rattle.desk_model.specs.declared.row.FrozenRow.{FrozenRow}
 use Rattle.desk_sql_lookup.proofs.Ties.{is_key}
 use Rattle.desk_sql_lookup.proofs.Keyed.{same_text, attached_sorted, choices_sorted, frozen_sorted, releases_sorted}
+use Rattle.desk_sql_lookup.specs.Causes.{IsAsked}
+use Rattle.desk_sql_lookup.proofs.Causes.{Suits, asked}
 use Rattle.desk_sql_lookup.proofs.Selects.{order_by, by_unique, at_one_key, counts, shows}
 use Rattle.desk_base.proofs.Bools.{together}
 
@@ -42,6 +44,13 @@ release_is = (refl, refl)
 pub release_plain : IsPlain (understood d.desk_schema release_text)
 unfolding understood everything
 release_plain = (refl, refl)
+
+pub release_suits : Suits release_text 1 (understood d.desk_schema release_text)
+unfolding understood everything
+release_suits = (refl, refl)
+
+pub release_asked : (name : List ℕ) → IsAsked release_text (Text name ∷ [])
+release_asked name = asked release_text (Text name ∷ []) 14 (same 1 0 ∷ []) (col 1 1 ∷ col 1 2 ∷ col 1 3 ∷ col 1 4 ∷ col 1 5 ∷ []) (order_by (1 ∷ [])) (codes "name" ∷ codes "place" ∷ codes "form" ∷ codes "state" ∷ codes "revision" ∷ []) release_is release_plain release_suits refl
 
 abbrev release_test : List ℕ → Row → Bool
 release_test name cs = is_true (binary (Compare Eq Binary) (column cs 0) (Text name)) && true
@@ -70,6 +79,13 @@ pub attached_plain : IsPlain (understood d.desk_schema attached_text)
 unfolding understood everything
 attached_plain = (refl, refl)
 
+pub attached_suits : Suits attached_text 1 (understood d.desk_schema attached_text)
+unfolding understood everything
+attached_suits = (refl, refl)
+
+pub attached_asked : (release : List ℕ) → IsAsked attached_text (Text release ∷ [])
+attached_asked release = asked attached_text (Text release ∷ []) 17 (same 1 0 ∷ []) (col 1 1 ∷ col 1 2 ∷ []) (order_by (1 ∷ 2 ∷ [])) (codes "release" ∷ codes "document" ∷ []) attached_is attached_plain attached_suits refl
+
 abbrev attached_test : List ℕ → Row → Bool
 attached_test release cs = is_true (binary (Compare Eq Binary) (column cs 0) (Text release)) && true
 
@@ -93,6 +109,13 @@ attached_count_is = (refl, refl)
 pub attached_count_plain : IsPlain (understood d.desk_schema attached_count_text)
 unfolding understood everything
 attached_count_plain = (refl, refl)
+
+pub attached_count_suits : Suits attached_count_text 1 (understood d.desk_schema attached_count_text)
+unfolding understood everything
+attached_count_suits = (refl, refl)
+
+pub attached_count_asked : (release : List ℕ) → IsAsked attached_count_text (Text release ∷ [])
+attached_count_asked release = asked attached_count_text (Text release ∷ []) 17 (same 1 0 ∷ []) (col 1 2 ∷ []) (order_by ([])) (codes "document" ∷ []) attached_count_is attached_count_plain attached_count_suits refl
 
 abbrev attached_count_test : List ℕ → Row → Bool
 attached_count_test release cs = is_true (binary (Compare Eq Binary) (column cs 0) (Text release)) && true
@@ -118,6 +141,13 @@ pub chosen_plain : IsPlain (understood d.desk_schema chosen_text)
 unfolding understood everything
 chosen_plain = (refl, refl)
 
+pub chosen_suits : Suits chosen_text 3 (understood d.desk_schema chosen_text)
+unfolding understood everything
+chosen_suits = (refl, refl)
+
+pub chosen_asked : (release : List ℕ) (document : ℕ) (package_id : List ℕ) → IsAsked chosen_text (Text release ∷ number document ∷ Text package_id ∷ [])
+chosen_asked release document package_id = asked chosen_text (Text release ∷ number document ∷ Text package_id ∷ []) 19 (same 1 0 ∷ same 2 1 ∷ same 3 2 ∷ []) (col 1 4 ∷ []) (order_by (1 ∷ 2 ∷ 3 ∷ 4 ∷ [])) (codes "term" ∷ []) chosen_is chosen_plain chosen_suits refl
+
 abbrev chosen_test : List ℕ → ℕ → List ℕ → Row → Bool
 chosen_test release document package_id cs = is_true (binary (Compare Eq Binary) (column cs 0) (Text release)) && (is_true (binary (Compare Eq Binary) (column cs 1) (number document)) && (is_true (binary (Compare Eq Binary) (column cs 2) (Text package_id)) && true))
 
@@ -141,6 +171,13 @@ frozen_is = (refl, refl)
 pub frozen_plain : IsPlain (understood d.desk_schema frozen_text)
 unfolding understood everything
 frozen_plain = (refl, refl)
+
+pub frozen_suits : Suits frozen_text 1 (understood d.desk_schema frozen_text)
+unfolding understood everything
+frozen_suits = (refl, refl)
+
+pub frozen_asked : (release : List ℕ) → IsAsked frozen_text (Text release ∷ [])
+frozen_asked release = asked frozen_text (Text release ∷ []) 21 (same 1 0 ∷ []) (col 1 1 ∷ col 1 2 ∷ col 1 3 ∷ col 1 4 ∷ col 1 5 ∷ []) (order_by (1 ∷ 2 ∷ 3 ∷ 4 ∷ [])) (codes "release" ∷ codes "document" ∷ codes "package" ∷ codes "term" ∷ codes "rule" ∷ []) frozen_is frozen_plain frozen_suits refl
 
 abbrev frozen_test : List ℕ → Row → Bool
 frozen_test release cs = is_true (binary (Compare Eq Binary) (column cs 0) (Text release)) && true
@@ -168,6 +205,13 @@ releases_is = (refl, refl)
 pub releases_plain : IsPlain (understood d.desk_schema releases_text)
 unfolding understood everything
 releases_plain = (refl, refl)
+
+pub releases_suits : Suits releases_text 0 (understood d.desk_schema releases_text)
+unfolding understood everything
+releases_suits = (refl, refl)
+
+pub releases_asked : IsAsked releases_text ([])
+releases_asked = asked releases_text ([]) 14 ([]) (col 1 1 ∷ col 1 2 ∷ col 1 3 ∷ col 1 4 ∷ col 1 5 ∷ []) (order_by (1 ∷ [])) (codes "name" ∷ codes "place" ∷ codes "form" ∷ codes "state" ∷ codes "revision" ∷ []) releases_is releases_plain releases_suits refl
 
 pub releases_read : (old new : State) (rows : List Row) (t : Tables) → Shown releases_text ([]) old new rows → Holds t old.now → rows ≡ map release_cells (filter (every) t.releases)
 releases_read old new rows t shown holds =

@@ -1,19 +1,27 @@
 -- Rows of a query that are read one by one.
-use Rattle.std.proofs.Common.{◌≡◌, inl, inr, ℕ, IsTrue, List, [], ◌∷◌, ◌++◌, map, Ok, refl, sym, ap, subst, ◌∙◌, Some, None}
+use Rattle.std.proofs.Common.{◌≡◌, inl, inr, ℕ, IsTrue, List, [], ◌∷◌, ◌++◌, map, Ok, refl, sym, ap, subst, ◌∙◌, Some, None, arith}
+use Rattle.std.specs.List.{AllByRecursion}
 use Rattle.sqlite_trees.specs.declared.store.Store.{Ghosts}
 use Rattle.sqlite_value.specs.Order.{Row}
+use Rattle.sqlite_sql.specs.Query.{Query}
+use Rattle.sqlite_schema.specs.declared.command.Command.{Command}
+use Rattle.sqlite_schema.specs.declared.command.Command.TheVariants.{Select}
+use Rattle.sqlite_resolve.specs.declared.compiled.Compiled.{Compiled}
 use Rattle.sqlite.specs.Effect.{Database}
 use Rattle.sqlite.specs.Clock.{timed}
 use Rattle.sqlite.specs.Given.{HasBegun, HasGiven}
 use Rattle.sqlite.specs.Held.{Held, state}
 use Rattle.sqlite.specs.Listing.{understood, reads_listing, IsSourceOf}
-use Rattle.sqlite.specs.State.{State, HasCleanDisk, IsUnchanged, Shown, ShowsRows, Survives, CommitsShowing}
-use Rattle.sqlite.proofs.Callers.{IsPlain, begun_plain, unchanged_then}
+use Rattle.sqlite.specs.State.{State, HasCleanDisk, IsUnchanged, Shown, ShowsRows, Survives, CommitsShowing, Begins as Begun}
+use Rattle.sqlite.proofs.Callers.{EndsIn, IsPlain, begins_shown, begun_plain, given_begin, unchanged_then}
+use Rattle.desk_model.specs.declared.command.Fault.{Fault}
 use Rattle.desk_access.specs.Seen.{Same}
 use Rattle.desk_sql_layout.specs.Held.{seen_of}
 use Rattle.desk_sql_layout.specs.Layout.{desk_schema}
-use Rattle.desk_sql_lookup.specs.Streamed.{AreRead, ReadsOn, ShowsRead}
+use Rattle.desk_sql_lookup.specs.Causes.{HasCauseIf, IsAsked, IsRow}
+use Rattle.desk_sql_lookup.specs.Streamed.{AreRead, CanBeRead, FailsToReadOn, ReadsOn, ShowsRead}
 use Rattle.desk_sql_lookup.proofs.Calls.{Begins, begins_open, begun}
+use Rattle.desk_sql_lookup.proofs.Causes.{caused}
 
 -- one more row is read
 
@@ -99,3 +107,58 @@ module _ {S T : Type 0} (g : Ghosts S) (cells : T → Row) (sql : List ℕ) (par
         let same = so_far.2 in
         let is : (state g old).now.schema ≡ desk_schema = ap (λ (d : Database). d.schema) same.0.now_is ∙ schema in
         (so_far.0, shown_since sql params (state g first) (state g old) (state g new) so_far.0 (subst (λ s. IsPlain (understood s sql)) (sym is) plain) same shown, so_far.3)
+
+-- ---- reading on fails
+
+-- the row at this place, of rows that can be read
+one_of : {X : Type 0} (f : X → Row) (P : Row → Type 0) (Q : X → Type 0) (front : List Row) (row : Row) (tail : List Row) (xs : List X) → (front ++ row ∷ []) ++ tail ≡ map f xs
+    → AllByRecursion P ((front ++ row ∷ []) ++ tail) → AllByRecursion Q xs → (x : X) × (row ≡ f x) × P row × Q x
+one_of f P Q [] row tail [] e all each = cc
+one_of f P Q [] row tail (x ∷ xs) e all each = let is : row ≡ f x = cc in (x, is, all.0, each.0)
+one_of f P Q (r ∷ front) row tail [] e all each = cc
+one_of f P Q (r ∷ front) row tail (x ∷ xs) e all each = let rest : (front ++ row ∷ []) ++ tail ≡ map f xs = cc in one_of f P Q front row tail xs rest all.1 each.1
+
+begins_since : (sql : List ℕ) (params : Row) (a b : State) (rows : List Row) → b.now ≡ a.now → Begun sql params b rows → Begun sql params a rows
+unfolding Begun
+begins_since sql params a b rows now h = (
+  h.0,
+  record { is = subst (λ (d : Database). understood d.schema sql ≡ Ok h.0) now h.1.is; whole = h.1.whole; given = h.1.given; now = h.1.now },
+  h.2,
+  h.3,
+  subst (λ (d : Database). IsSourceOf (reads_listing d.schema sql) d h.3) now h.4,
+  h.5,
+)
+
+no_end : (k : Command) (query : Query) (names : List (List ℕ)) → k ≡ Select (record { lets = []; body = query }) names → (db : Database) (params : Row) → EndsIn k db params
+no_end k query names is db params = subst (λ k. EndsIn k db params) (sym is) tt
+
+-- the first rows of an answer to a query of the desk's tables begin a whole one
+whole_answer : (sql : List ℕ) (params : Row) (a b : State) (rows : List Row) → IsAsked sql params → a.now.schema ≡ desk_schema → IsUnchanged a b → Begun sql params b rows → (tail : List Row) × Shown sql params a b (rows ++ tail)
+whole_answer sql params a b rows asked has same begins = begins_shown sql params a b rows (begins_since sql params a b rows same.0.now_is begins) same
+    (λ c db it source. let e = sym (ap (λ s. understood s sql) has ∙ asked.is) ∙ it.is in let is : asked.compiled ≡ c = cc in
+    no_end c.command asked.query asked.names (subst (λ (k : Compiled). k.command ≡ Select (record { lets = []; body = asked.query }) asked.names) is asked.selects) db (timed params c.formats it.now))
+
+module _ {S T : Type 0} (g : Ghosts S) (cells : T → Row) (has_days : T → Type 0) (sql : List ℕ) (params : Row) (asked : IsAsked sql params) (first old new : Held S) (found : List T) where
+  pub read_failed : Same (seen_of (state g first)) (seen_of (state g old)) → (HasCleanDisk (state g new) → HasCleanDisk (state g old)) → old.step_limit ≡ first.step_limit → HasRead g cells sql params first old found → (fault : Fault)
+      → (HasCleanDisk (state g new) → (given : List Row) → HasGiven g sql params old given → FailsToReadOn g cells has_days sql params old new given fault)
+      → HasCauseIf (CanBeRead cells has_days sql params (state g first) (state g new)) (state g first) (state g new) fault
+  read_failed same honest limit read fault fails = record {
+    cause = λ clean opened unlimited t holds written can.
+        let was = same.kept.spared.honest (honest clean) in
+        let held = (holds was opened).holds in
+        let schema = held.rows.declared in
+        let so_far = read (honest clean) schema in
+        let still : old.schema ≡ desk_schema = ap (λ (d : Database). d.schema) so_far.2.0.now_is ∙ schema in
+        elim (fails clean so_far.0 so_far.1) [
+          | inl failed ↦ elim (caused sql params (state g old) (state g new) still so_far.2.0.is_open (limit ∙ unlimited) asked failed.0 failed.1) [
+            | inl memory ↦ inl (failed.2 ∙ memory)
+            | inr more ↦ inr (omega (arith, same.kept.spared.outlasts.counts, more))
+          ]
+          | inr unread ↦
+              let unchanged = unchanged_then (state g first) (state g old) (state g new) so_far.2 unread.2 in
+              let whole = whole_answer sql params (state g first) (state g new) (so_far.0 ++ unread.0 ∷ []) asked schema unchanged (given_begin g sql params new (so_far.0 ++ unread.0 ∷ []) unread.1) in
+              let shown = can.reads held ((so_far.0 ++ unread.0 ∷ []) ++ whole.0) whole.1 in
+              let one = one_of cells IsRow has_days so_far.0 unread.0 whole.0 shown.0 shown.1 shown.2 shown.3 in
+              inl (unread.3 one.0 one.1 one.2 one.3)
+        ];
+  }

@@ -26,6 +26,8 @@ use Rattle.desk_model.specs.declared.row.ExtractedRow.{ExtractedRow}
 use Rattle.desk_sql_lookup.specs.Shown.{extracted_body_cells}
 use Rattle.desk_sql_lookup.proofs.Ties.{is_key}
 use Rattle.desk_sql_lookup.proofs.Keyed.{same_number, same_text}
+use Rattle.desk_sql_lookup.specs.Causes.{IsAsked}
+use Rattle.desk_sql_lookup.proofs.Causes.{Suits, asked}
 use Rattle.desk_sql_lookup.proofs.Selects.{order_by, by_rowid, by_unique, at_one_key, shows}
 
 -- ---- the text of a revision of the catalogue
@@ -40,6 +42,13 @@ catalogue_is = (refl, refl)
 pub catalogue_plain : IsPlain (understood d.desk_schema catalogue_text)
 unfolding understood everything
 catalogue_plain = (refl, refl)
+
+pub catalogue_suits : Suits catalogue_text 1 (understood d.desk_schema catalogue_text)
+unfolding understood everything
+catalogue_suits = (refl, refl)
+
+pub catalogue_asked : (n : ℕ) → IsAsked catalogue_text (number n ∷ [])
+catalogue_asked n = asked catalogue_text (number n ∷ []) 1 (same 0 0 ∷ []) (col 1 2 ∷ []) (order_by (0 ∷ [])) (codes "body" ∷ []) catalogue_is catalogue_plain catalogue_suits refl
 
 abbrev catalogue_test : ℕ → Row → Bool
 catalogue_test n cs = is_true (binary (Compare Eq Binary) (column cs 0) (number n)) && true
@@ -67,6 +76,13 @@ extracted_is = (refl, refl)
 pub extracted_plain : IsPlain (understood d.desk_schema extracted_text)
 unfolding understood everything
 extracted_plain = (refl, refl)
+
+pub extracted_suits : Suits extracted_text 2 (understood d.desk_schema extracted_text)
+unfolding understood everything
+extracted_suits = (refl, refl)
+
+pub extracted_asked : (document : ℕ) (reference : List ℕ) → IsAsked extracted_text (number document ∷ Text reference ∷ [])
+extracted_asked document reference = asked extracted_text (number document ∷ Text reference ∷ []) 8 (same 1 0 ∷ same 2 1 ∷ []) (col 1 3 ∷ []) (order_by (1 ∷ 2 ∷ [])) (codes "body" ∷ []) extracted_is extracted_plain extracted_suits refl
 
 abbrev extracted_test : ℕ → List ℕ → Row → Bool
 extracted_test document reference cs = is_true (binary (Compare Eq Binary) (column cs 0) (number document)) && (is_true (binary (Compare Eq Binary) (column cs 1) (Text reference)) && true)

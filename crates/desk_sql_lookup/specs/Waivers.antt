@@ -1,8 +1,9 @@
 -- The last days of waivers, as their table tells them apart from the changes of a duty.
-use Rattle.std.specs.Prelude.{◌≡◌, ◌==◌, ℕ, false, if◌then◌else◌, List, [], ◌∷◌, map, filter, Option, Some, None, unwrap_or}
+use Rattle.std.specs.Prelude.{◌≡◌, ◌==◌, ℕ, false, if◌then◌else◌, List, [], ◌∷◌, map, filter, Option, Some, None, IsTrue, unwrap_or}
 use Rattle.sqlite_value.specs.Order.{Row}
 use Rattle.sqlite_value.specs.declared.value.Value.TheVariants.{Text}
 use Rattle.sqlite_trees.specs.Tree.{IsAscending}
+use Rattle.desk_base.specs.Day.{is_day}
 use Rattle.desk_sql_layout.specs.Cells.{number, is_waiver}
 use Rattle.desk_model.specs.declared.row.ChangeRow.{ChangeRow}
 use Rattle.desk_sql_lookup.specs.declared.rows.Waiver.{Waiver}
@@ -17,6 +18,10 @@ waiver_of row = record { step = row.step; last_day = unwrap_or row.last_day [] }
 -- the waivers that end, of some changes
 abbrev pub waivers_in : List ChangeRow → List Waiver
 waivers_in rows = map waiver_of (filter is_waiver rows)
+
+-- its last day exists
+abbrev pub EndsOnDay : Waiver → Type 0
+EndsOnDay waiver = IsTrue (is_day waiver.last_day)
 
 abbrev pub ending_cells : Waiver → Row
 ending_cells waiver = number waiver.step ∷ Text waiver.last_day ∷ []

@@ -1,6 +1,7 @@
 //! The changes of duties.
 
-ghost use Rattle.std.specs.Prelude.{◌≡◌, false, IfOk, List, filter, map, length};
+ghost use Rattle.std.specs.Prelude.{◌≡◌, false, IfErr, IfOk, List, filter, map, length};
+ghost use Rattle.std.specs.List.{AllByRecursion};
 ghost use Rattle.sqlite.specs.Held.{state};
 ghost use Rattle.desk_access.specs.Seen.{Looked, OfRows};
 ghost use Rattle.desk_history.specs.FromTables.{steps_found};
@@ -9,7 +10,8 @@ ghost use Rattle.desk_sql_layout.specs.Held.{seen_of};
 ghost use Rattle.desk_model.specs.Keys.{is_change_of};
 ghost use Rattle.desk_model.specs.Queries.{last_day};
 ghost use Rattle.desk_model.specs.declared.row.ChangeRow.{ChangeRow as Change};
-ghost use Rattle.desk_sql_lookup.specs.Waivers.{AreSteps, day_cells, ending_cells, taken, waivers_in};
+ghost use Rattle.desk_sql_lookup.specs.Waivers.{AreSteps, EndsOnDay, day_cells, ending_cells, taken, waivers_in};
+ghost use Rattle.desk_sql_lookup.specs.Causes.{HasCause, HasCauseIf, HasDay, IsRow};
 
 use crate::columns::{day_at, number_at};
 use crate::query::{among, query};
@@ -31,6 +33,8 @@ fn select_steps<S: Alter>(
         (seen_of (state S.Store conn.old)) (seen_of (state S.Store conn.new))) }
     ensures kept { Looked (seen_of (state S.Store conn.old)) (seen_of (state S.Store conn.new))
         result }
+    ensures cause { IfErr result (HasCause (state S.Store conn.old) (state S.Store conn.new)) }
+    ensures limit { conn.new.step_limit ≡ conn.old.step_limit }
     ensures mode { conn.old.in_transaction ≡ false → conn.new.in_transaction ≡ false }
 {
     query(
@@ -47,6 +51,8 @@ pub fn steps<S: Alter>(conn: &mut Connection<S>, duties: u32, duty: u64) -> Resu
         (seen_of (state S.Store conn.new))) }
     ensures kept { Looked (seen_of (state S.Store conn.old)) (seen_of (state S.Store conn.new))
         result }
+    ensures cause { IfErr result (HasCause (state S.Store conn.old) (state S.Store conn.new)) }
+    ensures limit { conn.new.step_limit ≡ conn.old.step_limit }
     ensures mode { conn.old.in_transaction ≡ false → conn.new.in_transaction ≡ false }
 {
     let rows = select_steps(conn, duties, duty)?;
@@ -64,6 +70,8 @@ fn select_changes_of<S: Alter>(
         (seen_of (state S.Store conn.old)) (seen_of (state S.Store conn.new))) }
     ensures kept { Looked (seen_of (state S.Store conn.old)) (seen_of (state S.Store conn.new))
         result }
+    ensures cause { IfErr result (HasCause (state S.Store conn.old) (state S.Store conn.new)) }
+    ensures limit { conn.new.step_limit ≡ conn.old.step_limit }
     ensures mode { conn.old.in_transaction ≡ false → conn.new.in_transaction ≡ false }
 {
     query(
@@ -84,6 +92,8 @@ fn select_waivers_of<S: Alter>(
         (seen_of (state S.Store conn.old)) (seen_of (state S.Store conn.new))) }
     ensures kept { Looked (seen_of (state S.Store conn.old)) (seen_of (state S.Store conn.new))
         result }
+    ensures cause { IfErr result (HasCause (state S.Store conn.old) (state S.Store conn.new)) }
+    ensures limit { conn.new.step_limit ≡ conn.old.step_limit }
     ensures mode { conn.old.in_transaction ≡ false → conn.new.in_transaction ≡ false }
 {
     query(
@@ -112,6 +122,8 @@ fn select_both<S: Alter>(
         (seen_of (state S.Store conn.old)) (seen_of (state S.Store conn.new))) }
     ensures kept { Looked (seen_of (state S.Store conn.old)) (seen_of (state S.Store conn.new))
         result }
+    ensures cause { IfErr result (HasCause (state S.Store conn.old) (state S.Store conn.new)) }
+    ensures limit { conn.new.step_limit ≡ conn.old.step_limit }
     ensures mode { conn.old.in_transaction ≡ false → conn.new.in_transaction ≡ false }
 {
     let changes = select_changes_of(conn, duties, duty)?;
@@ -131,9 +143,11 @@ fn take_waiver(waivers: &[Waiver], step: u32) -> (Option<Day>, &[Waiver])
 
 /// Changes, whose last days stand in waivers in the order of their steps.
 fn with_waivers(alloc: Global, rows: &[Row], waivers: &[Waiver]) -> Result<Vec<ChangeRow>, Fault>
-    ensures { IfOk result (λ found. (xs : List Change) → AreSteps xs
+    ensures value { IfOk result (λ found. (xs : List Change) → AreSteps xs
         → rows.now ≡ map change_cells xs
         → waivers.now ≡ waivers_in xs → found.items ≡ xs) }
+    ensures cause { IfErr result (λ fault. (xs : List Change) → rows.now ≡ map change_cells xs
+        → AllByRecursion IsRow rows.now → AllByRecursion HasDay xs → fault ≡ Fault.Memory) }
 {
     let mut found = Vec::new(alloc);
     let mut left = waivers;
@@ -147,9 +161,13 @@ fn with_waivers(alloc: Global, rows: &[Row], waivers: &[Waiver]) -> Result<Vec<C
 
 /// Changes, from the rows of two tables.
 fn read_changes(alloc: Global, rows: &[Row], ends: &[Row]) -> Result<Vec<ChangeRow>, Fault>
-    ensures { IfOk result (λ found. (xs : List Change) → AreSteps xs
+    ensures value { IfOk result (λ found. (xs : List Change) → AreSteps xs
         → rows.now ≡ map change_cells xs
         → ends.now ≡ map ending_cells (waivers_in xs) → found.items ≡ xs) }
+    ensures cause { IfErr result (λ fault. (xs : List Change) → rows.now ≡ map change_cells xs
+        → ends.now ≡ map ending_cells (waivers_in xs) → AllByRecursion IsRow rows.now
+        → AllByRecursion IsRow ends.now → AllByRecursion HasDay xs
+        → AllByRecursion EndsOnDay (waivers_in xs) → fault ≡ Fault.Memory) }
 {
     let waivers: Vec<Waiver> = read_all(alloc, ends)?;
     with_waivers(alloc, rows, &waivers)
@@ -167,6 +185,9 @@ pub fn changes_of<S: Alter>(
         (seen_of (state S.Store conn.old)) (seen_of (state S.Store conn.new))) }
     ensures kept { Looked (seen_of (state S.Store conn.old)) (seen_of (state S.Store conn.new))
         result }
+    ensures cause { IfErr result (HasCauseIf (λ t. length t.duty ≡ duties)
+        (state S.Store conn.old) (state S.Store conn.new)) }
+    ensures limit { conn.new.step_limit ≡ conn.old.step_limit }
     ensures mode { conn.old.in_transaction ≡ false → conn.new.in_transaction ≡ false }
 {
     let (changes, ends) = select_both(conn, duties, duty)?;
@@ -179,6 +200,8 @@ fn select_days_of<S: Alter>(conn: &mut Connection<S>, duty: u32) -> Result<Vec<R
         (seen_of (state S.Store conn.old)) (seen_of (state S.Store conn.new))) }
     ensures kept { Looked (seen_of (state S.Store conn.old)) (seen_of (state S.Store conn.new))
         result }
+    ensures cause { IfErr result (HasCause (state S.Store conn.old) (state S.Store conn.new)) }
+    ensures limit { conn.new.step_limit ≡ conn.old.step_limit }
     ensures mode { conn.old.in_transaction ≡ false → conn.new.in_transaction ≡ false }
 {
     query(
@@ -191,8 +214,10 @@ fn select_days_of<S: Alter>(conn: &mut Connection<S>, duty: u32) -> Result<Vec<R
 /// The day of the last of some changes.
 #[tactic(auto, using(crate::proofs::LastDay::last_none))]
 fn last_of(rows: &[Row]) -> Result<Option<Day>, Fault>
-    ensures { IfOk result (λ day. (xs : List Change) → rows.now ≡ map day_cells xs
+    ensures value { IfOk result (λ day. (xs : List Change) → rows.now ≡ map day_cells xs
         → day ≡ last_day xs) }
+    ensures cause { IfErr result (λ fault. (xs : List Change) → rows.now ≡ map day_cells xs
+        → AllByRecursion IsRow rows.now → AllByRecursion HasDay xs → fault ≡ Fault.Memory) }
 {
     match rows.last() {
         Some(row) => Ok(Some(day_at(row, 0)?)),
@@ -207,6 +232,8 @@ pub fn last_day<S: Alter>(conn: &mut Connection<S>, duty: u32) -> Result<Option<
         (seen_of (state S.Store conn.new))) }
     ensures kept { Looked (seen_of (state S.Store conn.old)) (seen_of (state S.Store conn.new))
         result }
+    ensures cause { IfErr result (HasCause (state S.Store conn.old) (state S.Store conn.new)) }
+    ensures limit { conn.new.step_limit ≡ conn.old.step_limit }
     ensures mode { conn.old.in_transaction ≡ false → conn.new.in_transaction ≡ false }
 {
     let rows = select_days_of(conn, duty)?;

@@ -1,10 +1,12 @@
 //! What stands in a column of a row. Where it is of another kind, no desk's table has it.
 
-ghost use Rattle.std.specs.Prelude.{◌≡◌, IfOk, if◌then◌else◌};
+ghost use Rattle.std.specs.Prelude.{◌≡◌, ◌<◌, IfErr, IfOk, IsTrue, if◌then◌else◌, Bool, List, Option, ℕ, length};
 ghost use Rattle.sqlite_value.specs.Order.{column};
 ghost use Rattle.sqlite_value.specs.declared.value.Value.TheVariants.{Text as Words, Blob};
 ghost use Rattle.desk_base.specs.Profiles.{profile_number};
 ghost use Rattle.desk_sql_layout.specs.Cells.{number, text_or_null};
+ghost use Rattle.desk_sql_lookup.specs.Causes.{IsWritten};
+ghost use Rattle.desk_base.specs.Day.{is_day};
 ghost use Rattle.desk_model.specs.Names.{release_state_name, duty_state_name, word_name};
 
 use desk_base::{Day, Items, Profile, Text};
@@ -18,16 +20,25 @@ pub(crate) const ROWS: Fault = Fault::Store(StoreFault::Rows);
 
 /// A number.
 pub(crate) fn number_at(row: &Row, at: usize) -> Result<u32, Fault>
-    ensures { IfOk result (λ n. column row.now at ≡ number n) }
+    ensures value { IfOk result (λ n. column row.now at ≡ number n) }
+    ensures cause { IfErr result (λ fault. (n : ℕ)
+        → column row.now at ≡ number n
+        → IsWritten (column row.now at) → fault ≡ Fault.Memory) }
 {
-    match row.get(at) {
-        Ok(number) => Ok(number),
-        Err(_) => Err(ROWS),
+    match row.get_ref(at) {
+        Ok(ValueRef::Int(n)) => match u32::try_from(n) {
+            Ok(number) => Ok(number),
+            Err(_) => Err(ROWS),
+        },
+        _ => Err(ROWS),
     }
 }
 
 pub(crate) fn str_at(row: &Row, at: usize) -> Result<&str, Fault>
-    ensures { IfOk result (λ text. column row.now at ≡ Words text.now) }
+    ensures value { IfOk result (λ text. column row.now at ≡ Words text.now) }
+    ensures cause { IfErr result (λ fault. (text : List ℕ)
+        → column row.now at ≡ Words text
+        → IsWritten (column row.now at) → fault ≡ Fault.Memory) }
 {
     match row.get_ref(at) {
         Ok(ValueRef::Text(bytes)) => match std::str::from_utf8(bytes) {
@@ -40,7 +51,10 @@ pub(crate) fn str_at(row: &Row, at: usize) -> Result<&str, Fault>
 
 /// A text.
 pub(crate) fn text_at(alloc: Global, row: &Row, at: usize) -> Result<Text, Fault>
-    ensures { IfOk result (λ text. column row.now at ≡ Words text) }
+    ensures value { IfOk result (λ text. column row.now at ≡ Words text) }
+    ensures cause { IfErr result (λ fault. (text : List ℕ)
+        → column row.now at ≡ Words text
+        → IsWritten (column row.now at) → fault ≡ Fault.Memory) }
 {
     let text = str_at(row, at)?;
     Ok(Text::of(alloc, text)?)
@@ -48,7 +62,10 @@ pub(crate) fn text_at(alloc: Global, row: &Row, at: usize) -> Result<Text, Fault
 
 /// A text, or none where the column is NULL.
 pub(crate) fn text_or_null_at(alloc: Global, row: &Row, at: usize) -> Result<Option<Text>, Fault>
-    ensures { IfOk result (λ text. column row.now at ≡ text_or_null text) }
+    ensures value { IfOk result (λ text. column row.now at ≡ text_or_null text) }
+    ensures cause { IfErr result (λ fault. (text : Option (List ℕ)) → at < length row.now
+        → column row.now at ≡ text_or_null text
+        → IsWritten (column row.now at) → fault ≡ Fault.Memory) }
 {
     match row.get_ref(at) {
         Ok(ValueRef::Null) => Ok(None),
@@ -58,7 +75,10 @@ pub(crate) fn text_or_null_at(alloc: Global, row: &Row, at: usize) -> Result<Opt
 
 /// A day.
 pub(crate) fn day_at(row: &Row, at: usize) -> Result<Day, Fault>
-    ensures { IfOk result (λ day. column row.now at ≡ Words day) }
+    ensures value { IfOk result (λ day. column row.now at ≡ Words day) }
+    ensures cause { IfErr result (λ fault. (day : List ℕ)
+        → column row.now at ≡ Words day
+        → IsWritten (column row.now at) → IsTrue (is_day day) → fault ≡ Fault.Memory) }
 {
     match Day::parse(str_at(row, at)?) {
         Some(day) => Ok(day),
@@ -68,7 +88,10 @@ pub(crate) fn day_at(row: &Row, at: usize) -> Result<Day, Fault>
 
 /// Whether something is so, by 1 or 0.
 pub(crate) fn flag_at(row: &Row, at: usize) -> Result<bool, Fault>
-    ensures { IfOk result (λ is. column row.now at ≡ number (if is then 1 else 0)) }
+    ensures value { IfOk result (λ is. column row.now at ≡ number (if is then 1 else 0)) }
+    ensures cause { IfErr result (λ fault. (is : Bool)
+        → column row.now at ≡ number (if is then 1 else 0)
+        → IsWritten (column row.now at) → fault ≡ Fault.Memory) }
 {
     match number_at(row, at)? {
         0 => Ok(false),
@@ -79,7 +102,10 @@ pub(crate) fn flag_at(row: &Row, at: usize) -> Result<bool, Fault>
 
 /// A profile, by its number.
 pub(crate) fn profile_at(row: &Row, at: usize) -> Result<Profile, Fault>
-    ensures { IfOk result (λ profile. column row.now at ≡ number (profile_number profile)) }
+    ensures value { IfOk result (λ profile. column row.now at ≡ number (profile_number profile)) }
+    ensures cause { IfErr result (λ fault. (profile : Profile)
+        → column row.now at ≡ number (profile_number profile)
+        → IsWritten (column row.now at) → fault ≡ Fault.Memory) }
 {
     match number_at(row, at)? {
         1 => Ok(Profile::Capitals),
@@ -90,7 +116,10 @@ pub(crate) fn profile_at(row: &Row, at: usize) -> Result<Profile, Fault>
 
 /// The state of a release, by its word.
 pub(crate) fn release_state_at(row: &Row, at: usize) -> Result<ReleaseState, Fault>
-    ensures { IfOk result (λ state. column row.now at ≡ Words (release_state_name state)) }
+    ensures value { IfOk result (λ state. column row.now at ≡ Words (release_state_name state)) }
+    ensures cause { IfErr result (λ fault. (state : ReleaseState)
+        → column row.now at ≡ Words (release_state_name state)
+        → IsWritten (column row.now at) → fault ≡ Fault.Memory) }
 {
     match str_at(row, at)? {
         "open" => Ok(ReleaseState::IsOpen),
@@ -102,7 +131,10 @@ pub(crate) fn release_state_at(row: &Row, at: usize) -> Result<ReleaseState, Fau
 
 /// The state of a duty, by its word.
 pub(crate) fn duty_state_at(row: &Row, at: usize) -> Result<DutyState, Fault>
-    ensures { IfOk result (λ state. column row.now at ≡ Words (duty_state_name state)) }
+    ensures value { IfOk result (λ state. column row.now at ≡ Words (duty_state_name state)) }
+    ensures cause { IfErr result (λ fault. (state : DutyState)
+        → column row.now at ≡ Words (duty_state_name state)
+        → IsWritten (column row.now at) → fault ≡ Fault.Memory) }
 {
     match str_at(row, at)? {
         "open" => Ok(DutyState::IsOpen),
@@ -115,7 +147,10 @@ pub(crate) fn duty_state_at(row: &Row, at: usize) -> Result<DutyState, Fault>
 
 /// The word for a change.
 pub(crate) fn word_at(row: &Row, at: usize) -> Result<Word, Fault>
-    ensures { IfOk result (λ word. column row.now at ≡ Words (word_name word)) }
+    ensures value { IfOk result (λ word. column row.now at ≡ Words (word_name word)) }
+    ensures cause { IfErr result (λ fault. (word : Word)
+        → column row.now at ≡ Words (word_name word)
+        → IsWritten (column row.now at) → fault ≡ Fault.Memory) }
 {
     match str_at(row, at)? {
         "raised" => Ok(Word::Raised),
@@ -130,7 +165,10 @@ pub(crate) fn word_at(row: &Row, at: usize) -> Result<Word, Fault>
 
 /// Bytes.
 pub(crate) fn bytes_at(alloc: Global, row: &Row, at: usize) -> Result<Items<u8>, Fault>
-    ensures { IfOk result (λ bytes. column row.now at ≡ Blob bytes) }
+    ensures value { IfOk result (λ bytes. column row.now at ≡ Blob bytes) }
+    ensures cause { IfErr result (λ fault. (bytes : List ℕ)
+        → column row.now at ≡ Blob bytes
+        → IsWritten (column row.now at) → fault ≡ Fault.Memory) }
 {
     match row.get_ref(at) {
         Ok(ValueRef::Blob(bytes)) => Ok(Items::from_vec(Vec::from_slice(alloc, bytes)?)),

@@ -1,6 +1,7 @@
 //! Documents and their packages.
 
-ghost use Rattle.std.specs.Prelude.{◌≡◌, false, IfOk, IfSome, List, Option, filter, find, map, length, slice_get};
+ghost use Rattle.std.specs.Prelude.{◌≡◌, false, IfErr, IfOk, IfSome, List, Option, filter, find, map, length, slice_get};
+ghost use Rattle.std.specs.List.{AllByRecursion};
 ghost use Rattle.std.specs.Option.{option_map};
 ghost use Rattle.sqlite.specs.Held.{state};
 ghost use Rattle.desk_access.specs.Seen.{Looked, OfRows};
@@ -11,6 +12,7 @@ ghost use Rattle.desk_model.specs.Findings.{source_of};
 ghost use Rattle.desk_model.specs.Keys.{has_namespace, is_document, is_package, is_shipped_by};
 ghost use Rattle.desk_model.specs.declared.row.DocumentRow.{DocumentRow as Document};
 ghost use Rattle.desk_sql_lookup.specs.Shown.{bytes_cells, import_cells, known_cells};
+ghost use Rattle.desk_sql_lookup.specs.Causes.{HasCause, HasCauseIf, IsRow};
 
 use crate::columns::{ROWS, number_at};
 use crate::query::{among, query, read_rows, text};
@@ -33,6 +35,8 @@ fn select_document<S: Alter>(
         (seen_of (state S.Store conn.new))) }
     ensures kept { Looked (seen_of (state S.Store conn.old)) (seen_of (state S.Store conn.new))
         result }
+    ensures cause { IfErr result (HasCause (state S.Store conn.old) (state S.Store conn.new)) }
+    ensures limit { conn.new.step_limit ≡ conn.old.step_limit }
     ensures mode { conn.old.in_transaction ≡ false → conn.new.in_transaction ≡ false }
 {
     query(
@@ -46,6 +50,7 @@ fn select_document<S: Alter>(
 fn numbered(found: Option<(u32, Profile)>, number: u64) -> Result<Option<(u32, Profile)>, Fault>
     ensures kept { IfOk result (λ kept. kept ≡ found) }
     ensures same { IfOk result (λ kept. IfSome kept (λ known. known.0 ≡ number)) }
+    ensures cause { IfErr result (λ _. ¬ IfSome found (λ known. known.0 ≡ number)) }
 {
     match found {
         Some(known) if u64::from(known.0) != number => Err(ROWS),
@@ -68,6 +73,9 @@ pub fn document<S: Alter>(
     ensures same { IfOk result (λ found. IfSome found (λ known. known.0 ≡ number)) }
     ensures kept { Looked (seen_of (state S.Store conn.old)) (seen_of (state S.Store conn.new))
         result }
+    ensures cause { IfErr result (HasCauseIf (λ t. length t.document ≡ documents)
+        (state S.Store conn.old) (state S.Store conn.new)) }
+    ensures limit { conn.new.step_limit ≡ conn.old.step_limit }
     ensures mode { conn.old.in_transaction ≡ false → conn.new.in_transaction ≡ false }
 {
     let rows = select_document(conn, documents, number)?;
@@ -86,6 +94,8 @@ fn select_document_bytes<S: Alter>(
         (seen_of (state S.Store conn.old)) (seen_of (state S.Store conn.new))) }
     ensures kept { Looked (seen_of (state S.Store conn.old)) (seen_of (state S.Store conn.new))
         result }
+    ensures cause { IfErr result (HasCause (state S.Store conn.old) (state S.Store conn.new)) }
+    ensures limit { conn.new.step_limit ≡ conn.old.step_limit }
     ensures mode { conn.old.in_transaction ≡ false → conn.new.in_transaction ≡ false }
 {
     query(
@@ -109,6 +119,9 @@ fn document_bytes<S: Alter>(
         (seen_of (state S.Store conn.new))) }
     ensures kept { Looked (seen_of (state S.Store conn.old)) (seen_of (state S.Store conn.new))
         result }
+    ensures cause { IfErr result (HasCauseIf (λ t. length t.document ≡ documents)
+        (state S.Store conn.old) (state S.Store conn.new)) }
+    ensures limit { conn.new.step_limit ≡ conn.old.step_limit }
     ensures mode { conn.old.in_transaction ≡ false → conn.new.in_transaction ≡ false }
 {
     let rows = select_document_bytes(conn, documents, number)?;
@@ -142,6 +155,9 @@ pub fn document_source<S: Alter>(
         (seen_of (state S.Store conn.new))) }
     ensures kept { Looked (seen_of (state S.Store conn.old)) (seen_of (state S.Store conn.new))
         result }
+    ensures cause { IfErr result (HasCauseIf (λ t. length t.document ≡ documents)
+        (state S.Store conn.old) (state S.Store conn.new)) }
+    ensures limit { conn.new.step_limit ≡ conn.old.step_limit }
     ensures mode { conn.old.in_transaction ≡ false → conn.new.in_transaction ≡ false }
 {
     let known = document(alloc, conn, documents, number)?;
@@ -155,6 +171,8 @@ fn select_import<S: Alter>(conn: &mut Connection<S>, namespace: &str) -> Result<
         (seen_of (state S.Store conn.old)) (seen_of (state S.Store conn.new))) }
     ensures kept { Looked (seen_of (state S.Store conn.old)) (seen_of (state S.Store conn.new))
         result }
+    ensures cause { IfErr result (HasCause (state S.Store conn.old) (state S.Store conn.new)) }
+    ensures limit { conn.new.step_limit ≡ conn.old.step_limit }
     ensures mode { conn.old.in_transaction ≡ false → conn.new.in_transaction ≡ false }
 {
     query(
@@ -166,8 +184,10 @@ fn select_import<S: Alter>(conn: &mut Connection<S>, namespace: &str) -> Result<
 
 /// The number of a document, and whether its bytes are these.
 fn read_import(row: &Row, bytes: &[u8]) -> Result<(u32, bool), Fault>
-    ensures { IfOk result (λ found. (x : Document) → row.now ≡ import_cells x
+    ensures value { IfOk result (λ found. (x : Document) → row.now ≡ import_cells x
         → found ≡ known_import bytes.now x) }
+    ensures cause { IfErr result (λ fault. (x : Document) → row.now ≡ import_cells x
+        → IsRow row.now → fault ≡ Fault.Memory) }
 {
     match row.get_ref(1) {
         Ok(ValueRef::Blob(blob)) => Ok((number_at(row, 0)?, blob == bytes)),
@@ -176,8 +196,10 @@ fn read_import(row: &Row, bytes: &[u8]) -> Result<(u32, bool), Fault>
 }
 
 fn first_import(rows: &[Row], bytes: &[u8]) -> Result<Option<(u32, bool)>, Fault>
-    ensures { IfOk result (λ found. (xs : List Document) → rows.now ≡ map import_cells xs
+    ensures value { IfOk result (λ found. (xs : List Document) → rows.now ≡ map import_cells xs
         → found ≡ option_map (known_import bytes.now) (slice_get xs 0)) }
+    ensures cause { IfErr result (λ fault. (xs : List Document) → rows.now ≡ map import_cells xs
+        → AllByRecursion IsRow rows.now → fault ≡ Fault.Memory) }
 {
     match rows.first() {
         Some(row) => Ok(Some(read_import(row, bytes)?)),
@@ -196,6 +218,8 @@ pub fn import_of<S: Alter>(
         (seen_of (state S.Store conn.old)) (seen_of (state S.Store conn.new))) }
     ensures kept { Looked (seen_of (state S.Store conn.old)) (seen_of (state S.Store conn.new))
         result }
+    ensures cause { IfErr result (HasCause (state S.Store conn.old) (state S.Store conn.new)) }
+    ensures limit { conn.new.step_limit ≡ conn.old.step_limit }
     ensures mode { conn.old.in_transaction ≡ false → conn.new.in_transaction ≡ false }
 {
     let rows = select_import(conn, namespace)?;
@@ -214,6 +238,8 @@ fn select_package<S: Alter>(
         (seen_of (state S.Store conn.new))) }
     ensures kept { Looked (seen_of (state S.Store conn.old)) (seen_of (state S.Store conn.new))
         result }
+    ensures cause { IfErr result (HasCause (state S.Store conn.old) (state S.Store conn.new)) }
+    ensures limit { conn.new.step_limit ≡ conn.old.step_limit }
     ensures mode { conn.old.in_transaction ≡ false → conn.new.in_transaction ≡ false }
 {
     query(
@@ -237,6 +263,9 @@ pub fn package_row<S: Alter>(
         (seen_of (state S.Store conn.old)) (seen_of (state S.Store conn.new))) }
     ensures kept { Looked (seen_of (state S.Store conn.old)) (seen_of (state S.Store conn.new))
         result }
+    ensures cause { IfErr result (HasCauseIf (λ t. length t.document ≡ documents)
+        (state S.Store conn.old) (state S.Store conn.new)) }
+    ensures limit { conn.new.step_limit ≡ conn.old.step_limit }
     ensures mode { conn.old.in_transaction ≡ false → conn.new.in_transaction ≡ false }
 {
     let rows = select_package(conn, documents, document, id)?;
@@ -254,6 +283,8 @@ pub fn shipped<S: Alter>(
         (seen_of (state S.Store conn.new))) }
     ensures kept { Looked (seen_of (state S.Store conn.old)) (seen_of (state S.Store conn.new))
         result }
+    ensures cause { IfErr result (HasCause (state S.Store conn.old) (state S.Store conn.new)) }
+    ensures limit { conn.new.step_limit ≡ conn.old.step_limit }
     ensures mode { conn.old.in_transaction ≡ false → conn.new.in_transaction ≡ false }
 {
     read_rows(

@@ -1,12 +1,13 @@
 //! Duties and their changes.
 
-ghost use Rattle.std.specs.Prelude.{◌≡◌, false, IfOk, IfSome, filter, map, length};
+ghost use Rattle.std.specs.Prelude.{◌≡◌, false, IfErr, IfOk, IfSome, filter, map, length};
 ghost use Rattle.sqlite.specs.Held.{state};
 ghost use Rattle.desk_access.specs.Seen.{Looked, OfRows};
 ghost use Rattle.desk_history.specs.FromTables.{duty_found};
 ghost use Rattle.desk_sql_layout.specs.Cells.{duty_cells};
 ghost use Rattle.desk_sql_layout.specs.Held.{seen_of};
 ghost use Rattle.desk_model.specs.Keys.{is_duty, is_duty_of};
+ghost use Rattle.desk_sql_lookup.specs.Causes.{HasCause, HasCauseIf};
 
 use crate::columns::ROWS;
 use crate::query::{among, query, text};
@@ -25,6 +26,8 @@ fn select_duty<S: Alter>(
         (seen_of (state S.Store conn.old)) (seen_of (state S.Store conn.new))) }
     ensures kept { Looked (seen_of (state S.Store conn.old)) (seen_of (state S.Store conn.new))
         result }
+    ensures cause { IfErr result (HasCause (state S.Store conn.old) (state S.Store conn.new)) }
+    ensures limit { conn.new.step_limit ≡ conn.old.step_limit }
     ensures mode { conn.old.in_transaction ≡ false → conn.new.in_transaction ≡ false }
 {
     query(
@@ -38,6 +41,7 @@ fn select_duty<S: Alter>(
 fn numbered(found: Option<DutyRow>, number: u64) -> Result<Option<DutyRow>, Fault>
     ensures kept { IfOk result (λ kept. kept ≡ found) }
     ensures same { IfOk result (λ kept. IfSome kept (λ row. row.number ≡ number)) }
+    ensures cause { IfErr result (λ _. ¬ IfSome found (λ row. row.number ≡ number)) }
 {
     match found {
         Some(row) if u64::from(row.number) != number => Err(ROWS),
@@ -59,6 +63,9 @@ pub fn duty<S: Alter>(
     ensures same { IfOk result (λ found. IfSome found (λ row. row.number ≡ number)) }
     ensures kept { Looked (seen_of (state S.Store conn.old)) (seen_of (state S.Store conn.new))
         result }
+    ensures cause { IfErr result (HasCauseIf (λ t. length t.duty ≡ duties)
+        (state S.Store conn.old) (state S.Store conn.new)) }
+    ensures limit { conn.new.step_limit ≡ conn.old.step_limit }
     ensures mode { conn.old.in_transaction ≡ false → conn.new.in_transaction ≡ false }
 {
     let rows = select_duty(conn, duties, number)?;
@@ -72,6 +79,8 @@ fn select_duties_of<S: Alter>(conn: &mut Connection<S>, release: &str) -> Result
         (seen_of (state S.Store conn.old)) (seen_of (state S.Store conn.new))) }
     ensures kept { Looked (seen_of (state S.Store conn.old)) (seen_of (state S.Store conn.new))
         result }
+    ensures cause { IfErr result (HasCause (state S.Store conn.old) (state S.Store conn.new)) }
+    ensures limit { conn.new.step_limit ≡ conn.old.step_limit }
     ensures mode { conn.old.in_transaction ≡ false → conn.new.in_transaction ≡ false }
 {
     query(
@@ -92,6 +101,8 @@ pub fn duties_of<S: Alter>(
         (seen_of (state S.Store conn.new))) }
     ensures kept { Looked (seen_of (state S.Store conn.old)) (seen_of (state S.Store conn.new))
         result }
+    ensures cause { IfErr result (HasCause (state S.Store conn.old) (state S.Store conn.new)) }
+    ensures limit { conn.new.step_limit ≡ conn.old.step_limit }
     ensures mode { conn.old.in_transaction ≡ false → conn.new.in_transaction ≡ false }
 {
     let rows = select_duties_of(conn, release)?;

@@ -1,6 +1,7 @@
 //! All documents, without their bytes.
 
-ghost use Rattle.std.specs.Prelude.{◌≡◌, false, IfOk, List, map};
+ghost use Rattle.std.specs.Prelude.{◌≡◌, false, IfErr, IfOk, List, map};
+ghost use Rattle.std.specs.List.{AllByRecursion};
 ghost use Rattle.sqlite.specs.Held.{state};
 ghost use Rattle.desk_access.specs.Seen.{Looked, OfRows};
 ghost use Rattle.desk_sql_layout.specs.Held.{seen_of};
@@ -8,6 +9,7 @@ ghost use Rattle.desk_sql_layout.specs.Cells.{reading_cells};
 ghost use Rattle.desk_model.specs.Queries.{head_of};
 ghost use Rattle.desk_model.specs.declared.row.DocumentRow.{DocumentRow as Document};
 ghost use Rattle.desk_sql_lookup.specs.Shown.{name_cells};
+ghost use Rattle.desk_sql_lookup.specs.Causes.{HasCause, IsRow};
 
 use crate::columns::{ROWS, number_at, profile_at, text_at};
 use crate::query::query;
@@ -21,6 +23,8 @@ fn select_names<S: Alter>(conn: &mut Connection<S>) -> Result<Vec<Row>, Fault>
         (seen_of (state S.Store conn.new))) }
     ensures kept { Looked (seen_of (state S.Store conn.old)) (seen_of (state S.Store conn.new))
         result }
+    ensures cause { IfErr result (HasCause (state S.Store conn.old) (state S.Store conn.new)) }
+    ensures limit { conn.new.step_limit ≡ conn.old.step_limit }
     ensures mode { conn.old.in_transaction ≡ false → conn.new.in_transaction ≡ false }
 {
     query(
@@ -36,6 +40,8 @@ fn select_readings<S: Alter>(conn: &mut Connection<S>) -> Result<Vec<Row>, Fault
         (seen_of (state S.Store conn.new))) }
     ensures kept { Looked (seen_of (state S.Store conn.old)) (seen_of (state S.Store conn.new))
         result }
+    ensures cause { IfErr result (HasCause (state S.Store conn.old) (state S.Store conn.new)) }
+    ensures limit { conn.new.step_limit ≡ conn.old.step_limit }
     ensures mode { conn.old.in_transaction ≡ false → conn.new.in_transaction ≡ false }
 {
     query(
@@ -58,6 +64,8 @@ fn select_both<S: Alter>(conn: &mut Connection<S>) -> Result<RowsOfTwo, Fault>
         (seen_of (state S.Store conn.new))) }
     ensures kept { Looked (seen_of (state S.Store conn.old)) (seen_of (state S.Store conn.new))
         result }
+    ensures cause { IfErr result (HasCause (state S.Store conn.old) (state S.Store conn.new)) }
+    ensures limit { conn.new.step_limit ≡ conn.old.step_limit }
     ensures mode { conn.old.in_transaction ≡ false → conn.new.in_transaction ≡ false }
 {
     let names = select_names(conn)?;
@@ -67,8 +75,11 @@ fn select_both<S: Alter>(conn: &mut Connection<S>) -> Result<RowsOfTwo, Fault>
 
 /// A document, from its rows in two tables.
 fn read_head(alloc: Global, name: &Row, reading: &Row) -> Result<DocumentHead, Fault>
-    ensures { IfOk result (λ head. (x : Document) → name.now ≡ name_cells x
+    ensures value { IfOk result (λ head. (x : Document) → name.now ≡ name_cells x
         → reading.now ≡ reading_cells x → head ≡ head_of x) }
+    ensures cause { IfErr result (λ fault. (x : Document) → name.now ≡ name_cells x
+        → reading.now ≡ reading_cells x → IsRow name.now → IsRow reading.now
+        → fault ≡ Fault.Memory) }
 {
     Ok(DocumentHead {
         number: number_at(name, 0)?,
@@ -79,8 +90,11 @@ fn read_head(alloc: Global, name: &Row, reading: &Row) -> Result<DocumentHead, F
 
 /// Documents, from their rows in two tables.
 fn read_heads(alloc: Global, names: &[Row], readings: &[Row]) -> Result<Vec<DocumentHead>, Fault>
-    ensures { IfOk result (λ heads. (xs : List Document) → names.now ≡ map name_cells xs
+    ensures value { IfOk result (λ heads. (xs : List Document) → names.now ≡ map name_cells xs
         → readings.now ≡ map reading_cells xs → heads.items ≡ map head_of xs) }
+    ensures cause { IfErr result (λ fault. (xs : List Document) → names.now ≡ map name_cells xs
+        → readings.now ≡ map reading_cells xs → AllByRecursion IsRow names.now
+        → AllByRecursion IsRow readings.now → fault ≡ Fault.Memory) }
 {
     let mut heads = Vec::new(alloc);
     for (i, name) in names.iter().enumerate() {
@@ -102,6 +116,8 @@ pub fn document_heads<S: Alter>(
         (seen_of (state S.Store conn.new))) }
     ensures kept { Looked (seen_of (state S.Store conn.old)) (seen_of (state S.Store conn.new))
         result }
+    ensures cause { IfErr result (HasCause (state S.Store conn.old) (state S.Store conn.new)) }
+    ensures limit { conn.new.step_limit ≡ conn.old.step_limit }
     ensures mode { conn.old.in_transaction ≡ false → conn.new.in_transaction ≡ false }
 {
     let (names, readings) = select_both(conn)?;

@@ -1,6 +1,6 @@
 //! A query of the database.
 
-ghost use Rattle.std.specs.Prelude.{◌≡◌, ◌+◌, ℕ, List, min, false, IsTrue, IfOk, OnErr};
+ghost use Rattle.std.specs.Prelude.{◌≡◌, ◌+◌, ℕ, List, min, false, IsTrue, IfErr, IfOk, OnErr};
 ghost use Rattle.desk_sql_layout.specs.Cells.{number};
 ghost use Rattle.sqlite.specs.Given.{HasGiven, IsPlain};
 ghost use Rattle.sqlite.specs.Held.{state};
@@ -13,9 +13,9 @@ ghost use Rattle.sqlite_value.specs.declared.value.Value.TheVariants.{Text as Wo
 ghost use Rattle.desk_access.specs.Seen.{Kept, Looked, Same};
 ghost use Rattle.desk_sql_layout.specs.Held.{seen_of};
 ghost use Rattle.desk_sql_layout.specs.Layout.{desk_schema};
-ghost use Rattle.desk_sql_lookup.specs.Streamed.{ReadsOn, ShowsRead};
+ghost use Rattle.desk_sql_lookup.specs.Causes.{HasCause, HasCauseIf, IsAsked};
+ghost use Rattle.desk_sql_lookup.specs.Streamed.{CanBeRead, FailsToReadOn, ReadsOn, ShowsRead};
 
-use crate::columns::ROWS;
 use crate::read::ReadRow;
 use desk_model::Fault;
 use desk_sql_layout::fault::fault_of;
@@ -38,6 +38,9 @@ pub(crate) fn query<S: Alter>(
     ensures err { IsPlain (understood desk_schema sql.now)
         → OnErr result (Kept (seen_of (state S.Store conn.old))
         (seen_of (state S.Store conn.new))) }
+    ensures cause { IsAsked sql.now (bound params.now) → IfErr result (HasCause
+        (state S.Store conn.old) (state S.Store conn.new)) }
+    ensures limit { conn.new.step_limit ≡ conn.old.step_limit }
     ensures mode { conn.old.in_transaction ≡ false → conn.new.in_transaction ≡ false }
 {
     match conn.query_all(sql, params) {
@@ -61,6 +64,12 @@ fn read_next<S: Alter, T: ReadRow + Drop>(
         found)) }
     ensures kept { Looked (seen_of (state S.Store rows.old.conn.now))
         (seen_of (state S.Store rows.new.conn.now)) result }
+    ensures cause { HasCleanDisk (state S.Store rows.new.conn.now)
+        → IfErr result (λ fault. (sql : List ℕ) (params : Cells) (given : List Cells)
+        → HasGiven S.Store sql params rows.old.conn.now given
+        → FailsToReadOn S.Store T.ReadRow.cells T.ReadRow.has_days sql params
+        rows.old.conn.now rows.new.conn.now given fault) }
+    ensures limit { rows.new.conn.now.step_limit ≡ rows.old.conn.now.step_limit }
     ensures mode { rows.old.conn.now.in_transaction ≡ false
         → rows.new.conn.now.in_transaction ≡ false }
 {
@@ -91,6 +100,11 @@ pub(crate) fn read_rows<S: Alter, T: ReadRow + Drop>(
     ensures err { IsPlain (understood desk_schema sql.now)
         → OnErr result (Kept (seen_of (state S.Store conn.old))
         (seen_of (state S.Store conn.new))) }
+    ensures cause { IsAsked sql.now (bound params.now)
+        → IfErr result (HasCauseIf (CanBeRead T.ReadRow.cells T.ReadRow.has_days sql.now
+        (bound params.now) (state S.Store conn.old) (state S.Store conn.new))
+        (state S.Store conn.old) (state S.Store conn.new)) }
+    ensures limit { conn.new.step_limit ≡ conn.old.step_limit }
     ensures mode { conn.old.in_transaction ≡ false → conn.new.in_transaction ≡ false }
 {
     let mut found = Vec::new(alloc);
@@ -104,7 +118,8 @@ pub(crate) fn read_rows<S: Alter, T: ReadRow + Drop>(
             None => return Ok(found),
         }
     }
-    Err(ROWS)
+    // No memory holds so many rows.
+    Err(Fault::Memory)
 }
 
 /// A text as a query takes it.

@@ -1,6 +1,8 @@
 //! Rows as the desk knows them.
 
-ghost use Rattle.std.specs.Prelude.{◌≡◌, IfOk, List, map, slice_get};
+ghost use Rattle.std.specs.Prelude.{◌≡◌, IfErr, IfOk, List, map, slice_get};
+ghost use Rattle.std.specs.List.{AllByRecursion};
+ghost use Rattle.desk_sql_lookup.specs.Causes.{IsRow};
 
 use desk_model::Fault;
 use sqlite::Row;
@@ -13,14 +15,22 @@ pub(crate) trait ReadRow: Sized {
     /// The cells that a query shows of it.
     ghost cells: { Self → Cells };
 
+    /// Its days exist.
+    ghost has_days: { Self → Type 0 } = { λ _. Unit {0} };
+
     fn read(alloc: Global, row: &Row) -> Result<Self, Fault>
-        ensures { IfOk result (λ found. (x : Self) → row.now ≡ cells x → found ≡ x) };
+        ensures value { IfOk result (λ found. (x : Self) → row.now ≡ cells x → found ≡ x) }
+        ensures cause { IfErr result (λ fault. (x : Self) → row.now ≡ cells x → IsRow row.now
+            → has_days x → fault ≡ Fault.Memory) };
 }
 
 /// All rows.
 pub(crate) fn read_all<T: ReadRow + Drop>(alloc: Global, rows: &[Row]) -> Result<Vec<T>, Fault>
-    ensures { IfOk result (λ found. (xs : List T) → rows.now ≡ map T.ReadRow.cells xs
+    ensures value { IfOk result (λ found. (xs : List T) → rows.now ≡ map T.ReadRow.cells xs
         → found.items ≡ xs) }
+    ensures cause { IfErr result (λ fault. (xs : List T) → rows.now ≡ map T.ReadRow.cells xs
+        → AllByRecursion IsRow rows.now → AllByRecursion T.ReadRow.has_days xs
+        → fault ≡ Fault.Memory) }
 {
     let mut found = Vec::new(alloc);
     for row in rows {
@@ -31,8 +41,11 @@ pub(crate) fn read_all<T: ReadRow + Drop>(alloc: Global, rows: &[Row]) -> Result
 
 /// The first row.
 pub(crate) fn read_first<T: ReadRow + Drop>(alloc: Global, rows: &[Row]) -> Result<Option<T>, Fault>
-    ensures { IfOk result (λ found. (xs : List T) → rows.now ≡ map T.ReadRow.cells xs
+    ensures value { IfOk result (λ found. (xs : List T) → rows.now ≡ map T.ReadRow.cells xs
         → found ≡ slice_get xs 0) }
+    ensures cause { IfErr result (λ fault. (xs : List T) → rows.now ≡ map T.ReadRow.cells xs
+        → AllByRecursion IsRow rows.now → AllByRecursion T.ReadRow.has_days xs
+        → fault ≡ Fault.Memory) }
 {
     match rows.first() {
         Some(row) => Ok(Some(T::read(alloc, row)?)),

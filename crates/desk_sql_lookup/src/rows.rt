@@ -1,12 +1,14 @@
 //! The cells of each row.
 
-ghost use Rattle.std.specs.Prelude.{◌≡◌, IfOk, List, map};
+ghost use Rattle.std.specs.Prelude.{◌≡◌, IfErr, IfOk, List, map};
+ghost use Rattle.std.specs.List.{AllByRecursion};
+ghost use Rattle.desk_sql_lookup.specs.Causes.{HasDay, IsRow};
 ghost use Rattle.desk_sql_layout.specs.Cells.{attached_cells, change_cells, duty_cells, frozen_cells, package_cells, release_cells};
 ghost use Rattle.desk_model.specs.declared.row.ChangeRow.{ChangeRow as Change};
 ghost use Rattle.desk_model.specs.declared.row.DutyRow.{DutyRow as Duty};
 ghost use Rattle.desk_model.specs.declared.row.ReleaseRow.{ReleaseRow as Release};
 ghost use Rattle.desk_sql_lookup.specs.Shown.{bytes_cells, known_cells, text_cells};
-ghost use Rattle.desk_sql_lookup.specs.Waivers.{ending_cells};
+ghost use Rattle.desk_sql_lookup.specs.Waivers.{EndsOnDay, ending_cells};
 
 use crate::columns::{
     bytes_at, day_at, duty_state_at, flag_at, number_at, profile_at, release_state_at, text_at,
@@ -116,17 +118,23 @@ impl ReadRow for DutyRow {
 
 /// The releases whose cells these rows are, in the order of the columns of their table.
 pub fn read_releases(alloc: Global, rows: &[Row]) -> Result<Vec<ReleaseRow>, Fault>
-    ensures { IfOk result (λ found. (releases : List Release)
+    ensures value { IfOk result (λ found. (releases : List Release)
         → rows.now ≡ map release_cells releases
         → found.items ≡ releases) }
+    ensures cause { IfErr result (λ fault. (releases : List Release)
+        → rows.now ≡ map release_cells releases → AllByRecursion IsRow rows.now
+        → fault ≡ Fault.Memory) }
 {
     read_all(alloc, rows)
 }
 
 /// The duties whose cells these rows are, in the order of the columns of their table.
 pub fn read_duties(alloc: Global, rows: &[Row]) -> Result<Vec<DutyRow>, Fault>
-    ensures { IfOk result (λ found. (duties : List Duty) → rows.now ≡ map duty_cells duties
+    ensures value { IfOk result (λ found. (duties : List Duty) → rows.now ≡ map duty_cells duties
         → found.items ≡ duties) }
+    ensures cause { IfErr result (λ fault. (duties : List Duty)
+        → rows.now ≡ map duty_cells duties → AllByRecursion IsRow rows.now
+        → fault ≡ Fault.Memory) }
 {
     read_all(alloc, rows)
 }
@@ -140,6 +148,8 @@ pub(crate) struct Waiver {
 
 impl ReadRow for Waiver {
     ghost cells = { ending_cells };
+
+    ghost has_days = { EndsOnDay };
 
     fn read(_alloc: Global, row: &Row) -> Result<Waiver, Fault> {
         Ok(Waiver {
@@ -155,8 +165,10 @@ pub(crate) fn read_change(
     row: &Row,
     last_day: Option<Day>,
 ) -> Result<ChangeRow, Fault>
-    ensures { IfOk result (λ found. (x : Change) → row.now ≡ change_cells x
+    ensures value { IfOk result (λ found. (x : Change) → row.now ≡ change_cells x
         → found ≡ record x { last_day = last_day }) }
+    ensures cause { IfErr result (λ fault. (x : Change) → row.now ≡ change_cells x → IsRow row.now
+        → HasDay x → fault ≡ Fault.Memory) }
 {
     Ok(ChangeRow {
         duty: number_at(row, 0)?,

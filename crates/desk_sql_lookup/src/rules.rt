@@ -1,7 +1,7 @@
 //! Rules of the catalogue.
 
-ghost use Rattle.std.specs.Prelude.{◌≡◌, ◌==◌, ℕ, true, false, IfOk, List, filter, map, length, slice_get};
-ghost use Rattle.std.specs.List.{list_all, slice_split};
+ghost use Rattle.std.specs.Prelude.{◌≡◌, ◌==◌, ℕ, true, false, IfErr, IfOk, List, filter, map, length, slice_get};
+ghost use Rattle.std.specs.List.{AllByRecursion, list_all, slice_split};
 ghost use Rattle.std.specs.Option.{option_map};
 ghost use Rattle.sqlite.specs.Held.{state};
 ghost use Rattle.desk_access.specs.Seen.{Looked, OfRows};
@@ -11,6 +11,7 @@ ghost use Rattle.desk_sql_layout.specs.Cells.{is_word, joined, rule_cells};
 ghost use Rattle.desk_model.specs.History.{rule_for};
 ghost use Rattle.desk_model.specs.declared.row.RuleRow.{RuleRow};
 ghost use Rattle.desk_sql_lookup.specs.Rules.{are_words, is_rule_at, texts};
+ghost use Rattle.desk_sql_lookup.specs.Causes.{HasCause, IsRow};
 
 use crate::columns::{str_at, text_at};
 use crate::query::{query, text};
@@ -51,8 +52,10 @@ fn words_of(alloc: Global, text: &str) -> Result<Items<Text>, AllocError>
 }
 
 fn read_rule(alloc: Global, row: &Row) -> Result<Rule, Fault>
-    ensures { IfOk result (λ found. (x : RuleRow) → list_all is_word x.codes ≡ true
+    ensures value { IfOk result (λ found. (x : RuleRow) → list_all is_word x.codes ≡ true
         → row.now ≡ rule_cells x → found ≡ rule_of x) }
+    ensures cause { IfErr result (λ fault. (x : RuleRow) → row.now ≡ rule_cells x
+        → IsRow row.now → fault ≡ Fault.Memory) }
 {
     Ok(Rule {
         term: text_at(alloc, row, 1)?,
@@ -63,8 +66,10 @@ fn read_rule(alloc: Global, row: &Row) -> Result<Rule, Fault>
 }
 
 fn first_rule(alloc: Global, rows: &[Row]) -> Result<Option<Rule>, Fault>
-    ensures { IfOk result (λ found. (xs : List RuleRow) → are_words xs ≡ true
+    ensures value { IfOk result (λ found. (xs : List RuleRow) → are_words xs ≡ true
         → rows.now ≡ map rule_cells xs → found ≡ option_map rule_of (slice_get xs 0)) }
+    ensures cause { IfErr result (λ fault. (xs : List RuleRow) → rows.now ≡ map rule_cells xs
+        → AllByRecursion IsRow rows.now → fault ≡ Fault.Memory) }
 {
     match rows.first() {
         Some(row) => Ok(Some(read_rule(alloc, row)?)),
@@ -84,6 +89,8 @@ fn select_rule<S: Alter>(
         (seen_of (state S.Store conn.old)) (seen_of (state S.Store conn.new))) }
     ensures kept { Looked (seen_of (state S.Store conn.old)) (seen_of (state S.Store conn.new))
         result }
+    ensures cause { IfErr result (HasCause (state S.Store conn.old) (state S.Store conn.new)) }
+    ensures limit { conn.new.step_limit ≡ conn.old.step_limit }
     ensures mode { conn.old.in_transaction ≡ false → conn.new.in_transaction ≡ false }
 {
     query(
@@ -106,6 +113,8 @@ pub fn rule<S: Alter>(
         (seen_of (state S.Store conn.old)) (seen_of (state S.Store conn.new))) }
     ensures kept { Looked (seen_of (state S.Store conn.old)) (seen_of (state S.Store conn.new))
         result }
+    ensures cause { IfErr result (HasCause (state S.Store conn.old) (state S.Store conn.new)) }
+    ensures limit { conn.new.step_limit ≡ conn.old.step_limit }
     ensures mode { conn.old.in_transaction ≡ false → conn.new.in_transaction ≡ false }
 {
     let rows = select_rule(conn, revisions, term, form)?;

@@ -1,6 +1,7 @@
 //! The texts of catalogues, and those that documents give for references.
 
-ghost use Rattle.std.specs.Prelude.{◌≡◌, false, IfOk, List, filter, find, map, length, slice_get};
+ghost use Rattle.std.specs.Prelude.{◌≡◌, false, IfErr, IfOk, List, filter, find, map, length, slice_get};
+ghost use Rattle.std.specs.List.{AllByRecursion};
 ghost use Rattle.std.specs.Option.{option_and_then};
 ghost use Rattle.sqlite.specs.Held.{state};
 ghost use Rattle.desk_access.specs.Seen.{Looked, OfRows};
@@ -9,6 +10,7 @@ ghost use Rattle.desk_model.specs.Bills.{extracted_text, revision_text};
 ghost use Rattle.desk_model.specs.Keys.{is_extracted, is_revision};
 ghost use Rattle.desk_model.specs.declared.row.ExtractedRow.{ExtractedRow as Extracted};
 ghost use Rattle.desk_sql_lookup.specs.Shown.{extracted_body_cells};
+ghost use Rattle.desk_sql_lookup.specs.Causes.{HasCause, IsRow};
 
 use crate::columns::text_or_null_at;
 use crate::query::{among, query, read_rows, text};
@@ -31,6 +33,8 @@ fn catalogue_texts<S: Alter>(
         (seen_of (state S.Store conn.old)) (seen_of (state S.Store conn.new))) }
     ensures kept { Looked (seen_of (state S.Store conn.old)) (seen_of (state S.Store conn.new))
         result }
+    ensures cause { IfErr result (HasCause (state S.Store conn.old) (state S.Store conn.new)) }
+    ensures limit { conn.new.step_limit ≡ conn.old.step_limit }
     ensures mode { conn.old.in_transaction ≡ false → conn.new.in_transaction ≡ false }
 {
     read_rows(
@@ -60,6 +64,8 @@ pub fn catalogue_text<S: Alter>(
         (seen_of (state S.Store conn.old)) (seen_of (state S.Store conn.new))) }
     ensures kept { Looked (seen_of (state S.Store conn.old)) (seen_of (state S.Store conn.new))
         result }
+    ensures cause { IfErr result (HasCause (state S.Store conn.old) (state S.Store conn.new)) }
+    ensures limit { conn.new.step_limit ≡ conn.old.step_limit }
     ensures mode { conn.old.in_transaction ≡ false → conn.new.in_transaction ≡ false }
 {
     let texts = catalogue_texts(alloc, conn, revisions, revision)?;
@@ -78,6 +84,8 @@ fn select_extracted<S: Alter>(
         (seen_of (state S.Store conn.new))) }
     ensures kept { Looked (seen_of (state S.Store conn.old)) (seen_of (state S.Store conn.new))
         result }
+    ensures cause { IfErr result (HasCause (state S.Store conn.old) (state S.Store conn.new)) }
+    ensures limit { conn.new.step_limit ≡ conn.old.step_limit }
     ensures mode { conn.old.in_transaction ≡ false → conn.new.in_transaction ≡ false }
 {
     query(
@@ -89,8 +97,12 @@ fn select_extracted<S: Alter>(
 
 /// The text of the first reference; none where it has none, or there is no reference.
 fn first_body(alloc: Global, rows: &[Row]) -> Result<Option<Text>, Fault>
-    ensures { IfOk result (λ found. (xs : List Extracted) → rows.now ≡ map extracted_body_cells xs
+    ensures value { IfOk result (λ found. (xs : List Extracted)
+        → rows.now ≡ map extracted_body_cells xs
         → found ≡ option_and_then (λ row. row.body) (slice_get xs 0)) }
+    ensures cause { IfErr result (λ fault. (xs : List Extracted)
+        → rows.now ≡ map extracted_body_cells xs → AllByRecursion IsRow rows.now
+        → fault ≡ Fault.Memory) }
 {
     match rows.first() {
         Some(row) => text_or_null_at(alloc, row, 0),
@@ -111,6 +123,8 @@ pub fn extracted_text<S: Alter>(
         (seen_of (state S.Store conn.new))) }
     ensures kept { Looked (seen_of (state S.Store conn.old)) (seen_of (state S.Store conn.new))
         result }
+    ensures cause { IfErr result (HasCause (state S.Store conn.old) (state S.Store conn.new)) }
+    ensures limit { conn.new.step_limit ≡ conn.old.step_limit }
     ensures mode { conn.old.in_transaction ≡ false → conn.new.in_transaction ≡ false }
 {
     let rows = select_extracted(conn, document, reference)?;

@@ -17,7 +17,7 @@ returns-clause-found g c =
     IfOk-weaker c.read_duties.result _ _ (λ found is.
     of_shown duties_text [] old new duties_ask rows _ (c.in_ok-rows.ensures.read duties_ask).0 c.in_ok-rows.ensures.shown
     (λ t shown holds. is _ (c.deref.ensures.value ∙ all_duties old new rows t shown holds)))
-    c.read_duties.ensures
+    c.read_duties.ensures.value
 
 pub returns-clause-read : goal.returns-clause-read
 returns-clause-read g c = read_so (state g.S.Store c.args.conn.now) (state g.S.Store c.query.new.conn) c.in_ok-rows.rows c.read_duties.result (c.in_ok-rows.ensures.read duties_ask)

@@ -18,7 +18,7 @@ returns-clause-found g c =
     IfOk-weaker c.read_releases.result _ _ (λ found is.
     of_shown releases_text [] old new releases_ask rows _ (c.in_ok-rows.ensures.read releases_ask).0 c.in_ok-rows.ensures.shown
     (λ t shown holds. is _ (c.deref.ensures.value ∙ all_releases old new rows t shown holds)))
-    c.read_releases.ensures
+    c.read_releases.ensures.value
 
 pub returns-clause-read : goal.returns-clause-read
 returns-clause-read g c = read_so (state g.S.Store c.args.conn.now) (state g.S.Store c.query.new.conn) c.in_ok-rows.rows c.read_releases.result (c.in_ok-rows.ensures.read releases_ask)

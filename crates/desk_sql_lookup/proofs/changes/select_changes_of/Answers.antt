@@ -8,7 +8,7 @@ use Rattle.desk_sql_lookup.proofs.Ending.{are_steps}
 use Rattle.desk_sql_lookup.proofs.DutyQueries.{changes_of_apart}
 use Rattle.sqlite.specs.Held.{state}
 use Rattle.desk_sql_lookup.proofs.Calls.{found_by, looked_by}
-use Rattle.desk_sql_lookup.proofs.DutyQueries.{changes_of_text, changes_of_plain, changes_of_read}
+use Rattle.desk_sql_lookup.proofs.DutyQueries.{changes_of_text, changes_of_asked, changes_of_plain, changes_of_read}
 use Rattle.desk_sql_lookup.proofs.changes.select_changes_of.Goals as goal
 
 pub returns-clause-found : goal.returns-clause-found
@@ -23,3 +23,6 @@ returns-clause-kept g c =
     let old = state g.S.Store c.args.conn.now in
     let new = state g.S.Store c.query.new.conn in
     looked_by changes_of_text (number (min c.args.duty (c.args.duties + 1)) ∷ []) old new c.query.result (λ v. v.items) (rw c.among.ensures at (c.query.ensures.ok changes_of_plain)) (c.query.ensures.err changes_of_plain)
+
+pub returns-clause-cause : goal.returns-clause-cause
+returns-clause-cause g c = c.query.ensures.cause (rw c.among.ensures (changes_of_asked (min c.args.duty (c.args.duties + 1))))

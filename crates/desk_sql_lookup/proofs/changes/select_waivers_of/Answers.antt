@@ -6,7 +6,7 @@ use Rattle.desk_sql_lookup.proofs.Among.{changes_among}
 use Rattle.desk_sql_lookup.proofs.Ending.{waivers_shown}
 use Rattle.sqlite.specs.Held.{state}
 use Rattle.desk_sql_lookup.proofs.Calls.{found_by, looked_by}
-use Rattle.desk_sql_lookup.proofs.DutyQueries.{waivers_of_text, waivers_of_plain, waivers_of_read}
+use Rattle.desk_sql_lookup.proofs.DutyQueries.{waivers_of_text, waivers_of_asked, waivers_of_plain, waivers_of_read}
 use Rattle.desk_sql_lookup.proofs.changes.select_waivers_of.Goals as goal
 
 pub returns-clause-found : goal.returns-clause-found
@@ -21,3 +21,6 @@ returns-clause-kept g c =
     let old = state g.S.Store c.args.conn.now in
     let new = state g.S.Store c.query.new.conn in
     looked_by waivers_of_text (number (min c.args.duty (c.args.duties + 1)) ∷ []) old new c.query.result (λ v. v.items) (rw c.among.ensures at (c.query.ensures.ok waivers_of_plain)) (c.query.ensures.err waivers_of_plain)
+
+pub returns-clause-cause : goal.returns-clause-cause
+returns-clause-cause g c = c.query.ensures.cause (rw c.among.ensures (waivers_of_asked (min c.args.duty (c.args.duties + 1))))

@@ -8,7 +8,7 @@ use Rattle.desk_sql_lookup.specs.Shown.{known_cells}
 use Rattle.desk_sql_lookup.proofs.Among.{document_among}
 use Rattle.sqlite.specs.Held.{state}
 use Rattle.desk_sql_lookup.proofs.Calls.{found_by, looked_by}
-use Rattle.desk_sql_lookup.proofs.DocumentQueries.{document_text, document_plain, document_read}
+use Rattle.desk_sql_lookup.proofs.DocumentQueries.{document_text, document_asked, document_plain, document_read}
 use Rattle.desk_sql_lookup.proofs.documents.select_document.Goals as goal
 
 pub returns-clause-found : goal.returns-clause-found
@@ -23,3 +23,6 @@ returns-clause-kept g c =
     let old = state g.S.Store c.args.conn.now in
     let new = state g.S.Store c.query.new.conn in
     looked_by document_text (number (min c.args.n (c.args.documents + 1)) ∷ []) old new c.query.result (λ v. v.items) (rw c.among.ensures at (c.query.ensures.ok document_plain)) (c.query.ensures.err document_plain)
+
+pub returns-clause-cause : goal.returns-clause-cause
+returns-clause-cause g c = c.query.ensures.cause (rw c.among.ensures (document_asked (min c.args.n (c.args.documents + 1))))

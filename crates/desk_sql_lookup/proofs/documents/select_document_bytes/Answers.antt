@@ -7,7 +7,7 @@ use Rattle.desk_sql_lookup.specs.Shown.{bytes_cells}
 use Rattle.desk_sql_lookup.proofs.Among.{document_among}
 use Rattle.sqlite.specs.Held.{state}
 use Rattle.desk_sql_lookup.proofs.Calls.{found_by, looked_by}
-use Rattle.desk_sql_lookup.proofs.DocumentQueries.{document_bytes_text, document_bytes_plain, document_bytes_read}
+use Rattle.desk_sql_lookup.proofs.DocumentQueries.{document_bytes_text, document_bytes_asked, document_bytes_plain, document_bytes_read}
 use Rattle.desk_sql_lookup.proofs.documents.select_document_bytes.Goals as goal
 
 pub returns-clause-found : goal.returns-clause-found
@@ -22,3 +22,6 @@ returns-clause-kept g c =
     let old = state g.S.Store c.args.conn.now in
     let new = state g.S.Store c.query.new.conn in
     looked_by document_bytes_text (number (min c.args.n (c.args.documents + 1)) ∷ []) old new c.query.result (λ v. v.items) (rw c.among.ensures at (c.query.ensures.ok document_bytes_plain)) (c.query.ensures.err document_bytes_plain)
+
+pub returns-clause-cause : goal.returns-clause-cause
+returns-clause-cause g c = c.query.ensures.cause (rw c.among.ensures (document_bytes_asked (min c.args.n (c.args.documents + 1))))

@@ -5,7 +5,7 @@ use Rattle.desk_model.specs.Keys.{is_package}
 use Rattle.desk_sql_lookup.proofs.Among.{package_among}
 use Rattle.sqlite.specs.Held.{state}
 use Rattle.desk_sql_lookup.proofs.Calls.{found_by, looked_by}
-use Rattle.desk_sql_lookup.proofs.DocumentQueries.{package_text, package_plain, package_read}
+use Rattle.desk_sql_lookup.proofs.DocumentQueries.{package_text, package_asked, package_plain, package_read}
 use Rattle.desk_sql_lookup.proofs.documents.select_package.Goals as goal
 
 pub returns-clause-found : goal.returns-clause-found
@@ -20,3 +20,6 @@ returns-clause-kept g c =
     let old = state g.S.Store c.args.conn.now in
     let new = state g.S.Store c.query.new.conn in
     looked_by package_text (number (min c.args.document (c.args.documents + 1)) ∷ Text c.args.id.now ∷ []) old new c.query.result (λ v. v.items) (rw (c.among.ensures, c.text.ensures) at (c.query.ensures.ok package_plain)) (c.query.ensures.err package_plain)
+
+pub returns-clause-cause : goal.returns-clause-cause
+returns-clause-cause g c = c.query.ensures.cause (rw (c.among.ensures, c.text.ensures) (package_asked (min c.args.document (c.args.documents + 1)) c.args.id.now))

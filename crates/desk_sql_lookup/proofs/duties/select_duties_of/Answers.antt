@@ -4,7 +4,7 @@ use Rattle.desk_sql_layout.specs.Cells.{duty_cells}
 use Rattle.desk_model.specs.Keys.{is_duty_of}
 use Rattle.sqlite.specs.Held.{state}
 use Rattle.desk_sql_lookup.proofs.Calls.{found_by, looked_by}
-use Rattle.desk_sql_lookup.proofs.DutyQueries.{duties_of_text, duties_of_plain, duties_of_read}
+use Rattle.desk_sql_lookup.proofs.DutyQueries.{duties_of_text, duties_of_asked, duties_of_plain, duties_of_read}
 use Rattle.desk_sql_lookup.proofs.duties.select_duties_of.Goals as goal
 
 pub returns-clause-found : goal.returns-clause-found
@@ -19,3 +19,6 @@ returns-clause-kept g c =
     let old = state g.S.Store c.args.conn.now in
     let new = state g.S.Store c.query.new.conn in
     looked_by duties_of_text (Text c.args.release.now ∷ []) old new c.query.result (λ v. v.items) (rw c.text.ensures at (c.query.ensures.ok duties_of_plain)) (c.query.ensures.err duties_of_plain)
+
+pub returns-clause-cause : goal.returns-clause-cause
+returns-clause-cause g c = c.query.ensures.cause (rw c.text.ensures (duties_of_asked c.args.release.now))

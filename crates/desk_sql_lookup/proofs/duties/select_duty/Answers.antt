@@ -4,7 +4,7 @@ use Rattle.desk_model.specs.Keys.{is_duty}
 use Rattle.desk_sql_lookup.proofs.Among.{duty_among}
 use Rattle.sqlite.specs.Held.{state}
 use Rattle.desk_sql_lookup.proofs.Calls.{found_by, looked_by}
-use Rattle.desk_sql_lookup.proofs.DutyQueries.{duty_text, duty_plain, duty_read}
+use Rattle.desk_sql_lookup.proofs.DutyQueries.{duty_text, duty_asked, duty_plain, duty_read}
 use Rattle.desk_sql_lookup.proofs.duties.select_duty.Goals as goal
 
 pub returns-clause-found : goal.returns-clause-found
@@ -19,3 +19,6 @@ returns-clause-kept g c =
     let old = state g.S.Store c.args.conn.now in
     let new = state g.S.Store c.query.new.conn in
     looked_by duty_text (number (min c.args.number (c.args.duties + 1)) ∷ []) old new c.query.result (λ v. v.items) (rw c.among.ensures at (c.query.ensures.ok duty_plain)) (c.query.ensures.err duty_plain)
+
+pub returns-clause-cause : goal.returns-clause-cause
+returns-clause-cause g c = c.query.ensures.cause (rw c.among.ensures (duty_asked (min c.args.number (c.args.duties + 1))))

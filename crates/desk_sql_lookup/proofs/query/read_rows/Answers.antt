@@ -1,11 +1,15 @@
-use Rattle.std.proofs.Common.{◌∙◌, rules}
+use Rattle.std.proofs.Common.{◌∙◌, rules, subst, sym}
 use Rattle.sqlite.specs.Held.{state}
 use Rattle.sqlite.specs.State.{HasCleanDisk, Survives, FailsToQuery, CommitsShowing}
 use Rattle.sqlite.specs.Values.{bound}
 use Rattle.desk_sql_layout.specs.Held.{seen_of}
+use Rattle.sqlite.specs.Given.{IsPlain}
+use Rattle.desk_sql_layout.specs.Faults.{fault_by}
+use Rattle.desk_sql_lookup.specs.Streamed.{CanBeRead}
 use Rattle.desk_sql_lookup.proofs.Calls.{failed}
+use Rattle.desk_sql_lookup.proofs.Causes.{any_cause, err_cause, failed_cause, memory_err}
 use Rattle.desk_sql_lookup.proofs.Chains.{same_then_kept, same_then_same}
-use Rattle.desk_sql_lookup.proofs.Streaming.{begun_open, begun_read, begun_same, read_all, read_on}
+use Rattle.desk_sql_lookup.proofs.Streaming.{begun_open, begun_read, begun_same, read_all, read_failed, read_on}
 use Rattle.desk_sql_lookup.proofs.query.read_rows.Goals as goal
 
 pub returns-in-Err-clause-err : goal.returns-in-Err-clause-err
@@ -19,6 +23,18 @@ returns-in-Err-clause-err g c = λ plain.
     let fails : HasCleanDisk new → FailsToQuery sql params old new c.in-Err.error = search rules in
     failed sql params old new plain survives c.in-Err.error fails
 
+pub returns-in-Err-clause-cause : goal.returns-in-Err-clause-cause
+returns-in-Err-clause-cause g c = λ asked.
+    let sql = c.args.sql.now in
+    let params = bound c.args.params.now in
+    let old = state g.S.Store c.args.conn.now in
+    let new = state g.S.Store c.query.follows.lender-at-none in
+    let held = c.query.follows.holds-at-none in
+    let survives : Survives old new (CommitsShowing sql params old) = search rules in
+    let fails : HasCleanDisk new → FailsToQuery sql params old new c.in-Err.error = search rules in
+    let has = failed_cause sql params old new (CommitsShowing sql params old) survives asked c.in-Err.error fails in
+    rw c.fault_of.ensures (any_cause (CanBeRead g.T.ReadRow.cells g.T.ReadRow.has_days sql params old new) old new (fault_by c.in-Err.error) has)
+
 pub rows-init : goal.rows-init
 rows-init g c =
     let sql = c.args.sql.now in
@@ -27,6 +43,7 @@ rows-init g c =
     record {
       reference = search rules;
       mode = made.mode;
+      limit = made.survives.limit;
       opened = begun_open g.S.Store g.T.ReadRow.cells sql params c.args.conn.now c.in-Ok.rows.conn.now made.begun;
       same = λ plain. begun_same g.S.Store g.T.ReadRow.cells sql params c.args.conn.now c.in-Ok.rows.conn.now plain made.survives made.begun;
       read = λ plain. rw c.new-found.ensures.items (begun_read g.S.Store g.T.ReadRow.cells sql params c.args.conn.now c.in-Ok.rows.conn.now plain made.begun);
@@ -39,6 +56,20 @@ returns-in_err-row-clause-err g c = λ plain.
     let new = seen_of (state g.S.Store c.read_next.new.rows.conn.now) in
     let kept = same_then_kept first old new (c.rows.invariant.same plain) c.in_err-row.ensures.kept in
     search rules
+
+pub returns-in_err-row-clause-cause : goal.returns-in_err-row-clause-cause
+returns-in_err-row-clause-cause g c = λ asked.
+    let sql = c.args.sql.now in
+    let params = bound c.args.params.now in
+    let plain = subst IsPlain (sym asked.is) asked.plain in
+    let step = c.in_err-row.ensures in
+    let has = read_failed g.S.Store g.T.ReadRow.cells g.T.ReadRow.has_days sql params asked c.args.conn.now c.rows.rows.conn.now c.read_next.new.rows.conn.now c.rows.found.items
+    (c.rows.invariant.same plain) step.kept.spared.honest c.rows.invariant.limit (c.rows.invariant.read plain) c.in_err-row.field-0.0 (λ clean. step.cause clean sql params) in
+    err_cause _ _ _ c.from_residual.result c.in_err-row.field-0.0 c.from_residual.ensures.1 (search rules)
+
+pub returns-in_err-push-in-Some-clause-cause : goal.returns-in_err-push-in-Some-clause-cause
+returns-in_err-push-in-Some-clause-cause g c = λ asked.
+    memory_err _ _ _ c.from_residual-in_err-push-in-Some.result c.from_residual-in_err-push-in-Some.ensures.1
 
 pub returns-in_err-push-in-Some-clause-err :
     goal.returns-in_err-push-in-Some-clause-err
@@ -76,6 +107,7 @@ rows-preserved g c =
     record {
       reference = step.same_reference ∙ c.rows.invariant.reference;
       mode = λ none. step.mode (c.rows.invariant.mode none);
+      limit = step.limit ∙ c.rows.invariant.limit;
       opened = λ clean. c.rows.invariant.opened (step.kept.kept.spared.honest clean);
       same = λ plain. same_then_same first old new (c.rows.invariant.same plain) step.kept;
       read = λ plain. rw c.in_ok-push-in-Some.ensures.items

@@ -3,7 +3,7 @@ use Rattle.desk_sql_layout.specs.Cells.{release_cells}
 use Rattle.desk_sql_lookup.proofs.HolderLemmas.{all_pass}
 use Rattle.sqlite.specs.Held.{state}
 use Rattle.desk_sql_lookup.proofs.Calls.{found_by, looked_by}
-use Rattle.desk_sql_lookup.proofs.ReleaseQueries.{releases_text, releases_plain, releases_read}
+use Rattle.desk_sql_lookup.proofs.ReleaseQueries.{releases_text, releases_asked, releases_plain, releases_read}
 use Rattle.desk_sql_lookup.proofs.releases.select_releases.Goals as goal
 
 pub returns-clause-found : goal.returns-clause-found
@@ -18,3 +18,6 @@ returns-clause-kept g c =
     let old = state g.S.Store c.args.conn.now in
     let new = state g.S.Store c.query.new.conn in
     looked_by releases_text ([]) old new c.query.result (λ v. v.items) (c.query.ensures.ok releases_plain) (c.query.ensures.err releases_plain)
+
+pub returns-clause-cause : goal.returns-clause-cause
+returns-clause-cause g c = c.query.ensures.cause releases_asked

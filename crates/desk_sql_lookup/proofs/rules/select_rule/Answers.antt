@@ -6,7 +6,7 @@ use Rattle.desk_sql_lookup.specs.Rules.{are_words, is_rule_at}
 use Rattle.desk_sql_lookup.proofs.Ruling.{words_kept}
 use Rattle.sqlite.specs.Held.{state}
 use Rattle.desk_sql_lookup.proofs.Calls.{found_by, looked_by}
-use Rattle.desk_sql_lookup.proofs.OfficeQueries.{rule_text, rule_plain, rule_read}
+use Rattle.desk_sql_lookup.proofs.OfficeQueries.{rule_text, rule_asked, rule_plain, rule_read}
 use Rattle.desk_sql_lookup.proofs.rules.select_rule.Goals as goal
 
 pub returns-clause-found : goal.returns-clause-found
@@ -21,3 +21,6 @@ returns-clause-kept g c =
     let old = state g.S.Store c.args.conn.now in
     let new = state g.S.Store c.query.new.conn in
     looked_by rule_text (number c.args.revision ∷ Text c.args.term.now ∷ Text c.args.form.now ∷ []) old new c.query.result (λ v. v.items) (rw (c.number.ensures, c.text.ensures, c.text-2.ensures) at (c.query.ensures.ok rule_plain)) (c.query.ensures.err rule_plain)
+
+pub returns-clause-cause : goal.returns-clause-cause
+returns-clause-cause g c = c.query.ensures.cause (rw (c.number.ensures, c.text.ensures, c.text-2.ensures) (rule_asked c.args.revision c.args.term.now c.args.form.now))

@@ -1,4 +1,4 @@
-use Rattle.std.proofs.Common.{ap, ap₂, sym, ◌∙◌}
+use Rattle.std.proofs.Common.{ap, ap₂, sym, ◌∙◌, ◌≡◌, length}
 use Rattle.std.specs.List.{filter_map}
 use Rattle.sqlite.specs.Held.{state}
 use Rattle.desk_sql_layout.specs.Held.{seen_of}
@@ -6,6 +6,7 @@ use Rattle.desk_sql_lookup.specs.Standings.{and_some, ended_standing}
 use Rattle.desk_access.proofs.Chains.{looked_err}
 use Rattle.desk_sql_lookup.proofs.Chains.{same_then_kept, same_then_same}
 use Rattle.desk_sql_lookup.proofs.StandingLemmas.{some_more, all_taken}
+use Rattle.desk_sql_lookup.proofs.Causes.{cause_after, err_cause, memory_err}
 use Rattle.desk_sql_lookup.proofs.standings.ended_among.Goals as goal
 
 pub loop-row-preserved : goal.loop-row-preserved
@@ -17,6 +18,7 @@ loop-row-preserved g c =
       standings = λ clean t held count.
           c.in_ok-push_some.ensures ∙ ap₂ and_some (was.standings (one.kept.kept.spared.honest clean) t held count) (one.found clean t (was.same.kept.spared.holds t held) count)
           ∙ sym (some_more (ended_standing t c.args.day) c.args.rows.now c.loop-row.row-index c.row-item.result c.loop-row-test.true c.row-item.is);
+      limit = one.limit ∙ was.limit;
       mode = λ idle. one.mode (was.mode idle);
     }
 
@@ -37,3 +39,16 @@ returns-in_err-push_some-clause-kept g c =
     let new = seen_of (state g.S.Store c.standing_if_ended.new.conn) in
     looked_err old new c.from_residual-in_err-push_some.result c.from_residual-in_err-push_some.ensures.0
     (same_then_same old (seen_of (state g.S.Store c.loop-row.conn)) new c.loop-row.invariant.same c.in_ok-standing.ensures.kept).kept
+
+pub returns-in_err-standing-clause-cause : goal.returns-in_err-standing-clause-cause
+returns-in_err-standing-clause-cause g c =
+    let old = state g.S.Store c.args.conn.now in
+    let new = state g.S.Store c.standing_if_ended.new.conn in
+    let was = c.loop-row.invariant in
+    let fault = c.in_err-standing.field-0.0 in
+    err_cause (λ t. length t.duty ≡ c.args.duties) old new c.from_residual.result fault c.from_residual.ensures.1
+    (cause_after (λ t. length t.duty ≡ c.args.duties) old (state g.S.Store c.loop-row.conn) new was.same was.limit c.in_err-standing.ensures.kept.spared.honest fault c.in_err-standing.ensures.cause)
+
+pub returns-in_err-push_some-clause-cause : goal.returns-in_err-push_some-clause-cause
+returns-in_err-push_some-clause-cause g c =
+    memory_err (λ t. length t.duty ≡ c.args.duties) (state g.S.Store c.args.conn.now) (state g.S.Store c.standing_if_ended.new.conn) c.from_residual-in_err-push_some.result c.from_residual-in_err-push_some.ensures.1

@@ -12,6 +12,7 @@ invariant-loop-row g l =
     let new = seen_of (state g.S.Store l.conn) in
     record {
       same : Same old new;
+      limit : l.conn.step_limit ≡ l.fn.conn.step_limit;
       standings : OfRows (λ t. length t.duty ≡ l.duties → l.found.items ≡ filter_map (ended_standing t l.day) (take l.row-index l.rows)) old new;
       mode : l.fn.conn.in_transaction ≡ false → l.conn.in_transaction ≡ false;
     }

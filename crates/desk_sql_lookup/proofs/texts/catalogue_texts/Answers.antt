@@ -1,5 +1,5 @@
 use Rattle.std.proofs.Common.{◌≡◌, ◌∷◌, [], ◌+◌, ◌∙◌, map, filter, length, min, ap, sym}
-use Rattle.desk_sql_layout.specs.Cells.{number}
+use Rattle.desk_sql_layout.specs.Cells.{number, catalogue_cells}
 use Rattle.sqlite_trees.proofs.ListLemmas.{map-map}
 use Rattle.desk_model.specs.Keys.{is_revision}
 use Rattle.desk_model.specs.declared.row.CatalogueRow.{CatalogueRow}
@@ -7,7 +7,8 @@ use Rattle.desk_sql_lookup.specs.Shown.{text_cells}
 use Rattle.desk_sql_lookup.proofs.Among.{revision_among}
 use Rattle.sqlite.specs.Held.{state}
 use Rattle.desk_sql_lookup.proofs.Calls.{read_by, read_looked_by}
-use Rattle.desk_sql_lookup.proofs.TextQueries.{catalogue_text, catalogue_plain, catalogue_read}
+use Rattle.desk_sql_lookup.proofs.TextQueries.{catalogue_text, catalogue_asked, catalogue_plain, catalogue_read}
+use Rattle.desk_sql_lookup.proofs.Causes.{filter_written, read_rows_cause, mapped_written}
 use Rattle.desk_sql_lookup.proofs.texts.catalogue_texts.Goals as goal
 
 pub returns-clause-found : goal.returns-clause-found
@@ -24,3 +25,13 @@ returns-clause-kept g c =
     let old = state g.S.Store c.args.conn.now in
     let new = state g.S.Store c.read_rows.new.conn in
     read_looked_by catalogue_text (number (min c.args.n (c.args.revisions + 1)) ∷ []) old new text_cells c.read_rows.result (rw c.among.ensures at (c.read_rows.ensures.ok catalogue_plain)) (c.read_rows.ensures.err catalogue_plain)
+
+pub returns-clause-cause : goal.returns-clause-cause
+returns-clause-cause g c =
+    let old = state g.S.Store c.args.conn.now in
+    let new = state g.S.Store c.read_rows.new.conn in
+    let n = min c.args.n (c.args.revisions + 1) in
+    let body = λ (x : CatalogueRow). x.body in
+    read_rows_cause text_cells catalogue_text (number n ∷ []) old new c.read_rows.result (λ t. map body (filter (is_revision n) t.catalogue))
+    (λ rows t shown holds. catalogue_read n old new rows t shown holds ∙ sym (map-map text_cells body (filter (is_revision n) t.catalogue))) (λ t written. mapped_written catalogue_cells text_cells body (λ x row. row.1) (filter (is_revision n) t.catalogue) (filter_written catalogue_cells catalogue_cells (λ x row. row) (is_revision n) t.catalogue (written.cells 1)))
+    ((rw c.among.ensures at c.read_rows.ensures.cause) (catalogue_asked n))

@@ -5,7 +5,7 @@ use Rattle.desk_model.specs.Keys.{is_extracted}
 use Rattle.desk_sql_lookup.specs.Shown.{extracted_body_cells}
 use Rattle.sqlite.specs.Held.{state}
 use Rattle.desk_sql_lookup.proofs.Calls.{found_by, looked_by}
-use Rattle.desk_sql_lookup.proofs.TextQueries.{extracted_text, extracted_plain, extracted_read}
+use Rattle.desk_sql_lookup.proofs.TextQueries.{extracted_text, extracted_asked, extracted_plain, extracted_read}
 use Rattle.desk_sql_lookup.proofs.texts.select_extracted.Goals as goal
 
 pub returns-clause-found : goal.returns-clause-found
@@ -20,3 +20,6 @@ returns-clause-kept g c =
     let old = state g.S.Store c.args.conn.now in
     let new = state g.S.Store c.query.new.conn in
     looked_by extracted_text (number c.args.document ∷ Text c.args.reference.now ∷ []) old new c.query.result (λ v. v.items) (rw (c.number.ensures, c.text.ensures) at (c.query.ensures.ok extracted_plain)) (c.query.ensures.err extracted_plain)
+
+pub returns-clause-cause : goal.returns-clause-cause
+returns-clause-cause g c = c.query.ensures.cause (rw (c.number.ensures, c.text.ensures) (extracted_asked c.args.document c.args.reference.now))
