@@ -1,27 +1,67 @@
 -- What a page comes to where a question for it is answered by something else, and where the desk fails.
-use Rattle.std.proofs.Common.{◌≡◌, ◌∙◌, ℕ, List, Option, Ok, Err, ap, inr, subst, sym}
+use Rattle.std.proofs.Common.{◌≡◌, ◌∙◌, ℕ, List, Option, Ok, Err, ap, inl, inr, refl, subst, sym}
 use Rattle.std.specs.Prelude.{Result, IfOk, IfErr}
+use Rattle.std.specs.Result.{IsErr, IsErrAnd}
 use Rattle.std.specs.Io.KnownBytes.{Appends}
 use Rattle.desk_model.specs.Queries.{queried}
 use Rattle.desk_model.specs.Readings.{Readings}
-use Rattle.desk_model.specs.Tables.{Tables}
+use Rattle.desk_model.specs.Faults.{outcome_of}
+use Rattle.desk_model.specs.Tables.{tables}
 use Rattle.desk_model.specs.declared.command.Answer.{Answer}
 use Rattle.desk_model.specs.declared.command.Command.{Command}
+use Rattle.desk_model.specs.declared.command.Fault.{Fault}
 use Rattle.desk_model.specs.declared.command.Outcome.{Outcome}
 use Rattle.desk_model.specs.declared.command.Outcome.TheVariants as outcome_is
 use Rattle.desk_model.specs.declared.command.Query.{Query}
-use Rattle.desk_access.specs.Seen.{Seen}
+use Rattle.desk_model.specs.declared.command.Query.TheVariants as query
+use Rattle.desk_access.specs.Seen.{Kept, Looked, Same, Seen}
 use Rattle.desk_core.specs.Desks.{InHistory}
-use Rattle.desk_subcommands.specs.Failures.{OfRequest}
+use Rattle.desk_subcommands.specs.Failures.{IsOfOutput, OfRequest}
 use Rattle.desk_subcommands.specs.Filing.{answer_status, outcome_line}
 use Rattle.desk_subcommands.specs.declared.failure.Failure.{Failure}
 use Rattle.desk_subcommands.specs.declared.failure.Failure.TheVariants as failure
-use Rattle.desk_views.specs.Paging.{IsFor, IsPaged}
+use Rattle.desk_views.specs.Paging.{AreContents, Gathers, IsOther, IsOtherChange, IsPaged, LookedUp, contents_text}
+use Rattle.desk_views.specs.declared.paging.Contents.{Contents}
 
--- an outcome is the answer to some question for a page
-abbrev pub IsOther : Readings → List Command → List ℕ → Outcome → Type 0
-IsOther w h r (outcome_is.Answered other) = (q : Query) × IsFor r q × (queried w h q ≡ other)
-IsOther w h r (outcome_is.Failed fault) = Unit {0}
+module _ {Left : Type 0} (a b : Seen Left) where
+  pub looked_up_err : {A : Type 0} (r : Result A Outcome) → IsErr r → Kept a b → LookedUp a b r
+  looked_up_err (Ok x) none k = absurd (cc)
+  looked_up_err (Err outcome) is k = k
+
+  pub asked_kept : (asked : Result Answer Fault) → Looked a b asked → Kept a b
+  asked_kept (Ok answer) kept = kept.kept
+  asked_kept (Err fault) kept = kept
+
+  pub asked_same : (answer : Answer) (asked : Result Answer Fault) → Looked a b asked → asked ≡ Ok answer → Same a b
+  asked_same answer asked kept is = subst (λ r. Looked a b r) is kept
+
+module _ {Left : Type 0} (is_right : Readings → Type 0) (a b : Seen Left) where
+  -- what is found after a look-up that went well was so before it
+  pub found_after : (Is : Readings → List Command → Type 0) (c : Seen Left) → Same a b → InHistory is_right Is b c → InHistory is_right Is a c
+  found_after Is c same found w right honest h ok held = found w right honest h ok (same.kept.spared.holds (tables w h) held)
+
+  -- a question was answered by this, or came to this
+  pub asked_other : (q : Query) (Is : Readings → List Command → Outcome → Type 0) (asked : Result Answer Fault) (outcome : Outcome)
+      → IfOk asked (λ answer. InHistory is_right (λ w h. answer ≡ queried w h q) a b) → outcome ≡ outcome_of asked
+      → ((w : Readings) (h : List Command) (other : Answer) → queried w h q ≡ other → Is w h (outcome_is.Answered other))
+      → ((w : Readings) (h : List Command) (fault : Fault) → Is w h (outcome_is.Failed fault))
+      → InHistory is_right (λ w h. Is w h outcome) a b
+  asked_other q Is (Ok answer) outcome told is other failed w right honest h ok held =
+      subst (Is w h) (sym is) (other w h answer (sym (told w right honest h ok held)))
+  asked_other q Is (Err fault) outcome told is other failed w right honest h ok held = subst (Is w h) (sym is) (failed w h fault)
+
+  -- which is told as it is
+  pub gathers_other : (r : List ℕ) (gathered : Result Contents Outcome) (outcome : Outcome) → IsErrAnd gathered (λ o. o ≡ outcome)
+      → InHistory is_right (λ w h. IsOther w h r outcome) a b → InHistory is_right (λ w h. Gathers w h r gathered) a b
+  gathers_other r (Ok contents) outcome is found w right honest h ok held = absurd is
+  gathers_other r (Err other) outcome is found w right honest h ok held = subst (IsOther w h r) (sym is) (found w right honest h ok held)
+
+  -- as what a question for the changes of a duty came to is
+  pub gathers_change : (r : List ℕ) (outcome : Outcome) → InHistory is_right (λ w h. IsOtherChange w h outcome) a b
+      → InHistory is_right (λ w h. IsOther w h r outcome) a b
+  gathers_change r (outcome_is.Answered other) found w right honest h ok held =
+      let it = found w right honest h ok held in (query.Changes it.0, inr (inr (inr (it.0, refl))), it.1)
+  gathers_change r (outcome_is.Failed fault) found w right honest h ok held = tt
 
 pub other_told : {Left : Type 0} (is_right : Readings → Type 0) (r : List ℕ) (a b : Seen Left) (old new : Option (List ℕ)) (result : Result ℕ Failure)
     → IfOk result (λ status. (answer : Answer) × InHistory is_right (λ w h. IsOther w h r (outcome_is.Answered answer)) a b
@@ -53,3 +93,29 @@ failed_told old new outcome (Err (failure.Connections count)) told = absurd told
 failed_told old new outcome (Err (failure.Tree fault)) told = absurd told
 failed_told old new outcome (Err (failure.UnknownName name)) told = absurd told
 failed_told old new outcome (Err failure.BadValue) told = absurd told
+
+-- the page was written of what the desk answered
+pub page_written : {Left : Type 0} (is_right : Readings → Type 0) (r : List ℕ) (a b : Seen Left) (old new : Option (List ℕ)) (contents : Contents)
+    (result : Result ℕ Failure) → InHistory is_right (λ w h. AreContents w h r contents) a b
+    → IfOk result (λ status. (status ≡ 0) × Appends old new (contents_text contents))
+    → IfOk result (λ status. (text : List ℕ) × InHistory is_right (λ w h. IsPaged w h r text status) a b × Appends old new text)
+page_written is_right r a b old new contents (Ok status) found (zero, written) =
+    (contents_text contents, (λ w right honest h ok held. inl (contents, found w right honest h ok held, refl, zero)), written)
+page_written is_right r a b old new contents (Err why) found told = tt
+
+-- a page has no failure of a request
+pub page_told : (told : Fault → Type 0) (result : Result ℕ Failure) → IfErr result IsOfOutput → IfErr result (OfRequest told (Unit {0}))
+page_told told (Ok status) fails = tt
+page_told told (Err (failure.Memory error)) fails = tt
+page_told told (Err (failure.Write error)) fails = tt
+page_told told (Err (failure.Request fault)) fails = absurd fails
+page_told told (Err (failure.Script fault)) fails = absurd fails
+page_told told (Err (failure.Failed count)) fails = absurd fails
+page_told told (Err (failure.Read path error)) fails = absurd fails
+page_told told (Err (failure.Database path trouble)) fails = absurd fails
+page_told told (Err (failure.Close path trouble)) fails = absurd fails
+page_told told (Err (failure.Listen port trouble)) fails = absurd fails
+page_told told (Err (failure.Connections count)) fails = absurd fails
+page_told told (Err (failure.Tree fault)) fails = absurd fails
+page_told told (Err (failure.UnknownName name)) fails = absurd fails
+page_told told (Err failure.BadValue) fails = absurd fails

@@ -1,36 +1,48 @@
 -- The page on a release: what is asked of a desk for it, and what is written.
 use Rattle.std.specs.Prelude.{◌≡◌, ◌⊎◌, ℕ, List, map, Result, Ok, Err, Vec}
 use Rattle.std.specs.declared.alloc.Global.{Global}
+use Rattle.desk_access.specs.Seen.{Kept, Same, Seen}
+use Rattle.desk_model.specs.Faults.{outcome_of}
 use Rattle.desk_model.specs.Queries.{queried}
 use Rattle.desk_model.specs.Readings.{Readings}
-use Rattle.desk_model.specs.declared.bill.Bill.{Bill}
 use Rattle.desk_model.specs.declared.command.Answer.{Answer}
 use Rattle.desk_model.specs.declared.command.Answer.TheVariants as answered
 use Rattle.desk_model.specs.declared.command.Command.{Command}
 use Rattle.desk_model.specs.declared.command.DutyLine.{DutyLine}
-use Rattle.desk_model.specs.declared.command.Outcome.TheVariants.{Answered}
+use Rattle.desk_model.specs.declared.command.Fault.{Fault}
+use Rattle.desk_model.specs.declared.command.Outcome.{Outcome}
+use Rattle.desk_model.specs.declared.command.Outcome.TheVariants.{Answered, Failed}
 use Rattle.desk_model.specs.declared.command.Query.{Query}
 use Rattle.desk_model.specs.declared.command.Query.TheVariants as query
-use Rattle.desk_model.specs.declared.command.Totals.{Totals}
 use Rattle.desk_model.specs.declared.row.ChangeRow.{ChangeRow}
 use Rattle.desk_page.specs.Page.{page_text}
 use Rattle.desk_subcommands.specs.Filing.{answer_status, outcome_line}
 use Rattle.desk_views.specs.declared.paging.Contents.{Contents}
 
--- a question is answered by this, or by another kind of answer
-abbrev pub IsAsked : {T : Type 0} → (T → Answer) → Readings → List Command → Query → Result T Answer → Type 0
-IsAsked kind w h q (Ok told) = queried w h q ≡ kind told
-IsAsked kind w h q (Err other) = queried w h q ≡ other
+-- what a question came to is this kind of answer, or is told as it is
+abbrev pub IsToldBy : {T : Type 0} → (T → Answer) → Result Answer Fault → Result T Outcome → Type 0
+IsToldBy kind asked (Ok told) = asked ≡ Ok (kind told)
+IsToldBy kind asked (Err outcome) = outcome ≡ outcome_of asked
 
--- each duty's changes, or the answer to a question for the changes of one that has none
-abbrev pub AreChanges : Readings → List Command → List DutyLine → Result (List (List ChangeRow)) Answer → Type 0
+-- an answer is another one to a question for the changes of some duty; nothing is said of a fault
+abbrev pub IsOtherChange : Readings → List Command → Outcome → Type 0
+IsOtherChange w h (Answered other) = (number : ℕ) × (queried w h (query.Changes number) ≡ other)
+IsOtherChange w h (Failed fault) = Unit {0}
+
+-- each duty's changes, or what a question for the changes of one came to that has none
+abbrev pub AreChanges : Readings → List Command → List DutyLine → Result (List (List ChangeRow)) Outcome → Type 0
 AreChanges w h lines (Ok changes) = map (λ line. queried w h (query.Changes line.number)) lines ≡ map answered.Changes changes
-AreChanges w h lines (Err other) = (number : ℕ) × (queried w h (query.Changes number) ≡ other)
+AreChanges w h lines (Err outcome) = IsOtherChange w h outcome
 
 -- rows in vectors as lists of rows
-abbrev pub changes_in : Result (Vec (List ChangeRow) Global) Answer → Result (List (List ChangeRow)) Answer
-changes_in (Ok changes) = Ok changes.items
-changes_in (Err other) = Err other
+abbrev pub rows_in : Result (Vec (List ChangeRow) Global) Outcome → Result (List (List ChangeRow)) Outcome
+rows_in (Ok changes) = Ok changes.items
+rows_in (Err outcome) = Err outcome
+
+-- what looking for something does to a desk: nothing, though after a fault of the disk it may show no rows any more
+abbrev pub LookedUp : {Left A : Type 0} → Seen Left → Seen Left → Result A Outcome → Type 0
+LookedUp old new (Ok found) = Same old new
+LookedUp old new (Err outcome) = Kept old new
 
 -- what a page on a release is written of
 pub record AreContents (w : Readings) (h : List Command) (release : List ℕ) (c : Contents) : Type 0 where
@@ -43,10 +55,15 @@ pub record AreContents (w : Readings) (h : List Command) (release : List ℕ) (c
 abbrev pub IsFor : List ℕ → Query → Type 0
 IsFor release q = (q ≡ query.Bill release) ⊎ ((q ≡ query.Totals release) ⊎ ((q ≡ query.Duties release) ⊎ ((number : ℕ) × (q ≡ query.Changes number))))
 
--- what is asked for a page, or a question's answer of another kind, as a refusal is
-abbrev pub Gathers : Readings → List Command → List ℕ → Result Contents Answer → Type 0
+-- an answer is another one to a question for them, as a refusal is; nothing is said of a fault
+abbrev pub IsOther : Readings → List Command → List ℕ → Outcome → Type 0
+IsOther w h release (Answered other) = (q : Query) × IsFor release q × (queried w h q ≡ other)
+IsOther w h release (Failed fault) = Unit {0}
+
+-- what is asked for a page, or what a question came to instead
+abbrev pub Gathers : Readings → List Command → List ℕ → Result Contents Outcome → Type 0
 Gathers w h release (Ok c) = AreContents w h release c
-Gathers w h release (Err other) = (q : Query) × IsFor release q × (queried w h q ≡ other)
+Gathers w h release (Err outcome) = IsOther w h release outcome
 
 abbrev pub contents_text : Contents → List ℕ
 contents_text c = page_text c.bill c.totals c.duties c.changes.items

@@ -1,5 +1,5 @@
 -- What is proposed for a document that a desk holds: its declared licences as conclusions, and choices that leave nothing to choose.
-use Rattle.std.specs.Prelude.{◌≡◌, ◌⊎◌, ◌==◌, ◌&&◌, ℕ, ℤ, pos, Bool, List, Option, Some, Ok, is_some, filter, find, map}
+use Rattle.std.specs.Prelude.{◌⊎◌, ◌==◌, ◌&&◌, ℕ, ℤ, pos, Bool, List, Option, Some, Ok, is_some, filter, find, map}
 use Rattle.std.specs.Option.{option_map_or}
 use Rattle.std.specs.Ordering.{int_eq}
 use Rattle.std.specs.Str.{bytes_eq}

@@ -1,22 +1,25 @@
 //! The page on a release.
 
-ghost use Rattle.std.specs.Prelude.{◌≡◌, IfOk, IfErr, List, ℕ};
-ghost use Rattle.std.specs.String.{string_bytes};
+ghost use Rattle.std.specs.Prelude.{◌≡◌, ◌++◌, ◌∷◌, [], IfOk, IfErr, OnOk, List, ℕ};
 ghost use Rattle.std.specs.Io.KnownBytes.{Appends, Keeps};
+ghost use Rattle.desk_model.specs.Queries.{queried};
+ghost use Rattle.desk_model.specs.declared.command.Answer.{Answer as Answered};
 ghost use Rattle.desk_model.specs.declared.command.Answer.TheVariants as answered;
+ghost use Rattle.desk_model.specs.declared.command.Fault.TheVariants.{Memory};
+ghost use Rattle.desk_model.specs.declared.command.Outcome.TheVariants as told;
 ghost use Rattle.desk_model.specs.declared.command.Outcome.TheVariants.{Failed};
 ghost use Rattle.desk_model.specs.declared.command.Query.TheVariants as query;
 ghost use Rattle.desk_access.specs.Seen.{Kept, Looked};
 ghost use Rattle.desk_core.specs.Desks.{InHistory};
-ghost use Rattle.desk_subcommands.specs.Failures.{IfMemory, OfRequest};
-ghost use Rattle.desk_subcommands.specs.Filing.{outcome_line};
-ghost use Rattle.desk_views.specs.Paging.{AreChanges, Gathers, IsAsked, IsPaged, changes_in, contents_text};
+ghost use Rattle.desk_subcommands.specs.Failures.{IfMemory, IsOfOutput, OfRequest};
+ghost use Rattle.desk_subcommands.specs.Filing.{answer_status, outcome_line};
+ghost use Rattle.desk_views.specs.Paging.{AreChanges, Gathers, IsPaged, IsToldBy, LookedUp, contents_text, rows_in};
 
 use desk_base::{Items, Text};
 use desk_core::desk::Desk;
 use desk_model::{Answer, Bill, ChangeRow, DutyLine, Fault, Outcome, Query, Totals};
 use desk_subcommands::{Failure, Teller, tell, write_text};
-use std::alloc::{AllocError, Global};
+use std::alloc::Global;
 use std::io::Write;
 
 /// What a page is written of.
@@ -29,58 +32,95 @@ pub(crate) struct Contents {
     changes: Vec<Items<ChangeRow>>,
 }
 
-fn bill_of<D: Desk>(desk: &mut D, release: &Text) -> Result<Result<Bill, Answer>, Fault>
-    ensures found { IfOk result (λ asked. InHistory D.are_right (λ w h.
-        IsAsked answered.Bill w h (query.Bill release.now) asked) (D.seen desk.old)
-        (D.seen desk.new)) }
+// Asks a question.
+fn answer_of<D: Desk>(desk: &mut D, query: Query) -> Result<Answer, Fault>
+    ensures told { IfOk result (λ answer. InHistory D.are_right (λ w h.
+        answer ≡ queried w h query) (D.seen desk.old) (D.seen desk.new)) }
+    ensures kept { Looked (D.seen desk.old) (D.seen desk.new) result }
+{
+    desk.ask(&query)
+}
+
+fn bill_of<D: Desk>(desk: &mut D, release: &Text) -> Result<Answer, Fault>
+    ensures told { IfOk result (λ answer. InHistory D.are_right (λ w h.
+        answer ≡ queried w h (query.Bill release.now)) (D.seen desk.old) (D.seen desk.new)) }
     ensures kept { Looked (D.seen desk.old) (D.seen desk.new) result }
 {
     let release = release.clone()?;
-    match desk.ask(&Query::Bill { release })? {
-        Answer::Bill(bill) => Ok(Ok(bill)),
-        other => Ok(Err(other)),
-    }
+    answer_of(desk, Query::Bill { release })
 }
 
-fn totals_of<D: Desk>(desk: &mut D, release: &Text) -> Result<Result<Totals, Answer>, Fault>
-    ensures found { IfOk result (λ asked. InHistory D.are_right (λ w h.
-        IsAsked answered.Totals w h (query.Totals release.now) asked) (D.seen desk.old)
-        (D.seen desk.new)) }
+fn totals_of<D: Desk>(desk: &mut D, release: &Text) -> Result<Answer, Fault>
+    ensures told { IfOk result (λ answer. InHistory D.are_right (λ w h.
+        answer ≡ queried w h (query.Totals release.now)) (D.seen desk.old) (D.seen desk.new)) }
     ensures kept { Looked (D.seen desk.old) (D.seen desk.new) result }
 {
     let release = release.clone()?;
-    match desk.ask(&Query::Totals { release })? {
-        Answer::Totals(totals) => Ok(Ok(totals)),
-        other => Ok(Err(other)),
-    }
+    answer_of(desk, Query::Totals { release })
 }
 
-fn duties_of<D: Desk>(
-    desk: &mut D,
-    release: &Text,
-) -> Result<Result<Items<DutyLine>, Answer>, Fault>
-    ensures found { IfOk result (λ asked. InHistory D.are_right (λ w h.
-        IsAsked answered.Duties w h (query.Duties release.now) asked) (D.seen desk.old)
-        (D.seen desk.new)) }
+fn duties_of<D: Desk>(desk: &mut D, release: &Text) -> Result<Answer, Fault>
+    ensures told { IfOk result (λ answer. InHistory D.are_right (λ w h.
+        answer ≡ queried w h (query.Duties release.now)) (D.seen desk.old) (D.seen desk.new)) }
     ensures kept { Looked (D.seen desk.old) (D.seen desk.new) result }
 {
     let release = release.clone()?;
-    match desk.ask(&Query::Duties { release })? {
-        Answer::Duties(duties) => Ok(Ok(duties)),
-        other => Ok(Err(other)),
-    }
+    answer_of(desk, Query::Duties { release })
 }
 
-fn changes_of<D: Desk>(desk: &mut D, number: u32) -> Result<Result<Items<ChangeRow>, Answer>, Fault>
-    ensures found { IfOk result (λ asked. InHistory D.are_right (λ w h.
-        IsAsked answered.Changes w h (query.Changes number) asked) (D.seen desk.old)
-        (D.seen desk.new)) }
+fn changes_of<D: Desk>(desk: &mut D, number: u32) -> Result<Answer, Fault>
+    ensures told { IfOk result (λ answer. InHistory D.are_right (λ w h.
+        answer ≡ queried w h (query.Changes number)) (D.seen desk.old) (D.seen desk.new)) }
     ensures kept { Looked (D.seen desk.old) (D.seen desk.new) result }
 {
     let duty = u64::from(number);
-    match desk.ask(&Query::Changes { duty })? {
-        Answer::Changes(rows) => Ok(Ok(rows)),
-        other => Ok(Err(other)),
+    answer_of(desk, Query::Changes { duty })
+}
+
+fn bill_in(asked: Result<Answer, Fault>) -> Result<Bill, Outcome>
+    ensures { IsToldBy answered.Bill asked result }
+{
+    match asked {
+        Ok(Answer::Bill(bill)) => Ok(bill),
+        other => Err(Outcome::from(other)),
+    }
+}
+
+fn totals_in(asked: Result<Answer, Fault>) -> Result<Totals, Outcome>
+    ensures { IsToldBy answered.Totals asked result }
+{
+    match asked {
+        Ok(Answer::Totals(totals)) => Ok(totals),
+        other => Err(Outcome::from(other)),
+    }
+}
+
+fn duties_in(asked: Result<Answer, Fault>) -> Result<Items<DutyLine>, Outcome>
+    ensures { IsToldBy answered.Duties asked result }
+{
+    match asked {
+        Ok(Answer::Duties(duties)) => Ok(duties),
+        other => Err(Outcome::from(other)),
+    }
+}
+
+fn changes_in(asked: Result<Answer, Fault>) -> Result<Items<ChangeRow>, Outcome>
+    ensures { IsToldBy answered.Changes asked result }
+{
+    match asked {
+        Ok(Answer::Changes(rows)) => Ok(rows),
+        other => Err(Outcome::from(other)),
+    }
+}
+
+/// Adds the changes of a duty.
+fn add_rows(changes: &mut Vec<Items<ChangeRow>>, rows: Items<ChangeRow>) -> Result<(), Outcome>
+    ensures ok { OnOk result (changes.new.items ≡ changes.old.items ++ rows ∷ []) }
+    ensures memory { IfErr result (λ outcome. outcome ≡ Failed Memory) }
+{
+    match changes.push(rows) {
+        Ok(()) => Ok(()),
+        Err(_) => Err(Outcome::Failed(Fault::Memory)),
     }
 }
 
@@ -89,65 +129,94 @@ fn all_changes<D: Desk>(
     alloc: Global,
     desk: &mut D,
     duties: &[DutyLine],
-) -> Result<Result<Vec<Items<ChangeRow>>, Answer>, Fault>
-    ensures found { IfOk result (λ asked. InHistory D.are_right (λ w h.
-        AreChanges w h duties.now (changes_in asked)) (D.seen desk.old) (D.seen desk.new)) }
-    ensures kept { Looked (D.seen desk.old) (D.seen desk.new) result }
+) -> Result<Vec<Items<ChangeRow>>, Outcome>
+    ensures found { InHistory D.are_right (λ w h. AreChanges w h duties.now (rows_in result))
+        (D.seen desk.old) (D.seen desk.new) }
+    ensures kept { LookedUp (D.seen desk.old) (D.seen desk.new) result }
 {
     let mut changes = Vec::new(alloc);
     for duty in duties {
-        match changes_of(desk, duty.number)? {
-            Ok(rows) => changes.push(rows)?,
-            Err(other) => return Ok(Err(other)),
-        }
+        let rows = changes_in(changes_of(desk, duty.number))?;
+        add_rows(&mut changes, rows)?;
     }
-    Ok(Ok(changes))
+    Ok(changes)
 }
 
 /// Asks a desk for what a page on a release is written of.
-fn contents_of<D: Desk>(
-    alloc: Global,
-    desk: &mut D,
-    release: &Text,
-) -> Result<Result<Contents, Answer>, Fault>
-    ensures found { IfOk result
-        (λ asked. InHistory D.are_right (λ w h. Gathers w h release.now asked)
-        (D.seen desk.old) (D.seen desk.new)) }
-    ensures kept { Looked (D.seen desk.old) (D.seen desk.new) result }
+fn contents_of<D: Desk>(alloc: Global, desk: &mut D, release: &Text) -> Result<Contents, Outcome>
+    ensures found { InHistory D.are_right (λ w h. Gathers w h release.now result)
+        (D.seen desk.old) (D.seen desk.new) }
+    ensures kept { Kept (D.seen desk.old) (D.seen desk.new) }
 {
-    let bill = match bill_of(desk, release)? {
-        Ok(bill) => bill,
-        Err(other) => return Ok(Err(other)),
-    };
-    let totals = match totals_of(desk, release)? {
-        Ok(totals) => totals,
-        Err(other) => return Ok(Err(other)),
-    };
-    let duties = match duties_of(desk, release)? {
-        Ok(duties) => duties,
-        Err(other) => return Ok(Err(other)),
-    };
-    match all_changes(alloc, desk, duties.as_slice())? {
-        Ok(changes) => Ok(Ok(Contents {
-            bill,
-            totals,
-            duties,
-            changes,
-        })),
-        Err(other) => Ok(Err(other)),
-    }
+    let bill = bill_in(bill_of(desk, release))?;
+    let totals = totals_in(totals_of(desk, release))?;
+    let duties = duties_in(duties_of(desk, release))?;
+    let changes = all_changes(alloc, desk, duties.as_slice())?;
+    Ok(Contents {
+        bill,
+        totals,
+        duties,
+        changes,
+    })
 }
 
-fn page_of(alloc: Global, contents: &Contents) -> Result<String, AllocError>
-    ensures { IfOk result (λ text. string_bytes text ≡ contents_text contents.now) }
+/// Writes the page, and answers the program's status.
+fn write_contents<W: Write>(
+    alloc: Global,
+    contents: &Contents,
+    writer: &mut W,
+) -> Result<u8, Failure>
+    ensures told { IfOk result (λ status. (status ≡ 0)
+        × Appends (W.contents writer.old) (W.contents writer.new) (contents_text contents.now)) }
+    ensures fails { IfErr result IsOfOutput }
+    ensures memory { IfErr result
+        (IfMemory (Keeps (W.contents writer.old) (W.contents writer.new))) }
 {
-    desk_page::page(
+    let text = desk_page::page(
         alloc,
         &contents.bill,
         &contents.totals,
         contents.duties.as_slice(),
         contents.changes.as_slice(),
-    )
+    )?;
+    write_text(writer, text.as_bytes())?;
+    Ok(0)
+}
+
+/// The same, once for what was gathered.
+fn write_page<W: Write>(alloc: Global, contents: Contents, writer: &mut W) -> Result<u8, Failure>
+    ensures told { IfOk result (λ status. (status ≡ 0)
+        × Appends (W.contents writer.old) (W.contents writer.new) (contents_text contents)) }
+    ensures fails { IfErr result IsOfOutput }
+    ensures memory { IfErr result
+        (IfMemory (Keeps (W.contents writer.old) (W.contents writer.new))) }
+{
+    write_contents(alloc, &contents, writer)
+}
+
+/// Writes what a question came to in place of what a page is written of, and what it means.
+fn tell_instead<W: Write, E: Write>(
+    alloc: Global,
+    outcome: Outcome,
+    writer: &mut W,
+    teller: &mut Teller<E>,
+) -> Result<u8, Failure>
+    ensures done { IfOk result (λ status. (answer : Answered) × (outcome ≡ told.Answered answer)
+        × Appends (W.contents writer.old) (W.contents writer.new)
+        (outcome_line (told.Answered answer))
+        × (status ≡ answer_status answer)) }
+    ensures failed { IfErr result (OfRequest
+        (λ fault. (outcome ≡ Failed fault)
+        × Appends (W.contents writer.old) (W.contents writer.new) (outcome_line outcome))
+        (Unit {0})) }
+    ensures memory { IfErr result
+        (IfMemory (Keeps (W.contents writer.old) (W.contents writer.new))) }
+{
+    let status = tell(alloc, &outcome, writer);
+    if let Outcome::Answered(_) = &outcome {
+        teller.explain(&outcome);
+    }
+    status
 }
 
 /// Writes a page on a frozen release of a desk, as HTML: what it ships, its duties with their
@@ -173,17 +242,7 @@ pub fn page<D: Desk, W: Write, E: Write>(
         (IfMemory (Keeps (W.contents writer.old) (W.contents writer.new))) }
 {
     match contents_of(alloc, desk, release) {
-        Ok(Ok(contents)) => {
-            let text = page_of(alloc, &contents)?;
-            write_text(writer, text.as_bytes())?;
-            Ok(0)
-        }
-        Ok(Err(other)) => {
-            let outcome = Outcome::Answered(other);
-            let told = tell(alloc, &outcome, writer);
-            teller.explain(&outcome);
-            told
-        }
-        Err(fault) => tell(alloc, &Outcome::Failed(fault), writer),
+        Ok(contents) => write_page(alloc, contents, writer),
+        Err(outcome) => tell_instead(alloc, outcome, writer, teller),
     }
 }
