@@ -1,7 +1,7 @@
 -- One item more of a loop.
-use Rattle.std.proofs.Common.{◌≡◌, ℕ, ◌+◌, ◌<◌, List, [], ◌∷◌, ◌++◌, length, drop, get_or, Option, Some, None, sym, ap, ◌∙◌, add-one, drop-cons, append_assoc, suc}
-use Rattle.std.specs.List.{cons_option, filter_map}
-use Rattle.std.proofs.lemmas.List.{append-nil}
+use Rattle.std.proofs.Common.{◌≡◌, ℕ, ◌+◌, ◌<◌, List, [], ◌∷◌, ◌++◌, length, drop, take, get_or, Option, Some, None, sym, ap, ap₂, ◌∙◌, add-one, drop-cons, append_assoc, suc}
+use Rattle.std.specs.List.{cons_option, filter_map, flat_map}
+use Rattle.std.proofs.lemmas.List.{append-nil, flat_map_more, take_more}
 
 -- an item and those after it
 drop_item : {A : Type 0} (xs : List A) (i : ℕ) (x : A) → i < length xs → x ≡ get_or xs i x → drop i xs ≡ x ∷ drop (i + 1) xs
@@ -20,3 +20,9 @@ filter_map_step f xs i x old new all o lt is e grown sofar =
     ∙ (option_step old o rest
     ∙ (ap (λ o. old ++ cons_option o rest) e
     ∙ (ap (λ ys. old ++ filter_map f ys) (sym (drop_item xs i x lt is)) ∙ sofar)))
+
+-- pieces joined so far, with that of one item more
+pub joined_more : {A : Type 0} (f : A → List ℕ) (xs : List A) (i : ℕ) (x : A) (old new piece : List ℕ) → i < length xs → x ≡ get_or xs i x
+    → old ≡ flat_map f (take i xs) → piece ≡ f x → new ≡ old ++ piece → new ≡ flat_map f (take (i + 1) xs)
+joined_more f xs i x old new piece lt is sofar made grown =
+    grown ∙ ap₂ (λ a b. a ++ b) sofar (made ∙ ap f is) ∙ flat_map_more f [] (take i xs) (get_or xs i x) ∙ ap (flat_map f) (sym (take_more xs i x lt))

@@ -32,12 +32,13 @@ fn text_list(alloc: Global, texts: &[Text]) -> Result<Value, AllocError>
 fn choose_request(alloc: Global, release: &Text, choice: &SoleChoice) -> Result<Value, AllocError>
     ensures { IfOk result (λ v. view v ≡ choose_request release.now choice.now) }
 {
-    let terms = text_list(alloc, choice.terms.as_slice())?;
     let document = choice.document;
     let package = choice.package_id.as_str();
     let release = release.as_str();
+    let terms = choice.terms.as_slice();
     json!(in alloc; {
-        "do": "choose", "document": document, "package": package, "release": release, "terms": terms
+        "do": "choose", "document": document, "package": package, "release": release,
+        "terms": text_list(alloc, terms)?
     })
 }
 
