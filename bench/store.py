@@ -26,6 +26,8 @@ COMMANDS = 1_000
 QUESTIONS = 10_000
 # How many references of one document are adopted
 ADOPTIONS = (1_000, 10_000)
+# How many releases there are beside a conclusion
+RELEASES = (409, 4_096)
 
 
 class Desk:
@@ -90,6 +92,21 @@ def adopted(program, beside, room, count):
         desk.end()
         copied(kept, path)
         found.append((seconds, library(beside, "adopt", path, count)))
+    return [min(seconds) for seconds in zip(*found)]
+
+
+def concluded(program, room, count):
+    """The least seconds of a conclusion beside so many releases: where none holds a choice for its package, and where one does."""
+    found = []
+    for turn in range(RUNS):
+        desk = Desk(program, os.path.join(room, f"desk{turn}.db"))
+        seconds = {}
+        for name, requests in rows.releases(count):
+            seconds[name] = desk.step(name, requests) / count
+            if name == rows.UNDER_A_CHOICE:
+                break
+        desk.end()
+        found.append((seconds["conclude"], seconds[rows.UNDER_A_CHOICE]))
     return [min(seconds) for seconds in zip(*found)]
 
 
@@ -172,6 +189,10 @@ def main():
             with tempfile.TemporaryDirectory(dir="/dev/shm") as room:
                 desk, other = adopted(program, beside, room, count)
             print(f"shared memory, {count:,} adoptions of one document {1000 * desk:10.1f} ms, library {1000 * other:10.1f} ms, times {desk / other:.2f}")
+        for count in RELEASES:
+            with tempfile.TemporaryDirectory(dir="/dev/shm") as room:
+                free, held = concluded(program, room, count)
+            print(f"shared memory, {count:,} releases: a conclusion {1e6 * free:.0f} microseconds, one that a choice refuses {1e6 * held:.0f}")
         for where, top in (("shared memory", "/dev/shm"), ("the disk", os.path.abspath("build"))):
             for duties in (10_000, 100_000):
                 with tempfile.TemporaryDirectory(dir=top) as room:

@@ -41,7 +41,7 @@ refuted false never = refl
 same_number : (n : ℕ) → (n == n) ≡ true
 same_number n = grind (arith, nat_tests)
 
-in_filter : {A : Type 0} (test : A → Bool) (x : A) (xs : List A) → IsIn x (filter test xs) → IsIn x xs × (test x ≡ true)
+pub in_filter : {A : Type 0} (test : A → Bool) (x : A) (xs : List A) → IsIn x (filter test xs) → IsIn x xs × (test x ≡ true)
 in_filter test x [] is = absurd is
 in_filter test x (y ∷ ys) is = either (in_filter test x ys) (test y) refl is
   where
@@ -60,7 +60,7 @@ in_filtered test x (y ∷ ys) is passes = either (λ later. in_filtered test x y
     either rest false e (inl same) = absurd (contrary (test x) passes (subst (λ z. test z ≡ false) same e))
     either rest false e (inr later) = rest later
 
-in_put : {A : Type 0} (below : A → A → Bool) (x z : A) (ys : List A) → IsIn z (put below x ys) → (x ≡ z) ⊎ IsIn z ys
+pub in_put : {A : Type 0} (below : A → A → Bool) (x z : A) (ys : List A) → IsIn z (put below x ys) → (x ≡ z) ⊎ IsIn z ys
 in_put below x z [] (inl same) = inl same
 in_put below x z [] (inr later) = absurd later
 in_put below x z (y ∷ ys) is = either (in_put below x z ys) (below x y) is

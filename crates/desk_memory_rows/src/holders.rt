@@ -39,9 +39,9 @@ impl Keyed for Holder {
 
 /// The holders of a choice for a package.
 #[derive(Clone, Copy)]
-pub(crate) struct ByHeld<'a> {
-    pub(crate) document: u32,
-    pub(crate) id: &'a str,
+pub struct ByHeld<'a> {
+    pub document: u32,
+    pub id: &'a str,
 }
 
 impl Sought<Holder> for ByHeld<'_> {
@@ -104,7 +104,7 @@ fn holder_of(
 }
 
 /// The release holds a choice for the package no more.
-pub(crate) fn drop_choice(
+pub fn drop_choice(
     holders: &mut Blocks<Holder>,
     release: &Text,
     place: u32,
@@ -124,7 +124,7 @@ pub(crate) fn drop_choice(
 }
 
 /// The release holds a choice for the package, whether it held one before or not.
-pub(crate) fn note(
+pub fn note(
     holders: &mut Blocks<Holder>,
     release: &Text,
     place: u32,
@@ -150,7 +150,7 @@ pub(crate) fn note(
 }
 
 /// The release of some choices, at a place, holds none of them any more.
-pub(crate) fn drop_choices(holders: &mut Blocks<Holder>, place: u32, rows: &[ChoiceRow])
+pub fn drop_choices(holders: &mut Blocks<Holder>, place: u32, rows: &[ChoiceRow])
     ensures { rows_in holders.new.blocks.items
         ≡ letting_go place rows.now (rows_in holders.old.blocks.items) }
 {

@@ -7,6 +7,9 @@
 //! - `Office` has what the office concluded for packages and adopted for references, and `Choices`
 //!   what it chose. Beside the choices stand the releases that hold one, by package and place, so
 //!   that the first of them is found at once.
+//!
+//! A store in a database keeps such a list of holders too, so what a choice and a withdrawal do to
+//! it (`note`, `drop_choice`, `drop_choices`) is public.
 #![tactic(auto)]
 
 mod choices;
@@ -15,6 +18,6 @@ mod ledger;
 mod office;
 
 pub use choices::{ByPackage, Choices};
-pub use holders::Holder;
+pub use holders::{ByHeld, Holder, drop_choice, drop_choices, note};
 pub use ledger::Ledger;
 pub use office::{ByAdopting, ByConcluded, ByReference, Office};

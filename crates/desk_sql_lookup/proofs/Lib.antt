@@ -14,6 +14,7 @@ pub mod Streaming
 pub mod Loops
 pub mod DutyQueries
 pub mod ReleaseQueries
+pub mod ChoiceQueries
 pub mod DocumentQueries
 pub mod OfficeQueries
 pub mod TextQueries

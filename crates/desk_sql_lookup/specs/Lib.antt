@@ -1,5 +1,4 @@
 pub mod Causes
-pub mod Holders
 pub mod Rules
 pub mod Shown
 pub mod Standings

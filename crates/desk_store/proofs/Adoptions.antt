@@ -1,21 +1,16 @@
 -- How many references of a document are adopted, after a change.
-use Rattle.std.proofs.Common.{◌≡◌, ◌∙◌, ℕ, ◌+◌, Bool, true, false, cond, not, List, [], ◌∷◌, map, filter, length, find, Option, Some, None, refl, sym, ap, subst, arith, is_eq, true≢false, Less, Equal, Greater, Ordering}
+use Rattle.std.proofs.Common.{◌≡◌, ◌∙◌, ℕ, ◌+◌, Bool, true, false, cond, not, List, [], ◌∷◌, map, filter, length, find, Option, Some, None, refl, sym, ap, subst, arith, true≢false}
 use Rattle.std.specs.Prelude.{IfSome, IsTrue, ◌==◌, ◌&&◌, bytes_eq}
 use Rattle.std.specs.Option.{option_map}
 use Rattle.std.specs.List.{AllByRecursion, IsDistinct}
-use Rattle.std.specs.Ordering.{ordering_reverse}
 use Rattle.std.proofs.lemmas.Bool.{and_parts}
 use Rattle.std.proofs.lemmas.Bool.Decides.{nat_tests}
 use Rattle.std.proofs.lemmas.Slice.Eq.{bytes_eq-Decides}
-use Rattle.std.proofs.lemmas.Cmp.{tied_itself}
 use Rattle.std.proofs.lemmas.Map.Keys.{IsDistinct-IsPermutation}
 use Rattle.std.proofs.lemmas.List.Sorted.{IsPermutation-sym}
 use Rattle.sqlite_value.specs.declared.value.Value.TheVariants.{Text}
 use Rattle.sqlite_value.specs.Order.{Row, column}
-use Rattle.sqlite_trees.specs.Tree.{IsAscending}
 use Rattle.sqlite_trees.proofs.ListLemmas.{ascending-map}
-use Rattle.sqlite_sql.specs.Query.{key_cmp}
-use Rattle.sqlite_sql.proofs.QueryLemmas.{key_cmp_total}
 use Rattle.sqlite.specs.Effect.{Database}
 use Rattle.sqlite.specs.State.{State, HasCleanDisk}
 use Rattle.desk_model.specs.Lists.{put}
@@ -33,64 +28,36 @@ use Rattle.desk_sql_lookup.proofs.Keyed.{same_number, same_text}
 use Rattle.desk_sql_lookup.proofs.Selects.{by_unique, mine}
 use Rattle.desk_store.specs.Counting.{AreCounted}
 use Rattle.desk_store.specs.declared.counts.Adoptions.{Adoptions}
-use Rattle.desk_sql_lookup.proofs.Ties.{is_key, keys}
+use Rattle.desk_store.proofs.Distinct.{distinct_from, distinct_unmapped, tie, tie_flips, tied_alike}
+use Rattle.desk_sql_lookup.proofs.Ties.{is_key}
 
 -- ---- no two adoptions are at one key
 
 abbrev places : List ℕ
 places = 1 ∷ 2 ∷ []
 
--- two values of the key are the same
-abbrev tie : Row → Row → Bool
-tie k l = is_eq (key_cmp 0 (keys places) k l)
-
-is_eq-reverse : (o : Ordering) → is_eq (ordering_reverse o) ≡ is_eq o
-is_eq-reverse Less = refl
-is_eq-reverse Equal = refl
-is_eq-reverse Greater = refl
-
-tie_flips : (k l : Row) → tie k l ≡ tie l k
-tie_flips k l = ap is_eq ((key_cmp_total (keys places) 0).antisymm k l) ∙ is_eq-reverse (key_cmp 0 (keys places) l k)
-
 abbrev key_of_cells : Row → Row
 key_of_cells cs = column cs 0 ∷ column cs 1 ∷ []
 
 abbrev at_one_key : AdoptionRow → AdoptionRow → Bool
-at_one_key x y = tie (key_of_cells (adoption_cells x)) (key_of_cells (adoption_cells y))
-
-distinct_from : {X : Type 0} (e : X → X → Bool) (xs : List X) → IsAscending (λ a b. e a b ≡ false) xs → IsDistinct e xs
-unfolding IsDistinct
-distinct_from e [] up = tt
-distinct_from e (x ∷ xs) up = (up.0, distinct_from e xs up.1)
-
-distinct_unmapped : {X Y : Type 0} (e : Y → Y → Bool) (f : X → Y) (xs : List X) → IsDistinct e (map f xs) → IsDistinct (λ a b. e (f a) (f b)) xs
-unfolding IsDistinct
-distinct_unmapped e f [] are = tt
-distinct_unmapped {X} e f (x ∷ xs) are = (all xs are.0, distinct_unmapped e f xs are.1)
-  where
-    all : (ys : List X) → AllByRecursion (λ y. e (f x) y ≡ false) (map f ys) → AllByRecursion (λ y. e (f x) (f y) ≡ false) ys
-    all [] h = tt
-    all (y ∷ ys) h = (h.0, all ys h.1)
+at_one_key x y = tie places (key_of_cells (adoption_cells x)) (key_of_cells (adoption_cells y))
 
 apart : (t : Tables) (db : Database) → Holds t db → IsDistinct at_one_key t.adoption
 apart t db holds =
     let this = adoption_table in
     let stored = db.trees 12 in
-    let e : Row → Row → Bool = λ cs ds. tie (key_of_cells cs) (key_of_cells ds) in
+    let e : Row → Row → Bool = λ cs ds. tie places (key_of_cells cs) (key_of_cells ds) in
     let up = by_unique this.name 12 this.columns this.key this.primary this.uniques this.orders 7 refl adoption_cells (rows_of t) t.adoption refl db holds.rows 0 places refl refl (λ (cs : Row). is_key (column cs 0) && (is_key (column cs 1) && true)) (λ r. refl) (λ x. refl) in
     let shown = distinct_from e (map (cells this) stored) (ascending-map (λ cs ds. e cs ds ≡ false) (cells this) stored up) in
     let same = (mine this.name 12 this.columns this.key this.primary this.uniques this.orders 7 refl adoption_cells (rows_of t) t.adoption refl db holds.rows).same in
-    distinct_unmapped e adoption_cells t.adoption (IsDistinct-IsPermutation e (λ cs ds. tie_flips (key_of_cells cs) (key_of_cells ds)) (map (cells this) stored) (map adoption_cells t.adoption) (IsPermutation-sym _ _ same) shown)
+    distinct_unmapped e adoption_cells t.adoption (IsDistinct-IsPermutation e (λ cs ds. tie_flips places (key_of_cells cs) (key_of_cells ds)) (map (cells this) stored) (map adoption_cells t.adoption) (IsPermutation-sym _ _ same) shown)
 
 -- the rows at a reference of a document are at one key
 at_key : (d : ℕ) (r : List ℕ) (x : AdoptionRow) → is_adoption d r x ≡ true → key_of_cells (adoption_cells x) ≡ number d ∷ Text r ∷ []
 at_key d r x is = let both = and_parts (x.document == d) (bytes_eq x.reference r) is in rw (same_number x.document d both.0, same_text x.reference r both.1) refl
 
 tied : (d : ℕ) (r : List ℕ) (x y : AdoptionRow) → is_adoption d r x ≡ true → is_adoption d r y ≡ true → at_one_key x y ≡ true
-tied d r x y one two =
-    let key = number d ∷ Text r ∷ [] in
-    subst (λ k. tie k (key_of_cells (adoption_cells y)) ≡ true) (sym (at_key d r x one))
-    (subst (λ l. tie key l ≡ true) (sym (at_key d r y two)) (ap is_eq (tied_itself (key_cmp_total (keys places) 0) key)))
+tied d r x y one two = tied_alike places (key_of_cells (adoption_cells x)) (key_of_cells (adoption_cells y)) (at_key d r x one ∙ sym (at_key d r y two))
 
 -- ---- rows instead of those at their key
 

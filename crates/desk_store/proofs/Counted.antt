@@ -1,12 +1,11 @@
 -- What is seen of a store that keeps counts and tallies beside its tables.
-use Rattle.std.proofs.Common.{◌≡◌, ◌⊎◌, ◌∙◌, ℕ, List, sym, ap, refl, inl, inr, Ok, Err, Result, Option, Some, None, false}
+use Rattle.std.proofs.Common.{◌≡◌, ◌⊎◌, ◌∙◌, ℕ, List, sym, subst, ap, refl, inl, inr, Ok, Err, Result, Option, Some, None, false}
 use Rattle.std.specs.Prelude.{IsTrue, IfSome, IfNone}
 use Rattle.std.specs.Result.{IsErr}
 use Rattle.sqlite_trees.specs.Tree.{Trees}
 use Rattle.sqlite.specs.State.{State, HasCleanDisk}
 use Rattle.desk_model.specs.Keys.{release_below}
 use Rattle.desk_model.specs.Tables.{Tables, applied}
-use Rattle.desk_history.specs.FromTables.{adoption_count}
 use Rattle.desk_history.specs.Laws.{Ascends}
 use Rattle.desk_model.specs.declared.row.DutyRow.{DutyRow}
 use Rattle.desk_model.specs.declared.row.ReleaseRow.{ReleaseRow}
@@ -15,22 +14,27 @@ use Rattle.desk_store.specs.Adopting.{IsUncountable}
 use Rattle.desk_tally.specs.declared.tallies.Tallies.{Tallies}
 use Rattle.desk_model.specs.declared.command.Change.{Change}
 use Rattle.desk_model.specs.declared.command.Change.TheVariants as change
-use Rattle.desk_store.specs.Counting.{AreCounted, known_by, counts_after, forms_after, tallied}
-use Rattle.desk_store.specs.declared.counts.Adoptions.{Adoptions}
+use Rattle.desk_store.specs.Counting.{AreFound, known_by, counts_after, forms_after, tallied}
 use Rattle.desk_store.specs.declared.counts.Counts.{Counts}
+use Rattle.desk_store.specs.declared.found.Found.{Found}
 use Rattle.desk_model.specs.declared.command.Fault.{Fault}
+use Rattle.desk_access.specs.Follows.{Follows}
 use Rattle.desk_access.specs.Seen.{Seen, Outlasts, Kept, Same, Looked, OfRows, Made, Failed, Wrote}
 use Rattle.desk_access.proofs.Chains.{outlasts_then}
 use Rattle.desk_sql_layout.specs.Held.{Known, Stands, known_of, known_after, seen_of}
 use Rattle.desk_sql_layout.proofs.Counting.{known_kept}
 
 -- what is kept beside its rows says nothing of its disk
-beside : (had has : Option Adoptions) (n m : Tallies) (k l : Known) (a b : Seen Trees) → Outlasts a b → Outlasts (tallied had n k a) (tallied has m l b)
+beside : (had has : Found) (n m : Tallies) (k l : Known) (a b : Seen Trees) → Outlasts a b → Outlasts (tallied had n k a) (tallied has m l b)
 beside had has n m k l a b it = record { counts = it.counts; closes = it.closes }
+
+-- nothing that was found is so of any tables
+pub nothing_found : (has : Found) → has ≡ record { adoptions = None; holders = None } → (t : Tables) → AreFound has t
+nothing_found has none t = subst (λ (f : Found). AreFound f t) (sym none) (tt, tt)
 
 -- ---- look-ups
 
-module _ (had : Option Adoptions) (n : Tallies) (k : Known) where
+module _ (had : Found) (n : Tallies) (k : Known) where
   pub kept : (a b : Seen Trees) → Kept a b → Kept (tallied had n k a) (tallied had n k b)
   kept a b it = record {
     spared = record {
@@ -55,14 +59,14 @@ module _ (had : Option Adoptions) (n : Tallies) (k : Known) where
   pub of_counted : (Q P : Tables → Type 0) (a b : Seen Trees) → ((t : Tables) → known_of t ≡ k → Q t) → OfRows (λ t. Q t → P t) a b → OfRows P (tallied had n k a) (tallied had n k b)
   of_counted Q P a b right it = λ honest t holds. it honest t holds.2 (right t holds.0)
 
-  -- a count that was looked up is kept
-  pub counted : (found : Adoptions) (a b : Seen Trees) → Same a b → OfRows (λ t. found.count ≡ adoption_count t found.document) a b → Same (tallied had n k a) (tallied (Some found) n k b)
-  counted found a b it are = record {
+  -- what was looked up is kept
+  pub found : (has : Found) (a b : Seen Trees) → Same a b → OfRows (λ t. AreKept n t → AreFound had t → AreFound has t) a b → Same (tallied had n k a) (tallied has n k b)
+  found has a b it are = record {
     kept = record {
       spared = record {
         honest = it.kept.spared.honest;
-        holds = λ t holds. (holds.0, holds.1, it.kept.spared.holds t holds.2, λ honest. are honest t holds.2);
-        outlasts = beside had (Some found) n n k k a b it.kept.spared.outlasts;
+        holds = λ t holds. (holds.0, holds.1, it.kept.spared.holds t holds.2, λ honest. are honest t holds.2 holds.1 (holds.3 (it.kept.spared.honest honest)));
+        outlasts = beside had has n n k k a b it.kept.spared.outlasts;
       };
       leaves = λ honest is t holds x left. it.kept.leaves honest is t holds.2 x left;
     };
@@ -88,9 +92,9 @@ ascend : (s : State) (t : Tables) → HasCleanDisk s → IsTrue s.is_open → (s
 ascend s t clean is holds = (holds clean is).holds.orderly.sorted.releases
 
 -- after look-ups that were made for it, a change is written
-pub wrote : (c : Change) (had has : Option Adoptions) (counts after : Counts) (forms : List (List ℕ)) (n m : Tallies) (a b d : State) → after ≡ counts_after c counts → Same (seen_of a) (seen_of b) → Made Stands c (seen_of b) (seen_of d)
+pub wrote : (c : Change) (had has : Found) (counts after : Counts) (forms : List (List ℕ)) (n m : Tallies) (a b d : State) → after ≡ counts_after c counts → Same (seen_of a) (seen_of b) → Made Stands c (seen_of b) (seen_of d)
     → (HasCleanDisk d → (t : Tables) → (seen_of a).holds t → Ascends release_below (applied c t).releases → AreKept n t → AreKept m (applied c t))
-    → (HasCleanDisk d → (t : Tables) → (seen_of a).holds t → AreCounted had t → AreCounted has (applied c t))
+    → (HasCleanDisk d → (t : Tables) → (seen_of a).holds t → Ascends release_below (applied c t).releases → Follows c t → AreFound had t → AreFound has (applied c t))
     → Made Stands c (tallied had n (known_by counts forms) (seen_of a)) (tallied has m (known_by after (forms_after c forms)) (seen_of d))
 wrote c had has counts after forms n m a b d are still it leads more = record {
   honest = λ clean. still.kept.spared.honest (it.honest clean);
@@ -98,21 +102,22 @@ wrote c had has counts after forms n m a b d are still it leads more = record {
       (outlasts_then (seen_of a) (seen_of b) (seen_of d) it.honest still.kept.spared.outlasts it.outlasts);
   stays = it.stays;
   holds = λ clean t holds follows.
-      let shown = it.holds clean t (still.kept.spared.holds t holds.2) follows in (
+      let shown = it.holds clean t (still.kept.spared.holds t holds.2) follows in
+      let up = ascend d (applied c t) clean (it.stays clean) shown in (
         known_kept c t ∙ (ap (known_after c) holds.0 ∙ (known_is c counts forms ∙ ap (λ (n : Counts). known_by n (forms_after c forms)) (sym are))),
-        leads clean t holds.2 (ascend d (applied c t) clean (it.stays clean) shown) holds.1,
+        leads clean t holds.2 up holds.1,
         shown,
-        λ honest. more clean t holds.2 (holds.3 (still.kept.spared.honest (it.honest clean))),
+        λ honest. more clean t holds.2 up follows (holds.3 (still.kept.spared.honest (it.honest clean))),
       );
   leaves = λ clean t holds follows x left. it.leaves clean t (still.kept.spared.holds t holds.2) follows x left;
 }
 
-pub failed : (c : Change) (had : Option Adoptions) (k : Known) (n m : Tallies) (a b d : Seen Trees) → ((t : Tables) → AreKept n t → AreKept m t) → Same a b → Failed Stands c b d → Failed Stands c (tallied had n k a) (tallied had m k d)
-failed c had k n m a b d kept still it = record {
+pub failed : (c : Change) (had has : Found) (k : Known) (n m : Tallies) (a b d : Seen Trees) → ((t : Tables) → AreFound has t) → ((t : Tables) → AreKept n t → AreKept m t) → Same a b → Failed Stands c b d → Failed Stands c (tallied had n k a) (tallied has m k d)
+failed c had has k n m a b d none kept still it = record {
   spared = record {
     honest = λ honest. still.kept.spared.honest (it.spared.honest honest);
-    holds = λ t holds. (holds.0, kept t holds.1, it.spared.holds t (still.kept.spared.holds t holds.2), λ honest. holds.3 (still.kept.spared.honest (it.spared.honest honest)));
-    outlasts = beside had had n m k k a d (outlasts_then a b d it.spared.honest still.kept.spared.outlasts it.spared.outlasts);
+    holds = λ t holds. (holds.0, kept t holds.1, it.spared.holds t (still.kept.spared.holds t holds.2), λ honest. none t);
+    outlasts = beside had has n m k k a d (outlasts_then a b d it.spared.honest still.kept.spared.outlasts it.spared.outlasts);
   };
   leaves = λ honest is t holds follows x left.
       let before = it.spared.honest honest in
@@ -123,13 +128,13 @@ failed c had k n m a b d kept still it = record {
     either x f (inl p) = inl (f p)
     either x f (inr r) = inr r
 
--- nothing is written where a look-up failed, or there was no step
-pub left : (c : Change) (had : Option Adoptions) (k : Known) (n m : Tallies) (a b : Seen Trees) → ((t : Tables) → AreKept n t → AreKept m t) → Kept a b → Failed Stands c (tallied had n k a) (tallied had m k b)
-left c had k n m a b kept it = record {
+-- nothing is written where a look-up failed, or there was no step, and nothing that was found is kept
+pub left : (c : Change) (had has : Found) (k : Known) (n m : Tallies) (a b : Seen Trees) → ((t : Tables) → AreFound has t) → ((t : Tables) → AreKept n t → AreKept m t) → Kept a b → Failed Stands c (tallied had n k a) (tallied has m k b)
+left c had has k n m a b none kept it = record {
   spared = record {
     honest = it.spared.honest;
-    holds = λ t holds. (holds.0, kept t holds.1, it.spared.holds t holds.2, λ honest. holds.3 (it.spared.honest honest));
-    outlasts = beside had had n m k k a b it.spared.outlasts;
+    holds = λ t holds. (holds.0, kept t holds.1, it.spared.holds t holds.2, λ honest. none t);
+    outlasts = beside had has n m k k a b it.spared.outlasts;
   };
   leaves = λ honest is t holds follows x left. inl (it.leaves honest is t holds.2 x left);
 }

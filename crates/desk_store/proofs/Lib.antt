@@ -1,4 +1,6 @@
+mod Distinct
 mod Adoptions
+mod Holding
 mod Counted
 mod Bodies
 mod Audited

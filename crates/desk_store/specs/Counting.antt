@@ -1,5 +1,5 @@
 -- What the store keeps beside its tables: how many rows some of them have, the forms of the catalogue in force, the tallies of the
--- releases, and how many references of one document are adopted.
+-- releases, how many references of one document are adopted, and the releases that hold a choice.
 use Rattle.std.specs.Prelude.{◌≡◌, ℕ, ◌+◌, List, length, Option, Some, None}
 use Rattle.sqlite_trees.specs.Tree.{Trees}
 use Rattle.desk_model.specs.declared.command.Change.{Change}
@@ -12,6 +12,8 @@ use Rattle.desk_tally.specs.Kept.{AreKept}
 use Rattle.desk_tally.specs.declared.tallies.Tallies.{Tallies}
 use Rattle.desk_store.specs.declared.counts.Adoptions.{Adoptions}
 use Rattle.desk_store.specs.declared.counts.Counts.{Counts}
+use Rattle.desk_store.specs.declared.found.Found.{Found}
+use Rattle.desk_store.specs.Holding.{AreHeld}
 
 abbrev pub known_by : Counts → List (List ℕ) → Known
 known_by counts forms = record {
@@ -40,11 +42,15 @@ abbrev pub AreCounted : Option Adoptions → Tables → Type 0
 AreCounted None t = Unit {0}
 AreCounted (Some adoptions) t = adoptions.count ≡ adoption_count t adoptions.document
 
--- What is seen of a store that knows these of its rows, and has these tallies of them and this count of adoptions. The count was looked
--- up, so it is that of the rows as far as the disk is honest.
-abbrev pub tallied : Option Adoptions → Tallies → Known → Seen Trees → Seen Trees
-tallied adoptions tallies k s = record {
-  holds = λ t. (known_of t ≡ k) × AreKept tallies t × s.holds t × (s.is_honest → AreCounted adoptions t);
+-- what was found of the rows is so of these
+abbrev pub AreFound : Found → Tables → Type 0
+AreFound found t = AreCounted found.adoptions t × AreHeld found.holders t
+
+-- What is seen of a store that knows these of its rows, has these tallies of them, and found this. It was looked up, so it is so of the
+-- rows as far as the disk is honest.
+abbrev pub tallied : Found → Tallies → Known → Seen Trees → Seen Trees
+tallied found tallies k s = record {
+  holds = λ t. (known_of t ≡ k) × AreKept tallies t × s.holds t × (s.is_honest → AreFound found t);
   is_honest = s.is_honest;
   is_open = s.is_open;
   faults = s.faults;

@@ -2,8 +2,9 @@
 //!
 //! `SqlStore` is a store of rows over a connection: it looks them up by `desk_sql_lookup`, writes a
 //! change by `desk_sql_write`, and keeps in its own value how many rows some tables have, the forms
-//! of the catalogue in force, the tallies of the releases and how many references of one document
-//! are adopted (`specs/Counting.antt`).
+//! of the catalogue in force and the tallies of the releases (`specs/Counting.antt`). What look-ups
+//! ask for again is kept once it was found: how many references of one document are adopted, and
+//! the releases that hold a choice (`Found`, `specs/Holding.antt`).
 //!
 //! `SqlDesk` is the desk over such a store, with the reader of texts by their standards. `create`
 //! makes the tables of an empty desk in a database where nothing stands; `adopt_connection` takes a
@@ -20,6 +21,8 @@ mod audit;
 mod counts;
 mod desk;
 mod fault;
+mod found;
+mod holders;
 mod looking;
 mod migrate;
 mod store;

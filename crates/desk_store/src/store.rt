@@ -14,11 +14,13 @@ ghost use Rattle.desk_model.specs.Keys.{release_below};
 ghost use Rattle.desk_tally.specs.Kept.{AreKept, Fits, IsPlaceFor, LeadsTo};
 ghost use Rattle.desk_snapshot.specs.Tables.{snapshot_of};
 ghost use Rattle.desk_store.specs.Auditing.{IsAudit};
-ghost use Rattle.desk_store.specs.Counting.{AreCounted, forms_after, known_by, tallied};
+ghost use Rattle.desk_store.specs.Counting.{forms_after, known_by, tallied};
 ghost use Rattle.desk_texts.specs.Right.{AreRight};
 
 use crate::audit::audit_connection;
 use crate::counts::{Adoptions, Counts, counts_after};
+use crate::found::{Found, found_after};
+use crate::holders::{read_holders, release_place};
 use desk_access::store::Store;
 use desk_base::{Day, Items, Text};
 use desk_model::{
@@ -31,8 +33,7 @@ use sqlite::{Alter, Connection};
 use std::alloc::Global;
 
 /// Rows in a database, with how many there are of some, the forms of the catalogue in force, the
-/// tallies of the releases, and the count of adoptions of the document whose count was asked for
-/// last, if one was.
+/// tallies of the releases, and what was found of them that look-ups ask for again.
 #[derive(Drop)]
 pub struct SqlStore<S: Alter> {
     alloc: Global,
@@ -40,7 +41,7 @@ pub struct SqlStore<S: Alter> {
     counts: Counts,
     forms: Items<Text>,
     tallies: Tallies,
-    adoptions: Option<Adoptions>,
+    found: Found,
     ghost idle: { conn.in_transaction ≡ false },
 }
 
@@ -67,7 +68,7 @@ impl<S: Alter> SqlStore<S> {
             counts,
             forms,
             tallies,
-            adoptions: None,
+            found: Found::nothing(),
         }
     }
 
@@ -87,7 +88,7 @@ impl<S: Alter> SqlStore<S> {
             counts: _,
             forms: _,
             tallies: _,
-            adoptions: _,
+            found: _,
         } = self;
         conn
     }
@@ -126,7 +127,7 @@ impl<S: Alter> SqlStore<S> {
         ensures conn { self.new.conn ≡ self.old.conn }
         ensures counts { self.new.counts ≡ self.old.counts }
         ensures tallies { self.new.tallies ≡ self.old.tallies }
-        ensures adoptions { self.new.adoptions ≡ self.old.adoptions }
+        ensures found { self.new.found ≡ self.old.found }
     {
         match forms_of(change) {
             Some(forms) => self.forms = forms,
@@ -150,40 +151,7 @@ fn place_for<S: Alter>(
     let Change::Froze { release, .. } = change else {
         return Ok(None);
     };
-    match desk_sql_lookup::release(alloc, conn, release.as_str())? {
-        Some(row) => Ok(Some(row.place)),
-        None => Ok(None),
-    }
-}
-
-/// The count of adoptions after a change: one more where a reference of its document is adopted
-/// that wasn't adopted before.
-fn adoptions_after<S: Alter>(
-    alloc: Global,
-    conn: &mut Connection<S>,
-    change: &Change,
-    adoptions: Option<Adoptions>,
-) -> Result<Option<Adoptions>, Fault>
-    ensures counted { IfOk result (λ after. OfRows (λ t.
-        AreCounted adoptions t → AreCounted after (applied change.now t))
-        (seen_of (state S.Store conn.old)) (seen_of (state S.Store conn.new))) }
-    ensures kept { Looked (seen_of (state S.Store conn.old)) (seen_of (state S.Store conn.new))
-        result }
-    ensures mode { conn.old.in_transaction ≡ false → conn.new.in_transaction ≡ false }
-{
-    let Some(counted) = adoptions else {
-        return Ok(None);
-    };
-    let Change::Adopted(row) = change else {
-        return Ok(adoptions);
-    };
-    if row.document != counted.document {
-        return Ok(adoptions);
-    }
-    match desk_sql_lookup::adoption(alloc, conn, row.document, row.reference.as_str())? {
-        Some(_) => Ok(adoptions),
-        None => Ok(counted.with_one_more()),
-    }
+    release_place(alloc, conn, release.as_str())
 }
 
 impl<S: Alter> SqlStore<S> {
@@ -199,7 +167,7 @@ impl<S: Alter> SqlStore<S> {
         ensures tallies { (t : Tables) → AreKept self.old.tallies t → AreKept self.new.tallies t }
         ensures counts { self.new.counts ≡ self.old.counts }
         ensures forms { self.new.forms ≡ self.old.forms }
-        ensures adoptions { self.new.adoptions ≡ self.old.adoptions }
+        ensures found { self.new.found ≡ self.old.found }
     {
         let place = place_for(self.alloc, &mut self.conn, change)?;
         match self.tallies.plan(change, place)? {
@@ -234,7 +202,7 @@ impl<S: Alter> Store for SqlStore<S> {
 
     ghost stands = { Stands };
 
-    ghost seen = { λ s. tallied s.adoptions s.tallies (known_by s.counts s.forms)
+    ghost seen = { λ s. tallied s.found s.tallies (known_by s.counts s.forms)
         (seen_of (state S.Store s.conn)) };
 
     ghost tells = { λ fault. Unit {0} };
@@ -333,7 +301,15 @@ impl<S: Alter> Store for SqlStore<S> {
     }
 
     fn holder(&mut self, document: u32, id: &str) -> Result<Option<Text>, Fault> {
-        desk_sql_lookup::holder(self.alloc, &mut self.conn, document, id)
+        if let Some(holders) = &self.found.holders {
+            return Ok(holders.first(document, id)?);
+        }
+        let Some(holders) = read_holders(self.alloc, &mut self.conn)? else {
+            return Err(Fault::Store(StoreFault::Rows));
+        };
+        let release = holders.first(document, id)?;
+        self.found.holders = Some(holders);
+        Ok(release)
     }
 
     fn adoption(&mut self, document: u32, reference: &str) -> Result<Option<Text>, Fault> {
@@ -341,13 +317,13 @@ impl<S: Alter> Store for SqlStore<S> {
     }
 
     fn adoption_count(&mut self, document: u32) -> Result<u64, Fault> {
-        if let Some(adoptions) = self.adoptions
+        if let Some(adoptions) = self.found.adoptions
             && adoptions.document == document
         {
             return Ok(adoptions.count);
         }
         let count = desk_sql_lookup::adoption_count(&mut self.conn, document)?;
-        self.adoptions = Some(Adoptions { document, count });
+        self.found.adoptions = Some(Adoptions { document, count });
         Ok(count)
     }
 
@@ -394,12 +370,13 @@ impl<S: Alter> Store for SqlStore<S> {
         let Some(counts) = counts_after(&change, self.counts) else {
             return Err(Fault::Store(StoreFault::Rows));
         };
-        let adoptions = adoptions_after(self.alloc, &mut self.conn, &change, self.adoptions)?;
+        let known = self.found.take();
+        let found = found_after(self.alloc, &mut self.conn, &change, known)?;
         let step = self.plan(&change)?;
         match desk_sql_write::commit(self.alloc, &mut self.conn, &change) {
             Ok(()) => {
                 self.counts = counts;
-                self.adoptions = adoptions;
+                self.found = found;
                 self.tallies.take(step);
                 self.take_forms(change);
                 Ok(())

@@ -13,5 +13,5 @@ returns-clause-found g c =
     let before = c.args.self.now.desk.store in
     let after = c.idle_documents.new.store in
     found_by_all {Left = Trees} AreRight (λ numbers t. numbers.items ≡ idle_found t c.args.release.now)
-    (tallied before.adoptions before.tallies (known_by before.counts before.forms) (seen_of (state g.S.Store before.conn)))
-    (tallied after.adoptions after.tallies (known_by after.counts after.forms) (seen_of (state g.S.Store after.conn))) c.idle_documents.result c.idle_documents.ensures.found
+    (tallied before.found before.tallies (known_by before.counts before.forms) (seen_of (state g.S.Store before.conn)))
+    (tallied after.found after.tallies (known_by after.counts after.forms) (seen_of (state g.S.Store after.conn))) c.idle_documents.result c.idle_documents.ensures.found

@@ -5,7 +5,7 @@ use Rattle.desk_store.proofs.Counted.{looked}
 use Rattle.desk_store.proofs.store.SqlStore.snapshot.Goals as goal
 
 pub returns-clause-kept : goal.returns-clause-kept
-returns-clause-kept g c = looked c.args.self.now.adoptions c.args.self.now.tallies _ _ _ _ (spared.looked _ _ _ c.snapshot.ensures.read)
+returns-clause-kept g c = looked c.args.self.now.found c.args.self.now.tallies _ _ _ _ (spared.looked _ _ _ c.snapshot.ensures.read)
 
 pub returns-clause-found : goal.returns-clause-found
 returns-clause-found g c =

@@ -8,10 +8,10 @@ use Rattle.desk_store.proofs.Counted.{looked, of_counted}
 use Rattle.desk_store.proofs.store.SqlStoreStore.ended.Goals as goal
 
 pub returns-clause-kept : goal.returns-clause-kept
-returns-clause-kept g c = looked c.args.self.now.adoptions c.args.self.now.tallies _ _ _ _ c.ended.ensures.kept
+returns-clause-kept g c = looked c.args.self.now.found c.args.self.now.tallies _ _ _ _ c.ended.ensures.kept
 
 pub returns-clause-found : goal.returns-clause-found
 returns-clause-found g c =
     IfOk-weaker c.ended.result _ _
-    (λ found it. of_counted c.args.self.now.adoptions c.args.self.now.tallies (known_by c.args.self.now.counts c.args.self.now.forms) (λ t. length t.duty ≡ c.args.self.now.counts.duties) (λ t. found.items ≡ ended_found t c.args.day) (seen_of (state g.S.Store c.args.self.now.conn)) (seen_of (state g.S.Store c.ended.new.conn)) (λ t same. ap (λ k. k.duties) same) it)
+    (λ found it. of_counted c.args.self.now.found c.args.self.now.tallies (known_by c.args.self.now.counts c.args.self.now.forms) (λ t. length t.duty ≡ c.args.self.now.counts.duties) (λ t. found.items ≡ ended_found t c.args.day) (seen_of (state g.S.Store c.args.self.now.conn)) (seen_of (state g.S.Store c.ended.new.conn)) (λ t same. ap (λ k. k.duties) same) it)
     c.ended.ensures.found

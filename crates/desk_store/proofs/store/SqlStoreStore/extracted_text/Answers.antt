@@ -2,4 +2,4 @@ use Rattle.desk_store.proofs.Counted.{looked}
 use Rattle.desk_store.proofs.store.SqlStoreStore.extracted_text.Goals as goal
 
 pub returns-clause-kept : goal.returns-clause-kept
-returns-clause-kept g c = looked c.args.self.now.adoptions c.args.self.now.tallies _ _ _ _ c.extracted_text.ensures.kept
+returns-clause-kept g c = looked c.args.self.now.found c.args.self.now.tallies _ _ _ _ c.extracted_text.ensures.kept

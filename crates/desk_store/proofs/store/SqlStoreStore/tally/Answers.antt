@@ -16,17 +16,17 @@ returns-in_err-row-clause-kept g c =
     let self = c.args.self.now in
     let old = seen_of (state g.S.Store self.conn) in
     let new = seen_of (state g.S.Store c.release.new.conn) in
-    looked self.adoptions self.tallies (known_by self.counts self.forms) old new c.from_residual.result (looked_err old new c.from_residual.result c.from_residual.ensures.0 c.in_err-row.ensures.kept)
+    looked self.found self.tallies (known_by self.counts self.forms) old new c.from_residual.result (looked_err old new c.from_residual.result c.from_residual.ensures.0 c.in_err-row.ensures.kept)
 
 pub returns-in-Some-clause-kept : goal.returns-in-Some-clause-kept
 returns-in-Some-clause-kept g c =
     let self = c.args.self.now in
-    same self.adoptions self.tallies (known_by self.counts self.forms) (seen_of (state g.S.Store self.conn)) (seen_of (state g.S.Store c.release.new.conn)) c.in_ok-row.ensures.kept
+    same self.found self.tallies (known_by self.counts self.forms) (seen_of (state g.S.Store self.conn)) (seen_of (state g.S.Store c.release.new.conn)) c.in_ok-row.ensures.kept
 
 pub returns-in-None-clause-kept : goal.returns-in-None-clause-kept
 returns-in-None-clause-kept g c =
     let self = c.args.self.now in
-    same self.adoptions self.tallies (known_by self.counts self.forms) (seen_of (state g.S.Store self.conn)) (seen_of (state g.S.Store c.release.new.conn)) c.in_ok-row.ensures.kept
+    same self.found self.tallies (known_by self.counts self.forms) (seen_of (state g.S.Store self.conn)) (seen_of (state g.S.Store c.release.new.conn)) c.in_ok-row.ensures.kept
 
 pub returns-in-Some-clause-found : goal.returns-in-Some-clause-found
 returns-in-Some-clause-found g c = λ h t held.

@@ -1,8 +1,8 @@
 use Rattle.sqlite.specs.Held.{state}
 use Rattle.desk_store.specs.Counting.{AreCounted}
 use Rattle.desk_store.proofs.Adoptions.{counted_again, counted_elsewhere, counted_first}
-use Rattle.desk_store.proofs.store.adoptions_after.Goals as goal
-use Rattle.desk_store.proofs.store.adoptions_after.Goals.{in-Some-2, in-None}
+use Rattle.desk_store.proofs.found.adoptions_after.Goals as goal
+use Rattle.desk_store.proofs.found.adoptions_after.Goals.{in-Some-2, in-None}
 
 pub returns-then-row-counted-clause-counted : goal.returns-then-row-counted-clause-counted
 returns-then-row-counted-clause-counted g c = λ clean t held are.

@@ -1,0 +1,124 @@
+//! What a store found of its rows, and keeps beside them.
+
+ghost use Rattle.std.specs.Prelude.{◌≡◌, false, IfOk, None};
+ghost use Rattle.sqlite.specs.Held.{state};
+ghost use Rattle.desk_access.specs.Follows.{Follows};
+ghost use Rattle.desk_access.specs.Seen.{Looked, OfRows};
+ghost use Rattle.desk_history.specs.Laws.{Ascends};
+ghost use Rattle.desk_model.specs.Keys.{release_below};
+ghost use Rattle.desk_model.specs.Tables.{applied};
+ghost use Rattle.desk_sql_layout.specs.Held.{seen_of};
+ghost use Rattle.desk_store.specs.Counting.{AreCounted, AreFound};
+ghost use Rattle.desk_store.specs.Holding.{AreHeld};
+
+use crate::counts::Adoptions;
+use crate::holders::{Holders, change_holders};
+use desk_model::{Change, Fault};
+use sqlite::{Alter, Connection};
+use std::alloc::Global;
+
+/// The count of adoptions of the document whose count was asked for last, if one was, and the
+/// releases that hold a choice, if one was asked for.
+#[derive(Drop)]
+pub(crate) struct Found {
+    pub(crate) adoptions: Option<Adoptions>,
+    pub(crate) holders: Option<Holders>,
+}
+
+impl Found {
+    pub(crate) fn nothing() -> Found
+        ensures { result ≡ record { adoptions = None; holders = None } }
+    {
+        Found {
+            adoptions: None,
+            holders: None,
+        }
+    }
+
+    /// Hands out what was found, and leaves nothing of it.
+    pub(crate) fn take(&mut self) -> Found
+        ensures taken { result ≡ self.old }
+        ensures left { self.new ≡ record { adoptions = None; holders = None } }
+    {
+        Found {
+            adoptions: self.adoptions.take(),
+            holders: self.holders.take(),
+        }
+    }
+}
+
+/// The count of adoptions after a change: one more where a reference of its document is adopted
+/// that wasn't adopted before.
+fn adoptions_after<S: Alter>(
+    alloc: Global,
+    conn: &mut Connection<S>,
+    change: &Change,
+    adoptions: Option<Adoptions>,
+) -> Result<Option<Adoptions>, Fault>
+    ensures counted { IfOk result (λ after. OfRows (λ t.
+        AreCounted adoptions t → AreCounted after (applied change.now t))
+        (seen_of (state S.Store conn.old)) (seen_of (state S.Store conn.new))) }
+    ensures kept { Looked (seen_of (state S.Store conn.old)) (seen_of (state S.Store conn.new))
+        result }
+    ensures mode { conn.old.in_transaction ≡ false → conn.new.in_transaction ≡ false }
+{
+    let Some(counted) = adoptions else {
+        return Ok(None);
+    };
+    let Change::Adopted(row) = change else {
+        return Ok(adoptions);
+    };
+    if row.document != counted.document {
+        return Ok(adoptions);
+    }
+    match desk_sql_lookup::adoption(alloc, conn, row.document, row.reference.as_str())? {
+        Some(_) => Ok(adoptions),
+        None => Ok(counted.with_one_more()),
+    }
+}
+
+/// The holders after a change.
+fn holders_after<S: Alter>(
+    alloc: Global,
+    conn: &mut Connection<S>,
+    change: &Change,
+    holders: Option<Holders>,
+) -> Result<Option<Holders>, Fault>
+    ensures held { IfOk result (λ after. OfRows (λ t.
+        Ascends release_below (applied change.now t).releases → Follows change.now t
+        → AreHeld holders t → AreHeld after (applied change.now t))
+        (seen_of (state S.Store conn.old)) (seen_of (state S.Store conn.new))) }
+    ensures kept { Looked (seen_of (state S.Store conn.old)) (seen_of (state S.Store conn.new))
+        result }
+    ensures mode { conn.old.in_transaction ≡ false → conn.new.in_transaction ≡ false }
+{
+    let Some(mut held) = holders else {
+        return Ok(None);
+    };
+    change_holders(alloc, conn, &mut held, change)?;
+    Ok(Some(held))
+}
+
+/// What is kept after a change that is to be written.
+pub(crate) fn found_after<S: Alter>(
+    alloc: Global,
+    conn: &mut Connection<S>,
+    change: &Change,
+    found: Found,
+) -> Result<Found, Fault>
+    ensures found { IfOk result (λ after. OfRows (λ t.
+        Ascends release_below (applied change.now t).releases → Follows change.now t
+        → AreFound found t → AreFound after (applied change.now t))
+        (seen_of (state S.Store conn.old)) (seen_of (state S.Store conn.new))) }
+    ensures kept { Looked (seen_of (state S.Store conn.old)) (seen_of (state S.Store conn.new))
+        result }
+    ensures mode { conn.old.in_transaction ≡ false → conn.new.in_transaction ≡ false }
+{
+    let Found { adoptions, holders } = found;
+    let counted = adoptions_after(alloc, conn, change, adoptions)?;
+    let held = holders_after(alloc, conn, change, holders)?;
+    Ok(Found {
+        adoptions: counted,
+        holders: held,
+    })
+}

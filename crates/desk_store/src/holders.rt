@@ -1,0 +1,218 @@
+//! The releases that hold a choice for a package, kept beside the rows.
+
+ghost use Rattle.std.specs.Prelude.{◌≡◌, true, false, filter, IfOk, IfNone, IfSome, OnOk, None, Some};
+ghost use Rattle.sqlite.specs.Held.{state};
+ghost use Rattle.desk_access.specs.Seen.{Looked, OfRows};
+ghost use Rattle.desk_history.specs.FromTables.{holder_found};
+ghost use Rattle.desk_model.specs.Keys.{below_by, is_choice_in};
+ghost use Rattle.desk_model.specs.Lists.{ascends};
+ghost use Rattle.desk_model.specs.Tables.{Tables};
+ghost use Rattle.desk_sql_layout.specs.Held.{seen_of};
+ghost use Rattle.desk_tally.specs.Kept.{ArePlaces, place_found};
+ghost use Rattle.desk_memory_rows.specs.Holders.{AreHolders, choosing, holders_after, leaving};
+ghost use Rattle.desk_sorted.specs.Orders.{release_order};
+ghost use Rattle.desk_store.specs.Holding.{AreHoldersOf, IsPlace, have_releases, held_by};
+
+use desk_base::Text;
+use desk_memory_rows::{ByHeld, Holder, drop_choice, drop_choices, note};
+use desk_model::{Change, ChoiceRow, Fault, ReleaseRow};
+use desk_sorted::Blocks;
+use sqlite::{Alter, Connection};
+use std::alloc::{AllocError, Global};
+
+/// The releases that hold a choice, by package and place.
+#[derive(Drop)]
+pub(crate) struct Holders {
+    rows: Blocks<Holder>,
+}
+
+/// The place of the release with a name, found by halving.
+fn place_of(releases: &[ReleaseRow], name: &str) -> Option<u32>
+    ensures found { IfSome result (IsPlace releases.now name.now) }
+    ensures none { IfNone result (ascends (below_by release_order) releases.now ≡ true
+        → place_found releases.now name.now ≡ None) }
+{
+    match releases.binary_search_by(|row| row.name.as_str().cmp(name)) {
+        Ok(at) => Some(releases[at].place),
+        Err(_) => None,
+    }
+}
+
+impl Holders {
+    /// Those of the rows of releases and choices, if each choice is of one of the releases.
+    fn of(
+        alloc: Global,
+        releases: &[ReleaseRow],
+        choices: &[ChoiceRow],
+    ) -> Result<Option<Holders>, Fault>
+        ensures held { IfOk result (λ found. IfSome found (λ holders.
+            AreHoldersOf releases.now choices.now (held_by holders))) }
+        ensures none { IfOk result (λ found. IfNone found
+            (ascends (below_by release_order) releases.now ≡ true
+            → have_releases releases.now choices.now ≡ false)) }
+    {
+        let mut rows = Blocks::new(alloc);
+        for row in choices {
+            let Some(place) = place_of(releases, row.release.as_str()) else {
+                return Ok(None);
+            };
+            note(
+                &mut rows,
+                &row.release,
+                place,
+                row.document,
+                &row.package_id,
+            )?;
+        }
+        Ok(Some(Holders { rows }))
+    }
+
+    /// The first opened release that holds a choice for a package.
+    pub(crate) fn first(&self, document: u32, id: &str) -> Result<Option<Text>, AllocError>
+        ensures { IfOk result (λ name. (t : Tables) → ArePlaces t.releases
+            → AreHolders (held_by self.now) t → name ≡ holder_found t document id.now) }
+    {
+        match self.rows.find(&ByHeld { document, id }) {
+            Some(holder) => Ok(Some(holder.release.clone()?)),
+            None => Ok(None),
+        }
+    }
+
+    /// After a choice for a package in the release at a place.
+    fn choose(
+        &mut self,
+        release: &Text,
+        place: u32,
+        document: u32,
+        package_id: &Text,
+        rows: &[ChoiceRow],
+    ) -> Result<(), Fault>
+        ensures { OnOk result (held_by self.new ≡ choosing release.now (Some place) document
+            package_id.now rows.now (held_by self.old)) }
+    {
+        if rows.is_empty() {
+            drop_choice(&mut self.rows, release, place, document, package_id);
+            return Ok(());
+        }
+        note(&mut self.rows, release, place, document, package_id)
+    }
+}
+
+/// The holders of the rows of a database, if each choice is of a release.
+pub(crate) fn read_holders<S: Alter>(
+    alloc: Global,
+    conn: &mut Connection<S>,
+) -> Result<Option<Holders>, Fault>
+    ensures held { IfOk result (λ found. IfSome found (λ holders.
+        OfRows (AreHolders (held_by holders)) (seen_of (state S.Store conn.old))
+        (seen_of (state S.Store conn.new)))) }
+    ensures none { IfOk result (λ found. IfNone found
+        (OfRows (λ t. have_releases t.releases t.choice ≡ false) (seen_of (state S.Store conn.old))
+        (seen_of (state S.Store conn.new)))) }
+    ensures kept { Looked (seen_of (state S.Store conn.old)) (seen_of (state S.Store conn.new))
+        result }
+    ensures mode { conn.old.in_transaction ≡ false → conn.new.in_transaction ≡ false }
+{
+    let releases = desk_sql_lookup::release_rows(alloc, conn)?;
+    let choices = desk_sql_lookup::choices(alloc, conn)?;
+    Holders::of(alloc, releases.as_slice(), choices.as_slice())
+}
+
+/// The place of the release with a name, if there is one.
+pub(crate) fn release_place<S: Alter>(
+    alloc: Global,
+    conn: &mut Connection<S>,
+    name: &str,
+) -> Result<Option<u32>, Fault>
+    ensures found { IfOk result (λ place. OfRows (λ t. place ≡ place_found t.releases name.now)
+        (seen_of (state S.Store conn.old)) (seen_of (state S.Store conn.new))) }
+    ensures kept { Looked (seen_of (state S.Store conn.old)) (seen_of (state S.Store conn.new))
+        result }
+    ensures mode { conn.old.in_transaction ≡ false → conn.new.in_transaction ≡ false }
+{
+    match desk_sql_lookup::release(alloc, conn, name)? {
+        Some(row) => Ok(Some(row.place)),
+        None => Ok(None),
+    }
+}
+
+/// After a choice for a package in a release.
+fn choose<S: Alter>(
+    alloc: Global,
+    conn: &mut Connection<S>,
+    holders: &mut Holders,
+    release: &Text,
+    document: u32,
+    package_id: &Text,
+    rows: &[ChoiceRow],
+) -> Result<(), Fault>
+    ensures held { OnOk result (OfRows (λ t. held_by holders.new ≡ choosing release.now
+        (place_found t.releases release.now) document package_id.now rows.now
+        (held_by holders.old)) (seen_of (state S.Store conn.old))
+        (seen_of (state S.Store conn.new))) }
+    ensures kept { Looked (seen_of (state S.Store conn.old)) (seen_of (state S.Store conn.new))
+        result }
+    ensures mode { conn.old.in_transaction ≡ false → conn.new.in_transaction ≡ false }
+{
+    match release_place(alloc, conn, release.as_str())? {
+        Some(place) => holders.choose(release, place, document, package_id, rows),
+        None => Ok(()),
+    }
+}
+
+/// After a release is withdrawn, which holds none of its choices any more.
+fn withdraw<S: Alter>(
+    alloc: Global,
+    conn: &mut Connection<S>,
+    holders: &mut Holders,
+    release: &Text,
+) -> Result<(), Fault>
+    ensures held { OnOk result (OfRows (λ t. held_by holders.new ≡ leaving
+        (place_found t.releases release.now) (filter (is_choice_in release.now) t.choice)
+        (held_by holders.old)) (seen_of (state S.Store conn.old))
+        (seen_of (state S.Store conn.new))) }
+    ensures kept { Looked (seen_of (state S.Store conn.old)) (seen_of (state S.Store conn.new))
+        result }
+    ensures mode { conn.old.in_transaction ≡ false → conn.new.in_transaction ≡ false }
+{
+    let Some(place) = release_place(alloc, conn, release.as_str())? else {
+        return Ok(());
+    };
+    let choices = desk_sql_lookup::choices_in(alloc, conn, release.as_str())?;
+    drop_choices(&mut holders.rows, place, choices.as_slice());
+    Ok(())
+}
+
+/// After a change that is to be written.
+pub(crate) fn change_holders<S: Alter>(
+    alloc: Global,
+    conn: &mut Connection<S>,
+    holders: &mut Holders,
+    change: &Change,
+) -> Result<(), Fault>
+    ensures held { OnOk result (OfRows (λ t. held_by holders.new
+        ≡ holders_after change.now t (held_by holders.old)) (seen_of (state S.Store conn.old))
+        (seen_of (state S.Store conn.new))) }
+    ensures kept { Looked (seen_of (state S.Store conn.old)) (seen_of (state S.Store conn.new))
+        result }
+    ensures mode { conn.old.in_transaction ≡ false → conn.new.in_transaction ≡ false }
+{
+    match change {
+        Change::Chosen {
+            release,
+            document,
+            package_id,
+            rows,
+        } => choose(
+            alloc,
+            conn,
+            holders,
+            release,
+            *document,
+            package_id,
+            rows.as_slice(),
+        ),
+        Change::Withdrew { release, .. } => withdraw(alloc, conn, holders, release),
+        _ => Ok(()),
+    }
+}
