@@ -22,6 +22,8 @@ use Rattle.desk_sql_layout.proofs.Queries.{query_on}
 use Rattle.desk_model.specs.Tables.{Tables}
 use Rattle.desk_model.specs.Keys.{is_choice_in}
 use Rattle.desk_model.specs.declared.row.ChoiceRow.{ChoiceRow}
+use Rattle.desk_sql_lookup.specs.Causes.{IsAsked}
+use Rattle.desk_sql_lookup.proofs.Causes.{Suits, asked}
 use Rattle.desk_sql_lookup.proofs.HolderLemmas.{all_pass}
 use Rattle.desk_sql_lookup.proofs.Ties.{is_key}
 use Rattle.desk_sql_lookup.proofs.Keyed.{choices_sorted}
@@ -39,6 +41,13 @@ choices_is = (refl, refl)
 pub choices_plain : IsPlain (understood d.desk_schema choices_text)
 unfolding understood everything
 choices_plain = (refl, refl)
+
+choices_suits : Suits choices_text 0 (understood d.desk_schema choices_text)
+unfolding understood everything
+choices_suits = (refl, refl)
+
+pub choices_asked : IsAsked choices_text ([])
+choices_asked = asked choices_text ([]) 19 ([]) (col 1 1 ∷ col 1 2 ∷ col 1 3 ∷ col 1 4 ∷ []) (order_by (1 ∷ 2 ∷ 3 ∷ 4 ∷ [])) (codes "release" ∷ codes "document" ∷ codes "package" ∷ codes "term" ∷ []) choices_is choices_plain choices_suits refl
 
 abbrev every : ChoiceRow → Bool
 every x = true
@@ -63,6 +72,13 @@ choices_in_is = (refl, refl)
 pub choices_in_plain : IsPlain (understood d.desk_schema choices_in_text)
 unfolding understood everything
 choices_in_plain = (refl, refl)
+
+choices_in_suits : Suits choices_in_text 1 (understood d.desk_schema choices_in_text)
+unfolding understood everything
+choices_in_suits = (refl, refl)
+
+pub choices_in_asked : (release : List ℕ) → IsAsked choices_in_text (Text release ∷ [])
+choices_in_asked release = asked choices_in_text (Text release ∷ []) 19 (same 1 0 ∷ []) (col 1 1 ∷ col 1 2 ∷ col 1 3 ∷ col 1 4 ∷ []) (order_by (1 ∷ 2 ∷ 3 ∷ 4 ∷ [])) (codes "release" ∷ codes "document" ∷ codes "package" ∷ codes "term" ∷ []) choices_in_is choices_in_plain choices_in_suits refl
 
 abbrev choices_in_test : List ℕ → Row → Bool
 choices_in_test release cs = is_true (binary (Compare Eq Binary) (column cs 0) (Text release)) && true

@@ -1,11 +1,12 @@
 //! The choices that releases hold.
 
-ghost use Rattle.std.specs.Prelude.{◌≡◌, false, IfOk, filter};
+ghost use Rattle.std.specs.Prelude.{◌≡◌, false, IfErr, IfOk, filter};
 ghost use Rattle.sqlite.specs.Held.{state};
 ghost use Rattle.desk_access.specs.Seen.{Looked, OfRows};
 ghost use Rattle.desk_sql_layout.specs.Cells.{choice_cells};
 ghost use Rattle.desk_sql_layout.specs.Held.{seen_of};
 ghost use Rattle.desk_model.specs.Keys.{is_choice_in};
+ghost use Rattle.desk_sql_lookup.specs.Causes.{HasCause};
 
 use crate::columns::{number_at, text_at};
 use crate::query::{read_rows, text};
@@ -34,6 +35,8 @@ pub fn choices<S: Alter>(alloc: Global, conn: &mut Connection<S>) -> Result<Vec<
         (seen_of (state S.Store conn.new))) }
     ensures kept { Looked (seen_of (state S.Store conn.old)) (seen_of (state S.Store conn.new))
         result }
+    ensures cause { IfErr result (HasCause (state S.Store conn.old) (state S.Store conn.new)) }
+    ensures limit { conn.new.step_limit ≡ conn.old.step_limit }
     ensures mode { conn.old.in_transaction ≡ false → conn.new.in_transaction ≡ false }
 {
     read_rows(
@@ -55,6 +58,8 @@ pub fn choices_in<S: Alter>(
         (seen_of (state S.Store conn.new))) }
     ensures kept { Looked (seen_of (state S.Store conn.old)) (seen_of (state S.Store conn.new))
         result }
+    ensures cause { IfErr result (HasCause (state S.Store conn.old) (state S.Store conn.new)) }
+    ensures limit { conn.new.step_limit ≡ conn.old.step_limit }
     ensures mode { conn.old.in_transaction ≡ false → conn.new.in_transaction ≡ false }
 {
     read_rows(
