@@ -1,9 +1,9 @@
 -- One item more of a loop.
-use Rattle.std.proofs.Common.{◌≡◌, ℕ, Bool, true, false, ◌+◌, ◌<◌, List, [], ◌∷◌, ◌++◌, length, map, filter, drop, get_or, Option, Some, None, sym, refl, ap, ◌∙◌, add-one, drop-cons, append_assoc, suc, arith}
+use Rattle.std.proofs.Common.{◌≡◌, ℕ, Bool, true, false, ◌+◌, ◌<◌, ◌≤◌, List, [], ◌∷◌, ◌++◌, length, map, filter, drop, get_or, Option, Some, None, sym, refl, ap, ◌∙◌, add-one, drop-cons, append_assoc, suc, arith}
 use Rattle.std.specs.Prelude.{◌==◌, not, if◌then◌else◌}
 use Rattle.std.specs.List.{cons_option, filter_map, flat_map, list_any}
 use Rattle.std.proofs.lemmas.Bool.Decides.{nat_tests}
-use Rattle.std.proofs.lemmas.List.{append-nil}
+use Rattle.std.proofs.lemmas.List.{append-nil, at_drop_all}
 use Rattle.desk_model.specs.Obstacles.{is_told, told_once}
 use Rattle.desk_model.specs.declared.refusal.Refusal.{Refusal}
 
@@ -74,3 +74,8 @@ told_once_push told (y ∷ ys) x = once_more told y ys x (is_told told y) refl (
 -- so far, with one refusal more
 pub told_once_step : (yielded told new : List Refusal) (x : Refusal) → told ≡ told_once [] yielded → new ≡ told ++ news told x → new ≡ told_once [] (yielded ++ x ∷ [])
 told_once_step yielded told new x sofar grown = grown ∙ sym (told_once_push [] yielded x ∙ ap (λ zs. zs ++ news zs x) (sym sofar))
+
+-- what was found is all, once no item is left
+pub ended : {A B : Type 0} (g : List A → List B) (xs : List A) (i : ℕ) (found all : List B) → length xs ≤ i → g [] ≡ [] → found ++ g (drop i xs) ≡ all
+    → found ≡ all
+ended g xs i found all out none so_far = sym (append-nil found) ∙ (ap (λ ys. found ++ ys) (sym (at_drop_all g xs i out ∙ none)) ∙ so_far)

@@ -1,6 +1,6 @@
 //! What stands against the terms that are chosen for a package.
 
-ghost use Rattle.std.specs.Prelude.{◌≡◌, ◌++◌, [], IfOk, IfErr, OnOk};
+ghost use Rattle.std.specs.Prelude.{◌≡◌, ◌++◌, [], is_some, IfOk, IfErr, OnOk};
 ghost use Rattle.std.specs.List.{cons_option, filter_map};
 ghost use Rattle.desk_model.specs.Readings.{Readings};
 ghost use Rattle.desk_model.specs.Faults.{MayFail};
@@ -52,6 +52,13 @@ fn unadopted_terms<T: Texts, S: Store>(
     Ok(refusals)
 }
 
+/// Whether something was found.
+fn is_found<F: Drop>(found: Option<F>) -> bool
+    ensures { result ≡ is_some found }
+{
+    found.is_some()
+}
+
 /// What stands against a term of a package that is no reference without adoption: it has no rule.
 fn unruled_alone<T: Texts, S: Store>(
     alloc: Global,
@@ -67,10 +74,10 @@ fn unruled_alone<T: Texts, S: Store>(
     ensures kept { Looked (S.seen store.old) (S.seen store.new) result }
     ensures fault { IfErr result (MayFail S.tells) }
 {
-    if rule_adopted(alloc, texts, store, form, row.document, term)?.is_some() {
+    if is_found(rule_adopted(alloc, texts, store, form, row.document, term)?) {
         return Ok(None);
     }
-    if unadopted(alloc, texts, store, row.document, term)?.is_some() {
+    if is_found(unadopted(alloc, texts, store, row.document, term)?) {
         return Ok(None);
     }
     Ok(Some(no_rule(row, term)?))

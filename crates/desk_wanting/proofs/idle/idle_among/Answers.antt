@@ -1,8 +1,9 @@
+use Rattle.std.proofs.Common.{List, refl}
 use Rattle.std.specs.Prelude.{filter, map}
 use Rattle.desk_model.specs.declared.row.AttachedRow.{AttachedRow}
 use Rattle.desk_access.proofs.Chains.{looked_err, same_then_kept, same_then_same}
 use Rattle.desk_wanting.specs.Idle.{ships_nothing}
-use Rattle.desk_wanting.proofs.Lists.{filter_step}
+use Rattle.desk_wanting.proofs.Lists.{ended, filter_step}
 use Rattle.desk_wanting.proofs.idle.idle_among.Goals as goal
 
 pub loop-row-preserved : goal.loop-row-preserved
@@ -26,3 +27,9 @@ pub returns-in_err-add_number-clause-kept : goal.returns-in_err-add_number-claus
 returns-in_err-add_number-clause-kept g c =
     looked_err _ _ c.from_residual-in_err-add_number.result c.from_residual-in_err-add_number.ensures.0
     (same_then_same _ _ _ c.loop-row.invariant.same c.in_ok-nothing.ensures.kept).kept
+
+pub returns-clause-found : goal.returns-clause-found
+returns-clause-found g c = λ h t held.
+    let idle = λ (rows : List AttachedRow). filter (ships_nothing t.packages) (map (λ (row : AttachedRow). row.document) rows) in
+    ended idle c.args.attached.now c.loop-row.row-index c.loop-row.numbers.items (idle c.args.attached.now) c.loop-row-test.false refl
+    (c.loop-row.invariant.found h t held)

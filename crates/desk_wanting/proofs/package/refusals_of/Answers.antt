@@ -1,7 +1,8 @@
+use Rattle.std.proofs.Common.{refl}
 use Rattle.std.specs.List.{flat_map}
 use Rattle.desk_access.proofs.Chains.{looked_err, same_then_kept, same_then_same}
 use Rattle.desk_history.specs.FromTables.{refusals_found}
-use Rattle.desk_wanting.proofs.Lists.{flat_map_step}
+use Rattle.desk_wanting.proofs.Lists.{ended, flat_map_step}
 use Rattle.desk_wanting.proofs.package.refusals_of.Goals as goal
 
 pub loop-row-preserved : goal.loop-row-preserved
@@ -24,3 +25,9 @@ pub returns-in_err-append-clause-kept : goal.returns-in_err-append-clause-kept
 returns-in_err-append-clause-kept g c =
     looked_err _ _ c.from_residual-in_err-append.result c.from_residual-in_err-append.ensures.0
     (same_then_same _ _ _ c.loop-row.invariant.same c.in_ok-more.ensures.kept).kept
+
+pub returns-clause-found : goal.returns-clause-found
+returns-clause-found g c = λ w right h t held.
+    let told = flat_map (refusals_found w t c.args.release.now c.args.form.now) in
+    ended told c.args.packages.now c.loop-row.row-index c.loop-row.refusals.items (told c.args.packages.now) c.loop-row-test.false refl
+    (c.loop-row.invariant.found w right h t held)

@@ -1,7 +1,8 @@
+use Rattle.std.proofs.Common.{refl}
 use Rattle.std.specs.List.{filter_map}
 use Rattle.desk_model.specs.Answers.{unadopted}
 use Rattle.desk_access.proofs.Chains.{looked_err, same_then_kept, same_then_same}
-use Rattle.desk_wanting.proofs.Lists.{filter_map_step}
+use Rattle.desk_wanting.proofs.Lists.{ended, filter_map_step}
 use Rattle.desk_wanting.proofs.term.unadopted_terms.Goals as goal
 
 pub loop-term-preserved : goal.loop-term-preserved
@@ -25,3 +26,9 @@ pub returns-in_err-add_refusal-clause-kept : goal.returns-in_err-add_refusal-cla
 returns-in_err-add_refusal-clause-kept g c =
     looked_err _ _ c.from_residual-in_err-add_refusal.result c.from_residual-in_err-add_refusal.ensures.0
     (same_then_same _ _ _ c.loop-term.invariant.same c.in_ok-refusal.ensures.kept).kept
+
+pub returns-clause-found : goal.returns-clause-found
+returns-clause-found g c = λ w right h t held.
+    let told = filter_map (unadopted w t.adoption c.args.document) in
+    ended told c.args.terms.now c.loop-term.term-index c.loop-term.refusals.items (told c.args.terms.now) c.loop-term-test.false refl
+    (c.loop-term.invariant.found w right h t held)
