@@ -13,6 +13,12 @@ pub made_more : {X Y : Type 0} (f : X → Y) (xs : List X) (i : ℕ) (x : X) (be
 made_more f xs i x before after y inside at so_far made pushed =
     pushed ∙ ap₂ (λ ys z. ys ++ z ∷ []) so_far (made ∙ ap f at) ∙ sym (map_more f xs i x inside)
 
+-- one more is kept, which shows the next
+pub shown_more : {X Y : Type 0} (shown : Y → X) (xs : List X) (i : ℕ) (x : X) (before after : List Y) (y : Y) → i < length xs
+    → x ≡ get_or xs i x → map shown before ≡ take i xs → shown y ≡ x → after ≡ before ++ y ∷ [] → map shown after ≡ take (i + 1) xs
+shown_more shown xs i x before after y inside at so_far is pushed =
+    ap (map shown) pushed ∙ map-append shown before (y ∷ []) ∙ ap₂ (λ zs z. zs ++ z ∷ []) so_far (is ∙ at) ∙ sym (take_more xs i x inside)
+
 zip_pushed : {A B : Type 0} (R : A → B → Type 0) (xs : List A) (ys : List B) (x : A) (y : B) → AllZip R xs ys → R x y → AllZip R (xs ++ x ∷ []) (ys ++ y ∷ [])
 zip_pushed R [] [] x y zip r = (r, tt)
 zip_pushed R [] (v ∷ vs) x y zip r = absurd zip
