@@ -1,14 +1,19 @@
 -- The lines of packages, one more at a time.
 use Rattle.std.proofs.Common.{◌≡◌, ◌∙◌, ◌+◌, ◌<◌, ◌≤◌, ℕ, Bool, true, false, List, [], ◌∷◌, ◌++◌, Option, Some, None, length, drop, drop-cons, get_or, add-one, append_assoc, sym, ap, subst, refl}
-use Rattle.std.specs.Prelude.{◌&&◌, not, is_some, map, option_and_then, slice_index_or, if◌then◌else◌}
+use Rattle.std.specs.Prelude.{◌&&◌, not, is_some, map, option_and_then, slice_index_or, if◌then◌else◌, Result, Ok, Err, String, IfOk, OnOk}
+use Rattle.std.specs.String.{string_bytes}
+use Rattle.std.specs.declared.alloc.AllocError.{AllocError}
+use Rattle.std.specs.declared.alloc.Global.{Global}
 use Rattle.std.proofs.lemmas.List.{append-nil, drop_all}
 use Rattle.desk_expr.specs.Tree.{Tree}
 use Rattle.desk_findings.specs.Fields.{is_no_licence}
 use Rattle.desk_tagvalue.specs.Parts.{PackageText}
-use Rattle.desk_summary.specs.Proposals.{AreLines, IsLine, declared_tree}
+use Rattle.desk_expr.specs.Printing.{printed}
+use Rattle.desk_expr.specs.Spelling.{Spells}
+use Rattle.desk_summary.specs.Proposals.{AreLines, IsLine, declared_tree, request_line}
 use Rattle.desk_summary.specs.Summaries.{is_licence, same_standing, standing_of, standings_of}
 use Rattle.desk_summary.specs.declared.summary.Standing.{Standing}
-use Rattle.desk_summary.specs.declared.summary.Standing.TheVariants.{Concluded, Declared, Neither}
+use Rattle.desk_summary.specs.declared.summary.Standing.TheVariants.{Aside, Concluded, Declared, Neither}
 
 other : (s t : Standing) → same_standing s Declared ≡ true → s ≡ t → same_standing t Declared ≡ true
 other s t is e = subst (λ u. same_standing u Declared ≡ true) e is
@@ -30,6 +35,26 @@ pub declared_reads : (reads : List ℕ → Option Tree) (p : PackageText) (ships
     → s ≡ standing_of reads p ships → None ≡ declared_tree reads p → ⊥
 declared_reads reads p true s is e none = declared_by reads (is_licence reads p.concluded) p.declared s is e none
 declared_reads reads p false s is e none = absurd (cc (other s _ is e))
+
+-- a package that stands otherwise has no line
+pub no_line : (reads : List ℕ → Option Tree) (document : ℕ) (p : PackageText) (s : Standing) (line : List ℕ) → same_standing s Declared ≡ false
+    → line ≡ [] → IsLine reads document p s line
+no_line reads document p Declared line is e = absurd (cc)
+no_line reads document p Aside line is e = e
+no_line reads document p Concluded line is e = e
+no_line reads document p Neither line is e = e
+
+-- and one that stands by its declared licence this one
+pub proposed : (reads : List ℕ → Option Tree) (document : ℕ) (p : PackageText) (s : Standing) (tree : Tree) (result : Result (String Global) AllocError)
+    → same_standing s Declared ≡ true → Some tree ≡ declared_tree reads p
+    → IfOk result (λ line. string_bytes line ≡ request_line document p.id (printed tree)) → OnOk result (Spells (printed tree) tree)
+    → IfOk result (λ line. IsLine reads document p s (string_bytes line))
+proposed reads document p s tree (Err error) is declared text spells = tt
+proposed reads document p Declared tree (Ok line) is declared text spells =
+    record { tree = tree; declared = sym declared; spells = spells; is_line = text }
+proposed reads document p Aside tree (Ok line) is declared text spells = absurd (cc)
+proposed reads document p Concluded tree (Ok line) is declared text spells = absurd (cc)
+proposed reads document p Neither tree (Ok line) is declared text spells = absurd (cc)
 
 pub one_line : {P : Type 0} (f : P → PackageText) (reads : List ℕ → Option Tree) (document : ℕ) (packages : List P) (i : ℕ) (p : P) (mark : Bool) (marks behind : List Bool)
     (s : Standing) (line done more : List ℕ) (ps : List PackageText) (ss : List Standing)
