@@ -1,5 +1,6 @@
 -- What a page comes to where a question for it is answered by something else, and where the desk fails.
-use Rattle.std.proofs.Common.{◌≡◌, ◌∙◌, ℕ, List, Option, Ok, Err, ap, inl, inr, refl, subst, sym}
+use Rattle.std.proofs.Common.{◌≡◌, ◌∙◌, ℕ, ◌+◌, ◌<◌, List, [], ◌∷◌, ◌++◌, Option, Ok, Err, length, get_or, map, take, ap, ap₂, inl, inr, refl, subst, sym}
+use Rattle.std.proofs.lemmas.List.{map-append, map_more}
 use Rattle.std.specs.Prelude.{Result, IfOk, IfErr}
 use Rattle.std.specs.Result.{IsErr, IsErrAnd}
 use Rattle.std.specs.Io.KnownBytes.{Appends}
@@ -8,12 +9,15 @@ use Rattle.desk_model.specs.Readings.{Readings}
 use Rattle.desk_model.specs.Faults.{outcome_of}
 use Rattle.desk_model.specs.Tables.{tables}
 use Rattle.desk_model.specs.declared.command.Answer.{Answer}
+use Rattle.desk_model.specs.declared.command.Answer.TheVariants as answered
 use Rattle.desk_model.specs.declared.command.Command.{Command}
+use Rattle.desk_model.specs.declared.command.DutyLine.{DutyLine}
 use Rattle.desk_model.specs.declared.command.Fault.{Fault}
 use Rattle.desk_model.specs.declared.command.Outcome.{Outcome}
 use Rattle.desk_model.specs.declared.command.Outcome.TheVariants as outcome_is
 use Rattle.desk_model.specs.declared.command.Query.{Query}
 use Rattle.desk_model.specs.declared.command.Query.TheVariants as query
+use Rattle.desk_model.specs.declared.row.ChangeRow.{ChangeRow}
 use Rattle.desk_access.specs.Seen.{Kept, Looked, Same, Seen}
 use Rattle.desk_core.specs.Desks.{InHistory}
 use Rattle.desk_subcommands.specs.Failures.{IsOfOutput, OfRequest}
@@ -62,6 +66,17 @@ module _ {Left : Type 0} (is_right : Readings → Type 0) (a b : Seen Left) wher
   gathers_change r (outcome_is.Answered other) found w right honest h ok held =
       let it = found w right honest h ok held in (query.Changes it.0, inr (inr (inr (it.0, refl))), it.1)
   gathers_change r (outcome_is.Failed fault) found w right honest h ok held = tt
+
+-- the changes of one duty more
+pub changes_more : (w : Readings) (h : List Command) (lines : List DutyLine) (i : ℕ) (line : DutyLine) (changes after : List (List ChangeRow))
+    (rows : List ChangeRow) → i < length lines → line ≡ get_or lines i line
+    → map (λ line. queried w h (query.Changes line.number)) (take i lines) ≡ map answered.Changes changes
+    → queried w h (query.Changes line.number) ≡ answered.Changes rows → after ≡ changes ++ rows ∷ []
+    → map (λ line. queried w h (query.Changes line.number)) (take (i + 1) lines) ≡ map answered.Changes after
+changes_more w h lines i line changes after rows inside at so_far told pushed =
+    let asked = λ (line : DutyLine). queried w h (query.Changes line.number) in
+    map_more asked lines i line inside ∙ ap₂ (λ (a : List Answer) (b : Answer). a ++ b ∷ []) so_far (ap asked (sym at) ∙ told)
+    ∙ sym (ap (map answered.Changes) pushed ∙ map-append answered.Changes changes (rows ∷ []))
 
 pub other_told : {Left : Type 0} (is_right : Readings → Type 0) (r : List ℕ) (a b : Seen Left) (old new : Option (List ℕ)) (result : Result ℕ Failure)
     → IfOk result (λ status. (answer : Answer) × InHistory is_right (λ w h. IsOther w h r (outcome_is.Answered answer)) a b

@@ -1,6 +1,30 @@
-use Rattle.desk_access.proofs.Chains.{same_then_kept}
-use Rattle.desk_views.proofs.PageLemmas.{asked_kept, looked_up_err}
+use Rattle.std.proofs.Common.{◌≡◌, subst, sym}
+use Rattle.std.specs.Prelude.{IfOk}
+use Rattle.desk_model.specs.Queries.{queried}
+use Rattle.desk_model.specs.Tables.{tables}
+use Rattle.desk_model.specs.declared.command.Query.TheVariants as query
+use Rattle.desk_access.proofs.Chains.{same_then_kept, same_then_same}
+use Rattle.desk_core.specs.Desks.{InHistory}
+use Rattle.desk_views.proofs.PageLemmas.{asked_kept, asked_same, changes_more, looked_up_err}
 use Rattle.desk_views.proofs.paging.all_changes.Goals as goal
+
+pub loop-duty-preserved : goal.loop-duty-preserved
+loop-duty-preserved g c =
+    let old = g.D.Desk.seen c.args.desk.now in
+    let asked = g.D.Desk.seen c.loop-duty.desk in
+    let new = g.D.Desk.seen c.changes_of.new.desk in
+    let number = c.duty-item.result.number in
+    let same = asked_same asked new _ c.changes_of.result c.changes_of.ensures.kept c.in_ok-rows.ensures in
+    let told =
+    subst (λ r. IfOk r (λ answer. InHistory g.D.Desk.are_right (λ w h. answer ≡ queried w h (query.Changes number)) asked new)) c.in_ok-rows.ensures
+    c.changes_of.ensures.told in
+    record {
+      same = same_then_same old asked new c.loop-duty.invariant.same same;
+      found = λ w right honest h ok held.
+          changes_more w h c.args.duties.now c.loop-duty.duty-index c.duty-item.result c.loop-duty.changes.items c.add_rows.new.changes.items c.in_ok-rows.rows
+          c.loop-duty-test.true c.duty-item.is (c.loop-duty.invariant.found w right (same.kept.spared.honest honest) h ok held)
+          (sym (told w right honest h ok (c.loop-duty.invariant.same.kept.spared.holds (tables w h) held))) c.in_ok-add_rows.ensures.ok;
+    }
 
 pub returns-in_err-rows-clause-kept : goal.returns-in_err-rows-clause-kept
 returns-in_err-rows-clause-kept g c =
