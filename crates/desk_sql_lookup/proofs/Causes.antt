@@ -19,7 +19,8 @@ use Rattle.sqlite.specs.Listing.{understood, reads_listing, IsSourceOf}
 use Rattle.sqlite.specs.State.{State, HasCleanDisk, Survives, IsNoStatement, IsNotRun, Fails, FailsToQuery, Shown}
 use Rattle.sqlite.proofs.Callers.{IsPlain, command_of}
 use Rattle.desk_model.specs.declared.command.Fault.{Fault}
-use Rattle.desk_model.specs.declared.command.Fault.TheVariants.{Memory}
+use Rattle.desk_model.specs.declared.command.Fault.TheVariants.{Memory, Store}
+use Rattle.desk_model.specs.declared.command.StoreFault.TheVariants.{Database as DatabaseFault}
 use Rattle.desk_model.specs.Tables.{Tables}
 use Rattle.desk_access.specs.Seen.{Looked, MoreFaults, Same}
 use Rattle.desk_sql_layout.specs.Faults.{fault_by}
@@ -71,16 +72,16 @@ le_is a b h = grind (arith, nat_tests)
 
 module _ (sql : List ℕ) (params : Row) (old new : State) (has : old.now.schema ≡ desk_schema) (opened : IsTrue old.is_open) (unlimited : old.step_limit ≡ None) (asked : IsAsked sql params) where
   abbrev Caused : Error → Type 0
-  Caused e = (fault_by e ≡ Memory) ⊎ MoreFaults old.faults new.faults
+  Caused e = (fault_by e ≡ Memory) ⊎ ((fault_by e ≡ Store DatabaseFault) × MoreFaults old.faults new.faults)
 
   known : understood old.now.schema sql ≡ Ok asked.compiled
   known = ap (λ s. understood s sql) has ∙ asked.is
 
   fails : (e : Error) → Fails old new ⊥ e → Caused e
   fails e (store.OutOfMemory, is, cause, back, tells) = inl (rw is refl)
-  fails e (store.Io, is, cause, back, tells) = inr cause
-  fails e (store.Corrupt, is, cause, back, tells) = inr cause
-  fails e (store.Full, is, cause, back, tells) = inr cause
+  fails e (store.Io, is, cause, back, tells) = inr (rw is refl, cause)
+  fails e (store.Corrupt, is, cause, back, tells) = inr (rw is refl, cause)
+  fails e (store.Full, is, cause, back, tells) = inr (rw is refl, cause)
   fails e (store.Broken, is, cause, back, tells) = absurd (let shut = rw cause at opened in cc)
   fails e (store.Unstorable, is, cause, back, tells) = absurd cause
 
@@ -160,7 +161,7 @@ module _ (Is : Tables → Type 0) (a b c : State) (same : Same (seen_of a) (seen
     cause = λ clean opened unlimited t holds written is.
         elim (has.cause clean (same.stays (honest clean) opened) (limit ∙ unlimited) t (same.kept.spared.holds t holds) written is) [
           | inl memory ↦ inl memory
-          | inr more ↦ inr (omega (arith, same.kept.spared.outlasts.counts, more))
+          | inr more ↦ inr (more.0, omega (arith, same.kept.spared.outlasts.counts, more.1))
         ];
   }
 

@@ -152,7 +152,7 @@ module _ {S T : Type 0} (g : Ghosts S) (cells : T → Row) (has_days : T → Typ
         elim (fails clean so_far.0 so_far.1) [
           | inl failed ↦ elim (caused sql params (state g old) (state g new) still so_far.2.0.is_open (limit ∙ unlimited) asked failed.0 failed.1) [
             | inl memory ↦ inl (failed.2 ∙ memory)
-            | inr more ↦ inr (omega (arith, same.kept.spared.outlasts.counts, more))
+            | inr more ↦ inr (failed.2 ∙ more.0, omega (arith, same.kept.spared.outlasts.counts, more.1))
           ]
           | inr unread ↦
               let unchanged = unchanged_then (state g first) (state g old) (state g new) so_far.2 unread.2 in

@@ -16,7 +16,8 @@ use Rattle.desk_base.specs.Day.{is_day}
 use Rattle.desk_model.specs.Tables.{Tables}
 use Rattle.desk_model.specs.declared.row.ChangeRow.{ChangeRow}
 use Rattle.desk_model.specs.declared.command.Fault.{Fault}
-use Rattle.desk_model.specs.declared.command.Fault.TheVariants.{Memory}
+use Rattle.desk_model.specs.declared.command.Fault.TheVariants.{Memory, Store}
+use Rattle.desk_model.specs.declared.command.StoreFault.TheVariants.{Database as DatabaseFault}
 use Rattle.desk_access.specs.Seen.{MoreFaults}
 use Rattle.desk_sql_layout.specs.Held.{rows_of, seen_of}
 use Rattle.desk_sql_layout.specs.Layout.{desk_schema}
@@ -48,10 +49,10 @@ pub record AreWritten (t : Tables) : Type 0 where
   pub days : AllByRecursion HasDay t.changes
   pub last_days : AllByRecursion HasLastDay t.changes
 
--- With rows as a desk writes them, and no limit on the steps of a query, a look-up fails only if no memory is left or the disk failed
--- once more. `Is` is what its caller says of the tables.
+-- With rows as a desk writes them, and no limit on the steps of a query, a look-up fails only if no memory is left, or with a fault of
+-- the database as the disk failed once more. `Is` is what its caller says of the tables.
 pub record HasCauseIf (Is : Tables → Type 0) (old new : State) (fault : Fault) : Type 0 where
-  pub cause : HasCleanDisk new → IsTrue old.is_open → old.step_limit ≡ None → (t : Tables) → (seen_of old).holds t → AreWritten t → Is t → (fault ≡ Memory) ⊎ MoreFaults old.faults new.faults
+  pub cause : HasCleanDisk new → IsTrue old.is_open → old.step_limit ≡ None → (t : Tables) → (seen_of old).holds t → AreWritten t → Is t → (fault ≡ Memory) ⊎ ((fault ≡ Store DatabaseFault) × MoreFaults old.faults new.faults)
 
 abbrev pub HasCause : State → State → Fault → Type 0
 HasCause = HasCauseIf (λ t. Unit {0})

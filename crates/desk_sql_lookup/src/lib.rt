@@ -8,8 +8,8 @@
 //! that no transaction is open after it where none was before.
 //!
 //! `cause` says when a look-up fails: with rows as a desk writes them (`specs/Causes.antt`) and no
-//! limit on the steps of a query, only if no memory is left or the disk failed once more. `limit`
-//! says that the look-up sets no such limit.
+//! limit on the steps of a query, only if no memory is left, or with a fault of the database as the
+//! disk failed once more. `limit` says that the look-up sets no such limit.
 //!
 //! Documents, duties and revisions are numbered from 1, and the caller says how many there are.
 //! What stands in a column is read as the desk knows it: a value of another kind, which no desk's
