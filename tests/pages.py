@@ -128,7 +128,7 @@ def check_names():
     compare("docs/CATALOGUE.md", faults, defined("desk_model", "FaultNumbers", "catalogue_fault_number"))
     requests = text_of("docs/REQUESTS.md")
     findings = section(requests, "### findings: what in a document isn't as the standard has it")
-    compare("the kinds of findings", rows_of(findings), defined("desk_findings", "Kinds", "kind_number"))
+    compare("the kinds of findings", rows_of(findings), defined("desk_model", "FindingKinds", "kind_number"))
     words = re.search(r"^\| 27 \| Full \| the limit: (.*?) \|", first, flags=re.M).group(1)
     listed = {word: word for word in re.findall(r"`(\w+)`", words)}
     compare("the limits that Full names", listed, {n: n for n in defined("desk_model", "Names", "limit_name").values()})

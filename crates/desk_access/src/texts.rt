@@ -8,7 +8,7 @@ ghost use Rattle.desk_base.specs.declared.profile.Profile.{Profile};
 
 use desk_base::{Items, Text};
 use desk_model::{
-    Catalogue, CatalogueFault, Cheapest, Document, DocumentFault, ExpressionFault, FindingRow,
+    Catalogue, CatalogueFault, Cheapest, Document, DocumentFault, ExpressionFault, Finding,
     LicenceText, ListFault, Profile, Verdict,
 };
 use std::alloc::{AllocError, Global};
@@ -158,7 +158,7 @@ pub trait Texts {
         alloc: Global,
         profile: Profile,
         bytes: &[u8],
-    ) -> Result<Items<FindingRow>, AllocError>
+    ) -> Result<Items<Finding>, AllocError>
         ensures { (w : Readings) → are_right w
             → IfOk result (λ rows. rows ≡ w.findings profile bytes.now) };
 }

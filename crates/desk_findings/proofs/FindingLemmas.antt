@@ -10,8 +10,8 @@ use Rattle.desk_tagvalue.specs.Sections.{section_begun}
 use Rattle.std.proofs.lemmas.List.{map_push, take_more}
 use Rattle.std.proofs.lemmas.Grind.{flat_map-append}
 use Rattle.desk_bom.proofs.LoopLemmas.{seen_more}
-use Rattle.desk_findings.specs.declared.finding.Finding.{Finding}
-use Rattle.desk_findings.specs.declared.finding.FindingKind.{FindingKind}
+use Rattle.desk_model.specs.declared.finding.Finding.{Finding}
+use Rattle.desk_model.specs.declared.finding.FindingKind.{FindingKind}
 use Rattle.desk_findings.specs.Kinds.{noted}
 use Rattle.desk_findings.specs.Fields.{FieldAt, fields_in, packages_after}
 

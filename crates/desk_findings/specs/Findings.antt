@@ -11,9 +11,9 @@ use Rattle.desk_bom.specs.Codes.{IsState}
 use Rattle.desk_bom.specs.Elements.{element_named}
 use Rattle.desk_bom.specs.declared.state.CodeState.{CodeState}
 use Rattle.desk_bom.specs.declared.state.CodeState.TheVariants.{Absent}
-use Rattle.desk_findings.specs.declared.finding.Finding.{Finding}
-use Rattle.desk_findings.specs.declared.finding.FindingKind.TheVariants as kinds
-use Rattle.desk_findings.specs.declared.finding.MissingField.TheVariants as missing
+use Rattle.desk_model.specs.declared.finding.Finding.{Finding}
+use Rattle.desk_model.specs.declared.finding.FindingKind.TheVariants as kinds
+use Rattle.desk_model.specs.declared.finding.MissingField.TheVariants as missing
 use Rattle.desk_findings.specs.Kinds.{noted, finding_order}
 use Rattle.desk_findings.specs.Fields.{FieldAt, fields_in, is_unknown, is_misplaced, is_bad_expression, is_undefined_use, is_bad_digest, is_bad_code, differs, is_unwanted_code, is_bad_flag}
 

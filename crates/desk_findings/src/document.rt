@@ -30,7 +30,7 @@ use crate::field::{
     Placed, differs, is_bad_code, is_bad_digest, is_bad_flag, is_field, is_licence_field,
     is_misplaced, is_unknown, is_unwanted_code,
 };
-use crate::finding::{Finding, FindingKind, note};
+use crate::finding::{key, note};
 use crate::missing::{
     add_dangling, add_of_document, add_of_extracted, add_of_files, add_of_packages,
 };
@@ -38,6 +38,7 @@ use desk_base::Profile;
 use desk_bom::{CodeState, Contents, Elements};
 use desk_expr::Expr;
 use desk_fields::Tag;
+use desk_model::{Finding, FindingKind};
 use desk_tagvalue::{Document, Entry, Extracted, SectionKind, section_begun};
 use std::alloc::{AllocError, Global};
 use std::collections::BTreeSet;
@@ -344,7 +345,7 @@ pub fn findings_in(
     let elements = Elements::of(alloc, document)?;
     let known = known_of(alloc, document, &elements, profile)?;
     let mut found = gathered(alloc, document, &known, &elements)?;
-    found.sort_by_key(|finding| finding.key())?;
+    found.sort_by_key(|finding| key(finding))?;
     Ok(found)
 }
 

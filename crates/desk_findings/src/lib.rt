@@ -14,6 +14,6 @@ mod field;
 mod finding;
 mod missing;
 
+pub use desk_model::{Finding, FindingKind, MissingField};
 pub use document::{findings, findings_in};
 pub use expression::is_no_licence;
-pub use finding::{Finding, FindingKind, MissingField};

@@ -10,9 +10,10 @@ ghost use Rattle.desk_tagvalue.specs.Views.{edge_text, package_text, file_text, 
 ghost use Rattle.desk_bom.specs.Notes.{Notes};
 ghost use Rattle.desk_findings.specs.Findings.{is_lost, edge_findings, missing_of_document, missing_of_package, missing_of_file, missing_of_extracted};
 
-use crate::finding::{Finding, FindingKind, MissingField, note};
+use crate::finding::note;
 use desk_bom::Elements;
 use desk_fields::Tag;
+use desk_model::{Finding, FindingKind, MissingField};
 use desk_tagvalue::{Document, Edge, Entry, Extracted, FileEntry, Package};
 use std::alloc::AllocError;
 

@@ -13,7 +13,8 @@ use Rattle.desk_model.specs.declared.command.OpenDuty.{OpenDuty}
 use Rattle.desk_model.specs.declared.command.PackageLine.{PackageLine}
 use Rattle.desk_model.specs.declared.command.ReleaseLine.{ReleaseLine}
 use Rattle.desk_model.specs.declared.command.Totals.{Totals}
-use Rattle.desk_model.specs.declared.finding.FindingRow.{FindingRow}
+use Rattle.desk_model.specs.declared.finding.Finding.{Finding}
+use Rattle.desk_model.specs.FindingKinds.{kind_number, kind_name}
 use Rattle.desk_model.specs.declared.reading.Cheapest.{Cheapest}
 
 abbrev pub whole : ℕ → Data
@@ -71,8 +72,9 @@ term_list terms = list (map string terms)
 abbrev pub package_values : PackageLine → Data
 package_values line = list (whole line.document ∷ string line.package_id ∷ string line.name ∷ string (unwrap_or line.conclusion []) ∷ term_list line.terms ∷ [])
 
-abbrev pub finding_line : FindingRow → Data
-finding_line row = list (whole row.line ∷ whole row.kind ∷ string row.name ∷ [])
+-- a finding: its line, and the number and the name of its kind
+abbrev pub finding_line : Finding → Data
+finding_line f = list (whole f.line ∷ whole (kind_number f.kind) ∷ string (kind_name f.kind) ∷ [])
 
 -- the cheapest set: its cost, and its terms
 abbrev pub cheapest_row : Cheapest → Data

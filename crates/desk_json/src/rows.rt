@@ -9,7 +9,7 @@ use crate::cells::{Cell, list, texts};
 use crate::row::Row;
 use desk_base::{Day, Items, Text};
 use desk_model::{
-    ChangeRow, Cheapest, DocumentLine, DutyLine, FindingRow, OpenDuty, PackageLine, ReleaseLine,
+    ChangeRow, Cheapest, DocumentLine, DutyLine, Finding, OpenDuty, PackageLine, ReleaseLine,
     ReleaseRow, Totals,
 };
 use serde_json::Value;
@@ -201,7 +201,7 @@ impl Row for PackageLine {
     }
 }
 
-impl Row for FindingRow {
+impl Row for Finding {
     ghost json = { finding_line };
 
     ghost has_integers = { λ row. refl };
@@ -209,8 +209,8 @@ impl Row for FindingRow {
     fn value(&self, alloc: Global) -> Result<Value, AllocError> {
         let cells = [
             Cell::Number(self.line),
-            Cell::Number(u64::from(self.kind)),
-            Cell::Text(self.name.as_str()),
+            Cell::Number(u64::from(self.kind.number())),
+            Cell::Text(self.kind.name()),
         ];
         list(alloc, &cells)
     }

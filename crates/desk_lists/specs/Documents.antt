@@ -8,7 +8,7 @@ use Rattle.desk_expr.specs.Tree.{Tree}
 use Rattle.desk_fields.specs.declared.fault.DocFault.{DocFault}
 use Rattle.desk_findings.specs.Fields.{IsReading}
 use Rattle.desk_findings.specs.Findings.{AreFindings}
-use Rattle.desk_findings.specs.declared.finding.Finding.{Finding}
+use Rattle.desk_model.specs.declared.finding.Finding.{Finding}
 use Rattle.desk_sorted.specs.Sides.{side_by, first_less}
 use Rattle.desk_sorted.specs.Sorted.{IsSideOf}
 use Rattle.desk_snapshot.specs.Conditions.{profile_at}

@@ -1,5 +1,6 @@
 pub mod Lists
 pub mod Texts
+pub mod FindingKinds
 pub mod Readings
 pub mod Keys
 pub mod History

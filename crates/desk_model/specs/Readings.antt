@@ -8,7 +8,7 @@ use Rattle.desk_base.specs.declared.profile.Profile.{Profile}
 use Rattle.desk_model.specs.declared.reading.Verdict.{Verdict}
 use Rattle.desk_model.specs.declared.reading.ListFault.{ListFault}
 use Rattle.desk_model.specs.declared.reading.Cheapest.{Cheapest}
-use Rattle.desk_model.specs.declared.finding.FindingRow.{FindingRow}
+use Rattle.desk_model.specs.declared.finding.Finding.{Finding}
 use Rattle.desk_model.specs.declared.refusal.CatalogueFault.{CatalogueFault}
 use Rattle.desk_model.specs.declared.refusal.DocumentFault.{DocumentFault}
 use Rattle.desk_model.specs.declared.refusal.ExpressionFault.{ExpressionFault}
@@ -45,4 +45,4 @@ pub record Readings : Type 0 where
   -- the cheapest set of terms that the expression of a text is true under, by what printed terms cost, if it has one
   pub cheapest : Profile → List ℕ → (List ℕ → Option ℕ) → Result (Option Cheapest) ListFault
   -- the findings of the document that bytes spell
-  pub findings : Profile → List ℕ → List FindingRow
+  pub findings : Profile → List ℕ → List Finding

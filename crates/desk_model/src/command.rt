@@ -1,7 +1,7 @@
 //! Commands, queries and what they are answered.
 
 use crate::bill::Bill;
-use crate::finding::FindingRow;
+use crate::finding::Finding;
 use crate::reading::{Cheapest, Profile};
 use crate::refusal::Refusal;
 use crate::row::{
@@ -301,7 +301,7 @@ pub enum Answer {
     /// The changes of a duty, by step.
     Changes(Items<ChangeRow>),
     /// What in a document isn't as its standard has it, by line and kind.
-    Findings(Items<FindingRow>),
+    Findings(Items<Finding>),
     /// A release and its packages.
     Release {
         /// The release itself.

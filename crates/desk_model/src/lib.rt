@@ -19,7 +19,7 @@ pub use command::{
     Answer, Change, Command, DocumentLine, DutyLine, Fault, OpenDuty, Outcome, PackageLine, Plan,
     Query, ReleaseLine, StoreFault, Totals,
 };
-pub use finding::FindingRow;
+pub use finding::{Finding, FindingKind, MissingField};
 pub use reading::{
     Catalogue, Cheapest, Conclusion, Document, LicenceText, ListFault, Package, Profile, Reference,
     Rule, Verdict,

@@ -5,7 +5,7 @@ use Rattle.desk_tagvalue.specs.Parts.{DocumentText, PackageText}
 use Rattle.desk_bom.specs.Shipping.{AreShippingMarks}
 use Rattle.desk_findings.specs.Fields.{is_no_licence}
 use Rattle.desk_findings.specs.Findings.{AreFindings}
-use Rattle.desk_findings.specs.Kinds.{kind_number}
+use Rattle.desk_model.specs.FindingKinds.{kind_number}
 use Rattle.desk_summary.specs.declared.summary.Standing.{Standing}
 use Rattle.desk_summary.specs.declared.summary.Standing.TheVariants.{Aside, Concluded, Declared, Neither}
 use Rattle.desk_summary.specs.declared.summary.Summary.{Summary}

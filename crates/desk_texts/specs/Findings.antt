@@ -1,21 +1,15 @@
--- The rows of a document's findings (`desk_findings`), licence fields read by the profile that the document was imported with.
-use Rattle.std.specs.Prelude.{◌≡◌, ℕ, List, [], map, Option, Result, Ok, Err}
+-- A document's findings (`desk_findings`), licence fields read by the profile that the document was imported with.
+use Rattle.std.specs.Prelude.{◌≡◌, ℕ, List, [], Option, Result, Ok, Err}
 use Rattle.desk_base.specs.declared.profile.Profile.{Profile}
 use Rattle.desk_expr.specs.Tree.{Tree}
 use Rattle.desk_fields.specs.declared.fault.DocFault.{DocFault}
-use Rattle.desk_findings.specs.declared.finding.Finding.{Finding}
+use Rattle.desk_model.specs.declared.finding.Finding.{Finding}
 use Rattle.desk_findings.specs.Fields.{IsReading}
 use Rattle.desk_findings.specs.Findings.{AreFindings}
-use Rattle.desk_findings.specs.Kinds.{kind_number, kind_name}
-use Rattle.desk_model.specs.declared.finding.FindingRow.{FindingRow}
 use Rattle.desk_tagvalue.specs.Parts.{DocumentText}
 
-abbrev pub finding_row : Finding → FindingRow
-finding_row f = record { line = f.line; kind = kind_number f.kind; name = kind_name f.kind }
-
--- the rows of the findings of bytes that are read so: those of the document, whichever way its licence fields are read by the
--- profile; bytes that spell no document have none
-abbrev pub Finds : Profile → Result DocumentText DocFault → List FindingRow → Type 0
-Finds profile (Ok d) rows =
-    (reads : List ℕ → Option Tree) → IsReading profile reads → (found : List Finding) × AreFindings reads d found × (rows ≡ map finding_row found)
-Finds profile (Err f) rows = rows ≡ []
+-- the findings of bytes that are read so: those of the document, whichever way its licence fields are read by the profile;
+-- bytes that spell no document have none
+abbrev pub Finds : Profile → Result DocumentText DocFault → List Finding → Type 0
+Finds profile (Ok d) found = (reads : List ℕ → Option Tree) → IsReading profile reads → AreFindings reads d found
+Finds profile (Err f) found = found ≡ []

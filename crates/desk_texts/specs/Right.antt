@@ -9,7 +9,7 @@ use Rattle.desk_model.specs.declared.reading.Cheapest.{Cheapest}
 use Rattle.desk_model.specs.declared.reading.ListFault.{ListFault}
 use Rattle.desk_model.specs.declared.refusal.DocumentFault.{DocumentFault}
 use Rattle.desk_model.specs.declared.refusal.ExpressionFault.{ExpressionFault}
-use Rattle.desk_model.specs.declared.finding.FindingRow.{FindingRow}
+use Rattle.desk_model.specs.declared.finding.Finding.{Finding}
 use Rattle.desk_catalogue.specs.Reading.{catalogue_of}
 use Rattle.desk_catalogue.specs.Terms.{ReadsTerms}
 use Rattle.desk_tagvalue.specs.Documents.{Spells}
@@ -53,4 +53,4 @@ pub record AreRight (w : Readings) : Type 0 where
   -- the cheapest set of the expression of a value, by what printed terms cost
   pub cheapest : (profile : Profile) (text : List ℕ) (cost : List ℕ → Option ℕ) (priced : Result (Option Cheapest) ListFault) → Prices profile text cost priced → w.cheapest profile text cost ≡ priced
   -- the findings of the document that bytes spell, by a profile of operators
-  pub findings : (profile : Profile) (bytes : List ℕ) (read : Result DocumentText DocFault) (rows : List FindingRow) → Spells bytes read → Finds profile read rows → w.findings profile bytes ≡ rows
+  pub findings : (profile : Profile) (bytes : List ℕ) (read : Result DocumentText DocFault) (found : List Finding) → Spells bytes read → Finds profile read found → w.findings profile bytes ≡ found

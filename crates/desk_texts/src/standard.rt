@@ -17,7 +17,7 @@ use desk_access::texts::Texts;
 use desk_base::{Items, Text};
 use desk_expr::Expr;
 use desk_model::{
-    Catalogue, CatalogueFault, Cheapest, Document, DocumentFault, ExpressionFault, FindingRow,
+    Catalogue, CatalogueFault, Cheapest, Document, DocumentFault, ExpressionFault, Finding,
     LicenceText, ListFault, Profile, Verdict,
 };
 use std::alloc::{AllocError, Global};
@@ -147,7 +147,7 @@ impl Texts for Standard {
         alloc: Global,
         profile: Profile,
         bytes: &[u8],
-    ) -> Result<Items<FindingRow>, AllocError> {
+    ) -> Result<Items<Finding>, AllocError> {
         read_findings(alloc, bytes, profile)
     }
 }

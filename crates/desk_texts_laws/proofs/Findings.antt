@@ -22,16 +22,16 @@ use Rattle.desk_bom.specs.declared.state.CodeState.TheVariants.{Absent}
 use Rattle.desk_bom.proofs.OneState.{one_state, one_sorted}
 use Rattle.desk_bom_laws.proofs.Ordered.{sorted_list}
 use Rattle.desk_bom_laws.proofs.States.{state_exists}
-use Rattle.desk_findings.specs.declared.finding.Finding.{Finding}
-use Rattle.desk_findings.specs.declared.finding.FindingKind.{FindingKind}
-use Rattle.desk_findings.specs.declared.finding.FindingKind.TheVariants as kinds
-use Rattle.desk_findings.specs.declared.finding.MissingField.{MissingField}
-use Rattle.desk_findings.specs.declared.finding.MissingField.TheVariants as fields
+use Rattle.desk_model.specs.declared.finding.Finding.{Finding}
+use Rattle.desk_model.specs.declared.finding.FindingKind.{FindingKind}
+use Rattle.desk_model.specs.declared.finding.FindingKind.TheVariants as kinds
+use Rattle.desk_model.specs.declared.finding.MissingField.{MissingField}
+use Rattle.desk_model.specs.declared.finding.MissingField.TheVariants as fields
 use Rattle.desk_findings.specs.Fields.{IsRead, IsReading}
 use Rattle.desk_findings.specs.Findings.{AreStates, AreFindings, all_findings}
-use Rattle.desk_findings.specs.Kinds.{kind_number, place_in_kind, finding_order}
-use Rattle.desk_model.specs.declared.finding.FindingRow.{FindingRow}
-use Rattle.desk_texts.specs.Findings.{finding_row, Finds}
+use Rattle.desk_findings.specs.Kinds.{finding_order}
+use Rattle.desk_model.specs.FindingKinds.{kind_number, place_in_kind}
+use Rattle.desk_texts.specs.Findings.{Finds}
 
 -- ---- the readings of values as expressions
 
@@ -151,17 +151,15 @@ module _ (reads : List ℕ → Option Tree) (d : DocumentText) where
       let sorted = sorted_list finding_order order_total (all_findings reads states.0 d) in
       (sorted.0, record { state = states.0; states = states.1; each = sorted.1; ordered = sorted.2 })
 
-pub rows_exist : (profile : Profile) (read : Result DocumentText DocFault) → (rows : List FindingRow) × Finds profile read rows
+pub rows_exist : (profile : Profile) (read : Result DocumentText DocFault) → (rows : List Finding) × Finds profile read rows
 rows_exist profile (Ok d) =
     let reading = reading_exists profile in
     let findings = findings_exist reading.0 d in
-    (map finding_row findings.0, λ reads is. (findings.0, subst (λ r. AreFindings r d findings.0) (one_reading profile reading.0 reads reading.1 is) findings.1, refl))
+    (findings.0, λ reads is. subst (λ r. AreFindings r d findings.0) (one_reading profile reading.0 reads reading.1 is) findings.1)
 rows_exist profile (Err f) = ([], refl)
 
-pub rows_once : (profile : Profile) (read : Result DocumentText DocFault) (a b : List FindingRow) → Finds profile read a → Finds profile read b → a ≡ b
+pub rows_once : (profile : Profile) (read : Result DocumentText DocFault) (a b : List Finding) → Finds profile read a → Finds profile read b → a ≡ b
 rows_once profile (Ok d) a b h k =
     let reading = reading_exists profile in
-    let first = h reading.0 reading.1 in
-    let second = k reading.0 reading.1 in
-    first.2 ∙ ap (map finding_row) (one_list reading.0 d first.0 second.0 first.1 second.1) ∙ sym second.2
+    one_list reading.0 d a b (h reading.0 reading.1) (k reading.0 reading.1)
 rows_once profile (Err f) a b h k = h ∙ sym k

@@ -16,7 +16,7 @@ ghost use Rattle.desk_model.specs.declared.command.Command.{Command};
 ghost use Rattle.desk_model.specs.declared.row.FrozenRow.{FrozenRow};
 ghost use Rattle.desk_history.specs.Laws.{IsFrozenTerm, ListsInOrder, ListsOnce};
 ghost use Rattle.desk_history_laws.specs.Ids.{ListsIds};
-ghost use Rattle.desk_findings.specs.declared.finding.Finding.{Finding};
+ghost use Rattle.desk_model.specs.declared.finding.Finding.{Finding};
 ghost use Rattle.desk_findings.specs.Findings.{AreFindings};
 ghost use Rattle.desk_tagvalue.specs.Parts.{DocumentText};
 ghost use Rattle.desk_texts_laws.specs.Forms.{adopted_form, is_plain_licence, reference_of};

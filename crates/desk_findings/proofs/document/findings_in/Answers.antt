@@ -1,7 +1,7 @@
 use Rattle.std.proofs.Common.{◌≡◌, sym, subst, rules}
 use Rattle.std.specs.List.Sorted.{IsPermutation}
 use Rattle.std.proofs.lemmas.Fn.{always_returns_same}
-use Rattle.desk_findings.specs.declared.finding.Finding.{Finding}
+use Rattle.desk_model.specs.declared.finding.Finding.{Finding}
 use Rattle.desk_findings.specs.Fields.{IsReading}
 use Rattle.desk_findings.specs.Kinds.{finding_key}
 use Rattle.desk_findings.specs.Known.{state_in}
