@@ -13,6 +13,8 @@
 //! The masks of a front are kept in two columns of words, none a subset of another (`kept.rt`), and
 //! `covers` looks for a subset of a mask among eight of them at once. What a list of masks stands
 //! for is the sets that contain one of them (`AreMinimal`, specs/Choices.antt).
+//!
+//! `laws` has what holds of expressions and of their minimal sets by the definitions alone.
 #![tactic(auto)]
 
 mod costs;
@@ -20,6 +22,7 @@ mod covering;
 mod fault;
 mod fronts;
 mod kept;
+pub mod laws;
 mod listing;
 mod masks;
 mod sets;

@@ -1,10 +1,19 @@
 //! The audit of a desk's tables: which of ten conditions (`desk_snapshot`) their rows don't meet
 //! first.
 //!
-//! The conditions of catalogues and documents are judged by `desk_audit_texts`, those of
-//! conclusions, adoptions, releases and choices by `desk_audit_choices`, those of duties and their
-//! changes by `desk_audit_duties`; here they are put in their order.
+//! The conditions for which texts are read are judged by `desk_audit_texts`. Those of duties are
+//! judged here: their numbers, what they are owed for, their changes and their states. All are put in
+//! their order.
 #![tactic(auto)]
+
+mod changes;
+mod duties;
+mod moves;
+mod numbers;
+mod owed;
+mod rules;
+mod states;
+mod words;
 
 ghost use Rattle.std.specs.Prelude.{◌≡◌, pos, [], ◌∷◌, IfOk};
 ghost use Rattle.std.specs.Bool.{Decides};
@@ -13,12 +22,14 @@ ghost use Rattle.desk_snapshot.specs.Reports.{IsFirst, IsReport};
 ghost use Rattle.desk_snapshot.specs.declared.fault.AuditFault.TheVariants.{BadChange, BadChoice, BadDocument, BadDuty, BadMeta, BadNumber, BadPackage, BadRevision, BadRule, BadState};
 ghost use Rattle.desk_texts.specs.Right.{AreRight};
 
+pub use changes::change_fault;
 use desk_access::texts::Texts;
-use desk_audit_choices::choice_fault;
-use desk_audit_duties::{change_fault, duty_fault, number_fault, state_fault};
-use desk_audit_texts::{catalogue_fault, document_fault};
+use desk_audit_texts::{catalogue_fault, choice_fault, document_fault};
 use desk_snapshot::{AuditFault, AuditReport, Snapshot, StoredMeta};
 use desk_texts::Standard;
+pub use duties::duty_fault;
+pub use numbers::number_fault;
+pub use states::state_fault;
 use std::alloc::{AllocError, Global};
 
 /// The version of the tables that a desk has.

@@ -3,3 +3,8 @@ pub mod Codes
 pub mod Rows
 pub mod Given
 pub mod Judged
+mod Sorted
+mod Numbers
+mod Found
+mod Reading
+mod Alike

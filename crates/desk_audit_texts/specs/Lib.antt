@@ -1,2 +1,4 @@
 pub mod Left
 pub mod Listed
+pub mod InForce
+pub mod HeldAs

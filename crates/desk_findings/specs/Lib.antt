@@ -4,3 +4,5 @@ pub mod Findings
 pub mod Placed
 pub mod Known
 pub mod Told
+pub mod Ids
+pub mod Cut

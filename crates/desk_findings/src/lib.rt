@@ -6,13 +6,18 @@
 //! in capitals. The definition `AreFindings` of `specs/Findings.antt` lists each kind in the
 //! standard's words; which values are licence expressions by a profile of operators is a reading
 //! (`IsReading`).
+//!
+//! `reading_laws` and `laws` say that what documents say is defined for each: all bytes have a
+//! reading, what ships is one list, and digests have a code.
 #![tactic(auto)]
 
 mod document;
 mod expression;
 mod field;
 mod finding;
+pub mod laws;
 mod missing;
+pub mod reading_laws;
 
 pub use desk_model::{Finding, FindingKind, MissingField};
 pub use document::{findings, findings_in};

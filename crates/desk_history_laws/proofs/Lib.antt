@@ -14,3 +14,36 @@ mod FrozenRows
 mod FrozenChoices
 mod Bills
 mod Billed
+mod Ships
+mod Findings
+mod Listings
+mod Verdicts
+mod Reading
+mod Rights
+mod Once
+mod Ordered
+pub mod ChoiceSets
+mod Held
+mod Forms
+mod Ids
+pub mod Lists
+pub mod Parts
+pub mod Recorded
+pub mod Numbered
+pub mod Loads
+pub mod Imports
+pub mod Duties
+pub mod Later
+mod Runs
+mod Changes
+mod Words
+mod Rules
+mod Owed
+mod Orders
+mod Concluded
+mod HeldRows
+mod Kept
+mod ChoiceRows
+mod Printed
+mod Spelled
+mod ReadingRights

@@ -5,3 +5,7 @@ pub mod Dates
 pub mod Standing
 pub mod Ids
 pub mod Billed
+pub mod Forms
+pub mod Held
+pub mod Premises
+pub mod ChoicePremises

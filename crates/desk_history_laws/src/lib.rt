@@ -1,5 +1,5 @@
-//! Laws of the recorded history beside its definitions, each the contract of a function with an
-//! empty body.
+//! Laws of the recorded history, of what texts say and of what an audit asks, each the contract of a
+//! function with an empty body.
 //!
 //! The definitions of `desk_model` go over the commands from the newest to the oldest. Here the
 //! same is said by filters and last entries, with the commands in the order in which they were
@@ -8,7 +8,30 @@
 //! both ways, each field named, a frozen release's choices are its frozen terms, and its bill stays
 //! as its freeze made it. Beside it stands that a set of texts has the texts that are listed, that
 //! a duty has few changes, and that written days sort as dates do.
+//!
+//! The desk's contracts hold for each reading of documents, catalogues, terms and expressions that
+//! is right (`AreRight` of `desk_texts`). They would say nothing if no reading were.
+//! `right_reading_exists` says that there is one, `one_right_reading` that all tell the same,
+//! `choices_are_minimal_sets` what a right reading's verdict means in the words of the expressions,
+//! `held_terms_are_minimal_sets` that what is held for a package is such a minimal set,
+//! `readings_speak_of_terms` what it tells of printed terms, `right_readings_list_ids` that codes
+//! are ids, `choices_have_terms` that an empty choice is never minimal, `expressions_have_no_fault`
+//! that a text is an expression exactly where no fault of it is told, `right_readings_list_once`
+//! that it lists nothing twice, `right_readings_list_in_order` that it lists in order,
+//! `listings_are_all_minimal_sets` that its alternatives are all minimal sets and
+//! `cheapest_sets_are_least` that none costs less than its cheapest.
+//!
+//! The reading is put together from what decides each part: each text spells a term or none
+//! (`desk_catalogue`), a tree or none, each choice has a verdict, and each tree one listing and one
+//! cheapest set or none (`desk_alts::laws`); all bytes spell a document or have a fault
+//! (`desk_findings::reading_laws`).
+//!
+//! The tables of each history meet the ten conditions of an audit (`snapshots`, `audits`).
 #![tactic(auto)]
+
+pub mod audits;
+mod readings;
+pub mod snapshots;
 
 ghost use Rattle.std.specs.Prelude.{◌≡◌, ◌≤◌, ◌+◌, ◌++◌, ◌∷◌, ℕ, Some, None, List, false, map, filter, length, reverse, IsTrue, is_some, unwrap_or};
 ghost use Rattle.std.specs.List.{enumerate_from, flat_map, last_or, list_any};
@@ -48,6 +71,14 @@ ghost use Rattle.desk_history_laws.specs.Filters.{document_row, freezes, given, 
 ghost use Rattle.desk_history_laws.specs.Moved.{left_by, moves_given, step_row, IsMove};
 ghost use Rattle.desk_history_laws.specs.Shipping.{IsShipped};
 ghost use Rattle.desk_history_laws.specs.Standing.{frozen_row, IsDutyRow};
+
+pub use readings::{
+    cheapest_sets_are_least, choices_are_minimal_sets, choices_have_terms,
+    expressions_have_no_fault, findings_are_one_list, held_terms_are_minimal_sets,
+    listings_are_all_minimal_sets, one_right_reading, readings_speak_of_terms,
+    right_reading_exists, right_readings_list_ids, right_readings_list_in_order,
+    right_readings_list_once,
+};
 
 /// The revisions of the catalogue are the texts that were loaded, in order and numbered from 1, and
 /// the rules of all revisions those of each. The catalogue in force is that of the last text

@@ -2,11 +2,11 @@
 use Rattle.std.proofs.Common.{◌≡◌, ℕ, Bool, List, [], ◌∷◌, refl, sym, subst}
 use Rattle.desk_access.specs.Seen.{Seen}
 use Rattle.desk_access.proofs.Chains.{outlasts_self, spared_self}
-use Rattle.desk_http_requests.specs.Requests.{request_for}
-use Rattle.desk_http_requests.specs.declared.asking.Reply.{Reply}
-use Rattle.desk_http_requests.specs.declared.asking.Reply.TheVariants.{Became, Bad, NoRoute, BadCommand, NotText, Memory}
-use Rattle.desk_http_requests.specs.declared.asking.Request.{Request}
-use Rattle.desk_http_requests.specs.declared.asking.Request.TheVariants as request
+use Rattle.desk_http.specs.Requests.{request_for}
+use Rattle.desk_http.specs.declared.asking.Reply.{Reply}
+use Rattle.desk_http.specs.declared.asking.Reply.TheVariants.{Became, Bad, NoRoute, BadCommand, NotText, Memory}
+use Rattle.desk_http.specs.declared.asking.Request.{Request}
+use Rattle.desk_http.specs.declared.asking.Request.TheVariants as request
 use Rattle.desk_http.specs.Connections.{Connection, line_of, line_reply, IsLineOf, AreLines, AreAnswered, AreServed}
 use Rattle.desk_http.specs.Serving.{Answers, IsReply, is_get}
 use Rattle.desk_json.specs.declared.request.Request as json_request

@@ -1,2 +1,8 @@
 pub mod Wants
 pub mod AsLines
+pub mod Stability
+pub mod Found
+pub mod LineEnds
+pub mod Settled
+pub mod Fronts
+pub mod Short

@@ -1,12 +1,12 @@
 -- What bytes want is what they are replied.
 use Rattle.std.proofs.Common.{◌≡◌, ℕ, Bool, List, subst, sym}
 use Rattle.desk_access.specs.Seen.{Seen}
-use Rattle.desk_http_head.specs.Framings.{Asked, refused, asked, IsAsked}
-use Rattle.desk_http_head.specs.declared.status.Status.{Status}
-use Rattle.desk_http_requests.specs.Requests.{request_for}
-use Rattle.desk_http_requests.specs.declared.asking.Reply.{Reply}
-use Rattle.desk_http_requests.specs.declared.asking.Reply.TheVariants.{Became, Bad, NoRoute, BadCommand, NotText, Memory}
-use Rattle.desk_http_requests.specs.declared.asking.Request.{Request}
+use Rattle.desk_http.specs.Framings.{Asked, refused, asked, IsAsked}
+use Rattle.desk_http.specs.declared.status.Status.{Status}
+use Rattle.desk_http.specs.Requests.{request_for}
+use Rattle.desk_http.specs.declared.asking.Reply.{Reply}
+use Rattle.desk_http.specs.declared.asking.Reply.TheVariants.{Became, Bad, NoRoute, BadCommand, NotText, Memory}
+use Rattle.desk_http.specs.declared.asking.Request.{Request}
 use Rattle.desk_http.specs.Serving.{Wants, Answers, IsReply, is_get}
 use Rattle.desk_http.specs.declared.answering.Wanted.TheVariants as wanted
 use Rattle.desk_model.specs.Readings.{Readings}

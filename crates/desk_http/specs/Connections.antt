@@ -1,13 +1,13 @@
 -- Connections that are served one after the other.
 use Rattle.std.specs.Prelude.{◌≡◌, ℕ, List, [], ◌∷◌}
 use Rattle.desk_access.specs.Seen.{Seen}
-use Rattle.desk_http_head.specs.Framings.{refused, asked, IsAsked}
-use Rattle.desk_http_requests.specs.Replies.{Told, IsTold}
-use Rattle.desk_http_requests.specs.Requests.{request_for}
-use Rattle.desk_http_requests.specs.declared.asking.Reply.{Reply}
-use Rattle.desk_http_requests.specs.declared.asking.Reply.TheVariants as reply
-use Rattle.desk_http_requests.specs.declared.asking.Request.{Request}
-use Rattle.desk_http_requests.specs.declared.asking.Request.TheVariants.{Act, Ask}
+use Rattle.desk_http.specs.Framings.{refused, asked, IsAsked}
+use Rattle.desk_http.specs.Replies.{Told, IsTold}
+use Rattle.desk_http.specs.Requests.{request_for}
+use Rattle.desk_http.specs.declared.asking.Reply.{Reply}
+use Rattle.desk_http.specs.declared.asking.Reply.TheVariants as reply
+use Rattle.desk_http.specs.declared.asking.Request.{Request}
+use Rattle.desk_http.specs.declared.asking.Request.TheVariants.{Act, Ask}
 use Rattle.desk_http.specs.Serving.{IsAnswered}
 use Rattle.desk_json.specs.declared.request.Request as json_request
 use Rattle.desk_json.specs.declared.request.Request.TheVariants as line

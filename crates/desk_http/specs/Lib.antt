@@ -1,2 +1,14 @@
 pub mod Serving
 pub mod Connections
+pub mod Limits
+pub mod Statuses
+pub mod Fields
+pub mod Heads
+pub mod Framings
+pub mod Receiving
+pub mod Sending
+pub mod Paths
+pub mod Routes
+pub mod Requests
+pub mod OutcomeStatuses
+pub mod Replies

@@ -2,21 +2,21 @@
 use Rattle.std.specs.Prelude.{◌≡◌, ℕ, Bool, ◌<◌, ◌≤◌, List, length, codes, Option}
 use Rattle.std.specs.Str.{bytes_eq}
 use Rattle.std.specs.Io.KnownBytes.{Appends, Consumes, Keeps}
-use Rattle.desk_http_head.specs.Framings.{Asked, refused, asked, IsAsked}
-use Rattle.desk_http_head.specs.Limits as most
-use Rattle.desk_http_head.specs.Receiving.{AreLeft}
-use Rattle.desk_http_head.specs.Sending.{AppendsFront}
-use Rattle.desk_http_head.specs.declared.receiving.ServeFault.{ServeFault}
-use Rattle.desk_http_head.specs.declared.receiving.ServeFault.TheVariants as fault
-use Rattle.desk_http_requests.specs.Replies.{Told, IsTold, reply_bytes}
-use Rattle.desk_http_requests.specs.Requests.{request_for}
-use Rattle.desk_http_requests.specs.declared.asking.Reply.{Reply}
-use Rattle.desk_http_requests.specs.declared.asking.Reply.TheVariants as reply
+use Rattle.desk_http.specs.Framings.{Asked, refused, asked, IsAsked}
+use Rattle.desk_http.specs.Limits as most
+use Rattle.desk_http.specs.Receiving.{AreLeft}
+use Rattle.desk_http.specs.Sending.{AppendsFront}
+use Rattle.desk_http.specs.declared.receiving.ServeFault.{ServeFault}
+use Rattle.desk_http.specs.declared.receiving.ServeFault.TheVariants as fault
+use Rattle.desk_http.specs.Replies.{Told, IsTold, reply_bytes}
+use Rattle.desk_http.specs.Requests.{request_for}
+use Rattle.desk_http.specs.declared.asking.Reply.{Reply}
+use Rattle.desk_http.specs.declared.asking.Reply.TheVariants as reply
 use Rattle.desk_http.specs.declared.answering.Wanted.{Wanted}
 use Rattle.desk_http.specs.declared.answering.Wanted.TheVariants as wanted
-use Rattle.desk_http_requests.specs.declared.asking.Request.{Request}
-use Rattle.desk_http_requests.specs.declared.asking.Request.TheVariants.{Act, Ask, NoRoute, BadCommand, NotText}
-use Rattle.desk_http_requests.specs.declared.asking.Shape.TheVariants.{Json}
+use Rattle.desk_http.specs.declared.asking.Request.{Request}
+use Rattle.desk_http.specs.declared.asking.Request.TheVariants.{Act, Ask, NoRoute, BadCommand, NotText}
+use Rattle.desk_http.specs.declared.asking.Shape.TheVariants.{Json}
 use Rattle.desk_http.specs.declared.serving.Served.{Served}
 use Rattle.desk_http.specs.declared.serving.Served.TheVariants.{Replied, Nothing}
 use Rattle.desk_access.specs.Seen.{Seen}

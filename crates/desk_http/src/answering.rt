@@ -1,16 +1,20 @@
 //! Answers the request that bytes ask.
 
 ghost use Rattle.std.specs.Prelude.{◌≡◌, ◌<◌, List, ℕ, length, MatchOption};
-ghost use Rattle.desk_http_head.specs.Framings.{Framed, IsFraming, closed, IsAsked, Asked};
-ghost use Rattle.desk_http_head.specs.Receiving.{IsReceived};
+ghost use Rattle.desk_http.specs.Framings.{Framed, IsFraming, closed, IsAsked, Asked};
+ghost use Rattle.desk_http.specs.Receiving.{IsReceived};
 ghost use Rattle.desk_http.specs.Serving.{Wants, Answers, IsReply, is_get};
 ghost use Rattle.desk_json.specs.declared.request.Request.TheVariants.{Act, Ask};
 ghost use Rattle.desk_script.specs.Replies.{Replies};
 ghost use Rattle.desk_script.specs.declared.answer.Reply.TheVariants as script;
 
+use crate::asking::{Reply, Request, Shape};
+use crate::framing::{Framing, frame};
+use crate::reading::request_of;
+use crate::receiving::Received;
+use crate::status::Status;
+use crate::table::RouteTable;
 use desk_core::desk::Desk;
-use desk_http_head::{Framing, Received, Status, frame};
-use desk_http_requests::{Reply, Request, RouteTable, Shape, request_of};
 use desk_model::{Command, Outcome, Query};
 use std::alloc::Global;
 

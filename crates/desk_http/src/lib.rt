@@ -1,23 +1,62 @@
 //! The desk over HTTP (RFC 9110, RFC 9112): bytes in, bytes out, one request for each connection.
 //!
-//! - `request` reads the request that bytes begin with, and `reply` is the reply to an outcome
-//!   (`desk_http_requests`): JSON, or one of the texts of `desk_report` for the routes that ask for
-//!   them.
+//! - `frame` says what the bytes that came so far begin with: a request, a status that refuses
+//!   them, or a part of a request. What it reads is defined over the grammar of `httparse`
+//!   (`specs/Framings.antt`), and stays what it is when more bytes come.
+//! - `receive` reads from a reader until that is settled, whatever pieces the bytes come in, and no
+//!   further. It looks at the bytes anew only where a look can change something, so many small
+//!   pieces cost no more than their number. `send` writes bytes; where that fails, a front of them
+//!   was written.
+//! - `RouteTable` is the table of routes, one row for each: its method, its pattern and what it
+//!   asks for. `RouteTable::route_of` looks a method and a path up by `matchit`, without percent
+//!   decoding. The same table stands in `specs/Routes.antt`.
+//! - `request` reads the request that bytes begin with: a command or a query of the desk, or why
+//!   there is none. What a method, a target and a body ask for is a function of them
+//!   (`specs/Requests.antt`), over the table of routes.
+//! - `reply` is the reply to an outcome: its status, which `specs/OutcomeStatuses.antt` has by the
+//!   numbers of refusals, and as its body the JSON line of `desk_json`, or the notices or the table of
+//!   duties of `desk_report` if they are asked for (`specs/Replies.antt`).
+//! - `message_of` is what is written of a reply. Three of them take no memory: that there was none
+//!   for a request, or for the text of a reply, and that the store failed.
 //! - `serve_one` reads a request, has the desk answer it and writes the reply
 //!   (`specs/Serving.antt`). What it replies depends on the bytes alone, however they were cut.
 //!   Nothing is written where no byte came. `serve_with` is the same for one connection of many,
 //!   which keep the table of routes.
 //!
+//! A head is limited to 16,384 bytes and 64 fields, a body to 8 MiB, a connection to 1,048,576
+//! reads (`limits`). Bodies in chunks are refused with 501, and `Expect` is ignored.
+//!
 //! `read_command`, `reply_line` and `script` are the same requests and replies as lines.
 #![tactic(auto)]
 
 mod answering;
+mod asking;
 mod connections;
+mod fields;
+mod framing;
+pub mod limits;
+mod paths;
+mod reading;
+mod receiving;
+mod replies;
+mod sending;
 mod serving;
+mod status;
+mod statuses;
+mod table;
 
+pub use asking::{Reading, Reply, Request, Shape};
 pub use connections::connections_are_lines;
-pub use desk_http_head::{ServeFault, Status};
-pub use desk_http_requests::{Reading, Request, RouteTable, Shape, reply, request};
 pub use desk_json::{read_command, reply_line};
 pub use desk_script::script;
+pub use fields::{BodyLength, number_of};
+pub use framing::{Awaited, Framing, frame};
+pub use paths::{part_at, path_of};
+pub use reading::{request, request_of};
+pub use receiving::{Received, ServeFault, receive};
+pub use replies::{Message, message_of, no_memory, no_store, no_text, reply};
+pub use sending::send;
 pub use serving::{Served, serve_one, serve_with};
+pub use status::Status;
+pub use statuses::status_of;
+pub use table::{Posted, Route, RouteTable, Shown};

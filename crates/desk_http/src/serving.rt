@@ -2,15 +2,19 @@
 
 ghost use Rattle.std.specs.Prelude.{◌≡◌, List, ℕ, IfOk, IfErr, OnErr};
 ghost use Rattle.std.specs.Io.KnownBytes.{Appends};
-ghost use Rattle.desk_http_head.specs.Receiving.{AreLeft, IsPrompt};
-ghost use Rattle.desk_http_head.specs.Sending.{AppendsFront};
-ghost use Rattle.desk_http_requests.specs.Replies.{Told, IsTold, reply_bytes};
+ghost use Rattle.desk_http.specs.Receiving.{AreLeft, IsPrompt};
+ghost use Rattle.desk_http.specs.Sending.{AppendsFront};
+ghost use Rattle.desk_http.specs.Replies.{Told, IsTold, reply_bytes};
 ghost use Rattle.desk_http.specs.Serving.{IsServed, IsStopped};
 
 use crate::answering::answer;
+use crate::asking::Reply;
+use crate::receiving::{ServeFault, receive};
+use crate::replies::{Message, message_of, no_memory, no_store, no_text};
+use crate::sending::send;
+use crate::status::Status;
+use crate::table::RouteTable;
 use desk_core::desk::Desk;
-use desk_http_head::{ServeFault, Status, receive, send};
-use desk_http_requests::{Message, Reply, RouteTable, message_of, no_memory, no_store, no_text};
 use std::alloc::Global;
 use std::io::{Read, Write};
 

@@ -1,7 +1,7 @@
 //! What an import took in, told on standard error.
 
 use desk_base::Profile;
-use desk_summary::{Summary, summary_of};
+use desk_import::{Summary, summary_of};
 use desk_tagvalue::read;
 use std::alloc::Global;
 

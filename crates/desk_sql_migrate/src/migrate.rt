@@ -40,8 +40,8 @@ fn report_inside<S: Alter>(alloc: Global, tx: &mut Transaction<'_, S>) -> Result
         result }
 {
     desk_history::listed_tables_are_sorted();
-    desk_texts_laws::right_readings_list_in_order();
-    desk_audit_laws::histories_are_sound();
+    desk_history_laws::right_readings_list_in_order();
+    desk_history_laws::audits::histories_are_sound();
     let snapshot = snapshot_inside(alloc, tx)?;
     let report = judge(alloc, &snapshot)?;
     Ok(report)

@@ -33,8 +33,8 @@ pub fn audit_connection<S: Alter>(
     ensures mode { conn.new.in_transaction ≡ false }
 {
     desk_history::listed_tables_are_sorted();
-    desk_texts_laws::right_readings_list_in_order();
-    desk_audit_laws::histories_are_sound();
+    desk_history_laws::right_readings_list_in_order();
+    desk_history_laws::audits::histories_are_sound();
     let snapshot = desk_sql_scan::snapshot(alloc, conn)?;
     let report = judge(alloc, &snapshot)?;
     Ok(report)

@@ -8,17 +8,17 @@ ghost use Rattle.desk_access.specs.Seen.{Looked};
 ghost use Rattle.desk_core.specs.Desks.{InHistory};
 ghost use Rattle.desk_snapshot.specs.Tables.{snapshot_of};
 ghost use Rattle.desk_texts.specs.Right.{AreRight};
-ghost use Rattle.desk_choices.specs.Sole.{sole_choices_found};
+ghost use Rattle.desk_wanting.specs.Sole.{sole_choices_found};
 ghost use Rattle.desk_wanting.specs.Idle.{idle_found};
 ghost use Rattle.desk_wanting.specs.Obstacles.{wanting_found};
 
 use crate::desk::SqlDesk;
 use desk_base::Text;
-use desk_choices::SoleChoice;
 use desk_core::{Desk, Fault};
 use desk_model::Refusal;
 use desk_snapshot::Snapshot;
 use desk_texts::Standard;
+use desk_wanting::SoleChoice;
 use sqlite::Alter;
 use std::alloc::Global;
 
@@ -47,7 +47,7 @@ impl<S: Alter> SqlDesk<S> {
         desk_wanting::wanting(alloc, &Standard, &mut self.desk.store, release)
     }
 
-    /// The choices of a release that leave nothing to choose, as `desk_choices::sole_choices` lists
+    /// The choices of a release that leave nothing to choose, as `desk_wanting::sole_choices` lists
     /// them. The desk is as it was.
     pub fn sole_choices(
         &mut self,
@@ -61,7 +61,7 @@ impl<S: Alter> SqlDesk<S> {
         ensures kept { Looked (⟦<SqlDesk<S> as Desk>⟧.seen self.old)
             (⟦<SqlDesk<S> as Desk>⟧.seen self.new) result }
     {
-        desk_choices::sole_choices(alloc, &Standard, &mut self.desk.store, release)
+        desk_wanting::sole_choices(alloc, &Standard, &mut self.desk.store, release)
     }
 
     /// The documents of a release that ship no package, as `desk_wanting::idle_documents` lists

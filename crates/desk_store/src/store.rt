@@ -117,7 +117,7 @@ impl<S: Alter> SqlStore<S> {
             (⟦<SqlStore<S> as Store>⟧.seen self.new) result }
     {
         desk_history::listed_tables_are_sorted();
-        desk_texts_laws::right_readings_list_in_order();
+        desk_history_laws::right_readings_list_in_order();
         desk_sql_scan::snapshot(self.alloc, &mut self.conn)
     }
 

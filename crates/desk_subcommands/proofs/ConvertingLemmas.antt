@@ -2,9 +2,9 @@
 use Rattle.std.proofs.Common.{◌≡◌, ◌<◌, ◌+◌, ◌⊎◌, ℕ, nat_eq, true, false, List, Option, Result, Ok, Err, length, drop, get_or, add-one, drop-cons, refl, inl, inr}
 use Rattle.std.specs.Prelude.{IfOk}
 use Rattle.std.specs.Io.KnownBytes.{Appends}
-use Rattle.desk_convert.specs.Results.{IsRefused}
-use Rattle.desk_convert.specs.declared.faults.ConvertFault.{ConvertFault}
-use Rattle.desk_convert.specs.declared.faults.ConvertFault.TheVariants.{Memory}
+use Rattle.desk_import.specs.Results.{IsRefused}
+use Rattle.desk_import.specs.declared.faults.ConvertFault.{ConvertFault}
+use Rattle.desk_import.specs.declared.faults.ConvertFault.TheVariants.{Memory}
 use Rattle.desk_subcommands.specs.Converting.{begins_object, convert_fault_line, Converts, is_json_blank}
 use Rattle.desk_subcommands.specs.declared.failure.Failure.{Failure}
 

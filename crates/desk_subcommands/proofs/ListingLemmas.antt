@@ -20,7 +20,7 @@ use Rattle.desk_subcommands.specs.declared.listing.Listing.{Listing}
 use Rattle.desk_subcommands.specs.declared.listing.Listing.TheVariants.{Sets, TooManyTerms, TooMany, Unread}
 use Rattle.desk_subcommands.specs.Report.{text_of}
 use Rattle.desk_subcommands.specs.Listing.{IsListing, IsListingOf, set_text, sets_text, listing_text, listing_status, ListsOnce}
-use Rattle.desk_expr_laws.proofs.TreeStops.{one_stop}
+use Rattle.desk_alts.proofs.TreeStops.{one_stop}
 use Rattle.desk_subcommands.proofs.OneAnswer.{one_tree}
 
 -- ---- the lines

@@ -16,8 +16,8 @@ use Rattle.desk_expr.proofs.Minimal.{holds_more, not_minimal_if_can_go}
 use Rattle.desk_subcommands.specs.Report.{IsBad, IsFirstBad, IsReport, IsVerdict, SpellTerms, TellsOnce, status_of, text_of}
 use Rattle.desk_subcommands.specs.declared.report.Report.{Report}
 use Rattle.desk_subcommands.specs.declared.report.Report.TheVariants.{Minimal, NotEnough, Superfluous, BadTerm, Fault}
-use Rattle.desk_expr_laws.proofs.TreeStops.{one_stop}
-use Rattle.desk_expr_laws.proofs.Splits.{Cuts, two_cuts}
+use Rattle.desk_alts.proofs.TreeStops.{one_stop}
+use Rattle.desk_alts.proofs.Splits.{Cuts, two_cuts}
 
 -- ---- the words
 

@@ -1,10 +1,10 @@
 -- What `convert` writes, and what `import` takes for a document.
 use Rattle.std.specs.Prelude.{◌≡◌, ◌⊎◌, ◌==◌, ◌||◌, ◌++◌, ◌∷◌, [], ℕ, Bool, false, List, if◌then◌else◌, codes}
 use Rattle.std.specs.String.{string_bytes}
-use Rattle.desk_convert.specs.Results.{IsConverted, IsRefused}
-use Rattle.desk_convert.specs.declared.converting.Converted.{Converted}
-use Rattle.desk_convert.specs.declared.faults.ConvertFault.{ConvertFault}
-use Rattle.desk_convert.specs.declared.faults.ConvertFault.TheVariants.{Memory, NotJson, Missing, BadType, BadValue}
+use Rattle.desk_import.specs.Results.{IsConverted, IsRefused}
+use Rattle.desk_import.specs.declared.converting.Converted.{Converted}
+use Rattle.desk_import.specs.declared.faults.ConvertFault.{ConvertFault}
+use Rattle.desk_import.specs.declared.faults.ConvertFault.TheVariants.{Memory, NotJson, Missing, BadType, BadValue}
 
 -- the name of a fault, and where in the document it is
 abbrev pub fault_words : ConvertFault → List ℕ

@@ -7,8 +7,8 @@ use Rattle.desk_model.specs.declared.command.Answer.TheVariants.{Refused}
 use Rattle.desk_model.specs.declared.command.Outcome.TheVariants.{Answered}
 use Rattle.desk_model.specs.declared.refusal.DocumentFault.{DocumentFault}
 use Rattle.desk_model.specs.declared.refusal.Refusal.TheVariants.{BadDocument}
-use Rattle.desk_summary.specs.Proposals.{AreProposals}
-use Rattle.desk_summary.specs.declared.proposals.Proposals.{Proposals}
+use Rattle.desk_import.specs.Proposals.{AreProposals}
+use Rattle.desk_import.specs.declared.proposals.Proposals.{Proposals}
 use Rattle.desk_tagvalue.specs.Documents.{Spells}
 use Rattle.desk_tagvalue.specs.Parts.{DocumentText}
 use Rattle.desk_subcommands.specs.Filing.{outcome_line}

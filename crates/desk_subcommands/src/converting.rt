@@ -3,15 +3,15 @@
 ghost use Rattle.std.specs.Prelude.{◌≡◌, ◌⊎◌, ◌++◌, true, false, ℕ, List, IfOk, IfErr, OnOk, codes};
 ghost use Rattle.std.specs.String.{string_bytes};
 ghost use Rattle.std.specs.Io.KnownBytes.{Appends, Keeps};
-ghost use Rattle.desk_convert.specs.Results.{IsConverted, IsRefused};
-ghost use Rattle.desk_convert.specs.declared.converting.Converted.{Converted as Made};
+ghost use Rattle.desk_import.specs.Results.{IsConverted, IsRefused};
+ghost use Rattle.desk_import.specs.declared.converting.Converted.{Converted as Made};
 ghost use Rattle.desk_subcommands.specs.Converting.{begins_object, convert_fault_line, Converts, fault_words, is_json_blank};
 ghost use Rattle.desk_subcommands.specs.Failures.{IfMemory, IsOfOutput};
 
 use crate::failure::Failure;
 use crate::filing::{write_line, write_text};
 use desk_base::Text;
-use desk_convert::{ConvertFault, Skipped};
+use desk_import::{ConvertFault, Skipped};
 use std::alloc::{AllocError, Global};
 use std::io::Write;
 
@@ -46,7 +46,7 @@ pub fn document_of(alloc: Global, bytes: Vec<u8>) -> Result<Vec<u8>, ConvertFaul
     if !begins_object(bytes.as_slice()) {
         return Ok(bytes);
     }
-    let converted = desk_convert::convert(alloc, bytes.as_slice())?;
+    let converted = desk_import::convert(alloc, bytes.as_slice())?;
     Ok(converted.text.into_bytes())
 }
 
@@ -125,7 +125,7 @@ pub fn convert<W: Write, T: Write>(
     ensures memory { IfErr result
         (IfMemory (Keeps (W.contents writer.old) (W.contents writer.new))) }
 {
-    match desk_convert::convert(alloc, bytes) {
+    match desk_import::convert(alloc, bytes) {
         Ok(converted) => {
             write_text(writer, converted.text.as_bytes())?;
             // Where that can't be told, the document is written all the same.

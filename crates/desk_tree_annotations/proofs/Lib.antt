@@ -1,3 +1,15 @@
 pub mod RightLemmas
 pub mod EntryLemmas
 pub mod SiftLemmas
+pub mod Names
+pub mod Greedy
+pub mod Falls
+pub mod GlobOnce
+pub mod Needles
+pub mod RunLemmas
+pub mod TagLemmas
+pub mod RunOnce
+pub mod TagOnce
+pub mod EachRun
+pub mod SkipLemmas
+pub mod StartLemmas

@@ -7,9 +7,9 @@ use denote.Ref.{Bor}
 use Rattle.desk_expr.specs.Faults.{fault_number}
 use Rattle.desk_expr.specs.declared.fault.ParseFault.{ParseFault}
 use Rattle.desk_expr.specs.declared.fault.ParseFault.TheVariants.{Memory}
-use Rattle.desk_reuse.specs.declared.glob.Piece.{Piece}
-use Rattle.desk_reuse.specs.Glob.{Spells}
-use Rattle.desk_reuse.proofs.GlobOnce.{spells_once}
+use Rattle.desk_tree_annotations.specs.declared.glob.Piece.{Piece}
+use Rattle.desk_tree_annotations.specs.Glob.{Spells}
+use Rattle.desk_tree_annotations.proofs.GlobOnce.{spells_once}
 use Rattle.desk_tree_annotations.specs.Right.{Tells, Reading, IsRight}
 use Rattle.desk_base.specs.Borrowed.{texts}
 

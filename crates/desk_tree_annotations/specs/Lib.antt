@@ -4,3 +4,9 @@ pub mod Values
 pub mod Reading
 pub mod Sifting
 pub mod Shown
+pub mod Glob
+pub mod Steps
+pub mod Runs
+pub mod Tags
+pub mod Found
+pub mod Skipping

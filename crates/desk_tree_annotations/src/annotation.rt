@@ -1,7 +1,7 @@
 //! Annotations.
 
+use crate::glob::Glob;
 use desk_base::{Items, Text};
-use desk_reuse::Glob;
 
 /// How an annotation stands to what a file states itself.
 #[derive(Clone, Copy, PartialEq, Eq)]

@@ -1,5 +1,6 @@
-//! Reads a REUSE.toml (REUSE Specification 3.3, "REUSE.toml"): the annotations that it gives to the
-//! files below its folder.
+//! What files and REUSE.toml files state of licences and notices (REUSE Specification 3.3): the tags
+//! of a file, the patterns of paths, and the annotations that a REUSE.toml gives to the files below
+//! its folder.
 //!
 //! ```toml
 //! version = 1
@@ -11,28 +12,42 @@
 //! SPDX-License-Identifier = "Apache-2.0"
 //! ```
 //!
-//! `annotations_of` (`specs/Reading.antt`) is a function of the text: the annotations in order, or
-//! the first fault. It speaks of the table that `toml` reads in the text and, by a `Reading` that
-//! it is given, of the pieces of patterns and of which texts are licence expressions.
-//! `Annotations::read` answers as it says for each reading that is right by the definitions of
-//! `desk_reuse` and `desk_expr` (`IsRight`); they all give one answer (`one_reading`).
-//!
-//! `Annotations::sift` goes on past faults: it gives all annotations that can be read, and the
-//! fault of each other one (`specs/Sifting.antt`). Where `read` gives annotations, they are those,
-//! and else its fault is the first (`reading_is_sifting`).
+//! - `header` gives the notices and licences of a file's bytes, each with its line
+//!   (`specs/Runs.antt`, `specs/Tags.antt`).
+//! - `Glob::parse` reads a pattern, and `Glob::matches` says whether a path divides into stretches,
+//!   one for each of its pieces in order (`specs/Glob.antt`). A contract sees a `Glob` as the list of
+//!   its pieces.
+//! - `Annotations::read` reads a REUSE.toml. `annotations_of` (`specs/Reading.antt`) is a function of
+//!   the text: the annotations in order, or the first fault. It speaks of the table that `toml` reads
+//!   in the text and, by a `Reading` that it is given, of the pieces of patterns and of which texts
+//!   are licence expressions. `read` answers as it says for each reading that is right by the
+//!   definitions of patterns and of `desk_expr` (`IsRight`); they all give one answer
+//!   (`one_reading`).
+//! - `Annotations::sift` goes on past faults: it gives all annotations that can be read, and the
+//!   fault of each other one (`specs/Sifting.antt`). Where `read` gives annotations, they are those,
+//!   and else its fault is the first (`reading_is_sifting`).
 #![tactic(auto)]
 
 mod annotation;
 mod entries;
 mod expressions;
 mod fault;
+mod glob;
+mod info;
 mod laws;
+mod matching;
 mod reading;
+mod runs;
 mod sifting;
+mod skipping;
+mod tags;
 mod values;
 
 pub use annotation::{Annotation, Annotations, Precedence};
 pub use expressions::{is_expression, is_expression_beside};
 pub use fault::{AnnotationFault, AnnotationsFault};
+pub use glob::{Glob, Piece, each_text_is_a_glob, one_glob};
+pub use info::{Info, header, one_header};
 pub use laws::{one_reading, reading_is_sifting};
 pub use sifting::Sifted;
+pub use tags::Tagged;

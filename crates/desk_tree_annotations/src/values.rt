@@ -8,8 +8,8 @@ ghost use Rattle.desk_tree_annotations.specs.Values.{strings, texts_of, texts_at
 ghost use Rattle.desk_base.specs.Borrowed.{texts, texts_in};
 
 use crate::annotation::Precedence;
+use crate::glob::Glob;
 use desk_base::{Items, Text};
-use desk_reuse::Glob;
 use std::alloc::{AllocError, Global};
 use toml::{Table, Value};
 

@@ -2,10 +2,10 @@
 use Rattle.std.proofs.Common.{◌≡◌, ℕ, Bool, List}
 use Rattle.std.specs.Bool.{Decides}
 use Rattle.std.proofs.lemmas.Bool.Decides.{same_from_decides}
-use Rattle.desk_reuse.specs.declared.glob.Piece.{Piece}
-use Rattle.desk_reuse.specs.Glob.{IsMatch}
-use Rattle.desk_reuse.specs.Tags.{IsInfo}
-use Rattle.desk_reuse.proofs.TagOnce.{info_once}
+use Rattle.desk_tree_annotations.specs.declared.glob.Piece.{Piece}
+use Rattle.desk_tree_annotations.specs.Glob.{IsMatch}
+use Rattle.desk_tree_annotations.specs.Tags.{IsInfo}
+use Rattle.desk_tree_annotations.proofs.TagOnce.{info_once}
 use Rattle.desk_tree_annotations.proofs.RightLemmas.{same_reading, same_test}
 use Rattle.desk_tree_annotations.specs.Right.{Tells}
 use Rattle.desk_tree_gather.specs.Readers.{Reader, IsRightReader, Stated}

@@ -3,9 +3,9 @@ use Rattle.std.proofs.Common.{◌≡◌, ◌∙◌, ℕ, ◌+◌, ◌<◌, true,
 use Rattle.std.specs.Prelude.{Result, IfOk}
 use Rattle.std.proofs.lemmas.List.{drop_more}
 use Rattle.std.specs.declared.alloc.AllocError.{AllocError}
-use Rattle.desk_reuse.specs.Tags.{tag_text}
-use Rattle.desk_reuse.specs.declared.info.Info.{Info}
-use Rattle.desk_reuse.specs.declared.tags.Tagged.{Tagged}
+use Rattle.desk_tree_annotations.specs.Tags.{tag_text}
+use Rattle.desk_tree_annotations.specs.declared.info.Info.{Info}
+use Rattle.desk_tree_annotations.specs.declared.tags.Tagged.{Tagged}
 use Rattle.desk_tree_gather.specs.declared.fault.GatherFault.{GatherFault}
 use Rattle.desk_tree_gather.specs.declared.files.SourceFile.{SourceFile}
 use Rattle.desk_tree_gather.specs.Readers.{Reader, Stated}

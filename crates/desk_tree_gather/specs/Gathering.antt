@@ -1,6 +1,6 @@
 -- What is gathered of a tree: the information of each covered file, or the first fault.
 use Rattle.std.specs.Prelude.{ℕ, List, [], ◌∷◌, ◌++◌, map, codes, Option, Some, None, Ok, Err, if◌then◌else◌}
-use Rattle.desk_reuse.specs.Tags.{TagText}
+use Rattle.desk_tree_annotations.specs.Tags.{TagText}
 use Rattle.desk_model.specs.Texts.{sorted_set}
 use Rattle.desk_tree_annotations.specs.declared.annotation.Annotation.{Annotation}
 use Rattle.desk_tree_gather.specs.declared.fault.GatherFault.TheVariants.{BadExpression}

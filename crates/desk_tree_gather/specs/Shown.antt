@@ -4,8 +4,8 @@ use Rattle.std.specs.BTreeMap.{BTreeMap}
 use Rattle.std.specs.String.{string_bytes}
 use denote.Ref.{Bor}
 use Rattle.desk_tree_annotations.specs.declared.annotation.Annotation.{Annotation}
-use Rattle.desk_reuse.specs.Tags.{tag_text}
-use Rattle.desk_reuse.specs.declared.info.Info.{Info}
+use Rattle.desk_tree_annotations.specs.Tags.{tag_text}
+use Rattle.desk_tree_annotations.specs.declared.info.Info.{Info}
 use Rattle.desk_tree_gather.specs.Readers.{Stated}
 use Rattle.desk_tree_gather.specs.declared.fault.GatherFault.{GatherFault}
 use Rattle.desk_tree_gather.specs.declared.files.File.{File}

@@ -4,7 +4,7 @@ use Rattle.std.specs.List.{flat_map}
 use Rattle.std.specs.Option.{is_some}
 use Rattle.std.specs.Str.{is_utf8}
 use Rattle.desk_base.specs.Limits as most
-use Rattle.desk_reuse.specs.Tags.{TagText}
+use Rattle.desk_tree_annotations.specs.Tags.{TagText}
 use Rattle.desk_tree_annotations.specs.declared.fault.AnnotationsFault.{AnnotationsFault}
 use Rattle.desk_tree_annotations.specs.declared.fault.AnnotationsFault.TheVariants as why
 use Rattle.desk_tree_annotations.specs.Sifting.{good_annotations, annotation_faults}

@@ -1,7 +1,7 @@
 //! What is gathered of a tree.
 
 ghost use Rattle.std.specs.Prelude.{◌≡◌, ◌⊎◌, List, IfOk, IfErr, Ok, Err, alloc_error, option_map, map};
-ghost use Rattle.desk_reuse.specs.Tags.{tag_text};
+ghost use Rattle.desk_tree_annotations.specs.Tags.{tag_text};
 ghost use Rattle.desk_tree_gather.specs.Readers.{Reader, IsRightReader, Stated};
 ghost use Rattle.desk_tree_gather.specs.Tomls.{TomlText};
 ghost use Rattle.desk_tree_gather.specs.Folders.{Holds};
@@ -18,8 +18,7 @@ use crate::information::{Subject, given};
 use crate::tomls::{by_folder, tomls_of};
 use desk_base::{Items, Text};
 use desk_catalogue::sorted_set;
-use desk_reuse::{Info, Tagged, header};
-use desk_tree_annotations::{Annotation, Annotations, is_expression_beside};
+use desk_tree_annotations::{Annotation, Annotations, Info, Tagged, header, is_expression_beside};
 use std::alloc::{AllocError, Global};
 use std::collections::BTreeMap;
 

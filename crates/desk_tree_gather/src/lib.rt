@@ -15,7 +15,7 @@
 //!   (`specs/Telling.antt`), and lets the bytes of each file go once it is told of.
 //! - The definitions are over a `Reader`: the pieces of patterns, the licence expressions, the
 //!   matches of paths and what files state themselves. `gather` answers as they say for each reader
-//!   that is right by the definitions of `desk_reuse` and `desk_expr` (`IsRightReader`), and all
+//!   that is right by the definitions of `desk_tree_annotations` and `desk_expr` (`IsRightReader`), and all
 //!   right readers are one (`one_reader`).
 #![tactic(auto)]
 

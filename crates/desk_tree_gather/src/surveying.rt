@@ -2,7 +2,7 @@
 
 ghost use Rattle.std.specs.Prelude.{◌≡◌, ◌++◌, [], true, IfOk, IfSome, OnOk, map, filter, option_to_list, List};
 ghost use Rattle.std.specs.List.{flat_map};
-ghost use Rattle.desk_reuse.specs.Tags.{tag_text};
+ghost use Rattle.desk_tree_annotations.specs.Tags.{tag_text};
 ghost use Rattle.desk_tree_annotations.specs.Right.{Tells};
 ghost use Rattle.desk_tree_gather.specs.Readers.{Reader, IsRightReader};
 ghost use Rattle.desk_tree_gather.specs.Paths.{is_toml, is_covered};
@@ -19,8 +19,9 @@ use crate::gathering::{FileInfo, Known, holder, info_with};
 use crate::paths::{folder_of, is_path};
 use crate::tomls::{Toml, by_folder};
 use desk_base::{Items, Text, limits};
-use desk_reuse::{Info, Tagged, header};
-use desk_tree_annotations::{Annotations, AnnotationsFault, Sifted, is_expression_beside};
+use desk_tree_annotations::{
+    Annotations, AnnotationsFault, Info, Sifted, Tagged, header, is_expression_beside,
+};
 use std::alloc::{AllocError, Global};
 use std::collections::BTreeMap;
 

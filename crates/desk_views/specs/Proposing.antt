@@ -7,7 +7,7 @@ use Rattle.desk_expr.specs.Tree.{Tree}
 use Rattle.desk_model.specs.Names.{release_state_name}
 use Rattle.desk_model.specs.Readings.{Readings}
 use Rattle.desk_model.specs.declared.state.ReleaseState.TheVariants as release
-use Rattle.desk_choices.specs.declared.package.SoleChoice.{SoleChoice}
+use Rattle.desk_wanting.specs.declared.sole_choice.SoleChoice.{SoleChoice}
 use Rattle.desk_snapshot.specs.Rows.{is_attachment, is_conclusion}
 use Rattle.desk_snapshot.specs.declared.rows.StoredDocument.{StoredDocument}
 use Rattle.desk_snapshot.specs.declared.rows.StoredRelease.{StoredRelease}

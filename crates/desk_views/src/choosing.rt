@@ -2,13 +2,13 @@
 
 ghost use Rattle.std.specs.Prelude.{◌≡◌, filter, IfOk, IfErr};
 ghost use Rattle.std.specs.Io.KnownBytes.{Appends, Keeps};
-ghost use Rattle.desk_choices.specs.Requests.{choice_lines_text};
+ghost use Rattle.desk_wanting.specs.Requests.{choice_lines_text};
 ghost use Rattle.desk_subcommands.specs.Failures.{IfMemory, IsOfOutput};
 ghost use Rattle.desk_views.specs.Proposing.{is_choice_for};
 
 use desk_base::Text;
-use desk_choices::{SoleChoice, choice_lines};
 use desk_subcommands::{Failure, write_text};
+use desk_wanting::{SoleChoice, choice_lines};
 use std::alloc::Global;
 use std::io::Write;
 

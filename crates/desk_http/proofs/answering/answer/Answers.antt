@@ -1,6 +1,6 @@
 use Rattle.std.proofs.Common.{ℕ, List, subst}
-use Rattle.desk_http_head.specs.Framings.{IsFraming, closed}
-use Rattle.desk_http_head.specs.Receiving.{IsReceived}
+use Rattle.desk_http.specs.Framings.{IsFraming, closed}
+use Rattle.desk_http.specs.Receiving.{IsReceived}
 use Rattle.desk_http.proofs.answering.answer.Goals as goal
 
 pub returns-in-Bytes : goal.returns-in-Bytes

@@ -1,5 +1,5 @@
 use Rattle.std.proofs.Common.{Global, Vec, ℕ, ap, subst}
-use Rattle.desk_convert.specs.Results.{IsConverted}
+use Rattle.desk_import.specs.Results.{IsConverted}
 use Rattle.desk_subcommands.proofs.converting.document_of.Goals as goal
 
 pub returns-clause-ok : goal.returns-clause-ok

@@ -1,6 +1,6 @@
 use Rattle.std.proofs.Common.{◌∙◌, ap, sym, map, Some, None}
 use Rattle.std.specs.Prelude.{Err}
-use Rattle.desk_reuse.specs.Tags.{tag_text}
+use Rattle.desk_tree_annotations.specs.Tags.{tag_text}
 use Rattle.desk_tree_gather.specs.declared.fault.GatherFault.TheVariants.{BadExpression}
 use Rattle.desk_tree_gather.specs.Gathering.{bad_line}
 use Rattle.desk_tree_gather.specs.Shown.{stated_of}

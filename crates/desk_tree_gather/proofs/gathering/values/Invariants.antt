@@ -1,5 +1,5 @@
 use Rattle.std.proofs.Common.{◌≡◌, take, map}
-use Rattle.desk_reuse.specs.Tags.{tag_text}
+use Rattle.desk_tree_annotations.specs.Tags.{tag_text}
 use Rattle.desk_tree_gather.specs.Gathering.{values}
 use Rattle.desk_tree_gather.proofs.gathering.values.Given as goal
 use Rattle.desk_base.specs.Borrowed.{texts_in}

@@ -1,6 +1,6 @@
 use Rattle.std.proofs.Common.{◌≡◌, ◌∙◌, ◌++◌, subst}
 use Rattle.desk_tree_annotations.specs.Right.{Tells}
-use Rattle.desk_reuse.specs.Tags.{tag_text}
+use Rattle.desk_tree_annotations.specs.Tags.{tag_text}
 use Rattle.desk_tree_gather.proofs.ReaderLemmas.{same_expression}
 use Rattle.desk_tree_gather.proofs.SurveyLemmas.{told_good, told_bad}
 use Rattle.desk_tree_gather.proofs.surveying.add_tag.Goals as goal

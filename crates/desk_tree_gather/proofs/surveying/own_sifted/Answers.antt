@@ -1,5 +1,5 @@
 use Rattle.std.proofs.Common.{◌∙◌, ◌++◌, map, sym, ap}
-use Rattle.desk_reuse.specs.Tags.{tag_text}
+use Rattle.desk_tree_annotations.specs.Tags.{tag_text}
 use Rattle.desk_tree_gather.specs.Survey.{stated_flaws}
 use Rattle.desk_tree_gather.specs.Shown.{held_in, stated_of}
 use Rattle.desk_tree_gather.proofs.ReaderLemmas.{same_stated}

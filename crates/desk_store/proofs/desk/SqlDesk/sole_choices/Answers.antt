@@ -4,7 +4,7 @@ use Rattle.sqlite.specs.Held.{state}
 use Rattle.std.specs.Result.{result_map_both}
 use Rattle.desk_sql_layout.specs.Held.{seen_of}
 use Rattle.desk_texts.specs.Right.{AreRight}
-use Rattle.desk_choices.specs.Sole.{sole_choices_found}
+use Rattle.desk_wanting.specs.Sole.{sole_choices_found}
 use Rattle.desk_store.specs.Counting.{known_by, tallied}
 use Rattle.desk_store.proofs.FoundRows.{found_by_each}
 use Rattle.desk_store.proofs.desk.SqlDesk.sole_choices.Goals as goal

@@ -1,5 +1,0 @@
-mod Sorted
-mod Numbers
-mod Found
-mod Reading
-mod Alike

@@ -1,2 +1,0 @@
-pub mod InForce
-pub mod HeldAs

@@ -1,5 +1,0 @@
-mod Forming
-mod Judging
-mod Sorting
-mod Ruled
-mod OwedOrders

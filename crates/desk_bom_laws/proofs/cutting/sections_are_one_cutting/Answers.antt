@@ -1,5 +1,0 @@
-use Rattle.desk_bom_laws.proofs.Sections.{whole, faults, packages, files, contents, findings}
-use Rattle.desk_bom_laws.proofs.cutting.sections_are_one_cutting.Goals as goal
-
-pub returns : goal.returns
-returns c = record { whole = whole; faults = faults; packages = packages; files = files; contents = contents; findings = findings }

@@ -1,4 +1,0 @@
-mod Lists
-mod Floats
-mod Accepted
-mod Recorded

@@ -1,5 +1,0 @@
-use Rattle.desk_choices.proofs.Accepted.{accepted}
-use Rattle.desk_choices.proofs.laws.sole_choices_are_accepted.Goals as goal
-
-pub returns : goal.returns
-returns c = λ w t r choices one lists finds e m. accepted w t r lists finds choices one e m

@@ -1,3 +1,0 @@
-pub mod Sole
-pub mod Requests
-pub mod Premises

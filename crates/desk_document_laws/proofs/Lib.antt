@@ -1,4 +1,0 @@
-pub mod FirstPiece
-pub mod EachText
-pub mod EachDocument
-pub mod EachCutting

@@ -1,5 +1,0 @@
-use Rattle.desk_expr_laws.proofs.Cheapest.{cheapest_exists, cheapest_has_costs}
-use Rattle.desk_expr_laws.proofs.minimal_sets.cheapest_exists.Goals as goal
-
-pub returns : goal.returns
-returns c = record { some = cheapest_exists; not_both = cheapest_has_costs }

@@ -1,0 +1,28 @@
+-- The status of a reply to an outcome.
+use Rattle.std.specs.Prelude.{ℕ, Bool, ◌==◌, ◌||◌, if◌then◌else◌}
+use Rattle.desk_http.specs.declared.status.Status.{Status}
+use Rattle.desk_http.specs.declared.status.Status.TheVariants as status
+use Rattle.desk_model.specs.Numbers.{refusal_number}
+use Rattle.desk_model.specs.declared.command.Answer.TheVariants.{Refused}
+use Rattle.desk_model.specs.declared.command.Fault.TheVariants.{Memory, Store}
+use Rattle.desk_model.specs.declared.command.Outcome.{Outcome}
+use Rattle.desk_model.specs.declared.command.Outcome.TheVariants.{Answered, Failed}
+
+-- what isn't there: a document, a package, a release, a duty
+abbrev pub is_absent : ℕ → Bool
+is_absent number = number == 4 || number == 5 || number == 12 || number == 23
+
+-- what stands against what the desk holds
+abbrev pub is_conflict : ℕ → Bool
+is_conflict number = number == 3 || number == 7 || number == 10 || number == 13 || number == 14 || number == 20 || number == 24
+
+-- the status of a refusal, by its number
+abbrev pub refusal_status : ℕ → Status
+refusal_status number =
+    if is_absent number then status.NotFound else if is_conflict number then status.Conflict else status.UnprocessableContent
+
+abbrev pub outcome_status : Outcome → Status
+outcome_status (Answered (Refused why)) = refusal_status (refusal_number why)
+outcome_status (Answered answer) = status.Ok
+outcome_status (Failed Memory) = status.ServiceUnavailable
+outcome_status (Failed (Store cause)) = status.InternalServerError

@@ -1,0 +1,48 @@
+-- What is read of a connection, and when.
+use Rattle.std.specs.Prelude.{◌≡◌, ◌≢◌, ℕ, ◌<◌, ◌≤◌, List, All, ◌++◌, length, Option, IfSome}
+use Rattle.std.specs.Io.KnownBytes.{Consumes}
+use Rattle.desk_http.specs.Framings.{Framed, IsFraming, closed, IsAsked, AwaitsMore}
+use Rattle.desk_http.specs.Heads.{AreLineEnds}
+use Rattle.desk_http.specs.Limits as most
+use Rattle.desk_http.specs.declared.framing.Awaited.{Awaited}
+use Rattle.desk_http.specs.declared.framing.Awaited.TheVariants.{Start, Head, Body}
+use Rattle.desk_http.specs.declared.receiving.Received.{Received}
+use Rattle.desk_http.specs.declared.receiving.Received.TheVariants.{Nothing, Memory, Bytes}
+use Rattle.desk_http.specs.declared.receiving.ServeFault.{ServeFault}
+use Rattle.desk_http.specs.declared.receiving.ServeFault.TheVariants.{Read, Write, Turns}
+
+-- the bytes that a reader has left; of one that doesn't show them, any
+abbrev pub AreLeft : Option (List ℕ) → List ℕ → Type 0
+AreLeft remaining bytes = IfSome remaining (λ known. known ≡ bytes)
+
+-- each reading of these bytes says what all bytes ask that begin with them
+abbrev pub IsSettled : List ℕ → Type 0
+IsSettled front = (more : List ℕ) (f : Framed) → IsFraming front f → IsAsked (front ++ more) (closed f)
+
+-- what was received of these bytes: each reading of what was kept says what they ask
+abbrev pub IsReceived : List ℕ → Received → Type 0
+IsReceived bytes Nothing = length bytes ≡ 0
+IsReceived bytes Memory = 0 < length bytes
+IsReceived bytes (Bytes kept) = (0 < length bytes) × ((f : Framed) → IsFraming kept.items f → IsAsked bytes (closed f))
+
+-- A reader isn't read past the piece with which the request is whole: without the last piece no request was whole, and not more
+-- came than the longest request has.
+pub record IsPrompt (old new : Option (List ℕ)) : Type 0 where
+  pub before : List ℕ
+  pub piece : List ℕ
+  pub read : Consumes old new (before ++ piece)
+  pub awaits : AwaitsMore before
+  pub few : length before < most.request_bytes
+  pub short : length piece ≤ most.piece_bytes
+
+-- a fault of a reader that gave so many bytes: one that was asked too often gave a byte each time at least
+abbrev pub IsOfReader : ServeFault → ℕ → Type 0
+IsOfReader Read count = Unit {0}
+IsOfReader Turns count = most.reads ≤ count
+IsOfReader Write count = ⊥
+
+-- with this piece there are so many bytes, which can't complete what was awaited: a head ends by LF
+abbrev pub IsUndue : List ℕ → ℕ → Awaited → Type 0
+IsUndue came count Start = (count < most.head_bytes) × AreLineEnds came
+IsUndue came count Head = (count < most.head_bytes) × All (λ b. b ≢ 10) came
+IsUndue came count (Body wanted) = count < wanted

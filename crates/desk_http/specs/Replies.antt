@@ -1,0 +1,89 @@
+-- The bytes of a reply (RFC 9112, section 4).
+use Rattle.std.specs.Prelude.{◌≡◌, ℕ, ◌⊎◌, List, ◌++◌, length, codes, true, false}
+use Rattle.std.specs.Fmt.{decimal}
+use Rattle.desk_http.specs.Statuses.{status_line}
+use Rattle.desk_http.specs.declared.status.Status.{Status}
+use Rattle.desk_http.specs.declared.status.Status.TheVariants as status
+use Rattle.desk_http.specs.OutcomeStatuses.{outcome_status}
+use Rattle.desk_http.specs.declared.asking.Reply.{Reply}
+use Rattle.desk_http.specs.declared.asking.Reply.TheVariants.{Became, Bad, NoRoute, BadCommand, NotText, Memory}
+use Rattle.desk_http.specs.declared.asking.Shape.{Shape}
+use Rattle.desk_http.specs.declared.asking.Shape.TheVariants.{Json, Notices, Csv}
+use Rattle.desk_http.specs.declared.replies.Message.{Message}
+use Rattle.desk_http.specs.declared.replies.Message.TheVariants as message
+use Rattle.desk_json.specs.Replies.{reply_text, bad_command_text, fault_reply}
+use Rattle.desk_report.specs.CsvTable.{table_text}
+use Rattle.desk_report.specs.Notices.{notices_text}
+use Rattle.desk_model.specs.declared.command.Answer.TheVariants.{Bill, Duties, Refused}
+use Rattle.desk_model.specs.declared.command.Fault.TheVariants as fault
+use Rattle.desk_model.specs.declared.command.Outcome.{Outcome}
+use Rattle.desk_model.specs.declared.command.Outcome.TheVariants.{Answered, Failed}
+use Rattle.desk_model.specs.declared.refusal.CatalogueFault.TheVariants.{NotToml}
+use Rattle.desk_model.specs.declared.refusal.Refusal.TheVariants.{BadCatalogue}
+use Rattle.serde_json.specs.Written.{compact_text}
+
+-- a media type (RFC 9110, section 8.3) and a body
+abbrev pub Content : Type 0
+Content = List ℕ × List ℕ
+
+abbrev pub json : List ℕ → Content
+json body = (codes "application/json", body)
+
+-- a status, a media type and a body
+abbrev pub Told : Type 0
+Told = Status × Content
+
+-- the lines before a body of so many bytes: each ends by CRLF, and an empty one is the last
+unfoldable pub head_bytes : Status → List ℕ → ℕ → List ℕ
+head_bytes status media_type length =
+    codes "HTTP/1.1 " ++ (status_line status
+    ++ (codes "\r\nContent-Type: " ++ (media_type
+    ++ (codes "\r\nContent-Length: " ++ (decimal length
+    ++ codes "\r\nConnection: close\r\n\r\n")))))
+
+unfoldable pub reply_bytes : Told → List ℕ
+reply_bytes (status, (media_type, body)) = head_bytes status media_type (length body) ++ body
+
+-- What an outcome is written as: a bill and rows of duties as the texts that are asked for, all else as its line of JSON.
+abbrev pub content_of : Outcome → Shape → Content
+content_of (Answered (Bill bill)) Notices = (codes "text/plain; charset=utf-8", notices_text bill)
+content_of (Answered (Duties lines)) Csv = (codes "text/csv; charset=utf-8", table_text lines)
+content_of outcome shape = json (reply_text outcome)
+
+-- what an outcome is told as: its status and how it is written
+abbrev pub told_of : Outcome → Shape → Told
+told_of outcome shape = (outcome_status outcome, content_of outcome shape)
+
+-- a catalogue that isn't UTF-8 is no TOML
+abbrev pub not_toml : Outcome
+not_toml = Answered (Refused (BadCatalogue NotToml))
+
+-- no memory for the request, which wasn't applied
+abbrev pub no_memory : Told
+no_memory = told_of (Failed fault.Memory) Json
+
+-- no memory for the text of a reply
+abbrev pub no_text : Told
+no_text = (status.ServiceUnavailable, json (codes "{\"fault\":\"reply\"}"))
+
+-- the store failed
+abbrev pub no_store : Told
+no_store = (status.InternalServerError, json (compact_text (fault_reply (codes "store"))))
+
+-- what a reply is told as, and what where no memory is left for its text: after a GET, and where the desk wasn't asked, that there
+-- was none; else that the reply has none, though its command may stand
+abbrev pub IsTold : Reply → Told → Type 0
+IsTold (Became outcome shape true) told = (told ≡ told_of outcome shape) ⊎ (told ≡ no_memory)
+IsTold (Became outcome shape false) told = (told ≡ told_of outcome shape) ⊎ (told ≡ no_text)
+IsTold (Bad status) told = (told ≡ (status, json (codes "{\"fault\":\"request\"}"))) ⊎ (told ≡ no_memory)
+IsTold NoRoute told = (told ≡ (status.NotFound, json (codes "{\"fault\":\"route\"}"))) ⊎ (told ≡ no_memory)
+IsTold BadCommand told = (told ≡ (status.BadRequest, json bad_command_text)) ⊎ (told ≡ no_memory)
+IsTold NotText told = (told ≡ told_of not_toml Json) ⊎ (told ≡ no_memory)
+IsTold Memory told = told ≡ no_memory
+
+-- the message that is this
+abbrev pub IsMessage : Told → Message → Type 0
+IsMessage told (message.Made status text) = (told.0 ≡ status) × (text.items ≡ reply_bytes told)
+IsMessage told message.NoMemory = told ≡ no_memory
+IsMessage told message.NoText = told ≡ no_text
+IsMessage told message.NoStore = told ≡ no_store

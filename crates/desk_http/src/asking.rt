@@ -1,0 +1,58 @@
+//! What a client asks for over HTTP, and what it is replied.
+
+use crate::status::Status;
+use desk_model::{Command, Outcome, Query};
+
+/// The form in which an answer is written.
+#[derive(Clone, Copy, PartialEq, Eq)]
+pub enum Shape {
+    /// A line of JSON.
+    Json,
+    /// The notices of a release, as a text.
+    Notices,
+    /// The table of a release's duties, as comma-separated values.
+    Csv,
+}
+
+/// What a request asks of the desk.
+#[derive(Drop)]
+pub enum Request {
+    /// The command is to be applied.
+    Act(Command),
+    /// The query is to be answered in this shape.
+    Ask(Query, Shape),
+    /// The method and the path lead nowhere.
+    NoRoute,
+    /// The body is no request.
+    BadCommand,
+    /// The body is a catalogue that isn't UTF-8.
+    NotText,
+}
+
+/// What bytes begin with.
+#[derive(Drop)]
+pub enum Reading<'a> {
+    /// A request, and the bytes after its body.
+    Whole(Request, &'a [u8]),
+    /// A part of a request: more bytes are awaited.
+    Part,
+    /// What is refused with this status.
+    Bad(Status),
+}
+
+/// What a connection is replied.
+#[derive(Drop)]
+pub enum Reply {
+    /// What became of its command or query, the shape of an answer, and whether it was a GET.
+    Became(Outcome, Shape, bool),
+    /// Its bytes are no request, and are refused with this status.
+    Bad(Status),
+    /// Its method and path lead nowhere.
+    NoRoute,
+    /// Its body is no request.
+    BadCommand,
+    /// Its catalogue isn't UTF-8.
+    NotText,
+    /// No memory was left for it.
+    Memory,
+}

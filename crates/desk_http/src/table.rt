@@ -1,0 +1,145 @@
+//! The table of the routes.
+
+ghost use Rattle.std.specs.Prelude.{◌≡◌, IfOk, unwrap_or};
+ghost use Rattle.desk_http.specs.Routes.{desk_routes, method_of, found_at, route_of, with_method};
+
+use matchit::{InsertError, Router};
+use std::alloc::{AllocError, Global};
+
+/// What a path leads to: by POST a request to be read from the body, by GET an answer.
+#[derive(Clone, Copy)]
+pub enum Route {
+    Post(Posted),
+    Get(Shown),
+}
+
+/// What the body is that is posted.
+#[derive(Clone, Copy)]
+pub enum Posted {
+    /// A command or a query as JSON.
+    Request,
+    /// A document to be imported.
+    Document,
+    /// A catalogue to be loaded.
+    Catalogue,
+}
+
+/// What is shown.
+#[derive(Clone, Copy)]
+pub enum Shown {
+    Findings,
+    Alternatives,
+    Cheapest,
+    Release,
+    Duties,
+    Totals,
+    /// The notices of a release, as a text.
+    Notices,
+    /// The duties of a release, as comma-separated values.
+    DutyTable,
+    Changes,
+}
+
+fn rows(alloc: Global) -> Result<Router<Route>, InsertError>
+    ensures { IfOk result (λ r. r ≡ desk_routes) }
+{
+    let mut routes = Router::new(alloc);
+    routes.insert("/commands", Route::Post(Posted::Request))?;
+    routes.insert("/documents", Route::Post(Posted::Document))?;
+    routes.insert("/catalogue", Route::Post(Posted::Catalogue))?;
+    routes.insert("/documents/{n}/findings", Route::Get(Shown::Findings))?;
+    routes.insert(
+        "/documents/{n}/packages/{id}/alternatives",
+        Route::Get(Shown::Alternatives),
+    )?;
+    routes.insert(
+        "/documents/{n}/packages/{id}/cheapest/{form}",
+        Route::Get(Shown::Cheapest),
+    )?;
+    routes.insert("/releases/{name}", Route::Get(Shown::Release))?;
+    routes.insert("/releases/{name}/duties", Route::Get(Shown::Duties))?;
+    routes.insert("/releases/{name}/totals", Route::Get(Shown::Totals))?;
+    routes.insert("/releases/{name}/notices", Route::Get(Shown::Notices))?;
+    routes.insert("/releases/{name}/duties.csv", Route::Get(Shown::DutyTable))?;
+    routes.insert("/duties/{n}/changes", Route::Get(Shown::Changes))?;
+    Ok(routes)
+}
+
+// A row that can't be added for another cause than memory is none of this table.
+fn routes(alloc: Global) -> Result<Router<Route>, AllocError>
+    ensures { IfOk result (λ r. r ≡ desk_routes) }
+{
+    match rows(alloc) {
+        Ok(routes) => Ok(routes),
+        Err(_) => Err(AllocError),
+    }
+}
+
+impl Route {
+    /// The method that a route wants.
+    fn method(self) -> &'static str
+        ensures { result.now ≡ method_of self }
+    {
+        match self {
+            Route::Post(_) => "POST",
+            Route::Get(_) => "GET",
+        }
+    }
+}
+
+/// What a path leads to.
+fn found_at(routes: &Router<Route>, path: &str) -> Option<Route>
+    ensures { result ≡ found_at routes.now path.now }
+{
+    match routes.at(path) {
+        Ok(found) => Some(*found.value),
+        Err(_) => None,
+    }
+}
+
+// What was found, where the method is the one that it wants.
+fn with_method(method: &[u8], found: Option<Route>) -> Option<Route>
+    ensures { result ≡ with_method method.now found }
+{
+    let route = found?;
+    if method == route.method().as_bytes() {
+        Some(route)
+    } else {
+        None
+    }
+}
+
+/// The table of the routes. It is made when a path is looked up for the first time, and kept: to
+/// make it takes hundreds of times as long as to look a path up.
+#[derive(Drop)]
+pub struct RouteTable {
+    routes: Option<Router<Route>>,
+    ghost whole: { unwrap_or routes desk_routes ≡ desk_routes },
+}
+
+impl RouteTable {
+    /// A table that isn't made yet.
+    pub const fn new() -> RouteTable {
+        RouteTable { routes: None }
+    }
+
+    /// What a method and a path ask for, if anything.
+    pub fn route_of(
+        &mut self,
+        alloc: Global,
+        method: &[u8],
+        path: &str,
+    ) -> Result<Option<Route>, AllocError>
+        ensures { IfOk result (λ route. route ≡ route_of method.now path.now) }
+    {
+        if let Some(routes) = &self.routes {
+            return Ok(with_method(method, found_at(routes, path)));
+        }
+        let routes = routes(alloc)?;
+        let route = with_method(method, found_at(&routes, path));
+        *self = RouteTable {
+            routes: Some(routes),
+        };
+        Ok(route)
+    }
+}

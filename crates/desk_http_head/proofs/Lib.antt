@@ -1,5 +1,0 @@
-pub mod Stability
-pub mod Found
-pub mod LineEnds
-pub mod Settled
-pub mod Fronts

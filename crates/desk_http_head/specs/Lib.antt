@@ -1,7 +1,0 @@
-pub mod Limits
-pub mod Statuses
-pub mod Fields
-pub mod Heads
-pub mod Framings
-pub mod Receiving
-pub mod Sending

@@ -1,6 +1,0 @@
-use Rattle.desk_http_requests.specs.Replies.{head_bytes}
-use Rattle.desk_http_requests.proofs.replies.head.Goals as goal
-
-pub returns : goal.returns
-unfolding head_bytes
-returns c = rw (← c.line-line.ensures) c.format.ensures.ok

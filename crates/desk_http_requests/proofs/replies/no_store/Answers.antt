@@ -1,9 +1,0 @@
-use Rattle.std.proofs.Common.{refl}
-use Rattle.std.specs.Fmt.{digits}
-use Rattle.serde_json.proofs.OnLiterals.{serde_json_on_literals}
-use Rattle.desk_http_requests.specs.Replies.{head_bytes, reply_bytes}
-use Rattle.desk_http_requests.proofs.replies.no_store.Goals as goal
-
-pub returns : goal.returns
-unfolding head_bytes reply_bytes digits serde_json_on_literals
-returns c = refl

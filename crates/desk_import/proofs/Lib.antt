@@ -1,0 +1,4 @@
+pub mod StepLemmas
+pub mod ResultLemmas
+mod Standings
+mod Lines

@@ -1,0 +1,119 @@
+-- The text that steps give, and what is said of them.
+use Rattle.std.specs.Prelude.{◌≡◌, ◌⊎◌, ◌==◌, ℕ, Bool, false, List, [], ◌∷◌, ◌++◌, All, Option, Some, None, Ok, count_by, if◌then◌else◌}
+use Rattle.std.specs.List.{flat_map}
+use Rattle.std.specs.Str.{is_utf8}
+use Rattle.std.specs.String.{string_bytes}
+use Rattle.serde_json.specs.Data.{Data}
+use Rattle.serde_json.specs.Read.{read}
+use Rattle.desk_tagvalue.specs.Drafts.{LineText, text_of_lines}
+use Rattle.desk_tagvalue.specs.Written.{Stands, fields_of_lines}
+use Rattle.desk_fields.specs.Cutting.{Reads, behind_mark}
+use Rattle.desk_spdx_json.specs.declared.steps.Kind.{Kind}
+use Rattle.desk_spdx_json.specs.declared.steps.Kind.TheVariants as kinds
+use Rattle.desk_import.specs.declared.faults.ConvertFault.{ConvertFault}
+use Rattle.desk_import.specs.declared.faults.ConvertFault.TheVariants as faults
+use Rattle.desk_import.specs.declared.converting.Skipped.{Skipped}
+use Rattle.desk_import.specs.declared.converting.Converted.{Converted}
+use Rattle.desk_spdx_json.specs.Steps.{StepText, WhatText, put, left_out, missing, bad_type, bad_value}
+use Rattle.desk_spdx_json.specs.Documents.{document_steps}
+
+-- the lines of the steps
+abbrev pub line_in : WhatText → List LineText
+line_in (put line) = line ∷ []
+line_in _ = []
+
+abbrev pub lines_in : StepText → List LineText
+lines_in s = line_in s.what
+
+abbrev pub lines_of : List StepText → List LineText
+lines_of steps = flat_map lines_in steps
+
+-- a step passes: its line is read back from its text, or something is left out
+abbrev pub Goes : WhatText → Type 0
+Goes (put line) = Stands line
+Goes (left_out kind) = Unit {0}
+Goes _ = ⊥
+
+abbrev pub Passes : StepText → Type 0
+Passes s = Goes s.what
+
+-- a step fails, with a fault that names its place
+abbrev pub FailsAt : List ℕ → WhatText → ConvertFault → Type 0
+FailsAt at (put line) fault = (fault ≡ faults.BadValue at) × (Stands line → ⊥)
+FailsAt at (left_out kind) fault = ⊥
+FailsAt at missing fault = fault ≡ faults.Missing at
+FailsAt at bad_type fault = fault ≡ faults.BadType at
+FailsAt at bad_value fault = fault ≡ faults.BadValue at
+
+abbrev pub Fails : StepText → ConvertFault → Type 0
+Fails s fault = FailsAt s.at s.what fault
+
+-- the first step that doesn't pass
+pub record FailsFirst (steps : List StepText) (fault : ConvertFault) : Type 0 where
+  pub front : List StepText
+  pub failing : StepText
+  pub back : List StepText
+  pub are : steps ≡ front ++ failing ∷ back
+  pub pass : All Passes front
+  pub fails : Fails failing fault
+
+-- the lines of some steps, each of which passes, were added to a text
+pub record IsPut (old : List ℕ) (steps : List StepText) (new : List ℕ) : Type 0 where
+  pub text : new ≡ old ++ text_of_lines (lines_of steps)
+  pub pass : All Passes steps
+
+-- they weren't: memory ran out, or some step fails
+abbrev pub IsStopped : List StepText → ConvertFault → Type 0
+IsStopped steps fault = (fault ≡ faults.Memory) ⊎ FailsFirst steps fault
+
+-- ---- what is left out, by its kind
+
+abbrev pub kind_number : Kind → ℕ
+kind_number kinds.ExternalDocument = 1
+kind_number kinds.Snippet = 2
+kind_number kinds.Annotation = 3
+kind_number kinds.ExternalReference = 4
+kind_number kinds.Field = 5
+
+abbrev pub is_of_kind : Kind → WhatText → Bool
+is_of_kind kind (left_out other) = kind_number kind == kind_number other
+is_of_kind kind _ = false
+
+abbrev pub is_left : Kind → StepText → Bool
+is_left kind s = is_of_kind kind s.what
+
+abbrev pub count_left : Kind → List StepText → ℕ
+count_left kind steps = count_by (is_left kind) steps
+
+abbrev pub skipped_of : List StepText → Skipped
+skipped_of steps = record {
+  external_documents = count_left kinds.ExternalDocument steps;
+  snippets = count_left kinds.Snippet steps;
+  annotations = count_left kinds.Annotation steps;
+  external_references = count_left kinds.ExternalReference steps;
+  fields = count_left kinds.Field steps;
+}
+
+-- ---- the whole
+
+-- the value that bytes are the JSON text of (RFC 8259)
+abbrev pub json_of : List ℕ → Option Data
+json_of bytes = if is_utf8 bytes then read bytes else None
+
+pub record IsOf (steps : List StepText) (c : Converted) : Type 0 where
+  pub text : string_bytes c.text ≡ text_of_lines (lines_of steps)
+  pub pass : All Passes steps
+  pub skipped : c.skipped ≡ skipped_of steps
+
+abbrev pub IsConverted : List ℕ → Converted → Type 0
+IsConverted bytes c = (d : Data) × (json_of bytes ≡ Some d) × IsOf (document_steps d) c
+
+-- the text is read as the fields of the lines, in order, and no others
+abbrev pub AreFields : List ℕ → List ℕ → Type 0
+AreFields bytes text = (d : Data) × (json_of bytes ≡ Some d) × Reads 1 (behind_mark text) (Ok (fields_of_lines 1 (lines_of (document_steps d))))
+
+-- the bytes are no JSON, or some step of the document fails
+abbrev pub IsRefused : List ℕ → ConvertFault → Type 0
+IsRefused bytes faults.Memory = ⊥
+IsRefused bytes faults.NotJson = json_of bytes ≡ None
+IsRefused bytes fault = (d : Data) × (json_of bytes ≡ Some d) × FailsFirst (document_steps d) fault

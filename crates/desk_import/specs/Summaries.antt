@@ -1,0 +1,46 @@
+-- What a document comes to for a desk that takes it in.
+use Rattle.std.specs.Prelude.{◌≡◌, ◌&&◌, ◌==◌, ℕ, List, [], ◌∷◌, Bool, true, false, not, Option, None, Some, is_some, drop, count_by, slice_index_or, if◌then◌else◌}
+use Rattle.desk_expr.specs.Tree.{Tree}
+use Rattle.desk_tagvalue.specs.Parts.{DocumentText, PackageText}
+use Rattle.desk_bom.specs.Shipping.{AreShippingMarks}
+use Rattle.desk_findings.specs.Fields.{is_no_licence}
+use Rattle.desk_findings.specs.Findings.{AreFindings}
+use Rattle.desk_model.specs.FindingKinds.{kind_number}
+use Rattle.desk_import.specs.declared.summary.Standing.{Standing}
+use Rattle.desk_import.specs.declared.summary.Standing.TheVariants.{Aside, Concluded, Declared, Neither}
+use Rattle.desk_import.specs.declared.summary.Summary.{Summary}
+
+-- a value that is a licence expression, and neither NONE nor NOASSERTION
+abbrev pub is_licence : (List ℕ → Option Tree) → Option (List ℕ) → Bool
+is_licence reads None = false
+is_licence reads (Some value) = not (is_no_licence value) && is_some (reads value)
+
+-- how a package stands that ships, or doesn't
+abbrev pub standing_of : (List ℕ → Option Tree) → PackageText → Bool → Standing
+standing_of reads p false = Aside
+standing_of reads p true =
+    if is_licence reads p.concluded then Concluded else if is_licence reads p.declared then Declared else Neither
+
+abbrev pub standings_of : (List ℕ → Option Tree) → List PackageText → List Bool → List Standing
+standings_of reads [] marks = []
+standings_of reads (p ∷ ps) marks = standing_of reads p (slice_index_or marks 0 false) ∷ standings_of reads ps (drop 1 marks)
+
+-- a summary tells how each package of a document stands, and all findings
+abbrev pub IsSummary : (List ℕ → Option Tree) → DocumentText → Summary → Type 0
+IsSummary reads d s =
+    ((marks : List Bool) × AreShippingMarks d marks × (s.standings.items ≡ standings_of reads d.packages marks)) × AreFindings reads d s.findings.items
+
+abbrev pub same_standing : Standing → Standing → Bool
+same_standing Aside Aside = true
+same_standing Concluded Concluded = true
+same_standing Declared Declared = true
+same_standing Neither Neither = true
+same_standing _ _ = false
+
+-- how many packages stand so
+abbrev pub standing_count : Standing → Summary → ℕ
+standing_count standing s = count_by (same_standing standing) s.standings.items
+
+-- how many findings are of the kind with a number
+abbrev pub kind_count : ℕ → Summary → ℕ
+kind_count number s = count_by (λ f. kind_number f.kind == number) s.findings.items

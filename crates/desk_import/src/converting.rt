@@ -1,0 +1,116 @@
+//! The conversion of a document.
+
+ghost use Rattle.std.specs.Prelude.{◌≡◌, ◌⊎◌, Ok, IfOk, IfErr, List, ℕ, map};
+ghost use Rattle.std.specs.String.{string_bytes};
+ghost use Rattle.serde_json.specs.View.{view};
+ghost use Rattle.desk_spdx_json.specs.Steps.{step_text};
+ghost use Rattle.desk_spdx_json.specs.Documents.{document_steps};
+ghost use Rattle.desk_import.specs.Results.{is_left, count_left, kind_number, skipped_of, IsOf, IsStopped, IsConverted, IsRefused, AreFields};
+
+use crate::faults::ConvertFault;
+use crate::writing::put_steps;
+use desk_spdx_json::{Kind, Step, What};
+use serde_json::Value;
+use std::alloc::Global;
+
+/// How much was left out.
+#[derive(Clone, Copy)]
+pub struct Skipped {
+    /// References to other documents (`externalDocumentRefs`).
+    pub external_documents: usize,
+    /// Snippets.
+    pub snippets: usize,
+    /// Annotations of the document, of packages and of files.
+    pub annotations: usize,
+    /// References of packages to something outside (`externalRefs`).
+    pub external_references: usize,
+    /// All other members of the document's objects, as suppliers, home pages and comments.
+    pub fields: usize,
+}
+
+/// A converted document.
+#[derive(Drop)]
+pub struct Converted {
+    /// The document in tag-value form.
+    pub text: String,
+    /// What it doesn't say of the document in JSON.
+    pub skipped: Skipped,
+}
+
+fn kind_number(kind: Kind) -> u32
+    ensures { result ≡ kind_number kind }
+{
+    match kind {
+        Kind::ExternalDocument => 1,
+        Kind::Snippet => 2,
+        Kind::Annotation => 3,
+        Kind::ExternalReference => 4,
+        Kind::Field => 5,
+    }
+}
+
+// Whether a step leaves out something of a kind.
+fn is_left(kind: Kind, step: &Step) -> bool
+    ensures { result ≡ is_left kind (step_text step.now) }
+{
+    match &step.what {
+        What::LeftOut(other) => kind_number(kind) == kind_number(*other),
+        _ => false,
+    }
+}
+
+// How much of a kind is left out.
+fn count_left(kind: Kind, steps: &[Step]) -> usize
+    ensures { result ≡ count_left kind (map step_text steps.now) }
+{
+    steps.iter().filter(|step| is_left(kind, step)).count()
+}
+
+// What is left out.
+fn skipped_of(steps: &[Step]) -> Skipped
+    ensures { result ≡ skipped_of (map step_text steps.now) }
+{
+    Skipped {
+        external_documents: count_left(Kind::ExternalDocument, steps),
+        snippets: count_left(Kind::Snippet, steps),
+        annotations: count_left(Kind::Annotation, steps),
+        external_references: count_left(Kind::ExternalReference, steps),
+        fields: count_left(Kind::Field, steps),
+    }
+}
+
+// The text of a document, and what is left out.
+fn conversion_of(alloc: Global, value: &Value) -> Result<Converted, ConvertFault>
+    ensures ok { IfOk result (λ c. IsOf (document_steps (view value.now)) c) }
+    ensures err { IfErr result (λ e. IsStopped (document_steps (view value.now)) e) }
+{
+    let steps = match desk_spdx_json::document_steps(alloc, value) {
+        Ok(steps) => steps,
+        Err(_) => return Err(ConvertFault::Memory),
+    };
+    let mut text = String::new(alloc);
+    match put_steps(alloc, &mut text, steps.as_slice()) {
+        Ok(()) => Ok(Converted {
+            text,
+            skipped: skipped_of(steps.as_slice()),
+        }),
+        Err(fault) => Err(fault),
+    }
+}
+
+/// The tag-value document that says what the desk reads of an SPDX document in JSON.
+pub fn convert(alloc: Global, bytes: &[u8]) -> Result<Converted, ConvertFault>
+    // The text is that of the lines of the document's steps, each of which passes, and what is left
+    // out is counted.
+    ensures ok { IfOk result (λ c. IsConverted bytes.now c) }
+    // The text has the fields of these lines, and no others.
+    ensures fields { IfOk result (λ c. AreFields bytes.now (string_bytes c.text)) }
+    // Memory ran out, the bytes are no JSON, or this is the first step that doesn't pass.
+    ensures err { IfErr result (λ e. (e ≡ ConvertFault.Memory) ⊎ IsRefused bytes.now e) }
+{
+    match Value::from_slice(alloc, bytes) {
+        Ok(value) => conversion_of(alloc, &value),
+        Err(error) if error.is_memory() => Err(ConvertFault::Memory),
+        Err(_) => Err(ConvertFault::NotJson),
+    }
+}

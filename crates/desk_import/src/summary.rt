@@ -1,0 +1,201 @@
+//! How the packages of a document stand, and its findings.
+
+ghost use Rattle.std.specs.Prelude.{◌≡◌, ℕ, List, IfOk, Option, Bool, false, count_by, drop, map, slice_index_or};
+ghost use Rattle.desk_expr.specs.Tree.{Tree};
+ghost use Rattle.desk_findings.specs.Fields.{IsReading};
+ghost use Rattle.desk_tagvalue.specs.Documents.{document_text};
+ghost use Rattle.desk_tagvalue.specs.Views.{package_text};
+ghost use Rattle.desk_import.specs.Summaries.{IsSummary, kind_count, same_standing, standing_count, standing_of, standings_of};
+
+use crate::licences::is_licence;
+use desk_base::Profile;
+use desk_bom::ships;
+use desk_findings::{Finding, FindingKind, MissingField, findings_in};
+use desk_tagvalue::{Document, Package};
+use std::alloc::{AllocError, Global};
+use std::fmt;
+
+/// How a package of a document stands.
+#[derive(Clone, Copy)]
+pub enum Standing {
+    /// It doesn't ship.
+    Aside,
+    /// It ships, and the document concludes its licence.
+    Concluded,
+    /// It ships, and the document has a declared licence alone.
+    Declared,
+    /// It ships, and the document has neither.
+    Neither,
+}
+
+/// What a document comes to: how each of its packages stands, and what in it isn't as the standard
+/// has it.
+#[derive(Drop)]
+pub struct Summary {
+    pub standings: Vec<Standing>,
+    pub findings: Vec<Finding>,
+}
+
+/// The kinds of findings. A field that is missing is of one kind, whichever it is.
+const KINDS: [FindingKind; 11] = [
+    FindingKind::UnknownTag,
+    FindingKind::Misplaced,
+    FindingKind::BadExpression,
+    FindingKind::BadDigest,
+    FindingKind::BadCode,
+    FindingKind::CodeDiffers,
+    FindingKind::CodeUnwanted,
+    FindingKind::Dangling,
+    FindingKind::MissingField(MissingField::DataLicense),
+    FindingKind::BadFlag,
+    FindingKind::UndefinedRef,
+];
+
+impl Standing {
+    pub(crate) fn is(self, other: Standing) -> bool
+        ensures { result ≡ same_standing self other }
+    {
+        match (self, other) {
+            (Standing::Aside, Standing::Aside) => true,
+            (Standing::Concluded, Standing::Concluded) => true,
+            (Standing::Declared, Standing::Declared) => true,
+            (Standing::Neither, Standing::Neither) => true,
+            _ => false,
+        }
+    }
+}
+
+/// How many of some packages stand so.
+pub(crate) fn count_of(standings: &[Standing], standing: Standing) -> usize
+    ensures { result ≡ count_by (same_standing standing) standings.now }
+{
+    standings.iter().filter(|one| standing.is(**one)).count()
+}
+
+impl Summary {
+    /// How many packages stand so.
+    pub fn standing_count(&self, standing: Standing) -> usize
+        ensures { result ≡ standing_count standing self.now }
+    {
+        count_of(self.standings.as_slice(), standing)
+    }
+
+    /// How many findings are of the kind with a number.
+    pub fn kind_count(&self, number: u8) -> usize
+        ensures { result ≡ kind_count number self.now }
+    {
+        self.findings
+            .iter()
+            .filter(|finding| finding.kind.number() == number)
+            .count()
+    }
+}
+
+// The first of some marks, and those behind it.
+pub(crate) fn first_of(marks: &[bool]) -> (bool, &[bool])
+    ensures first { result.0 ≡ slice_index_or marks.now 0 false }
+    ensures behind { result.1.now ≡ drop 1 marks.now }
+{
+    match marks.split_first() {
+        Some((mark, behind)) => (*mark, behind),
+        None => (false, marks),
+    }
+}
+
+// How a package stands.
+pub(crate) fn standing_of(
+    alloc: Global,
+    text: &Package<'_>,
+    ships: bool,
+    profile: Profile,
+) -> Result<Standing, AllocError>
+    ensures { (reads : List ℕ → Option Tree) → IsReading profile reads
+        → IfOk result (λ standing. standing ≡ standing_of reads (package_text text.now) ships) }
+{
+    if !ships {
+        return Ok(Standing::Aside);
+    }
+    if is_licence(alloc, text.concluded, profile)? {
+        return Ok(Standing::Concluded);
+    }
+    if is_licence(alloc, text.declared, profile)? {
+        return Ok(Standing::Declared);
+    }
+    Ok(Standing::Neither)
+}
+
+fn standings_of(
+    alloc: Global,
+    packages: &[Package<'_>],
+    marks: &[bool],
+    profile: Profile,
+) -> Result<Vec<Standing>, AllocError>
+    ensures { (reads : List ℕ → Option Tree) → IsReading profile reads
+        → IfOk result (λ found. found.items
+        ≡ standings_of reads (map package_text packages.now) marks.now) }
+{
+    let mut found = Vec::with_capacity(alloc, packages.len())?;
+    let mut rest = marks;
+    for text in packages {
+        let (ships, behind) = first_of(rest);
+        found.push(standing_of(alloc, text, ships, profile)?)?;
+        rest = behind;
+    }
+    Ok(found)
+}
+
+/// What a document comes to, its licence expressions read by the profile of operators.
+pub fn summary_of(
+    alloc: Global,
+    document: &Document<'_>,
+    profile: Profile,
+) -> Result<Summary, AllocError>
+    ensures { (reads : List ℕ → Option Tree) → IsReading profile reads
+        → IfOk result (IsSummary reads (document_text document.now)) }
+{
+    let marks = ships(alloc, document)?;
+    let standings = standings_of(
+        alloc,
+        document.packages.as_slice(),
+        marks.as_slice(),
+        profile,
+    )?;
+    let findings = findings_in(alloc, document, profile)?;
+    Ok(Summary {
+        standings,
+        findings,
+    })
+}
+
+impl Summary {
+    fn write_packages<W: fmt::Write>(&self, f: &mut fmt::Formatter<W>) -> fmt::Result {
+        let packages = self.standings.len();
+        let declared = self.standing_count(Standing::Declared);
+        let open = declared.saturating_add(self.standing_count(Standing::Neither));
+        let shipped = open.saturating_add(self.standing_count(Standing::Concluded));
+        write!(
+            f,
+            "packages: {packages}, shipped: {shipped}, without a conclusion: {open}"
+        )?;
+        write!(f, ", of these with a declared licence: {declared}")
+    }
+
+    fn write_kinds<W: fmt::Write>(&self, f: &mut fmt::Formatter<W>) -> fmt::Result {
+        for kind in KINDS {
+            let (count, name) = (self.kind_count(kind.number()), kind.name());
+            if count > 0 {
+                write!(f, ", {name}: {count}")?;
+            }
+        }
+        Ok(())
+    }
+}
+
+impl fmt::Display for Summary {
+    fn fmt<W: fmt::Write>(&self, f: &mut fmt::Formatter<W>) -> fmt::Result {
+        self.write_packages(f)?;
+        let findings = self.findings.len();
+        write!(f, "\nfindings: {findings}")?;
+        self.write_kinds(f)
+    }
+}

@@ -1,0 +1,7 @@
+mod Secured
+mod Writing
+mod Orderly
+mod Opened
+pub mod Matching
+pub mod Stating
+pub mod Readers

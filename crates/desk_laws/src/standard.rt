@@ -1,0 +1,45 @@
+//! The desk in memory that reads texts by their standards: its main contract with nothing left
+//! open.
+//!
+//! `run_commands` hands a list of commands to an empty desk. Its contract speaks of each right
+//! reading of texts (`AreRight`, of which `desk_history_laws` proves that there is one and no other),
+//! of the definitions of the recorded history, and of nothing else.
+
+ghost use Rattle.std.specs.Prelude.{◌≡◌, [], IfOk, length};
+ghost use Rattle.desk_model.specs.Readings.{Readings};
+ghost use Rattle.desk_model.specs.Answers.{IsHistory};
+ghost use Rattle.desk_model.specs.Faults.{MayAllBecome};
+ghost use Rattle.desk_model.specs.Runs.{AreAnswers, history_after};
+ghost use Rattle.desk_model.specs.Tables.{tables};
+ghost use Rattle.desk_texts.specs.Right.{AreRight};
+
+use desk_core::desk::{Desk, MemDesk, TableDesk, run_in_memory};
+use desk_memory::MemStore;
+use desk_model::{Command, Outcome};
+use desk_texts::Standard;
+use std::alloc::{AllocError, Global};
+
+/// The desk in memory that reads texts by their standards.
+pub type StandardDesk = MemDesk<Standard>;
+
+/// Hands commands to an empty desk, and gives what became of each, and the desk.
+///
+/// Whatever is repeated or refused: each outcome that is no fault is the answer at its place, after
+/// the commands recorded before it; these are a recorded history, and the rows at the end are its
+/// tables; the only fault is want of memory.
+pub fn run_commands(
+    alloc: Global,
+    commands: &[Command],
+) -> Result<(Vec<Outcome>, StandardDesk), AllocError>
+    ensures answers { (w : Readings) → AreRight w → IfOk result (λ done.
+        AreAnswers w [] commands.now done.0.items) }
+    ensures history { (w : Readings) → AreRight w → IfOk result (λ done.
+        IsHistory w (history_after [] commands.now done.0.items)) }
+    ensures rows { (w : Readings) → AreRight w → IfOk result (λ done.
+        (⟦<TableDesk<Standard, MemStore> as Desk>⟧.seen done.1).holds
+        (tables w (history_after [] commands.now done.0.items))) }
+    ensures faults { IfOk result (λ done. MayAllBecome (λ _. ⊥) done.0.items) }
+    ensures count { IfOk result (λ done. length done.0.items ≡ length commands.now) }
+{
+    run_in_memory(alloc, Standard, commands)
+}

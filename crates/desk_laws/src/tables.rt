@@ -1,0 +1,64 @@
+//! Laws of a desk's tables as a file keeps them, each the contract of a function with an empty
+//! body.
+//!
+//! A database holds tables in the order that look-ups by key and number rest on (`AreOrderly` of
+//! `desk_sql_layout`), and of a change it writes only one that the tables give back as it was
+//! (`is_writable`). Here stands that no history leaves tables of another form and that no command
+//! needs another change, where the reading of texts lists in order and names duties by ids, as each
+//! right reading does (`right_readings_give_orderly_tables`). What a stop leaves of a desk, opened
+//! again, shows its tables (`what_a_stop_leaves_opens_again`).
+
+ghost use Rattle.std.specs.Prelude.{◌≡◌, true, List};
+ghost use Rattle.desk_model.specs.Readings.{Readings};
+ghost use Rattle.desk_model.specs.Tables.{tables, Tables};
+ghost use Rattle.desk_model.specs.declared.command.Command.{Command};
+ghost use Rattle.desk_history.specs.FromTables.{change_for};
+ghost use Rattle.desk_history.specs.Laws.{ListsInOrder};
+ghost use Rattle.desk_history_laws.specs.Ids.{ListsIds};
+ghost use Rattle.desk_sql_layout.specs.Held.{AreOrderly, seen_of, Stands};
+ghost use Rattle.desk_sql_layout.specs.Writable.{is_writable};
+ghost use Rattle.desk_texts.specs.Right.{AreRight};
+ghost use Rattle.desk_laws.specs.Opened.{IsOpenedOn};
+ghost use Rattle.sqlite.specs.Held.{state};
+ghost use Rattle.sqlite_trees.specs.Tree.{Trees};
+
+use sqlite::{Alter, Connection};
+
+/// The tables of each list of commands are in the form that a file wants: sorted by their keys,
+/// revisions, documents and duties numbered from 1 on, packages and changes those of documents and
+/// duties that stand, and codes that are words.
+pub fn tables_are_orderly()
+    ensures { (w : Readings) (h : List Command) → ListsInOrder w → ListsIds w
+        → AreOrderly (tables w h) }
+{
+    desk_history::tables_are_sorted();
+    desk_history::listed_tables_are_sorted();
+    desk_history_laws::catalogues_are_the_loads();
+    desk_history_laws::documents_are_the_imports();
+}
+
+/// The change of each command, over any tables, is one that a file can hold.
+pub fn changes_can_be_written()
+    ensures { (w : Readings) (t : Tables) (c : Command) → ListsInOrder w → ListsIds w
+        → is_writable (change_for w t c) ≡ true }
+{}
+
+/// By each right reading of texts the tables of each list of commands are in the form that a file
+/// wants, and the change of each command is one that a file can hold.
+pub fn right_readings_give_orderly_tables()
+    ensures tables { (w : Readings) (h : List Command) → AreRight w → AreOrderly (tables w h) }
+    ensures changes { (w : Readings) (t : Tables) (c : Command) → AreRight w
+        → is_writable (change_for w t c) ≡ true }
+{
+    desk_history_laws::right_readings_list_in_order();
+    desk_history_laws::right_readings_list_ids();
+    tables_are_orderly();
+    changes_can_be_written();
+}
+
+/// What a stop of the program left, opened again, shows the tables that stand in it, all committed.
+/// So what a stop leaves of a desk is adopted as the desk with the rows of its history.
+pub fn what_a_stop_leaves_opens_again<S: Alter>(conn: &Connection<S>)
+    ensures { (left : Trees) (t : Tables) → IsOpenedOn (state S.Store conn.now) left → Stands left t
+        → let seen = seen_of (state S.Store conn.now) in seen.holds t }
+{}

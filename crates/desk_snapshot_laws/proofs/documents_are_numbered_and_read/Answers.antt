@@ -1,5 +1,0 @@
-use Rattle.desk_snapshot_laws.proofs.Imports.{are_documents}
-use Rattle.desk_snapshot_laws.proofs.documents_are_numbered_and_read.Goals as goal
-
-pub returns : goal.returns
-returns c = are_documents

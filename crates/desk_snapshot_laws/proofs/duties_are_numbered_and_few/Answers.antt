@@ -1,5 +1,0 @@
-use Rattle.desk_snapshot_laws.proofs.Duties.{are_numbered}
-use Rattle.desk_snapshot_laws.proofs.duties_are_numbered_and_few.Goals as goal
-
-pub returns : goal.returns
-returns c = are_numbered

@@ -1,5 +1,0 @@
-use Rattle.desk_snapshot_laws.proofs.Duties.{are_states}
-use Rattle.desk_snapshot_laws.proofs.duties_stand_as_their_releases.Goals as goal
-
-pub returns : goal.returns
-returns c = are_states

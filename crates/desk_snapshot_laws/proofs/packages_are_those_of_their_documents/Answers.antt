@@ -1,5 +1,0 @@
-use Rattle.desk_snapshot_laws.proofs.Imports.{are_packages}
-use Rattle.desk_snapshot_laws.proofs.packages_are_those_of_their_documents.Goals as goal
-
-pub returns : goal.returns
-returns c = are_packages

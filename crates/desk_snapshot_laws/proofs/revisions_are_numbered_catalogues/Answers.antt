@@ -1,5 +1,0 @@
-use Rattle.desk_snapshot_laws.proofs.Loads.{are_revisions}
-use Rattle.desk_snapshot_laws.proofs.revisions_are_numbered_catalogues.Goals as goal
-
-pub returns : goal.returns
-returns c = are_revisions

@@ -1,2 +1,0 @@
-mod Standings
-mod Lines

@@ -1,3 +1,0 @@
-mod Writing
-mod Orderly
-mod Opened

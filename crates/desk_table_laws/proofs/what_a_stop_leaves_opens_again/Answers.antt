@@ -1,5 +1,0 @@
-use Rattle.desk_table_laws.proofs.Opened.{shows}
-use Rattle.desk_table_laws.proofs.what_a_stop_leaves_opens_again.Goals as goal
-
-pub returns : goal.returns
-returns c = λ start left t is stands. shows _ left t is stands

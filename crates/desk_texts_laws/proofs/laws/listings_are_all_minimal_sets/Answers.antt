@@ -1,5 +1,0 @@
-use Rattle.desk_texts_laws.proofs.Rights.{lists_all}
-use Rattle.desk_texts_laws.proofs.laws.listings_are_all_minimal_sets.Goals as goal
-
-pub returns : goal.returns
-returns c = lists_all

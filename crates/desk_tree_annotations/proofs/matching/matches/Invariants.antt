@@ -1,0 +1,11 @@
+use Rattle.std.proofs.Common.{length}
+use Rattle.desk_tree_annotations.specs.Steps.{state}
+use Rattle.desk_tree_annotations.proofs.Greedy.{Holds}
+use Rattle.desk_tree_annotations.proofs.Falls.{Within, work}
+use Rattle.desk_tree_annotations.proofs.matching.matches.Given as goal
+
+abbrev pub invariant-loop-search : goal.invariant-loop-search
+invariant-loop-search l = record { holds : Holds l.fn.pieces l.fn.path (state l.search); within : Within (length l.fn.pieces) (length l.fn.path) (state l.search) }
+
+abbrev pub decreases-loop-search : goal.decreases-loop-search
+decreases-loop-search l = work (length l.fn.pieces) (length l.fn.path) (state l.search)

@@ -1,0 +1,92 @@
+-- The steps of a search for a match.
+use Rattle.std.specs.Prelude.{◌⊎◌, ◌≡◌, ◌≢◌, ℕ, List, [], ◌∷◌, ◌++◌, All, Option, Some, None}
+use Rattle.desk_tree_annotations.specs.declared.glob.Piece.{Piece}
+use Rattle.desk_tree_annotations.specs.declared.glob.Piece.TheVariants.{Byte, InName, InPath}
+use Rattle.desk_tree_annotations.specs.declared.matching.Place.{Place}
+use Rattle.desk_tree_annotations.specs.declared.matching.Search.{Search}
+use Rattle.desk_tree_annotations.specs.Glob.{IsMatch, Covers}
+
+pub record Spot : Type 0 where
+  pub pieces : List Piece
+  pub text : List ℕ
+
+pub record State : Type 0 where
+  pub here : Spot
+  pub name : Option Spot
+  pub path : Option Spot
+
+abbrev pub spot : Place → Spot
+spot p = record { pieces = p.pieces.now; text = p.text.now }
+
+abbrev pub back : Option Place → Option Spot
+back None = None
+back (Some p) = Some (spot p)
+
+abbrev pub state : Search → State
+state s = record { here = spot s.here; name = back s.name; path = back s.path }
+
+-- no match goes on from here
+abbrev pub Stuck : Spot → Type 0
+Stuck s = IsMatch s.pieces s.text → ⊥
+
+-- a stretch of one byte that a piece stands for
+abbrev pub Passes : Piece → ℕ → Type 0
+Passes p b = Covers p (b ∷ [])
+
+-- the place with one byte more in the stretch of its `*`
+abbrev pub Longer : Option Spot → Spot → Type 0
+Longer None r = ⊥
+Longer (Some s) r = (b : ℕ) × (s.pieces ≡ r.pieces) × (s.text ≡ b ∷ r.text) × Passes InName b
+
+abbrev pub NoLonger : Option Spot → Type 0
+NoLonger o = (r : Spot) → Longer o r → ⊥
+
+-- a text behind the first `/` of another
+abbrev pub IsBehindName : List ℕ → List ℕ → Type 0
+IsBehindName text rest = (name : List ℕ) × (text ≡ name ++ (47 ∷ rest)) × All (λ b. b ≢ 47) name
+
+-- the place with the rest of a name more in the stretch of its `**`, and the `/` behind it
+abbrev pub Further : Option Spot → Spot → Type 0
+Further None r = ⊥
+Further (Some s) r = (s.pieces ≡ r.pieces) × IsBehindName s.text r.text
+
+abbrev pub NoFurther : Option Spot → Type 0
+NoFurther o = (r : Spot) → Further o r → ⊥
+
+-- a byte found
+abbrev pub ByByte : State → State → Type 0
+ByByte s n = (b : ℕ) × (s.here.pieces ≡ Byte b ∷ n.here.pieces) × (s.here.text ≡ b ∷ n.here.text) × (n.name ≡ s.name) × (n.path ≡ s.path)
+
+-- a `*`, which takes nothing at first
+abbrev pub ByName : State → State → Type 0
+ByName s n = (s.here.pieces ≡ InName ∷ n.here.pieces) × (s.here.text ≡ n.here.text) × (n.name ≡ Some n.here) × (n.path ≡ s.path)
+
+-- a `**`, which takes nothing at first, and within the name is a `*`
+abbrev pub ByPath : State → State → Type 0
+ByPath s n = (s.here.pieces ≡ InPath ∷ n.here.pieces) × (s.here.text ≡ n.here.text) × (n.name ≡ Some n.here) × (n.path ≡ Some n.here)
+
+-- one piece further
+abbrev pub Follows : State → State → Type 0
+Follows s n = ByByte s n ⊎ (ByName s n ⊎ ByPath s n)
+
+-- the last `*` takes one byte more, or where it can't, the last `**` takes the rest of its name, and is a `*` in the next one
+abbrev pub ByLongerName : State → State → Type 0
+ByLongerName s n = Longer s.name n.here × (n.name ≡ Some n.here) × (n.path ≡ s.path)
+
+abbrev pub ByNextName : State → State → Type 0
+ByNextName s n = NoLonger s.name × Further s.path n.here × (n.name ≡ Some n.here) × (n.path ≡ Some n.here)
+
+-- neither can take more
+abbrev pub Spent : State → Type 0
+Spent s = NoLonger s.name × NoFurther s.path
+
+abbrev pub Returns : State → State → Type 0
+Returns s n = ByLongerName s n ⊎ ByNextName s n
+
+-- a step: one piece further where that goes, else back
+abbrev pub Steps : State → State → Type 0
+Steps s n = Follows s n ⊎ (Stuck s.here × Returns s n)
+
+-- a search that has no step
+abbrev pub Ends : State → Type 0
+Ends s = Stuck s.here × NoLonger s.name × NoFurther s.path

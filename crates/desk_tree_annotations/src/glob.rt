@@ -1,0 +1,87 @@
+//! Patterns of paths (REUSE Specification 3.3, "REUSE.toml", `path`).
+
+ghost use Rattle.std.specs.Prelude.{◌≡◌, ◌↔◌, ◌<◌, ℕ, List, length, IsTrue, IfSome, IfNone, IfOk};
+ghost use Rattle.desk_tree_annotations.specs.declared.glob.Piece.{Piece};
+ghost use Rattle.desk_tree_annotations.specs.Glob.{IsMatch, Begins, Spells};
+
+use crate::matching::matches;
+use std::alloc::{AllocError, Global};
+use std::marker::Model;
+
+/// A piece of a pattern.
+#[derive(Clone, Copy)]
+pub enum Piece {
+    /// A byte that stands for itself.
+    Byte(u8),
+    /// `*`: any bytes but `/`, or none.
+    InName,
+    /// `**`: any bytes, or none.
+    InPath,
+}
+
+// The first piece of a pattern, and what follows it.
+fn first_piece(pattern: &[u8]) -> Option<(Piece, &[u8])>
+    ensures some { IfSome result (λ r. Begins pattern.now r.0 r.1.now) }
+    ensures less { IfSome result (λ r. length r.1.now < length pattern.now) }
+    ensures none { IfNone result (length pattern.now ≡ 0) }
+{
+    match pattern {
+        [b'*', b'*', rest @ ..] => Some((Piece::InPath, rest)),
+        [b'*', rest @ ..] => Some((Piece::InName, rest)),
+        [b'\\', byte, rest @ ..] => Some((Piece::Byte(*byte), rest)),
+        [byte, rest @ ..] => Some((Piece::Byte(*byte), rest)),
+        [] => None,
+    }
+}
+
+/// A pattern of paths, seen as its pieces.
+///
+/// `*` is any bytes but `/`, `**` any bytes, `\*` an asterisk and `\\` a backslash. Read from the
+/// left, two asterisks are `**` first; a backslash before another byte stands for that byte, and at
+/// the end for itself. So each text is a pattern.
+#[derive(Drop)]
+pub struct Glob {
+    pieces: Vec<Piece>,
+}
+
+impl Model for Glob {
+    ghost use Rattle.std.specs.Prelude.{List};
+    ghost use Rattle.desk_tree_annotations.specs.declared.glob.Piece.{Piece};
+
+    ghost Value = { List Piece };
+
+    ghost view = { λ g. g.pieces.items };
+}
+
+impl Glob {
+    /// The pieces of a pattern. The only error is want of memory.
+    pub fn parse(alloc: Global, pattern: &str) -> Result<Glob, AllocError>
+        ensures { IfOk result (λ g. Spells pattern.now g) }
+    {
+        let mut pieces = Vec::new(alloc);
+        let mut rest = pattern.as_bytes();
+        while let Some((piece, more)) = first_piece(rest) {
+            pieces.push(piece)?;
+            rest = more;
+        }
+        Ok(Glob { pieces })
+    }
+
+    /// Whether the pattern matches the whole path: whether that divides into stretches, one for
+    /// each piece in order. Takes no memory.
+    pub fn matches(&self, path: &str) -> bool
+        ensures { IsTrue result ↔ IsMatch self.now path.now }
+    {
+        matches(self.pieces.as_slice(), path.as_bytes())
+    }
+}
+
+/// A pattern is read in one way.
+pub fn one_glob()
+    ensures { (pattern : List ℕ) (a b : List Piece) → Spells pattern a → Spells pattern b → a ≡ b }
+{}
+
+/// Each text is a pattern.
+pub fn each_text_is_a_glob()
+    ensures { (pattern : List ℕ) → (pieces : List Piece) × Spells pattern pieces }
+{}

@@ -1,3 +1,0 @@
-pub mod Matching
-pub mod Stating
-pub mod Readers

@@ -1,5 +1,0 @@
-use Rattle.desk_tree_laws.proofs.Readers.{right_reader}
-use Rattle.desk_tree_laws.proofs.right_reader_exists.Goals as goal
-
-pub returns : goal.returns
-returns c = right_reader
