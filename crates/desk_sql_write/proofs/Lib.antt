@@ -6,7 +6,6 @@ mod Updates
 mod Lists
 mod Moves
 mod Applied
-mod Commits
 pub mod Declared
 pub mod Declarations
 mod Empty

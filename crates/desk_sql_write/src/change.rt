@@ -285,7 +285,7 @@ pub(crate) fn withdraw<S: Alter>(
 }
 
 /// Writes a change.
-pub(crate) fn make<S: Alter>(
+pub fn make<S: Alter>(
     alloc: Global,
     tx: &mut Transaction<'_, S>,
     change: &Change,

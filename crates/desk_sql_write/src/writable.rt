@@ -75,7 +75,7 @@ fn rise(packages: &[PackageRow]) -> bool
 
 /// Whether the tables can hold what a change writes: where it gives rows that they couldn't give
 /// back as they were, it isn't written.
-pub(crate) fn is_writable(change: &Change) -> bool
+pub fn is_writable(change: &Change) -> bool
     ensures { result ≡ is_writable change.now }
 {
     match change {

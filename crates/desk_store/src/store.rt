@@ -28,6 +28,7 @@ use desk_model::{
     ReleaseRow, Rule, Standing, StoreFault, Totals,
 };
 use desk_snapshot::{AuditReport, Snapshot};
+use desk_sql_commit::commit_counted;
 use desk_tally::{Step, Tallies};
 use sqlite::{Alter, Connection};
 use std::alloc::Global;
@@ -373,11 +374,10 @@ impl<S: Alter> Store for SqlStore<S> {
         let known = self.found.take();
         let found = found_after(self.alloc, &mut self.conn, &change, known)?;
         let step = self.plan(&change)?;
-        match desk_sql_write::commit(self.alloc, &mut self.conn, &change) {
+        match commit_counted(self.alloc, &mut self.conn, &change, &mut self.tallies, step) {
             Ok(()) => {
                 self.counts = counts;
                 self.found = found;
-                self.tallies.take(step);
                 self.take_forms(change);
                 Ok(())
             }

@@ -37,8 +37,8 @@ returns-in-Err-clause-wrote g c =
     let between = seen_of (state g.S.Store c.found_after.new.conn) in
     let new = seen_of (state g.S.Store c.plan.new.self.conn) in
     let still = same_then_same old between new c.in_ok-found.ensures.kept c.in_ok-step.ensures.kept in
-    rw (c.plan.ensures.counts, c.plan.ensures.forms, c.plan.ensures.found)
-    (failed c.args.change self.found has (known_by self.counts self.forms) self.tallies c.plan.new.self.tallies old new (seen_of (state g.S.Store c.commit.new.conn))
+    rw (c.in-Err.ensures.uncounted, c.plan.ensures.counts, c.plan.ensures.forms, c.plan.ensures.found)
+    (failed c.args.change self.found has (known_by self.counts self.forms) self.tallies c.plan.new.self.tallies old new (seen_of (state g.S.Store c.commit_counted.new.conn))
     (nothing_found has c.take-known.ensures.left) c.plan.ensures.tallies still c.in-Err.ensures.wrote)
 
 pub returns-in-Ok-clause-wrote : goal.returns-in-Ok-clause-wrote
@@ -52,6 +52,6 @@ returns-in-Ok-clause-wrote g c =
     let made = c.in-Ok.ensures.wrote in
     let still = same_then_same (seen_of old) (seen_of between) (seen_of new) found.kept planned.kept in
     rw (c.take_forms.ensures.forms, c.take_forms.ensures.conn, c.take_forms.ensures.counts, c.take_forms.ensures.tallies, c.take_forms.ensures.found, c.plan.ensures.forms)
-    (wrote c.args.change self.found c.in_ok-found.found self.counts c.in-Some.counts self.forms self.tallies c.take.new.self old new (state g.S.Store c.commit.new.conn) c.in-Some.ensures still made
-    (λ clean t held up kept. c.take.ensures (applied c.args.change t) (planned.leads (made.honest clean) t (found.kept.kept.spared.holds t held) up kept))
+    (wrote c.args.change self.found c.in_ok-found.found self.counts c.in-Some.counts self.forms self.tallies c.commit_counted.new.tallies old new (state g.S.Store c.commit_counted.new.conn) c.in-Some.ensures still made
+    (λ clean t held up kept. c.in-Ok.ensures.counted (applied c.args.change t) (planned.leads (made.honest clean) t (found.kept.kept.spared.holds t held) up kept))
     (λ clean t held up follows are. found.found (planned.kept.kept.spared.honest (made.honest clean)) t held up follows (subst (λ (had : Found). AreFound had t) (sym c.take-known.ensures.taken) are)))

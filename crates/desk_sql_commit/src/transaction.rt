@@ -7,10 +7,9 @@ ghost use Rattle.desk_access.specs.Seen.{Wrote};
 ghost use Rattle.desk_sql_layout.specs.Held.{Stands, seen_of};
 ghost use Rattle.desk_sql_write.specs.Written.{Done, Undone, Leaves};
 
-use crate::change::make;
-use crate::writable::is_writable;
 use desk_model::{Change, Fault, StoreFault};
 use desk_sql_layout::fault::fault_of;
+use desk_sql_write::{is_writable, make};
 use sqlite::{Alter, Connection};
 use std::alloc::Global;
 

@@ -1,8 +1,8 @@
 use Rattle.std.proofs.Common.{rules, ◌≡◌, true}
 use Rattle.sqlite.specs.Held.{state}
 use Rattle.desk_sql_layout.specs.Writable.{is_writable}
-use Rattle.desk_sql_write.proofs.Commits.{committed}
-use Rattle.desk_sql_write.proofs.transaction.commit.Goals as goal
+use Rattle.desk_sql_commit.proofs.Commits.{committed}
+use Rattle.desk_sql_commit.proofs.transaction.commit.Goals as goal
 
 pub returns-then-is_writable-clause-wrote : goal.returns-then-is_writable-clause-wrote
 returns-then-is_writable-clause-wrote g c =

@@ -5,7 +5,7 @@ use Rattle.sqlite.proofs.StateLemmas.{survives_then}
 use Rattle.sqlite.proofs.Callers.{survives_begin}
 use Rattle.desk_sql_write.specs.Written.{Leaves}
 use Rattle.desk_sql_write.proofs.Inside.{clean_before}
-use Rattle.desk_sql_write.proofs.transaction.write.Goals as goal
+use Rattle.desk_sql_commit.proofs.transaction.write.Goals as goal
 
 pub returns-in-Ok-clause-crash : goal.returns-in-Ok-clause-crash
 returns-in-Ok-clause-crash g c =

@@ -1,0 +1,41 @@
+//! A written change, counted.
+
+ghost use Rattle.std.specs.Prelude.{◌≡◌, false, OnOk, OnErr};
+ghost use Rattle.sqlite.specs.Held.{state};
+ghost use Rattle.desk_access.specs.Seen.{Wrote};
+ghost use Rattle.desk_model.specs.Tables.{Tables};
+ghost use Rattle.desk_sql_layout.specs.Held.{Stands, seen_of};
+ghost use Rattle.desk_tally.specs.Kept.{AreKept, Fits, LeadsTo};
+
+use crate::transaction::commit;
+use desk_model::{Change, Fault};
+use desk_tally::{Step, Tallies};
+use sqlite::{Alter, Connection};
+use std::alloc::Global;
+
+/// Writes a change as `commit` does, and takes its step into the tallies that are kept beside the
+/// rows if it was written.
+pub fn commit_counted<S: Alter>(
+    alloc: Global,
+    conn: &mut Connection<S>,
+    change: &Change,
+    tallies: &mut Tallies,
+    step: Step,
+) -> Result<(), Fault>
+    requires mode { conn.old.in_transaction ≡ false }
+    requires fits { Fits step tallies.old }
+    ensures wrote { Wrote Stands change.now (seen_of (state S.Store conn.old))
+        (seen_of (state S.Store conn.new)) result }
+    ensures mode { conn.new.in_transaction ≡ false }
+    ensures counted { OnOk result ((t : Tables) → LeadsTo step tallies.old t
+        → AreKept tallies.new t) }
+    ensures uncounted { OnErr result (tallies.new ≡ tallies.old) }
+{
+    match commit(alloc, conn, change) {
+        Ok(()) => {
+            tallies.take(step);
+            Ok(())
+        }
+        Err(fault) => Err(fault),
+    }
+}

@@ -1,0 +1,15 @@
+//! A change of the desk's rows in a SQL database, written whole or not at all.
+//!
+//! `commit` writes a change of rows in one transaction, the only one of the desk that changes rows:
+//! all of it, or nothing. Its contract is the one that a store owes its decisions (`Wrote` of
+//! `desk_access`), over the tables that a database holds (`Holds` of `desk_sql_layout`).
+//! `commit_counted` does the same and takes a written change into the tallies of duties.
+//!
+//! What is written for each change is said by `desk_sql_write`.
+#![tactic(auto)]
+
+mod counted;
+mod transaction;
+
+pub use counted::commit_counted;
+pub use transaction::commit;
