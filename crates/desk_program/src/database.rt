@@ -9,7 +9,7 @@ use crate::scripts::{self, Course};
 use crate::trouble::{trouble_at, trouble_of};
 use crate::{looking, progress, serving, summaries};
 use desk_base::{Items, Profile, Text};
-use desk_line::Listed;
+use desk_line::{FileCall, Listed};
 use desk_model::Query;
 use desk_store::{AdoptFault, CreateFault, MigrateFault, SqlDesk, audit_connection};
 use desk_subcommands::{
@@ -20,7 +20,7 @@ use desk_views::{page, show};
 use sqlite::{Alter, Connection};
 use sqlite_disk::{Disk, Unknown};
 use sqlite_store::FileStore;
-use std::alloc::Global;
+use std::alloc::{AllocError, Global};
 use std::io::{self, BufWriter, IsTerminal, Write};
 use std::rt::Stderr;
 
@@ -351,13 +351,8 @@ fn do_in(rt: &HostRuntime, path: &str, task: Task<'_>) -> Result<u8, Failure> {
     work_in(rt, path, Work::Do(task))
 }
 
-/// Audits the tables of a file.
-pub fn audit(rt: &HostRuntime, path: &str) -> Result<u8, Failure> {
-    work_in(rt, path, Work::Audit)
-}
-
 /// Gives a file of an older version the tables of this one. No file is made where there is none.
-pub fn migrate(rt: &HostRuntime, path: &str) -> Result<u8, Failure> {
+fn migrate(rt: &HostRuntime, path: &str) -> Result<u8, Failure> {
     require_file(rt, path)?;
     work_in(rt, path, Work::Migrate)
 }
@@ -368,12 +363,7 @@ pub fn script(rt: &HostRuntime, path: &str, course: Course) -> Result<u8, Failur
 }
 
 /// Has the desk that a file keeps import the document of another file.
-pub fn import(
-    rt: &HostRuntime,
-    path: &str,
-    document: &str,
-    profile: Profile,
-) -> Result<u8, Failure> {
+fn import(rt: &HostRuntime, path: &str, document: &str, profile: Profile) -> Result<u8, Failure> {
     let alloc = rt.alloc();
     let bytes = match document_of(alloc, bytes_at(rt, document)?) {
         Ok(bytes) => bytes,
@@ -389,7 +379,7 @@ pub fn import(
 }
 
 /// Has the desk that a file keeps load the catalogue of another file.
-pub fn load(rt: &HostRuntime, path: &str, catalogue: &str) -> Result<u8, Failure> {
+fn load(rt: &HostRuntime, path: &str, catalogue: &str) -> Result<u8, Failure> {
     let alloc = rt.alloc();
     let bytes = bytes_at(rt, catalogue)?;
     match text_of(alloc, bytes.as_slice())? {
@@ -398,80 +388,57 @@ pub fn load(rt: &HostRuntime, path: &str, catalogue: &str) -> Result<u8, Failure
     }
 }
 
-/// Writes the notices of a release of the desk that a file keeps.
-pub fn notices(rt: &HostRuntime, path: &str, release: &Text) -> Result<u8, Failure> {
-    let release = release.clone()?;
-    do_in(
-        rt,
-        path,
-        Task::Show {
-            query: Query::Bill { release },
+/// The task of a desk for a call that needs no other file.
+fn task_of<'a>(call: &'a FileCall) -> Result<Option<Task<'a>>, AllocError> {
+    let task = match call {
+        FileCall::Import { .. }
+        | FileCall::Catalogue { .. }
+        | FileCall::Audit
+        | FileCall::Migrate => return Ok(None),
+        FileCall::Notices { release } => Task::Show {
+            query: Query::Bill {
+                release: release.clone()?,
+            },
         },
-    )
-}
-
-/// Writes the table of the duties of a release of the desk that a file keeps.
-pub fn duties(rt: &HostRuntime, path: &str, release: &Text) -> Result<u8, Failure> {
-    let release = release.clone()?;
-    do_in(
-        rt,
-        path,
-        Task::Show {
-            query: Query::Duties { release },
+        FileCall::Duties { release } => Task::Show {
+            query: Query::Duties {
+                release: release.clone()?,
+            },
         },
-    )
-}
-
-/// Writes how many duties of a release of the desk that a file keeps are in which state.
-pub fn totals(rt: &HostRuntime, path: &str, release: &Text) -> Result<u8, Failure> {
-    let release = release.clone()?;
-    do_in(
-        rt,
-        path,
-        Task::Show {
-            query: Query::Totals { release },
+        FileCall::Totals { release } => Task::Show {
+            query: Query::Totals {
+                release: release.clone()?,
+            },
         },
-    )
-}
-
-/// Writes the changes of a duty of the desk that a file keeps.
-pub fn changes(rt: &HostRuntime, path: &str, duty: u32) -> Result<u8, Failure> {
-    let duty = u64::from(duty);
-    do_in(
-        rt,
-        path,
-        Task::Show {
-            query: Query::Changes { duty },
+        FileCall::Changes { duty } => Task::Show {
+            query: Query::Changes {
+                duty: u64::from(*duty),
+            },
         },
-    )
+        FileCall::List { list } => Task::List { list },
+        FileCall::Page { release } => Task::Page { release },
+        FileCall::Choices { release } => Task::Choices { release },
+        FileCall::Wanting { release } => Task::Wanting { release },
+        FileCall::Proposals { document } => Task::Proposals {
+            document: *document,
+        },
+        FileCall::Serve { port, limit } => Task::Serve {
+            port: *port,
+            limit: *limit,
+        },
+    };
+    Ok(Some(task))
 }
 
-/// Writes a list of what the desk holds that a file keeps.
-pub fn list(rt: &HostRuntime, path: &str, list: &Listed) -> Result<u8, Failure> {
-    do_in(rt, path, Task::List { list })
-}
-
-/// Writes a page on a release of the desk that a file keeps.
-pub fn page_of(rt: &HostRuntime, path: &str, release: &Text) -> Result<u8, Failure> {
-    do_in(rt, path, Task::Page { release })
-}
-
-/// Writes the choices that leave nothing to choose, of a release of the desk that a file keeps.
-pub fn choices(rt: &HostRuntime, path: &str, release: &Text) -> Result<u8, Failure> {
-    do_in(rt, path, Task::Choices { release })
-}
-
-/// Writes what is proposed for a document of the desk that a file keeps.
-pub fn proposals(rt: &HostRuntime, path: &str, document: u32) -> Result<u8, Failure> {
-    do_in(rt, path, Task::Proposals { document })
-}
-
-/// Writes what stands in the way of a freeze of a release of the desk that a file keeps.
-pub fn wanting(rt: &HostRuntime, path: &str, release: &Text) -> Result<u8, Failure> {
-    do_in(rt, path, Task::Wanting { release })
-}
-
-/// Serves so many connections over HTTP by the desk that a file keeps.
-pub fn serve(rt: &HostRuntime, path: &str, port: u16, limit: u32) -> Result<u8, Failure> {
-    do_in(rt, path, Task::Serve { port, limit })
+/// Does what is asked of the desk that a file keeps.
+pub fn answer(rt: &HostRuntime, path: &str, call: &FileCall) -> Result<u8, Failure> {
+    if let Some(task) = task_of(call)? {
+        return do_in(rt, path, task);
+    }
+    match call {
+        FileCall::Import { document, profile } => import(rt, path, document.as_str(), *profile),
+        FileCall::Catalogue { catalogue } => load(rt, path, catalogue.as_str()),
+        FileCall::Migrate => migrate(rt, path),
+        _ => work_in(rt, path, Work::Audit),
+    }
 }

@@ -20,7 +20,7 @@ use crate::scripts::Course;
 use desk_base::{Profile, Text};
 use desk_core::desk::MemDesk;
 use desk_explain::TABLES;
-use desk_line::{Call, FileCall, LineFault, line};
+use desk_line::{Call, LineFault, line};
 use desk_subcommands::{Failure, alternatives, tell_blanks};
 use desk_texts::Standard;
 use desk_tree_files::files_of;
@@ -191,28 +191,6 @@ fn propose(rt: &HostRuntime, path: &str, number: u32, profile: Profile) -> Resul
     )
 }
 
-/// Does what is asked of the desk that a file keeps.
-fn answer_of_file(rt: &HostRuntime, path: &str, call: &FileCall) -> Result<u8, Failure> {
-    match call {
-        FileCall::Import { document, profile } => {
-            database::import(rt, path, document.as_str(), *profile)
-        }
-        FileCall::Catalogue { catalogue } => database::load(rt, path, catalogue.as_str()),
-        FileCall::Notices { release } => database::notices(rt, path, release),
-        FileCall::Duties { release } => database::duties(rt, path, release),
-        FileCall::Totals { release } => database::totals(rt, path, release),
-        FileCall::Changes { duty } => database::changes(rt, path, *duty),
-        FileCall::List { list } => database::list(rt, path, list),
-        FileCall::Page { release } => database::page_of(rt, path, release),
-        FileCall::Choices { release } => database::choices(rt, path, release),
-        FileCall::Proposals { document } => database::proposals(rt, path, *document),
-        FileCall::Wanting { release } => database::wanting(rt, path, release),
-        FileCall::Audit => database::audit(rt, path),
-        FileCall::Migrate => database::migrate(rt, path),
-        FileCall::Serve { port, limit } => database::serve(rt, path, *port, *limit),
-    }
-}
-
 fn answer(rt: &HostRuntime, alloc: Global, call: &Call, is_watched: bool) -> Result<u8, Failure> {
     match call {
         Call::Check {
@@ -235,7 +213,7 @@ fn answer(rt: &HostRuntime, alloc: Global, call: &Call, is_watched: bool) -> Res
             };
             script(rt, alloc, database, course)
         }
-        Call::File { database, call } => answer_of_file(rt, database.as_str(), call),
+        Call::File { database, call } => database::answer(rt, database.as_str(), call),
         Call::Gather {
             folder,
             name,
