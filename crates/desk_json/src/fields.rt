@@ -1,7 +1,8 @@
 //! Reads the members of a JSON object.
 
-ghost use Rattle.std.specs.Prelude.{◌≡◌, ◌==◌, true, false, IfOk, IfErr, Some, None, option_map};
+ghost use Rattle.std.specs.Prelude.{◌≡◌, ◌==◌, true, false, IfOk, IfErr, Some, None, option_map, option_and_then};
 ghost use Rattle.std.specs.String.{string_bytes};
+ghost use Rattle.serde_json.specs.Find.{get, as_array};
 ghost use Rattle.serde_json.specs.View.{view, items_view};
 ghost use Rattle.desk_json.specs.Fields.{size, text_in, number_in, profile_in, texts, texts_in};
 ghost use Rattle.desk_json.specs.Unread.{IsFound};
@@ -63,29 +64,45 @@ pub(crate) fn profile_at(value: &Value, key: &str) -> Option<Profile>
     Profile::numbered(number_at(value, key)?)
 }
 
-/// Copies of the texts of a list, where it holds nothing else.
-fn texts_of(alloc: Global, list: &[Value]) -> Result<Option<Items<Text>>, AllocError>
-    ensures { IfOk result (λ r. r ≡ texts (items_view list.now)) }
+/// The list of a member, taken out of it.
+fn take_list(value: &mut Value, key: &str) -> Option<Vec<Value>>
+    ensures { option_map (λ list. items_view list.items) result
+        ≡ option_and_then as_array (get key.now (view value.old)) }
+{
+    match value.get_mut(key) {
+        Some(member) => match member.take() {
+            Value::Array(list) => Some(list),
+            _ => None,
+        },
+        None => None,
+    }
+}
+
+/// Copies of the texts of a list, where it holds nothing else. Each text goes once it is copied, so
+/// that there is little more than one of each.
+fn texts_of(alloc: Global, list: Vec<Value>) -> Result<Option<Items<Text>>, AllocError>
+    ensures { IfOk result (λ r. r ≡ texts (items_view list.items)) }
 {
     let mut found = Items::new(alloc);
     for item in list {
-        match item.as_str() {
-            Some(text) => found.push(Text::of(alloc, text)?)?,
-            None => return Ok(None),
+        match item {
+            Value::String(text) => found.push(Text::of(alloc, text.as_str())?)?,
+            _ => return Ok(None),
         }
     }
     Ok(Some(found))
 }
 
-/// Copies of the texts of a member that is a list of texts.
-fn texts_at(alloc: Global, value: &Value, key: &str) -> Result<Option<Items<Text>>, AllocError>
-    ensures { IfOk result (λ r. r ≡ texts_in key.now (view value.now)) }
+/// Copies of the texts of a member that is a list of texts, which is taken out of it.
+fn take_texts(
+    alloc: Global,
+    value: &mut Value,
+    key: &str,
+) -> Result<Option<Items<Text>>, AllocError>
+    ensures { IfOk result (λ r. r ≡ texts_in key.now (view value.old)) }
 {
-    match value.get(key) {
-        Some(member) => match member.as_array() {
-            Some(list) => texts_of(alloc, list.as_slice()),
-            None => Ok(None),
-        },
+    match take_list(value, key) {
+        Some(list) => texts_of(alloc, list),
         None => Ok(None),
     }
 }
@@ -141,11 +158,15 @@ pub(crate) fn wanted_number(value: &Value, key: &str) -> Result<u64, Unread>
     number_at(value, key).ok_or(Unread::BadCommand)
 }
 
-/// Copies of the texts of a member that is a list of texts.
-pub(crate) fn wanted_texts(alloc: Global, value: &Value, key: &str) -> Result<Items<Text>, Unread>
-    ensures { IsFound (texts_in key.now (view value.now)) result }
+/// Copies of the texts of a member that is a list of texts, which is taken out of it.
+pub(crate) fn wanted_texts(
+    alloc: Global,
+    value: &mut Value,
+    key: &str,
+) -> Result<Items<Text>, Unread>
+    ensures { IsFound (texts_in key.now (view value.old)) result }
 {
-    match texts_at(alloc, value, key)? {
+    match take_texts(alloc, value, key)? {
         Some(texts) => Ok(texts),
         None => Err(Unread::BadCommand),
     }

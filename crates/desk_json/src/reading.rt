@@ -70,8 +70,8 @@ fn read_attach(alloc: Global, value: &Value) -> Result<Request, Unread>
     Ok(Request::Act(Command::Attach { release, document }))
 }
 
-fn read_choose(alloc: Global, value: &Value) -> Result<Request, Unread>
-    ensures { IsRead (choose_request (view value.now)) result }
+fn read_choose(alloc: Global, value: &mut Value) -> Result<Request, Unread>
+    ensures { IsRead (choose_request (view value.old)) result }
 {
     require_members(value, 5)?;
     let release = wanted_text(alloc, value, "release")?;
