@@ -3,3 +3,4 @@ mod Lines
 mod Bills
 mod Uses
 pub mod InTurn
+mod Naming

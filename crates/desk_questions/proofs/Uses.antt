@@ -37,6 +37,9 @@ bytes_flipped a b =
 nat_flipped : (d e : ℕ) → (d == e) ≡ (e == d)
 nat_flipped d e = grind (arith, nat_tests)
 
+nat_itself : (d : ℕ) → (d == d) ≡ true
+nat_itself d = grind (arith, nat_tests)
+
 -- Keys
 
 either_equal : (o p : Ordering) → is_eq (ordering_then o p) ≡ (is_eq o && is_eq p)
@@ -67,6 +70,10 @@ same_key (Reference d reference) (Licence other) =
     key_equal (text_key (Reference d reference)) (text_key (Licence other)) ∙ ap (λ b. b && bytes_eq reference other) (other_next d)
 same_key (Reference d reference) (Reference e other) =
     key_equal (text_key (Reference d reference)) (text_key (Reference e other)) ∙ ap (λ b. b && bytes_eq reference other) (next_same d e)
+
+pub same_itself : (a : TextOf) → is_same_text a a ≡ true
+same_itself (Licence id) = (bytes_eq-Decides id id).1 refl
+same_itself (Reference d reference) = λ i. nat_itself d i && (bytes_eq-Decides reference reference).1 refl i
 
 flipped : (a b : TextOf) → is_same_text a b ≡ is_same_text b a
 flipped (Licence id) (Licence other) = bytes_flipped id other

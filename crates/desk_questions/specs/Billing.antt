@@ -1,22 +1,52 @@
 -- What the bill of a release is made of, over looked-up rows.
-use Rattle.std.specs.Prelude.{◌≡◌, ⊤, ℕ, ◌+◌, List, Option, Some, None}
+use Rattle.std.specs.Prelude.{◌≡◌, ⊤, ℕ, ◌+◌, Bool, true, false, List, ◌++◌, Option, Some, None}
 use Rattle.std.specs.List.{list_any}
 use Rattle.std.specs.Option.{option_map_or, option_and_then}
 use Rattle.std.specs.Ordering.{nat_cmp, is_eq, on, then_cmp}
 use Rattle.std.specs.Cmp.Lexicographic.{slice_cmp}
-use Rattle.std.specs.BTreeSet.{BTreeSet, contains_by}
+use Rattle.std.specs.BTreeSet.{BTreeSet}
+use Rattle.std.specs.BTreeSet as sorted
+use Rattle.std.specs.HashSet.{contains_by}
+use Rattle.std.specs.Str.{bytes_eq}
+use denote.Ref.{Bor}
 use Rattle.std.specs.declared.cmp.Ordering.{Ordering}
+use Rattle.desk_model.specs.Bills.{first_uses, is_same_text, texts_named}
 use Rattle.desk_model.specs.Readings.{Readings}
 use Rattle.desk_model.specs.declared.bill.BillLine.{BillLine}
 use Rattle.desk_model.specs.declared.bill.TextOf.{TextOf}
 use Rattle.desk_model.specs.declared.bill.TextOf.TheVariants.{Licence, Reference}
 use Rattle.desk_model.specs.declared.reading.LicenceText.{LicenceText}
 use Rattle.desk_model.specs.declared.row.PackageRow.{PackageRow}
+use Rattle.desk_questions.specs.declared.texts.Named.{Named}
 use Rattle.desk_questions.specs.declared.texts.TextKey.{TextKey}
 
 -- the text of a term's reference, or else of its licence
 abbrev pub main_text : Readings → ℕ → List ℕ → TextOf
 main_text w d term = option_map_or (λ reference. Reference d reference) (w.reference term) (Licence (w.licence_id term))
+
+-- it is the text of a licence
+abbrev pub is_licence : TextOf → Bool
+is_licence (Licence id) = true
+is_licence (Reference d reference) = false
+
+-- each of these texts is among those
+abbrev pub AreAmong : List TextOf → List TextOf → Type 0
+AreAmong xs texts = (x : TextOf) → list_any (is_same_text x) texts ≡ true → list_any (is_same_text x) xs ≡ true
+
+-- a term is among those that were met
+abbrev pub is_met : Named → Bor (List ℕ) → Bool
+is_met named term = contains_by (λ k. bytes_eq term.now k.now) named.met
+
+-- these are the texts that terms named, as far as their first uses go
+pub record AreNamed (w : Readings) (xs : List TextOf) (named : Named) : Type 0 where
+  pub uses : first_uses named.texts.items ≡ first_uses xs
+  pub same : (x : TextOf) → list_any (is_same_text x) named.texts.items ≡ list_any (is_same_text x) xs
+  -- a term that was met names none but these in any document
+  pub met : (term : Bor (List ℕ)) → is_met named term ≡ true → (d : ℕ) → AreAmong xs (texts_named w d term.now)
+
+-- these texts are named too
+abbrev pub Adds : Readings → List TextOf → Named → Named → Type 0
+Adds w texts old new = (xs : List TextOf) → AreNamed w xs old → AreNamed w (xs ++ texts) new
 
 -- what a text is known by
 abbrev pub text_key : TextOf → TextKey
@@ -28,7 +58,7 @@ key_order = then_cmp (on (λ k. k.document) nat_cmp) (on (λ k. k.name) (slice_c
 
 -- the set has the keys of these texts, and no others
 abbrev pub HasTexts : List TextOf → BTreeSet TextKey → Type 0
-HasTexts texts seen = (key : TextKey) → contains_by (key_order key) seen ≡ list_any (λ text. is_eq (key_order key (text_key text))) texts
+HasTexts texts seen = (key : TextKey) → sorted.contains_by (key_order key) seen ≡ list_any (λ text. is_eq (key_order key (text_key text))) texts
 
 -- these are the texts of licences of a catalogue, if there is one
 abbrev pub AreIn : {L : Type 0} → (Readings → List ℕ → L → Type 0) → Readings → Option (List ℕ) → Option L → Type 0

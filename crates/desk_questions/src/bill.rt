@@ -3,14 +3,14 @@
 ghost use Rattle.std.specs.Prelude.{◌≡◌, IfOk, IfErr, map};
 ghost use Rattle.std.specs.List.{flat_map};
 ghost use Rattle.desk_model.specs.Readings.{Readings};
-ghost use Rattle.desk_model.specs.Bills.{bill_line, bill_of, package_texts};
+ghost use Rattle.desk_model.specs.Bills.{bill_line, bill_of, first_uses, package_texts};
 ghost use Rattle.desk_model.specs.Faults.{MayFail};
 ghost use Rattle.desk_access.specs.Seen.{Looked, OfRows};
 ghost use Rattle.desk_history.specs.FromTables.{queried_from, shipped_found};
 ghost use Rattle.desk_questions.specs.Billing.{line_with};
 
 use crate::frozen::{frozen_rows, terms_of};
-use crate::texts::{add_terms, bill_texts_of, first_uses};
+use crate::texts::{Named, add_terms, bill_texts_of, first_uses};
 use desk_access::store::Store;
 use desk_access::texts::Texts;
 use desk_base::{Items, Text};
@@ -66,7 +66,7 @@ fn line_of(alloc: Global, terms: &[&FrozenRow], row: PackageRow) -> Result<BillL
 struct Parts {
     /// The line of each.
     lines: Items<BillLine>,
-    /// The texts that their terms name, in their order.
+    /// The texts that their terms name, in the order of first use.
     named: Vec<TextOf>,
 }
 
@@ -80,11 +80,12 @@ fn parts_of<T: Texts>(
 ) -> Result<Parts, AllocError>
     ensures lines { IfOk result (λ parts.
         parts.lines ≡ map (bill_line frozen.now.rows.items release.now) packages.items) }
-    ensures named { (w : Readings) → T.are_right w → IfOk result (λ parts. parts.named.items
-        ≡ flat_map (package_texts w frozen.now.rows.items release.now) packages.items) }
+    ensures named { (w : Readings) → T.are_right w → IfOk result (λ parts.
+        first_uses parts.named.items ≡ first_uses
+        (flat_map (package_texts w frozen.now.rows.items release.now) packages.items)) }
 {
     let mut lines = Items::new(alloc);
-    let mut named = Vec::new(alloc);
+    let mut named = Named::new(alloc);
     let mut place = 0;
     for row in packages {
         let terms = terms_of(alloc, frozen, &mut place, release, &row)?;
@@ -92,7 +93,10 @@ fn parts_of<T: Texts>(
         let line = line_of(alloc, terms.as_slice(), row)?;
         lines.push(line)?;
     }
-    Ok(Parts { lines, named })
+    Ok(Parts {
+        lines,
+        named: named.texts,
+    })
 }
 
 /// The bill of a release, by the catalogue of its freeze.

@@ -1,7 +1,7 @@
 //! The texts that go with a frozen release: those that its terms name, in the order of first use,
 //! each once.
 
-ghost use Rattle.std.specs.Prelude.{◌≡◌, ◌++◌, ℕ, List, Option, IfOk, IfErr, OnOk, map};
+ghost use Rattle.std.specs.Prelude.{◌≡◌, ◌++◌, [], ℕ, List, Option, IfOk, IfErr, OnOk, map};
 ghost use Rattle.std.specs.List.{flat_map};
 ghost use Rattle.std.specs.Option.{option_map_or};
 ghost use Rattle.std.specs.Ordering.{nat_cmp, on, then_cmp, as_partial_cmp};
@@ -13,7 +13,7 @@ ghost use Rattle.desk_model.specs.Readings.{Readings};
 ghost use Rattle.desk_model.specs.Bills.{bill_text, first_uses, licence_bill, revision_text, texts_named};
 ghost use Rattle.desk_model.specs.Faults.{MayFail};
 ghost use Rattle.desk_access.specs.Seen.{Looked, OfRows};
-ghost use Rattle.desk_questions.specs.Billing.{AreIn, licence_found, main_text, text_key};
+ghost use Rattle.desk_questions.specs.Billing.{Adds, AreIn, AreNamed, is_licence, licence_found, main_text, text_key};
 
 use desk_access::store::Store;
 use desk_access::texts::Texts;
@@ -21,7 +21,7 @@ use desk_base::{Items, Text};
 use desk_model::{BillText, Fault, FrozenRow, LicenceText, TextOf};
 use std::alloc::{AllocError, Global};
 use std::cmp::Ordering;
-use std::collections::BTreeSet;
+use std::collections::{BTreeSet, HashSet};
 
 /// The text of a term's reference, or else of its licence.
 fn main_text<T: Texts>(
@@ -44,37 +44,90 @@ fn main_text<T: Texts>(
     }
 }
 
-/// Adds the texts that a term names.
+/// Whether a text is that of a licence, and so the same in each document.
+fn is_licence(text: &TextOf) -> bool
+    ensures { result ≡ is_licence text.now }
+{
+    matches!(text, TextOf::Licence { .. })
+}
+
+/// Adds the texts that a term names. Whether it names them in each document.
 fn add_texts<T: Texts>(
     alloc: Global,
     texts: &T,
     row: &FrozenRow,
     named: &mut Vec<TextOf>,
-) -> Result<(), AllocError>
-    ensures { (w : Readings) → T.are_right w
+) -> Result<bool, AllocError>
+    ensures named { (w : Readings) → T.are_right w
         → OnOk result (named.new.items
         ≡ named.old.items ++ texts_named w row.now.document row.now.term) }
+    ensures anywhere { (w : Readings) → T.are_right w → IfOk result (λ is_anywhere.
+        is_anywhere ≡ is_licence (main_text w row.now.document row.now.term)) }
 {
     let main = main_text(alloc, texts, row.document, &row.term)?;
+    let is_anywhere = is_licence(&main);
     named.push(main)?;
     if let Some(id) = texts.exception(alloc, row.term.as_str())? {
         named.push(TextOf::Licence { id })?;
+    }
+    Ok(is_anywhere)
+}
+
+/// The texts that terms named.
+#[derive(Drop)]
+pub(crate) struct Named<'a> {
+    /// The texts in their order, without those that a term named again.
+    pub(crate) texts: Vec<TextOf>,
+    /// The terms that were met and name the same texts in each document.
+    met: HashSet<&'a str>,
+}
+
+impl<'a> Named<'a> {
+    pub(crate) fn new(alloc: Global) -> Named<'a>
+        ensures { (w : Readings) → AreNamed w [] result }
+    {
+        Named {
+            texts: Vec::new(alloc),
+            met: HashSet::new(alloc),
+        }
+    }
+}
+
+/// Adds the texts that a term names, unless it was met before and named them too: most packages
+/// have one of few terms.
+fn add_term<'a, T: Texts>(
+    alloc: Global,
+    texts: &T,
+    row: &'a FrozenRow,
+    named: &mut Named<'a>,
+) -> Result<(), AllocError>
+    ensures { (w : Readings) → T.are_right w
+        → OnOk result (Adds w (texts_named w row.now.document row.now.term) named.old named.new) }
+{
+    let term = row.term.as_str();
+    if named.met.contains(term) {
+        return Ok(());
+    }
+    let is_anywhere = add_texts(alloc, texts, row, &mut named.texts)?;
+    if is_anywhere {
+        named.met.insert(term)?;
     }
     Ok(())
 }
 
 /// Adds the texts that the terms of a package name.
-pub(crate) fn add_terms<T: Texts>(
+pub(crate) fn add_terms<'a, T: Texts>(
     alloc: Global,
     texts: &T,
-    terms: &[&FrozenRow],
-    named: &mut Vec<TextOf>,
+    terms: &[&'a FrozenRow],
+    named: &mut Named<'a>,
 ) -> Result<(), AllocError>
-    ensures { (w : Readings) → T.are_right w → OnOk result (named.new.items ≡ named.old.items
-        ++ flat_map (λ row. texts_named w row.now.document row.now.term) terms.now) }
+    ensures { (w : Readings) → T.are_right w → OnOk result (Adds w
+        (flat_map (λ row. texts_named w row.now.document row.now.term) terms.now)
+        named.old named.new) }
 {
     for row in terms {
-        add_texts(alloc, texts, row, named)?;
+        add_term(alloc, texts, *row, named)?;
     }
     Ok(())
 }

@@ -1,5 +1,4 @@
-use Rattle.std.proofs.Common.{◌∙◌, ap}
-use Rattle.desk_model.specs.Bills.{first_uses}
+use Rattle.std.proofs.Common.{◌∙◌}
 use Rattle.desk_history.specs.FromTables.{shipped_found}
 use Rattle.desk_questions.proofs.Bills.{bill_found}
 use Rattle.desk_questions.proofs.bill.bill_of.Goals as goal
@@ -14,5 +13,5 @@ returns-clause-found g c = λ w right h t held.
     (c.in_ok-frozen.ensures.found before t first)
     (c.in_ok-packages.ensures.found (c.in_ok-frozen.ensures.kept.kept.spared.honest before) t held)
     c.in_ok-parts.ensures.lines
-    (c.in_ok-uses.ensures ∙ ap first_uses (c.in_ok-parts.ensures.named w right))
+    (c.in_ok-uses.ensures ∙ c.in_ok-parts.ensures.named w right)
     (c.in_ok-bodies.ensures.found w right h t (c.in_ok-frozen.ensures.kept.kept.spared.holds t first))

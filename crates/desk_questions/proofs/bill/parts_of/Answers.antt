@@ -1,4 +1,4 @@
-use Rattle.std.proofs.Common.{◌≡◌, ◌∙◌, ◌++◌, ◌∷◌, [], ℕ, List, ap, ap₂, map, sym}
+use Rattle.std.proofs.Common.{◌≡◌, ◌∙◌, ◌++◌, ◌∷◌, [], ℕ, List, ap, ap₂, map, subst, sym}
 use Rattle.std.specs.List.{flat_map}
 use Rattle.std.proofs.lemmas.List.{append-nil, map-append}
 use Rattle.std.proofs.lemmas.List.Concat.{flat_map-append}
@@ -9,8 +9,11 @@ use Rattle.desk_model.specs.declared.bill.BillLine.{BillLine}
 use Rattle.desk_model.specs.declared.bill.TextOf.{TextOf}
 use Rattle.desk_model.specs.declared.row.FrozenRow.{FrozenRow}
 use Rattle.desk_model.specs.declared.row.PackageRow.{PackageRow}
-use Rattle.desk_questions.specs.Billing.{line_with}
+use Rattle.desk_questions.specs.Billing.{AreNamed, line_with}
 use Rattle.desk_questions.proofs.bill.parts_of.Goals as goal
+
+pub loop-row-init : goal.loop-row-init
+loop-row-init g c = (c.new-lines.ensures, λ w right. c.new-named.ensures w)
 
 pub loop-row-preserved : goal.loop-row-preserved
 loop-row-preserved g c =
@@ -28,6 +31,7 @@ loop-row-preserved g c =
           let named : FrozenRow → List TextOf = λ row. texts_named w row.document row.term in
           let these = ap (flat_map (λ row. texts_named w row.now.document row.now.term)) terms
           ∙ (sym (flat_map-map named (λ row. row.now) c.in_ok-terms.terms.items) ∙ (ap (flat_map named) c.in_ok-terms.ensures ∙ sym (append-nil (texts x)))) in
-          c.in_ok-add_terms.ensures w right
-          ∙ (ap₂ (λ (a b : List TextOf). a ++ b) (c.loop-row.invariant.1 w right) these ∙ sym (flat_map-append texts c.loop-row.yielded (x ∷ []))),
+          let whole = ap (λ (l : List TextOf). flat_map texts c.loop-row.yielded ++ l) these ∙ sym (flat_map-append texts c.loop-row.yielded (x ∷ [])) in
+          subst (λ (l : List TextOf). AreNamed w l c.add_terms.new.named) whole
+          (c.in_ok-add_terms.ensures w right (flat_map texts c.loop-row.yielded) (c.loop-row.invariant.1 w right)),
     )
