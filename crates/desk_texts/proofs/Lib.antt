@@ -4,3 +4,4 @@ mod Costs
 pub mod Orders
 pub mod Halving
 mod Verdicts
+mod ByIds

@@ -2,6 +2,10 @@
 use Rattle.std.specs.Prelude.{◌≡◌, ℕ, List, Option, Result, Ok, Err}
 use Rattle.std.specs.Option.{option_map, option_and_then}
 use Rattle.std.specs.Result.{result_ok}
+use Rattle.std.specs.Ordering.{nat_cmp}
+use Rattle.std.specs.Cmp.Lexicographic.{slice_cmp}
+use Rattle.std.specs.BTreeMap.{BTreeMap, get_by}
+use Rattle.desk_base.specs.Folded.{folded}
 use Rattle.desk_model.specs.Readings.{Readings}
 use Rattle.desk_model.specs.declared.reading.Catalogue.{Catalogue}
 use Rattle.desk_model.specs.declared.reading.LicenceText.{LicenceText}
@@ -9,19 +13,29 @@ use Rattle.desk_model.specs.declared.refusal.CatalogueFault.{CatalogueFault}
 use Rattle.desk_catalogue.specs.Lookup.{text_for}
 use Rattle.desk_catalogue.specs.Reading.{catalogue_of}
 use Rattle.desk_catalogue.specs.declared.catalogue.Catalogue.{Catalogue as WholeCatalogue}
+use Rattle.desk_catalogue.specs.declared.catalogue.LicenceText.{LicenceText as WholeText}
+use Rattle.desk_texts.specs.declared.licences.Licences.{Licences}
 
 abbrev pub kept_catalogue : Result WholeCatalogue CatalogueFault → Result Catalogue CatalogueFault
 kept_catalogue (Ok catalogue) = Ok (record { forms = catalogue.forms; rules = catalogue.rules })
 kept_catalogue (Err fault) = Err fault
 
+-- a text as it is kept
+abbrev pub kept_text : WholeText → LicenceText
+kept_text text = record { title = text.licence; body = text.body }
+
 -- the text that a catalogue has of a licence or an exception, by its id in any case (SPDX 2.3, Annex D.2)
 abbrev pub found_text : List ℕ → WholeCatalogue → Option LicenceText
-found_text id catalogue = option_map (λ text. record { title = text.licence; body = text.body }) (text_for catalogue id)
+found_text id catalogue = option_map kept_text (text_for catalogue id)
 
 -- the same where there is a catalogue
 abbrev pub licence_text_in : Result WholeCatalogue CatalogueFault → List ℕ → Option LicenceText
 licence_text_in read id = option_and_then (found_text id) (result_ok read)
 
--- the catalogue that a text is by a reading of terms, whole, if it is one
-abbrev pub IsWholeCatalogue : Readings → List ℕ → Option WholeCatalogue → Type 0
-IsWholeCatalogue w text catalogue = catalogue ≡ result_ok (catalogue_of w.term text)
+-- the text of an id in any case, by ids in small letters
+abbrev pub text_in : BTreeMap (List ℕ) LicenceText → List ℕ → Option LicenceText
+text_in texts id = get_by (slice_cmp nat_cmp (folded id)) texts
+
+-- these are the texts of the catalogue that a text is by a reading of terms; none where it is no catalogue
+abbrev pub AreLicences : Readings → List ℕ → Licences → Type 0
+AreLicences w text licences = (id : List ℕ) → text_in licences.texts id ≡ licence_text_in (catalogue_of w.term text) id

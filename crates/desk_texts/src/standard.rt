@@ -1,6 +1,6 @@
 //! The desk's reader of texts.
 
-ghost use Rattle.desk_texts.specs.Catalogues.{IsWholeCatalogue};
+ghost use Rattle.desk_texts.specs.Catalogues.{AreLicences};
 ghost use Rattle.desk_texts.specs.Expressions.{IsExpression};
 ghost use Rattle.desk_texts.specs.Right.{AreRight};
 
@@ -8,7 +8,7 @@ use crate::catalogue::read_catalogue;
 use crate::document::read_document;
 use crate::expression::{expression_fault, read_expression, verdict};
 use crate::findings::read_findings;
-use crate::licences::{licence_text, whole_catalogue};
+use crate::licences::{Licences, licence_text, licences_of};
 use crate::listing::{alternatives, cheapest, terms};
 use crate::term::{
     adopted_as, exception_of, is_licence, licence_id_of, printed_term, reference_of,
@@ -29,13 +29,13 @@ pub struct Standard;
 impl Texts for Standard {
     type Expression = Expr;
 
-    type Licences = Option<desk_catalogue::Catalogue>;
+    type Licences = Licences;
 
     ghost are_right = { AreRight };
 
     ghost is_of = { IsExpression };
 
-    ghost are_in = { IsWholeCatalogue };
+    ghost are_in = { AreLicences };
 
     fn catalogue(
         &self,
@@ -77,21 +77,17 @@ impl Texts for Standard {
         exception_of(alloc, term)
     }
 
-    fn licences(
-        &self,
-        alloc: Global,
-        text: &str,
-    ) -> Result<Option<desk_catalogue::Catalogue>, AllocError> {
-        whole_catalogue(alloc, text)
+    fn licences(&self, alloc: Global, text: &str) -> Result<Licences, AllocError> {
+        licences_of(alloc, text)
     }
 
     fn licence_text(
         &self,
-        _alloc: Global,
-        licences: &Option<desk_catalogue::Catalogue>,
+        alloc: Global,
+        licences: &Licences,
         id: &str,
     ) -> Result<Option<LicenceText>, AllocError> {
-        licence_text(licences, id)
+        licence_text(alloc, licences, id)
     }
 
     fn expression(
