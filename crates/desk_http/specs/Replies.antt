@@ -83,7 +83,7 @@ IsTold Memory told = told ≡ no_memory
 
 -- the message that is this
 abbrev pub IsMessage : Told → Message → Type 0
-IsMessage told (message.Made status text) = (told.0 ≡ status) × (text.items ≡ reply_bytes told)
+IsMessage told (message.Made status front rest) = (told.0 ≡ status) × (front.items ++ rest.items ≡ reply_bytes told)
 IsMessage told message.NoMemory = told ≡ no_memory
 IsMessage told message.NoText = told ≡ no_text
 IsMessage told message.NoStore = told ≡ no_store

@@ -1,6 +1,6 @@
 //! The texts of replies.
 
-ghost use Rattle.std.specs.Prelude.{◌≡◌, ◌⊎◌, true, false, IfOk, codes, string_bytes, if◌then◌else◌};
+ghost use Rattle.std.specs.Prelude.{◌≡◌, ◌⊎◌, ◌++◌, true, false, IfOk, codes, string_bytes, if◌then◌else◌};
 ghost use Rattle.desk_json.specs.Replies.{reply_text, bad_command_text};
 ghost use Rattle.desk_http.specs.Replies.{Told, IsTold, IsMessage, head_bytes, reply_bytes, json, content_of, told_of, not_toml, no_memory, no_text, no_store};
 ghost use Rattle.desk_http.specs.declared.asking.Reply.TheVariants.{Became};
@@ -13,10 +13,10 @@ use desk_model::{Answer, Fault, Outcome};
 use desk_report::{duties_csv, notices};
 use std::alloc::{AllocError, Global};
 
-/// What is written of a reply: its bytes, or one of those that take no memory.
+/// What is written of a reply: its bytes in two parts, or one of those that take no memory.
 #[derive(Drop)]
 pub enum Message {
-    Made(Status, Vec<u8>),
+    Made(Status, Vec<u8>, Vec<u8>),
     NoMemory,
     NoText,
     NoStore,
@@ -28,6 +28,16 @@ struct Content {
     media_type: &'static str,
     body: Vec<u8>,
 }
+
+/// A reply in two parts, of which the second may be empty.
+#[derive(Drop)]
+struct Parts {
+    front: Vec<u8>,
+    rest: Vec<u8>,
+}
+
+/// The bytes of the longest body that is copied behind its head, to be written with it at once.
+const COPIED_BYTES: usize = 65_536;
 
 /// The lines before a body of so many bytes.
 #[tactic(auto, unfolding(crate::specs::Replies::head_bytes))]
@@ -58,6 +68,23 @@ fn reply_with(
     let mut text = head(alloc, status, media_type, body.len())?.into_bytes();
     text.extend_from_slice(body)?;
     Ok(text)
+}
+
+/// A reply with a status and a content, of which a short body alone is copied.
+#[tactic(auto, unfolding(crate::specs::Replies::reply_bytes))]
+fn in_parts(alloc: Global, status: Status, content: Content) -> Result<Parts, AllocError>
+    ensures { IfOk result (λ parts. parts.front.items ++ parts.rest.items
+        ≡ reply_bytes (status, (content.media_type.now, content.body.items))) }
+{
+    let Content { media_type, body } = content;
+    let length = body.len();
+    if length <= COPIED_BYTES {
+        let front = reply_with(alloc, status, media_type, body.as_slice())?;
+        let rest = Vec::new(alloc);
+        return Ok(Parts { front, rest });
+    }
+    let front = head(alloc, status, media_type, length)?.into_bytes();
+    Ok(Parts { front, rest: body })
 }
 
 /// The media type and the body of an outcome: a bill and rows of duties as the texts that are asked
@@ -91,6 +118,15 @@ pub fn reply(alloc: Global, outcome: &Outcome, shape: Shape) -> Result<Vec<u8>, 
         content.media_type,
         content.body.as_slice(),
     )
+}
+
+/// The same in two parts.
+fn reply_in_parts(alloc: Global, outcome: &Outcome, shape: Shape) -> Result<Parts, AllocError>
+    ensures { IfOk result (λ parts. parts.front.items ++ parts.rest.items
+        ≡ reply_bytes (told_of outcome.now shape)) }
+{
+    let content = content_of(alloc, outcome, shape)?;
+    in_parts(alloc, status_of(outcome), content)
 }
 
 /// The reply where no memory was left for a request.
@@ -127,7 +163,7 @@ fn unasked(alloc: Global, status: Status, body: &str) -> Message
         × ((told ≡ (status, json body.now)) ⊎ (told ≡ no_memory)) }
 {
     match reply_with(alloc, status, "application/json", body.as_bytes()) {
-        Ok(text) => Message::Made(status, text),
+        Ok(text) => Message::Made(status, text, Vec::new(alloc)),
         Err(_) => Message::NoMemory,
     }
 }
@@ -151,8 +187,8 @@ fn outcome_message(alloc: Global, outcome: &Outcome, shape: Shape, is_get: bool)
     match outcome {
         Outcome::Failed(Fault::Memory) => Message::NoMemory,
         Outcome::Failed(Fault::Store(_)) => Message::NoStore,
-        Outcome::Answered(_) => match reply(alloc, outcome, shape) {
-            Ok(text) => Message::Made(status_of(outcome), text),
+        Outcome::Answered(_) => match reply_in_parts(alloc, outcome, shape) {
+            Ok(parts) => Message::Made(status_of(outcome), parts.front, parts.rest),
             Err(_) => short_message(is_get),
         },
     }

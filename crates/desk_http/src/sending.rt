@@ -1,6 +1,6 @@
 //! Writes bytes.
 
-ghost use Rattle.std.specs.Prelude.{◌≡◌, ◌≤◌, IfOk, IfErr, OnOk, OnErr, length, take};
+ghost use Rattle.std.specs.Prelude.{◌≡◌, ◌++◌, ◌≤◌, IfOk, IfErr, OnOk, OnErr, length, take};
 ghost use Rattle.std.specs.Io.KnownBytes.{Appends, Keeps};
 ghost use Rattle.desk_http.specs.Sending.{AppendsFront};
 
@@ -42,4 +42,20 @@ pub fn send<W: Write>(writer: &mut W, bytes: &[u8]) -> Result<(), ServeFault>
         rest = &rest[taken..];
     }
     Err(ServeFault::Write)
+}
+
+/// Writes bytes and others behind them, as `send` does: after a fault a front of both was written.
+pub(crate) fn send_both<W: Write>(
+    writer: &mut W,
+    front: &[u8],
+    rest: &[u8],
+) -> Result<(), ServeFault>
+    ensures ok { OnOk result (Appends (W.contents writer.old) (W.contents writer.new)
+        (front.now ++ rest.now)) }
+    ensures err { OnErr result (AppendsFront (W.contents writer.old) (W.contents writer.new)
+        (front.now ++ rest.now)) }
+    ensures fault { IfErr result (λ fault. fault ≡ ServeFault.Write) }
+{
+    send(writer, front)?;
+    send(writer, rest)
 }

@@ -11,7 +11,7 @@ use crate::answering::answer;
 use crate::asking::Reply;
 use crate::receiving::{ServeFault, receive};
 use crate::replies::{Message, message_of, no_memory, no_store, no_text};
-use crate::sending::send;
+use crate::sending::{send, send_both};
 use crate::status::Status;
 use crate::table::RouteTable;
 use desk_core::desk::Desk;
@@ -36,8 +36,8 @@ fn write_reply<W: Write>(alloc: Global, writer: &mut W, reply: &Reply) -> Result
     ensures fault { IfErr result (λ fault. fault ≡ ServeFault.Write) }
 {
     match message_of(alloc, reply) {
-        Message::Made(status, text) => {
-            send(writer, text.as_slice())?;
+        Message::Made(status, front, rest) => {
+            send_both(writer, front.as_slice(), rest.as_slice())?;
             Ok(status)
         }
         Message::NoMemory => {
