@@ -1,14 +1,16 @@
 //! A written change, counted.
 
-ghost use Rattle.std.specs.Prelude.{◌≡◌, false, OnOk, OnErr};
+ghost use Rattle.std.specs.Prelude.{◌≡◌, false, true, Err, IfErr, OnOk, OnErr};
 ghost use Rattle.sqlite.specs.Held.{state};
 ghost use Rattle.desk_access.specs.Seen.{Wrote};
 ghost use Rattle.desk_model.specs.Tables.{Tables};
 ghost use Rattle.desk_sql_layout.specs.Held.{Stands, seen_of};
+ghost use Rattle.desk_sql_layout.specs.Writable.{is_writable};
+ghost use Rattle.desk_sql_write.specs.Taking.{CommitFails, IsTold};
 ghost use Rattle.desk_tally.specs.Kept.{AreKept, Fits, LeadsTo};
 
 use crate::transaction::commit;
-use desk_model::{Change, Fault};
+use desk_model::{Change, Fault, StoreFault};
 use desk_tally::{Step, Tallies};
 use sqlite::{Alter, Connection};
 use std::alloc::Global;
@@ -26,6 +28,10 @@ pub fn commit_counted<S: Alter>(
     requires fits { Fits step tallies.old }
     ensures wrote { Wrote Stands change.now (seen_of (state S.Store conn.old))
         (seen_of (state S.Store conn.new)) result }
+    ensures cause { is_writable change.now ≡ true → IsTold change.now → IfErr result
+        (CommitFails change.now (state S.Store conn.old) (state S.Store conn.new)) }
+    ensures unwritable { is_writable change.now ≡ false
+        → (result ≡ Err (Fault.Store StoreFault.Rows)) × (conn.new ≡ conn.old) }
     ensures mode { conn.new.in_transaction ≡ false }
     ensures counted { OnOk result ((t : Tables) → LeadsTo step tallies.old t
         → AreKept tallies.new t) }

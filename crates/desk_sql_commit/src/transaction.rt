@@ -1,10 +1,12 @@
 //! A change is written whole, or not at all.
 
-ghost use Rattle.std.specs.Prelude.{◌≡◌, false, IsTrue, OnOk, OnErr};
+ghost use Rattle.std.specs.Prelude.{◌≡◌, false, true, Err, IfErr, IsTrue, OnOk, OnErr};
 ghost use Rattle.sqlite.specs.Held.{state};
 ghost use Rattle.sqlite.specs.State.{HasCleanDisk, Survives};
 ghost use Rattle.desk_access.specs.Seen.{Wrote};
 ghost use Rattle.desk_sql_layout.specs.Held.{Stands, seen_of};
+ghost use Rattle.desk_sql_layout.specs.Writable.{is_writable};
+ghost use Rattle.desk_sql_write.specs.Taking.{CommitFails, IsTold};
 ghost use Rattle.desk_sql_write.specs.Written.{Done, Undone, Leaves};
 
 use desk_model::{Change, Fault, StoreFault};
@@ -20,6 +22,8 @@ fn write<S: Alter>(alloc: Global, conn: &mut Connection<S>, change: &Change) -> 
         → OnOk result (Done change.now (state S.Store conn.old) (state S.Store conn.new)) }
     ensures err { HasCleanDisk (state S.Store conn.new)
         → OnErr result (Undone (state S.Store conn.old) (state S.Store conn.new)) }
+    ensures cause { IsTold change.now → IfErr result
+        (CommitFails change.now (state S.Store conn.old) (state S.Store conn.new)) }
     ensures mode { conn.new.in_transaction ≡ false }
     ensures crash { Survives (state S.Store conn.old) (state S.Store conn.new)
         (Leaves change.now (state S.Store conn.old)) }
@@ -49,6 +53,10 @@ pub fn commit<S: Alter>(
     requires { conn.old.in_transaction ≡ false }
     ensures wrote { Wrote Stands change.now (seen_of (state S.Store conn.old))
         (seen_of (state S.Store conn.new)) result }
+    ensures cause { is_writable change.now ≡ true → IsTold change.now → IfErr result
+        (CommitFails change.now (state S.Store conn.old) (state S.Store conn.new)) }
+    ensures unwritable { is_writable change.now ≡ false
+        → (result ≡ Err (Fault.Store StoreFault.Rows)) × (conn.new ≡ conn.old) }
     ensures mode { conn.new.in_transaction ≡ false }
 {
     if is_writable(change) {

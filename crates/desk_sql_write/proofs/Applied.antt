@@ -37,7 +37,7 @@ use Rattle.desk_sql_write.specs.Written.{Writes}
 use Rattle.desk_sql_write.proofs.Lists.{append_nil, filter_both}
 
 -- each table has the same rows, in some order
-abbrev AreSame : (ℕ → List Row) → (ℕ → List Row) → Type 0
+abbrev pub AreSame : (ℕ → List Row) → (ℕ → List Row) → Type 0
 AreSame rows other = AllByRecursion (λ t. IsPermutation (rows t.tree) (other t.tree)) desk_schema.tables
 
 permuted : (rows other : ℕ → List Row) (db : Database) → AreSame rows other → HasRows other db → HasRows rows db
@@ -49,7 +49,7 @@ permuted rows other db same has = record { declared = has.declared; stored = eac
     each (t ∷ tables) a b = (stored_as t (other t.tree) (rows t.tree) (db.trees t.tree) a.0 b.0, each tables a.1 b.1)
 
 -- nothing is in work before a change
-whole : (t : Tables) (db : Database) → HasRows (rows_of t) db → HasRows (cells_of (contents_of t)) db
+pub whole : (t : Tables) (db : Database) → HasRows (rows_of t) db → HasRows (cells_of (contents_of t)) db
 whole t db has = record { declared = has.declared; stored = has.stored; sound = has.sound }
 
 makes : (made : Contents → Contents) (after : Tables → Tables) (old new : State) (r : Result (Unit {0}) Fault) → ((t : Tables) → AreSame (rows_of (after t)) (cells_of (made (contents_of t))))
@@ -77,13 +77,13 @@ put_all_in below [] ys = IsPermutation-same _ _ (sym (append_nil ys))
 put_all_in below (x ∷ xs) ys =
     IsPermutation-trans _ _ _ (put_in below x (put_all below xs ys)) (IsPermutation-trans _ _ _ (IsPermutation-cons x _ _ (put_all_in below xs ys)) (IsPermutation-sym _ _ (IsPermutation-middle ys x xs)))
 
-placed : {X : Type 0} (cells : X → Row) (below : X → X → Bool) (x : X) (xs : List X) → IsPermutation (map cells (put below x xs)) (map cells (xs ++ x ∷ []))
+pub placed : {X : Type 0} (cells : X → Row) (below : X → X → Bool) (x : X) (xs : List X) → IsPermutation (map cells (put below x xs)) (map cells (xs ++ x ∷ []))
 placed cells below x xs = IsPermutation-map cells _ _ (IsPermutation-trans _ _ _ (put_in below x xs) (behind x xs))
 
-all_placed : {X : Type 0} (cells : X → Row) (below : X → X → Bool) (xs ys : List X) → IsPermutation (map cells (put_all below xs ys)) (map cells (ys ++ xs))
+pub all_placed : {X : Type 0} (cells : X → Row) (below : X → X → Bool) (xs ys : List X) → IsPermutation (map cells (put_all below xs ys)) (map cells (ys ++ xs))
 all_placed cells below xs ys = IsPermutation-map cells _ _ (put_all_in below xs ys)
 
-waivers_placed : (changes all : List ChangeRow) → IsPermutation (map waiver_cells (filter is_waiver (put_all change_below changes all))) (map waiver_cells (filter is_waiver all ++ filter is_waiver changes))
+pub waivers_placed : (changes all : List ChangeRow) → IsPermutation (map waiver_cells (filter is_waiver (put_all change_below changes all))) (map waiver_cells (filter is_waiver all ++ filter is_waiver changes))
 waivers_placed changes all =
     IsPermutation-map waiver_cells _ _ (IsPermutation-trans _ _ _ (IsPermutation-filter is_waiver _ _ (put_all_in change_below changes all)) (IsPermutation-same _ _ (filter_both is_waiver all changes)))
 

@@ -33,18 +33,18 @@ use Rattle.desk_base.proofs.Bools.{together}
 abbrev pub drop_choices_text : List ℕ
 drop_choices_text = codes "DELETE FROM choice WHERE release = ?1 AND document = ?2 AND package = ?3"
 
-drop_choices_is : command_of (understood d.desk_schema drop_choices_text) ≡ Delete 10 (record { lets = []; body = query_on 19 (same 1 0 ∷ same 2 1 ∷ same 3 2 ∷ []) (col 1 0 ∷ []) [] })
+pub drop_choices_is : command_of (understood d.desk_schema drop_choices_text) ≡ Delete 10 (record { lets = []; body = query_on 19 (same 1 0 ∷ same 2 1 ∷ same 3 2 ∷ []) (col 1 0 ∷ []) [] })
 unfolding understood everything
 drop_choices_is = refl
 
-drop_choices_plain : IsPlain (understood d.desk_schema drop_choices_text)
+pub drop_choices_plain : IsPlain (understood d.desk_schema drop_choices_text)
 unfolding understood everything
 drop_choices_plain = (refl, refl)
 
-abbrev drop_choices_test : List ℕ → ℕ → List ℕ → Row → Bool
+abbrev pub drop_choices_test : List ℕ → ℕ → List ℕ → Row → Bool
 drop_choices_test release document package_id cs = is_true (binary (Compare Eq Binary) (column cs 0) (Text release)) && (is_true (binary (Compare Eq Binary) (column cs 1) (Int (pos document))) && (is_true (binary (Compare Eq Binary) (column cs 2) (Text package_id)) && true))
 
-drop_choices_test_is : (release : List ℕ) (document : ℕ) (package_id : List ℕ) (row : ChoiceRow) → drop_choices_test release document package_id (choice_cells row) ≡ is_choice_of release document package_id row
+pub drop_choices_test_is : (release : List ℕ) (document : ℕ) (package_id : List ℕ) (row : ChoiceRow) → drop_choices_test release document package_id (choice_cells row) ≡ is_choice_of release document package_id row
 drop_choices_test_is release document package_id row = rw (text_test row.release release, int_test row.document document, text_test row.package_id package_id, and_true (bytes_eq row.package_id package_id)) (together (bytes_eq row.release release) (row.document == document) (bytes_eq row.package_id package_id))
 
 pub drop_choices_done : (release : List ℕ) (document : ℕ) (package_id : List ℕ) (old new : State) (count : ℕ) (c : Contents) → Executes drop_choices_text (Text release ∷ number document ∷ Text package_id ∷ []) old new (Ok count) → HasRows (cells_of c) old.now
@@ -64,18 +64,18 @@ drop_choices_done release document package_id old new count c ran has =
 abbrev pub drop_choices_in_text : List ℕ
 drop_choices_in_text = codes "DELETE FROM choice WHERE release = ?1"
 
-drop_choices_in_is : command_of (understood d.desk_schema drop_choices_in_text) ≡ Delete 10 (record { lets = []; body = query_on 19 (same 1 0 ∷ []) (col 1 0 ∷ []) [] })
+pub drop_choices_in_is : command_of (understood d.desk_schema drop_choices_in_text) ≡ Delete 10 (record { lets = []; body = query_on 19 (same 1 0 ∷ []) (col 1 0 ∷ []) [] })
 unfolding understood everything
 drop_choices_in_is = refl
 
-drop_choices_in_plain : IsPlain (understood d.desk_schema drop_choices_in_text)
+pub drop_choices_in_plain : IsPlain (understood d.desk_schema drop_choices_in_text)
 unfolding understood everything
 drop_choices_in_plain = (refl, refl)
 
-abbrev drop_choices_in_test : List ℕ → Row → Bool
+abbrev pub drop_choices_in_test : List ℕ → Row → Bool
 drop_choices_in_test release cs = is_true (binary (Compare Eq Binary) (column cs 0) (Text release)) && true
 
-drop_choices_in_test_is : (release : List ℕ) (row : ChoiceRow) → drop_choices_in_test release (choice_cells row) ≡ is_choice_in release row
+pub drop_choices_in_test_is : (release : List ℕ) (row : ChoiceRow) → drop_choices_in_test release (choice_cells row) ≡ is_choice_in release row
 drop_choices_in_test_is release row = rw (text_test row.release release, and_true (bytes_eq row.release release)) (refl)
 
 pub drop_choices_in_done : (release : List ℕ) (old new : State) (count : ℕ) (c : Contents) → Executes drop_choices_in_text (Text release ∷ []) old new (Ok count) → HasRows (cells_of c) old.now
@@ -95,18 +95,18 @@ drop_choices_in_done release old new count c ran has =
 abbrev pub drop_conclusion_text : List ℕ
 drop_conclusion_text = codes "DELETE FROM conclusion WHERE document = ?1 AND package = ?2"
 
-drop_conclusion_is : command_of (understood d.desk_schema drop_conclusion_text) ≡ Delete 6 (record { lets = []; body = query_on 10 (same 1 0 ∷ same 2 1 ∷ []) (col 1 0 ∷ []) [] })
+pub drop_conclusion_is : command_of (understood d.desk_schema drop_conclusion_text) ≡ Delete 6 (record { lets = []; body = query_on 10 (same 1 0 ∷ same 2 1 ∷ []) (col 1 0 ∷ []) [] })
 unfolding understood everything
 drop_conclusion_is = refl
 
-drop_conclusion_plain : IsPlain (understood d.desk_schema drop_conclusion_text)
+pub drop_conclusion_plain : IsPlain (understood d.desk_schema drop_conclusion_text)
 unfolding understood everything
 drop_conclusion_plain = (refl, refl)
 
-abbrev drop_conclusion_test : ℕ → List ℕ → Row → Bool
+abbrev pub drop_conclusion_test : ℕ → List ℕ → Row → Bool
 drop_conclusion_test document package_id cs = is_true (binary (Compare Eq Binary) (column cs 0) (Int (pos document))) && (is_true (binary (Compare Eq Binary) (column cs 1) (Text package_id)) && true)
 
-drop_conclusion_test_is : (document : ℕ) (package_id : List ℕ) (row : ConclusionRow) → drop_conclusion_test document package_id (conclusion_cells row) ≡ is_conclusion document package_id row
+pub drop_conclusion_test_is : (document : ℕ) (package_id : List ℕ) (row : ConclusionRow) → drop_conclusion_test document package_id (conclusion_cells row) ≡ is_conclusion document package_id row
 drop_conclusion_test_is document package_id row = rw (int_test row.document document, text_test row.package_id package_id, and_true (bytes_eq row.package_id package_id)) (refl)
 
 pub drop_conclusion_done : (document : ℕ) (package_id : List ℕ) (old new : State) (count : ℕ) (c : Contents) → Executes drop_conclusion_text (number document ∷ Text package_id ∷ []) old new (Ok count) → HasRows (cells_of c) old.now
@@ -126,18 +126,18 @@ drop_conclusion_done document package_id old new count c ran has =
 abbrev pub drop_adoption_text : List ℕ
 drop_adoption_text = codes "DELETE FROM adoption WHERE document = ?1 AND reference = ?2"
 
-drop_adoption_is : command_of (understood d.desk_schema drop_adoption_text) ≡ Delete 7 (record { lets = []; body = query_on 12 (same 1 0 ∷ same 2 1 ∷ []) (col 1 0 ∷ []) [] })
+pub drop_adoption_is : command_of (understood d.desk_schema drop_adoption_text) ≡ Delete 7 (record { lets = []; body = query_on 12 (same 1 0 ∷ same 2 1 ∷ []) (col 1 0 ∷ []) [] })
 unfolding understood everything
 drop_adoption_is = refl
 
-drop_adoption_plain : IsPlain (understood d.desk_schema drop_adoption_text)
+pub drop_adoption_plain : IsPlain (understood d.desk_schema drop_adoption_text)
 unfolding understood everything
 drop_adoption_plain = (refl, refl)
 
-abbrev drop_adoption_test : ℕ → List ℕ → Row → Bool
+abbrev pub drop_adoption_test : ℕ → List ℕ → Row → Bool
 drop_adoption_test document reference cs = is_true (binary (Compare Eq Binary) (column cs 0) (Int (pos document))) && (is_true (binary (Compare Eq Binary) (column cs 1) (Text reference)) && true)
 
-drop_adoption_test_is : (document : ℕ) (reference : List ℕ) (row : AdoptionRow) → drop_adoption_test document reference (adoption_cells row) ≡ is_adoption document reference row
+pub drop_adoption_test_is : (document : ℕ) (reference : List ℕ) (row : AdoptionRow) → drop_adoption_test document reference (adoption_cells row) ≡ is_adoption document reference row
 drop_adoption_test_is document reference row = rw (int_test row.document document, text_test row.reference reference, and_true (bytes_eq row.reference reference)) (refl)
 
 pub drop_adoption_done : (document : ℕ) (reference : List ℕ) (old new : State) (count : ℕ) (c : Contents) → Executes drop_adoption_text (number document ∷ Text reference ∷ []) old new (Ok count) → HasRows (cells_of c) old.now

@@ -42,11 +42,11 @@ last_first : {X : Type 0} (x : X) (xs : List X) → IsPermutation (xs ++ x ∷ [
 last_first x xs = subst (λ l. IsPermutation (xs ++ x ∷ []) (x ∷ l)) (append_nil xs) (IsPermutation-middle xs x [])
 
 -- a row behind the others is, in some order, a row before them
-one_more : {X Y : Type 0} (f : X → Y) (xs : List X) (x : X) → IsPermutation (map f (xs ++ x ∷ [])) (f x ∷ map f xs)
+pub one_more : {X Y : Type 0} (f : X → Y) (xs : List X) (x : X) → IsPermutation (map f (xs ++ x ∷ [])) (f x ∷ map f xs)
 one_more f xs x = subst (λ l. IsPermutation l (f x ∷ map f xs)) (sym (map-append f xs (x ∷ []))) (last_first (f x) (map f xs))
 
 -- and so are several
-all_more : {X Y : Type 0} (f : X → Y) (xs ys : List X) → IsPermutation (map f (xs ++ ys)) (map f ys ++ map f xs)
+pub all_more : {X Y : Type 0} (f : X → Y) (xs ys : List X) → IsPermutation (map f (xs ++ ys)) (map f ys ++ map f xs)
 all_more f xs ys = subst (λ l. IsPermutation l (map f ys ++ map f xs)) (sym (map-append f xs ys)) (IsPermutation-append_comm (map f xs) (map f ys))
 
 -- ---- catalogue
@@ -54,14 +54,14 @@ all_more f xs ys = subst (λ l. IsPermutation l (map f ys ++ map f xs)) (sym (ma
 abbrev pub add_revision_text : List ℕ
 add_revision_text = codes "INSERT INTO catalogue VALUES (?1, ?2)"
 
-abbrev revision_terms : List Term
+abbrev pub revision_terms : List Term
 revision_terms = col 0 0 ∷ lit Null ∷ col 0 1 ∷ []
 
-add_revision_is : command_of (understood d.desk_schema add_revision_text) ≡ Insert 1 (Values revision_terms 3)
+pub add_revision_is : command_of (understood d.desk_schema add_revision_text) ≡ Insert 1 (Values revision_terms 3)
 unfolding understood everything
 add_revision_is = refl
 
-add_revision_plain : IsPlain (understood d.desk_schema add_revision_text)
+pub add_revision_plain : IsPlain (understood d.desk_schema add_revision_text)
 unfolding understood everything
 add_revision_plain = (refl, refl)
 
@@ -77,14 +77,14 @@ revision_added row old new count c ran has =
 abbrev pub add_rule_text : List ℕ
 add_rule_text = codes "INSERT INTO rule VALUES (?1, ?2, ?3, ?4, ?5)"
 
-abbrev rule_terms : List Term
+abbrev pub rule_terms : List Term
 rule_terms = lit Null ∷ col 0 0 ∷ col 0 1 ∷ col 0 2 ∷ col 0 3 ∷ col 0 4 ∷ []
 
-add_rule_is : command_of (understood d.desk_schema add_rule_text) ≡ Insert 2 (Values rule_terms 6)
+pub add_rule_is : command_of (understood d.desk_schema add_rule_text) ≡ Insert 2 (Values rule_terms 6)
 unfolding understood everything
 add_rule_is = refl
 
-add_rule_plain : IsPlain (understood d.desk_schema add_rule_text)
+pub add_rule_plain : IsPlain (understood d.desk_schema add_rule_text)
 unfolding understood everything
 add_rule_plain = (refl, refl)
 
@@ -100,14 +100,14 @@ rule_added row old new count c ran has =
 abbrev pub add_document_text : List ℕ
 add_document_text = codes "INSERT INTO document VALUES (?1, ?2, ?3)"
 
-abbrev document_terms : List Term
+abbrev pub document_terms : List Term
 document_terms = col 0 0 ∷ lit Null ∷ col 0 1 ∷ col 0 2 ∷ []
 
-add_document_is : command_of (understood d.desk_schema add_document_text) ≡ Insert 3 (Values document_terms 4)
+pub add_document_is : command_of (understood d.desk_schema add_document_text) ≡ Insert 3 (Values document_terms 4)
 unfolding understood everything
 add_document_is = refl
 
-add_document_plain : IsPlain (understood d.desk_schema add_document_text)
+pub add_document_plain : IsPlain (understood d.desk_schema add_document_text)
 unfolding understood everything
 add_document_plain = (refl, refl)
 
@@ -123,14 +123,14 @@ document_added row old new count c ran has =
 abbrev pub add_reading_text : List ℕ
 add_reading_text = codes "INSERT INTO reading VALUES (?1, ?2)"
 
-abbrev reading_terms : List Term
+abbrev pub reading_terms : List Term
 reading_terms = col 0 0 ∷ lit Null ∷ col 0 1 ∷ []
 
-add_reading_is : command_of (understood d.desk_schema add_reading_text) ≡ Insert 14 (Values reading_terms 3)
+pub add_reading_is : command_of (understood d.desk_schema add_reading_text) ≡ Insert 14 (Values reading_terms 3)
 unfolding understood everything
 add_reading_is = refl
 
-add_reading_plain : IsPlain (understood d.desk_schema add_reading_text)
+pub add_reading_plain : IsPlain (understood d.desk_schema add_reading_text)
 unfolding understood everything
 add_reading_plain = (refl, refl)
 
@@ -146,14 +146,14 @@ reading_added row old new count c ran has =
 abbrev pub add_package_text : List ℕ
 add_package_text = codes "INSERT INTO package VALUES (?1, ?2, ?3, ?4, ?5, ?6, ?7)"
 
-abbrev package_terms : List Term
+abbrev pub package_terms : List Term
 package_terms = lit Null ∷ col 0 0 ∷ col 0 1 ∷ col 0 2 ∷ col 0 3 ∷ col 0 4 ∷ col 0 5 ∷ col 0 6 ∷ []
 
-add_package_is : command_of (understood d.desk_schema add_package_text) ≡ Insert 4 (Values package_terms 8)
+pub add_package_is : command_of (understood d.desk_schema add_package_text) ≡ Insert 4 (Values package_terms 8)
 unfolding understood everything
 add_package_is = refl
 
-add_package_plain : IsPlain (understood d.desk_schema add_package_text)
+pub add_package_plain : IsPlain (understood d.desk_schema add_package_text)
 unfolding understood everything
 add_package_plain = (refl, refl)
 
@@ -169,14 +169,14 @@ package_added row old new count c ran has =
 abbrev pub add_reference_text : List ℕ
 add_reference_text = codes "INSERT INTO extracted VALUES (?1, ?2, ?3)"
 
-abbrev reference_terms : List Term
+abbrev pub reference_terms : List Term
 reference_terms = lit Null ∷ col 0 0 ∷ col 0 1 ∷ col 0 2 ∷ []
 
-add_reference_is : command_of (understood d.desk_schema add_reference_text) ≡ Insert 5 (Values reference_terms 4)
+pub add_reference_is : command_of (understood d.desk_schema add_reference_text) ≡ Insert 5 (Values reference_terms 4)
 unfolding understood everything
 add_reference_is = refl
 
-add_reference_plain : IsPlain (understood d.desk_schema add_reference_text)
+pub add_reference_plain : IsPlain (understood d.desk_schema add_reference_text)
 unfolding understood everything
 add_reference_plain = (refl, refl)
 
@@ -192,14 +192,14 @@ reference_added row old new count c ran has =
 abbrev pub add_conclusion_text : List ℕ
 add_conclusion_text = codes "INSERT INTO conclusion VALUES (?1, ?2, ?3)"
 
-abbrev conclusion_terms : List Term
+abbrev pub conclusion_terms : List Term
 conclusion_terms = lit Null ∷ col 0 0 ∷ col 0 1 ∷ col 0 2 ∷ []
 
-add_conclusion_is : command_of (understood d.desk_schema add_conclusion_text) ≡ Insert 6 (Values conclusion_terms 4)
+pub add_conclusion_is : command_of (understood d.desk_schema add_conclusion_text) ≡ Insert 6 (Values conclusion_terms 4)
 unfolding understood everything
 add_conclusion_is = refl
 
-add_conclusion_plain : IsPlain (understood d.desk_schema add_conclusion_text)
+pub add_conclusion_plain : IsPlain (understood d.desk_schema add_conclusion_text)
 unfolding understood everything
 add_conclusion_plain = (refl, refl)
 
@@ -215,14 +215,14 @@ conclusion_added row old new count c ran has =
 abbrev pub add_adoption_text : List ℕ
 add_adoption_text = codes "INSERT INTO adoption VALUES (?1, ?2, ?3)"
 
-abbrev adoption_terms : List Term
+abbrev pub adoption_terms : List Term
 adoption_terms = lit Null ∷ col 0 0 ∷ col 0 1 ∷ col 0 2 ∷ []
 
-add_adoption_is : command_of (understood d.desk_schema add_adoption_text) ≡ Insert 7 (Values adoption_terms 4)
+pub add_adoption_is : command_of (understood d.desk_schema add_adoption_text) ≡ Insert 7 (Values adoption_terms 4)
 unfolding understood everything
 add_adoption_is = refl
 
-add_adoption_plain : IsPlain (understood d.desk_schema add_adoption_text)
+pub add_adoption_plain : IsPlain (understood d.desk_schema add_adoption_text)
 unfolding understood everything
 add_adoption_plain = (refl, refl)
 
@@ -238,14 +238,14 @@ adoption_added row old new count c ran has =
 abbrev pub add_release_text : List ℕ
 add_release_text = codes "INSERT INTO releases VALUES (?1, ?2, ?3, ?4, ?5)"
 
-abbrev release_terms : List Term
+abbrev pub release_terms : List Term
 release_terms = lit Null ∷ col 0 0 ∷ col 0 1 ∷ col 0 2 ∷ col 0 3 ∷ col 0 4 ∷ []
 
-add_release_is : command_of (understood d.desk_schema add_release_text) ≡ Insert 8 (Values release_terms 6)
+pub add_release_is : command_of (understood d.desk_schema add_release_text) ≡ Insert 8 (Values release_terms 6)
 unfolding understood everything
 add_release_is = refl
 
-add_release_plain : IsPlain (understood d.desk_schema add_release_text)
+pub add_release_plain : IsPlain (understood d.desk_schema add_release_text)
 unfolding understood everything
 add_release_plain = (refl, refl)
 
@@ -261,14 +261,14 @@ release_added row old new count c ran has =
 abbrev pub add_attached_text : List ℕ
 add_attached_text = codes "INSERT INTO attached VALUES (?1, ?2)"
 
-abbrev attached_terms : List Term
+abbrev pub attached_terms : List Term
 attached_terms = lit Null ∷ col 0 0 ∷ col 0 1 ∷ []
 
-add_attached_is : command_of (understood d.desk_schema add_attached_text) ≡ Insert 9 (Values attached_terms 3)
+pub add_attached_is : command_of (understood d.desk_schema add_attached_text) ≡ Insert 9 (Values attached_terms 3)
 unfolding understood everything
 add_attached_is = refl
 
-add_attached_plain : IsPlain (understood d.desk_schema add_attached_text)
+pub add_attached_plain : IsPlain (understood d.desk_schema add_attached_text)
 unfolding understood everything
 add_attached_plain = (refl, refl)
 
@@ -284,14 +284,14 @@ attached_added row old new count c ran has =
 abbrev pub add_choice_text : List ℕ
 add_choice_text = codes "INSERT INTO choice VALUES (?1, ?2, ?3, ?4)"
 
-abbrev choice_terms : List Term
+abbrev pub choice_terms : List Term
 choice_terms = lit Null ∷ col 0 0 ∷ col 0 1 ∷ col 0 2 ∷ col 0 3 ∷ []
 
-add_choice_is : command_of (understood d.desk_schema add_choice_text) ≡ Insert 10 (Values choice_terms 5)
+pub add_choice_is : command_of (understood d.desk_schema add_choice_text) ≡ Insert 10 (Values choice_terms 5)
 unfolding understood everything
 add_choice_is = refl
 
-add_choice_plain : IsPlain (understood d.desk_schema add_choice_text)
+pub add_choice_plain : IsPlain (understood d.desk_schema add_choice_text)
 unfolding understood everything
 add_choice_plain = (refl, refl)
 
@@ -307,14 +307,14 @@ choice_added row old new count c ran has =
 abbrev pub add_frozen_text : List ℕ
 add_frozen_text = codes "INSERT INTO frozen VALUES (?1, ?2, ?3, ?4, ?5)"
 
-abbrev frozen_terms : List Term
+abbrev pub frozen_terms : List Term
 frozen_terms = lit Null ∷ col 0 0 ∷ col 0 1 ∷ col 0 2 ∷ col 0 3 ∷ col 0 4 ∷ []
 
-add_frozen_is : command_of (understood d.desk_schema add_frozen_text) ≡ Insert 11 (Values frozen_terms 6)
+pub add_frozen_is : command_of (understood d.desk_schema add_frozen_text) ≡ Insert 11 (Values frozen_terms 6)
 unfolding understood everything
 add_frozen_is = refl
 
-add_frozen_plain : IsPlain (understood d.desk_schema add_frozen_text)
+pub add_frozen_plain : IsPlain (understood d.desk_schema add_frozen_text)
 unfolding understood everything
 add_frozen_plain = (refl, refl)
 
@@ -330,14 +330,14 @@ frozen_added row old new count c ran has =
 abbrev pub add_duty_text : List ℕ
 add_duty_text = codes "INSERT INTO duty VALUES (?1, ?2, ?3, ?4, ?5, ?6, ?7, ?8)"
 
-abbrev duty_terms : List Term
+abbrev pub duty_terms : List Term
 duty_terms = col 0 0 ∷ lit Null ∷ col 0 1 ∷ col 0 2 ∷ col 0 3 ∷ col 0 4 ∷ col 0 5 ∷ col 0 6 ∷ col 0 7 ∷ []
 
-add_duty_is : command_of (understood d.desk_schema add_duty_text) ≡ Insert 12 (Values duty_terms 9)
+pub add_duty_is : command_of (understood d.desk_schema add_duty_text) ≡ Insert 12 (Values duty_terms 9)
 unfolding understood everything
 add_duty_is = refl
 
-add_duty_plain : IsPlain (understood d.desk_schema add_duty_text)
+pub add_duty_plain : IsPlain (understood d.desk_schema add_duty_text)
 unfolding understood everything
 add_duty_plain = (refl, refl)
 
@@ -356,21 +356,21 @@ add_eight_duties_text = codes "INSERT INTO duty VALUES (?, ?, ?, ?, ?, ?, ?, ?),
 abbrev duty_terms_at : ℕ → List Term
 duty_terms_at n = col 0 n ∷ lit Null ∷ col 0 (n + 1) ∷ col 0 (n + 2) ∷ col 0 (n + 3) ∷ col 0 (n + 4) ∷ col 0 (n + 5) ∷ col 0 (n + 6) ∷ col 0 (n + 7) ∷ []
 
-abbrev eight_duty_terms : List Term
+abbrev pub eight_duty_terms : List Term
 eight_duty_terms = flat_map duty_terms_at (0 ∷ 8 ∷ 16 ∷ 24 ∷ 32 ∷ 40 ∷ 48 ∷ 56 ∷ [])
 
-abbrev duty_source : DutyRow → Row
+abbrev pub duty_source : DutyRow → Row
 duty_source row = number row.number ∷ Null ∷ Text row.release ∷ number row.document ∷ Text row.package_id ∷ Text row.term ∷ Text row.code ∷ Text row.rule ∷ Text (duty_state_name row.state) ∷ []
 
-add_eight_duties_is : command_of (understood d.desk_schema add_eight_duties_text) ≡ Insert 12 (Values eight_duty_terms 9)
+pub add_eight_duties_is : command_of (understood d.desk_schema add_eight_duties_text) ≡ Insert 12 (Values eight_duty_terms 9)
 unfolding understood everything
 add_eight_duties_is = refl
 
-add_eight_duties_plain : IsPlain (understood d.desk_schema add_eight_duties_text)
+pub add_eight_duties_plain : IsPlain (understood d.desk_schema add_eight_duties_text)
 unfolding understood everything
 add_eight_duties_plain = (refl, refl)
 
-duties_given : (rows : List DutyRow) → length rows ≡ 8 → value_rows (flat_map duty_cells rows) 9 (length eight_duty_terms / 9) eight_duty_terms ≡ map duty_source rows
+pub duties_given : (rows : List DutyRow) → length rows ≡ 8 → value_rows (flat_map duty_cells rows) 9 (length eight_duty_terms / 9) eight_duty_terms ≡ map duty_source rows
 duties_given = eight (λ rows. value_rows (flat_map duty_cells rows) 9 (length eight_duty_terms / 9) eight_duty_terms ≡ map duty_source rows) (λ a b c d e f g h. refl)
 
 duties_show : (rows : List DutyRow) → let this = d.duty_table in Shows this.name 23 this.columns this.key this.primary this.uniques this.orders (map duty_source rows) (map duty_cells rows)
@@ -389,14 +389,14 @@ duties_added rows same old new count c ran has =
 abbrev pub add_change_text : List ℕ
 add_change_text = codes "INSERT INTO change VALUES (?1, ?2, ?3, ?4, ?5)"
 
-abbrev change_terms : List Term
+abbrev pub change_terms : List Term
 change_terms = lit Null ∷ col 0 0 ∷ col 0 1 ∷ col 0 2 ∷ col 0 3 ∷ col 0 4 ∷ []
 
-add_change_is : command_of (understood d.desk_schema add_change_text) ≡ Insert 13 (Values change_terms 6)
+pub add_change_is : command_of (understood d.desk_schema add_change_text) ≡ Insert 13 (Values change_terms 6)
 unfolding understood everything
 add_change_is = refl
 
-add_change_plain : IsPlain (understood d.desk_schema add_change_text)
+pub add_change_plain : IsPlain (understood d.desk_schema add_change_text)
 unfolding understood everything
 add_change_plain = (refl, refl)
 
@@ -415,21 +415,21 @@ add_eight_changes_text = codes "INSERT INTO change VALUES (?, ?, ?, ?, ?), (?, ?
 abbrev change_terms_at : ℕ → List Term
 change_terms_at n = lit Null ∷ col 0 n ∷ col 0 (n + 1) ∷ col 0 (n + 2) ∷ col 0 (n + 3) ∷ col 0 (n + 4) ∷ []
 
-abbrev eight_change_terms : List Term
+abbrev pub eight_change_terms : List Term
 eight_change_terms = flat_map change_terms_at (0 ∷ 5 ∷ 10 ∷ 15 ∷ 20 ∷ 25 ∷ 30 ∷ 35 ∷ [])
 
-abbrev change_source : ChangeRow → Row
+abbrev pub change_source : ChangeRow → Row
 change_source row = Null ∷ number row.duty ∷ number row.step ∷ Text row.day ∷ Text (word_name row.word) ∷ Text row.body ∷ []
 
-add_eight_changes_is : command_of (understood d.desk_schema add_eight_changes_text) ≡ Insert 13 (Values eight_change_terms 6)
+pub add_eight_changes_is : command_of (understood d.desk_schema add_eight_changes_text) ≡ Insert 13 (Values eight_change_terms 6)
 unfolding understood everything
 add_eight_changes_is = refl
 
-add_eight_changes_plain : IsPlain (understood d.desk_schema add_eight_changes_text)
+pub add_eight_changes_plain : IsPlain (understood d.desk_schema add_eight_changes_text)
 unfolding understood everything
 add_eight_changes_plain = (refl, refl)
 
-changes_given : (rows : List ChangeRow) → length rows ≡ 8 → value_rows (flat_map change_cells rows) 6 (length eight_change_terms / 6) eight_change_terms ≡ map change_source rows
+pub changes_given : (rows : List ChangeRow) → length rows ≡ 8 → value_rows (flat_map change_cells rows) 6 (length eight_change_terms / 6) eight_change_terms ≡ map change_source rows
 changes_given = eight (λ rows. value_rows (flat_map change_cells rows) 6 (length eight_change_terms / 6) eight_change_terms ≡ map change_source rows) (λ a b c d e f g h. refl)
 
 changes_show : (rows : List ChangeRow) → let this = d.change_table in Shows this.name 25 this.columns this.key this.primary this.uniques this.orders (map change_source rows) (map change_cells rows)
@@ -448,14 +448,14 @@ changes_added rows same old new count c ran has =
 abbrev pub add_waiver_text : List ℕ
 add_waiver_text = codes "INSERT INTO waiver VALUES (?1, ?2, ?3)"
 
-abbrev waiver_terms : List Term
+abbrev pub waiver_terms : List Term
 waiver_terms = lit Null ∷ col 0 0 ∷ col 0 1 ∷ col 0 2 ∷ []
 
-add_waiver_is : command_of (understood d.desk_schema add_waiver_text) ≡ Insert 15 (Values waiver_terms 4)
+pub add_waiver_is : command_of (understood d.desk_schema add_waiver_text) ≡ Insert 15 (Values waiver_terms 4)
 unfolding understood everything
 add_waiver_is = refl
 
-add_waiver_plain : IsPlain (understood d.desk_schema add_waiver_text)
+pub add_waiver_plain : IsPlain (understood d.desk_schema add_waiver_text)
 unfolding understood everything
 add_waiver_plain = (refl, refl)
 

@@ -34,7 +34,7 @@ use Rattle.desk_sql_layout.proofs.Statements.{updated}
 use Rattle.desk_sql_write.specs.Contents.{Contents, cells_of, with_tables}
 
 -- where a change of rows is a change of their cells
-changed_cells : {X : Type 0} (cells : X → Row) (test : X → Bool) (change : X → X) (q : Row → Bool) (u : Row → Row) → ((x : X) → (if q (cells x) then u (cells x) else cells x) ≡ cells (if test x then change x else x)) → (xs : List X)
+pub changed_cells : {X : Type 0} (cells : X → Row) (test : X → Bool) (change : X → X) (q : Row → Bool) (u : Row → Row) → ((x : X) → (if q (cells x) then u (cells x) else cells x) ≡ cells (if test x then change x else x)) → (xs : List X)
     → map cells (changed test change xs) ≡ changed_where q u (map cells xs)
 changed_cells cells test change q u agree [] = refl
 changed_cells cells test change q u agree (x ∷ xs) = (λ i. sym (agree x) i ∷ changed_cells cells test change q u agree xs i)
@@ -44,21 +44,21 @@ changed_cells cells test change q u agree (x ∷ xs) = (λ i. sym (agree x) i �
 abbrev pub freeze_release_text : List ℕ
 freeze_release_text = codes "UPDATE releases SET state = ?2, revision = ?3 WHERE name = ?1"
 
-abbrev freeze_release_project : List Term
+abbrev pub freeze_release_project : List Term
 freeze_release_project = col 1 0 ∷ col 1 1 ∷ col 1 2 ∷ col 1 3 ∷ col 0 1 ∷ col 0 2 ∷ []
 
-freeze_release_is : command_of (understood d.desk_schema freeze_release_text) ≡ Update 8 (record { lets = []; body = query_on 14 (same 1 0 ∷ []) (col 1 0 ∷ freeze_release_project) [] })
+pub freeze_release_is : command_of (understood d.desk_schema freeze_release_text) ≡ Update 8 (record { lets = []; body = query_on 14 (same 1 0 ∷ []) (col 1 0 ∷ freeze_release_project) [] })
 unfolding understood everything
 freeze_release_is = refl
 
-freeze_release_plain : IsPlain (understood d.desk_schema freeze_release_text)
+pub freeze_release_plain : IsPlain (understood d.desk_schema freeze_release_text)
 unfolding understood everything
 freeze_release_plain = (refl, refl)
 
-abbrev freeze_release_cells : ℕ → Row → Row
+abbrev pub freeze_release_cells : ℕ → Row → Row
 freeze_release_cells revision cs = cast Words (column cs 0) ∷ cast Integer (column cs 1) ∷ cast Words (column cs 2) ∷ Text (release_state_name Frozen) ∷ number revision ∷ []
 
-freeze_release_one : (name : List ℕ) (revision : ℕ) (row : ReleaseRow) → (if is_true (binary (Compare Eq Binary) (column (release_cells row) 0) (Text name)) && true then freeze_release_cells revision (release_cells row) else release_cells row) ≡ release_cells (if is_release name row then with_release_state Frozen revision row else row)
+pub freeze_release_one : (name : List ℕ) (revision : ℕ) (row : ReleaseRow) → (if is_true (binary (Compare Eq Binary) (column (release_cells row) 0) (Text name)) && true then freeze_release_cells revision (release_cells row) else release_cells row) ≡ release_cells (if is_release name row then with_release_state Frozen revision row else row)
 freeze_release_one name revision row = rw (text_test row.name name, and_true (bytes_eq row.name name), cast_int (pos row.place)) (go (bytes_eq row.name name))
   where
     go : (b : Bool) → cond b (release_cells (with_release_state Frozen revision row)) (release_cells row) ≡ release_cells (cond b (with_release_state Frozen revision row) row)
@@ -80,21 +80,21 @@ freeze_release_done name revision old new count c ran has =
 abbrev pub withdraw_release_text : List ℕ
 withdraw_release_text = codes "UPDATE releases SET state = ?2 WHERE name = ?1"
 
-abbrev withdraw_release_project : List Term
+abbrev pub withdraw_release_project : List Term
 withdraw_release_project = col 1 0 ∷ col 1 1 ∷ col 1 2 ∷ col 1 3 ∷ col 0 1 ∷ col 1 5 ∷ []
 
-withdraw_release_is : command_of (understood d.desk_schema withdraw_release_text) ≡ Update 8 (record { lets = []; body = query_on 14 (same 1 0 ∷ []) (col 1 0 ∷ withdraw_release_project) [] })
+pub withdraw_release_is : command_of (understood d.desk_schema withdraw_release_text) ≡ Update 8 (record { lets = []; body = query_on 14 (same 1 0 ∷ []) (col 1 0 ∷ withdraw_release_project) [] })
 unfolding understood everything
 withdraw_release_is = refl
 
-withdraw_release_plain : IsPlain (understood d.desk_schema withdraw_release_text)
+pub withdraw_release_plain : IsPlain (understood d.desk_schema withdraw_release_text)
 unfolding understood everything
 withdraw_release_plain = (refl, refl)
 
-abbrev withdraw_release_cells : Row → Row
+abbrev pub withdraw_release_cells : Row → Row
 withdraw_release_cells cs = cast Words (column cs 0) ∷ cast Integer (column cs 1) ∷ cast Words (column cs 2) ∷ Text (release_state_name Withdrawn) ∷ cast Integer (column cs 4) ∷ []
 
-withdraw_release_one : (name : List ℕ) (row : ReleaseRow) → (if is_true (binary (Compare Eq Binary) (column (release_cells row) 0) (Text name)) && true then withdraw_release_cells (release_cells row) else release_cells row) ≡ release_cells (if is_release name row then withdrawn_release row else row)
+pub withdraw_release_one : (name : List ℕ) (row : ReleaseRow) → (if is_true (binary (Compare Eq Binary) (column (release_cells row) 0) (Text name)) && true then withdraw_release_cells (release_cells row) else release_cells row) ≡ release_cells (if is_release name row then withdrawn_release row else row)
 withdraw_release_one name row = rw (text_test row.name name, and_true (bytes_eq row.name name), cast_int (pos row.place), cast_int (pos row.revision)) (go (bytes_eq row.name name))
   where
     go : (b : Bool) → cond b (release_cells (withdrawn_release row)) (release_cells row) ≡ release_cells (cond b (withdrawn_release row) row)
@@ -116,21 +116,21 @@ withdraw_release_done name old new count c ran has =
 abbrev pub set_duty_text : List ℕ
 set_duty_text = codes "UPDATE duty SET state = ?2 WHERE number = ?1"
 
-abbrev set_duty_project : List Term
+abbrev pub set_duty_project : List Term
 set_duty_project = col 1 0 ∷ lit Null ∷ col 1 2 ∷ col 1 3 ∷ col 1 4 ∷ col 1 5 ∷ col 1 6 ∷ col 1 7 ∷ col 0 1 ∷ []
 
-set_duty_is : command_of (understood d.desk_schema set_duty_text) ≡ Update 12 (record { lets = []; body = query_on 23 (same 0 0 ∷ []) (col 1 0 ∷ set_duty_project) [] })
+pub set_duty_is : command_of (understood d.desk_schema set_duty_text) ≡ Update 12 (record { lets = []; body = query_on 23 (same 0 0 ∷ []) (col 1 0 ∷ set_duty_project) [] })
 unfolding understood everything
 set_duty_is = refl
 
-set_duty_plain : IsPlain (understood d.desk_schema set_duty_text)
+pub set_duty_plain : IsPlain (understood d.desk_schema set_duty_text)
 unfolding understood everything
 set_duty_plain = (refl, refl)
 
-abbrev set_duty_cells : DutyState → Row → Row
+abbrev pub set_duty_cells : DutyState → Row → Row
 set_duty_cells to cs = cast Integer (column cs 0) ∷ cast Words (column cs 1) ∷ cast Integer (column cs 2) ∷ cast Words (column cs 3) ∷ cast Words (column cs 4) ∷ cast Words (column cs 5) ∷ cast Words (column cs 6) ∷ Text (duty_state_name to) ∷ []
 
-set_duty_one : (n : ℕ) (to : DutyState) (row : DutyRow) → (if is_true (binary (Compare Eq Binary) (column (duty_cells row) 0) (Int (pos n))) && true then set_duty_cells to (duty_cells row) else duty_cells row) ≡ duty_cells (if is_duty n row then with_duty_state to row else row)
+pub set_duty_one : (n : ℕ) (to : DutyState) (row : DutyRow) → (if is_true (binary (Compare Eq Binary) (column (duty_cells row) 0) (Int (pos n))) && true then set_duty_cells to (duty_cells row) else duty_cells row) ≡ duty_cells (if is_duty n row then with_duty_state to row else row)
 set_duty_one n to row = rw (int_test row.number n, and_true (row.number == n), cast_int (pos row.number), cast_int (pos row.document)) (go (row.number == n))
   where
     go : (b : Bool) → cond b (duty_cells (with_duty_state to row)) (duty_cells row) ≡ duty_cells (cond b (with_duty_state to row) row)

@@ -2,3 +2,4 @@ pub mod Contents
 pub mod Written
 pub mod Declaring
 pub mod Creating
+pub mod Taking

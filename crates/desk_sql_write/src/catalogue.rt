@@ -1,12 +1,13 @@
 //! Revisions of the catalogue and their rules.
 
-ghost use Rattle.std.specs.Prelude.{◌≡◌, ◌++◌, ◌∷◌, [], IfOk};
+ghost use Rattle.std.specs.Prelude.{◌≡◌, ◌++◌, ◌∷◌, [], IfOk, length};
 ghost use Rattle.std.specs.String.{string_bytes};
 ghost use Rattle.sqlite.specs.Held.{state};
 ghost use Rattle.sqlite.specs.State.{Survives};
 ghost use Rattle.sqlite.specs.Values.{bound};
 ghost use Rattle.desk_sql_layout.specs.Cells.{joined, catalogue_cells, rule_cells};
 ghost use Rattle.desk_sql_write.specs.Contents.{cells_of, with_tables};
+ghost use Rattle.desk_sql_write.specs.Taking.{Goes};
 ghost use Rattle.desk_sql_write.specs.Written.{Writes};
 
 use crate::statement::execute;
@@ -32,6 +33,9 @@ pub(crate) fn add_revision<S: Alter>(
     ensures wrote { Writes cells_of (with_tables (λ t.
         record t { catalogue = t.catalogue ++ row.now ∷ [] })) (state S.Store tx.old.conn.now)
         (state S.Store tx.new.conn.now) result }
+    ensures cause { Goes cells_of (with_tables (λ t.
+        record t { catalogue = t.catalogue ++ row.now ∷ [] })) 1
+        (state S.Store tx.old.conn.now) (state S.Store tx.new.conn.now) result }
     ensures survives { Survives (state S.Store tx.old.conn.now) (state S.Store tx.new.conn.now)
         (λ _. ⊥) }
 {
@@ -80,6 +84,8 @@ pub(crate) fn add_rule<S: Alter>(
     ensures same_reference { tx.new.conn.ghost_name ≡ tx.old.conn.ghost_name }
     ensures wrote { Writes cells_of (with_tables (λ t. record t { rule = t.rule ++ row.now ∷ [] }))
         (state S.Store tx.old.conn.now) (state S.Store tx.new.conn.now) result }
+    ensures cause { Goes cells_of (with_tables (λ t. record t { rule = t.rule ++ row.now ∷ [] })) 1
+        (state S.Store tx.old.conn.now) (state S.Store tx.new.conn.now) result }
     ensures survives { Survives (state S.Store tx.old.conn.now) (state S.Store tx.new.conn.now)
         (λ _. ⊥) }
 {
@@ -99,6 +105,9 @@ pub(crate) fn add_rules<S: Alter>(
 ) -> Result<(), Fault>
     ensures same_reference { tx.new.conn.ghost_name ≡ tx.old.conn.ghost_name }
     ensures wrote { Writes cells_of (with_tables (λ t. record t { rule = t.rule ++ rows.now }))
+        (state S.Store tx.old.conn.now) (state S.Store tx.new.conn.now) result }
+    ensures cause { Goes cells_of (with_tables (λ t. record t { rule = t.rule ++ rows.now }))
+        (length rows.now)
         (state S.Store tx.old.conn.now) (state S.Store tx.new.conn.now) result }
     ensures survives { Survives (state S.Store tx.old.conn.now) (state S.Store tx.new.conn.now)
         (λ _. ⊥) }

@@ -1,6 +1,6 @@
 //! What each change writes.
 
-ghost use Rattle.std.specs.Prelude.{◌≡◌, ◌++◌, ◌∷◌, [], filter, not};
+ghost use Rattle.std.specs.Prelude.{◌≡◌, ◌++◌, ◌∷◌, [], filter, not, length, ◌+◌, ◌<◌, ◌^◌};
 ghost use Rattle.sqlite.specs.Held.{state};
 ghost use Rattle.sqlite.specs.State.{Survives};
 ghost use Rattle.desk_model.specs.Keys.{is_release, is_conclusion, is_adoption};
@@ -9,6 +9,7 @@ ghost use Rattle.desk_model.specs.Tables.{applied, is_other_choice, is_choice_el
 ghost use Rattle.desk_model.specs.declared.state.ReleaseState.TheVariants.{Frozen};
 ghost use Rattle.desk_sql_layout.specs.Held.{rows_of};
 ghost use Rattle.desk_sql_write.specs.Contents.{cells_of, with_tables, with_steps, with_document};
+ghost use Rattle.desk_sql_write.specs.Taking.{Goes, IsTold, rows_in};
 ghost use Rattle.desk_sql_write.specs.Written.{Writes};
 
 use crate::catalogue::{add_revision, add_rules};
@@ -38,6 +39,10 @@ pub(crate) fn load<S: Alter>(
     ensures wrote { Writes cells_of (with_tables (λ t.
         record t { catalogue = t.catalogue ++ row.now ∷ []; rule = t.rule ++ rules.now }))
         (state S.Store tx.old.conn.now) (state S.Store tx.new.conn.now) result }
+    ensures cause { Goes cells_of (with_tables (λ t.
+        record t { catalogue = t.catalogue ++ row.now ∷ []; rule = t.rule ++ rules.now }))
+        (1 + length rules.now)
+        (state S.Store tx.old.conn.now) (state S.Store tx.new.conn.now) result }
     ensures survives { Survives (state S.Store tx.old.conn.now) (state S.Store tx.new.conn.now)
         (λ _. ⊥) }
 {
@@ -53,6 +58,8 @@ pub(crate) fn add_read_document<S: Alter>(
     ensures same_reference { tx.new.conn.ghost_name ≡ tx.old.conn.ghost_name }
     ensures wrote { Writes cells_of (with_document row.now) (state S.Store tx.old.conn.now)
         (state S.Store tx.new.conn.now) result }
+    ensures cause { Goes cells_of (with_document row.now) 2
+        (state S.Store tx.old.conn.now) (state S.Store tx.new.conn.now) result }
     ensures survives { Survives (state S.Store tx.old.conn.now) (state S.Store tx.new.conn.now)
         (λ _. ⊥) }
 {
@@ -69,6 +76,10 @@ pub(crate) fn add_parts<S: Alter>(
     ensures same_reference { tx.new.conn.ghost_name ≡ tx.old.conn.ghost_name }
     ensures wrote { Writes cells_of (with_tables (λ t.
         record t { packages = t.packages ++ packages.now; extracted = t.extracted ++ references.now }))
+        (state S.Store tx.old.conn.now) (state S.Store tx.new.conn.now) result }
+    ensures cause { Goes cells_of (with_tables (λ t.
+        record t { packages = t.packages ++ packages.now; extracted = t.extracted ++ references.now }))
+        (length packages.now + length references.now)
         (state S.Store tx.old.conn.now) (state S.Store tx.new.conn.now) result }
     ensures survives { Survives (state S.Store tx.old.conn.now) (state S.Store tx.new.conn.now)
         (λ _. ⊥) }
@@ -88,6 +99,11 @@ pub(crate) fn import<S: Alter>(
     ensures wrote { Writes cells_of (λ it. with_tables (λ t.
         record t { packages = t.packages ++ packages.now; extracted = t.extracted ++ references.now })
         (with_document row.now it))
+        (state S.Store tx.old.conn.now) (state S.Store tx.new.conn.now) result }
+    ensures cause { Goes cells_of (λ it. with_tables (λ t.
+        record t { packages = t.packages ++ packages.now; extracted = t.extracted ++ references.now })
+        (with_document row.now it))
+        (2 + (length packages.now + length references.now))
         (state S.Store tx.old.conn.now) (state S.Store tx.new.conn.now) result }
     ensures survives { Survives (state S.Store tx.old.conn.now) (state S.Store tx.new.conn.now)
         (λ _. ⊥) }
@@ -111,6 +127,12 @@ pub(crate) fn choose<S: Alter>(
               filter (is_other_choice release.now document package_id.now) t.choice ++ rows.now;
         }))
         (state S.Store tx.old.conn.now) (state S.Store tx.new.conn.now) result }
+    ensures cause { Goes cells_of (with_tables (λ t.
+        record t {
+          choice =
+              filter (is_other_choice release.now document package_id.now) t.choice ++ rows.now;
+        })) (length rows.now)
+        (state S.Store tx.old.conn.now) (state S.Store tx.new.conn.now) result }
     ensures survives { Survives (state S.Store tx.old.conn.now) (state S.Store tx.new.conn.now)
         (λ _. ⊥) }
 {
@@ -132,6 +154,14 @@ pub(crate) fn conclude<S: Alter>(
               ++ row.now ∷ [];
         }))
         (state S.Store tx.old.conn.now) (state S.Store tx.new.conn.now) result }
+    ensures cause { Goes cells_of (with_tables (λ t.
+        record t {
+          conclusion =
+              filter (λ other. not (is_conclusion row.now.document row.now.package_id other))
+              t.conclusion
+              ++ row.now ∷ [];
+        })) 1
+        (state S.Store tx.old.conn.now) (state S.Store tx.new.conn.now) result }
     ensures survives { Survives (state S.Store tx.old.conn.now) (state S.Store tx.new.conn.now)
         (λ _. ⊥) }
 {
@@ -150,6 +180,14 @@ pub(crate) fn adopt<S: Alter>(tx: &mut Transaction<'_, S>, row: &AdoptionRow) ->
               ++ row.now ∷ [];
         }))
         (state S.Store tx.old.conn.now) (state S.Store tx.new.conn.now) result }
+    ensures cause { Goes cells_of (with_tables (λ t.
+        record t {
+          adoption =
+              filter (λ other. not (is_adoption row.now.document row.now.reference other))
+              t.adoption
+              ++ row.now ∷ [];
+        })) 1
+        (state S.Store tx.old.conn.now) (state S.Store tx.new.conn.now) result }
     ensures survives { Survives (state S.Store tx.old.conn.now) (state S.Store tx.new.conn.now)
         (λ _. ⊥) }
 {
@@ -167,6 +205,10 @@ pub(crate) fn raise<S: Alter>(
     ensures same_reference { tx.new.conn.ghost_name ≡ tx.old.conn.ghost_name }
     ensures wrote { Writes cells_of (λ it. with_steps changes.now
         (with_tables (λ t. record t { duty = t.duty ++ duties.now }) it))
+        (state S.Store tx.old.conn.now) (state S.Store tx.new.conn.now) result }
+    ensures cause { Goes cells_of (λ it. with_steps changes.now
+        (with_tables (λ t. record t { duty = t.duty ++ duties.now }) it))
+        (length duties.now + (length changes.now + length changes.now))
         (state S.Store tx.old.conn.now) (state S.Store tx.new.conn.now) result }
     ensures survives { Survives (state S.Store tx.old.conn.now) (state S.Store tx.new.conn.now)
         (λ _. ⊥) }
@@ -187,6 +229,11 @@ pub(crate) fn add_terms<S: Alter>(
     ensures wrote { Writes cells_of (λ it. with_steps changes.now
         (with_tables (λ t.
         record t { frozen = t.frozen ++ frozen.now; duty = t.duty ++ duties.now }) it))
+        (state S.Store tx.old.conn.now) (state S.Store tx.new.conn.now) result }
+    ensures cause { Goes cells_of (λ it. with_steps changes.now
+        (with_tables (λ t.
+        record t { frozen = t.frozen ++ frozen.now; duty = t.duty ++ duties.now }) it))
+        (length frozen.now + (length duties.now + (length changes.now + length changes.now)))
         (state S.Store tx.old.conn.now) (state S.Store tx.new.conn.now) result }
     ensures survives { Survives (state S.Store tx.old.conn.now) (state S.Store tx.new.conn.now)
         (λ _. ⊥) }
@@ -214,6 +261,15 @@ pub(crate) fn freeze<S: Alter>(
           duty = t.duty ++ duties.now;
         }) it))
         (state S.Store tx.old.conn.now) (state S.Store tx.new.conn.now) result }
+    ensures cause { revision < 2 ^ 32 → Goes cells_of (λ it. with_steps changes.now
+        (with_tables (λ t. record t {
+          releases = updated (is_release release.now) (with_release_state Frozen revision)
+              t.releases;
+          frozen = t.frozen ++ frozen.now;
+          duty = t.duty ++ duties.now;
+        }) it))
+        (length frozen.now + (length duties.now + (length changes.now + length changes.now)))
+        (state S.Store tx.old.conn.now) (state S.Store tx.new.conn.now) result }
     ensures survives { Survives (state S.Store tx.old.conn.now) (state S.Store tx.new.conn.now)
         (λ _. ⊥) }
 {
@@ -230,6 +286,10 @@ pub(crate) fn move_duties<S: Alter>(
     ensures same_reference { tx.new.conn.ghost_name ≡ tx.old.conn.ghost_name }
     ensures wrote { Writes cells_of (λ it. with_steps changes.now
         (with_tables (λ t. record t { duty = moved_by changes.now t.duty }) it))
+        (state S.Store tx.old.conn.now) (state S.Store tx.new.conn.now) result }
+    ensures cause { Goes cells_of (λ it. with_steps changes.now
+        (with_tables (λ t. record t { duty = moved_by changes.now t.duty }) it))
+        (length changes.now + length changes.now)
         (state S.Store tx.old.conn.now) (state S.Store tx.new.conn.now) result }
     ensures survives { Survives (state S.Store tx.old.conn.now) (state S.Store tx.new.conn.now)
         (λ _. ⊥) }
@@ -252,6 +312,13 @@ pub(crate) fn clear<S: Alter>(
               (is_choice_elsewhere release.now) t.choice;
           duty = moved_by changes.now t.duty;
         }) it))
+        (state S.Store tx.old.conn.now) (state S.Store tx.new.conn.now) result }
+    ensures cause { Goes cells_of (λ it. with_steps changes.now
+        (with_tables (λ t. record t {
+          choice = filter
+              (is_choice_elsewhere release.now) t.choice;
+          duty = moved_by changes.now t.duty;
+        }) it)) (length changes.now + length changes.now)
         (state S.Store tx.old.conn.now) (state S.Store tx.new.conn.now) result }
     ensures survives { Survives (state S.Store tx.old.conn.now) (state S.Store tx.new.conn.now)
         (λ _. ⊥) }
@@ -277,6 +344,15 @@ pub(crate) fn withdraw<S: Alter>(
           duty = moved_by changes.now t.duty;
         }) it))
         (state S.Store tx.old.conn.now) (state S.Store tx.new.conn.now) result }
+    ensures cause { Goes cells_of (λ it. with_steps changes.now
+        (with_tables (λ t. record t {
+          releases = updated
+              (is_release release.now) withdrawn_release t.releases;
+          choice = filter
+              (is_choice_elsewhere release.now) t.choice;
+          duty = moved_by changes.now t.duty;
+        }) it)) (length changes.now + length changes.now)
+        (state S.Store tx.old.conn.now) (state S.Store tx.new.conn.now) result }
     ensures survives { Survives (state S.Store tx.old.conn.now) (state S.Store tx.new.conn.now)
         (λ _. ⊥) }
 {
@@ -292,6 +368,9 @@ pub fn make<S: Alter>(
 ) -> Result<(), Fault>
     ensures same_reference { tx.new.conn.ghost_name ≡ tx.old.conn.ghost_name }
     ensures wrote { Writes rows_of (applied change.now) (state S.Store tx.old.conn.now)
+        (state S.Store tx.new.conn.now) result }
+    ensures cause { IsTold change.now → Goes rows_of (applied change.now)
+        (rows_in change.now) (state S.Store tx.old.conn.now)
         (state S.Store tx.new.conn.now) result }
     ensures survives { Survives (state S.Store tx.old.conn.now) (state S.Store tx.new.conn.now)
         (λ _. ⊥) }

@@ -1,11 +1,12 @@
 //! Documents, and what they define.
 
-ghost use Rattle.std.specs.Prelude.{◌≡◌, ◌++◌, ◌∷◌, [], filter, not};
+ghost use Rattle.std.specs.Prelude.{◌≡◌, ◌++◌, ◌∷◌, [], filter, not, length};
 ghost use Rattle.sqlite.specs.Held.{state};
 ghost use Rattle.sqlite.specs.State.{Survives};
 ghost use Rattle.sqlite.specs.Values.{bound};
 ghost use Rattle.desk_sql_layout.specs.Cells.{document_cells, reading_cells, package_cells, extracted_cells};
 ghost use Rattle.desk_sql_write.specs.Contents.{cells_of, with_tables};
+ghost use Rattle.desk_sql_write.specs.Taking.{Goes};
 ghost use Rattle.desk_sql_write.specs.Written.{Writes};
 
 use crate::statement::execute;
@@ -33,6 +34,9 @@ pub(crate) fn add_document<S: Alter>(
     ensures wrote { Writes cells_of (with_tables (λ t.
         record t { document = t.document ++ row.now ∷ [] })) (state S.Store tx.old.conn.now)
         (state S.Store tx.new.conn.now) result }
+    ensures cause { Goes cells_of (with_tables (λ t.
+        record t { document = t.document ++ row.now ∷ [] })) 1
+        (state S.Store tx.old.conn.now) (state S.Store tx.new.conn.now) result }
     ensures survives { Survives (state S.Store tx.old.conn.now) (state S.Store tx.new.conn.now)
         (λ _. ⊥) }
 {
@@ -56,6 +60,8 @@ pub(crate) fn add_reading<S: Alter>(
 ) -> Result<(), Fault>
     ensures same_reference { tx.new.conn.ghost_name ≡ tx.old.conn.ghost_name }
     ensures wrote { Writes cells_of (λ it. record it { reading = it.reading ++ row.now ∷ [] })
+        (state S.Store tx.old.conn.now) (state S.Store tx.new.conn.now) result }
+    ensures cause { Goes cells_of (λ it. record it { reading = it.reading ++ row.now ∷ [] }) 1
         (state S.Store tx.old.conn.now) (state S.Store tx.new.conn.now) result }
     ensures survives { Survives (state S.Store tx.old.conn.now) (state S.Store tx.new.conn.now)
         (λ _. ⊥) }
@@ -90,6 +96,9 @@ pub(crate) fn add_package<S: Alter>(
     ensures wrote { Writes cells_of (with_tables (λ t.
         record t { packages = t.packages ++ row.now ∷ [] })) (state S.Store tx.old.conn.now)
         (state S.Store tx.new.conn.now) result }
+    ensures cause { Goes cells_of (with_tables (λ t.
+        record t { packages = t.packages ++ row.now ∷ [] })) 1
+        (state S.Store tx.old.conn.now) (state S.Store tx.new.conn.now) result }
     ensures survives { Survives (state S.Store tx.old.conn.now) (state S.Store tx.new.conn.now)
         (λ _. ⊥) }
 {
@@ -119,6 +128,9 @@ pub(crate) fn add_reference<S: Alter>(
     ensures wrote { Writes cells_of (with_tables (λ t.
         record t { extracted = t.extracted ++ row.now ∷ [] })) (state S.Store tx.old.conn.now)
         (state S.Store tx.new.conn.now) result }
+    ensures cause { Goes cells_of (with_tables (λ t.
+        record t { extracted = t.extracted ++ row.now ∷ [] })) 1
+        (state S.Store tx.old.conn.now) (state S.Store tx.new.conn.now) result }
     ensures survives { Survives (state S.Store tx.old.conn.now) (state S.Store tx.new.conn.now)
         (λ _. ⊥) }
 {
@@ -138,6 +150,10 @@ pub(crate) fn add_packages<S: Alter>(
     ensures wrote { Writes cells_of
         (with_tables (λ t. record t { packages = t.packages ++ rows.now }))
         (state S.Store tx.old.conn.now) (state S.Store tx.new.conn.now) result }
+    ensures cause { Goes cells_of
+        (with_tables (λ t. record t { packages = t.packages ++ rows.now }))
+        (length rows.now)
+        (state S.Store tx.old.conn.now) (state S.Store tx.new.conn.now) result }
     ensures survives { Survives (state S.Store tx.old.conn.now) (state S.Store tx.new.conn.now)
         (λ _. ⊥) }
 {
@@ -156,6 +172,9 @@ pub(crate) fn add_references<S: Alter>(
     ensures wrote { Writes cells_of (with_tables (λ t.
         record t { extracted = t.extracted ++ rows.now })) (state S.Store tx.old.conn.now)
         (state S.Store tx.new.conn.now) result }
+    ensures cause { Goes cells_of (with_tables (λ t.
+        record t { extracted = t.extracted ++ rows.now })) (length rows.now)
+        (state S.Store tx.old.conn.now) (state S.Store tx.new.conn.now) result }
     ensures survives { Survives (state S.Store tx.old.conn.now) (state S.Store tx.new.conn.now)
         (λ _. ⊥) }
 {

@@ -1,6 +1,6 @@
 //! Duties and their changes.
 
-ghost use Rattle.std.specs.Prelude.{◌≡◌, ◌++◌, ◌∷◌, [], filter, length, IfOk};
+ghost use Rattle.std.specs.Prelude.{◌≡◌, ◌≢◌, None, ◌++◌, ◌∷◌, [], filter, length, IfOk, ◌+◌};
 ghost use Rattle.std.specs.List.{flat_map};
 ghost use Rattle.sqlite.specs.Held.{state};
 ghost use Rattle.sqlite.specs.State.{Survives};
@@ -10,6 +10,7 @@ ghost use Rattle.desk_model.specs.Lists.{updated};
 ghost use Rattle.desk_model.specs.Tables.{with_duty_state, moved_by};
 ghost use Rattle.desk_sql_layout.specs.Cells.{duty_cells, change_cells, is_waiver, waiver_cells};
 ghost use Rattle.desk_sql_write.specs.Contents.{cells_of, with_tables, with_steps};
+ghost use Rattle.desk_sql_write.specs.Taking.{Goes};
 ghost use Rattle.desk_sql_write.specs.Written.{Writes};
 
 use crate::statement::execute;
@@ -42,6 +43,8 @@ pub(crate) fn add_duty<S: Alter>(tx: &mut Transaction<'_, S>, row: &DutyRow) -> 
     ensures same_reference { tx.new.conn.ghost_name ≡ tx.old.conn.ghost_name }
     ensures wrote { Writes cells_of (with_tables (λ t. record t { duty = t.duty ++ row.now ∷ [] }))
         (state S.Store tx.old.conn.now) (state S.Store tx.new.conn.now) result }
+    ensures cause { Goes cells_of (with_tables (λ t. record t { duty = t.duty ++ row.now ∷ [] })) 1
+        (state S.Store tx.old.conn.now) (state S.Store tx.new.conn.now) result }
     ensures survives { Survives (state S.Store tx.old.conn.now) (state S.Store tx.new.conn.now)
         (λ _. ⊥) }
 {
@@ -73,6 +76,9 @@ pub(crate) fn add_change<S: Alter>(
     ensures wrote { Writes cells_of (with_tables (λ t.
         record t { changes = t.changes ++ row.now ∷ [] })) (state S.Store tx.old.conn.now)
         (state S.Store tx.new.conn.now) result }
+    ensures cause { Goes cells_of (with_tables (λ t.
+        record t { changes = t.changes ++ row.now ∷ [] })) 1
+        (state S.Store tx.old.conn.now) (state S.Store tx.new.conn.now) result }
     ensures survives { Survives (state S.Store tx.old.conn.now) (state S.Store tx.new.conn.now)
         (λ _. ⊥) }
 {
@@ -101,6 +107,9 @@ pub(crate) fn add_waiver<S: Alter>(
     ensures same_reference { tx.new.conn.ghost_name ≡ tx.old.conn.ghost_name }
     ensures wrote { Writes cells_of (λ it. record it { waiver = it.waiver ++ row.now ∷ [] })
         (state S.Store tx.old.conn.now) (state S.Store tx.new.conn.now) result }
+    ensures cause { row.now.last_day ≢ None
+        → Goes cells_of (λ it. record it { waiver = it.waiver ++ row.now ∷ [] }) 1
+        (state S.Store tx.old.conn.now) (state S.Store tx.new.conn.now) result }
     ensures survives { Survives (state S.Store tx.old.conn.now) (state S.Store tx.new.conn.now)
         (λ _. ⊥) }
 {
@@ -120,6 +129,9 @@ pub(crate) fn set_duty<S: Alter>(
     ensures same_reference { tx.new.conn.ghost_name ≡ tx.old.conn.ghost_name }
     ensures wrote { Writes cells_of (with_tables (λ t.
         record t { duty = updated (is_duty duty) (with_duty_state to) t.duty }))
+        (state S.Store tx.old.conn.now) (state S.Store tx.new.conn.now) result }
+    ensures cause { Goes cells_of (with_tables (λ t.
+        record t { duty = updated (is_duty duty) (with_duty_state to) t.duty })) 0
         (state S.Store tx.old.conn.now) (state S.Store tx.new.conn.now) result }
     ensures survives { Survives (state S.Store tx.old.conn.now) (state S.Store tx.new.conn.now)
         (λ _. ⊥) }
@@ -152,6 +164,9 @@ fn add_eight_duties<S: Alter>(
     ensures same_reference { tx.new.conn.ghost_name ≡ tx.old.conn.ghost_name }
     ensures wrote { Writes cells_of (with_tables (λ t. record t { duty = t.duty ++ rows.now }))
         (state S.Store tx.old.conn.now) (state S.Store tx.new.conn.now) result }
+    ensures cause { Goes cells_of (with_tables (λ t. record t { duty = t.duty ++ rows.now }))
+        (length rows.now)
+        (state S.Store tx.old.conn.now) (state S.Store tx.new.conn.now) result }
     ensures survives { Survives (state S.Store tx.old.conn.now) (state S.Store tx.new.conn.now)
         (λ _. ⊥) }
 {
@@ -171,6 +186,9 @@ pub(crate) fn add_duties<S: Alter>(
 ) -> Result<(), Fault>
     ensures same_reference { tx.new.conn.ghost_name ≡ tx.old.conn.ghost_name }
     ensures wrote { Writes cells_of (with_tables (λ t. record t { duty = t.duty ++ rows.now }))
+        (state S.Store tx.old.conn.now) (state S.Store tx.new.conn.now) result }
+    ensures cause { Goes cells_of (with_tables (λ t. record t { duty = t.duty ++ rows.now }))
+        (length rows.now)
         (state S.Store tx.old.conn.now) (state S.Store tx.new.conn.now) result }
     ensures survives { Survives (state S.Store tx.old.conn.now) (state S.Store tx.new.conn.now)
         (λ _. ⊥) }
@@ -199,6 +217,9 @@ pub(crate) fn set_duties<S: Alter>(
     ensures same_reference { tx.new.conn.ghost_name ≡ tx.old.conn.ghost_name }
     ensures wrote { Writes cells_of
         (with_tables (λ t. record t { duty = moved_by rows.now t.duty }))
+        (state S.Store tx.old.conn.now) (state S.Store tx.new.conn.now) result }
+    ensures cause { Goes cells_of (with_tables (λ t. record t { duty = moved_by rows.now t.duty }))
+        0
         (state S.Store tx.old.conn.now) (state S.Store tx.new.conn.now) result }
     ensures survives { Survives (state S.Store tx.old.conn.now) (state S.Store tx.new.conn.now)
         (λ _. ⊥) }
@@ -236,6 +257,9 @@ fn add_eight_changes<S: Alter>(
     ensures wrote { Writes cells_of
         (with_tables (λ t. record t { changes = t.changes ++ rows.now }))
         (state S.Store tx.old.conn.now) (state S.Store tx.new.conn.now) result }
+    ensures cause { Goes cells_of (with_tables (λ t. record t { changes = t.changes ++ rows.now }))
+        (length rows.now)
+        (state S.Store tx.old.conn.now) (state S.Store tx.new.conn.now) result }
     ensures survives { Survives (state S.Store tx.old.conn.now) (state S.Store tx.new.conn.now)
         (λ _. ⊥) }
 {
@@ -256,6 +280,9 @@ fn add_changes<S: Alter>(
     ensures same_reference { tx.new.conn.ghost_name ≡ tx.old.conn.ghost_name }
     ensures wrote { Writes cells_of
         (with_tables (λ t. record t { changes = t.changes ++ rows.now }))
+        (state S.Store tx.old.conn.now) (state S.Store tx.new.conn.now) result }
+    ensures cause { Goes cells_of (with_tables (λ t. record t { changes = t.changes ++ rows.now }))
+        (length rows.now)
         (state S.Store tx.old.conn.now) (state S.Store tx.new.conn.now) result }
     ensures survives { Survives (state S.Store tx.old.conn.now) (state S.Store tx.new.conn.now)
         (λ _. ⊥) }
@@ -283,6 +310,11 @@ fn add_last_day<S: Alter>(tx: &mut Transaction<'_, S>, row: &ChangeRow) -> Resul
       waiver = it.waiver ++ filter is_waiver
           (row.now ∷ []);
     }) (state S.Store tx.old.conn.now) (state S.Store tx.new.conn.now) result }
+    ensures cause { Goes cells_of (λ it. record it {
+      waiver = it.waiver ++ filter is_waiver
+          (row.now ∷ []);
+    }) 1
+        (state S.Store tx.old.conn.now) (state S.Store tx.new.conn.now) result }
     ensures survives { Survives (state S.Store tx.old.conn.now) (state S.Store tx.new.conn.now)
         (λ _. ⊥) }
 {
@@ -297,6 +329,9 @@ fn add_waivers<S: Alter>(tx: &mut Transaction<'_, S>, rows: &[ChangeRow]) -> Res
     ensures same_reference { tx.new.conn.ghost_name ≡ tx.old.conn.ghost_name }
     ensures wrote { Writes cells_of (λ it.
         record it { waiver = it.waiver ++ filter is_waiver rows.now })
+        (state S.Store tx.old.conn.now) (state S.Store tx.new.conn.now) result }
+    ensures cause { Goes cells_of (λ it.
+        record it { waiver = it.waiver ++ filter is_waiver rows.now }) (length rows.now)
         (state S.Store tx.old.conn.now) (state S.Store tx.new.conn.now) result }
     ensures survives { Survives (state S.Store tx.old.conn.now) (state S.Store tx.new.conn.now)
         (λ _. ⊥) }
@@ -316,6 +351,8 @@ pub(crate) fn add_steps<S: Alter>(
     ensures same_reference { tx.new.conn.ghost_name ≡ tx.old.conn.ghost_name }
     ensures wrote { Writes cells_of (with_steps rows.now) (state S.Store tx.old.conn.now)
         (state S.Store tx.new.conn.now) result }
+    ensures cause { Goes cells_of (with_steps rows.now) (length rows.now + length rows.now)
+        (state S.Store tx.old.conn.now) (state S.Store tx.new.conn.now) result }
     ensures survives { Survives (state S.Store tx.old.conn.now) (state S.Store tx.new.conn.now)
         (λ _. ⊥) }
 {

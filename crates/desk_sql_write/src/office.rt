@@ -7,6 +7,7 @@ ghost use Rattle.sqlite.specs.Values.{bound};
 ghost use Rattle.desk_model.specs.Keys.{is_conclusion, is_adoption};
 ghost use Rattle.desk_sql_layout.specs.Cells.{conclusion_cells, adoption_cells};
 ghost use Rattle.desk_sql_write.specs.Contents.{cells_of, with_tables};
+ghost use Rattle.desk_sql_write.specs.Taking.{Goes};
 ghost use Rattle.desk_sql_write.specs.Written.{Writes};
 
 use crate::statement::execute;
@@ -35,6 +36,9 @@ pub(crate) fn add_conclusion<S: Alter>(
     ensures wrote { Writes cells_of (with_tables (λ t.
         record t { conclusion = t.conclusion ++ row.now ∷ [] })) (state S.Store tx.old.conn.now)
         (state S.Store tx.new.conn.now) result }
+    ensures cause { Goes cells_of (with_tables (λ t.
+        record t { conclusion = t.conclusion ++ row.now ∷ [] })) 1
+        (state S.Store tx.old.conn.now) (state S.Store tx.new.conn.now) result }
     ensures survives { Survives (state S.Store tx.old.conn.now) (state S.Store tx.new.conn.now)
         (λ _. ⊥) }
 {
@@ -64,6 +68,9 @@ pub(crate) fn add_adoption<S: Alter>(
     ensures wrote { Writes cells_of (with_tables (λ t.
         record t { adoption = t.adoption ++ row.now ∷ [] })) (state S.Store tx.old.conn.now)
         (state S.Store tx.new.conn.now) result }
+    ensures cause { Goes cells_of (with_tables (λ t.
+        record t { adoption = t.adoption ++ row.now ∷ [] })) 1
+        (state S.Store tx.old.conn.now) (state S.Store tx.new.conn.now) result }
     ensures survives { Survives (state S.Store tx.old.conn.now) (state S.Store tx.new.conn.now)
         (λ _. ⊥) }
 {
@@ -86,6 +93,12 @@ pub(crate) fn drop_conclusion<S: Alter>(
           conclusion = filter (λ row.
               not (is_conclusion document package_id.now row)) t.conclusion;
         }))
+        (state S.Store tx.old.conn.now) (state S.Store tx.new.conn.now) result }
+    ensures cause { Goes cells_of (with_tables (λ t.
+        record t {
+          conclusion = filter (λ row.
+              not (is_conclusion document package_id.now row)) t.conclusion;
+        })) 0
         (state S.Store tx.old.conn.now) (state S.Store tx.new.conn.now) result }
     ensures survives { Survives (state S.Store tx.old.conn.now) (state S.Store tx.new.conn.now)
         (λ _. ⊥) }
@@ -110,6 +123,12 @@ pub(crate) fn drop_adoption<S: Alter>(
               not (is_adoption document reference.now row)) t.adoption;
         })) (state S.Store tx.old.conn.now)
         (state S.Store tx.new.conn.now) result }
+    ensures cause { Goes cells_of (with_tables (λ t.
+        record t {
+          adoption = filter (λ row.
+              not (is_adoption document reference.now row)) t.adoption;
+        })) 0
+        (state S.Store tx.old.conn.now) (state S.Store tx.new.conn.now) result }
     ensures survives { Survives (state S.Store tx.old.conn.now) (state S.Store tx.new.conn.now)
         (λ _. ⊥) }
 {

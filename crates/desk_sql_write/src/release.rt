@@ -1,6 +1,6 @@
 //! Releases, and what is attached to them and chosen in them.
 
-ghost use Rattle.std.specs.Prelude.{◌≡◌, ◌++◌, ◌∷◌, [], filter, not};
+ghost use Rattle.std.specs.Prelude.{◌≡◌, ◌++◌, ◌∷◌, [], filter, not, length, ◌<◌, ◌^◌};
 ghost use Rattle.sqlite.specs.Held.{state};
 ghost use Rattle.sqlite.specs.State.{Survives};
 ghost use Rattle.sqlite.specs.Values.{bound};
@@ -10,6 +10,7 @@ ghost use Rattle.desk_model.specs.Tables.{is_other_choice, is_choice_elsewhere, 
 ghost use Rattle.desk_model.specs.declared.state.ReleaseState.TheVariants.{Frozen};
 ghost use Rattle.desk_sql_layout.specs.Cells.{release_cells, attached_cells, choice_cells, frozen_cells};
 ghost use Rattle.desk_sql_write.specs.Contents.{cells_of, with_tables};
+ghost use Rattle.desk_sql_write.specs.Taking.{Goes};
 ghost use Rattle.desk_sql_write.specs.Written.{Writes};
 
 use crate::statement::execute;
@@ -34,6 +35,9 @@ pub(crate) fn add_attached<S: Alter>(
     ensures wrote { Writes cells_of (with_tables (λ t.
         record t { attached = t.attached ++ row.now ∷ [] })) (state S.Store tx.old.conn.now)
         (state S.Store tx.new.conn.now) result }
+    ensures cause { Goes cells_of (with_tables (λ t.
+        record t { attached = t.attached ++ row.now ∷ [] })) 1
+        (state S.Store tx.old.conn.now) (state S.Store tx.new.conn.now) result }
     ensures survives { Survives (state S.Store tx.old.conn.now) (state S.Store tx.new.conn.now)
         (λ _. ⊥) }
 {
@@ -63,6 +67,10 @@ pub(crate) fn add_choice<S: Alter>(
     ensures same_reference { tx.new.conn.ghost_name ≡ tx.old.conn.ghost_name }
     ensures wrote { Writes cells_of
         (with_tables (λ t. record t { choice = t.choice ++ row.now ∷ [] }))
+        (state S.Store tx.old.conn.now) (state S.Store tx.new.conn.now) result }
+    ensures cause { Goes cells_of
+        (with_tables (λ t. record t { choice = t.choice ++ row.now ∷ [] }))
+        1
         (state S.Store tx.old.conn.now) (state S.Store tx.new.conn.now) result }
     ensures survives { Survives (state S.Store tx.old.conn.now) (state S.Store tx.new.conn.now)
         (λ _. ⊥) }
@@ -94,6 +102,10 @@ pub(crate) fn add_frozen<S: Alter>(
     ensures same_reference { tx.new.conn.ghost_name ≡ tx.old.conn.ghost_name }
     ensures wrote { Writes cells_of
         (with_tables (λ t. record t { frozen = t.frozen ++ row.now ∷ [] }))
+        (state S.Store tx.old.conn.now) (state S.Store tx.new.conn.now) result }
+    ensures cause { Goes cells_of
+        (with_tables (λ t. record t { frozen = t.frozen ++ row.now ∷ [] }))
+        1
         (state S.Store tx.old.conn.now) (state S.Store tx.new.conn.now) result }
     ensures survives { Survives (state S.Store tx.old.conn.now) (state S.Store tx.new.conn.now)
         (λ _. ⊥) }
@@ -127,6 +139,9 @@ pub(crate) fn add_release<S: Alter>(
     ensures wrote { Writes cells_of (with_tables (λ t.
         record t { releases = t.releases ++ row.now ∷ [] })) (state S.Store tx.old.conn.now)
         (state S.Store tx.new.conn.now) result }
+    ensures cause { Goes cells_of (with_tables (λ t.
+        record t { releases = t.releases ++ row.now ∷ [] })) 1
+        (state S.Store tx.old.conn.now) (state S.Store tx.new.conn.now) result }
     ensures survives { Survives (state S.Store tx.old.conn.now) (state S.Store tx.new.conn.now)
         (λ _. ⊥) }
 {
@@ -153,6 +168,12 @@ pub(crate) fn freeze_release<S: Alter>(
               (with_release_state Frozen revision) t.releases;
         })) (state S.Store tx.old.conn.now)
         (state S.Store tx.new.conn.now) result }
+    ensures cause { revision < 2 ^ 32 → Goes cells_of (with_tables (λ t.
+        record t {
+          releases = updated (is_release name.now)
+              (with_release_state Frozen revision) t.releases;
+        })) 0
+        (state S.Store tx.old.conn.now) (state S.Store tx.new.conn.now) result }
     ensures survives { Survives (state S.Store tx.old.conn.now) (state S.Store tx.new.conn.now)
         (λ _. ⊥) }
 {
@@ -179,6 +200,9 @@ pub(crate) fn withdraw_release<S: Alter>(
     ensures wrote { Writes cells_of (with_tables (λ t.
         record t { releases = updated (is_release name.now) withdrawn_release t.releases }))
         (state S.Store tx.old.conn.now) (state S.Store tx.new.conn.now) result }
+    ensures cause { Goes cells_of (with_tables (λ t.
+        record t { releases = updated (is_release name.now) withdrawn_release t.releases })) 0
+        (state S.Store tx.old.conn.now) (state S.Store tx.new.conn.now) result }
     ensures survives { Survives (state S.Store tx.old.conn.now) (state S.Store tx.new.conn.now)
         (λ _. ⊥) }
 {
@@ -200,6 +224,10 @@ pub(crate) fn drop_choices<S: Alter>(
     ensures wrote { Writes cells_of (with_tables (λ t.
         record t { choice = filter (is_other_choice release.now document package_id.now) t.choice }))
         (state S.Store tx.old.conn.now) (state S.Store tx.new.conn.now) result }
+    ensures cause { Goes cells_of (with_tables (λ t.
+        record t { choice = filter (is_other_choice release.now document package_id.now) t.choice }))
+        0
+        (state S.Store tx.old.conn.now) (state S.Store tx.new.conn.now) result }
     ensures survives { Survives (state S.Store tx.old.conn.now) (state S.Store tx.new.conn.now)
         (λ _. ⊥) }
 {
@@ -219,6 +247,9 @@ pub(crate) fn drop_choices_in<S: Alter>(
     ensures wrote { Writes cells_of (with_tables (λ t.
         record t { choice = filter (is_choice_elsewhere release.now) t.choice }))
         (state S.Store tx.old.conn.now) (state S.Store tx.new.conn.now) result }
+    ensures cause { Goes cells_of (with_tables (λ t.
+        record t { choice = filter (is_choice_elsewhere release.now) t.choice })) 0
+        (state S.Store tx.old.conn.now) (state S.Store tx.new.conn.now) result }
     ensures survives { Survives (state S.Store tx.old.conn.now) (state S.Store tx.new.conn.now)
         (λ _. ⊥) }
 {
@@ -237,6 +268,9 @@ pub(crate) fn add_choices<S: Alter>(
     ensures same_reference { tx.new.conn.ghost_name ≡ tx.old.conn.ghost_name }
     ensures wrote { Writes cells_of (with_tables (λ t. record t { choice = t.choice ++ rows.now }))
         (state S.Store tx.old.conn.now) (state S.Store tx.new.conn.now) result }
+    ensures cause { Goes cells_of (with_tables (λ t. record t { choice = t.choice ++ rows.now }))
+        (length rows.now)
+        (state S.Store tx.old.conn.now) (state S.Store tx.new.conn.now) result }
     ensures survives { Survives (state S.Store tx.old.conn.now) (state S.Store tx.new.conn.now)
         (λ _. ⊥) }
 {
@@ -253,6 +287,9 @@ pub(crate) fn add_frozen_terms<S: Alter>(
 ) -> Result<(), Fault>
     ensures same_reference { tx.new.conn.ghost_name ≡ tx.old.conn.ghost_name }
     ensures wrote { Writes cells_of (with_tables (λ t. record t { frozen = t.frozen ++ rows.now }))
+        (state S.Store tx.old.conn.now) (state S.Store tx.new.conn.now) result }
+    ensures cause { Goes cells_of (with_tables (λ t. record t { frozen = t.frozen ++ rows.now }))
+        (length rows.now)
         (state S.Store tx.old.conn.now) (state S.Store tx.new.conn.now) result }
     ensures survives { Survives (state S.Store tx.old.conn.now) (state S.Store tx.new.conn.now)
         (λ _. ⊥) }

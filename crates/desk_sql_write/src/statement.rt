@@ -1,9 +1,10 @@
 //! A statement inside a transaction.
 
-ghost use Rattle.std.specs.Prelude.{◌≡◌};
+ghost use Rattle.std.specs.Prelude.{◌≡◌, IfErr};
 ghost use Rattle.sqlite.specs.Held.{state};
 ghost use Rattle.sqlite.specs.State.{Survives};
 ghost use Rattle.sqlite.specs.Values.{bound};
+ghost use Rattle.desk_sql_write.specs.Taking.{RanInto};
 ghost use Rattle.desk_sql_write.specs.Written.{Ran};
 
 use desk_model::Fault;
@@ -20,6 +21,8 @@ pub fn execute<S: Alter>(
     ensures same_reference { tx.new.conn.ghost_name ≡ tx.old.conn.ghost_name }
     ensures ran { Ran sql.now (bound params.now) (state S.Store tx.old.conn.now)
         (state S.Store tx.new.conn.now) result }
+    ensures into { IfErr result (RanInto sql.now (bound params.now) (state S.Store tx.old.conn.now)
+        (state S.Store tx.new.conn.now)) }
     ensures survives { Survives (state S.Store tx.old.conn.now) (state S.Store tx.new.conn.now)
         (λ _. ⊥) }
 {

@@ -1,9 +1,11 @@
-use Rattle.std.proofs.Common.{◌≡◌, subst, rules}
+use Rattle.std.proofs.Common.{◌≡◌, subst, rules, IfErr, sym}
 use Rattle.sqlite.specs.State.{HasCleanDisk, Survives}
 use Rattle.sqlite.specs.Held.{state}
 use Rattle.sqlite.proofs.StateLemmas.{survives_then}
 use Rattle.sqlite.proofs.Callers.{survives_begin}
 use Rattle.desk_sql_write.specs.Written.{Leaves}
+use Rattle.desk_sql_write.specs.Taking.{CommitFails}
+use Rattle.desk_sql_write.proofs.Ends.{made_fails, commit_fails, err_ends}
 use Rattle.desk_sql_write.proofs.Inside.{clean_before}
 use Rattle.desk_sql_commit.proofs.transaction.write.Goals as goal
 
@@ -32,3 +34,26 @@ returns-in-Err-clause-crash g c =
     (λ clean db is. let it = inside (clean_before _ _ _ c.commit.ensures.survives clean) in ((state g.S.Store last).now, it.change, is))
     (survives_begin g.S.Store old (state g.S.Store last) _ (rw begun at c.make.ensures.survives)) c.commit.ensures.survives in
     subst (λ h. Survives (state g.S.Store old) (state g.S.Store h) P) same whole
+
+pub returns-in_err-make-clause-cause : goal.returns-in_err-make-clause-cause
+returns-in_err-make-clause-cause g c told =
+    let same : c.drop-tx.new.self.0 ≡ c.conn-1.given.0 = search rules in
+    let old = c.args.conn.now in
+    let last = c.make.new.tx.conn.now in
+    let fault = c.in_err-make.field-0.0 in
+    let begun = c.transaction-tx.ensures.begun in
+    let fails = made_fails g.S.Store old (state g.S.Store last) (state g.S.Store c.drop-tx.new.self.0) c.args.change.now _ fault c.drop-tx.ensures.survives (rw begun at (c.in_err-make.ensures.cause told)) in
+    subst (λ h. IfErr c.from_residual.result (CommitFails c.args.change.now (state g.S.Store old) (state g.S.Store h))) same
+    (err_ends c.args.change.now (state g.S.Store old) (state g.S.Store c.drop-tx.new.self.0) c.from_residual.result fault c.from_residual.ensures.1 fails)
+
+pub returns-in-Err-clause-cause : goal.returns-in-Err-clause-cause
+returns-in-Err-clause-cause g c told =
+    let same : c.commit.new.self.0 ≡ c.conn-2-1.given.0 = search rules in
+    let old = c.args.conn.now in
+    let last = c.make.new.tx.conn.now in
+    let begun = c.transaction-tx.ensures.begun in
+    let inside = λ (clean : HasCleanDisk (state g.S.Store last)). rw begun at (c.in_ok-make.ensures.wrote clean (rw begun)) in
+    let uses = λ (clean : HasCleanDisk (state g.S.Store last)). rw begun at (c.in_ok-make.ensures.cause told clean (rw begun)) in
+    let fails = commit_fails g.S.Store old (state g.S.Store last) (state g.S.Store c.commit.new.self.0) c.args.change.now _ _ c.in-Err.error (rw begun at c.make.ensures.survives) c.commit.ensures.survives inside uses c.in-Err.ensures.err in
+    subst (λ h. CommitFails c.args.change.now (state g.S.Store old) (state g.S.Store h) c.fault_of.result) same
+    (subst (CommitFails c.args.change.now (state g.S.Store old) (state g.S.Store c.commit.new.self.0)) (sym c.fault_of.ensures) fails)

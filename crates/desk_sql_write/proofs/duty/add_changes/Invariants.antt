@@ -4,6 +4,7 @@ use Rattle.sqlite.specs.Held.{state}
 use Rattle.desk_model.specs.declared.row.ChangeRow.{ChangeRow}
 use Rattle.desk_sql_write.specs.Contents.{cells_of, with_tables}
 use Rattle.desk_sql_write.specs.Written.{Wrote}
+use Rattle.desk_sql_write.specs.Taking.{Uses}
 use Rattle.desk_sql_write.proofs.duty.add_changes.Given as goal
 
 -- the rows before those that are left were added
@@ -13,6 +14,8 @@ invariant-loop-first g l = (added : List ChangeRow) × record {
   same_reference : l.tx.conn.ghost_name ≡ l.fn.tx.conn.ghost_name;
   wrote : HasCleanDisk (state g.S.Store l.tx.conn.now) → IsTrue l.fn.tx.conn.now.in_transaction
       → Wrote cells_of (with_tables (λ t. record t { changes = t.changes ++ added })) (state g.S.Store l.fn.tx.conn.now) (state g.S.Store l.tx.conn.now);
+  uses : HasCleanDisk (state g.S.Store l.tx.conn.now) → IsTrue l.fn.tx.conn.now.in_transaction
+      → Uses cells_of (length added) (state g.S.Store l.fn.tx.conn.now) (state g.S.Store l.tx.conn.now);
   survives : Survives (state g.S.Store l.fn.tx.conn.now) (state g.S.Store l.tx.conn.now) (λ _. ⊥);
 }
 

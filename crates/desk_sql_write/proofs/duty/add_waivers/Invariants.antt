@@ -1,9 +1,10 @@
-use Rattle.std.proofs.Common.{◌≡◌, ◌++◌, take, filter, IsTrue}
+use Rattle.std.proofs.Common.{◌≡◌, ◌++◌, take, filter, IsTrue, length}
 use Rattle.sqlite.specs.State.{HasCleanDisk, Survives}
 use Rattle.sqlite.specs.Held.{state}
 use Rattle.desk_sql_layout.specs.Cells.{is_waiver}
 use Rattle.desk_sql_write.specs.Contents.{cells_of}
 use Rattle.desk_sql_write.specs.Written.{Wrote}
+use Rattle.desk_sql_write.specs.Taking.{Uses}
 use Rattle.desk_sql_write.proofs.duty.add_waivers.Given as goal
 
 -- the last days so far were added
@@ -12,5 +13,7 @@ invariant-loop-row g l = record {
   same_reference : l.tx.conn.ghost_name ≡ l.fn.tx.conn.ghost_name;
   wrote : HasCleanDisk (state g.S.Store l.tx.conn.now) → IsTrue l.fn.tx.conn.now.in_transaction
       → Wrote cells_of (λ it. record it { waiver = it.waiver ++ filter is_waiver (take l.row-index l.rows) }) (state g.S.Store l.fn.tx.conn.now) (state g.S.Store l.tx.conn.now);
+  uses : HasCleanDisk (state g.S.Store l.tx.conn.now) → IsTrue l.fn.tx.conn.now.in_transaction
+      → Uses cells_of (length (take l.row-index l.rows)) (state g.S.Store l.fn.tx.conn.now) (state g.S.Store l.tx.conn.now);
   survives : Survives (state g.S.Store l.fn.tx.conn.now) (state g.S.Store l.tx.conn.now) (λ _. ⊥);
 }

@@ -1,8 +1,10 @@
-use Rattle.std.proofs.Common.{◌∙◌, ◌++◌, ◌∷◌, [], ◌+◌, take}
+use Rattle.std.proofs.Common.{◌∙◌, ◌++◌, ◌∷◌, [], ◌+◌, take, inl, inr, map, drop, length, refl, sym, rules}
 use Rattle.sqlite.specs.Held.{state}
 use Rattle.desk_sql_write.specs.Contents.{Contents, cells_of, with_tables}
-use Rattle.desk_sql_write.proofs.Inside.{clean_before, survives_both, wrote_as, wrote_both}
-use Rattle.desk_sql_write.proofs.Lists.{front_more}
+use Rattle.desk_sql_layout.specs.Cells.{choice_cells}
+use Rattle.desk_sql_write.proofs.Going.{can_stand, cut_at, cut_within, err_goes, front_rows, front_within, later_fails, three_rows, uses_both, uses_next, uses_none, uses_weaker}
+use Rattle.desk_sql_write.proofs.Inside.{clean_before, survives_both, wrote_as, wrote_both, wrote_none}
+use Rattle.desk_sql_write.proofs.Lists.{front_more, append_nil}
 use Rattle.desk_sql_write.proofs.release.add_choices.Goals as goal
 
 pub loop-row-preserved : goal.loop-row-preserved
@@ -22,5 +24,45 @@ loop-row-preserved g c =
           wrote_as cells_of (λ it. with_tables (λ t. record t { choice = t.choice ++ row ∷ [] }) (with_tables (λ t. record t { choice = t.choice ++ take n rows }) it))
           (with_tables (λ t. record t { choice = t.choice ++ take (n + 1) rows })) a e (λ it i. record it { tables = record it.tables { choice = grown it i } })
           (wrote_both cells_of (with_tables (λ t. record t { choice = t.choice ++ take n rows })) (with_tables (λ t. record t { choice = t.choice ++ row ∷ [] })) a b e before next);
+      uses = λ clean inside.
+          let was = clean_before b e _ c.add_choice.ensures.survives clean in
+          let before = c.loop-row.invariant.wrote was inside in
+          uses_next cells_of (take n rows) (take (n + 1) rows) row a e (front_more [] rows n row row c.row-item.is c.loop-row-test.true)
+          (uses_both cells_of (with_tables (λ t. record t { choice = t.choice ++ take n rows })) (length (take n rows)) 1 a b e before (c.loop-row.invariant.uses was inside) (c.in_ok-add_choice.ensures.cause clean before.inside));
       survives = survives_both a b e c.loop-row.invariant.survives c.add_choice.ensures.survives;
     }
+
+pub loop-row-init : goal.loop-row-init
+loop-row-init g c =
+    let a = state g.S.Store c.args.tx.now.conn.now in
+    record {
+      same_reference = refl;
+      wrote = λ clean inside. wrote_as cells_of (λ it. it) (with_tables (λ t. record t { choice = t.choice ++ [] })) a a
+          (λ it i. record it { tables = record it.tables { choice = sym (append_nil it.tables.choice) i } }) (wrote_none cells_of a clean inside);
+      uses = λ clean inside. uses_none cells_of a;
+      survives = search rules;
+    }
+
+pub returns-clause-cause : goal.returns-clause-cause
+returns-clause-cause g c clean inside =
+    let rows = c.args.rows.now in
+    let n = c.loop-row.row-index in
+    uses_weaker cells_of (length (take n rows)) (length rows) (state g.S.Store c.args.tx.now.conn.now) (state g.S.Store c.loop-row.tx.conn.now) (front_within rows n) (c.loop-row.invariant.uses clean inside)
+
+pub returns-in_err-add_choice-clause-cause : goal.returns-in_err-add_choice-clause-cause
+returns-in_err-add_choice-clause-cause g c =
+    let a = state g.S.Store c.args.tx.now.conn.now in
+    let b = state g.S.Store c.loop-row.tx.conn.now in
+    let e = state g.S.Store c.add_choice.new.tx.conn.now in
+    let rows = c.args.rows.now in
+    let n = c.loop-row.row-index in
+    let row = c.row-item.result in
+    let fault = c.in_err-add_choice.field-0.0 in
+    let cut = cut_at rows n row row c.row-item.is c.loop-row-test.true in
+    err_goes cells_of (with_tables (λ t. record t { choice = t.choice ++ rows })) (length rows) a e c.from_residual.result fault c.from_residual.ensures.1
+    (later_fails cells_of (with_tables (λ t. record t { choice = t.choice ++ take n rows })) (with_tables (λ t. record t { choice = t.choice ++ row ∷ [] })) (with_tables (λ t. record t { choice = t.choice ++ rows })) (length (take n rows)) 1 (length rows) a b e fault (cut_within rows (take n rows) row (drop (n + 1) rows) cut)
+    c.loop-row.invariant.wrote c.loop-row.invariant.uses c.loop-row.invariant.survives c.add_choice.ensures.survives
+    (λ it before after. (
+      can_stand (cells_of it) (cells_of ((with_tables (λ t. record t { choice = t.choice ++ take n rows })) it)) (cells_of ((with_tables (λ t. record t { choice = t.choice ++ rows })) it)) (inl refl, (inl refl, (inl refl, (inl refl, (inl refl, (inl refl, (inl refl, (inl refl, (inl refl, (inl refl, (inr (inr (map choice_cells (row ∷ drop (n + 1) rows), front_rows choice_cells it.tables.choice rows (take n rows) (row ∷ drop (n + 1) rows) cut)), (inl refl, (inl refl, (inl refl, (inl refl, (inl refl, tt)))))))))))))))) before after,
+      can_stand (cells_of it) (cells_of ((with_tables (λ t. record t { choice = t.choice ++ row ∷ [] })) ((with_tables (λ t. record t { choice = t.choice ++ take n rows })) it))) (cells_of ((with_tables (λ t. record t { choice = t.choice ++ rows })) it)) (inl refl, (inl refl, (inl refl, (inl refl, (inl refl, (inl refl, (inl refl, (inl refl, (inl refl, (inl refl, (inr (inr (map choice_cells (drop (n + 1) rows), three_rows choice_cells it.tables.choice rows (take n rows) (row ∷ []) (drop (n + 1) rows) cut)), (inl refl, (inl refl, (inl refl, (inl refl, (inl refl, tt)))))))))))))))) before after,
+    )) c.in_err-add_choice.ensures.cause)

@@ -1,0 +1,107 @@
+-- What a database can take, and why a write of a change fails.
+use Rattle.std.specs.Prelude.{◌≡◌, ◌⊎◌, ℕ, ◌+◌, ◌-◌, ◌^◌, ◌<◌, ◌≤◌, pos, negsuc, List, ◌∷◌, filter, length, map, None, IsTrue, Result, Ok, Err}
+use Rattle.std.specs.List.{AllByRecursion}
+use Rattle.sqlite_value.specs.declared.value.Value.{Value}
+use Rattle.sqlite_value.specs.declared.value.Value.TheVariants.{Null, Int, Real, Text, Blob}
+use Rattle.sqlite_value.specs.Keys.{plain}
+use Rattle.sqlite_value.specs.Order.{Row}
+use Rattle.sqlite_trees.specs.Tree.{Trees, rowid}
+use Rattle.sqlite_schema.specs.Rules.{agree}
+use Rattle.sqlite.specs.declared.error.Error.{Error}
+use Rattle.sqlite.specs.State.{State, HasCleanDisk, ExecutesInside}
+use Rattle.desk_model.specs.Tables.{Tables, applied}
+use Rattle.desk_model.specs.declared.command.Change.{Change}
+use Rattle.desk_model.specs.declared.command.Change.TheVariants as change
+use Rattle.desk_model.specs.declared.command.Fault.{Fault}
+use Rattle.desk_model.specs.declared.command.Fault.TheVariants.{Memory, Store}
+use Rattle.desk_model.specs.declared.command.StoreFault.TheVariants.{Database as DatabaseFault}
+use Rattle.desk_access.specs.Seen.{MoreFaults}
+use Rattle.desk_sql_layout.specs.Faults.{fault_by}
+use Rattle.desk_sql_layout.specs.Held.{HasRows, rows_of}
+use Rattle.desk_sql_layout.specs.Layout.{desk_schema}
+
+-- what a cell can take: NULL, a number of 32 bits, or a hundred million bytes at most
+abbrev pub IsSmall : Value → Type 0
+IsSmall Null = Unit {0}
+IsSmall (Int (pos n)) = n < 2 ^ 32
+IsSmall (Int (negsuc n)) = ⊥
+IsSmall (Real x) = ⊥
+IsSmall (Text text) = length text ≤ 10 ^ 8
+IsSmall (Blob bytes) = length bytes ≤ 10 ^ 8
+
+abbrev pub AreSmall : (ℕ → List Row) → Type 0
+AreSmall rows = AllByRecursion (λ t. AllByRecursion (AllByRecursion IsSmall) (rows t.tree)) desk_schema.tables
+
+-- where a row's cells have what a stored row has, whose first value is its rowid; the rowid itself is the number in the first cell
+abbrev pub in_cells : List ℕ → List ℕ
+in_cells = map (λ place. place - 1)
+
+-- at most one of the rows has a key in these places
+abbrev pub StandsOnce : List Row → List ℕ → Type 0
+StandsOnce rows places = (key : Row) → length (filter (λ row. agree plain (in_cells places) row (in_cells places) key) rows) ≤ 1
+
+-- so it is of each key that is declared unique
+abbrev pub HaveKeys : (ℕ → List Row) → Type 0
+HaveKeys rows = AllByRecursion (λ t. AllByRecursion (StandsOnce (rows t.tree)) (t.primary ∷ t.uniques)) desk_schema.tables
+
+-- rows that can stand in the desk's tables
+pub record CanStand (rows : ℕ → List Row) : Type 0 where
+  pub small : AreSmall rows
+  pub keys : HaveKeys rows
+
+-- so many rowids of 64 bits follow on this one
+abbrev pub LeavesRoom : ℕ → Value → Type 0
+LeavesRoom n (Int (pos id)) = id + n < 2 ^ 63
+LeavesRoom n (Int (negsuc id)) = id < 2 ^ 63
+LeavesRoom n _ = Unit {0}
+
+-- each table whose rows are numbered by the database has rowids for so many more
+pub record HasRoom (n : ℕ) (trees : Trees) : Type 0 where
+  pub few : n < 2 ^ 62
+  pub room : AllByRecursion (λ t. t.key ≡ None → AllByRecursion (λ r. LeavesRoom n (rowid r)) (trees t.tree)) desk_schema.tables
+
+-- the error of a text that was run inside a transaction
+abbrev pub RanInto : List ℕ → Row → State → State → Fault → Type 0
+RanInto sql params old new fault = HasCleanDisk new → IsTrue old.in_transaction → (e : Error) × (fault ≡ fault_by e) × ExecutesInside 0 sql params old new (Err e)
+
+-- no memory is left, or the disk failed once more
+abbrev pub IsCaused : State → State → Fault → Type 0
+IsCaused old new fault = (fault ≡ Memory) ⊎ ((fault ≡ Store DatabaseFault) × MoreFaults old.faults new.faults)
+
+-- a write used so many rowids at most
+pub record Uses {A : Type 0} (rows : A → ℕ → List Row) (many : ℕ) (old new : State) : Type 0 where
+  pub is_open : IsTrue old.is_open → IsTrue new.is_open
+  pub room : (a : A) → HasRows (rows a) old.now → (n : ℕ) → HasRoom (n + many) old.now.trees → HasRoom n new.now.trees
+
+module _ {A : Type 0} (rows : A → ℕ → List Row) (made : A → A) (many : ℕ) (old new : State) where
+  -- where the rows before and after can stand, and there are rowids for as many as are added, a write inside a transaction fails only
+  -- for such a cause
+  pub record FailsFor (fault : Fault) : Type 0 where
+    pub cause : HasCleanDisk new → IsTrue old.in_transaction → IsTrue old.is_open → old.step_limit ≡ None → (a : A) → HasRows (rows a) old.now → CanStand (rows a) → CanStand (rows (made a)) → HasRoom many old.now.trees → IsCaused old new fault
+
+  abbrev pub Goes : Result (Unit {0}) Fault → Type 0
+  Goes (Ok done) = HasCleanDisk new → IsTrue old.in_transaction → Uses rows many old new
+  Goes (Err fault) = FailsFor fault
+
+-- how many rows a change adds at most
+abbrev pub rows_in : Change → ℕ
+rows_in (change.Loaded row rules forms) = 1 + length rules
+rows_in (change.Imported row packages references) = 2 + (length packages + length references)
+rows_in (change.Opened row) = 1
+rows_in (change.Attached row) = 1
+rows_in (change.Chosen release document package_id rows) = length rows
+rows_in (change.Froze release revision rows duties changes) = length rows + (length duties + (length changes + length changes))
+rows_in (change.Moved changes) = length changes + length changes
+rows_in (change.Withdrew release changes) = length changes + length changes
+rows_in (change.Concluded row) = 1
+rows_in (change.Adopted row) = 1
+
+-- the revision that a freeze names is a number of 32 bits
+abbrev pub IsTold : Change → Type 0
+IsTold (change.Froze release revision rows duties changes) = revision < 2 ^ 32
+IsTold _ = Unit {0}
+
+-- Where the rows before and after the change can stand, and there are rowids for those that it adds, its transaction fails only for
+-- such a cause.
+pub record CommitFails (change : Change) (old new : State) (fault : Fault) : Type 0 where
+  pub cause : HasCleanDisk new → IsTrue old.is_open → old.step_limit ≡ None → (t : Tables) → HasRows (rows_of t) old.now → CanStand (rows_of t) → CanStand (rows_of (applied change t)) → HasRoom (rows_in change) old.now.trees → IsCaused old new fault
