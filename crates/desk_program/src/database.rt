@@ -7,7 +7,7 @@ use crate::input::{bytes_at, require_file};
 use crate::progress::Step;
 use crate::scripts::{self, Course};
 use crate::trouble::{trouble_at, trouble_of};
-use crate::{looking, progress, serving, summaries};
+use crate::{blocks, looking, progress, serving, summaries};
 use desk_base::{Items, Profile, Text};
 use desk_line::{FileCall, Listed};
 use desk_model::Query;
@@ -348,6 +348,7 @@ fn work_in(rt: &HostRuntime, path: &str, work: Work<'_>) -> Result<u8, Failure> 
 
 // Has the desk in a file do a task.
 fn do_in(rt: &HostRuntime, path: &str, task: Task<'_>) -> Result<u8, Failure> {
+    blocks::keep_large(rt.alloc());
     work_in(rt, path, Work::Do(task))
 }
 

@@ -5,6 +5,7 @@
 //! give 2, and want of memory or a failing file or stream gives 3.
 #![tactic(auto)]
 
+mod blocks;
 mod database;
 mod differences;
 mod input;
@@ -31,9 +32,6 @@ use std::process::ExitCode;
 use std::{env, io};
 
 const USAGE: u8 = 2;
-
-/// The bytes of a block larger than any that one request takes.
-const LARGE_BYTES: usize = 16_777_216;
 
 /// Does what the words ask for, and answers the status. What takes long is told on standard error
 /// where that is watched.
@@ -65,17 +63,6 @@ fn untold(rt: &impl Eprint, error: io::Error) -> Result<u8, Failure> {
     }
 }
 
-/// Has the memory of large blocks kept for the next ones. The C library gives the pages of a freed
-/// block back to the system, and to take new ones costs more than to fill them; but a block below
-/// the largest that was freed so far leaves its pages where they are. So the first turn is for the
-/// size, and the second leaves its room where blocks can grow in place.
-fn keep_large_blocks(alloc: Global) {
-    for _ in 0..2 {
-        let block: Result<Vec<u8>, AllocError> = Vec::with_capacity(alloc, LARGE_BYTES);
-        drop(block);
-    }
-}
-
 /// Judges a choice of terms.
 fn check<R: Print>(
     rt: &R,
@@ -96,7 +83,7 @@ fn check<R: Print>(
 
 /// Replies to the requests of standard input on a desk in memory.
 fn script_in_memory(rt: &HostRuntime, alloc: Global, course: Course) -> Result<u8, Failure> {
-    keep_large_blocks(alloc);
+    blocks::keep_large(alloc);
     // The process ends with the script, so the desk is left to the system and not freed row by row.
     let mut desk = ManuallyDrop::new(MemDesk::new(alloc, Standard));
     let mut writer = BufWriter::new(alloc, io::writer(rt))?;
