@@ -1,10 +1,10 @@
 //! The desk in a SQL database.
 //!
 //! `SqlStore` is a store of rows over a connection: it looks them up by `desk_sql_lookup`, writes a
-//! change by `desk_sql_write`, and keeps in its own value how many rows some tables have, the forms
-//! of the catalogue in force and the tallies of the releases (`specs/Counting.antt`). What look-ups
-//! ask for again is kept once it was found: how many references of one document are adopted, and
-//! the releases that hold a choice (`Found`, `specs/Holding.antt`).
+//! change by `desk_sql_commit`, and keeps in its own value how many rows some tables have, the
+//! forms of the catalogue in force and the tallies of the releases (`specs/Counting.antt`). What
+//! look-ups ask for again is kept once it was found: how many references of one document are
+//! adopted, and the releases that hold a choice (`Found`, `specs/Holding.antt`).
 //!
 //! `SqlDesk` is the desk over such a store, with the reader of texts by their standards. `create`
 //! makes the tables of an empty desk in a database where nothing stands; `adopt_connection` takes a
@@ -12,8 +12,8 @@
 //! where they don't. `audit_connection` tells whether the tables are such as a desk's are, which
 //! `adopt_connection` asks first (`specs/Auditing.antt`). `into_connection` gives back a desk's
 //! connection. What each tells and leaves, also for a stop of the program, is said in
-//! `specs/Adopting.antt`. `snapshot`, `wanting` and `idle_documents` are what is looked at beside
-//! the answers.
+//! `specs/Adopting.antt`. `snapshot`, `wanting`, `idle_documents` and `sole_choices` are what is
+//! looked at beside the answers.
 #![tactic(auto)]
 
 mod adopt;
