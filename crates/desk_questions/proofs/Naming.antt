@@ -2,13 +2,16 @@
 use Rattle.std.proofs.Common.{◌≡◌, ◌∙◌, inl, inr, ℕ, ◌+◌, ◌<◌, Bool, true, false, cond, List, [], ◌∷◌, ◌++◌, length, take, get_or, Option, None, Some, sym, ap, refl, subst}
 use Rattle.std.specs.Prelude.{◌||◌, if◌then◌else◌}
 use Rattle.std.specs.List.{flat_map, list_any}
-use Rattle.std.specs.HashSet.{UpdatesBy, contains_by}
+use Rattle.std.specs.BTreeSet.{Updates, contains_by}
+use Rattle.std.specs.Cmp.Lexicographic.{slice_cmp}
+use Rattle.std.specs.Ordering.{nat_cmp}
 use Rattle.std.specs.Option.{option_map_or}
 use Rattle.std.specs.Str.{bytes_eq}
 use Rattle.std.proofs.lemmas.Bool.{cases_Bool, false≢true}
 use Rattle.std.proofs.lemmas.List.{append_assoc, append-nil, take_more}
 use Rattle.std.proofs.lemmas.List.Concat.{flat_map-append}
 use Rattle.std.proofs.lemmas.List.Folds.{list_any-append}
+use Rattle.std.proofs.lemmas.Map.Text.{is_eq-slice_cmp}
 use Rattle.std.proofs.lemmas.Slice.Eq.{bytes_eq-Decides}
 use denote.Ref.{Bor}
 use Rattle.desk_model.specs.Bills.{first_uses, is_same_text, texts_named}
@@ -109,12 +112,12 @@ put_texts w texts old new put met = λ xs are.
     record {
       uses = ap first_uses put ∙ both_uses old.texts.items xs texts are.uses are.same;
       same = λ x. ap (list_any (is_same_text x)) put ∙ both_any old.texts.items xs texts are.same x;
-      met = λ term is d. among_more xs texts (texts_named w d term.now) (are.met term (ap (contains_by (λ k. bytes_eq term.now k.now)) (sym met) ∙ is) d);
+      met = λ term is d. among_more xs texts (texts_named w d term.now) (are.met term (ap (contains_by (λ k. slice_cmp nat_cmp term.now k.now)) (sym met) ∙ is) d);
     }
 
 -- the term was met, once its texts are there
 pub met_more : (w : Readings) (d : ℕ) (term : Bor (List ℕ)) (old mid new : Named) → is_licence (main_text w d term.now) ≡ true
-    → new.texts.items ≡ mid.texts.items → UpdatesBy (λ x y. bytes_eq x.now y.now) (λ k. bytes_eq term.now k.now) mid.met new.met true
+    → new.texts.items ≡ mid.texts.items → Updates (λ x y. slice_cmp nat_cmp x.now y.now) mid.met new.met term true
     → Adds w (texts_named w d term.now) old mid → Adds w (texts_named w d term.now) old new
 met_more w d term old mid new is_anywhere put updates adds = λ xs are.
     let texts = texts_named w d term.now in
@@ -126,7 +129,7 @@ met_more w d term old mid new is_anywhere put updates adds = λ xs are.
         | inl same ↦ subst (λ (ts : List TextOf). AreAmong (xs ++ texts) ts)
             (sym (named_anywhere w d e term.now is_anywhere) ∙ ap (texts_named w e) ((bytes_eq-Decides term.now other.now).0 same))
             (among_last xs texts)
-        | inr differs ↦ had.met other (sym (updates.0 other ∙ ap (λ b. cond b true (is_met mid other)) differs) ∙ is) e
+        | inr differs ↦ had.met other (sym (updates.0 other ∙ ap (λ b. cond b true (is_met mid other)) (is_eq-slice_cmp term.now other.now ∙ differs)) ∙ is) e
       ];
     }
 

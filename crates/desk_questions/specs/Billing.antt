@@ -6,7 +6,6 @@ use Rattle.std.specs.Ordering.{nat_cmp, is_eq, on, then_cmp}
 use Rattle.std.specs.Cmp.Lexicographic.{slice_cmp}
 use Rattle.std.specs.BTreeSet.{BTreeSet}
 use Rattle.std.specs.BTreeSet as sorted
-use Rattle.std.specs.HashSet.{contains_by}
 use Rattle.std.specs.Str.{bytes_eq}
 use denote.Ref.{Bor}
 use Rattle.std.specs.declared.cmp.Ordering.{Ordering}
@@ -35,7 +34,7 @@ AreAmong xs texts = (x : TextOf) → list_any (is_same_text x) texts ≡ true �
 
 -- a term is among those that were met
 abbrev pub is_met : Named → Bor (List ℕ) → Bool
-is_met named term = contains_by (λ k. bytes_eq term.now k.now) named.met
+is_met named term = sorted.contains_by (λ k. slice_cmp nat_cmp term.now k.now) named.met
 
 -- these are the texts that terms named, as far as their first uses go
 pub record AreNamed (w : Readings) (xs : List TextOf) (named : Named) : Type 0 where

@@ -66,7 +66,7 @@ fn line_of(alloc: Global, terms: &[&FrozenRow], row: PackageRow) -> Result<BillL
 struct Parts {
     /// The line of each.
     lines: Items<BillLine>,
-    /// The texts that their terms name, in the order of first use.
+    /// Texts that their terms name: the first uses among them are those of all.
     named: Vec<TextOf>,
 }
 

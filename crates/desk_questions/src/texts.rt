@@ -21,7 +21,7 @@ use desk_base::{Items, Text};
 use desk_model::{BillText, Fault, FrozenRow, LicenceText, TextOf};
 use std::alloc::{AllocError, Global};
 use std::cmp::Ordering;
-use std::collections::{BTreeSet, HashSet};
+use std::collections::BTreeSet;
 
 /// The text of a term's reference, or else of its licence.
 fn main_text<T: Texts>(
@@ -51,7 +51,7 @@ fn is_licence(text: &TextOf) -> bool
     matches!(text, TextOf::Licence { .. })
 }
 
-/// Adds the texts that a term names. Whether it names them in each document.
+/// Adds the texts that a term names, and returns whether it names the same in each document.
 fn add_texts<T: Texts>(
     alloc: Global,
     texts: &T,
@@ -76,10 +76,10 @@ fn add_texts<T: Texts>(
 /// The texts that terms named.
 #[derive(Drop)]
 pub(crate) struct Named<'a> {
-    /// The texts in their order, without those that a term named again.
+    /// The texts in their order; of a term that was met, only those of its first use.
     pub(crate) texts: Vec<TextOf>,
     /// The terms that were met and name the same texts in each document.
-    met: HashSet<&'a str>,
+    met: BTreeSet<&'a str>,
 }
 
 impl<'a> Named<'a> {
@@ -88,7 +88,7 @@ impl<'a> Named<'a> {
     {
         Named {
             texts: Vec::new(alloc),
-            met: HashSet::new(alloc),
+            met: BTreeSet::new(alloc),
         }
     }
 }
