@@ -13,7 +13,7 @@
 //! - `request` reads the request that bytes begin with: a command or a query of the desk, or why
 //!   there is none. What a method, a target and a body ask for is a function of them
 //!   (`specs/Requests.antt`), over the table of routes.
-//! - `reply` is the reply to an outcome: its status, which `specs/OutcomeStatuses.antt` has by the
+//! - A reply to an outcome is its status, which `specs/OutcomeStatuses.antt` has by the
 //!   numbers of refusals, and as its body the JSON line of `desk_json`, or the notices or the table of
 //!   duties of `desk_report` if they are asked for (`specs/Replies.antt`).
 //! - `message_of` is what is written of a reply. Three of them take no memory: that there was none
@@ -54,7 +54,7 @@ pub use framing::{Awaited, Framing, frame};
 pub use paths::{part_at, path_of};
 pub use reading::{request, request_of};
 pub use receiving::{Received, ServeFault, receive};
-pub use replies::{Message, message_of, no_memory, no_store, no_text, reply};
+pub use replies::{Message, message_of, no_memory, no_store, no_text};
 pub use sending::send;
 pub use serving::{Served, serve_one, serve_with};
 pub use status::Status;

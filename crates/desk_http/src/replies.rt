@@ -107,21 +107,8 @@ fn content_of(alloc: Global, outcome: &Outcome, shape: Shape) -> Result<Content,
     Ok(Content { media_type, body })
 }
 
-/// The reply to an outcome: its status, and how it is written in a shape.
-pub fn reply(alloc: Global, outcome: &Outcome, shape: Shape) -> Result<Vec<u8>, AllocError>
-    ensures { IfOk result (λ text. text.items ≡ reply_bytes (told_of outcome.now shape)) }
-{
-    let content = content_of(alloc, outcome, shape)?;
-    reply_with(
-        alloc,
-        status_of(outcome),
-        content.media_type,
-        content.body.as_slice(),
-    )
-}
-
-/// The same in two parts.
-fn reply_in_parts(alloc: Global, outcome: &Outcome, shape: Shape) -> Result<Parts, AllocError>
+/// The reply to an outcome, in two parts: its status, and how it is written in a shape.
+fn reply(alloc: Global, outcome: &Outcome, shape: Shape) -> Result<Parts, AllocError>
     ensures { IfOk result (λ parts. parts.front.items ++ parts.rest.items
         ≡ reply_bytes (told_of outcome.now shape)) }
 {
@@ -187,7 +174,7 @@ fn outcome_message(alloc: Global, outcome: &Outcome, shape: Shape, is_get: bool)
     match outcome {
         Outcome::Failed(Fault::Memory) => Message::NoMemory,
         Outcome::Failed(Fault::Store(_)) => Message::NoStore,
-        Outcome::Answered(_) => match reply_in_parts(alloc, outcome, shape) {
+        Outcome::Answered(_) => match reply(alloc, outcome, shape) {
             Ok(parts) => Message::Made(status_of(outcome), parts.front, parts.rest),
             Err(_) => short_message(is_get),
         },

@@ -22,9 +22,9 @@ fn write_some<W: Write>(writer: &mut W, bytes: &[u8]) -> Result<usize, ServeFaul
     }
 }
 
-/// Writes bytes and flushes the writer, as `write_all` and `flush` do. After a fault of `write_all`
-/// nothing is known: here a front of the bytes was written then.
-pub fn send<W: Write>(writer: &mut W, bytes: &[u8]) -> Result<(), ServeFault>
+/// Writes bytes, as `write_all` does. After a fault of `write_all` nothing is known: here a front
+/// of the bytes was written then.
+fn write_whole<W: Write>(writer: &mut W, bytes: &[u8]) -> Result<(), ServeFault>
     ensures ok { OnOk result (Appends (W.contents writer.old) (W.contents writer.new) bytes.now) }
     ensures err { OnErr result
         (AppendsFront (W.contents writer.old) (W.contents writer.new) bytes.now) }
@@ -33,15 +33,26 @@ pub fn send<W: Write>(writer: &mut W, bytes: &[u8]) -> Result<(), ServeFault>
     let mut rest = bytes;
     for _ in 0..u64::MAX {
         if rest.is_empty() {
-            return match writer.flush() {
-                Ok(()) => Ok(()),
-                Err(_) => Err(ServeFault::Write),
-            };
+            return Ok(());
         }
         let taken = write_some(writer, rest)?;
         rest = &rest[taken..];
     }
     Err(ServeFault::Write)
+}
+
+/// Writes bytes and flushes the writer. After a fault a front of the bytes was written.
+pub fn send<W: Write>(writer: &mut W, bytes: &[u8]) -> Result<(), ServeFault>
+    ensures ok { OnOk result (Appends (W.contents writer.old) (W.contents writer.new) bytes.now) }
+    ensures err { OnErr result
+        (AppendsFront (W.contents writer.old) (W.contents writer.new) bytes.now) }
+    ensures fault { IfErr result (λ fault. fault ≡ ServeFault.Write) }
+{
+    write_whole(writer, bytes)?;
+    match writer.flush() {
+        Ok(()) => Ok(()),
+        Err(_) => Err(ServeFault::Write),
+    }
 }
 
 /// Writes bytes and others behind them, as `send` does: after a fault a front of both was written.
@@ -56,6 +67,6 @@ pub(crate) fn send_both<W: Write>(
         (front.now ++ rest.now)) }
     ensures fault { IfErr result (λ fault. fault ≡ ServeFault.Write) }
 {
-    send(writer, front)?;
+    write_whole(writer, front)?;
     send(writer, rest)
 }

@@ -1,7 +1,7 @@
 -- what is gone from the bytes is written
 use Rattle.std.proofs.Common.{◌≡◌, ℕ, List, ◌++◌}
 use Rattle.std.specs.Io.KnownBytes.{Appends}
-use Rattle.desk_http.proofs.sending.send.Given as goal
+use Rattle.desk_http.proofs.sending.write_whole.Given as goal
 
 abbrev pub invariant-loop : goal.invariant-loop
 invariant-loop g l = record {

@@ -1,7 +1,7 @@
 use Rattle.std.proofs.Common.{◌++◌, take}
 use Rattle.std.proofs.KnownBytes.{Appends-trans}
 use Rattle.desk_http.proofs.Fronts.{front_moved}
-use Rattle.desk_http.proofs.sending.send.Goals as goal
+use Rattle.desk_http.proofs.sending.write_whole.Goals as goal
 
 pub loop-preserved : goal.loop-preserved
 loop-preserved g c =
