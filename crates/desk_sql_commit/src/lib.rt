@@ -1,7 +1,7 @@
 //! A change of the desk's rows in a SQL database, written whole or not at all.
 //!
-//! `commit` writes a change of rows in one transaction, the only one of the desk that changes rows:
-//! all of it, or nothing. Its contract is the one that a store owes its decisions (`Wrote` of
+//! `commit` writes a change of rows in one transaction, the only one that writes what a command
+//! changes: all of it, or nothing. Its contract is the one that a store owes its decisions (`Wrote` of
 //! `desk_access`), over the tables that a database holds (`Holds` of `desk_sql_layout`).
 //! `commit_counted` does the same and takes a written change into the tallies of duties.
 //!

@@ -43,8 +43,8 @@ fn write<S: Alter>(alloc: Global, conn: &mut Connection<S>, change: &Change) -> 
 ///
 /// Where the disk was honest: after `Ok` a change that goes on from the rows is made, and a stop
 /// leaves the rows after it and no others; after `Err` the rows are as they were, and a stop may
-/// leave the change. `Memory` is told where the database found no memory, `Store` where it refused
-/// or can't hold the rows.
+/// leave the change. It is `Memory` if the database found no memory, `Store(Rows)` if
+/// the tables can't hold the change, of which nothing is tried then, else `Store(Database)`.
 pub fn commit<S: Alter>(
     alloc: Global,
     conn: &mut Connection<S>,

@@ -32,7 +32,8 @@ IsSmall (Blob bytes) = length bytes ≤ 10 ^ 8
 abbrev pub AreSmall : (ℕ → List Row) → Type 0
 AreSmall rows = AllByRecursion (λ t. AllByRecursion (AllByRecursion IsSmall) (rows t.tree)) desk_schema.tables
 
--- where a row's cells have what a stored row has, whose first value is its rowid; the rowid itself is the number in the first cell
+-- The places of a key count from the rowid, which is place 0; the cells of a row have none, so place p is cell p - 1. A key has place 0
+-- only where the rowid is the number in the first cell, and that is cell 0 too.
 abbrev pub in_cells : List ℕ → List ℕ
 in_cells = map (λ place. place - 1)
 
@@ -64,7 +65,7 @@ pub record HasRoom (n : ℕ) (trees : Trees) : Type 0 where
 abbrev pub RanInto : List ℕ → Row → State → State → Fault → Type 0
 RanInto sql params old new fault = HasCleanDisk new → IsTrue old.in_transaction → (e : Error) × (fault ≡ fault_by e) × ExecutesInside 0 sql params old new (Err e)
 
--- no memory is left, or the disk failed once more
+-- the fault is Memory, of which nothing more is known, or one of the database, and the disk failed once more
 abbrev pub IsCaused : State → State → Fault → Type 0
 IsCaused old new fault = (fault ≡ Memory) ⊎ ((fault ≡ Store DatabaseFault) × MoreFaults old.faults new.faults)
 
