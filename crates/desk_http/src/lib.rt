@@ -16,8 +16,9 @@
 //! - A reply to an outcome is its status, which `specs/OutcomeStatuses.antt` has by the
 //!   numbers of refusals, and as its body the JSON line of `desk_json`, or the notices or the table of
 //!   duties of `desk_report` if they are asked for (`specs/Replies.antt`).
-//! - `message_of` is what is written of a reply. Three of them take no memory: that there was none
-//!   for a request, or for the text of a reply, and that the store failed.
+//! - `message_of` is what is written of a reply, in two parts: a long body isn't copied behind its
+//!   head. Three replies take no memory: that there was none for a request, or for the text of a
+//!   reply, and that the store failed.
 //! - `serve_one` reads a request, has the desk answer it and writes the reply
 //!   (`specs/Serving.antt`). What it replies depends on the bytes alone, however they were cut.
 //!   Nothing is written where no byte came. `serve_with` is the same for one connection of many,

@@ -1,8 +1,8 @@
 //! Laws of the alternatives of a licence expression (SPDX 2.3, Annex D) and of its cheapest choice,
 //! each the contract of a function with an empty body.
 //!
-//! The calls of `desk_alts` may answer want of memory, so their contracts say what a listing and a
-//! cheapest choice are, and not that there are any. Here it is said of the definitions alone: each
+//! `alternatives` and `cheapest` may answer that no memory is left, so their contracts say what a
+//! listing and a cheapest choice are, and not that there are any. Here it is said of the definitions alone: each
 //! tree has one list of its distinct terms (`AreTermsOf`); it has one list of its minimal sets
 //! (`AreAlternatives`), and either can be listed or has a fault, never both; and each has one
 //! cheapest set (`IsCheapest`) or none with costs, whatever its terms cost. All of it is
