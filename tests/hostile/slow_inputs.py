@@ -141,6 +141,11 @@ def small_keys():
     return 'forms = ["a"]\n' + "".join(f"k{n}=1\n" for n in range(420_000))
 
 
+def deep_tables():
+    table = "{a=" * 75 + "1" + "}" * 75
+    return full('forms = ["a"]\nx = [', table + ",") + "]\n"
+
+
 def long_list():
     return full('forms = ["a"]\nx = [', "1,") + "]\n"
 
@@ -231,6 +236,11 @@ def nested():
     return full("", '{"a":[', 8 * MIB - 10)
 
 
+def deep_objects():
+    value = '{"":' * 124 + "1" + "}" * 124
+    return "[" + ",".join([value] * ((8 * MIB - 100) // (len(value) + 1))) + "]"
+
+
 # ---- requests of HTTP: the words name what is sent, and how
 
 
@@ -291,6 +301,7 @@ SLOW = {
     "catalogue: four million lists in one another": loaded(nested_lists),
     "catalogue: a million tables in one another": loaded(nested_tables),
     "catalogue: 420,000 keys": loaded(small_keys),
+    "catalogue: tables of one key, 75 in one another": loaded(deep_tables),
     "catalogue: a list of two million numbers": loaded(long_list),
     "pattern: `**a*` before 996 bytes, one long path": pattern("**a*" + "a" * 995 + "b", 1),
     "pattern: `**a*` before 996 bytes, 100 long paths": pattern("**a*" + "a" * 995 + "b", 100),
@@ -306,6 +317,7 @@ SLOW = {
     "JSON: a key a million times": json_line(one_key_again),
     "JSON: 1.4 million escapes": json_line(escapes),
     "JSON: a million objects in one another": json_line(nested),
+    "JSON: objects of one key, 124 in one another": json_line(deep_objects),
     "HTTP: a head of 16,384 bytes, one by one": head_in_bytes,
     "HTTP: 16,384 bytes of line ends, one by one": line_ends,
     "HTTP: an import of 1.4 million fields": large_body,
