@@ -41,6 +41,17 @@ impl Text {
     }
 }
 
+impl From<String> for Text {
+    ghost use Rattle.std.specs.Prelude.{◌≡◌};
+    ghost use Rattle.std.specs.String.{string_bytes};
+
+    ghost from_gives = { λ text made. made ≡ string_bytes text };
+
+    fn from(text: String) -> Text {
+        Text { text }
+    }
+}
+
 impl Clone for Text {
     ghost is_clone = { λ a b. b ≡ a };
 

@@ -7,3 +7,4 @@ pub mod PrintedLemmas
 pub mod OrderLaws
 pub mod Sought
 mod StandOnce
+mod TakenLemmas

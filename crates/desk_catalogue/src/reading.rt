@@ -18,13 +18,13 @@ use desk_model::CatalogueFault;
 use std::alloc::{AllocError, Global};
 use toml::Table;
 
-// The catalogue of a table, or the first fault.
+// The catalogue of a table, or the first fault. The table's texts are taken.
 fn catalogue_of_table(
     alloc: Global,
-    table: &Table,
+    table: &mut Table,
 ) -> Result<Result<Catalogue, CatalogueFault>, AllocError>
     ensures { (terms : List ℕ → Option (List ℕ)) → ReadsTerms terms
-        → IfOk result (λ read. read ≡ catalogue_of_table terms (table_view table.now)) }
+        → IfOk result (λ read. read ≡ catalogue_of_table terms (table_view table.old)) }
 {
     let forms = match forms_of(alloc, table)? {
         Ok(forms) => forms,
@@ -39,12 +39,12 @@ fn catalogue_of_table(
         Ok(rules) => rules,
         Err(fault) => return Ok(Err(fault)),
     };
+    let rules = rules_in(alloc, rules)?;
+    let forms = known.into_forms();
     let texts = match texts_of(alloc, table)? {
         Ok(texts) => texts,
         Err(fault) => return Ok(Err(fault)),
     };
-    let rules = rules_in(alloc, rules)?;
-    let Known { forms, duties: _ } = known;
     Ok(Ok(Catalogue {
         forms,
         rules,
@@ -64,7 +64,7 @@ impl Catalogue {
         if text.len() > limits::CATALOGUE_BYTES {
             return Err(CatFault::Refused(CatalogueFault::TooLarge));
         }
-        let table = match toml::table_from_str(alloc, text) {
+        let mut table = match toml::table_from_str(alloc, text) {
             Ok(table) => table,
             Err(error) => {
                 if error.is_memory() {
@@ -73,7 +73,7 @@ impl Catalogue {
                 return Err(CatFault::Refused(CatalogueFault::NotToml));
             }
         };
-        match catalogue_of_table(alloc, &table) {
+        match catalogue_of_table(alloc, &mut table) {
             Ok(Ok(catalogue)) => Ok(catalogue),
             Ok(Err(fault)) => Err(CatFault::Refused(fault)),
             Err(error) => Err(CatFault::Memory(error)),

@@ -35,6 +35,16 @@ pub(crate) struct Known<'a> {
     pub(crate) duties: BTreeSet<&'a str>,
 }
 
+impl<'a> Known<'a> {
+    /// The forms, which borrow nothing of the table.
+    pub(crate) fn into_forms(self) -> Items<Text>
+        ensures { result ≡ self.entry.forms }
+    {
+        let Known { forms, duties: _ } = self;
+        forms
+    }
+}
+
 // The texts of a rule, where each of its keys has a value of its kind.
 fn rule_written(
     alloc: Global,

@@ -1,6 +1,7 @@
 //! The values of a catalogue's tables.
 
-ghost use Rattle.std.specs.Prelude.{◌≡◌, IfOk, option_map, map};
+ghost use Rattle.std.specs.Prelude.{◌≡◌, ℕ, List, IfOk, false, option_map, map};
+ghost use Rattle.std.specs.Str.{bytes_eq};
 ghost use Rattle.toml.specs.Data.{get_member};
 ghost use Rattle.toml.specs.View.{view, table_view, items_view};
 ghost use Rattle.desk_expr.specs.Words.{begins_like_reference};
@@ -15,6 +16,15 @@ pub(crate) fn member<'a>(table: &'a Table, key: &str) -> Option<&'a Value>
     ensures { option_map (λ v. view v.now) result ≡ get_member key.now (table_view table.now) }
 {
     table.get(key)
+}
+
+/// Takes the value at a key out of a table.
+pub(crate) fn take_member(table: &mut Table, key: &str) -> Option<Value>
+    ensures value { option_map view result ≡ get_member key.now (table_view table.old) }
+    ensures others { (other : List ℕ) → bytes_eq key.now other ≡ false
+        → get_member other (table_view table.new) ≡ get_member other (table_view table.old) }
+{
+    table.remove(key)
 }
 
 fn is_id(text: &str) -> bool

@@ -1,4 +1,4 @@
-use Rattle.std.proofs.Common.{◌∙◌, ap, subst, codes, Ok}
+use Rattle.std.proofs.Common.{◌∙◌, subst, codes, Ok}
 use Rattle.toml.specs.Data.{get_member}
 use Rattle.toml.specs.View.{table_view}
 use Rattle.desk_catalogue.specs.Reading.{forms_of, duties_of, rules_of, licence_texts_of}
@@ -36,5 +36,5 @@ returns c = λ terms h.
     let has_duties = subst (Gives (duties_of (get_member (codes "duty") ms)) codes_in) c.in-Ok-2.is c.in_ok-duties.ensures in
     let has_rules = subst (Gives (rules_of terms forms duties (get_member (codes "rule") ms)) rules_in) c.in-Ok-3.is (c.in_ok-rules.ensures terms h) in
     let has_texts = subst (Gives (licence_texts_of (get_member (codes "text") ms)) (λ texts. texts)) c.in-Ok-4.is c.in_ok-texts.ensures in
-    ap (λ rules. Ok (record { forms = forms; rules = rules; texts = c.in-Ok-4.texts })) c.in_ok-rules-2.ensures
+    (λ i. Ok (record { forms = c.into_forms-forms.ensures i; rules = c.in_ok-rules-2.ensures i; texts = c.in-Ok-4.texts }))
     ∙ catalogue_found terms ms forms duties has_forms has_duties (rules_in c.in-Ok-3.rules) has_rules c.in-Ok-4.texts has_texts

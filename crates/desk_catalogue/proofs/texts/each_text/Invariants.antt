@@ -1,9 +1,9 @@
-use Rattle.std.proofs.Common.{◌≡◌, drop, []}
+use Rattle.std.proofs.Common.{◌≡◌, [], length}
 use Rattle.toml.specs.View.{items_view}
 use Rattle.desk_catalogue.specs.Reading.{each, with_text}
 use Rattle.desk_catalogue.specs.Shown.{HasIds}
 use Rattle.desk_catalogue.proofs.texts.each_text.Given as goal
 
 -- the texts so far, with those of the rest, are those of all, and the set has the ids so far
-abbrev pub invariant-loop-i : goal.invariant-loop-i
-invariant-loop-i l = (each with_text l.texts l.i (items_view (drop l.i l.values)) ≡ each with_text [] 0 (items_view l.values)) × HasIds l.texts l.seen
+abbrev pub invariant-loop-value : goal.invariant-loop-value
+invariant-loop-value l = (each with_text l.texts (length l.texts) (items_view l.value-iterator.rest.items) ≡ each with_text [] 0 (items_view l.fn.values.items)) × HasIds l.texts l.seen
