@@ -19,17 +19,11 @@ pub trait Texts {
     /// A licence expression that was read.
     type Expression: Drop;
 
-    /// A catalogue that was read for its texts of licences.
-    type Licences: Drop;
-
     /// The readings that give each text what it says.
     ghost are_right: { Readings → Type 0 };
 
     /// An expression is the one that a text is by a profile of operators.
     ghost is_of: { Profile → List ℕ → Self.Expression → Type 0 };
-
-    /// These are the texts of licences that a reading finds in the catalogue that a text is.
-    ghost are_in: { Readings → List ℕ → Self.Licences → Type 0 };
 
     /// The catalogue that a text is, or its fault.
     fn catalogue(
@@ -77,19 +71,16 @@ pub trait Texts {
         ensures { (w : Readings) → are_right w
             → IfOk result (λ exception. exception ≡ w.exception term.now) };
 
-    /// The texts of licences in the catalogue that a text is; none where it is no catalogue.
-    fn licences(&self, alloc: Global, text: &str) -> Result<Self::Licences, AllocError>
-        ensures { (w : Readings) → are_right w → IfOk result (are_in w text.now) };
-
-    /// The text of a licence or an exception among these, by its id.
-    fn licence_text(
+    /// The texts of licences and exceptions in the catalogue that a text is, by their ids: a place
+    /// for each id, and none where the text is no catalogue.
+    fn licence_texts(
         &self,
         alloc: Global,
-        licences: &Self::Licences,
-        id: &str,
-    ) -> Result<Option<LicenceText>, AllocError>
-        ensures { (w : Readings) → are_right w → (text : List ℕ) → are_in w text licences.now
-            → IfOk result (λ found. found ≡ w.licence_text text id.now) };
+        text: &str,
+        ids: &[&str],
+    ) -> Result<Items<Option<LicenceText>>, AllocError>
+        ensures { (w : Readings) → are_right w → IfOk result (λ found.
+            found ≡ map (λ id. w.licence_text text.now id.now) ids.now) };
 
     /// The licence expression that a text is, if it is one.
     fn expression(

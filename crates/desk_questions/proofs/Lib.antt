@@ -4,3 +4,4 @@ mod Bills
 mod Uses
 pub mod InTurn
 mod Naming
+mod Bodies

@@ -1,10 +1,13 @@
 -- What the bill of a release is made of, over looked-up rows.
-use Rattle.std.specs.Prelude.{◌≡◌, ⊤, ℕ, ◌+◌, Bool, true, false, List, ◌++◌, Option, Some, None}
+use Rattle.std.specs.Prelude.{◌≡◌, ℕ, ◌+◌, Bool, true, false, List, [], ◌∷◌, ◌++◌, map, Option}
 use Rattle.std.specs.List.{list_any}
 use Rattle.std.specs.Option.{option_map_or, option_and_then}
 use Rattle.std.specs.Ordering.{nat_cmp, is_eq, on, then_cmp}
 use Rattle.std.specs.Cmp.Lexicographic.{slice_cmp}
 use Rattle.std.specs.BTreeSet.{BTreeSet}
+use Rattle.std.specs.Vec.Iter.{into_iter_items}
+use Rattle.std.specs.declared.vec.IntoIter.{IntoIter}
+use Rattle.std.specs.declared.alloc.Global.{Global}
 use Rattle.std.specs.BTreeSet as sorted
 use Rattle.std.specs.Str.{bytes_eq}
 use denote.Ref.{Bor}
@@ -59,15 +62,18 @@ key_order = then_cmp (on (λ k. k.document) nat_cmp) (on (λ k. k.name) (slice_c
 abbrev pub HasTexts : List TextOf → BTreeSet TextKey → Type 0
 HasTexts texts seen = (key : TextKey) → sorted.contains_by (key_order key) seen ≡ list_any (λ text. is_eq (key_order key (text_key text))) texts
 
--- these are the texts of licences of a catalogue, if there is one
-abbrev pub AreIn : {L : Type 0} → (Readings → List ℕ → L → Type 0) → Readings → Option (List ℕ) → Option L → Type 0
-AreIn are_in w None None = ⊤
-AreIn are_in w (Some text) (Some licences) = are_in w text licences
-AreIn are_in w _ _ = ⊥
-
 -- the text of a licence or an exception in a catalogue, if there is one
 abbrev pub licence_found : Readings → Option (List ℕ) → List ℕ → Option LicenceText
 licence_found w catalogue id = option_and_then (λ text. w.licence_text text id) catalogue
+
+-- the id of a licence or an exception that a text is of
+abbrev pub licence_ids : TextOf → List (List ℕ)
+licence_ids (Licence id) = id ∷ []
+licence_ids (Reference d reference) = []
+
+-- the texts of these ids in a catalogue are left of those that were found
+abbrev pub AreLeft : Readings → Option (List ℕ) → List (List ℕ) → IntoIter (Option LicenceText) Global → Type 0
+AreLeft w catalogue ids left = into_iter_items left ≡ map (licence_found w catalogue) ids
 
 -- the line of a package with the rules of its terms
 abbrev pub line_with : List (List ℕ) → PackageRow → BillLine

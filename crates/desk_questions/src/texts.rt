@@ -1,7 +1,7 @@
 //! The texts that go with a frozen release: those that its terms name, in the order of first use,
 //! each once.
 
-ghost use Rattle.std.specs.Prelude.{◌≡◌, ◌++◌, [], ℕ, List, Option, IfOk, IfErr, OnOk, map};
+ghost use Rattle.std.specs.Prelude.{◌≡◌, ◌++◌, [], ℕ, List, Option, None, IfOk, IfErr, OnOk, map};
 ghost use Rattle.std.specs.List.{flat_map};
 ghost use Rattle.std.specs.Option.{option_map_or};
 ghost use Rattle.std.specs.Ordering.{nat_cmp, on, then_cmp, as_partial_cmp};
@@ -13,7 +13,7 @@ ghost use Rattle.desk_model.specs.Readings.{Readings};
 ghost use Rattle.desk_model.specs.Bills.{bill_text, first_uses, licence_bill, revision_text, texts_named};
 ghost use Rattle.desk_model.specs.Faults.{MayFail};
 ghost use Rattle.desk_access.specs.Seen.{Looked, OfRows};
-ghost use Rattle.desk_questions.specs.Billing.{Adds, AreIn, AreNamed, is_licence, licence_found, main_text, text_key};
+ghost use Rattle.desk_questions.specs.Billing.{Adds, AreLeft, AreNamed, is_licence, licence_found, licence_ids, main_text, text_key};
 
 use desk_access::store::Store;
 use desk_access::texts::Texts;
@@ -22,6 +22,7 @@ use desk_model::{BillText, Fault, FrozenRow, LicenceText, TextOf};
 use std::alloc::{AllocError, Global};
 use std::cmp::Ordering;
 use std::collections::BTreeSet;
+use std::vec::IntoIter;
 
 /// The text of a term's reference, or else of its licence.
 fn main_text<T: Texts>(
@@ -201,40 +202,67 @@ pub(crate) fn first_uses(alloc: Global, named: Vec<TextOf>) -> Result<Vec<TextOf
     Ok(uses)
 }
 
-/// The texts of licences in a revision of the catalogue, if there is one.
-fn licences_of<T: Texts, S: Store>(
+/// The ids of licences and exceptions among texts.
+fn licence_ids(alloc: Global, uses: &[TextOf]) -> Result<Vec<&str>, AllocError>
+    ensures { IfOk result (λ ids. map (λ id. id.now) ids.items ≡ flat_map licence_ids uses.now) }
+{
+    let mut ids = Vec::new(alloc);
+    for text in uses {
+        if let TextOf::Licence { id } = text {
+            ids.push(id.as_str())?;
+        }
+    }
+    Ok(ids)
+}
+
+/// So many places without a text.
+fn no_texts(alloc: Global, ids: &[&str]) -> Result<Items<Option<LicenceText>>, AllocError>
+    ensures { IfOk result (λ found. found ≡ map (λ _. None) ids.now) }
+{
+    let mut found = Items::new(alloc);
+    for _ in ids {
+        found.push(None)?;
+    }
+    Ok(found)
+}
+
+/// The texts of these ids by a revision of the catalogue, a place for each.
+fn licences_found<T: Texts, S: Store>(
     alloc: Global,
     texts: &T,
     store: &mut S,
     revision: u64,
-) -> Result<Option<T::Licences>, Fault>
-    ensures found { (w : Readings) → T.are_right w → IfOk result (λ licences.
-        OfRows (λ t. AreIn T.are_in w (revision_text t.catalogue revision) licences)
+    ids: &[&str],
+) -> Result<Items<Option<LicenceText>>, Fault>
+    ensures found { (w : Readings) → T.are_right w → IfOk result (λ found. OfRows (λ t.
+        found ≡ map (λ id. licence_found w (revision_text t.catalogue revision) id.now) ids.now)
         (S.seen store.old) (S.seen store.new)) }
     ensures kept { Looked (S.seen store.old) (S.seen store.new) result }
     ensures fault { IfErr result (MayFail S.tells) }
 {
     match store.catalogue_text(revision)? {
-        Some(text) => Ok(Some(texts.licences(alloc, text.as_str())?)),
-        None => Ok(None),
+        Some(text) => Ok(texts.licence_texts(alloc, text.as_str(), ids)?),
+        None => Ok(no_texts(alloc, ids)?),
     }
 }
 
-/// The text of a licence or an exception.
-fn licence_found<T: Texts>(
+/// The texts of the licences and exceptions among these, in their order.
+fn licence_texts<T: Texts, S: Store>(
     alloc: Global,
     texts: &T,
-    licences: &Option<T::Licences>,
-    id: &Text,
-) -> Result<Option<LicenceText>, AllocError>
-    ensures { (w : Readings) → T.are_right w → (catalogue : Option (List ℕ))
-        → AreIn T.are_in w catalogue licences.now
-        → IfOk result (λ found. found ≡ licence_found w catalogue id.now) }
+    store: &mut S,
+    revision: u64,
+    uses: &[TextOf],
+) -> Result<Items<Option<LicenceText>>, Fault>
+    ensures found { (w : Readings) → T.are_right w → IfOk result (λ found. OfRows (λ t.
+        found ≡ map (licence_found w (revision_text t.catalogue revision))
+        (flat_map licence_ids uses.now))
+        (S.seen store.old) (S.seen store.new)) }
+    ensures kept { Looked (S.seen store.old) (S.seen store.new) result }
+    ensures fault { IfErr result (MayFail S.tells) }
 {
-    match licences {
-        Some(licences) => texts.licence_text(alloc, licences, id.as_str()),
-        None => Ok(None),
-    }
+    let ids = licence_ids(alloc, uses)?;
+    licences_found(alloc, texts, store, revision, ids.as_slice())
 }
 
 fn licence_bill(id: Text, found: Option<LicenceText>) -> BillText
@@ -252,23 +280,23 @@ fn licence_bill(id: Text, found: Option<LicenceText>) -> BillText
     }
 }
 
-fn bill_text<T: Texts, S: Store>(
-    alloc: Global,
-    texts: &T,
+/// A text with its body: that of a licence or an exception is the next of those that were found.
+fn bill_text<S: Store>(
     store: &mut S,
-    licences: &Option<T::Licences>,
+    licences: &mut IntoIter<Option<LicenceText>>,
     text: TextOf,
 ) -> Result<BillText, Fault>
-    ensures found { (w : Readings) → T.are_right w → (catalogue : Option (List ℕ))
-        → AreIn T.are_in w catalogue licences.now → IfOk result (λ found.
-        OfRows (λ t. found ≡ bill_text w catalogue t.extracted text) (S.seen store.old)
-        (S.seen store.new)) }
+    ensures found { (w : Readings) (catalogue : Option (List ℕ)) (ids : List (List ℕ))
+        → AreLeft w catalogue (licence_ids text ++ ids) licences.old
+        → IfOk result (λ found. AreLeft w catalogue ids licences.new
+        × OfRows (λ t. found ≡ bill_text w catalogue t.extracted text)
+        (S.seen store.old) (S.seen store.new)) }
     ensures kept { Looked (S.seen store.old) (S.seen store.new) result }
     ensures fault { IfErr result (MayFail S.tells) }
 {
     match text {
         TextOf::Licence { id } => {
-            let found = licence_found(alloc, texts, licences, &id)?;
+            let found = licences.next().flatten();
             Ok(licence_bill(id, found))
         }
         TextOf::Reference {
@@ -285,23 +313,24 @@ fn bill_text<T: Texts, S: Store>(
 }
 
 #[tactic(auto, using(desk_access::proofs::Chains::same_then_kept, desk_access::proofs::Chains::same_then_same))]
-fn bill_texts<T: Texts, S: Store>(
+fn bill_texts<S: Store>(
     alloc: Global,
-    texts: &T,
     store: &mut S,
-    licences: &Option<T::Licences>,
+    licences: Items<Option<LicenceText>>,
     uses: Vec<TextOf>,
 ) -> Result<Items<BillText>, Fault>
-    ensures found { (w : Readings) → T.are_right w → (catalogue : Option (List ℕ))
-        → AreIn T.are_in w catalogue licences.now → IfOk result (λ found.
+    ensures found { (w : Readings) (catalogue : Option (List ℕ))
+        → licences ≡ map (licence_found w catalogue) (flat_map licence_ids uses.items)
+        → IfOk result (λ found.
         OfRows (λ t. found ≡ map (bill_text w catalogue t.extracted) uses.items)
         (S.seen store.old) (S.seen store.new)) }
     ensures kept { Looked (S.seen store.old) (S.seen store.new) result }
     ensures fault { IfErr result (MayFail S.tells) }
 {
     let mut bodies = Items::new(alloc);
+    let mut licences = licences.into_vec().into_iter();
     for text in uses {
-        let body = bill_text(alloc, texts, store, licences, text)?;
+        let body = bill_text(store, &mut licences, text)?;
         bodies.push(body)?;
     }
     Ok(bodies)
@@ -322,6 +351,6 @@ pub(crate) fn bill_texts_of<T: Texts, S: Store>(
     ensures kept { Looked (S.seen store.old) (S.seen store.new) result }
     ensures fault { IfErr result (MayFail S.tells) }
 {
-    let licences = licences_of(alloc, texts, store, revision)?;
-    bill_texts(alloc, texts, store, &licences, uses)
+    let licences = licence_texts(alloc, texts, store, revision, uses.as_slice())?;
+    bill_texts(alloc, store, licences, uses)
 }

@@ -5,3 +5,4 @@ pub mod Orders
 pub mod Halving
 mod Verdicts
 mod ByIds
+mod Taking

@@ -1,12 +1,11 @@
 -- What the desk keeps of a catalogue: the forms and the rules, of which it makes its rows. The texts of licences are for reports.
-use Rattle.std.specs.Prelude.{◌≡◌, ℕ, List, Option, Result, Ok, Err}
+use Rattle.std.specs.Prelude.{◌≡◌, ℕ, List, Option, Some, None, Result, Ok, Err, map, slice_get}
 use Rattle.std.specs.Option.{option_map, option_and_then}
 use Rattle.std.specs.Result.{result_ok}
 use Rattle.std.specs.Ordering.{nat_cmp}
 use Rattle.std.specs.Cmp.Lexicographic.{slice_cmp}
 use Rattle.std.specs.BTreeMap.{BTreeMap, get_by}
 use Rattle.desk_base.specs.Folded.{folded}
-use Rattle.desk_model.specs.Readings.{Readings}
 use Rattle.desk_model.specs.declared.reading.Catalogue.{Catalogue}
 use Rattle.desk_model.specs.declared.reading.LicenceText.{LicenceText}
 use Rattle.desk_model.specs.declared.refusal.CatalogueFault.{CatalogueFault}
@@ -14,7 +13,7 @@ use Rattle.desk_catalogue.specs.Lookup.{text_for}
 use Rattle.desk_catalogue.specs.Reading.{catalogue_of}
 use Rattle.desk_catalogue.specs.declared.catalogue.Catalogue.{Catalogue as WholeCatalogue}
 use Rattle.desk_catalogue.specs.declared.catalogue.LicenceText.{LicenceText as WholeText}
-use Rattle.desk_texts.specs.declared.licences.Licences.{Licences}
+use Rattle.desk_texts.specs.declared.licences.Taken.{Taken}
 
 abbrev pub kept_catalogue : Result WholeCatalogue CatalogueFault → Result Catalogue CatalogueFault
 kept_catalogue (Ok catalogue) = Ok (record { forms = catalogue.forms; rules = catalogue.rules })
@@ -36,6 +35,12 @@ licence_text_in read id = option_and_then (found_text id) (result_ok read)
 abbrev pub text_in : BTreeMap (List ℕ) LicenceText → List ℕ → Option LicenceText
 text_in texts id = get_by (slice_cmp nat_cmp (folded id)) texts
 
--- these are the texts of the catalogue that a text is by a reading of terms; none where it is no catalogue
-abbrev pub AreLicences : Readings → List ℕ → Licences → Type 0
-AreLicences w text licences = (id : List ℕ) → text_in licences.texts id ≡ licence_text_in (catalogue_of w.term text) id
+-- the place that a map has for an id in any case, by ids in small letters
+abbrev pub place_in : BTreeMap (List ℕ) ℕ → List ℕ → Option ℕ
+place_in places id = get_by (slice_cmp nat_cmp (folded id)) places
+
+-- These texts were taken for these ids: each that has a place stands there, and each other is left.
+pub record AreTaken (texts : List ℕ → Option LicenceText) (ids : List (List ℕ)) (taken : Taken) : Type 0 where
+  pub found : taken.found ≡ map texts ids
+  pub here : (id : List ℕ) (place : ℕ) → place_in taken.places id ≡ Some place → slice_get taken.found place ≡ Some (texts id)
+  pub left : (id : List ℕ) → place_in taken.places id ≡ None → text_in taken.left id ≡ texts id

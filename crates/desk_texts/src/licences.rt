@@ -1,23 +1,18 @@
 //! The texts of licences and exceptions in a catalogue.
 
-ghost use Rattle.std.specs.Prelude.{◌≡◌, ℕ, List, Option, IfOk, find};
+ghost use Rattle.std.specs.Prelude.{◌≡◌, ◌++◌, ◌∷◌, [], ℕ, List, Option, Some, None, IfOk, OnOk, find, map, slice_get};
 ghost use Rattle.std.specs.Option.{option_map};
+ghost use Rattle.desk_base.specs.Folded.{folded};
 ghost use Rattle.desk_catalogue.specs.Kept.{is_text_of};
 ghost use Rattle.desk_catalogue.specs.Reading.{catalogue_of};
 ghost use Rattle.desk_catalogue.specs.Terms.{ReadsTerms};
-ghost use Rattle.desk_texts.specs.Catalogues.{kept_text, licence_text_in, text_in};
+ghost use Rattle.desk_texts.specs.Catalogues.{AreTaken, kept_text, licence_text_in, place_in, text_in};
 
-use desk_base::Key;
+use desk_base::{Items, Key};
 use desk_catalogue::{CatFault, Catalogue};
 use desk_model::LicenceText;
 use std::alloc::{AllocError, Global};
 use std::collections::BTreeMap;
-
-/// The texts of licences and exceptions in a catalogue, by their ids in small letters.
-#[derive(Drop)]
-pub struct Licences {
-    pub texts: BTreeMap<Key, LicenceText>,
-}
 
 /// Texts by their ids: of those with the same id the first.
 fn by_id(
@@ -40,39 +35,96 @@ fn by_id(
     Ok(map)
 }
 
-/// The texts of the catalogue that a text is; none where it is no catalogue.
-pub(crate) fn licences_of(alloc: Global, text: &str) -> Result<Licences, AllocError>
-    ensures { (terms : List ℕ → Option (List ℕ)) → ReadsTerms terms
-        → IfOk result (λ licences. (id : List ℕ)
-        → text_in licences.texts id ≡ licence_text_in (catalogue_of terms text.now) id) }
+/// The texts of the catalogue that a text is, by their ids; none where it is no catalogue.
+fn licences_of(alloc: Global, text: &str) -> Result<BTreeMap<Key, LicenceText>, AllocError>
+    ensures { (terms : List ℕ → Option (List ℕ)) → ReadsTerms terms → IfOk result (λ texts.
+        (id : List ℕ) → text_in texts id ≡ licence_text_in (catalogue_of terms text.now) id) }
 {
     match Catalogue::read(alloc, text) {
         Ok(read) => {
             let Catalogue { texts, .. } = read;
-            let texts = by_id(alloc, texts.into_vec())?;
-            Ok(Licences { texts })
+            by_id(alloc, texts.into_vec())
         }
-        Err(CatFault::Refused(_)) => Ok(Licences {
-            texts: BTreeMap::new(alloc),
-        }),
+        Err(CatFault::Refused(_)) => Ok(BTreeMap::new(alloc)),
         Err(CatFault::Memory(error)) => Err(error),
     }
 }
 
-/// A copy of the text of a licence or an exception, by its id in any case.
-pub(crate) fn licence_text(
-    alloc: Global,
-    licences: &Licences,
-    id: &str,
-) -> Result<Option<LicenceText>, AllocError>
-    ensures { IfOk result (λ found. found ≡ text_in licences.now.texts id.now) }
+/// A copy of what stands at a place.
+fn copy_at(found: &[Option<LicenceText>], place: usize) -> Result<Option<LicenceText>, AllocError>
+    ensures { IfOk result (λ copy. (x : Option LicenceText) → slice_get found.now place ≡ Some x
+        → copy ≡ x) }
 {
-    let id = Key::folded(alloc, id)?;
-    match licences.texts.get(&id) {
-        Some(text) => Ok(Some(LicenceText {
+    match found.get(place) {
+        Some(Some(text)) => Ok(Some(LicenceText {
             title: text.title.clone()?,
             body: text.body.clone()?,
         })),
-        None => Ok(None),
+        _ => Ok(None),
     }
+}
+
+/// The texts that were found, and those that are left: each is taken where it is first asked for,
+/// since a body may be large, and copied from there where it is asked for again.
+#[derive(Drop)]
+pub(crate) struct Taken {
+    pub(crate) left: BTreeMap<Key, LicenceText>,
+    pub(crate) places: BTreeMap<Key, usize>,
+    pub(crate) found: Items<Option<LicenceText>>,
+}
+
+impl Taken {
+    /// Adds the text of an id that was asked for before, from its place.
+    fn copy(&mut self, place: usize) -> Result<(), AllocError>
+        ensures { (texts : List ℕ → Option LicenceText) (ids : List (List ℕ)) (id : List ℕ)
+            → AreTaken texts ids self.old → place_in self.old.places id ≡ Some place
+            → OnOk result (AreTaken texts (ids ++ id ∷ []) self.new) }
+    {
+        let text = copy_at(self.found.as_slice(), place)?;
+        self.found.push(text)
+    }
+
+    /// Adds the text of an id that wasn't.
+    fn take(&mut self, key: Key) -> Result<(), AllocError>
+        ensures { (texts : List ℕ → Option LicenceText) (ids : List (List ℕ)) (id : List ℕ)
+            → AreTaken texts ids self.old → key ≡ folded id → place_in self.old.places id ≡ None
+            → OnOk result (AreTaken texts (ids ++ id ∷ []) self.new) }
+    {
+        let text = self.left.remove(&key);
+        self.places.insert(key, self.found.as_slice().len())?;
+        self.found.push(text)
+    }
+
+    /// Adds the text of an id in any case.
+    fn add(&mut self, alloc: Global, id: &str) -> Result<(), AllocError>
+        ensures { (texts : List ℕ → Option LicenceText) (ids : List (List ℕ))
+            → AreTaken texts ids self.old → OnOk result
+            (AreTaken texts (ids ++ id.now ∷ []) self.new) }
+    {
+        let key = Key::folded(alloc, id)?;
+        match self.places.get(&key).copied() {
+            Some(place) => self.copy(place),
+            None => self.take(key),
+        }
+    }
+}
+
+/// The texts of licences and exceptions in the catalogue that a text is, by their ids in any case.
+pub(crate) fn licence_texts(
+    alloc: Global,
+    text: &str,
+    ids: &[&str],
+) -> Result<Items<Option<LicenceText>>, AllocError>
+    ensures { (terms : List ℕ → Option (List ℕ)) → ReadsTerms terms → IfOk result (λ found.
+        found ≡ map (λ id. licence_text_in (catalogue_of terms text.now) id.now) ids.now) }
+{
+    let mut taken = Taken {
+        left: licences_of(alloc, text)?,
+        places: BTreeMap::new(alloc),
+        found: Items::new(alloc),
+    };
+    for id in ids {
+        taken.add(alloc, *id)?;
+    }
+    Ok(taken.found)
 }

@@ -1,6 +1,5 @@
 //! The desk's reader of texts.
 
-ghost use Rattle.desk_texts.specs.Catalogues.{AreLicences};
 ghost use Rattle.desk_texts.specs.Expressions.{IsExpression};
 ghost use Rattle.desk_texts.specs.Right.{AreRight};
 
@@ -8,7 +7,7 @@ use crate::catalogue::read_catalogue;
 use crate::document::read_document;
 use crate::expression::{expression_fault, read_expression, verdict};
 use crate::findings::read_findings;
-use crate::licences::{Licences, licence_text, licences_of};
+use crate::licences::licence_texts;
 use crate::listing::{alternatives, cheapest, terms};
 use crate::term::{
     adopted_as, exception_of, is_licence, licence_id_of, printed_term, reference_of,
@@ -29,13 +28,9 @@ pub struct Standard;
 impl Texts for Standard {
     type Expression = Expr;
 
-    type Licences = Licences;
-
     ghost are_right = { AreRight };
 
     ghost is_of = { IsExpression };
-
-    ghost are_in = { AreLicences };
 
     fn catalogue(
         &self,
@@ -77,17 +72,13 @@ impl Texts for Standard {
         exception_of(alloc, term)
     }
 
-    fn licences(&self, alloc: Global, text: &str) -> Result<Licences, AllocError> {
-        licences_of(alloc, text)
-    }
-
-    fn licence_text(
+    fn licence_texts(
         &self,
         alloc: Global,
-        licences: &Licences,
-        id: &str,
-    ) -> Result<Option<LicenceText>, AllocError> {
-        licence_text(alloc, licences, id)
+        text: &str,
+        ids: &[&str],
+    ) -> Result<Items<Option<LicenceText>>, AllocError> {
+        licence_texts(alloc, text, ids)
     }
 
     fn expression(
