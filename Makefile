@@ -117,17 +117,17 @@ try:
 # Times the program, beside another one, its scripts, by the rows that a desk holds, in a file beside the library of SQLite, over HTTP,
 # audits, notices and tables, on trees, the reading of documents, and patterns of paths.
 bench: build
+	@echo 'Building the programs that only the benches run.'
+	@sh bench/programs/build.sh documents bom globs texts sqlite
 	@python3 bench/bench.py build/desk
 	@python3 bench/alternatives.py build/desk
 	@python3 bench/script.py build/desk build/scripts
 	@python3 bench/rows.py build/desk
-	@python3 bench/store.py build/desk
+	@python3 bench/store.py build/desk build/bench/sqlite
 	@python3 bench/audit.py build/desk
 	@python3 bench/serving.py build/desk
 	@python3 bench/reports.py build/desk
 	@python3 bench/trees.py build/desk
-	@echo 'Building the programs that only the benches run.'
-	@sh bench/programs/build.sh documents bom globs texts
 	@python3 bench/documents.py build/bench/documents build/documents
 	@python3 bench/import.py build/desk build/bench/documents build/scripts
 	@python3 bench/bom.py build/bench/bom build/bom

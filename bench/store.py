@@ -1,7 +1,7 @@
-"""Times a desk in a file beside SQLite's own library: python3 bench/store.py PROGRAM
+"""Times a desk in a file beside SQLite's own library: python3 bench/store.py PROGRAM ALONE
 
-The library writes and reads the same rows (bench/beside.c), by the same tables, with a log as the journal and each commit flushed. Each
-time is the least of three runs, on a file in shared memory and on a file on the disk. Commands on the disk are timed in pairs too, a desk's
+The library writes and reads the same rows (bench/beside.c), by the same tables, with a log as the journal and each commit flushed; so does
+ALONE (bench/programs/sqlite), by the toolchain's sqlite with no desk, which is the least that a desk can take. Each time is the least of three runs, on a file in shared memory and on a file on the disk. Commands on the disk are timed in pairs too, a desk's
 and then the library's, and the middle and the quartiles of both are printed, with those of a flush alone. It needs a C compiler and
 SQLite's library with its header.
 """
@@ -56,8 +56,9 @@ def prepared(program, path, duties):
     desk.end()
 
 
-def library(beside, *words):
-    return float(subprocess.run([beside, *map(str, words)], stdout=subprocess.PIPE, check=True).stdout)
+def measured(other, *words):
+    """The seconds that another program prints."""
+    return float(subprocess.run([other, *map(str, words)], stdout=subprocess.PIPE, check=True).stdout)
 
 
 def copied(kept, path):
@@ -75,11 +76,11 @@ def commands(program, beside, kept, path):
     seconds = desk.step("open", [rows.line(do="open", release=f"s{n}", form="binary") for n in range(COMMANDS)])
     desk.end()
     copied(kept, path)
-    return seconds, library(beside, "commands", path, COMMANDS)
+    return seconds, measured(beside, "commands", path, COMMANDS)
 
 
-def adopted(program, beside, room, count):
-    """The least seconds of adoptions of one document's references, by the desk and by the library."""
+def adopted(program, beside, alone, room, count):
+    """The least seconds of adoptions of one document's references, by the desk, by the library and by the toolchain's sqlite alone."""
     kept, path = os.path.join(room, "kept.db"), os.path.join(room, "desk.db")
     prepared(program, kept, 10)
     requests = [rows.line(do="adopt", document=1, reference=f"LicenseRef-{n}", licence="MIT") for n in range(count)]
@@ -91,7 +92,9 @@ def adopted(program, beside, room, count):
         seconds = desk.step("adopt", requests)
         desk.end()
         copied(kept, path)
-        found.append((seconds, library(beside, "adopt", path, count)))
+        other = measured(beside, "adopt", path, count)
+        copied(kept, path)
+        found.append((seconds, other, measured(alone, "adopt", path, count)))
     return [min(seconds) for seconds in zip(*found)]
 
 
@@ -110,8 +113,8 @@ def concluded(program, room, count):
     return [min(seconds) for seconds in zip(*found)]
 
 
-def timed(program, beside, room, duties):
-    """The least seconds of each step, by the desk and by the library."""
+def timed(program, beside, alone, room, duties):
+    """The least seconds of each step, by the desk, by the library and by the toolchain's sqlite alone."""
     kept, path = os.path.join(room, "kept.db"), os.path.join(room, "desk.db")
     prepared(program, kept, duties)
     found = {}
@@ -137,12 +140,23 @@ def timed(program, beside, room, duties):
         note("open", "desk", time.perf_counter() - begun)
         note("withdraw", "desk", desk.step("withdraw", withdraw))
         desk.end()
-        note("open", "library", library(beside, "open", path, 1))
-        note("totals", "library", library(beside, "totals", path, 10))
+        note("open", "library", measured(beside, "open", path, 1))
+        note("open", "alone", measured(alone, "open", path, 1))
+        note("totals", "library", measured(beside, "totals", path, 10))
         copied(kept, path)
-        note("freeze", "library", library(beside, "freeze", path, duties))
-        note("withdraw", "library", library(beside, "withdraw", path, duties))
+        note("freeze", "library", measured(beside, "freeze", path, duties))
+        note("withdraw", "library", measured(beside, "withdraw", path, duties))
+        for step in ("withdraw", "withdraw-at-once"):
+            copied(kept, path)
+            note("freeze", "alone", measured(alone, "freeze", path, duties))
+            note("withdraw", "alone", measured(alone, step, path, duties))
     return found
+
+
+def compared(desk, other, alone):
+    """What the three take, the times of the library behind it."""
+    words = f"{1000 * desk:10.1f} ms, library {1000 * other:10.1f} ms, times {desk / other:.2f}"
+    return words if alone is None else f"{words}; the toolchain's sqlite alone {1000 * alone:10.1f} ms, times {alone / other:.2f}"
 
 
 def flush(path, times):
@@ -179,7 +193,7 @@ def paired(program, beside, room):
 
 
 def main():
-    program = os.path.abspath(sys.argv[1])
+    program, alone = map(os.path.abspath, sys.argv[1:])
     with tempfile.TemporaryDirectory() as build:
         beside = os.path.join(build, "beside")
         subprocess.run(["cc", "-O2", "-o", beside, os.path.join(HERE, "beside.c"), "-lsqlite3"], check=True)
@@ -187,8 +201,8 @@ def main():
             paired(program, beside, room)
         for count in ADOPTIONS:
             with tempfile.TemporaryDirectory(dir="/dev/shm") as room:
-                desk, other = adopted(program, beside, room, count)
-            print(f"shared memory, {count:,} adoptions of one document {1000 * desk:10.1f} ms, library {1000 * other:10.1f} ms, times {desk / other:.2f}")
+                found = adopted(program, beside, alone, room, count)
+            print(f"shared memory, {count:,} adoptions of one document {compared(*found)}")
         for count in RELEASES:
             with tempfile.TemporaryDirectory(dir="/dev/shm") as room:
                 free, held = concluded(program, room, count)
@@ -196,7 +210,7 @@ def main():
         for where, top in (("shared memory", "/dev/shm"), ("the disk", os.path.abspath("build"))):
             for duties in (10_000, 100_000):
                 with tempfile.TemporaryDirectory(dir=top) as room:
-                    found = timed(program, beside, room, duties)
+                    found = timed(program, beside, alone, room, duties)
                 print(f"{where}, {duties:,} duties")
                 for step, count in (("commands", COMMANDS), ("freeze", 1), ("withdraw", 1), ("open", 1), ("totals", QUESTIONS), ("close", 1)):
                     desk, other = found[step, "desk"], found.get((step, "library"))
@@ -205,7 +219,7 @@ def main():
                     elif other is None:
                         print(f"  {step:24} {1000 * desk:10.1f} ms")
                     else:
-                        print(f"  {count:,} {step:20} {1000 * desk:10.1f} ms, library {1000 * other:10.1f} ms, times {desk / other:.2f}")
+                        print(f"  {count:,} {step:20} {compared(desk, other, found.get((step, 'alone')))}")
 
 
 if __name__ == "__main__":
