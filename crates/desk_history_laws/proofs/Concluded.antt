@@ -42,7 +42,7 @@ use Rattle.desk_history_laws.proofs.Parts.{ordered_parts}
 use Rattle.desk_history_laws.proofs.Recorded.{is_so, opened_form, past}
 
 -- a row in place of what stood at its key, or one that stood before
-from_replaced : {A : Type 0} (below : A → A → Bool) (at : A → Bool) (x z : A) (xs : List A) → (P : A → Type 0) → P x → (IsIn z xs → P z) → IsIn z (replaced below at x xs) → P z
+pub from_replaced : {A : Type 0} (below : A → A → Bool) (at : A → Bool) (x z : A) (xs : List A) → (P : A → Type 0) → P x → (IsIn z xs → P z) → IsIn z (replaced below at x xs) → P z
 from_replaced below at x z xs P new old m =
     elim (from_put below x z (filter (λ y. not (at y)) xs) m) [
       | inl same ↦ subst P same new
@@ -114,7 +114,7 @@ still_opened : (b : Bool) (form : List ℕ) (o : Option (List ℕ)) → is_some 
 still_opened true form o e = refl
 still_opened false form o e = e
 
-has_form : (h : List Command) (r : List ℕ) → IsIn r (opened h) → is_some (form_of h r) ≡ true
+pub has_form : (h : List Command) (r : List ℕ) → IsIn r (opened h) → is_some (form_of h r) ≡ true
 has_form [] r m = absurd m
 has_form (OpenRelease n form ∷ h) r (inl same) = let own : bytes_eq n r ≡ true = ap (λ k. bytes_eq k r) same ∙ same_text r in rw own refl
 has_form (OpenRelease n form ∷ h) r (inr m) = still_opened (bytes_eq n r) form (latest (form_given r) h) (has_form h r m)

@@ -90,7 +90,7 @@ distinct_standing stands sets w h =
     (distinct_map (choice_row x.release x.document x.package_id) (choice w h x.release x.document x.package_id) (λ a b e. ap (λ (row : ChoiceRow). row.term) e)
     (rises_distinct text_below not_below (choice w h x.release x.document x.package_id) (choice_rises sets w h x.release x.document x.package_id))))
 
-choices_rise : Stands → SetsRise → (w : Readings) (h : List Command) → Rises (below_by choice_order) (choices w h)
+pub choices_rise : Stands → SetsRise → (w : Readings) (h : List Command) → Rises (below_by choice_order) (choices w h)
 choices_rise stands sets w h =
     order_rises (below_by choice_order) choice_is_order (λ (row : ChoiceRow). row) same_choice (standing w h)
     (distinct_map (λ (row : ChoiceRow). row) (standing w h) (λ x y e. e) (distinct_standing stands sets w h))
@@ -159,7 +159,7 @@ distinct_frozen sets held w once (c ∷ h) ok = distinct_frozen sets held w once
 abbrev table : Readings → List Command → List FrozenRow
 table w h = in_order (below_by frozen_order) (frozen w h)
 
-frozen_rises : SetsRise → WereHeld → (w : Readings) → ListsPackagesOnce w → (h : List Command) → IsHistory w h → Rises (below_by frozen_order) (table w h)
+pub frozen_rises : SetsRise → WereHeld → (w : Readings) → ListsPackagesOnce w → (h : List Command) → IsHistory w h → Rises (below_by frozen_order) (in_order (below_by frozen_order) (frozen w h))
 frozen_rises sets held w once h ok =
     order_rises (below_by frozen_order) frozen_is_order choice_of (λ x y e f. same_choice (choice_of x) (choice_of y) e f) (frozen w h) (distinct_frozen sets held w once h ok)
 

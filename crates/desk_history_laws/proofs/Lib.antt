@@ -41,6 +41,10 @@ mod Rules
 mod Owed
 mod Orders
 mod Concluded
+pub mod Distinct
+mod Keyed
+mod Bounds
+mod Bounded
 mod HeldRows
 mod Kept
 mod ChoiceRows

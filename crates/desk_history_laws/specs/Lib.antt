@@ -9,3 +9,5 @@ pub mod Forms
 pub mod Held
 pub mod Premises
 pub mod ChoicePremises
+pub mod OwnKeys
+pub mod Within

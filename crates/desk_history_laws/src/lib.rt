@@ -68,9 +68,12 @@ ghost use Rattle.desk_history.specs.Laws.{IsFrozenTerm, Rises};
 ghost use Rattle.desk_history_laws.specs.Billed.{bill_for, ListsPackagesOnce};
 ghost use Rattle.desk_history_laws.specs.Dates.{date_order};
 ghost use Rattle.desk_history_laws.specs.Filters.{document_row, freezes, given, imported, last_decision, last_given, opens, packages_of, references_of, revision_row, rules_of, terms_left};
+ghost use Rattle.desk_history_laws.specs.OwnKeys.{HaveOwnKeys};
 ghost use Rattle.desk_history_laws.specs.Moved.{left_by, moves_given, step_row, IsMove};
 ghost use Rattle.desk_history_laws.specs.Shipping.{IsShipped};
 ghost use Rattle.desk_history_laws.specs.Standing.{frozen_row, IsDutyRow};
+ghost use Rattle.desk_history_laws.specs.Within.{AreWithin};
+ghost use Rattle.desk_texts.specs.Right.{AreRight};
 
 pub use readings::{
     cheapest_sets_are_least, choices_are_minimal_sets, choices_have_terms,
@@ -282,3 +285,36 @@ pub fn bills_list_what_was_chosen()
         → queried w (later ++ Freeze r day ∷ before) (Bill r)
         ≡ answered.Bill (bill_for w before r) }
 {}
+
+/// No two rows of a table of a recorded history have one key, by each right reading of texts: a
+/// namespace is imported once, a document attached to a release once, a name opened once at a place
+/// of its own, and a later conclusion, adoption or choice stands in place of the earlier one. So
+/// each key that a database keeps unique stands once.
+pub fn keys_stand_once()
+    ensures { (w : Readings) (h : List Command) → AreRight w → IsHistory w h
+        → HaveOwnKeys (tables w h) }
+{
+    desk_history::listed_tables_are_sorted();
+    desk_history::keys_are_distinct();
+    desk_history::last_choice_stands();
+    desk_history::frozen_terms_were_held();
+    sets_keep_their_members();
+    catalogues_are_the_loads();
+    documents_are_the_imports();
+    right_readings_list_in_order();
+    right_readings_list_once();
+}
+
+/// The rows of a recorded history are no more than the desk's limits allow, and each names a
+/// revision, a document or a duty that stands: a command that names another document is refused. A
+/// duty's steps are few, and the days of its changes exist. So each number in a row is small.
+pub fn rows_stay_within_limits()
+    ensures { (w : Readings) (h : List Command) → IsHistory w h → AreWithin (tables w h) }
+{
+    desk_history::frozen_terms_were_held();
+    desk_history::raised_exactly();
+    sets_keep_their_members();
+    choices_are_the_last_decisions();
+    snapshots::duties_are_numbered_and_few();
+    changes_are_few();
+}
