@@ -7,6 +7,11 @@
 //! needs another change, where the reading of texts lists in order and names duties by ids, as each
 //! right reading does (`right_readings_give_orderly_tables`). What a stop leaves of a desk, opened
 //! again, shows its tables (`what_a_stop_leaves_opens_again`).
+//!
+//! That no write and no look-up fails without a cause is said of rows that can stand in the tables
+//! (`CanStand` of `desk_sql_write`) and are as a desk writes them (`AreWritten` of
+//! `desk_sql_lookup`). `tables_can_stand` says that those of each recorded history are, where their
+//! texts are short.
 
 ghost use Rattle.std.specs.Prelude.{◌≡◌, true, List};
 ghost use Rattle.desk_model.specs.Readings.{Readings};
@@ -15,10 +20,14 @@ ghost use Rattle.desk_model.specs.declared.command.Command.{Command};
 ghost use Rattle.desk_history.specs.FromTables.{change_for};
 ghost use Rattle.desk_history.specs.Laws.{ListsInOrder};
 ghost use Rattle.desk_history_laws.specs.Ids.{ListsIds};
-ghost use Rattle.desk_sql_layout.specs.Held.{AreOrderly, seen_of, Stands};
+ghost use Rattle.desk_model.specs.Answers.{IsHistory};
+ghost use Rattle.desk_sql_layout.specs.Held.{AreOrderly, rows_of, seen_of, Stands};
 ghost use Rattle.desk_sql_layout.specs.Writable.{is_writable};
 ghost use Rattle.desk_texts.specs.Right.{AreRight};
+ghost use Rattle.desk_sql_lookup.specs.Causes.{AreWritten};
+ghost use Rattle.desk_sql_write.specs.Taking.{CanStand};
 ghost use Rattle.desk_laws.specs.Opened.{IsOpenedOn};
+ghost use Rattle.desk_laws.specs.Storable.{HaveShortTexts};
 ghost use Rattle.sqlite.specs.Held.{state};
 ghost use Rattle.sqlite_trees.specs.Tree.{Trees};
 
@@ -62,3 +71,15 @@ pub fn what_a_stop_leaves_opens_again<S: Alter>(conn: &Connection<S>)
     ensures { (left : Trees) (t : Tables) → IsOpenedOn (state S.Store conn.now) left → Stands left t
         → let seen = seen_of (state S.Store conn.now) in seen.holds t }
 {}
+
+/// The tables of each recorded history whose texts are short can stand in a file: each key that is
+/// declared unique stands once, and each cell is small. They are rows as a desk writes them.
+pub fn tables_can_stand()
+    ensures stand { (w : Readings) (h : List Command) → AreRight w → IsHistory w h
+        → HaveShortTexts (tables w h) → CanStand (rows_of (tables w h)) }
+    ensures written { (w : Readings) (h : List Command) → IsHistory w h
+        → HaveShortTexts (tables w h) → AreWritten (tables w h) }
+{
+    desk_history_laws::keys_stand_once();
+    desk_history_laws::rows_stay_within_limits();
+}
