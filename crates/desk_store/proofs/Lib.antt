@@ -7,3 +7,4 @@ mod Audited
 mod Vetted
 mod Migrated
 mod FoundRows
+mod Missed

@@ -1,6 +1,10 @@
 //! The store: the desk's rows over a connection.
+//!
+//! Its look-ups repeat what the trait says of them, and say by `cause` when they fail
+//! (`specs/Causes.antt`), all but `holder`.
 
-ghost use Rattle.std.specs.Prelude.{◌≡◌, ℕ, List, false, unwrap_or, IfOk};
+ghost use Rattle.std.specs.Prelude.{◌≡◌, ℕ, List, false, unwrap_or, IfErr, IfOk, IfSome, length, filter, find, map};
+ghost use Rattle.std.specs.Option.{option_map};
 ghost use Rattle.std.specs.List.{list_any};
 ghost use Rattle.std.specs.Str.{bytes_eq};
 ghost use Rattle.sqlite_trees.specs.Tree.{Trees};
@@ -10,10 +14,17 @@ ghost use Rattle.desk_access.specs.Seen.{Looked, OfRows};
 ghost use Rattle.desk_history.specs.Laws.{Ascends};
 ghost use Rattle.desk_core.specs.Desks.{InHistory};
 ghost use Rattle.desk_sql_layout.specs.Held.{Stands, known_of, seen_of};
-ghost use Rattle.desk_model.specs.Keys.{release_below};
+ghost use Rattle.desk_model.specs.Bills.{extracted_text, revision_text};
+ghost use Rattle.desk_model.specs.Conclusions.{licence_for, office_text};
+ghost use Rattle.desk_model.specs.Findings.{source_of};
+ghost use Rattle.desk_model.specs.History.{attached_to, rule_for};
+ghost use Rattle.desk_model.specs.Keys.{has_namespace, is_attachment, is_change_of, is_choice_of, is_document, is_duty_of, is_package, is_shipped_by, release_below};
+ghost use Rattle.desk_model.specs.Queries.{head_of, last_day, totals_of};
+ghost use Rattle.desk_history.specs.FromTables.{adoption_count, duty_found, ended_found, holder_found, known_document, known_import, release_found, rules_found, standings_found, steps_found};
 ghost use Rattle.desk_tally.specs.Kept.{AreKept, Fits, IsPlaceFor, LeadsTo};
 ghost use Rattle.desk_snapshot.specs.Tables.{snapshot_of};
 ghost use Rattle.desk_store.specs.Auditing.{IsAudit};
+ghost use Rattle.desk_store.specs.Causes.{MissesFor};
 ghost use Rattle.desk_store.specs.Counting.{forms_after, known_by, tallied};
 ghost use Rattle.desk_texts.specs.Right.{AreRight};
 
@@ -214,7 +225,15 @@ impl<S: Alter> Store for SqlStore<S> {
         Ok(u64::from(self.counts.revisions))
     }
 
-    fn catalogue_text(&mut self, revision: u64) -> Result<Option<Text>, Fault> {
+    fn catalogue_text(&mut self, revision: u64) -> Result<Option<Text>, Fault>
+        ensures found { IfOk result (λ found. OfRows (λ t. found ≡ revision_text t.catalogue
+            revision) (⟦<SqlStore<S> as Store>⟧.seen self.old)
+            (⟦<SqlStore<S> as Store>⟧.seen self.new)) }
+        ensures kept { Looked (⟦<SqlStore<S> as Store>⟧.seen self.old)
+            (⟦<SqlStore<S> as Store>⟧.seen self.new) result }
+        ensures cause { IfErr result (MissesFor (⟦<SqlStore<S> as Store>⟧.seen self.old) (state
+            S.Store self.old.conn) (state S.Store self.new.conn)) }
+    {
         desk_sql_lookup::catalogue_text(self.alloc, &mut self.conn, self.counts.revisions, revision)
     }
 
@@ -222,7 +241,15 @@ impl<S: Alter> Store for SqlStore<S> {
         Ok(has_form(self.forms.as_slice(), form))
     }
 
-    fn rule(&mut self, term: &str, form: &str) -> Result<Option<Rule>, Fault> {
+    fn rule(&mut self, term: &str, form: &str) -> Result<Option<Rule>, Fault>
+        ensures found { IfOk result (λ found. OfRows (λ t. found ≡ rule_for (rules_found t)
+            term.now form.now) (⟦<SqlStore<S> as Store>⟧.seen self.old)
+            (⟦<SqlStore<S> as Store>⟧.seen self.new)) }
+        ensures kept { Looked (⟦<SqlStore<S> as Store>⟧.seen self.old)
+            (⟦<SqlStore<S> as Store>⟧.seen self.new) result }
+        ensures cause { IfErr result (MissesFor (⟦<SqlStore<S> as Store>⟧.seen self.old) (state
+            S.Store self.old.conn) (state S.Store self.new.conn)) }
+    {
         desk_sql_lookup::rule(
             self.alloc,
             &mut self.conn,
@@ -236,40 +263,110 @@ impl<S: Alter> Store for SqlStore<S> {
         Ok(u64::from(self.counts.documents))
     }
 
-    fn import_of(&mut self, namespace: &str, bytes: &[u8]) -> Result<Option<(u32, bool)>, Fault> {
+    fn import_of(&mut self, namespace: &str, bytes: &[u8]) -> Result<Option<(u32, bool)>, Fault>
+        ensures found { IfOk result (λ found. OfRows (λ t. found ≡ option_map (known_import
+            bytes.now) (find (has_namespace namespace.now) t.document))
+            (⟦<SqlStore<S> as Store>⟧.seen self.old) (⟦<SqlStore<S> as Store>⟧.seen self.new)) }
+        ensures kept { Looked (⟦<SqlStore<S> as Store>⟧.seen self.old)
+            (⟦<SqlStore<S> as Store>⟧.seen self.new) result }
+        ensures cause { IfErr result (MissesFor (⟦<SqlStore<S> as Store>⟧.seen self.old) (state
+            S.Store self.old.conn) (state S.Store self.new.conn)) }
+    {
         desk_sql_lookup::import_of(&mut self.conn, namespace, bytes)
     }
 
-    fn document(&mut self, number: u64) -> Result<Option<(u32, Profile)>, Fault> {
+    fn document(&mut self, number: u64) -> Result<Option<(u32, Profile)>, Fault>
+        ensures found { IfOk result (λ found. OfRows (λ t. found ≡ option_map known_document (find
+            (is_document number) t.document)) (⟦<SqlStore<S> as Store>⟧.seen self.old)
+            (⟦<SqlStore<S> as Store>⟧.seen self.new)) }
+        ensures same { IfOk result (λ found. IfSome found (λ known. known.0 ≡ number)) }
+        ensures kept { Looked (⟦<SqlStore<S> as Store>⟧.seen self.old)
+            (⟦<SqlStore<S> as Store>⟧.seen self.new) result }
+        ensures cause { IfErr result (MissesFor (⟦<SqlStore<S> as Store>⟧.seen self.old) (state
+            S.Store self.old.conn) (state S.Store self.new.conn)) }
+    {
         desk_sql_lookup::document(self.alloc, &mut self.conn, self.counts.documents, number)
     }
 
-    fn documents(&mut self) -> Result<Vec<DocumentHead>, Fault> {
+    fn documents(&mut self) -> Result<Vec<DocumentHead>, Fault>
+        ensures found { IfOk result (λ found. OfRows (λ t. found.items ≡ map head_of t.document)
+            (⟦<SqlStore<S> as Store>⟧.seen self.old) (⟦<SqlStore<S> as Store>⟧.seen self.new)) }
+        ensures kept { Looked (⟦<SqlStore<S> as Store>⟧.seen self.old)
+            (⟦<SqlStore<S> as Store>⟧.seen self.new) result }
+        ensures cause { IfErr result (MissesFor (⟦<SqlStore<S> as Store>⟧.seen self.old) (state
+            S.Store self.old.conn) (state S.Store self.new.conn)) }
+    {
         desk_sql_lookup::document_heads(self.alloc, &mut self.conn)
     }
 
-    fn document_source(&mut self, number: u64) -> Result<Option<(Items<u8>, Profile)>, Fault> {
+    fn document_source(&mut self, number: u64) -> Result<Option<(Items<u8>, Profile)>, Fault>
+        ensures found { IfOk result (λ found. OfRows (λ t. found ≡ option_map source_of (find
+            (is_document number) t.document)) (⟦<SqlStore<S> as Store>⟧.seen self.old)
+            (⟦<SqlStore<S> as Store>⟧.seen self.new)) }
+        ensures kept { Looked (⟦<SqlStore<S> as Store>⟧.seen self.old)
+            (⟦<SqlStore<S> as Store>⟧.seen self.new) result }
+        ensures cause { IfErr result (MissesFor (⟦<SqlStore<S> as Store>⟧.seen self.old) (state
+            S.Store self.old.conn) (state S.Store self.new.conn)) }
+    {
         desk_sql_lookup::document_source(self.alloc, &mut self.conn, self.counts.documents, number)
     }
 
-    fn package_row(&mut self, document: u64, id: &str) -> Result<Option<PackageRow>, Fault> {
+    fn package_row(&mut self, document: u64, id: &str) -> Result<Option<PackageRow>, Fault>
+        ensures found { IfOk result (λ found. OfRows (λ t. found ≡ find (is_package document
+            id.now) t.packages) (⟦<SqlStore<S> as Store>⟧.seen self.old)
+            (⟦<SqlStore<S> as Store>⟧.seen self.new)) }
+        ensures kept { Looked (⟦<SqlStore<S> as Store>⟧.seen self.old)
+            (⟦<SqlStore<S> as Store>⟧.seen self.new) result }
+        ensures cause { IfErr result (MissesFor (⟦<SqlStore<S> as Store>⟧.seen self.old) (state
+            S.Store self.old.conn) (state S.Store self.new.conn)) }
+    {
         let documents = self.counts.documents;
         desk_sql_lookup::package_row(self.alloc, &mut self.conn, documents, document, id)
     }
 
-    fn shipped(&mut self, document: u32) -> Result<Vec<PackageRow>, Fault> {
+    fn shipped(&mut self, document: u32) -> Result<Vec<PackageRow>, Fault>
+        ensures found { IfOk result (λ found. OfRows (λ t. found.items ≡ filter (is_shipped_by
+            document) t.packages) (⟦<SqlStore<S> as Store>⟧.seen self.old)
+            (⟦<SqlStore<S> as Store>⟧.seen self.new)) }
+        ensures kept { Looked (⟦<SqlStore<S> as Store>⟧.seen self.old)
+            (⟦<SqlStore<S> as Store>⟧.seen self.new) result }
+        ensures cause { IfErr result (MissesFor (⟦<SqlStore<S> as Store>⟧.seen self.old) (state
+            S.Store self.old.conn) (state S.Store self.new.conn)) }
+    {
         desk_sql_lookup::shipped(self.alloc, &mut self.conn, document)
     }
 
-    fn extracted_text(&mut self, document: u32, reference: &str) -> Result<Option<Text>, Fault> {
+    fn extracted_text(&mut self, document: u32, reference: &str) -> Result<Option<Text>, Fault>
+        ensures found { IfOk result (λ found. OfRows (λ t. found ≡ extracted_text t.extracted
+            document reference.now) (⟦<SqlStore<S> as Store>⟧.seen self.old)
+            (⟦<SqlStore<S> as Store>⟧.seen self.new)) }
+        ensures kept { Looked (⟦<SqlStore<S> as Store>⟧.seen self.old)
+            (⟦<SqlStore<S> as Store>⟧.seen self.new) result }
+        ensures cause { IfErr result (MissesFor (⟦<SqlStore<S> as Store>⟧.seen self.old) (state
+            S.Store self.old.conn) (state S.Store self.new.conn)) }
+    {
         desk_sql_lookup::extracted_text(self.alloc, &mut self.conn, document, reference)
     }
 
-    fn release(&mut self, name: &str) -> Result<Option<ReleaseRow>, Fault> {
+    fn release(&mut self, name: &str) -> Result<Option<ReleaseRow>, Fault>
+        ensures found { IfOk result (λ found. OfRows (λ t. found ≡ release_found t name.now)
+            (⟦<SqlStore<S> as Store>⟧.seen self.old) (⟦<SqlStore<S> as Store>⟧.seen self.new)) }
+        ensures kept { Looked (⟦<SqlStore<S> as Store>⟧.seen self.old)
+            (⟦<SqlStore<S> as Store>⟧.seen self.new) result }
+        ensures cause { IfErr result (MissesFor (⟦<SqlStore<S> as Store>⟧.seen self.old) (state
+            S.Store self.old.conn) (state S.Store self.new.conn)) }
+    {
         desk_sql_lookup::release(self.alloc, &mut self.conn, name)
     }
 
-    fn releases(&mut self) -> Result<Vec<ReleaseRow>, Fault> {
+    fn releases(&mut self) -> Result<Vec<ReleaseRow>, Fault>
+        ensures found { IfOk result (λ found. OfRows (λ t. found.items ≡ t.releases)
+            (⟦<SqlStore<S> as Store>⟧.seen self.old) (⟦<SqlStore<S> as Store>⟧.seen self.new)) }
+        ensures kept { Looked (⟦<SqlStore<S> as Store>⟧.seen self.old)
+            (⟦<SqlStore<S> as Store>⟧.seen self.new) result }
+        ensures cause { IfErr result (MissesFor (⟦<SqlStore<S> as Store>⟧.seen self.old) (state
+            S.Store self.old.conn) (state S.Store self.new.conn)) }
+    {
         desk_sql_lookup::release_rows(self.alloc, &mut self.conn)
     }
 
@@ -277,27 +374,75 @@ impl<S: Alter> Store for SqlStore<S> {
         Ok(u64::from(self.counts.releases))
     }
 
-    fn attached(&mut self, release: &str) -> Result<Vec<AttachedRow>, Fault> {
+    fn attached(&mut self, release: &str) -> Result<Vec<AttachedRow>, Fault>
+        ensures found { IfOk result (λ found. OfRows (λ t. found.items ≡ attached_to t.attached
+            release.now) (⟦<SqlStore<S> as Store>⟧.seen self.old)
+            (⟦<SqlStore<S> as Store>⟧.seen self.new)) }
+        ensures kept { Looked (⟦<SqlStore<S> as Store>⟧.seen self.old)
+            (⟦<SqlStore<S> as Store>⟧.seen self.new) result }
+        ensures cause { IfErr result (MissesFor (⟦<SqlStore<S> as Store>⟧.seen self.old) (state
+            S.Store self.old.conn) (state S.Store self.new.conn)) }
+    {
         desk_sql_lookup::attached(self.alloc, &mut self.conn, release)
     }
 
-    fn is_attached(&mut self, release: &str, document: u64) -> Result<bool, Fault> {
+    fn is_attached(&mut self, release: &str, document: u64) -> Result<bool, Fault>
+        ensures found { IfOk result (λ is. OfRows (λ t. is ≡ list_any (is_attachment release.now
+            document) t.attached) (⟦<SqlStore<S> as Store>⟧.seen self.old)
+            (⟦<SqlStore<S> as Store>⟧.seen self.new)) }
+        ensures kept { Looked (⟦<SqlStore<S> as Store>⟧.seen self.old)
+            (⟦<SqlStore<S> as Store>⟧.seen self.new) result }
+        ensures cause { IfErr result (MissesFor (⟦<SqlStore<S> as Store>⟧.seen self.old) (state
+            S.Store self.old.conn) (state S.Store self.new.conn)) }
+    {
         desk_sql_lookup::is_attached(self.alloc, &mut self.conn, release, document)
     }
 
-    fn attached_count(&mut self, release: &str) -> Result<u64, Fault> {
+    fn attached_count(&mut self, release: &str) -> Result<u64, Fault>
+        ensures found { IfOk result (λ n. OfRows (λ t. n ≡ length (attached_to t.attached
+            release.now)) (⟦<SqlStore<S> as Store>⟧.seen self.old)
+            (⟦<SqlStore<S> as Store>⟧.seen self.new)) }
+        ensures kept { Looked (⟦<SqlStore<S> as Store>⟧.seen self.old)
+            (⟦<SqlStore<S> as Store>⟧.seen self.new) result }
+        ensures cause { IfErr result (MissesFor (⟦<SqlStore<S> as Store>⟧.seen self.old) (state
+            S.Store self.old.conn) (state S.Store self.new.conn)) }
+    {
         desk_sql_lookup::attached_count(&mut self.conn, release)
     }
 
-    fn chosen(&mut self, release: &str, document: u32, id: &str) -> Result<Vec<Text>, Fault> {
+    fn chosen(&mut self, release: &str, document: u32, id: &str) -> Result<Vec<Text>, Fault>
+        ensures found { IfOk result (λ found. OfRows (λ t. found.items ≡ map (λ row. row.term)
+            (filter (is_choice_of release.now document id.now) t.choice))
+            (⟦<SqlStore<S> as Store>⟧.seen self.old) (⟦<SqlStore<S> as Store>⟧.seen self.new)) }
+        ensures kept { Looked (⟦<SqlStore<S> as Store>⟧.seen self.old)
+            (⟦<SqlStore<S> as Store>⟧.seen self.new) result }
+        ensures cause { IfErr result (MissesFor (⟦<SqlStore<S> as Store>⟧.seen self.old) (state
+            S.Store self.old.conn) (state S.Store self.new.conn)) }
+    {
         desk_sql_lookup::chosen(self.alloc, &mut self.conn, release, document, id)
     }
 
-    fn frozen(&mut self, release: &str) -> Result<Vec<FrozenRow>, Fault> {
+    fn frozen(&mut self, release: &str) -> Result<Vec<FrozenRow>, Fault>
+        ensures found { IfOk result (λ found. OfRows (λ t. found.items ≡ filter (λ row. bytes_eq
+            row.release release.now) t.frozen) (⟦<SqlStore<S> as Store>⟧.seen self.old)
+            (⟦<SqlStore<S> as Store>⟧.seen self.new)) }
+        ensures kept { Looked (⟦<SqlStore<S> as Store>⟧.seen self.old)
+            (⟦<SqlStore<S> as Store>⟧.seen self.new) result }
+        ensures cause { IfErr result (MissesFor (⟦<SqlStore<S> as Store>⟧.seen self.old) (state
+            S.Store self.old.conn) (state S.Store self.new.conn)) }
+    {
         desk_sql_lookup::frozen(self.alloc, &mut self.conn, release)
     }
 
-    fn conclusion(&mut self, document: u32, id: &str) -> Result<Option<Text>, Fault> {
+    fn conclusion(&mut self, document: u32, id: &str) -> Result<Option<Text>, Fault>
+        ensures found { IfOk result (λ found. OfRows (λ t. found ≡ office_text t.conclusion
+            document id.now) (⟦<SqlStore<S> as Store>⟧.seen self.old)
+            (⟦<SqlStore<S> as Store>⟧.seen self.new)) }
+        ensures kept { Looked (⟦<SqlStore<S> as Store>⟧.seen self.old)
+            (⟦<SqlStore<S> as Store>⟧.seen self.new) result }
+        ensures cause { IfErr result (MissesFor (⟦<SqlStore<S> as Store>⟧.seen self.old) (state
+            S.Store self.old.conn) (state S.Store self.new.conn)) }
+    {
         desk_sql_lookup::conclusion(self.alloc, &mut self.conn, document, id)
     }
 
@@ -313,11 +458,26 @@ impl<S: Alter> Store for SqlStore<S> {
         Ok(release)
     }
 
-    fn adoption(&mut self, document: u32, reference: &str) -> Result<Option<Text>, Fault> {
+    fn adoption(&mut self, document: u32, reference: &str) -> Result<Option<Text>, Fault>
+        ensures found { IfOk result (λ found. OfRows (λ t. found ≡ licence_for t.adoption document
+            reference.now) (⟦<SqlStore<S> as Store>⟧.seen self.old)
+            (⟦<SqlStore<S> as Store>⟧.seen self.new)) }
+        ensures kept { Looked (⟦<SqlStore<S> as Store>⟧.seen self.old)
+            (⟦<SqlStore<S> as Store>⟧.seen self.new) result }
+        ensures cause { IfErr result (MissesFor (⟦<SqlStore<S> as Store>⟧.seen self.old) (state
+            S.Store self.old.conn) (state S.Store self.new.conn)) }
+    {
         desk_sql_lookup::adoption(self.alloc, &mut self.conn, document, reference)
     }
 
-    fn adoption_count(&mut self, document: u32) -> Result<u64, Fault> {
+    fn adoption_count(&mut self, document: u32) -> Result<u64, Fault>
+        ensures found { IfOk result (λ n. OfRows (λ t. n ≡ adoption_count t document)
+            (⟦<SqlStore<S> as Store>⟧.seen self.old) (⟦<SqlStore<S> as Store>⟧.seen self.new)) }
+        ensures kept { Looked (⟦<SqlStore<S> as Store>⟧.seen self.old)
+            (⟦<SqlStore<S> as Store>⟧.seen self.new) result }
+        ensures cause { IfErr result (MissesFor (⟦<SqlStore<S> as Store>⟧.seen self.old) (state
+            S.Store self.old.conn) (state S.Store self.new.conn)) }
+    {
         if let Some(adoptions) = self.found.adoptions
             && adoptions.document == document
         {
@@ -328,7 +488,15 @@ impl<S: Alter> Store for SqlStore<S> {
         Ok(count)
     }
 
-    fn duty(&mut self, number: u64) -> Result<Option<DutyRow>, Fault> {
+    fn duty(&mut self, number: u64) -> Result<Option<DutyRow>, Fault>
+        ensures found { IfOk result (λ found. OfRows (λ t. found ≡ duty_found t number)
+            (⟦<SqlStore<S> as Store>⟧.seen self.old) (⟦<SqlStore<S> as Store>⟧.seen self.new)) }
+        ensures same { IfOk result (λ found. IfSome found (λ row. row.number ≡ number)) }
+        ensures kept { Looked (⟦<SqlStore<S> as Store>⟧.seen self.old)
+            (⟦<SqlStore<S> as Store>⟧.seen self.new) result }
+        ensures cause { IfErr result (MissesFor (⟦<SqlStore<S> as Store>⟧.seen self.old) (state
+            S.Store self.old.conn) (state S.Store self.new.conn)) }
+    {
         desk_sql_lookup::duty(self.alloc, &mut self.conn, self.counts.duties, number)
     }
 
@@ -336,34 +504,88 @@ impl<S: Alter> Store for SqlStore<S> {
         Ok(u64::from(self.counts.duties))
     }
 
-    fn duties_of(&mut self, release: &str) -> Result<Vec<DutyRow>, Fault> {
+    fn duties_of(&mut self, release: &str) -> Result<Vec<DutyRow>, Fault>
+        ensures found { IfOk result (λ found. OfRows (λ t. found.items ≡ filter (is_duty_of
+            release.now) t.duty) (⟦<SqlStore<S> as Store>⟧.seen self.old)
+            (⟦<SqlStore<S> as Store>⟧.seen self.new)) }
+        ensures kept { Looked (⟦<SqlStore<S> as Store>⟧.seen self.old)
+            (⟦<SqlStore<S> as Store>⟧.seen self.new) result }
+        ensures cause { IfErr result (MissesFor (⟦<SqlStore<S> as Store>⟧.seen self.old) (state
+            S.Store self.old.conn) (state S.Store self.new.conn)) }
+    {
         desk_sql_lookup::duties_of(self.alloc, &mut self.conn, release)
     }
 
-    fn tally(&mut self, release: &str) -> Result<Option<Totals>, Fault> {
+    fn tally(&mut self, release: &str) -> Result<Option<Totals>, Fault>
+        ensures found { IfOk result (λ found. OfRows (λ t. found ≡ option_map (λ row. totals_of
+            (filter (is_duty_of release.now) t.duty)) (release_found t release.now))
+            (⟦<SqlStore<S> as Store>⟧.seen self.old) (⟦<SqlStore<S> as Store>⟧.seen self.new)) }
+        ensures kept { Looked (⟦<SqlStore<S> as Store>⟧.seen self.old)
+            (⟦<SqlStore<S> as Store>⟧.seen self.new) result }
+        ensures cause { IfErr result (MissesFor (⟦<SqlStore<S> as Store>⟧.seen self.old) (state
+            S.Store self.old.conn) (state S.Store self.new.conn)) }
+    {
         match desk_sql_lookup::release(self.alloc, &mut self.conn, release)? {
             Some(row) => Ok(self.tallies.totals(row.place)),
             None => Ok(None),
         }
     }
 
-    fn standings_of(&mut self, release: &str) -> Result<Vec<Standing>, Fault> {
+    fn standings_of(&mut self, release: &str) -> Result<Vec<Standing>, Fault>
+        ensures found { IfOk result (λ found. OfRows (λ t. found.items ≡ standings_found t
+            release.now) (⟦<SqlStore<S> as Store>⟧.seen self.old)
+            (⟦<SqlStore<S> as Store>⟧.seen self.new)) }
+        ensures kept { Looked (⟦<SqlStore<S> as Store>⟧.seen self.old)
+            (⟦<SqlStore<S> as Store>⟧.seen self.new) result }
+        ensures cause { IfErr result (MissesFor (⟦<SqlStore<S> as Store>⟧.seen self.old) (state
+            S.Store self.old.conn) (state S.Store self.new.conn)) }
+    {
         desk_sql_lookup::standings_of(self.alloc, &mut self.conn, self.counts.duties, release)
     }
 
-    fn ended(&mut self, day: Day) -> Result<Vec<Standing>, Fault> {
+    fn ended(&mut self, day: Day) -> Result<Vec<Standing>, Fault>
+        ensures found { IfOk result (λ found. OfRows (λ t. found.items ≡ ended_found t day)
+            (⟦<SqlStore<S> as Store>⟧.seen self.old) (⟦<SqlStore<S> as Store>⟧.seen self.new)) }
+        ensures kept { Looked (⟦<SqlStore<S> as Store>⟧.seen self.old)
+            (⟦<SqlStore<S> as Store>⟧.seen self.new) result }
+        ensures cause { IfErr result (MissesFor (⟦<SqlStore<S> as Store>⟧.seen self.old) (state
+            S.Store self.old.conn) (state S.Store self.new.conn)) }
+    {
         desk_sql_lookup::ended(self.alloc, &mut self.conn, self.counts.duties, day)
     }
 
-    fn steps(&mut self, duty: u64) -> Result<u64, Fault> {
+    fn steps(&mut self, duty: u64) -> Result<u64, Fault>
+        ensures found { IfOk result (λ n. OfRows (λ t. n ≡ steps_found t duty)
+            (⟦<SqlStore<S> as Store>⟧.seen self.old) (⟦<SqlStore<S> as Store>⟧.seen self.new)) }
+        ensures kept { Looked (⟦<SqlStore<S> as Store>⟧.seen self.old)
+            (⟦<SqlStore<S> as Store>⟧.seen self.new) result }
+        ensures cause { IfErr result (MissesFor (⟦<SqlStore<S> as Store>⟧.seen self.old) (state
+            S.Store self.old.conn) (state S.Store self.new.conn)) }
+    {
         desk_sql_lookup::steps(&mut self.conn, self.counts.duties, duty)
     }
 
-    fn changes_of(&mut self, duty: u64) -> Result<Vec<ChangeRow>, Fault> {
+    fn changes_of(&mut self, duty: u64) -> Result<Vec<ChangeRow>, Fault>
+        ensures found { IfOk result (λ found. OfRows (λ t. found.items ≡ filter (is_change_of duty)
+            t.changes) (⟦<SqlStore<S> as Store>⟧.seen self.old)
+            (⟦<SqlStore<S> as Store>⟧.seen self.new)) }
+        ensures kept { Looked (⟦<SqlStore<S> as Store>⟧.seen self.old)
+            (⟦<SqlStore<S> as Store>⟧.seen self.new) result }
+        ensures cause { IfErr result (MissesFor (⟦<SqlStore<S> as Store>⟧.seen self.old) (state
+            S.Store self.old.conn) (state S.Store self.new.conn)) }
+    {
         desk_sql_lookup::changes_of(self.alloc, &mut self.conn, self.counts.duties, duty)
     }
 
-    fn last_day(&mut self, duty: u32) -> Result<Option<Day>, Fault> {
+    fn last_day(&mut self, duty: u32) -> Result<Option<Day>, Fault>
+        ensures found { IfOk result (λ day. OfRows (λ t. day ≡ last_day (filter (is_change_of duty)
+            t.changes)) (⟦<SqlStore<S> as Store>⟧.seen self.old)
+            (⟦<SqlStore<S> as Store>⟧.seen self.new)) }
+        ensures kept { Looked (⟦<SqlStore<S> as Store>⟧.seen self.old)
+            (⟦<SqlStore<S> as Store>⟧.seen self.new) result }
+        ensures cause { IfErr result (MissesFor (⟦<SqlStore<S> as Store>⟧.seen self.old) (state
+            S.Store self.old.conn) (state S.Store self.new.conn)) }
+    {
         desk_sql_lookup::last_day(&mut self.conn, duty)
     }
 

@@ -1,5 +1,14 @@
+use Rattle.desk_store.proofs.Missed.{missed}
+use Rattle.desk_store.specs.Counting.{known_by}
+use Rattle.sqlite.specs.Held.{state}
+use Rattle.std.proofs.Common.{◌≡◌, ap, length}
 use Rattle.desk_store.proofs.Counted.{looked}
 use Rattle.desk_store.proofs.store.SqlStoreStore.duty.Goals as goal
 
 pub returns-clause-kept : goal.returns-clause-kept
 returns-clause-kept g c = looked c.args.self.now.found c.args.self.now.tallies _ _ _ _ c.duty.ensures.kept
+
+pub returns-clause-cause : goal.returns-clause-cause
+returns-clause-cause g c =
+    let self = c.args.self.now in
+    missed (λ t. length t.duty ≡ self.counts.duties) self.found self.tallies (known_by self.counts self.forms) (state g.S.Store self.conn) (state g.S.Store c.duty.new.conn) (λ t same. ap (λ k. k.duties) same) c.duty.result c.duty.ensures.cause

@@ -1,3 +1,4 @@
+use Rattle.desk_store.proofs.Missed.{missed}
 use Rattle.std.proofs.Common.{◌≡◌, filter}
 use Rattle.std.specs.Str.{bytes_eq}
 use Rattle.std.proofs.lemmas.Result.{IfOk-weaker}
@@ -16,3 +17,8 @@ returns-clause-found g c =
     IfOk-weaker c.frozen.result _ _
     (λ found it. of_rows self.found self.tallies (known_by self.counts self.forms) (λ t. found.items ≡ filter (λ row. bytes_eq row.release c.args.release.now) t.frozen)
     (seen_of (state g.S.Store self.conn)) (seen_of (state g.S.Store c.frozen.new.conn)) it) c.frozen.ensures.found
+
+pub returns-clause-cause : goal.returns-clause-cause
+returns-clause-cause g c =
+    let self = c.args.self.now in
+    missed (λ t. Unit {0}) self.found self.tallies (known_by self.counts self.forms) (state g.S.Store self.conn) (state g.S.Store c.frozen.new.conn) (λ t same. tt) c.frozen.result c.frozen.ensures.cause

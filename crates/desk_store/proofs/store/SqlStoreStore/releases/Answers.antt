@@ -1,3 +1,4 @@
+use Rattle.desk_store.proofs.Missed.{missed}
 use Rattle.std.proofs.Common.{◌≡◌}
 use Rattle.std.proofs.lemmas.Result.{IfOk-weaker}
 use Rattle.sqlite.specs.Held.{state}
@@ -15,3 +16,8 @@ returns-clause-found g c =
     IfOk-weaker c.release_rows.result _ _
     (λ found it. of_rows self.found self.tallies (known_by self.counts self.forms) (λ t. found.items ≡ t.releases) (seen_of (state g.S.Store self.conn))
     (seen_of (state g.S.Store c.release_rows.new.conn)) it) c.release_rows.ensures.found
+
+pub returns-clause-cause : goal.returns-clause-cause
+returns-clause-cause g c =
+    let self = c.args.self.now in
+    missed (λ t. Unit {0}) self.found self.tallies (known_by self.counts self.forms) (state g.S.Store self.conn) (state g.S.Store c.release_rows.new.conn) (λ t same. tt) c.release_rows.result c.release_rows.ensures.cause

@@ -1,3 +1,5 @@
+use Rattle.desk_sql_lookup.proofs.Causes.{err_cause}
+use Rattle.desk_store.proofs.Missed.{missed}
 use Rattle.std.proofs.Common.{◌≡◌, ◌∙◌, ap, sym, Some, filter}
 use Rattle.std.specs.Option.{option_map}
 use Rattle.desk_history.specs.FromTables.{release_found}
@@ -34,3 +36,11 @@ returns-in-Some-clause-found g c = λ h t held.
     let found : release_found t release ≡ Some c.in-Some.row = sym (c.in_ok-row.ensures.found h t held.2) ∙ c.in-Some.is in
     c.totals.ensures.kept t release held.1 (ap (option_map (λ (row : ReleaseRow). row.place)) found)
     ∙ sym (ap (option_map (λ (row : ReleaseRow). totals_of (filter (is_duty_of release) t.duty))) found)
+
+pub returns-in_err-row-clause-cause : goal.returns-in_err-row-clause-cause
+returns-in_err-row-clause-cause g c =
+    let self = c.args.self.now in
+    let old = state g.S.Store self.conn in
+    let new = state g.S.Store c.release.new.conn in
+    missed (λ t. Unit {0}) self.found self.tallies (known_by self.counts self.forms) old new (λ t same. tt) c.from_residual.result
+    (err_cause (λ t. Unit {0}) old new c.from_residual.result c.in_err-row.field-0.0 c.from_residual.ensures.1 c.in_err-row.ensures.cause)
