@@ -1,8 +1,8 @@
 -- A list made one by one of another.
-use Rattle.std.proofs.Common.{◌≡◌, ℕ, ◌+◌, ◌<◌, Bool, true, false, cond, List, [], ◌∷◌, ◌++◌, length, get_or, take, map, refl, sym, ap, ap₂, subst, ◌∙◌, append-nil}
+use Rattle.std.proofs.Common.{◌≡◌, ℕ, ◌+◌, ◌<◌, Bool, true, false, cond, List, [], ◌∷◌, ◌++◌, length, get_or, drop, take, map, refl, sym, ap, ap₂, subst, ◌∙◌, append-nil, append_assoc}
 use Rattle.std.specs.Prelude.{filter, find, reverse, Option, Some, None}
-use Rattle.std.specs.List.{AllZip}
-use Rattle.std.proofs.lemmas.List.{map_more, map-append, reverse-append, take_more}
+use Rattle.std.specs.List.{AllZip, flat_map}
+use Rattle.std.proofs.lemmas.List.{drop_more, flat_map_more, map_more, map-append, reverse-append, take_more}
 use Rattle.std.proofs.lemmas.List.Elements.{filter_more}
 use Rattle.std.proofs.lemmas.List.Folds.{find-append}
 use Rattle.std.specs.Option.{option_or}
@@ -18,6 +18,25 @@ pub shown_more : {X Y : Type 0} (shown : Y → X) (xs : List X) (i : ℕ) (x : X
     → x ≡ get_or xs i x → map shown before ≡ take i xs → shown y ≡ x → after ≡ before ++ y ∷ [] → map shown after ≡ take (i + 1) xs
 shown_more shown xs i x before after y inside at so_far is pushed =
     ap (map shown) pushed ∙ map-append shown before (y ∷ []) ∙ ap₂ (λ zs z. zs ++ z ∷ []) so_far (is ∙ at) ∙ sym (take_more xs i x inside)
+
+-- one more is made, behind others
+pub added_more : {X Y : Type 0} (f : X → Y) (xs : List X) (i : ℕ) (x : X) (start before after : List Y) (y : Y) → i < length xs
+    → x ≡ get_or xs i x → before ≡ start ++ map f (take i xs) → y ≡ f x → after ≡ before ++ y ∷ [] → after ≡ start ++ map f (take (i + 1) xs)
+added_more f xs i x start before after y inside at so_far made pushed =
+    pushed ∙ ap₂ (λ ys z. ys ++ z ∷ []) so_far (made ∙ ap f at) ∙ append_assoc start (map f (take i xs)) (f (get_or xs i x) ∷ [])
+    ∙ ap (λ ys. start ++ ys) (sym (map_more f xs i x inside))
+
+-- the pieces of one more, behind others
+pub joined_more : {X Y : Type 0} (f : X → List Y) (xs : List X) (i : ℕ) (x : X) (start before after piece : List Y) → i < length xs
+    → x ≡ get_or xs i x → before ≡ start ++ flat_map f (take i xs) → piece ≡ f x → after ≡ before ++ piece
+    → after ≡ start ++ flat_map f (take (i + 1) xs)
+joined_more f xs i x start before after piece inside at so_far made pushed =
+    pushed ∙ ap₂ (λ a b. a ++ b) so_far (made ∙ ap f at) ∙ flat_map_more f start (take i xs) (get_or xs i x)
+    ∙ ap (λ ys. start ++ flat_map f ys) (sym (take_more xs i x inside))
+
+-- an item and those behind it
+pub drop_item : {X : Type 0} (xs : List X) (i : ℕ) (x : X) → i < length xs → x ≡ get_or xs i x → drop i xs ≡ x ∷ drop (i + 1) xs
+drop_item xs i x inside at = drop_more xs i x inside ∙ ap (λ y. y ∷ drop (i + 1) xs) (sym at)
 
 zip_pushed : {A B : Type 0} (R : A → B → Type 0) (xs : List A) (ys : List B) (x : A) (y : B) → AllZip R xs ys → R x y → AllZip R (xs ++ x ∷ []) (ys ++ y ∷ [])
 zip_pushed R [] [] x y zip r = (r, tt)

@@ -3,7 +3,7 @@
 ghost use Rattle.std.specs.Prelude.{◌≡◌, ◌∷◌, List, ℕ, map, IfOk, unwrap_or, []};
 ghost use Rattle.std.specs.Fmt.{signed_decimal};
 ghost use Rattle.std.specs.Option.{option_map_or};
-ghost use Rattle.desk_lists.specs.Cells.{cell_text, count_text, document_cells, document_table, duty_cells, duty_table, number_text, release_cells, release_table};
+ghost use Rattle.desk_lists.specs.Cells.{cell_text, count_text, document_cells, duty_cells, number_text, release_cells};
 
 use crate::lines::{DocumentLine, DutyLine, ReleaseLine};
 use desk_base::{Items, Text};
@@ -17,11 +17,8 @@ pub(crate) enum Cell<'a> {
     Count(u64),
 }
 
-/// A table, row by row. The first row has the names of the columns.
-pub(crate) type Table = Vec<Items<Text>>;
-
 /// The names of the columns of releases.
-const RELEASE_NAMES: [Cell<'static>; 9] = [
+pub(crate) const RELEASE_NAMES: [Cell<'static>; 9] = [
     Cell::Text("name"),
     Cell::Text("form"),
     Cell::Text("state"),
@@ -34,7 +31,7 @@ const RELEASE_NAMES: [Cell<'static>; 9] = [
 ];
 
 /// The names of the columns of documents.
-const DOCUMENT_NAMES: [Cell<'static>; 7] = [
+pub(crate) const DOCUMENT_NAMES: [Cell<'static>; 7] = [
     Cell::Text("number"),
     Cell::Text("name"),
     Cell::Text("namespace"),
@@ -45,7 +42,7 @@ const DOCUMENT_NAMES: [Cell<'static>; 7] = [
 ];
 
 /// The names of the columns of duties.
-const DUTY_NAMES: [Cell<'static>; 12] = [
+pub(crate) const DUTY_NAMES: [Cell<'static>; 12] = [
     Cell::Text("number"),
     Cell::Text("release"),
     Cell::Text("document"),
@@ -113,7 +110,7 @@ fn last_day_cell(last_day: &Option<Text>) -> &str
 }
 
 /// What a table has a row for.
-trait Line {
+pub(crate) trait Line {
     ghost cells: { Self → List (List ℕ) };
 
     /// The row.
@@ -180,8 +177,12 @@ impl Line for DutyLine {
     }
 }
 
-// A table of these names and a row for each line.
-fn table_of<L: Line>(alloc: Global, names: &[Cell<'_>], lines: &[L]) -> Result<Table, AllocError>
+/// A table of these names and a row for each line.
+pub(crate) fn table_of<L: Line>(
+    alloc: Global,
+    names: &[Cell<'_>],
+    lines: &[L],
+) -> Result<Vec<Items<Text>>, AllocError>
     ensures { IfOk result (λ table. table.items
         ≡ map cell_text names.now ∷ map L.cells lines.now) }
 {
@@ -191,25 +192,4 @@ fn table_of<L: Line>(alloc: Global, names: &[Cell<'_>], lines: &[L]) -> Result<T
         rows.push(line.row(alloc)?)?;
     }
     Ok(rows)
-}
-
-/// The table of releases.
-pub(crate) fn release_table(alloc: Global, lines: &[ReleaseLine]) -> Result<Table, AllocError>
-    ensures { IfOk result (λ table. table.items ≡ release_table lines.now) }
-{
-    table_of(alloc, &RELEASE_NAMES, lines)
-}
-
-/// The table of documents.
-pub(crate) fn document_table(alloc: Global, lines: &[DocumentLine]) -> Result<Table, AllocError>
-    ensures { IfOk result (λ table. table.items ≡ document_table lines.now) }
-{
-    table_of(alloc, &DOCUMENT_NAMES, lines)
-}
-
-/// The table of duties.
-pub(crate) fn duty_table(alloc: Global, lines: &[DutyLine]) -> Result<Table, AllocError>
-    ensures { IfOk result (λ table. table.items ≡ duty_table lines.now) }
-{
-    table_of(alloc, &DUTY_NAMES, lines)
 }
