@@ -2,7 +2,7 @@ mod Firsts
 pub mod Lists
 mod Against
 mod Once
-mod SoleLists
 mod Floats
+mod Looks
 mod Accepted
 mod Recorded

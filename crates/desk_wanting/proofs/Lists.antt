@@ -1,9 +1,9 @@
 -- One item more of a loop.
-use Rattle.std.proofs.Common.{◌≡◌, ℕ, Bool, true, false, ◌+◌, ◌<◌, ◌≤◌, List, [], ◌∷◌, ◌++◌, length, map, filter, drop, get_or, Option, Some, None, sym, refl, ap, ◌∙◌, add-one, drop-cons, append_assoc, suc, arith}
+use Rattle.std.proofs.Common.{◌≡◌, ℕ, Bool, true, false, ◌+◌, ◌<◌, ◌≤◌, List, [], ◌∷◌, ◌++◌, length, map, filter, drop, get_or, take, Option, Some, None, sym, refl, ap, ap₂, ◌∙◌, add-one, drop-cons, append_assoc, suc, arith}
 use Rattle.std.specs.Prelude.{◌==◌, not, if◌then◌else◌}
 use Rattle.std.specs.List.{cons_option, filter_map, flat_map, list_any}
 use Rattle.std.proofs.lemmas.Bool.Decides.{nat_tests}
-use Rattle.std.proofs.lemmas.List.{append-nil, at_drop_all}
+use Rattle.std.proofs.lemmas.List.{append-nil, at_drop_all, flat_map_more, take_more}
 use Rattle.desk_model.specs.Obstacles.{is_told, told_once}
 use Rattle.desk_model.specs.declared.refusal.Refusal.{Refusal}
 
@@ -79,3 +79,9 @@ told_once_step yielded told new x sofar grown = grown ∙ sym (told_once_push []
 pub ended : {A B : Type 0} (g : List A → List B) (xs : List A) (i : ℕ) (found all : List B) → length xs ≤ i → g [] ≡ [] → found ++ g (drop i xs) ≡ all
     → found ≡ all
 ended g xs i found all out none so_far = sym (append-nil found) ∙ (ap (λ ys. found ++ ys) (sym (at_drop_all g xs i out ∙ none)) ∙ so_far)
+
+-- pieces joined so far, with that of one item more
+pub joined_more : {A : Type 0} (f : A → List ℕ) (xs : List A) (i : ℕ) (x : A) (old new piece : List ℕ) → i < length xs → x ≡ get_or xs i x
+    → old ≡ flat_map f (take i xs) → piece ≡ f x → new ≡ old ++ piece → new ≡ flat_map f (take (i + 1) xs)
+joined_more f xs i x old new piece lt is sofar made grown =
+    grown ∙ ap₂ (λ a b. a ++ b) sofar (made ∙ ap f is) ∙ flat_map_more f [] (take i xs) (get_or xs i x) ∙ ap (flat_map f) (sym (take_more xs i x lt))

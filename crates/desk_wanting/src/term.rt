@@ -29,31 +29,31 @@ pub(crate) fn add_refusal(
     Ok(())
 }
 
-/// The references without adoption among the terms of a document.
+/// Adds the references without adoption among the terms of a document.
 #[tactic(auto, using(desk_access::proofs::Chains::same_then_kept, desk_access::proofs::Chains::same_then_same))]
-fn unadopted_terms<T: Texts, S: Store>(
+fn add_unadopted<T: Texts, S: Store>(
     alloc: Global,
     texts: &T,
     store: &mut S,
     document: u32,
     terms: &[Text],
-) -> Result<Vec<Refusal>, Fault>
-    ensures found { (w : Readings) → T.are_right w → IfOk result (λ refusals.
-        OfRows (λ t. refusals.items ≡ filter_map (unadopted w t.adoption document) terms.now)
+    refusals: &mut Vec<Refusal>,
+) -> Result<(), Fault>
+    ensures found { (w : Readings) → T.are_right w → OnOk result (OfRows (λ t. refusals.new.items
+        ≡ refusals.old.items ++ filter_map (unadopted w t.adoption document) terms.now)
         (S.seen store.old) (S.seen store.new)) }
     ensures kept { Looked (S.seen store.old) (S.seen store.new) result }
     ensures fault { IfErr result (MayFail S.tells) }
 {
-    let mut refusals = Vec::new(alloc);
     for term in terms {
         let refusal = unadopted(alloc, texts, store, document, term)?;
-        add_refusal(&mut refusals, refusal)?;
+        add_refusal(refusals, refusal)?;
     }
-    Ok(refusals)
+    Ok(())
 }
 
 /// Whether something was found.
-fn is_found<F: Drop>(found: Option<F>) -> bool
+pub(crate) fn is_found<F: Drop>(found: Option<F>) -> bool
     ensures { result ≡ is_some found }
 {
     found.is_some()
@@ -84,49 +84,48 @@ fn unruled_alone<T: Texts, S: Store>(
 }
 
 #[tactic(auto, using(desk_access::proofs::Chains::same_then_kept, desk_access::proofs::Chains::same_then_same))]
-/// The terms of a package without a rule, apart from the references without adoption.
-fn unruled_terms<T: Texts, S: Store>(
+/// Adds the terms of a package without a rule, apart from the references without adoption.
+fn add_unruled<T: Texts, S: Store>(
     alloc: Global,
     texts: &T,
     store: &mut S,
     form: &Text,
     row: &PackageRow,
     terms: &[Text],
-) -> Result<Vec<Refusal>, Fault>
-    ensures found { (w : Readings) → T.are_right w → IfOk result (λ refusals.
-        OfRows (λ t. refusals.items
-        ≡ filter_map (unruled_alone w t.adoption (rules_found t) form.now row.now) terms.now)
+    refusals: &mut Vec<Refusal>,
+) -> Result<(), Fault>
+    ensures found { (w : Readings) → T.are_right w → OnOk result (OfRows (λ t. refusals.new.items
+        ≡ refusals.old.items
+        ++ filter_map (unruled_alone w t.adoption (rules_found t) form.now row.now) terms.now)
         (S.seen store.old) (S.seen store.new)) }
     ensures kept { Looked (S.seen store.old) (S.seen store.new) result }
     ensures fault { IfErr result (MayFail S.tells) }
 {
-    let mut refusals = Vec::new(alloc);
     for term in terms {
         let refusal = unruled_alone(alloc, texts, store, form, row, term)?;
-        add_refusal(&mut refusals, refusal)?;
+        add_refusal(refusals, refusal)?;
     }
-    Ok(refusals)
+    Ok(())
 }
 
-/// What stands against the terms of a package: first the references without adoption, then the
+/// Adds what stands against the terms of a package: first the references without adoption, then the
 /// other terms without a rule.
-pub(crate) fn term_refusals<T: Texts, S: Store>(
+pub(crate) fn add_term_refusals<T: Texts, S: Store>(
     alloc: Global,
     texts: &T,
     store: &mut S,
     form: &Text,
     row: &PackageRow,
     terms: &[Text],
-) -> Result<Vec<Refusal>, Fault>
-    ensures found { (w : Readings) → T.are_right w → IfOk result (λ refusals.
-        OfRows (λ t. refusals.items
-        ≡ term_refusals w t.adoption (rules_found t) form.now terms.now row.now)
+    refusals: &mut Vec<Refusal>,
+) -> Result<(), Fault>
+    ensures found { (w : Readings) → T.are_right w → OnOk result (OfRows (λ t. refusals.new.items
+        ≡ refusals.old.items
+        ++ term_refusals w t.adoption (rules_found t) form.now terms.now row.now)
         (S.seen store.old) (S.seen store.new)) }
     ensures kept { Looked (S.seen store.old) (S.seen store.new) result }
     ensures fault { IfErr result (MayFail S.tells) }
 {
-    let mut refusals = unadopted_terms(alloc, texts, store, row.document, terms)?;
-    let mut unruled = unruled_terms(alloc, texts, store, form, row, terms)?;
-    refusals.append(&mut unruled)?;
-    Ok(refusals)
+    add_unadopted(alloc, texts, store, row.document, terms, refusals)?;
+    add_unruled(alloc, texts, store, form, row, terms, refusals)
 }

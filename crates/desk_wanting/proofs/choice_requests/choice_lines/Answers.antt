@@ -1,7 +1,7 @@
 use Rattle.std.proofs.Common.{rules}
 use Rattle.std.specs.String.{string_bytes}
 use Rattle.desk_wanting.specs.Requests.{choice_line}
-use Rattle.desk_wanting.proofs.SoleLists.{joined_more}
+use Rattle.desk_wanting.proofs.Lists.{joined_more}
 use Rattle.desk_wanting.proofs.choice_requests.choice_lines.Goals as goal
 
 pub loop-choice-preserved : goal.loop-choice-preserved

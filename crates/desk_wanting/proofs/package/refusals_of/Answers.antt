@@ -7,24 +7,21 @@ use Rattle.desk_wanting.proofs.package.refusals_of.Goals as goal
 
 pub loop-row-preserved : goal.loop-row-preserved
 loop-row-preserved g c =
-    let one = c.in_ok-more.ensures in
+    let one = c.in_ok-add_package_refusals.ensures in
     record {
       same = same_then_same _ _ _ c.loop-row.invariant.same one.kept;
       found = λ w right h t held.
-          flat_map_step (refusals_found w t c.args.release.now c.args.form.now) c.args.packages.now c.loop-row.row-index c.row-item.result
-          c.loop-row.refusals.items c.append.new.self.items c.in_ok-more.more.items (flat_map (refusals_found w t c.args.release.now c.args.form.now) c.args.packages.now)
-          c.loop-row-test.true c.row-item.is (one.found w right h t (c.loop-row.invariant.same.kept.spared.holds t held)) c.in_ok-append.ensures.items
+          let told = refusals_found w t c.args.release.now c.args.form.now in
+          flat_map_step told c.args.packages.now c.loop-row.row-index c.row-item.result c.loop-row.refusals.items
+          c.add_package_refusals.new.refusals.items (told c.row-item.result) (flat_map told c.args.packages.now) c.loop-row-test.true c.row-item.is refl
+          (one.found w right h t (c.loop-row.invariant.same.kept.spared.holds t held))
           (c.loop-row.invariant.found w right (one.kept.kept.spared.honest h) t held);
     }
 
-pub returns-in_err-more-clause-kept : goal.returns-in_err-more-clause-kept
-returns-in_err-more-clause-kept g c =
-    looked_err _ _ c.from_residual.result c.from_residual.ensures.0 (same_then_kept _ _ _ c.loop-row.invariant.same c.in_err-more.ensures.kept)
-
-pub returns-in_err-append-clause-kept : goal.returns-in_err-append-clause-kept
-returns-in_err-append-clause-kept g c =
-    looked_err _ _ c.from_residual-in_err-append.result c.from_residual-in_err-append.ensures.0
-    (same_then_same _ _ _ c.loop-row.invariant.same c.in_ok-more.ensures.kept).kept
+pub returns-in_err-add_package_refusals-clause-kept : goal.returns-in_err-add_package_refusals-clause-kept
+returns-in_err-add_package_refusals-clause-kept g c =
+    looked_err _ _ c.from_residual.result c.from_residual.ensures.0
+    (same_then_kept _ _ _ c.loop-row.invariant.same c.in_err-add_package_refusals.ensures.kept)
 
 pub returns-clause-found : goal.returns-clause-found
 returns-clause-found g c = λ w right h t held.

@@ -1,7 +1,7 @@
 use Rattle.std.specs.List.{filter_map}
 use Rattle.desk_access.proofs.Chains.{looked_err, same_then_kept, same_then_same}
 use Rattle.desk_wanting.specs.Sole.{sole_choice_found}
-use Rattle.desk_wanting.proofs.SoleLists.{filter_map_step}
+use Rattle.desk_wanting.proofs.Lists.{filter_map_step}
 use Rattle.desk_wanting.proofs.sole_choice.sole_choices_for.Goals as goal
 
 pub loop-row-preserved : goal.loop-row-preserved

@@ -3,7 +3,7 @@ use Rattle.std.specs.List.{filter_map}
 use Rattle.desk_model.specs.Readings.{Readings}
 use Rattle.desk_model.specs.Answers.{unadopted}
 use Rattle.desk_access.specs.Seen.{Same, OfRows}
-use Rattle.desk_wanting.proofs.term.unadopted_terms.Given as goal
+use Rattle.desk_wanting.proofs.term.add_unadopted.Given as goal
 
 abbrev pub invariant-loop-term : goal.invariant-loop-term
 invariant-loop-term g l =
@@ -11,5 +11,7 @@ invariant-loop-term g l =
     let new = g.S.Store.seen l.store in
     record {
       same : Same old new;
-      found : (w : Readings) → g.T.Texts.are_right w → OfRows (λ t. l.refusals.items ++ filter_map (unadopted w t.adoption l.document) (drop l.term-index l.terms) ≡ filter_map (unadopted w t.adoption l.document) l.terms) old new;
+      found : (w : Readings) → g.T.Texts.are_right w
+          → OfRows (λ t. l.refusals.items ++ filter_map (unadopted w t.adoption l.document) (drop l.term-index l.terms)
+          ≡ l.fn.refusals.items ++ filter_map (unadopted w t.adoption l.document) l.terms) old new;
     }

@@ -1,10 +1,10 @@
-use Rattle.std.proofs.Common.{refl}
+use Rattle.std.proofs.Common.{◌++◌, refl}
 use Rattle.std.specs.List.{filter_map}
 use Rattle.desk_history.specs.FromTables.{rules_found}
 use Rattle.desk_model.specs.Obstacles.{unruled_alone}
 use Rattle.desk_access.proofs.Chains.{looked_err, same_then_kept, same_then_same}
 use Rattle.desk_wanting.proofs.Lists.{ended, filter_map_step}
-use Rattle.desk_wanting.proofs.term.unruled_terms.Goals as goal
+use Rattle.desk_wanting.proofs.term.add_unruled.Goals as goal
 
 pub loop-term-preserved : goal.loop-term-preserved
 loop-term-preserved g c =
@@ -12,8 +12,9 @@ loop-term-preserved g c =
     record {
       same = same_then_same _ _ _ c.loop-term.invariant.same one.kept;
       found = λ w right h t held.
-          filter_map_step (unruled_alone w t.adoption (rules_found t) c.args.form.now c.args.row.now) c.args.terms.now c.loop-term.term-index c.term-item.result
-          c.loop-term.refusals.items c.add_refusal.new.refusals.items (filter_map (unruled_alone w t.adoption (rules_found t) c.args.form.now c.args.row.now) c.args.terms.now) c.in_ok-refusal.refusal
+          let told = unruled_alone w t.adoption (rules_found t) c.args.form.now c.args.row.now in
+          filter_map_step told c.args.terms.now c.loop-term.term-index c.term-item.result
+          c.loop-term.refusals.items c.add_refusal.new.refusals.items (c.args.refusals.now.items ++ filter_map told c.args.terms.now) c.in_ok-refusal.refusal
           c.loop-term-test.true c.term-item.is
           (one.found w right h t (c.loop-term.invariant.same.kept.spared.holds t held)) c.in_ok-add_refusal.ensures
           (c.loop-term.invariant.found w right (one.kept.kept.spared.honest h) t held);
@@ -31,5 +32,5 @@ returns-in_err-add_refusal-clause-kept g c =
 pub returns-clause-found : goal.returns-clause-found
 returns-clause-found g c = λ w right h t held.
     let told = filter_map (unruled_alone w t.adoption (rules_found t) c.args.form.now c.args.row.now) in
-    ended told c.args.terms.now c.loop-term.term-index c.loop-term.refusals.items (told c.args.terms.now) c.loop-term-test.false refl
+    ended told c.args.terms.now c.loop-term.term-index c.loop-term.refusals.items (c.args.refusals.now.items ++ told c.args.terms.now) c.loop-term-test.false refl
     (c.loop-term.invariant.found w right h t held)
