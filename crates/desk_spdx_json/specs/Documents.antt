@@ -1,28 +1,24 @@
 -- The steps of a document: its own fields, the files, the packages, the extracted licences, the relationships. A file stands before
 -- the packages, so it belongs to one by its relationships alone.
-use Rattle.std.specs.Prelude.{ℕ, ◌+◌, Bool, ◌&&◌, List, [], ◌∷◌, ◌++◌, Option, Some, None, option_and_then, is_some, false, codes, if◌then◌else◌}
+use Rattle.std.specs.Prelude.{ℕ, Bool, ◌&&◌, List, [], ◌∷◌, ◌++◌, Option, Some, None, option_and_then, is_some, false, codes, if◌then◌else◌}
 use Rattle.std.specs.List.{list_any}
 use Rattle.std.specs.Str.{bytes_eq}
 use Rattle.serde_json.specs.Data.{Data, Items, no_items, item}
 use Rattle.serde_json.specs.Find.{get, as_str, as_array}
 use Rattle.desk_spdx_json.specs.declared.parts.Part.{Part}
 use Rattle.desk_spdx_json.specs.declared.parts.Part.TheVariants as parts
-use Rattle.desk_spdx_json.specs.Steps.{StepText, member_at, item_at}
+use Rattle.desk_spdx_json.specs.Steps.{StepText, member_at}
 use Rattle.desk_spdx_json.specs.Members.{document_members, creation_members}
-use Rattle.desk_spdx_json.specs.Values.{in_array, word_in}
-use Rattle.desk_spdx_json.specs.Parts.{object_steps, parts_steps, tie_step}
+use Rattle.desk_spdx_json.specs.Values.{if_array, word_in}
+use Rattle.desk_spdx_json.specs.Parts.{object_steps, part_steps, tie_step}
 
 abbrev pub creation_steps : List ℕ → Option Data → List StepText
 creation_steps at None = []
 creation_steps at (Some d) = object_steps at creation_members d
 
-abbrev pub list_steps : Part → List ℕ → Option Data → List StepText
-list_steps part at None = []
-list_steps part at (Some d) = in_array at (parts_steps part at 0) (as_array d)
-
 -- the parts in a member of the document
 abbrev pub all_parts : Part → List ℕ → List ℕ → Data → List StepText
-all_parts part at key d = list_steps part (member_at at key) (get key d)
+all_parts part at key d = if_array (part_steps part) (member_at at key) (get key d)
 
 -- ---- documentDescribes: a relationship, unless the document lists it
 
@@ -53,17 +49,9 @@ abbrev pub is_listed : List (List ℕ) → Option (List ℕ) → Bool
 is_listed ids None = false
 is_listed ids (Some id) = is_among ids id
 
-abbrev pub described_step : List ℕ → List (List ℕ) → Data → List StepText
-described_step at ids d =
+abbrev pub described_steps : List (List ℕ) → List ℕ → Data → List StepText
+described_steps ids at d =
     if is_listed ids (as_str d) then [] else tie_step at document_id (codes "DESCRIBES") (as_str d) ∷ []
-
-abbrev pub described_items : List ℕ → List (List ℕ) → ℕ → Items → List StepText
-described_items at ids i no_items = []
-described_items at ids i (item d ds) = described_step (item_at at i) ids d ++ described_items at ids (i + 1) ds
-
-abbrev pub described_steps : List ℕ → List (List ℕ) → Option Data → List StepText
-described_steps at ids None = []
-described_steps at ids (Some d) = in_array at (described_items at ids 0) (as_array d)
 
 abbrev pub targets : Data → List (List ℕ)
 targets d = targets_of (option_and_then as_array (get (codes "relationships") d))
@@ -77,7 +65,7 @@ steps_at at d =
     ++ (all_parts parts.File at (codes "files") d
     ++ (all_parts parts.Package at (codes "packages") d
     ++ (all_parts parts.Extracted at (codes "hasExtractedLicensingInfos") d
-    ++ (described_steps (member_at at (codes "documentDescribes")) (targets d) (get (codes "documentDescribes") d)
+    ++ (if_array (described_steps (targets d)) (member_at at (codes "documentDescribes")) (get (codes "documentDescribes") d)
     ++ all_parts parts.Relationship at (codes "relationships") d)))))
 
 -- some tools write the document as the member `sbom` of an object without a version

@@ -3,5 +3,6 @@ pub mod Steps
 pub mod Members
 pub mod Values
 pub mod Parts
+pub mod Items
 pub mod Documents
 pub mod Sets

@@ -1,18 +1,18 @@
 -- The steps of a document's parts: its packages, files, extracted licences and relationships.
-use Rattle.std.specs.Prelude.{ℕ, ◌+◌, Bool, List, [], ◌∷◌, ◌++◌, Option, Some, None, codes, if◌then◌else◌}
+use Rattle.std.specs.Prelude.{ℕ, Bool, List, [], ◌∷◌, ◌++◌, Option, Some, None, codes, if◌then◌else◌}
 use Rattle.std.specs.List.{flat_map, list_any}
 use Rattle.std.specs.Str.{bytes_eq}
 use Rattle.desk_fields.specs.declared.tag.Tag.TheVariants as tags
 use Rattle.desk_tagvalue.specs.Drafts.{LineText, blank, one_line}
-use Rattle.serde_json.specs.Data.{Data, Items, no_items, item, Members, no_members, member}
-use Rattle.serde_json.specs.Find.{get, as_str, as_array, as_object}
+use Rattle.serde_json.specs.Data.{Data, Members, no_members, member}
+use Rattle.serde_json.specs.Find.{get, as_str, as_object}
 use Rattle.desk_spdx_json.specs.declared.steps.Kind.TheVariants as kinds
 use Rattle.desk_spdx_json.specs.declared.parts.Part.{Part}
 use Rattle.desk_spdx_json.specs.declared.parts.Part.TheVariants as parts
 use Rattle.desk_spdx_json.specs.Words.{is_word}
-use Rattle.desk_spdx_json.specs.Steps.{StepText, step, put, left_out, missing, bad_type, bad_value, member_at, item_at}
+use Rattle.desk_spdx_json.specs.Steps.{StepText, step, put, left_out, missing, bad_type, bad_value, member_at}
 use Rattle.desk_spdx_json.specs.Members.{MemberText, package_members, file_members, extracted_members, relationship_members}
-use Rattle.desk_spdx_json.specs.Values.{value_steps, in_array, word_fault, word_in}
+use Rattle.desk_spdx_json.specs.Values.{value_steps, if_array, word_fault, word_in}
 
 -- ---- an object, member by member
 
@@ -66,14 +66,9 @@ abbrev pub tie_step : List ℕ → List ℕ → List ℕ → Option (List ℕ) �
 tie_step at left kind None = step at bad_type
 tie_step at left kind (Some right) = if is_word right then step at (put (relationship_line left kind right)) else step at bad_value
 
--- the files that a package has contain it: the package CONTAINS each
-abbrev pub contained_items : List ℕ → List ℕ → ℕ → Items → List StepText
-contained_items at owner i no_items = []
-contained_items at owner i (item d ds) = tie_step (item_at at i) owner (codes "CONTAINS") (as_str d) ∷ contained_items at owner (i + 1) ds
-
-abbrev pub contained_steps : List ℕ → List ℕ → Option Data → List StepText
-contained_steps at owner None = []
-contained_steps at owner (Some d) = in_array at (contained_items at owner 0) (as_array d)
+-- the package CONTAINS a file that it has
+abbrev pub contained_steps : List ℕ → List ℕ → Data → List StepText
+contained_steps owner at d = tie_step at owner (codes "CONTAINS") (as_str d) ∷ []
 
 -- ---- parts
 
@@ -82,11 +77,7 @@ abbrev pub part_steps : Part → List ℕ → Data → List StepText
 part_steps parts.Package at d =
     step [] (put blank)
     ∷ (object_steps at package_members d
-    ++ contained_steps (member_at at (codes "hasFiles")) (word_in (codes "SPDXID") d) (get (codes "hasFiles") d))
+    ++ if_array (contained_steps (word_in (codes "SPDXID") d)) (member_at at (codes "hasFiles")) (get (codes "hasFiles") d))
 part_steps parts.File at d = step [] (put blank) ∷ object_steps at file_members d
 part_steps parts.Extracted at d = step [] (put blank) ∷ object_steps at extracted_members d
 part_steps parts.Relationship at d = relationship_steps at d
-
-abbrev pub parts_steps : Part → List ℕ → ℕ → Items → List StepText
-parts_steps part at i no_items = []
-parts_steps part at i (item d ds) = part_steps part (item_at at i) d ++ parts_steps part at (i + 1) ds

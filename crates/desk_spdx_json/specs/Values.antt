@@ -27,15 +27,26 @@ abbrev pub flag_text : Bool → List ℕ
 flag_text true = codes "true"
 flag_text false = codes "false"
 
--- a line for each text of an array, from the one with number i
-abbrev pub text_steps : List ℕ → Tag → ℕ → Items → List StepText
-text_steps at tag i no_items = []
-text_steps at tag i (item d ds) = line_step (item_at at i) (one_line tag) (as_str d) ∷ text_steps at tag (i + 1) ds
+-- the line of a text of an array
+abbrev pub text_steps : Tag → List ℕ → Data → List StepText
+text_steps tag at d = line_step at (one_line tag) (as_str d) ∷ []
 
--- the steps of an array's items, if the value is one
-abbrev pub in_array : List ℕ → (Items → List StepText) → Option Items → List StepText
-in_array at steps None = step at bad_type ∷ []
-in_array at steps (Some ds) = steps ds
+-- ---- arrays, by the steps of an item
+
+-- those of each item, from the one with number i
+abbrev pub items_steps : (List ℕ → Data → List StepText) → List ℕ → ℕ → Items → List StepText
+items_steps steps at i no_items = []
+items_steps steps at i (item d ds) = steps (item_at at i) d ++ items_steps steps at (i + 1) ds
+
+-- if the value is an array
+abbrev pub in_array : (List ℕ → Data → List StepText) → List ℕ → Option Items → List StepText
+in_array steps at None = step at bad_type ∷ []
+in_array steps at (Some ds) = items_steps steps at 0 ds
+
+-- if there is a value
+abbrev pub if_array : (List ℕ → Data → List StepText) → List ℕ → Option Data → List StepText
+if_array steps at None = []
+if_array steps at (Some d) = in_array steps at (as_array d)
 
 -- ---- values that are composed of several members
 
@@ -62,18 +73,13 @@ word_in key d = text_or_empty (option_and_then as_str (get key d))
 abbrev pub checksum_line : Tag → Data → LineText
 checksum_line tag d = one_line tag (word_in (codes "algorithm") d ++ (codes ": " ++ word_in (codes "checksumValue") d))
 
-abbrev pub checksum_step : List ℕ → Tag → Data → List StepText
-checksum_step at tag d =
+abbrev pub checksum_steps : Tag → List ℕ → Data → List StepText
+checksum_steps tag at d =
     word_fault at (codes "algorithm") d ++ (word_fault at (codes "checksumValue") d ++ step at (put (checksum_line tag d)) ∷ [])
 
-abbrev pub checksum_steps : List ℕ → Tag → ℕ → Items → List StepText
-checksum_steps at tag i no_items = []
-checksum_steps at tag i (item d ds) = checksum_step (item_at at i) tag d ++ checksum_steps at tag (i + 1) ds
-
 -- the names of the files that a verification code excludes (clause 7.9)
-abbrev pub name_faults : List ℕ → ℕ → Items → List StepText
-name_faults at i no_items = []
-name_faults at i (item d ds) = text_fault (item_at at i) is_name (as_str d) ++ name_faults at (i + 1) ds
+abbrev pub name_fault : List ℕ → Data → List StepText
+name_fault at d = text_fault at is_name (as_str d)
 
 abbrev pub more_names : Items → List ℕ
 more_names no_items = []
@@ -90,10 +96,6 @@ excluded_text (Some ds) = names_text ds
 abbrev pub names_in : Data → Option Data
 names_in d = get (codes "packageVerificationCodeExcludedFiles") d
 
-abbrev pub excluded_faults : List ℕ → Option Data → List StepText
-excluded_faults at None = []
-excluded_faults at (Some d) = in_array at (name_faults at 0) (as_array d)
-
 -- a verification code
 abbrev pub code_line : Tag → Data → LineText
 code_line tag d = one_line tag (word_in (codes "packageVerificationCodeValue") d ++ excluded_text (option_and_then as_array (names_in d)))
@@ -101,7 +103,7 @@ code_line tag d = one_line tag (word_in (codes "packageVerificationCodeValue") d
 abbrev pub code_steps : List ℕ → Tag → Data → List StepText
 code_steps at tag d =
     word_fault at (codes "packageVerificationCodeValue") d
-    ++ (excluded_faults (member_at at (codes "packageVerificationCodeExcludedFiles")) (names_in d) ++ step at (put (code_line tag d)) ∷ [])
+    ++ (if_array name_fault (member_at at (codes "packageVerificationCodeExcludedFiles")) (names_in d) ++ step at (put (code_line tag d)) ∷ [])
 
 -- ---- what is left out: each item of an array, and a value of another type once
 abbrev pub left_items : Kind → Items → List StepText
@@ -118,8 +120,8 @@ value_steps at (forms.OneLine tag) d = line_step at (one_line tag) (as_str d) �
 value_steps at (forms.InText tag) d = line_step at (in_text tag) (as_str d) ∷ []
 value_steps at (forms.Copyright tag) d = line_step at (copyright_line tag) (as_str d) ∷ []
 value_steps at (forms.Flag tag) d = line_step at (one_line tag) (option_map flag_text (as_bool d)) ∷ []
-value_steps at (forms.Texts tag) d = in_array at (text_steps at tag 0) (as_array d)
-value_steps at (forms.Checksums tag) d = in_array at (checksum_steps at tag 0) (as_array d)
+value_steps at (forms.Texts tag) d = in_array (text_steps tag) at (as_array d)
+value_steps at (forms.Checksums tag) d = in_array (checksum_steps tag) at (as_array d)
 value_steps at (forms.Code tag) d = code_steps at tag d
 value_steps at (forms.LeftOut kind) d = left_steps kind (as_array d)
 value_steps at forms.Elsewhere d = []

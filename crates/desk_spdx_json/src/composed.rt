@@ -3,17 +3,18 @@
 ghost use Rattle.std.specs.Prelude.{◌≡◌, ◌++◌, ◌∷◌, [], IfOk, OnOk, codes, option_map, option_and_then};
 ghost use Rattle.std.specs.String.{string_bytes};
 ghost use Rattle.desk_tagvalue.specs.Drafts.{one_line};
-ghost use Rattle.serde_json.specs.Find.{get, as_str, as_array};
+ghost use Rattle.serde_json.specs.Find.{as_str, as_array};
 ghost use Rattle.serde_json.specs.View.{view, items_view};
-ghost use Rattle.desk_spdx_json.specs.Steps.{step, put, member_at};
-ghost use Rattle.desk_spdx_json.specs.Words.{is_name};
-ghost use Rattle.desk_spdx_json.specs.Values.{in_array, text_fault, text_or_empty, word_fault, word_in, checksum_line, checksum_step, checksum_steps, name_faults, more_names, names_text, excluded_text, names_in, excluded_faults, code_line, code_steps};
+ghost use Rattle.desk_spdx_json.specs.Values.{text_or_empty, word_fault, word_in, checksum_steps, name_fault, more_names, names_text, excluded_text, names_in, code_steps};
 
-use crate::steps::{Steps, What, item_at, member_at};
+use crate::items::{Item, add_array_in};
+use crate::steps::{Steps, What, member_at};
 use crate::words::{is_name, is_word};
 use desk_fields::Tag;
 use serde_json::Value;
 use std::alloc::{AllocError, Global};
+
+const EXCLUDED_FILES: &str = "packageVerificationCodeExcludedFiles";
 
 /// The text of a member, or nothing.
 pub(crate) fn word_in<'a>(value: &'a Value, key: &str) -> &'a str
@@ -56,15 +57,15 @@ fn checksum_text(alloc: Global, value: &Value) -> Result<String, AllocError>
     format!(in alloc; "{algorithm}: {digest}")
 }
 
-// Adds a checksum.
-fn add_checksum(
+/// Adds a checksum.
+pub(crate) fn add_checksum(
     alloc: Global,
     steps: &mut Steps<'_>,
     at: &str,
     tag: Tag,
     value: &Value,
 ) -> Result<(), AllocError>
-    ensures { OnOk result (steps.new ≡ steps.old ++ checksum_step at.now tag (view value.now)) }
+    ensures { OnOk result (steps.new ≡ steps.old ++ checksum_steps tag at.now (view value.now)) }
 {
     add_word_fault(alloc, steps, at, value, "algorithm")?;
     add_word_fault(alloc, steps, at, value, "checksumValue")?;
@@ -72,50 +73,14 @@ fn add_checksum(
     steps.add(alloc, at, What::Composed(tag, text))
 }
 
-// Adds each checksum of a list.
-fn add_checksum_items(
-    alloc: Global,
-    steps: &mut Steps<'_>,
-    at: &str,
-    tag: Tag,
-    list: &[Value],
-) -> Result<(), AllocError>
-    ensures { OnOk result (steps.new
-        ≡ steps.old ++ checksum_steps at.now tag 0 (items_view list.now)) }
-{
-    for (i, value) in list.iter().enumerate() {
-        let place = item_at(alloc, at, i)?;
-        add_checksum(alloc, steps, &place, tag, value)?;
-    }
-    Ok(())
-}
-
-/// Adds an array of checksums.
-pub(crate) fn add_checksums(
-    alloc: Global,
-    steps: &mut Steps<'_>,
-    at: &str,
-    tag: Tag,
-    value: &Value,
-) -> Result<(), AllocError>
-    ensures { OnOk result (steps.new
-        ≡ steps.old ++ in_array at.now (checksum_steps at.now tag 0) (as_array (view value.now))) }
-{
-    match value.as_array() {
-        Some(list) => add_checksum_items(alloc, steps, at, tag, list.as_slice()),
-        None => steps.add(alloc, at, What::BadType),
-    }
-}
-
-// Adds what is wrong with a name of a list.
-fn add_name_fault(
+/// Adds what is wrong with a name of a list.
+pub(crate) fn add_name_fault(
     alloc: Global,
     steps: &mut Steps<'_>,
     at: &str,
     value: &Value,
 ) -> Result<(), AllocError>
-    ensures { OnOk result (steps.new
-        ≡ steps.old ++ text_fault at.now is_name (as_str (view value.now))) }
+    ensures { OnOk result (steps.new ≡ steps.old ++ name_fault at.now (view value.now)) }
 {
     match value.as_str() {
         Some(text) if is_name(text) => Ok(()),
@@ -124,47 +89,11 @@ fn add_name_fault(
     }
 }
 
-// Adds what is wrong with the names of a list.
-fn add_name_faults(
-    alloc: Global,
-    steps: &mut Steps<'_>,
-    at: &str,
-    list: &[Value],
-) -> Result<(), AllocError>
-    ensures { OnOk result (steps.new ≡ steps.old ++ name_faults at.now 0 (items_view list.now)) }
-{
-    for (i, value) in list.iter().enumerate() {
-        let place = item_at(alloc, at, i)?;
-        add_name_fault(alloc, steps, &place, value)?;
-    }
-    Ok(())
-}
-
 // The names of the files that a verification code excludes.
 fn names_in(value: &Value) -> Option<&Value>
     ensures { option_map (λ v. view v.now) result ≡ names_in (view value.now) }
 {
-    value.get("packageVerificationCodeExcludedFiles")
-}
-
-// Adds what is wrong with these names.
-fn add_excluded_faults(
-    alloc: Global,
-    steps: &mut Steps<'_>,
-    at: &str,
-    value: &Value,
-) -> Result<(), AllocError>
-    ensures { OnOk result (steps.new ≡ steps.old
-        ++ excluded_faults (member_at at.now (codes "packageVerificationCodeExcludedFiles")) (names_in (view value.now))) }
-{
-    let place = member_at(alloc, at, "packageVerificationCodeExcludedFiles")?;
-    let Some(names) = names_in(value) else {
-        return Ok(());
-    };
-    match names.as_array() {
-        Some(list) => add_name_faults(alloc, steps, &place, list.as_slice()),
-        None => steps.add(alloc, &place, What::BadType),
-    }
+    value.get(EXCLUDED_FILES)
 }
 
 // The text of a value, or nothing.
@@ -222,17 +151,17 @@ fn code_text(alloc: Global, value: &Value) -> Result<String, AllocError>
 }
 
 /// Adds a package's verification code.
-pub(crate) fn add_code(
+pub(crate) fn add_code<'a>(
     alloc: Global,
-    steps: &mut Steps<'_>,
+    steps: &mut Steps<'a>,
     at: &str,
     tag: Tag,
-    value: &Value,
+    value: &'a Value,
 ) -> Result<(), AllocError>
     ensures { OnOk result (steps.new ≡ steps.old ++ code_steps at.now tag (view value.now)) }
 {
     add_word_fault(alloc, steps, at, value, "packageVerificationCodeValue")?;
-    add_excluded_faults(alloc, steps, at, value)?;
+    add_array_in(alloc, steps, at, EXCLUDED_FILES, Item::Name, value)?;
     let text = code_text(alloc, value)?;
     steps.add(alloc, at, What::Composed(tag, text))
 }

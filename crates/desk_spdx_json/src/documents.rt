@@ -1,18 +1,19 @@
 //! The steps of a document.
 
-ghost use Rattle.std.specs.Prelude.{◌≡◌, ◌++◌, ◌∷◌, [], ℕ, List, IfOk, OnOk, codes, is_some, option_map, option_and_then};
-ghost use Rattle.serde_json.specs.Find.{as_str, as_array, get};
+ghost use Rattle.std.specs.Prelude.{◌≡◌, ◌++◌, ℕ, List, IfOk, OnOk, codes};
+ghost use Rattle.serde_json.specs.Find.{get};
 ghost use Rattle.serde_json.specs.View.{view, items_view};
 ghost use Rattle.desk_base.specs.Borrowed.{texts, texts_in};
 ghost use Rattle.desk_spdx_json.specs.Steps.{member_at};
-ghost use Rattle.desk_spdx_json.specs.Values.{in_array};
-ghost use Rattle.desk_spdx_json.specs.Documents.{creation_steps, list_steps, all_parts, is_describing, target_of, targets_in, targets_of, targets, is_among, described_step, described_items, described_steps, steps_at, document_steps};
+ghost use Rattle.desk_spdx_json.specs.Values.{if_array, items_steps};
+ghost use Rattle.desk_spdx_json.specs.Documents.{creation_steps, all_parts, is_describing, target_of, targets_in, targets, described_steps, steps_at, document_steps};
 ghost use Rattle.desk_spdx_json.specs.Sets.{IsSetOf};
 
 use crate::composed::word_in;
 use crate::members::{CREATION_MEMBERS, DOCUMENT_MEMBERS};
-use crate::parts::{Part, add_object, add_parts, add_tie};
+use crate::parts::{Part, add_object, add_parts};
 use crate::steps::{Steps, What, item_at, member_at};
+use crate::ties::add_tie;
 use serde_json::Value;
 use std::alloc::{AllocError, Global};
 use std::collections::BTreeSet;
@@ -118,7 +119,7 @@ fn add_described(
     value: &Value,
 ) -> Result<(), AllocError>
     ensures { (ids : List (List ℕ)) → IsSetOf ids listed.now
-        → OnOk result (steps.new ≡ steps.old ++ described_step at.now ids (view value.now)) }
+        → OnOk result (steps.new ≡ steps.old ++ described_steps ids at.now (view value.now)) }
 {
     if let Some(id) = value.as_str() {
         if listed.contains(id) {
@@ -138,7 +139,7 @@ fn add_described_items(
 ) -> Result<(), AllocError>
     ensures { (ids : List (List ℕ)) → IsSetOf ids listed.now
         → OnOk result (steps.new
-        ≡ steps.old ++ described_items at.now ids 0 (items_view list.now)) }
+        ≡ steps.old ++ items_steps (described_steps ids) at.now 0 (items_view list.now)) }
 {
     for (i, value) in list.iter().enumerate() {
         let place = item_at(alloc, at, i)?;
@@ -155,7 +156,9 @@ fn add_all_described(
     value: &Value,
 ) -> Result<(), AllocError>
     ensures { OnOk result (steps.new ≡ steps.old
-        ++ described_steps (member_at at.now (codes "documentDescribes")) (targets (view value.now)) (get (codes "documentDescribes") (view value.now))) }
+        ++ if_array (described_steps (targets (view value.now)))
+        (member_at at.now (codes "documentDescribes"))
+        (get (codes "documentDescribes") (view value.now))) }
 {
     let Some(described) = value.get("documentDescribes") else {
         return Ok(());

@@ -15,9 +15,11 @@
 
 mod composed;
 mod documents;
+mod items;
 mod members;
 mod parts;
 mod steps;
+mod ties;
 mod values;
 mod words;
 

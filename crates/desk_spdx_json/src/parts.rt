@@ -1,24 +1,23 @@
 //! The steps of a document's parts.
 
-ghost use Rattle.std.specs.Prelude.{◌≡◌, ◌++◌, ◌∷◌, [], IfOk, OnOk, codes, map, option_map};
+ghost use Rattle.std.specs.Prelude.{◌≡◌, ◌++◌, ◌∷◌, [], OnOk, map};
 ghost use Rattle.std.specs.List.{flat_map};
-ghost use Rattle.std.specs.String.{string_bytes};
-ghost use Rattle.serde_json.specs.Find.{as_str, as_array, as_object, get};
 ghost use Rattle.serde_json.specs.View.{view, items_view, members_view};
-ghost use Rattle.desk_tagvalue.specs.Drafts.{blank, one_line};
+ghost use Rattle.desk_tagvalue.specs.Drafts.{blank};
 ghost use Rattle.desk_spdx_json.specs.declared.parts.Part.TheVariants as parts;
-ghost use Rattle.desk_spdx_json.specs.Steps.{step, put, member_at};
+ghost use Rattle.desk_spdx_json.specs.Steps.{step, put};
 ghost use Rattle.desk_spdx_json.specs.Members.{member_text};
-ghost use Rattle.desk_spdx_json.specs.Values.{in_array, word_in};
-ghost use Rattle.desk_spdx_json.specs.Parts.{missing_steps, member_steps, is_known, unknown_step, unknown_steps, object_steps, relationship_line, words_of, relationship_steps, tie_step, contained_items, contained_steps, part_steps, parts_steps};
+ghost use Rattle.desk_spdx_json.specs.Values.{items_steps};
+ghost use Rattle.desk_spdx_json.specs.Parts.{member_steps, is_known, unknown_step, unknown_steps, object_steps, words_of, relationship_steps, part_steps};
 
 use crate::composed::{add_word_fault, word_in};
+use crate::items::{Item, add_array_in};
 use crate::members::{
     EXTRACTED_MEMBERS, FILE_MEMBERS, Member, PACKAGE_MEMBERS, RELATIONSHIP_MEMBERS,
 };
 use crate::steps::{Kind, Steps, What, item_at, member_at};
+use crate::ties::relationship_text;
 use crate::values::add_value;
-use crate::words::is_word;
 use desk_fields::Tag;
 use serde_json::{Map, Value};
 use std::alloc::{AllocError, Global};
@@ -129,18 +128,6 @@ pub(crate) fn add_object<'a>(
     leave_all_unknown(alloc, steps, members, object)
 }
 
-// The words of a relationship.
-fn relationship_text(
-    alloc: Global,
-    left: &str,
-    kind: &str,
-    right: &str,
-) -> Result<String, AllocError>
-    ensures { IfOk result (λ s. string_bytes s ≡ left.now ++ (codes " " ++ (kind.now ++ (codes " " ++ right.now)))) }
-{
-    format!(in alloc; "{left} {kind} {right}")
-}
-
 // Adds the words of a relationship.
 fn add_words(
     alloc: Global,
@@ -174,67 +161,6 @@ fn add_relationship<'a>(
     add_words(alloc, steps, at, value)
 }
 
-/// Adds the relationship from an element to the one that a value names.
-pub(crate) fn add_tie(
-    alloc: Global,
-    steps: &mut Steps<'_>,
-    at: &str,
-    left: &str,
-    kind: &str,
-    value: &Value,
-) -> Result<(), AllocError>
-    ensures { OnOk result (steps.new
-        ≡ steps.old ++ tie_step at.now left.now kind.now (as_str (view value.now)) ∷ []) }
-{
-    let Some(right) = value.as_str() else {
-        return steps.add(alloc, at, What::BadType);
-    };
-    if !is_word(right) {
-        return steps.add(alloc, at, What::BadValue);
-    }
-    let text = relationship_text(alloc, left, kind, right)?;
-    steps.add(alloc, at, What::Composed(Tag::Relationship, text))
-}
-
-// Adds that a package contains each file of a list.
-fn add_contained_items(
-    alloc: Global,
-    steps: &mut Steps<'_>,
-    at: &str,
-    owner: &str,
-    list: &[Value],
-) -> Result<(), AllocError>
-    ensures { OnOk result (steps.new
-        ≡ steps.old ++ contained_items at.now owner.now 0 (items_view list.now)) }
-{
-    for (i, value) in list.iter().enumerate() {
-        let place = item_at(alloc, at, i)?;
-        add_tie(alloc, steps, &place, owner, "CONTAINS", value)?;
-    }
-    Ok(())
-}
-
-// Adds that a package contains its files.
-fn add_contained(
-    alloc: Global,
-    steps: &mut Steps<'_>,
-    at: &str,
-    value: &Value,
-) -> Result<(), AllocError>
-    ensures { OnOk result (steps.new ≡ steps.old
-        ++ contained_steps (member_at at.now (codes "hasFiles")) (word_in (codes "SPDXID") (view value.now)) (get (codes "hasFiles") (view value.now))) }
-{
-    let Some(files) = value.get("hasFiles") else {
-        return Ok(());
-    };
-    let place = member_at(alloc, at, "hasFiles")?;
-    let owner = word_in(value, "SPDXID");
-    match files.as_array() {
-        Some(list) => add_contained_items(alloc, steps, &place, owner, list.as_slice()),
-        None => steps.add(alloc, &place, What::BadType),
-    }
-}
-
 // Adds an object that has some members, behind a blank line.
 fn add_element<'a>(
     alloc: Global,
@@ -261,7 +187,8 @@ fn add_package<'a>(
         ≡ steps.old ++ part_steps parts.Package at.now (view value.now)) }
 {
     add_element(alloc, steps, at, value, &PACKAGE_MEMBERS)?;
-    add_contained(alloc, steps, at, value)
+    let files = Item::File(word_in(value, "SPDXID"));
+    add_array_in(alloc, steps, at, "hasFiles", files, value)
 }
 
 // Adds a part.
@@ -291,7 +218,7 @@ pub(crate) fn add_parts<'a>(
     list: &'a [Value],
 ) -> Result<(), AllocError>
     ensures { OnOk result (steps.new
-        ≡ steps.old ++ parts_steps part at.now 0 (items_view list.now)) }
+        ≡ steps.old ++ items_steps (part_steps part) at.now 0 (items_view list.now)) }
 {
     for (i, value) in list.iter().enumerate() {
         let place = item_at(alloc, at, i)?;

@@ -5,18 +5,19 @@ ghost use Rattle.desk_tagvalue.specs.Drafts.{one_line, in_text};
 ghost use Rattle.serde_json.specs.Find.{as_str, as_bool, as_array};
 ghost use Rattle.serde_json.specs.View.{view, items_view};
 ghost use Rattle.desk_spdx_json.specs.Steps.{what_text};
-ghost use Rattle.desk_spdx_json.specs.Values.{line_what, copyright_line, flag_text, text_steps, in_array, left_items, left_steps, value_steps};
+ghost use Rattle.desk_spdx_json.specs.Values.{line_what, copyright_line, flag_text, left_items, left_steps, value_steps};
 
-use crate::composed::{add_checksums, add_code};
+use crate::composed::add_code;
+use crate::items::{Item, add_array};
 use crate::members::Form;
-use crate::steps::{Kind, Steps, What, item_at};
+use crate::steps::{Kind, Steps, What};
 use crate::words::is_keyword;
 use desk_fields::Tag;
 use serde_json::Value;
 use std::alloc::{AllocError, Global};
 
-// A text on one line.
-fn one_line(tag: Tag, value: &Value) -> What<'_>
+/// A text on one line.
+pub(crate) fn one_line(tag: Tag, value: &Value) -> What<'_>
     ensures { what_text result ≡ line_what (one_line tag) (as_str (view value.now)) }
 {
     match value.as_str() {
@@ -55,40 +56,6 @@ fn flag(tag: Tag, value: &Value) -> What<'_>
         Some(true) => What::OneLine(tag, "true"),
         Some(false) => What::OneLine(tag, "false"),
         None => What::BadType,
-    }
-}
-
-// Adds each text of a list on a line.
-fn add_text_items<'a>(
-    alloc: Global,
-    steps: &mut Steps<'a>,
-    at: &str,
-    tag: Tag,
-    list: &'a [Value],
-) -> Result<(), AllocError>
-    ensures { OnOk result (steps.new ≡ steps.old ++ text_steps at.now tag 0 (items_view list.now)) }
-{
-    for (i, value) in list.iter().enumerate() {
-        let place = item_at(alloc, at, i)?;
-        steps.add(alloc, &place, one_line(tag, value))?;
-    }
-    Ok(())
-}
-
-// Adds an array of texts.
-fn add_texts<'a>(
-    alloc: Global,
-    steps: &mut Steps<'a>,
-    at: &str,
-    tag: Tag,
-    value: &'a Value,
-) -> Result<(), AllocError>
-    ensures { OnOk result (steps.new
-        ≡ steps.old ++ in_array at.now (text_steps at.now tag 0) (as_array (view value.now))) }
-{
-    match value.as_array() {
-        Some(list) => add_text_items(alloc, steps, at, tag, list.as_slice()),
-        None => steps.add(alloc, at, What::BadType),
     }
 }
 
@@ -137,8 +104,8 @@ pub(crate) fn add_value<'a>(
         Form::InText(tag) => steps.add(alloc, at, in_text(tag, value)),
         Form::Copyright(tag) => steps.add(alloc, at, copyright(tag, value)),
         Form::Flag(tag) => steps.add(alloc, at, flag(tag, value)),
-        Form::Texts(tag) => add_texts(alloc, steps, at, tag, value),
-        Form::Checksums(tag) => add_checksums(alloc, steps, at, tag, value),
+        Form::Texts(tag) => add_array(alloc, steps, at, Item::Text(tag), value),
+        Form::Checksums(tag) => add_array(alloc, steps, at, Item::Checksum(tag), value),
         Form::Code(tag) => add_code(alloc, steps, at, tag, value),
         Form::LeftOut(kind) => leave_out(alloc, steps, kind, value),
         Form::Elsewhere => Ok(()),

@@ -1,8 +1,11 @@
 use Rattle.std.proofs.Common.{◌≡◌, ◌++◌, drop}
 use Rattle.serde_json.specs.View.{items_view}
-use Rattle.desk_spdx_json.specs.Parts.{parts_steps}
+use Rattle.desk_spdx_json.specs.Parts.{part_steps}
+use Rattle.desk_spdx_json.specs.Values.{items_steps}
 use Rattle.desk_spdx_json.proofs.parts.add_parts.Given as goal
 
 -- what was added, and what is still to come, is all
 abbrev pub invariant-loop-i : goal.invariant-loop-i
-invariant-loop-i l = l.steps ++ parts_steps l.part l.at l.i (items_view (drop l.i l.list)) ≡ l.initial.steps ++ parts_steps l.part l.at 0 (items_view l.list)
+invariant-loop-i l =
+    l.steps ++ items_steps (part_steps l.part) l.at l.i (items_view (drop l.i l.list))
+    ≡ l.initial.steps ++ items_steps (part_steps l.part) l.at 0 (items_view l.list)
