@@ -1,7 +1,8 @@
 -- What a page comes to where a question for it is answered by something else, and where the desk fails.
 use Rattle.std.proofs.Common.{◌≡◌, ◌∙◌, ℕ, ◌+◌, ◌<◌, List, [], ◌∷◌, ◌++◌, Option, Ok, Err, length, get_or, map, take, ap, ap₂, inl, inr, refl, subst, sym}
 use Rattle.std.proofs.lemmas.List.{map-append, map_more}
-use Rattle.std.specs.Prelude.{Result, IfOk, IfErr}
+use Rattle.std.specs.Prelude.{Result, IfOk, IfErr, Vec}
+use Rattle.std.specs.declared.alloc.Global.{Global}
 use Rattle.std.specs.Result.{IsErr, IsErrAnd}
 use Rattle.std.specs.Io.KnownBytes.{Appends}
 use Rattle.desk_model.specs.Queries.{queried}
@@ -24,7 +25,7 @@ use Rattle.desk_subcommands.specs.Failures.{IsOfOutput, OfRequest}
 use Rattle.desk_subcommands.specs.Filing.{answer_status, outcome_line}
 use Rattle.desk_subcommands.specs.declared.failure.Failure.{Failure}
 use Rattle.desk_subcommands.specs.declared.failure.Failure.TheVariants as failure
-use Rattle.desk_views.specs.Paging.{AreContents, Gathers, IsOther, IsOtherChange, IsPaged, LookedUp, contents_text}
+use Rattle.desk_views.specs.Paging.{AreChanges, AreContents, Gathers, IsOther, IsOtherChange, IsPaged, LookedUp, contents_text, rows_in}
 use Rattle.desk_views.specs.declared.paging.Contents.{Contents}
 
 module _ {Left : Type 0} (a b : Seen Left) where
@@ -59,6 +60,13 @@ module _ {Left : Type 0} (is_right : Readings → Type 0) (a b : Seen Left) wher
       → InHistory is_right (λ w h. IsOther w h r outcome) a b → InHistory is_right (λ w h. Gathers w h r gathered) a b
   gathers_other r (Ok contents) outcome is found w right honest h ok held = absurd is
   gathers_other r (Err other) outcome is found w right honest h ok held = subst (IsOther w h r) (sym is) (found w right honest h ok held)
+
+  -- what a question for the changes of a duty came to is told in place of all changes
+  pub changes_other : (lines : List DutyLine) (changes : Result (Vec (List ChangeRow) Global) Outcome) (outcome : Outcome)
+      → IsErrAnd changes (λ o. o ≡ outcome) → InHistory is_right (λ w h. IsOtherChange w h outcome) a b
+      → InHistory is_right (λ w h. AreChanges w h lines (rows_in changes)) a b
+  changes_other lines (Ok changes) outcome is found w right honest h ok held = absurd is
+  changes_other lines (Err other) outcome is found w right honest h ok held = subst (IsOtherChange w h) (sym is) (found w right honest h ok held)
 
   -- as what a question for the changes of a duty came to is
   pub gathers_change : (r : List ℕ) (outcome : Outcome) → InHistory is_right (λ w h. IsOtherChange w h outcome) a b

@@ -2,10 +2,12 @@ use Rattle.std.proofs.Common.{◌≡◌, subst, sym}
 use Rattle.std.specs.Prelude.{IfOk}
 use Rattle.desk_model.specs.Queries.{queried}
 use Rattle.desk_model.specs.Tables.{tables}
+use Rattle.desk_model.specs.declared.command.Outcome.{Outcome}
 use Rattle.desk_model.specs.declared.command.Query.TheVariants as query
 use Rattle.desk_access.proofs.Chains.{same_then_kept, same_then_same}
 use Rattle.desk_core.specs.Desks.{InHistory}
-use Rattle.desk_views.proofs.PageLemmas.{asked_kept, asked_same, changes_more, looked_up_err}
+use Rattle.desk_views.specs.Paging.{IsOtherChange}
+use Rattle.desk_views.proofs.PageLemmas.{asked_kept, asked_other, asked_same, changes_more, changes_other, found_after, looked_up_err}
 use Rattle.desk_views.proofs.paging.all_changes.Goals as goal
 
 pub loop-duty-preserved : goal.loop-duty-preserved
@@ -41,3 +43,24 @@ returns-in_err-add_rows-clause-kept g c =
     looked_up_err old new c.from_residual-in_err-add_rows.result c.from_residual-in_err-add_rows.ensures.0
     (same_then_kept old (g.D.Desk.seen c.loop-duty.desk) new c.loop-duty.invariant.same
     (asked_kept (g.D.Desk.seen c.loop-duty.desk) new c.changes_of.result c.changes_of.ensures.kept))
+
+pub returns-in_err-rows-clause-found : goal.returns-in_err-rows-clause-found
+returns-in_err-rows-clause-found g c =
+    let old = g.D.Desk.seen c.args.desk.now in
+    let asked = g.D.Desk.seen c.loop-duty.desk in
+    let new = g.D.Desk.seen c.changes_of.new.desk in
+    let number = c.duty-item.result.number in
+    let outcome = c.in_err-rows.field-0.0 in
+    changes_other g.D.Desk.are_right old new c.args.duties.now c.from_residual.result outcome c.from_residual.ensures.1
+    (found_after g.D.Desk.are_right old asked (λ w h. IsOtherChange w h outcome) new c.loop-duty.invariant.same
+    (asked_other g.D.Desk.are_right asked new (query.Changes number) (λ w h. IsOtherChange w h) c.changes_of.result outcome c.changes_of.ensures.told
+    c.in_err-rows.ensures (λ w h other is. (number, is)) (λ w h fault. tt)))
+
+pub returns-in_err-add_rows-clause-found : goal.returns-in_err-add_rows-clause-found
+returns-in_err-add_rows-clause-found g c =
+    let old = g.D.Desk.seen c.args.desk.now in
+    let new = g.D.Desk.seen c.changes_of.new.desk in
+    let outcome = c.in_err-add_rows.field-0.0 in
+    changes_other g.D.Desk.are_right old new c.args.duties.now c.from_residual-in_err-add_rows.result outcome
+    c.from_residual-in_err-add_rows.ensures.1
+    (λ w right honest h ok held. subst (λ (o : Outcome). IsOtherChange w h o) (sym c.in_err-add_rows.ensures.memory) tt)

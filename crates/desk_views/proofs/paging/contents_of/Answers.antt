@@ -1,8 +1,8 @@
 use Rattle.std.proofs.Common.{inl, inr, refl}
 use Rattle.desk_model.specs.declared.command.Query.TheVariants as query
-use Rattle.desk_access.proofs.Chains.{same_then_same}
+use Rattle.desk_access.proofs.Chains.{same_then_kept, same_then_same}
 use Rattle.desk_views.specs.Paging.{IsOther}
-use Rattle.desk_views.proofs.PageLemmas.{asked_other, asked_same, found_after, gathers_change, gathers_other}
+use Rattle.desk_views.proofs.PageLemmas.{asked_kept, asked_other, asked_same, found_after, gathers_change, gathers_other}
 use Rattle.desk_views.proofs.paging.contents_of.Goals as goal
 
 pub returns-in_err-bill-clause-found : goal.returns-in_err-bill-clause-found
@@ -55,3 +55,29 @@ returns-in_err-changes-clause-found g c =
     (asked_same asked asked' _ c.totals_of.result c.totals_of.ensures.kept c.in_ok-totals.ensures))
     (asked_same asked' asked'' _ c.duties_of.result c.duties_of.ensures.kept c.in_ok-duties.ensures))
     (gathers_change g.D.Desk.are_right asked'' new r c.in_err-changes.field-0.0 c.in_err-changes.ensures.found))
+
+pub returns-in_err-bill-clause-kept : goal.returns-in_err-bill-clause-kept
+returns-in_err-bill-clause-kept g c = asked_kept _ _ c.bill_of.result c.bill_of.ensures.kept
+
+pub returns-in_err-totals-clause-kept : goal.returns-in_err-totals-clause-kept
+returns-in_err-totals-clause-kept g c =
+    same_then_kept _ _ _ (asked_same _ _ _ c.bill_of.result c.bill_of.ensures.kept c.in_ok-bill.ensures)
+    (asked_kept _ _ c.totals_of.result c.totals_of.ensures.kept)
+
+pub returns-in_err-duties-clause-kept : goal.returns-in_err-duties-clause-kept
+returns-in_err-duties-clause-kept g c =
+    same_then_kept _ _ _ (asked_same _ _ _ c.bill_of.result c.bill_of.ensures.kept c.in_ok-bill.ensures)
+    (same_then_kept _ _ _ (asked_same _ _ _ c.totals_of.result c.totals_of.ensures.kept c.in_ok-totals.ensures)
+    (asked_kept _ _ c.duties_of.result c.duties_of.ensures.kept))
+
+pub returns-in_err-changes-clause-kept : goal.returns-in_err-changes-clause-kept
+returns-in_err-changes-clause-kept g c =
+    same_then_kept _ _ _ (asked_same _ _ _ c.bill_of.result c.bill_of.ensures.kept c.in_ok-bill.ensures)
+    (same_then_kept _ _ _ (asked_same _ _ _ c.totals_of.result c.totals_of.ensures.kept c.in_ok-totals.ensures)
+    (same_then_kept _ _ _ (asked_same _ _ _ c.duties_of.result c.duties_of.ensures.kept c.in_ok-duties.ensures) c.in_err-changes.ensures.kept))
+
+pub returns-clause-kept : goal.returns-clause-kept
+returns-clause-kept g c =
+    same_then_kept _ _ _ (asked_same _ _ _ c.bill_of.result c.bill_of.ensures.kept c.in_ok-bill.ensures)
+    (same_then_kept _ _ _ (asked_same _ _ _ c.totals_of.result c.totals_of.ensures.kept c.in_ok-totals.ensures)
+    (same_then_kept _ _ _ (asked_same _ _ _ c.duties_of.result c.duties_of.ensures.kept c.in_ok-duties.ensures) c.in_ok-changes.ensures.kept.kept))
