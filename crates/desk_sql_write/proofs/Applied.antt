@@ -1,10 +1,11 @@
--- What a change writes is what it makes of the tables, in some order of their rows.
-use Rattle.std.proofs.Common.{ℕ, Bool, true, false, not, cond, List, [], ◌∷◌, ◌++◌, filter, map, Ok, Err, Result, sym, ap, subst}
+-- What a change writes is what it makes of the tables, in some order of their rows, and it fails as what it writes does.
+use Rattle.std.proofs.Common.{ℕ, Bool, true, false, not, cond, List, [], ◌∷◌, ◌++◌, filter, map, length, ◌+◌, ◌∙◌, Ok, Err, Result, sym, ap, subst}
 use Rattle.std.specs.List.{AllByRecursion}
 use Rattle.std.specs.List.Sorted.{IsPermutation}
 use Rattle.std.proofs.lemmas.List.Sorted.{IsPermutation-refl, IsPermutation-sym, IsPermutation-cons, IsPermutation-middle, IsPermutation-trans, IsPermutation-map}
 use Rattle.sqlite_value.specs.Order.{Row}
-use Rattle.sqlite_trees.proofs.ListLemmas.{IsPermutation-filter, IsPermutation-same}
+use Rattle.std.proofs.lemmas.List.{map-append}
+use Rattle.sqlite_trees.proofs.ListLemmas.{all-permutation, IsPermutation-filter, IsPermutation-same}
 use Rattle.sqlite_schema.specs.declared.schema.Table.{Table}
 use Rattle.sqlite.specs.Effect.{Database}
 use Rattle.sqlite.specs.State.{State}
@@ -25,16 +26,19 @@ use Rattle.desk_model.specs.declared.row.FrozenRow.{FrozenRow}
 use Rattle.desk_model.specs.declared.row.DutyRow.{DutyRow}
 use Rattle.desk_model.specs.declared.row.ChangeRow.{ChangeRow}
 use Rattle.desk_model.specs.declared.state.ReleaseState.TheVariants.{Frozen}
+use Rattle.desk_model.specs.declared.command.Change.{Change}
 use Rattle.desk_model.specs.declared.command.Change.TheVariants.{Loaded, Imported, Opened, Attached, Chosen, Froze, Moved, Withdrew, Concluded, Adopted}
 use Rattle.desk_model.specs.declared.command.Fault.{Fault}
-use Rattle.desk_sql_layout.specs.Layout.{desk_schema}
+use Rattle.desk_sql_layout.specs.Layout.{desk_schema, catalogue_table, rule_table, conclusion_table, adoption_table, releases_table, attached_table, choice_table, frozen_table}
 use Rattle.desk_sql_layout.specs.Stored.{AreStored}
-use Rattle.desk_sql_layout.specs.Cells.{release_cells, attached_cells, choice_cells, frozen_cells, change_cells, conclusion_cells, adoption_cells, is_waiver, waiver_cells}
+use Rattle.desk_sql_layout.specs.Cells.{catalogue_cells, rule_cells, document_cells, reading_cells, package_cells, extracted_cells, duty_cells, release_cells, attached_cells, choice_cells, frozen_cells, change_cells, conclusion_cells, adoption_cells, is_waiver, waiver_cells}
 use Rattle.desk_sql_layout.specs.Held.{HasRows, rows_of}
 use Rattle.desk_sql_layout.proofs.Writes.{stored_as}
-use Rattle.desk_sql_write.specs.Contents.{Contents, cells_of, contents_of, with_tables, with_steps, with_document}
+use Rattle.desk_sql_write.specs.Taking.{IsSmall, StandsOnce, CanStand, Goes}
+use Rattle.desk_sql_write.specs.Turning.{Turns, with_rows, with_steps, with_raised, with_document, with_parts}
 use Rattle.desk_sql_write.specs.Written.{Writes}
 use Rattle.desk_sql_write.proofs.Lists.{append_nil, filter_both}
+use Rattle.desk_sql_write.proofs.Puts.{once_permuted}
 
 -- each table has the same rows, in some order
 abbrev pub AreSame : (ℕ → List Row) → (ℕ → List Row) → Type 0
@@ -48,18 +52,42 @@ permuted rows other db same has = record { declared = has.declared; stored = eac
     each [] a b = tt
     each (t ∷ tables) a b = (stored_as t (other t.tree) (rows t.tree) (db.trees t.tree) a.0 b.0, each tables a.1 b.1)
 
--- nothing is in work before a change
-pub whole : (t : Tables) (db : Database) → HasRows (rows_of t) db → HasRows (cells_of (contents_of t)) db
-whole t db has = record { declared = has.declared; stored = has.stored; sound = has.sound }
+permuted_stand : (rows other : ℕ → List Row) → AreSame rows other → CanStand rows → CanStand other
+permuted_stand rows other same can = record { small = small desk_schema.tables same can.small; keys = keys desk_schema.tables same can.keys }
+  where
+    small : (tables : List Table) → AllByRecursion (λ t. IsPermutation (rows t.tree) (other t.tree)) tables → AllByRecursion (λ t. AllByRecursion (AllByRecursion IsSmall) (rows t.tree)) tables → AllByRecursion (λ t. AllByRecursion (AllByRecursion IsSmall) (other t.tree)) tables
+    small [] a b = tt
+    small (t ∷ tables) a b = (all-permutation (AllByRecursion IsSmall) (rows t.tree) (other t.tree) a.0 b.0, small tables a.1 b.1)
 
-makes : (made : Contents → Contents) (after : Tables → Tables) (old new : State) (r : Result (Unit {0}) Fault) → ((t : Tables) → AreSame (rows_of (after t)) (cells_of (made (contents_of t))))
-    → Writes cells_of made old new r → Writes rows_of after old new r
-makes made after old new (Ok done) same w = λ clean inside.
-    let it = w clean inside in
-    record { inside = it.inside; kept = it.kept; change = λ t has. permuted (rows_of (after t)) (cells_of (made (contents_of t))) new.now (same t) (it.change (contents_of t) (whole t old.now has)) }
-makes made after old new (Err fault) same w = w
+    once : (xs ys : List Row) (places : List (List ℕ)) → IsPermutation xs ys → AllByRecursion (StandsOnce xs) places → AllByRecursion (StandsOnce ys) places
+    once xs ys [] same all = tt
+    once xs ys (p ∷ places) same all = (once_permuted xs ys p same all.0, once xs ys places same all.1)
+
+    keys : (tables : List Table) → AllByRecursion (λ t. IsPermutation (rows t.tree) (other t.tree)) tables → AllByRecursion (λ t. AllByRecursion (StandsOnce (rows t.tree)) (t.primary ∷ t.uniques)) tables → AllByRecursion (λ t. AllByRecursion (StandsOnce (other t.tree)) (t.primary ∷ t.uniques)) tables
+    keys [] a b = tt
+    keys (t ∷ tables) a b = (once (rows t.tree) (other t.tree) (t.primary ∷ t.uniques) a.0 b.0, keys tables a.1 b.1)
+
+-- a change is written by what makes the same of the tables
+abbrev IsWritten : (Tables → ℕ → List Row) → ℕ → Change → Type 1
+IsWritten after many change = (old new : State) (r : Result (Unit {0}) Fault) → Turns rows_of after many old new r → Writes rows_of (applied change) old new r × Goes rows_of (applied change) many old new r
+
+written : (after : Tables → ℕ → List Row) (many : ℕ) (change : Change) → ((t : Tables) → AreSame (rows_of (applied change t)) (after t)) → IsWritten after many change
+written after many change same old new (Ok done) turns = (
+  λ clean inside. let it = turns.wrote clean inside in record { inside = it.inside; kept = it.kept; change = λ t has. permuted (rows_of (applied change t)) (after t) new.now (same t) (it.change t has) },
+  turns.cause,
+)
+written after many change same old new (Err fault) turns = (
+  turns.wrote,
+  record { cause = λ clean inside opened unlimited t has before last room. turns.cause.cause clean inside opened unlimited t has before (permuted_stand (rows_of (applied change t)) (after t) (same t) last) room },
+)
 
 -- ---- a row in its place is a row behind the others, in another order
+
+added : {X : Type 0} (cells : X → Row) (xs ys : List X) → IsPermutation (map cells (xs ++ ys)) (map cells xs ++ map cells ys)
+added cells xs ys = IsPermutation-same _ _ (map-append cells xs ys)
+
+waivers_added : (all changes : List ChangeRow) → IsPermutation (map waiver_cells (filter is_waiver (all ++ changes))) (map waiver_cells (filter is_waiver all) ++ map waiver_cells (filter is_waiver changes))
+waivers_added all changes = IsPermutation-same _ _ (ap (map waiver_cells) (filter_both is_waiver all changes) ∙ map-append waiver_cells (filter is_waiver all) (filter is_waiver changes))
 
 behind : {X : Type 0} (x : X) (xs : List X) → IsPermutation (x ∷ xs) (xs ++ x ∷ [])
 behind x xs = IsPermutation-sym _ _ (subst (λ l. IsPermutation (xs ++ x ∷ []) (x ∷ l)) (append_nil xs) (IsPermutation-middle xs x []))
@@ -77,44 +105,54 @@ put_all_in below [] ys = IsPermutation-same _ _ (sym (append_nil ys))
 put_all_in below (x ∷ xs) ys =
     IsPermutation-trans _ _ _ (put_in below x (put_all below xs ys)) (IsPermutation-trans _ _ _ (IsPermutation-cons x _ _ (put_all_in below xs ys)) (IsPermutation-sym _ _ (IsPermutation-middle ys x xs)))
 
-pub placed : {X : Type 0} (cells : X → Row) (below : X → X → Bool) (x : X) (xs : List X) → IsPermutation (map cells (put below x xs)) (map cells (xs ++ x ∷ []))
-placed cells below x xs = IsPermutation-map cells _ _ (IsPermutation-trans _ _ _ (put_in below x xs) (behind x xs))
+placed : {X : Type 0} (cells : X → Row) (below : X → X → Bool) (x : X) (xs : List X) → IsPermutation (map cells (put below x xs)) (map cells xs ++ cells x ∷ [])
+placed cells below x xs = IsPermutation-trans _ _ _ (IsPermutation-map cells _ _ (IsPermutation-trans _ _ _ (put_in below x xs) (behind x xs))) (added cells xs (x ∷ []))
 
-pub all_placed : {X : Type 0} (cells : X → Row) (below : X → X → Bool) (xs ys : List X) → IsPermutation (map cells (put_all below xs ys)) (map cells (ys ++ xs))
-all_placed cells below xs ys = IsPermutation-map cells _ _ (put_all_in below xs ys)
+all_placed : {X : Type 0} (cells : X → Row) (below : X → X → Bool) (xs ys : List X) → IsPermutation (map cells (put_all below xs ys)) (map cells ys ++ map cells xs)
+all_placed cells below xs ys = IsPermutation-trans _ _ _ (IsPermutation-map cells _ _ (put_all_in below xs ys)) (added cells ys xs)
 
-pub waivers_placed : (changes all : List ChangeRow) → IsPermutation (map waiver_cells (filter is_waiver (put_all change_below changes all))) (map waiver_cells (filter is_waiver all ++ filter is_waiver changes))
+waivers_placed : (changes all : List ChangeRow) → IsPermutation (map waiver_cells (filter is_waiver (put_all change_below changes all))) (map waiver_cells (filter is_waiver all) ++ map waiver_cells (filter is_waiver changes))
 waivers_placed changes all =
-    IsPermutation-map waiver_cells _ _ (IsPermutation-trans _ _ _ (IsPermutation-filter is_waiver _ _ (put_all_in change_below changes all)) (IsPermutation-same _ _ (filter_both is_waiver all changes)))
+    IsPermutation-trans _ _ _ (IsPermutation-map waiver_cells _ _ (IsPermutation-filter is_waiver _ _ (put_all_in change_below changes all))) (waivers_added all changes)
 
 -- ---- the changes
 
-pub loaded : (row : CatalogueRow) (rules : List RuleRow) (forms : List (List ℕ)) (old new : State) (r : Result (Unit {0}) Fault) → Writes cells_of (with_tables (λ t. record t { catalogue = t.catalogue ++ row ∷ []; rule = t.rule ++ rules })) old new r → Writes rows_of (applied (Loaded row rules forms)) old new r
-loaded row rules forms old new r = makes (with_tables (λ t. record t { catalogue = t.catalogue ++ row ∷ []; rule = t.rule ++ rules })) (applied (Loaded row rules forms)) old new r (λ t. (IsPermutation-refl _, (IsPermutation-refl _, (IsPermutation-refl _, (IsPermutation-refl _, (IsPermutation-refl _, (IsPermutation-refl _, (IsPermutation-refl _, (IsPermutation-refl _, (IsPermutation-refl _, (IsPermutation-refl _, (IsPermutation-refl _, (IsPermutation-refl _, (IsPermutation-refl _, (IsPermutation-refl _, (IsPermutation-refl _, (IsPermutation-refl _, tt)))))))))))))))))
+pub loaded : (row : CatalogueRow) (rules : List RuleRow) (forms : List (List ℕ)) → IsWritten (λ t. with_rows rule_table.tree (map rule_cells rules) (with_rows catalogue_table.tree (catalogue_cells row ∷ []) (rows_of t))) (1 + length rules) (Loaded row rules forms)
+loaded row rules forms = written (λ t. with_rows rule_table.tree (map rule_cells rules) (with_rows catalogue_table.tree (catalogue_cells row ∷ []) (rows_of t))) (1 + length rules) (Loaded row rules forms)
+    (λ t. (IsPermutation-refl _, (added catalogue_cells t.catalogue (row ∷ []), (added rule_cells t.rule rules, (IsPermutation-refl _, (IsPermutation-refl _, (IsPermutation-refl _, (IsPermutation-refl _, (IsPermutation-refl _, (IsPermutation-refl _, (IsPermutation-refl _, (IsPermutation-refl _, (IsPermutation-refl _, (IsPermutation-refl _, (IsPermutation-refl _, (IsPermutation-refl _, (IsPermutation-refl _, tt)))))))))))))))))
 
-pub imported : (row : DocumentRow) (packages : List PackageRow) (references : List ExtractedRow) (old new : State) (r : Result (Unit {0}) Fault) → Writes cells_of (λ it. with_tables (λ t. record t { packages = t.packages ++ packages; extracted = t.extracted ++ references }) (with_document row it)) old new r → Writes rows_of (applied (Imported row packages references)) old new r
-imported row packages references old new r = makes (λ it. with_tables (λ t. record t { packages = t.packages ++ packages; extracted = t.extracted ++ references }) (with_document row it)) (applied (Imported row packages references)) old new r (λ t. (IsPermutation-refl _, (IsPermutation-refl _, (IsPermutation-refl _, (IsPermutation-refl _, (IsPermutation-refl _, (IsPermutation-refl _, (IsPermutation-refl _, (IsPermutation-refl _, (IsPermutation-refl _, (IsPermutation-refl _, (IsPermutation-refl _, (IsPermutation-refl _, (IsPermutation-refl _, (IsPermutation-refl _, (IsPermutation-refl _, (IsPermutation-refl _, tt)))))))))))))))))
+pub imported : (row : DocumentRow) (packages : List PackageRow) (references : List ExtractedRow) → IsWritten (λ t. with_parts packages references (with_document row (rows_of t))) (2 + (length packages + length references)) (Imported row packages references)
+imported row packages references = written (λ t. with_parts packages references (with_document row (rows_of t))) (2 + (length packages + length references)) (Imported row packages references)
+    (λ t. (IsPermutation-refl _, (IsPermutation-refl _, (IsPermutation-refl _, (added document_cells t.document (row ∷ []), (added package_cells t.packages packages, (added extracted_cells t.extracted references, (IsPermutation-refl _, (IsPermutation-refl _, (IsPermutation-refl _, (IsPermutation-refl _, (IsPermutation-refl _, (IsPermutation-refl _, (IsPermutation-refl _, (IsPermutation-refl _, (added reading_cells t.document (row ∷ []), (IsPermutation-refl _, tt)))))))))))))))))
 
-pub opened : (row : ReleaseRow) (old new : State) (r : Result (Unit {0}) Fault) → Writes cells_of (with_tables (λ t. record t { releases = t.releases ++ row ∷ [] })) old new r → Writes rows_of (applied (Opened row)) old new r
-opened row old new r = makes (with_tables (λ t. record t { releases = t.releases ++ row ∷ [] })) (applied (Opened row)) old new r (λ t. (IsPermutation-refl _, (IsPermutation-refl _, (IsPermutation-refl _, (IsPermutation-refl _, (IsPermutation-refl _, (IsPermutation-refl _, (IsPermutation-refl _, (IsPermutation-refl _, (placed release_cells release_below row t.releases, (IsPermutation-refl _, (IsPermutation-refl _, (IsPermutation-refl _, (IsPermutation-refl _, (IsPermutation-refl _, (IsPermutation-refl _, (IsPermutation-refl _, tt)))))))))))))))))
+pub opened : (row : ReleaseRow) → IsWritten (λ t. with_rows releases_table.tree (release_cells row ∷ []) (rows_of t)) (1) (Opened row)
+opened row = written (λ t. with_rows releases_table.tree (release_cells row ∷ []) (rows_of t)) (1) (Opened row)
+    (λ t. (IsPermutation-refl _, (IsPermutation-refl _, (IsPermutation-refl _, (IsPermutation-refl _, (IsPermutation-refl _, (IsPermutation-refl _, (IsPermutation-refl _, (IsPermutation-refl _, (placed release_cells release_below row t.releases, (IsPermutation-refl _, (IsPermutation-refl _, (IsPermutation-refl _, (IsPermutation-refl _, (IsPermutation-refl _, (IsPermutation-refl _, (IsPermutation-refl _, tt)))))))))))))))))
 
-pub attached : (row : AttachedRow) (old new : State) (r : Result (Unit {0}) Fault) → Writes cells_of (with_tables (λ t. record t { attached = t.attached ++ row ∷ [] })) old new r → Writes rows_of (applied (Attached row)) old new r
-attached row old new r = makes (with_tables (λ t. record t { attached = t.attached ++ row ∷ [] })) (applied (Attached row)) old new r (λ t. (IsPermutation-refl _, (IsPermutation-refl _, (IsPermutation-refl _, (IsPermutation-refl _, (IsPermutation-refl _, (IsPermutation-refl _, (IsPermutation-refl _, (IsPermutation-refl _, (IsPermutation-refl _, (placed attached_cells (below_by attached_order) row t.attached, (IsPermutation-refl _, (IsPermutation-refl _, (IsPermutation-refl _, (IsPermutation-refl _, (IsPermutation-refl _, (IsPermutation-refl _, tt)))))))))))))))))
+pub attached : (row : AttachedRow) → IsWritten (λ t. with_rows attached_table.tree (attached_cells row ∷ []) (rows_of t)) (1) (Attached row)
+attached row = written (λ t. with_rows attached_table.tree (attached_cells row ∷ []) (rows_of t)) (1) (Attached row)
+    (λ t. (IsPermutation-refl _, (IsPermutation-refl _, (IsPermutation-refl _, (IsPermutation-refl _, (IsPermutation-refl _, (IsPermutation-refl _, (IsPermutation-refl _, (IsPermutation-refl _, (IsPermutation-refl _, (placed attached_cells (below_by attached_order) row t.attached, (IsPermutation-refl _, (IsPermutation-refl _, (IsPermutation-refl _, (IsPermutation-refl _, (IsPermutation-refl _, (IsPermutation-refl _, tt)))))))))))))))))
 
-pub chosen : (release : List ℕ) (document : ℕ) (package_id : List ℕ) (rows : List ChoiceRow) (old new : State) (r : Result (Unit {0}) Fault) → Writes cells_of (with_tables (λ t. record t { choice = filter (is_other_choice release document package_id) t.choice ++ rows })) old new r → Writes rows_of (applied (Chosen release document package_id rows)) old new r
-chosen release document package_id rows old new r = makes (with_tables (λ t. record t { choice = filter (is_other_choice release document package_id) t.choice ++ rows })) (applied (Chosen release document package_id rows)) old new r (λ t. (IsPermutation-refl _, (IsPermutation-refl _, (IsPermutation-refl _, (IsPermutation-refl _, (IsPermutation-refl _, (IsPermutation-refl _, (IsPermutation-refl _, (IsPermutation-refl _, (IsPermutation-refl _, (IsPermutation-refl _, (all_placed choice_cells (below_by choice_order) rows (filter (is_other_choice release document package_id) t.choice), (IsPermutation-refl _, (IsPermutation-refl _, (IsPermutation-refl _, (IsPermutation-refl _, (IsPermutation-refl _, tt)))))))))))))))))
+pub chosen : (release : List ℕ) (document : ℕ) (package_id : List ℕ) (rows : List ChoiceRow) → IsWritten (λ t. with_rows choice_table.tree (map choice_cells rows) (rows_of (record t { choice = filter (is_other_choice release document package_id) t.choice }))) (length rows) (Chosen release document package_id rows)
+chosen release document package_id rows = written (λ t. with_rows choice_table.tree (map choice_cells rows) (rows_of (record t { choice = filter (is_other_choice release document package_id) t.choice }))) (length rows) (Chosen release document package_id rows)
+    (λ t. (IsPermutation-refl _, (IsPermutation-refl _, (IsPermutation-refl _, (IsPermutation-refl _, (IsPermutation-refl _, (IsPermutation-refl _, (IsPermutation-refl _, (IsPermutation-refl _, (IsPermutation-refl _, (IsPermutation-refl _, (all_placed choice_cells (below_by choice_order) rows (filter (is_other_choice release document package_id) t.choice), (IsPermutation-refl _, (IsPermutation-refl _, (IsPermutation-refl _, (IsPermutation-refl _, (IsPermutation-refl _, tt)))))))))))))))))
 
-pub froze : (release : List ℕ) (revision : ℕ) (frozen : List FrozenRow) (duties : List DutyRow) (changes : List ChangeRow) (old new : State) (r : Result (Unit {0}) Fault) → Writes cells_of (λ it. with_steps changes (with_tables (λ t. record t { releases = updated (is_release release) (with_release_state Frozen revision) t.releases; frozen = t.frozen ++ frozen; duty = t.duty ++ duties }) it)) old new r → Writes rows_of (applied (Froze release revision frozen duties changes)) old new r
-froze release revision frozen duties changes old new r = makes (λ it. with_steps changes (with_tables (λ t. record t { releases = updated (is_release release) (with_release_state Frozen revision) t.releases; frozen = t.frozen ++ frozen; duty = t.duty ++ duties }) it)) (applied (Froze release revision frozen duties changes)) old new r (λ t. (IsPermutation-refl _, (IsPermutation-refl _, (IsPermutation-refl _, (IsPermutation-refl _, (IsPermutation-refl _, (IsPermutation-refl _, (IsPermutation-refl _, (IsPermutation-refl _, (IsPermutation-refl _, (IsPermutation-refl _, (IsPermutation-refl _, (all_placed frozen_cells (below_by frozen_order) frozen t.frozen, (IsPermutation-refl _, (IsPermutation-refl _, (IsPermutation-refl _, (IsPermutation-same _ _ (ap (map waiver_cells) (filter_both is_waiver t.changes changes)), tt)))))))))))))))))
+pub froze : (release : List ℕ) (revision : ℕ) (frozen : List FrozenRow) (duties : List DutyRow) (changes : List ChangeRow) → IsWritten (λ t. with_raised duties changes (with_rows frozen_table.tree (map frozen_cells frozen) (rows_of (record t { releases = updated (is_release release) (with_release_state Frozen revision) t.releases })))) (length frozen + (length duties + (length changes + length changes))) (Froze release revision frozen duties changes)
+froze release revision frozen duties changes = written (λ t. with_raised duties changes (with_rows frozen_table.tree (map frozen_cells frozen) (rows_of (record t { releases = updated (is_release release) (with_release_state Frozen revision) t.releases })))) (length frozen + (length duties + (length changes + length changes))) (Froze release revision frozen duties changes)
+    (λ t. (IsPermutation-refl _, (IsPermutation-refl _, (IsPermutation-refl _, (IsPermutation-refl _, (IsPermutation-refl _, (IsPermutation-refl _, (IsPermutation-refl _, (IsPermutation-refl _, (IsPermutation-refl _, (IsPermutation-refl _, (IsPermutation-refl _, (all_placed frozen_cells (below_by frozen_order) frozen t.frozen, (added duty_cells t.duty duties, (added change_cells t.changes changes, (IsPermutation-refl _, (waivers_added t.changes changes, tt)))))))))))))))))
 
-pub moved : (changes : List ChangeRow) (old new : State) (r : Result (Unit {0}) Fault) → Writes cells_of (λ it. with_steps changes (with_tables (λ t. record t { duty = moved_by changes t.duty }) it)) old new r → Writes rows_of (applied (Moved changes)) old new r
-moved changes old new r = makes (λ it. with_steps changes (with_tables (λ t. record t { duty = moved_by changes t.duty }) it)) (applied (Moved changes)) old new r (λ t. (IsPermutation-refl _, (IsPermutation-refl _, (IsPermutation-refl _, (IsPermutation-refl _, (IsPermutation-refl _, (IsPermutation-refl _, (IsPermutation-refl _, (IsPermutation-refl _, (IsPermutation-refl _, (IsPermutation-refl _, (IsPermutation-refl _, (IsPermutation-refl _, (IsPermutation-refl _, (all_placed change_cells change_below changes t.changes, (IsPermutation-refl _, (waivers_placed changes t.changes, tt)))))))))))))))))
+pub moved : (changes : List ChangeRow) → IsWritten (λ t. with_steps changes (rows_of (record t { duty = moved_by changes t.duty }))) (length changes + length changes) (Moved changes)
+moved changes = written (λ t. with_steps changes (rows_of (record t { duty = moved_by changes t.duty }))) (length changes + length changes) (Moved changes)
+    (λ t. (IsPermutation-refl _, (IsPermutation-refl _, (IsPermutation-refl _, (IsPermutation-refl _, (IsPermutation-refl _, (IsPermutation-refl _, (IsPermutation-refl _, (IsPermutation-refl _, (IsPermutation-refl _, (IsPermutation-refl _, (IsPermutation-refl _, (IsPermutation-refl _, (IsPermutation-refl _, (all_placed change_cells change_below changes t.changes, (IsPermutation-refl _, (waivers_placed changes t.changes, tt)))))))))))))))))
 
-pub withdrew : (release : List ℕ) (changes : List ChangeRow) (old new : State) (r : Result (Unit {0}) Fault) → Writes cells_of (λ it. with_steps changes (with_tables (λ t. record t { releases = updated (is_release release) withdrawn_release t.releases; choice = filter (is_choice_elsewhere release) t.choice; duty = moved_by changes t.duty }) it)) old new r → Writes rows_of (applied (Withdrew release changes)) old new r
-withdrew release changes old new r = makes (λ it. with_steps changes (with_tables (λ t. record t { releases = updated (is_release release) withdrawn_release t.releases; choice = filter (is_choice_elsewhere release) t.choice; duty = moved_by changes t.duty }) it)) (applied (Withdrew release changes)) old new r (λ t. (IsPermutation-refl _, (IsPermutation-refl _, (IsPermutation-refl _, (IsPermutation-refl _, (IsPermutation-refl _, (IsPermutation-refl _, (IsPermutation-refl _, (IsPermutation-refl _, (IsPermutation-refl _, (IsPermutation-refl _, (IsPermutation-refl _, (IsPermutation-refl _, (IsPermutation-refl _, (all_placed change_cells change_below changes t.changes, (IsPermutation-refl _, (waivers_placed changes t.changes, tt)))))))))))))))))
+pub withdrew : (release : List ℕ) (changes : List ChangeRow) → IsWritten (λ t. with_steps changes (rows_of (record t { releases = updated (is_release release) withdrawn_release t.releases; choice = filter (is_choice_elsewhere release) t.choice; duty = moved_by changes t.duty }))) (length changes + length changes) (Withdrew release changes)
+withdrew release changes = written (λ t. with_steps changes (rows_of (record t { releases = updated (is_release release) withdrawn_release t.releases; choice = filter (is_choice_elsewhere release) t.choice; duty = moved_by changes t.duty }))) (length changes + length changes) (Withdrew release changes)
+    (λ t. (IsPermutation-refl _, (IsPermutation-refl _, (IsPermutation-refl _, (IsPermutation-refl _, (IsPermutation-refl _, (IsPermutation-refl _, (IsPermutation-refl _, (IsPermutation-refl _, (IsPermutation-refl _, (IsPermutation-refl _, (IsPermutation-refl _, (IsPermutation-refl _, (IsPermutation-refl _, (all_placed change_cells change_below changes t.changes, (IsPermutation-refl _, (waivers_placed changes t.changes, tt)))))))))))))))))
 
-pub concluded : (row : ConclusionRow) (old new : State) (r : Result (Unit {0}) Fault) → Writes cells_of (with_tables (λ t. record t { conclusion = filter (λ other. not (is_conclusion row.document row.package_id other)) t.conclusion ++ row ∷ [] })) old new r → Writes rows_of (applied (Concluded row)) old new r
-concluded row old new r = makes (with_tables (λ t. record t { conclusion = filter (λ other. not (is_conclusion row.document row.package_id other)) t.conclusion ++ row ∷ [] })) (applied (Concluded row)) old new r (λ t. (IsPermutation-refl _, (IsPermutation-refl _, (IsPermutation-refl _, (IsPermutation-refl _, (IsPermutation-refl _, (IsPermutation-refl _, (placed conclusion_cells (below_by conclusion_order) row (filter (λ other. not (is_conclusion row.document row.package_id other)) t.conclusion), (IsPermutation-refl _, (IsPermutation-refl _, (IsPermutation-refl _, (IsPermutation-refl _, (IsPermutation-refl _, (IsPermutation-refl _, (IsPermutation-refl _, (IsPermutation-refl _, (IsPermutation-refl _, tt)))))))))))))))))
+pub concluded : (row : ConclusionRow) → IsWritten (λ t. with_rows conclusion_table.tree (conclusion_cells row ∷ []) (rows_of (record t { conclusion = filter (λ other. not (is_conclusion row.document row.package_id other)) t.conclusion }))) (1) (Concluded row)
+concluded row = written (λ t. with_rows conclusion_table.tree (conclusion_cells row ∷ []) (rows_of (record t { conclusion = filter (λ other. not (is_conclusion row.document row.package_id other)) t.conclusion }))) (1) (Concluded row)
+    (λ t. (IsPermutation-refl _, (IsPermutation-refl _, (IsPermutation-refl _, (IsPermutation-refl _, (IsPermutation-refl _, (IsPermutation-refl _, (placed conclusion_cells (below_by conclusion_order) row (filter (λ other. not (is_conclusion row.document row.package_id other)) t.conclusion), (IsPermutation-refl _, (IsPermutation-refl _, (IsPermutation-refl _, (IsPermutation-refl _, (IsPermutation-refl _, (IsPermutation-refl _, (IsPermutation-refl _, (IsPermutation-refl _, (IsPermutation-refl _, tt)))))))))))))))))
 
-pub adopted : (row : AdoptionRow) (old new : State) (r : Result (Unit {0}) Fault) → Writes cells_of (with_tables (λ t. record t { adoption = filter (λ other. not (is_adoption row.document row.reference other)) t.adoption ++ row ∷ [] })) old new r → Writes rows_of (applied (Adopted row)) old new r
-adopted row old new r = makes (with_tables (λ t. record t { adoption = filter (λ other. not (is_adoption row.document row.reference other)) t.adoption ++ row ∷ [] })) (applied (Adopted row)) old new r (λ t. (IsPermutation-refl _, (IsPermutation-refl _, (IsPermutation-refl _, (IsPermutation-refl _, (IsPermutation-refl _, (IsPermutation-refl _, (IsPermutation-refl _, (placed adoption_cells (below_by adoption_order) row (filter (λ other. not (is_adoption row.document row.reference other)) t.adoption), (IsPermutation-refl _, (IsPermutation-refl _, (IsPermutation-refl _, (IsPermutation-refl _, (IsPermutation-refl _, (IsPermutation-refl _, (IsPermutation-refl _, (IsPermutation-refl _, tt)))))))))))))))))
+pub adopted : (row : AdoptionRow) → IsWritten (λ t. with_rows adoption_table.tree (adoption_cells row ∷ []) (rows_of (record t { adoption = filter (λ other. not (is_adoption row.document row.reference other)) t.adoption }))) (1) (Adopted row)
+adopted row = written (λ t. with_rows adoption_table.tree (adoption_cells row ∷ []) (rows_of (record t { adoption = filter (λ other. not (is_adoption row.document row.reference other)) t.adoption }))) (1) (Adopted row)
+    (λ t. (IsPermutation-refl _, (IsPermutation-refl _, (IsPermutation-refl _, (IsPermutation-refl _, (IsPermutation-refl _, (IsPermutation-refl _, (IsPermutation-refl _, (placed adoption_cells (below_by adoption_order) row (filter (λ other. not (is_adoption row.document row.reference other)) t.adoption), (IsPermutation-refl _, (IsPermutation-refl _, (IsPermutation-refl _, (IsPermutation-refl _, (IsPermutation-refl _, (IsPermutation-refl _, (IsPermutation-refl _, (IsPermutation-refl _, tt)))))))))))))))))

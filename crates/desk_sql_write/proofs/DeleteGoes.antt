@@ -33,8 +33,8 @@ use Rattle.sqlite.specs.Effect.{Answers}
 use Rattle.sqlite.specs.Listing.{understood}
 use Rattle.sqlite.specs.Rows.{Then, Queried, Deletes, Task}
 use Rattle.sqlite.specs.Does.{Does, Concludes}
-use Rattle.sqlite.specs.State.{State, Executes, mode_of}
-use Rattle.sqlite.proofs.Callers.{IsPlain, command_of, statement_of, runs_as}
+use Rattle.sqlite.specs.State.{State, Executes, Survives, mode_of}
+use Rattle.sqlite.proofs.Callers.{statement_of, runs_as}
 use Rattle.desk_model.specs.declared.command.Fault.{Fault}
 use Rattle.desk_sql_layout.specs.Held.{HasRows}
 use Rattle.desk_sql_layout.specs.Layout.{desk_schema, table_of}
@@ -42,12 +42,13 @@ use Rattle.desk_sql_layout.specs.Stored.{cells, AreStored}
 use Rattle.desk_sql_layout.proofs.Edits.{AreIdsOf, left_is, has_permuted}
 use Rattle.desk_sql_layout.proofs.Keeps.{stored_less}
 use Rattle.desk_sql_layout.proofs.Queries.{query_on, passes, env, selected}
-use Rattle.desk_sql_layout.proofs.Statements.{alone}
+use Rattle.desk_sql_layout.proofs.Statements.{alone, deleted}
 use Rattle.desk_sql_layout.proofs.Steps.{at, deletes}
 use Rattle.desk_sql_layout.proofs.Writes.{stored_as}
-use Rattle.desk_sql_write.specs.Taking.{HaveKeys, LeavesRoom, HasRoom, RanInto, Goes}
+use Rattle.desk_sql_write.specs.Taking.{HaveKeys, LeavesRoom, HasRoom, RanInto}
+use Rattle.desk_sql_write.specs.Turning.{Turns}
 use Rattle.desk_sql_write.specs.Written.{Ran}
-use Rattle.desk_sql_write.proofs.Failing.{Fits, caused, goes_by}
+use Rattle.desk_sql_write.proofs.Failing.{Reads, caused, turns_by}
 use Rattle.desk_sql_write.proofs.InsertGoes.{rooms_after}
 use Rattle.desk_sql_write.proofs.Keyed.{unique_kept}
 use Rattle.desk_sql_write.proofs.Refusing.{IsFree, fits_none, never_stops, never_concludes, stored_with}
@@ -138,15 +139,14 @@ module _ (name : List ℕ) (tree : ℕ) (columns : List Column) (key : Option �
         go (inl (st, deleting, told)) = removes st deleting
         go (inr (w, deleting, concludes)) = never_concludes doing (mode_of s) w stop refl concludes
 
-  module _ {A : Type 0} (rows : A → ℕ → List Row) (made : A → A) (place : ℕ) (listed : slice_get desk_schema.tables place ≡ Some this) (sql : List ℕ) (plain : IsPlain (understood desk_schema sql)) (params : Row)
-      (fits : Fits sql (length params) (understood desk_schema sql)) (tests : List Term) (q : Row → Bool)
-      (is : command_of (understood desk_schema sql) ≡ Delete place (record { lets = []; body = query_on tree tests (col 1 0 ∷ []) [] })) (accepts : accepts_program desk_schema [] (query_on tree tests (col 1 0 ∷ []) []) params ≡ true)
+  module _ {A : Type 0} (rows : A → ℕ → List Row) (made : A → A) (place : ℕ) (listed : slice_get desk_schema.tables place ≡ Some this) (sql : List ℕ) (params : Row) (tests : List Term) (q : Row → Bool)
+      (reads : Reads sql (length params) (Delete place (record { lets = []; body = query_on tree tests (col 1 0 ∷ []) [] }))) (accepts : accepts_program desk_schema [] (query_on tree tests (col 1 0 ∷ []) []) params ≡ true)
       (agree : (r : Row) → passes tests params r ≡ q (cells this r)) (same : (a : A) → AllByRecursion (λ t. t.tree ≢ tree → rows (made a) t.tree ≡ rows a t.tree) desk_schema.tables)
       (perm : (a : A) → IsPermutation (rows (made a) tree) (filter (λ x. not (q x)) (rows a tree))) (old new : State) where
     uses : (count : ℕ) (a : A) → Executes sql params old new (Ok count) → HasRows (rows a) old.now → (n : ℕ) → HasRoom (n + 0) old.now.trees → HasRoom n new.now.trees
     uses count a executed has n room =
         let program : Program = record { lets = []; body = query_on tree tests (col 1 0 ∷ []) [] } in
-        let w = runs_as sql params old new desk_schema has.declared (Delete place program) is plain count executed in
+        let w = runs_as sql params old new desk_schema has.declared (Delete place program) reads.is reads.plain count executed in
         let step = deletes name tree columns key primary uniques orders desk_schema place listed alone old has.declared params (statement_of sql (understood desk_schema sql)) new.now w.tally program w.changed in
         let kept = left place listed (rows a) (rows (made a)) (same a) old has params tests q agree (perm a) step.0 step.1 in
         let same_many : n + 0 ≡ n = omega arith in
@@ -155,8 +155,10 @@ module _ (name : List ℕ) (tree : ℕ) (columns : List Column) (key : Option �
         (λ none before. subst (AllByRecursion (λ r. LeavesRoom n (rowid r))) (sym (step.2.applies.rows ∙ kept))
         (all-filter (λ r. LeavesRoom n (rowid r)) (λ r. not (passes tests params r)) (old.now.trees tree) (subst (λ m. AllByRecursion (λ r. LeavesRoom m (rowid r)) (old.now.trees tree)) same_many before)))
 
-    pub deleted_goes : (r : Result (Unit {0}) Fault) → Ran sql params old new r → IfErr r (RanInto sql params old new) → Goes rows made 0 old new r
-    deleted_goes r ran into = goes_by rows made 0 sql params old new r ran into uses
+    pub deleted_turns : (r : Result (Unit {0}) Fault) → Ran sql params old new r → IfErr r (RanInto sql params old new) → Survives old new (λ _. ⊥) → Turns rows (λ a. rows (made a)) 0 old new r
+    deleted_turns = turns_by rows (λ a. rows (made a)) 0 sql params old new
+        (λ count a executed has. deleted name tree columns key primary uniques orders place listed sql reads.plain params (rows a) (rows (made a)) (same a) old new count executed has tests q reads.is agree (perm a))
+        uses
         (λ opened unlimited a has before after room.
-        caused sql params old new has.declared opened plain fits (Delete place (record { lets = []; body = query_on tree tests (col 1 0 ∷ []) [] })) is refl
+        caused sql params old new has.declared opened reads.plain reads.fits (Delete place (record { lets = []; body = query_on tree tests (col 1 0 ∷ []) [] })) reads.is refl
         (never_deleted place listed (rows a) (rows (made a)) (same a) old has params tests q agree (perm a) unlimited (statement_of sql (understood desk_schema sql)) accepts after.keys))

@@ -26,7 +26,7 @@ module _ {S : Type 0} (g : Ghosts S) (old : Held S) (last new : State) (change :
   begun = state g (record old { in_transaction = true })
 
   -- a write failed, and the transaction is dropped
-  pub made_fails : (P : Trees → Type 0) (fault : Fault) → Survives last new P → FailsFor rows_of (applied change) (rows_in change) begun last fault → CommitFails change (state g old) new fault
+  pub made_fails : (P : Trees → Type 0) (fault : Fault) → Survives last new P → FailsFor rows_of (λ t. rows_of (applied change t)) (rows_in change) begun last fault → CommitFails change (state g old) new fault
   made_fails P fault s fails = record {
     cause = λ clean opened unlimited t has before after room.
         later begun last new P fault s (fails.cause (clean_before last new P s clean) refl opened unlimited t has before after room);
@@ -42,7 +42,7 @@ module _ {S : Type 0} (g : Ghosts S) (old : Held S) (last new : State) (change :
   fails_last e opened inside (inr (is, none, same)) = absurd (let no = rw none at inside in cc)
 
   -- the commit failed
-  pub commit_fails : (P Q : Trees → Type 0) (e : Error) → Survives begun last Q → Survives last new P → (HasCleanDisk last → Wrote rows_of (applied change) begun last) → (HasCleanDisk last → Uses rows_of (rows_in change) begun last)
+  pub commit_fails : (P Q : Trees → Type 0) (e : Error) → Survives begun last Q → Survives last new P → (HasCleanDisk last → Wrote rows_of (λ t. rows_of (applied change t)) begun last) → (HasCleanDisk last → Uses rows_of (rows_in change) begun last)
       → (HasCleanDisk new → FailsToCommit last new e) → CommitFails change (state g old) new (fault_by e)
   commit_fails P Q e s u wrote uses fails = record {
     cause = λ clean opened unlimited t has before after room.

@@ -12,19 +12,27 @@ use Rattle.sqlite.specs.declared.error.Error.{Error}
 use Rattle.sqlite.specs.Clock.{timed}
 use Rattle.sqlite.specs.Does.{Does}
 use Rattle.sqlite.specs.Listing.{understood}
-use Rattle.sqlite.specs.State.{State, IsNoStatement, IsNotRun, IsMisplaced, IsStatement, Fails, RunsCommand, ExecutesIn, Executes, ExecutesInside, EndsScope, mode_of, shows_rows, text_of}
+use Rattle.sqlite.specs.State.{State, Survives, IsNoStatement, IsNotRun, IsMisplaced, IsStatement, Fails, RunsCommand, ExecutesIn, Executes, ExecutesInside, EndsScope, mode_of, shows_rows, text_of}
 use Rattle.sqlite.proofs.Callers.{IsPlain, command_of, statement_of}
+use Rattle.desk_model.specs.Tables.{Tables}
 use Rattle.desk_model.specs.declared.command.Fault.{Fault}
 use Rattle.desk_sql_layout.specs.Faults.{fault_by}
-use Rattle.desk_sql_layout.specs.Held.{HasRows}
+use Rattle.desk_sql_layout.specs.Held.{HasRows, rows_of}
 use Rattle.desk_sql_layout.specs.Layout.{desk_schema}
-use Rattle.desk_sql_write.specs.Taking.{CanStand, HasRoom, IsCaused, RanInto, Goes}
+use Rattle.desk_sql_write.specs.Taking.{CanStand, HasRoom, IsCaused, RanInto}
+use Rattle.desk_sql_write.specs.Turning.{Turns}
 use Rattle.desk_sql_write.specs.Written.{Ran}
 
 -- the statement is whole, and has this many parameters
 abbrev pub Fits : List ℕ → ℕ → Result Compiled CompileError → Type 0
 Fits sql count (Ok c) = (nat_le (length sql) c.tail ≡ true) × (count ≡ length c.names)
 Fits sql count (Err e) = ⊥
+
+-- a text is this statement
+pub record Reads (sql : List ℕ) (count : ℕ) (command : Command) : Type 0 where
+  pub is : command_of (understood desk_schema sql) ≡ command
+  pub plain : IsPlain (understood desk_schema sql)
+  pub fits : Fits sql count (understood desk_schema sql)
 
 -- it shows rows, or begins or ends a transaction or a savepoint
 abbrev pub is_other : Command → Bool
@@ -113,15 +121,30 @@ module _ (sql : List ℕ) (params : Row) (old new : State) (has : old.now.schema
   caused e (inr h) = absurd (escapes h.0)
 
 -- a statement, by what it is where it is done and where it isn't
-pub goes_by : {A : Type 0} (rows : A → ℕ → List Row) (made : A → A) (many : ℕ) (sql : List ℕ) (params : Row) (old new : State) (r : Result (Unit {0}) Fault) → Ran sql params old new r → IfErr r (RanInto sql params old new)
-    → ((count : ℕ) (a : A) → Executes sql params old new (Ok count) → HasRows (rows a) old.now → (n : ℕ) → HasRoom (n + many) old.now.trees → HasRoom n new.now.trees)
-    → (IsTrue old.is_open → old.step_limit ≡ None → (a : A) → HasRows (rows a) old.now → CanStand (rows a) → CanStand (rows (made a)) → HasRoom many old.now.trees → (e : Error) → ExecutesInside 0 sql params old new (Err e) → IsCaused old new (fault_by e))
-    → Goes rows made many old new r
-goes_by rows made many sql params old new (Ok done) runs into uses fails = λ clean inside.
-    let it = runs clean inside in
-    record { is_open = λ was. it.1.1.is_open; room = λ a has n room. uses it.0 a it.1.0 has n room }
-goes_by rows made many sql params old new (Err fault) runs into uses fails = record {
-  cause = λ clean inside opened unlimited a has before after room.
-      let it = into clean inside in
-      subst (IsCaused old new) (sym it.1) (fails opened unlimited a has before after room it.0 it.2);
+pub turns_by : {A : Type 0} (before after : A → ℕ → List Row) (many : ℕ) (sql : List ℕ) (params : Row) (old new : State)
+    → ((count : ℕ) (a : A) → Executes sql params old new (Ok count) → HasRows (before a) old.now → HasRows (after a) new.now)
+    → ((count : ℕ) (a : A) → Executes sql params old new (Ok count) → HasRows (before a) old.now → (n : ℕ) → HasRoom (n + many) old.now.trees → HasRoom n new.now.trees)
+    → (IsTrue old.is_open → old.step_limit ≡ None → (a : A) → HasRows (before a) old.now → CanStand (before a) → CanStand (after a) → HasRoom many old.now.trees → (e : Error) → ExecutesInside 0 sql params old new (Err e) → IsCaused old new (fault_by e))
+    → (r : Result (Unit {0}) Fault) → Ran sql params old new r → IfErr r (RanInto sql params old new) → Survives old new (λ _. ⊥) → Turns before after many old new r
+turns_by before after many sql params old new changes uses fails (Ok done) ran into survives = record {
+  wrote = λ clean inside.
+      let it = ran clean inside in
+      record { inside = it.1.1.mode; kept = record { was_open = λ is. it.1.1.was_open; committed = λ is. it.1.1.committed_is }; change = λ a has. changes it.0 a it.1.0 has };
+  cause = λ clean inside.
+      let it = ran clean inside in
+      record { is_open = λ was. it.1.1.is_open; room = λ a has n room. uses it.0 a it.1.0 has n room };
+  survives = survives;
 }
+turns_by before after many sql params old new changes uses fails (Err fault) ran into survives = record {
+  wrote = ran;
+  cause = record {
+    cause = λ clean inside opened unlimited a has before after room.
+        let it = into clean inside in
+        subst (IsCaused old new) (sym it.1) (fails opened unlimited a has before after room it.0 it.2);
+  };
+  survives = survives;
+}
+
+-- a text makes this of the tables
+abbrev pub Makes : List ℕ → Row → (Tables → Tables) → Type 1
+Makes sql params made = (old new : State) (r : Result (Unit {0}) Fault) → Ran sql params old new r → IfErr r (RanInto sql params old new) → Survives old new (λ _. ⊥) → Turns rows_of (λ t. rows_of (made t)) 0 old new r

@@ -1,22 +1,22 @@
 -- Writes, one after another, fail only for a cause where each does.
-use Rattle.std.proofs.Common.{◌≡◌, ◌∙◌, ◌⊎◌, inl, inr, ℕ, ◌+◌, ◌-◌, ◌≤◌, ◌<◌, List, [], ◌∷◌, ◌++◌, map, filter, drop, take, get_or, length, length-append, None, IsTrue, Ok, Err, Result, refl, sym, ap, subst, arith}
+use Rattle.std.proofs.Common.{◌≡◌, ◌∙◌, ◌⊎◌, inl, inr, ℕ, ◌+◌, ◌-◌, ◌≤◌, List, [], ◌∷◌, ◌++◌, filter, length, length-append, None, Ok, Err, Result, refl, sym, ap, subst, arith, rules}
 use Rattle.std.specs.List.{AllByRecursion}
 use Rattle.std.specs.Result.{IsErrAnd}
-use Rattle.std.proofs.lemmas.List.{map-append}
 use Rattle.sqlite_value.specs.Keys.{plain}
 use Rattle.sqlite_value.specs.Order.{Row}
 use Rattle.sqlite_trees.specs.Tree.{Trees, rowid}
 use Rattle.sqlite_schema.specs.declared.schema.Table.{Table}
 use Rattle.sqlite_schema.specs.Rules.{agree}
-use Rattle.sqlite.specs.State.{State, HasCleanDisk, Survives}
+use Rattle.sqlite.specs.State.{State, Survives}
+use Rattle.sqlite.proofs.InsideLemmas.{keeps_then}
 use Rattle.desk_model.specs.declared.command.Fault.{Fault}
 use Rattle.desk_model.specs.declared.command.Fault.TheVariants.{Memory}
 use Rattle.desk_sql_layout.specs.Layout.{desk_schema}
-use Rattle.desk_sql_write.specs.Taking.{IsSmall, StandsOnce, CanStand, HasRoom, LeavesRoom, Uses, FailsFor, Goes, in_cells}
-use Rattle.desk_sql_write.specs.Written.{Wrote}
-use Rattle.desk_sql_write.proofs.Inside.{clean_before}
-use Rattle.desk_sql_write.proofs.InsertGoes.{fewer_left, front_all}
-use Rattle.desk_sql_write.proofs.Lists.{append_all, drop_less, filter_both, take_and_drop}
+use Rattle.desk_sql_write.specs.Taking.{IsSmall, StandsOnce, CanStand, HasRoom, LeavesRoom, IsCaused, in_cells}
+use Rattle.desk_sql_write.specs.Turning.{Turns}
+use Rattle.desk_sql_write.proofs.Inside.{clean_before, survives_both}
+use Rattle.desk_sql_write.proofs.Lists.{filter_both}
+use Rattle.desk_sql_write.proofs.Rooms.{fewer_left, front_all}
 
 pub room_less : (n many : ℕ) (trees : Trees) → HasRoom (n + many) trees → HasRoom n trees
 room_less n many trees room = record { few = omega (arith, room.few); room = each desk_schema.tables room.room }
@@ -58,93 +58,122 @@ can_stand old mid last between before after = record { small = small desk_schema
     keys (t ∷ tables) (inr (inl is), all) a b = (subst (λ rows. AllByRecursion (StandsOnce rows) (t.primary ∷ t.uniques)) (sym is) b.0, keys tables all a.1 b.1)
     keys (t ∷ tables) (inr (inr (more, is)), all) a b = (front_keys (mid t.tree) more (t.primary ∷ t.uniques) (subst (λ rows. AllByRecursion (StandsOnce rows) (t.primary ∷ t.uniques)) is b.0), keys tables all a.1 b.1)
 
--- rows of which the first are put behind others
-pub front_rows : {X : Type 0} (f : X → Row) (xs rows front back : List X) → rows ≡ front ++ back → map f (xs ++ rows) ≡ map f (xs ++ front) ++ map f back
-front_rows f xs rows front back is = ap (λ l. map f (xs ++ l)) is ∙ ap (map f) (sym (append_all xs front back)) ∙ map-append f (xs ++ front) back
+room_within : (j l : ℕ) (trees : Trees) → j ≤ l → HasRoom l trees → HasRoom j trees
+room_within j l trees within room = let some : l ≡ j + (l - j) = omega (arith, within) in room_less j (l - j) trees (subst (λ m. HasRoom m trees) some room)
 
--- and of which the first are put behind, and then the next
-pub three_rows : {X : Type 0} (f : X → Row) (xs rows front mid back : List X) → rows ≡ front ++ (mid ++ back) → map f (xs ++ rows) ≡ map f ((xs ++ front) ++ mid) ++ map f back
-three_rows f xs rows front mid back is = front_rows f xs rows front (mid ++ back) is ∙ sym (map-append f (xs ++ front) (mid ++ back)) ∙ ap (map f) (sym (append_all (xs ++ front) mid back)) ∙ map-append f ((xs ++ front) ++ mid) back
+none_survives : (s : State) → Survives s s (λ _. ⊥)
+none_survives s = search rules
 
-pub cut_at : {X : Type 0} (rows : List X) (n : ℕ) (d x : X) → x ≡ get_or rows n d → n < length rows → rows ≡ take n rows ++ x ∷ drop (n + 1) rows
-cut_at rows n d x is low = take_and_drop n rows ∙ ap (λ l. take n rows ++ l) (drop_less rows n d low ∙ ap (λ y. y ∷ drop (n + 1) rows) (sym is))
+-- the same write, of what shows the rows
+pub along : {A B : Type 0} (show : B → A) (before after : A → ℕ → List Row) (many : ℕ) (a b : State) (r : Result (Unit {0}) Fault) → Turns before after many a b r → Turns (λ x. before (show x)) (λ x. after (show x)) many a b r
+along show before after many a b (Ok done) w = record {
+  wrote = λ clean inside. let it = w.wrote clean inside in record { inside = it.inside; kept = it.kept; change = λ x has. it.change (show x) has };
+  cause = λ clean inside. let it = w.cause clean inside in record { is_open = it.is_open; room = λ x has n room. it.room (show x) has n room };
+  survives = w.survives;
+}
+along show before after many a b (Err fault) w = record {
+  wrote = w.wrote;
+  cause = record { cause = λ clean inside opened unlimited x has before after room. w.cause.cause clean inside opened unlimited (show x) has before after room };
+  survives = w.survives;
+}
 
-pub cut_within : {X : Type 0} (rows front : List X) (x : X) (back : List X) → rows ≡ front ++ x ∷ back → length front + 1 ≤ length rows
-cut_within rows front x back is = omega (arith, ap length is, length-append front (x ∷ back))
-
-pub within_both : {X : Type 0} (xs ys : List X) → length xs + length ys ≤ length (xs ++ ys)
-within_both xs ys = omega (arith, length-append xs ys)
-
-pub within_front : {X : Type 0} (rows front back : List X) → rows ≡ front ++ back → length front ≤ length rows
-within_front rows front back is = omega (arith, ap length is, length-append front back)
-
-pub within_three : {X : Type 0} (rows front mid back : List X) → rows ≡ front ++ (mid ++ back) → length front + length mid ≤ length rows
-within_three rows front mid back is = omega (arith, ap length is, length-append front (mid ++ back), length-append mid back)
-
-pub front_within : {X : Type 0} (rows : List X) (n : ℕ) → length (take n rows) ≤ length rows
-front_within rows n = omega (arith, ap length (take_and_drop n rows), length-append (take n rows) (drop n rows))
-
-module _ {A : Type 0} (rows : A → ℕ → List Row) where
-  -- nothing was written
-  pub uses_none : (s : State) → Uses rows 0 s s
-  uses_none s = record { is_open = λ is. is; room = λ a has n room. room_less n 0 s.now.trees room }
-
-  pub uses_both : (one : A → A) (j k : ℕ) (a b c : State) → Wrote rows one a b → Uses rows j a b → Uses rows k b c → Uses rows (j + k) a c
-  uses_both one j k a b c wrote first next = record {
-    is_open = λ is. next.is_open (first.is_open is);
-    room = λ x has n room.
-        let turned : n + (j + k) ≡ (n + k) + j = omega arith in
-        next.room (one x) (wrote.change x has) n (first.room x has (n + k) (subst (λ m. HasRoom m a.now.trees) turned room));
+module _ {A : Type 0} where
+  -- nothing was written yet
+  pub none_turns : (f : A → ℕ → List Row) (s : State) → Turns f f 0 s s (Ok tt)
+  none_turns f s = record {
+    wrote = λ clean inside. record { inside = inside; kept = record { was_open = λ is. is; committed = λ is. refl }; change = λ x has. has };
+    cause = λ clean inside. record { is_open = λ is. is; room = λ x has n room. room_less n 0 s.now.trees room };
+    survives = none_survives s;
   }
 
-  pub uses_weaker : (j k : ℕ) (a b : State) → j ≤ k → Uses rows j a b → Uses rows k a b
-  uses_weaker j k a b within uses = record {
-    is_open = uses.is_open;
-    room = λ x has n room.
-        let some : n + k ≡ (n + j) + (k - j) = omega (arith, within) in
-        uses.room x has n (room_less (n + j) (k - j) a.now.trees (subst (λ m. HasRoom m a.now.trees) some room));
+  -- the same rows, said otherwise
+  pub as_turns : (f g h : A → ℕ → List Row) (many : ℕ) (a b : State) (r : Result (Unit {0}) Fault) → ((x : A) (tree : ℕ) → g x tree ≡ h x tree) → Turns f g many a b r → Turns f h many a b r
+  as_turns f g h many a b r same = subst (λ (k : A → ℕ → List Row). Turns f k many a b r) (λ i x tree. same x tree i)
+
+  -- a count that is no smaller
+  pub more_turns : (f g : A → ℕ → List Row) (j l : ℕ) (a b : State) (r : Result (Unit {0}) Fault) → j ≤ l → Turns f g j a b r → Turns f g l a b r
+  more_turns f g j l a b (Ok done) within w = record {
+    wrote = w.wrote;
+    cause = λ clean inside.
+        let it = w.cause clean inside in
+        record { is_open = it.is_open; room = λ x has n room. it.room x has n (room_within (n + j) (n + l) a.now.trees (omega (arith, within)) room) };
+    survives = w.survives;
+  }
+  more_turns f g j l a b (Err fault) within w = record {
+    wrote = w.wrote;
+    cause = record { cause = λ clean inside opened unlimited x has before after room. w.cause.cause clean inside opened unlimited x has before after (room_within j l a.now.trees within room) };
+    survives = w.survives;
   }
 
-  pub uses_next : {X : Type 0} (xs ys : List X) (x : X) (a b : State) → xs ++ x ∷ [] ≡ ys → Uses rows (length xs + 1) a b → Uses rows (length ys) a b
-  uses_next xs ys x a b is uses = uses_weaker (length xs + 1) (length ys) a b (omega (arith, ap length is, length-append xs (x ∷ []))) uses
-
-  -- a write that fails after another was done
-  pub later_fails : (one two all : A → A) (j k l : ℕ) (a b c : State) (fault : Fault) → j + k ≤ l → (HasCleanDisk b → IsTrue a.in_transaction → Wrote rows one a b) → (HasCleanDisk b → IsTrue a.in_transaction → Uses rows j a b)
-      → Survives a b (λ _. ⊥) → Survives b c (λ _. ⊥) → ((x : A) → CanStand (rows x) → CanStand (rows (all x)) → CanStand (rows (one x)) × CanStand (rows (two (one x))))
-      → FailsFor rows two k b c fault → FailsFor rows all l a c fault
-  later_fails one two all j k l a b c fault within wrote uses s t between fails = record {
-    cause = λ clean inside opened unlimited x has before after room.
-        let was = clean_before b c _ t clean in
-        let v = wrote was inside in
-        let u = uses was inside in
-        let both = between x before after in
-        let some : l ≡ (k + j) + (l - (k + j)) = omega (arith, within) in
-        let left = u.room x has k (room_less (k + j) (l - (k + j)) a.now.trees (subst (λ m. HasRoom m a.now.trees) some room)) in
-        elim (fails.cause clean v.inside (u.is_open opened) (s.limit ∙ unlimited) (one x) (v.change x has) both.0 both.1 left) [
-          | inl memory ↦ inl memory
-          | inr more ↦ inr (more.0, omega (arith, s.counts, more.1))
-        ];
+  -- a write that failed, as one that would have made more
+  pub less_turns : (f g h : A → ℕ → List Row) (many : ℕ) (a b : State) (fault : Fault) → ((x : A) → CanStand (f x) → CanStand (h x) → CanStand (g x)) → Turns f g many a b (Err fault) → Turns f h many a b (Err fault)
+  less_turns f g h many a b fault between w = record {
+    wrote = w.wrote;
+    cause = record { cause = λ clean inside opened unlimited x has before after room. w.cause.cause clean inside opened unlimited x has before (between x before after) room };
+    survives = w.survives;
   }
-
-  pub first_fails : (one all : A → A) (j l : ℕ) (a b : State) (fault : Fault) → j ≤ l → ((x : A) → CanStand (rows x) → CanStand (rows (all x)) → CanStand (rows (one x))) → FailsFor rows one j a b fault → FailsFor rows all l a b fault
-  first_fails one all j l a b fault within between fails = record {
-    cause = λ clean inside opened unlimited x has before after room.
-        let some : l ≡ j + (l - j) = omega (arith, within) in
-        fails.cause clean inside opened unlimited x has before (between x before after) (room_less j (l - j) a.now.trees (subst (λ m. HasRoom m a.now.trees) some room));
-  }
-
-  pub then_goes : (one two : A → A) (j k l : ℕ) (a b c : State) (r : Result (Unit {0}) Fault) → j + k ≤ l → (HasCleanDisk b → IsTrue a.in_transaction → Wrote rows one a b) → (HasCleanDisk b → IsTrue a.in_transaction → Uses rows j a b)
-      → Survives a b (λ _. ⊥) → Survives b c (λ _. ⊥) → ((x : A) → CanStand (rows x) → CanStand (rows (two (one x))) → CanStand (rows (one x))) → Goes rows two k b c r → Goes rows (λ x. two (one x)) l a c r
-  then_goes one two j k l a b c (Ok done) within wrote uses s t between next = λ clean inside.
-      let was = clean_before b c _ t clean in
-      uses_weaker (j + k) l a c within (uses_both one j k a b c (wrote was inside) (uses was inside) (next clean (wrote was inside).inside))
-  then_goes one two j k l a b c (Err fault) within wrote uses s t between next =
-      later_fails one two (λ x. two (one x)) j k l a b c fault within wrote uses s t (λ x before after. (between x before after, after)) next
 
   -- `?` hands a fault on
-  pub err_goes : (all : A → A) (l : ℕ) (a b : State) (r : Result (Unit {0}) Fault) (fault : Fault) → IsErrAnd r (λ e. e ≡ fault) → FailsFor rows all l a b fault → Goes rows all l a b r
-  err_goes all l a b (Ok done) fault is fails = absurd is
-  err_goes all l a b (Err e) fault is fails = rw is fails
+  pub err_turns : (f g : A → ℕ → List Row) (many : ℕ) (a b : State) (r : Result (Unit {0}) Fault) (fault : Fault) → IsErrAnd r (λ e. e ≡ fault) → Turns f g many a b (Err fault) → Turns f g many a b r
+  err_turns f g many a b (Ok done) fault is w = absurd is
+  err_turns f g many a b (Err e) fault is w = rw is w
 
-  pub memory_goes : (all : A → A) (l : ℕ) (a b : State) (r : Result (Unit {0}) Fault) → IsErrAnd r (λ e. e ≡ Memory) → Goes rows all l a b r
-  memory_goes all l a b r is = err_goes all l a b r Memory is (record { cause = λ clean inside opened unlimited x has before after room. inl refl })
+  -- a fault before anything was written
+  pub early_turns : (f g : A → ℕ → List Row) (many : ℕ) (s : State) (r : Result (Unit {0}) Fault) (fault : Fault) → IsErrAnd r (λ e. e ≡ fault) → ((x : A) → CanStand (g x) → IsCaused s s fault) → Turns f g many s s r
+  early_turns f g many s r fault is caused = err_turns f g many s s r fault is (record {
+    wrote = λ clean inside. record { was_open = λ is. is; committed = λ is. refl };
+    cause = record { cause = λ clean inside opened unlimited x has before after room. caused x after };
+    survives = none_survives s;
+  })
+
+  pub memory_turns : (f g : A → ℕ → List Row) (many : ℕ) (s : State) (r : Result (Unit {0}) Fault) → IsErrAnd r (λ e. e ≡ Memory) → Turns f g many s s r
+  memory_turns f g many s r is = early_turns f g many s r Memory is (λ x after. inl refl)
+
+  -- a write, and then another
+  pub then_turns : (f g h : A → ℕ → List Row) (j k : ℕ) (a b c : State) (r : Result (Unit {0}) Fault) → ((x : A) → CanStand (f x) → CanStand (h x) → CanStand (g x))
+      → Turns f g j a b (Ok tt) → Turns g h k b c r → Turns f h (j + k) a c r
+  then_turns f g h j k a b c (Ok done) between v w = record {
+    wrote = λ clean inside.
+        let first = v.wrote (clean_before b c _ w.survives clean) inside in
+        let next = w.wrote clean first.inside in
+        record { inside = next.inside; kept = keeps_then a b c first.kept next.kept; change = λ x has. next.change x (first.change x has) };
+    cause = λ clean inside.
+        let was = clean_before b c _ w.survives clean in
+        let first = v.wrote was inside in
+        let used = v.cause was inside in
+        let then = w.cause clean first.inside in
+        record {
+          is_open = λ is. then.is_open (used.is_open is);
+          room = λ x has n room.
+              let turned : n + (j + k) ≡ (n + k) + j = omega arith in
+              then.room x (first.change x has) n (used.room x has (n + k) (subst (λ m. HasRoom m a.now.trees) turned room));
+        };
+    survives = survives_both a b c v.survives w.survives;
+  }
+  then_turns f g h j k a b c (Err fault) between v w = record {
+    wrote = λ clean inside.
+        let first = v.wrote (clean_before b c _ w.survives clean) inside in
+        keeps_then a b c first.kept (w.wrote clean first.inside);
+    cause = record {
+      cause = λ clean inside opened unlimited x has before after room.
+          let was = clean_before b c _ w.survives clean in
+          let first = v.wrote was inside in
+          let used = v.cause was inside in
+          let turned : j + k ≡ k + j = omega arith in
+          let left = used.room x has k (subst (λ m. HasRoom m a.now.trees) turned room) in
+          elim (w.cause.cause clean first.inside (used.is_open opened) (v.survives.limit ∙ unlimited) x (first.change x has) (between x before after) after left) [
+            | inl memory ↦ inl memory
+            | inr more ↦ inr (more.0, omega (arith, v.survives.counts, more.1))
+          ];
+    };
+    survives = survives_both a b c v.survives w.survives;
+  }
+
+  -- a write that adds nothing, and then another
+  pub next_turns : (f g h : A → ℕ → List Row) (k : ℕ) (a b c : State) (r : Result (Unit {0}) Fault) → ((x : A) → CanStand (f x) → CanStand (h x) → CanStand (g x)) → Turns f g 0 a b (Ok tt) → Turns g h k b c r → Turns f h k a c r
+  next_turns f g h k a b c r between v w = let same : 0 + k ≡ k = omega arith in subst (λ n. Turns f h n a c r) same (then_turns f g h 0 k a b c r between v w)
+
+  -- the first of two writes failed
+  pub first_fails : (f g h : A → ℕ → List Row) (j l : ℕ) (a b : State) (r : Result (Unit {0}) Fault) (fault : Fault) → IsErrAnd r (λ e. e ≡ fault) → j ≤ l → ((x : A) → CanStand (f x) → CanStand (h x) → CanStand (g x))
+      → Turns f g j a b (Err fault) → Turns f h l a b r
+  first_fails f g h j l a b r fault is within between w = err_turns f h l a b r fault is (more_turns f h j l a b (Err fault) within (less_turns f g h j a b fault between w))

@@ -3,6 +3,7 @@ use Rattle.std.proofs.Common.{◌≡◌, ◌≢◌, ◌∙◌, ℕ, ◌+◌, ◌
 use Rattle.std.specs.Prelude.{◌==◌, ◌/◌}
 use Rattle.std.specs.List.{AllByRecursion}
 use Rattle.std.specs.List.Sorted.{IsPermutation}
+use Rattle.std.proofs.lemmas.List.Sorted.{IsPermutation-append_comm}
 use Rattle.std.proofs.lemmas.Bool.Decides.{nat_tests}
 use Rattle.sqlite_value.specs.declared.keys.Order.{Order}
 use Rattle.sqlite_value.specs.Order.{Row}
@@ -17,30 +18,29 @@ use Rattle.sqlite_schema.specs.declared.command.Source.TheVariants.{Values}
 use Rattle.sqlite_schema.specs.Rules.{table_reals}
 use Rattle.sqlite_typing.specs.Types.{accepts_terms}
 use Rattle.sqlite_rules.specs.declared.error.Rowids.TheVariants.{Chosen}
-use Rattle.sqlite_rules.specs.Edit.{Edit, Applies, edit_of}
+use Rattle.sqlite_rules.specs.Edit.{Edit, Applies, edit_of, next_rowid}
 use Rattle.sqlite_rules.specs.Lists.{Has}
 use Rattle.sqlite_rules.proofs.ListLemmas.{all_from, all_has, has_got}
 use Rattle.sqlite_rules.proofs.RuleLemmas.{same_table}
 use Rattle.sqlite.specs.Effect.{value_rows}
 use Rattle.sqlite.specs.Listing.{understood}
-use Rattle.sqlite.specs.State.{State, Executes}
-use Rattle.sqlite.proofs.Callers.{IsPlain, command_of, statement_of, runs_as}
+use Rattle.sqlite.specs.State.{State, Executes, Survives}
+use Rattle.sqlite.proofs.Callers.{statement_of, runs_as}
 use Rattle.desk_model.specs.declared.command.Fault.{Fault}
 use Rattle.desk_sql_layout.specs.Held.{HasRows}
 use Rattle.desk_sql_layout.specs.Layout.{desk_schema, table_of}
-use Rattle.desk_sql_layout.specs.Stored.{AreStored}
-use Rattle.desk_sql_layout.proofs.Statements.{alone, apart}
+use Rattle.desk_sql_layout.specs.Stored.{cells, AreStored}
+use Rattle.desk_sql_layout.proofs.Statements.{alone, apart, all_inserted}
 use Rattle.desk_sql_layout.proofs.Steps.{inserts}
-use Rattle.desk_sql_write.specs.Taking.{IsSmall, LeavesRoom, HasRoom, RanInto, Goes}
+use Rattle.desk_sql_layout.proofs.Writes.{Shows}
+use Rattle.desk_sql_write.specs.Taking.{IsSmall, LeavesRoom, HasRoom, RanInto}
+use Rattle.desk_sql_write.specs.Turning.{Adds, with_rows}
 use Rattle.desk_sql_write.specs.Written.{Ran}
-use Rattle.desk_sql_write.proofs.Failing.{Fits, caused, goes_by}
-use Rattle.desk_sql_write.proofs.Puts.{IsFirst, Make, Suits, rooms_put}
+use Rattle.desk_sql_write.proofs.Behind.{with_here, with_elsewhere}
+use Rattle.desk_sql_write.proofs.Failing.{Reads, caused, turns_by}
+use Rattle.desk_sql_write.proofs.Puts.{AreShown, IsFirst, Make, Suits, rooms_put}
 use Rattle.desk_sql_write.proofs.Refusing.{never_inserted}
-use Rattle.desk_sql_write.proofs.Rooms.{more_room}
-
-pub front_all : {X : Type 0} (P : X → Type 0) (xs ys : List X) → AllByRecursion P (xs ++ ys) → AllByRecursion P xs
-front_all P [] ys all = tt
-front_all P (x ∷ xs) ys all = (all.0, front_all P xs ys all.1)
+use Rattle.desk_sql_write.proofs.Rooms.{fewer_left, front_all}
 
 -- what an edit of one table leaves of the rowids of all
 pub rooms_after : (many n : ℕ) (old new : Trees) (this : Table) (edit : Edit) → edit.table ≡ this → Has desk_schema.tables this → Applies desk_schema Enforced old edit new → HasRoom (n + many) old
@@ -63,35 +63,47 @@ rooms_after many n old new this edit is listed applies room lower fewer mine = r
         subst (AllByRecursion (λ r. LeavesRoom n (rowid r))) (sym kept)
         (fewer (old t.tree) (all_has (λ t. t.key ≡ None → AllByRecursion (λ r. LeavesRoom (n + many) (rowid r)) (old t.tree)) desk_schema.tables t room.room there none))
 
-pub fewer_left : (n many : ℕ) (rows : List Row) → AllByRecursion (λ r. LeavesRoom (n + many) (rowid r)) rows → AllByRecursion (λ r. LeavesRoom n (rowid r)) rows
-fewer_left n many [] all = tt
-fewer_left n many (r ∷ rows) all = (more_room n many (rowid r) all.0, fewer_left n many rows all.1)
-
 module _ (name : List ℕ) (tree : ℕ) (columns : List Column) (key : Option ℕ) (primary : List ℕ) (uniques : List (List ℕ)) (orders : List Order) where
   abbrev this : Table
   this = table_of name tree columns key primary uniques orders
 
-  module _ {A : Type 0} (rows : A → ℕ → List Row) (made : A → A) (place : ℕ) (listed : slice_get desk_schema.tables place ≡ Some this) (sql : List ℕ) (plain : IsPlain (understood desk_schema sql)) (params : Row)
-      (fits : Fits sql (length params) (understood desk_schema sql)) (terms : List Term) (width : ℕ) (is : command_of (understood desk_schema sql) ≡ Insert place (Values terms width)) (accepts : accepts_terms terms params ≡ true)
-      (sources wanted : List Row) (source : value_rows params width (length terms / width) terms ≡ sources) (reals : table_reals this ≡ 0) (first : IsFirst name tree columns key primary uniques orders key)
-      (make : Make name tree columns key primary uniques orders sources wanted) (suits : (trees : Trees) → AllByRecursion (AllByRecursion IsSmall) wanted → AllByRecursion (Suits name tree columns key primary uniques orders trees) wanted)
-      (same : (a : A) → AllByRecursion (λ t. t.tree ≢ tree → rows (made a) t.tree ≡ rows a t.tree) desk_schema.tables) (perm : (a : A) → IsPermutation (rows (made a) tree) (wanted ++ rows a tree)) (old new : State) where
+  -- a source shows the cells that it was made for
+  shows : (sources wanted : List Row) → Make name tree columns key primary uniques orders sources wanted → AreShown name tree columns key primary uniques orders wanted → Shows name tree columns key primary uniques orders sources wanted
+  shows [] [] make shown = tt
+  shows [] (w ∷ wanted) make shown = absurd make
+  shows (s ∷ sources) [] make shown = absurd make
+  shows (s ∷ sources) (w ∷ wanted) make shown = ((λ stored. ap (cells this) (make.0 stored) ∙ shown.0 (next_rowid stored)), shows sources wanted make.1 shown.1)
+
+  module _ (place : ℕ) (listed : slice_get desk_schema.tables place ≡ Some this) (sql : List ℕ) (params : Row) (terms : List Term) (width : ℕ) (reads : Reads sql (length params) (Insert place (Values terms width)))
+      (accepts : accepts_terms terms params ≡ true) (sources wanted : List Row) (source : value_rows params width (length terms / width) terms ≡ sources) (reals : table_reals this ≡ 0)
+      (first : IsFirst name tree columns key primary uniques orders key) (make : Make name tree columns key primary uniques orders sources wanted) (shown : AreShown name tree columns key primary uniques orders wanted)
+      (suits : (trees : Trees) → AllByRecursion (AllByRecursion IsSmall) wanted → AllByRecursion (Suits name tree columns key primary uniques orders trees) wanted) (old new : State) where
     there : Has desk_schema.tables this
     there = has_got desk_schema.tables place this listed
 
-    uses : (count : ℕ) (a : A) → Executes sql params old new (Ok count) → HasRows (rows a) old.now → (n : ℕ) → HasRoom (n + length wanted) old.now.trees → HasRoom n new.now.trees
-    uses count a executed has n room =
-        let w = runs_as sql params old new desk_schema has.declared (Insert place (Values terms width)) is plain count executed in
+    same : (rows : ℕ → List Row) → AllByRecursion (λ t. t.tree ≢ tree → with_rows tree wanted rows t.tree ≡ rows t.tree) desk_schema.tables
+    same rows = all_from (λ t. t.tree ≢ tree → with_rows tree wanted rows t.tree ≡ rows t.tree) desk_schema.tables (λ t listed other. with_elsewhere tree wanted rows t.tree other)
+
+    perm : (rows : ℕ → List Row) → IsPermutation (with_rows tree wanted rows tree) (wanted ++ rows tree)
+    perm rows = subst (λ l. IsPermutation l (wanted ++ rows tree)) (sym (with_here tree wanted rows)) (IsPermutation-append_comm (rows tree) wanted)
+
+    uses : (count : ℕ) (rows : ℕ → List Row) → Executes sql params old new (Ok count) → HasRows rows old.now → (n : ℕ) → HasRoom (n + length wanted) old.now.trees → HasRoom n new.now.trees
+    uses count rows executed has n room =
+        let w = runs_as sql params old new desk_schema has.declared (Insert place (Values terms width)) reads.is reads.plain count executed in
         let step = inserts name tree columns key primary uniques orders desk_schema place listed alone old has.declared params (statement_of sql (understood desk_schema sql)) new.now w.tally terms width sources source w.changed in
-        let mine = all_has (λ t. AreStored t (rows a t.tree) (old.now.trees t.tree)) desk_schema.tables this has.stored there in
+        let mine = all_has (λ t. AreStored t (rows t.tree) (old.now.trees t.tree)) desk_schema.tables this has.stored there in
         rooms_after (length wanted) n old.now.trees new.now.trees this (edit_of old.now.trees this [] Chosen 0 sources) refl there step.applies room (λ r low. omega (arith, low)) (fewer_left n (length wanted))
         (λ none before. subst (AllByRecursion (λ r. LeavesRoom n (rowid r))) (sym step.applies.rows)
         (rooms_put name tree columns key primary uniques orders n none sources wanted (old.now.trees tree) make mine.keyed (omega (arith, room.few)) before))
 
-    pub inserted_goes : (r : Result (Unit {0}) Fault) → Ran sql params old new r → IfErr r (RanInto sql params old new) → Goes rows made (length wanted) old new r
-    inserted_goes r ran into = goes_by rows made (length wanted) sql params old new r ran into uses
-        (λ opened unlimited a has before after room.
-        let small = front_all (AllByRecursion IsSmall) wanted (rows a tree) (all-permutation (AllByRecursion IsSmall) _ _ (perm a) (all_has (λ t. AllByRecursion (AllByRecursion IsSmall) (rows (made a) t.tree)) desk_schema.tables this after.small there)) in
-        caused sql params old new has.declared opened plain fits (Insert place (Values terms width)) is refl
-        (never_inserted name tree columns key primary uniques orders place listed (rows a) (rows (made a)) (same a) old has unlimited params (statement_of sql (understood desk_schema sql)) terms width accepts sources wanted source reals first make
-        (suits old.now.trees small) (perm a) after.keys room))
+    pub inserted_adds : (r : Result (Unit {0}) Fault) → Ran sql params old new r → IfErr r (RanInto sql params old new) → Survives old new (λ _. ⊥) → Adds (with_rows tree wanted) (length wanted) old new r
+    inserted_adds = turns_by (λ rows. rows) (with_rows tree wanted) (length wanted) sql params old new
+        (λ count rows executed has.
+        all_inserted name tree columns key primary uniques orders place listed sql reads.plain params rows (with_rows tree wanted rows) (same rows) old new count executed has terms width sources wanted reads.is source
+        (shows sources wanted make shown) (perm rows))
+        uses
+        (λ opened unlimited rows has before after room.
+        let small = front_all (AllByRecursion IsSmall) wanted (rows tree) (all-permutation (AllByRecursion IsSmall) _ _ (perm rows) (all_has (λ t. AllByRecursion (AllByRecursion IsSmall) (with_rows tree wanted rows t.tree)) desk_schema.tables this after.small there)) in
+        caused sql params old new has.declared opened reads.plain reads.fits (Insert place (Values terms width)) reads.is refl
+        (never_inserted name tree columns key primary uniques orders place listed rows (with_rows tree wanted rows) (same rows) old has unlimited params (statement_of sql (understood desk_schema sql)) terms width accepts sources wanted source reals first make shown
+        (suits old.now.trees small) (perm rows) after.keys room))

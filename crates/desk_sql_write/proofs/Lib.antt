@@ -1,5 +1,5 @@
 pub mod Inside
-mod Grown
+mod Behind
 mod Inserts
 mod Deletes
 mod Updates
@@ -16,12 +16,8 @@ mod Puts
 mod Refusing
 mod Failing
 mod InsertGoes
-mod InsertCauses
 mod Going
 mod DeleteGoes
-mod DeleteCauses
 mod UpdateGoes
-mod AppliedGoes
 pub mod Ends
 mod Stands
-mod UpdateCauses

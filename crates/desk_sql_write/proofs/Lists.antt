@@ -106,3 +106,10 @@ eight P holds [] is = absurd (omega arith)
 -- what the front of a list and the next one make
 pub flat_more : {X V : Type 0} (f : X → List V) (rows : List X) (i : ℕ) (d x : X) → x ≡ get_or rows i d → i < length rows → flat_map f (take i rows) ++ flat_map f (x ∷ []) ≡ flat_map f (take (i + 1) rows)
 flat_more f rows i d x is low = sym (flat_map-append f (take i rows) (x ∷ [])) ∙ ap (flat_map f) (front_more [] rows i d x is low)
+
+pub cut_at : {X : Type 0} (rows : List X) (n : ℕ) (d x : X) → x ≡ get_or rows n d → n < length rows → rows ≡ take n rows ++ x ∷ drop (n + 1) rows
+cut_at rows n d x is low = take_and_drop n rows ∙ ap (λ l. take n rows ++ l) (drop_less rows n d low ∙ ap (λ y. y ∷ drop (n + 1) rows) (sym is))
+
+pub none_left : {X : Type 0} (xs : List X) → length xs ≡ 0 → xs ≡ []
+none_left [] is = refl
+none_left (x ∷ xs) is = absurd (omega (arith, is))

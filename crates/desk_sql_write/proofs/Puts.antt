@@ -89,9 +89,12 @@ module _ (name : List ℕ) (tree : ℕ) (columns : List Column) (key : Option �
 
   -- cells that the table can take
   pub record Suits (trees : Trees) (cs : Row) : Type 0 where
-    pub shown : (id : ℤ) → cells this (as_stored key id cs) ≡ cs
     pub number : IsNumber key cs
     pub right : (id : ℤ) → IsRight trees (as_stored key id cs)
+
+  -- rows that show these cells, whatever rowid they have
+  abbrev pub AreShown : List Row → Type 0
+  AreShown = AllByRecursion (λ cs. (id : ℤ) → cells this (as_stored key id cs) ≡ cs)
 
   -- sources that INSERT makes these cells of
   abbrev pub Make : List Row → List Row → Type 0
@@ -153,12 +156,12 @@ module _ (name : List ℕ) (tree : ℕ) (columns : List Column) (key : Option �
 
   -- ---- all of them
 
-  pub puts : (trees : Trees) → IsFirst key → (sources wanted shown stored : List Row) → AreStored this shown stored → Make sources wanted → AllByRecursion (Suits trees) wanted → StandsOnce (wanted ++ shown) primary
+  pub puts : (trees : Trees) → IsFirst key → (sources wanted shown stored : List Row) → AreStored this shown stored → Make sources wanted → AreShown wanted → AllByRecursion (Suits trees) wanted → StandsOnce (wanted ++ shown) primary
       → length wanted < 2 ^ 62 → (key ≡ None → AllByRecursion (λ r. LeavesRoom (length wanted) (rowid r)) stored) → ArePut trees stored shown sources wanted
-  puts trees first [] [] shown stored are make suits once few room = record { keyed = refl; fresh = refl; fits = refl; right = tt; are = are }
-  puts trees first [] (w ∷ wanted) shown stored are make suits once few room = absurd make
-  puts trees first (s ∷ sources) [] shown stored are make suits once few room = absurd make
-  puts trees first (s ∷ sources) (w ∷ wanted) shown stored are make suits once few room =
+  puts trees first [] [] shown stored are make shows suits once few room = record { keyed = refl; fresh = refl; fits = refl; right = tt; are = are }
+  puts trees first [] (w ∷ wanted) shown stored are make shows suits once few room = absurd make
+  puts trees first (s ∷ sources) [] shown stored are make shows suits once few room = absurd make
+  puts trees first (s ∷ sources) (w ∷ wanted) shown stored are make shows suits once few room =
       let n = length wanted in
       let more : length (w ∷ wanted) ≡ n + 1 = omega arith in
       let id = next_rowid stored in
@@ -171,10 +174,10 @@ module _ (name : List ℕ) (tree : ℕ) (columns : List Column) (key : Option �
       let free : is_taken stored new ≡ false = subst (λ r. is_taken stored r ≡ false) is (never_taken shown stored are w (once_behind w wanted shown primary once) first suits.0.number) in
       let keyed : is_int (rowid new) ≡ true = subst (λ r. is_int (rowid r) ≡ true) is (whole id w suits.0.number) in
       let fits : fits_i64 (id_in (rowid new)) ≡ true = subst (λ r. fits_i64 (id_in (rowid r)) ≡ true) is (fitting n id w leaves suits.0.number) in
-      let shows : cells this new ≡ w = subst (λ r. cells this r ≡ w) is (suits.0.shown id) in
-      let here = subst (λ x. AreStored this (x ∷ shown) (put_row new stored)) shows (stored_more this shown stored are new free keyed) in
+      let seen : cells this new ≡ w = subst (λ r. cells this r ≡ w) is (shows.0 id) in
+      let here = subst (λ x. AreStored this (x ∷ shown) (put_row new stored)) seen (stored_more this shown stored are new free keyed) in
       let later = λ (none : key ≡ None). all-put_row (λ r. LeavesRoom n (rowid r)) new stored (subst (λ r. LeavesRoom n (rowid r)) is (at_rowid_of key n id w none (leaves none))) (less_rooms n stored (rooms none)) in
-      let rest = puts trees first sources wanted (w ∷ shown) (put_row new stored) here make.1 suits.1 (once_permuted _ _ primary (IsPermutation-sym _ _ (IsPermutation-middle wanted w shown)) once) low later in
+      let rest = puts trees first sources wanted (w ∷ shown) (put_row new stored) here make.1 shows.1 suits.1 (once_permuted _ _ primary (IsPermutation-sym _ _ (IsPermutation-middle wanted w shown)) once) low later in
       record {
         keyed = and_from _ _ keyed rest.keyed;
         fresh = and_from _ _ (ap not free) rest.fresh;

@@ -41,7 +41,7 @@ use Rattle.desk_sql_layout.specs.Held.{HasRows}
 use Rattle.desk_sql_layout.proofs.Writes.{stored_as}
 use Rattle.desk_sql_write.specs.Taking.{HaveKeys, StandsOnce, HasRoom, LeavesRoom}
 use Rattle.desk_sql_write.proofs.Keyed.{unique_kept}
-use Rattle.desk_sql_write.proofs.Puts.{IsRight, IsFirst, Make, Suits, ArePut, puts, once_permuted}
+use Rattle.desk_sql_write.proofs.Puts.{AreShown, IsRight, IsFirst, Make, Suits, ArePut, puts, once_permuted}
 use Rattle.desk_sql_write.proofs.Storable.{never_oversized}
 
 -- ---- foreign keys, of which there are none
@@ -167,7 +167,7 @@ module _ (name : List ℕ) (tree : ℕ) (columns : List Column) (key : Option �
   module _ (place : ℕ) (listed : slice_get desk_schema.tables place ≡ Some this) (rows after : ℕ → List Row) (same : AllByRecursion (λ t. t.tree ≢ tree → after t.tree ≡ rows t.tree) desk_schema.tables)
       (s : State) (has : HasRows rows s.now) (none : s.step_limit ≡ None) (params : Row) (text : List ℕ) (terms : List Term) (width : ℕ) (accepts : accepts_terms terms params ≡ true)
       (sources wanted : List Row) (source : value_rows params width (length terms / width) terms ≡ sources) (reals : table_reals this ≡ 0) (first : IsFirst name tree columns key primary uniques orders key)
-      (make : Make name tree columns key primary uniques orders sources wanted) (suits : AllByRecursion (Suits name tree columns key primary uniques orders s.now.trees) wanted)
+      (make : Make name tree columns key primary uniques orders sources wanted) (shows : AreShown name tree columns key primary uniques orders wanted) (suits : AllByRecursion (Suits name tree columns key primary uniques orders s.now.trees) wanted)
       (perm : IsPermutation (after tree) (wanted ++ rows tree)) (keys : HaveKeys after) (room : HasRoom (length wanted) s.now.trees) where
     pub never_inserted : (stop : Option Error) → Does s.step_limit (mode_of s) params s.now text None (Insert place (Values terms width)) (Err stop) → ⊥
     never_inserted =
@@ -175,7 +175,7 @@ module _ (name : List ℕ) (tree : ℕ) (columns : List Column) (key : Option �
         let there = has_got desk_schema.tables place this listed in
         let mine = all_has (λ t. AreStored t (rows t.tree) (trees t.tree)) desk_schema.tables this has.stored there in
         let once = (all_has (λ t. AllByRecursion (StandsOnce (after t.tree)) (t.primary ∷ t.uniques)) desk_schema.tables this keys there).0 in
-        let put = puts name tree columns key primary uniques orders trees first sources wanted (rows tree) (trees tree) mine make suits (once_permuted (after tree) (wanted ++ rows tree) primary perm once)
+        let put = puts name tree columns key primary uniques orders trees first sources wanted (rows tree) (trees tree) mine make shows suits (once_permuted (after tree) (wanted ++ rows tree) primary perm once)
         (omega (arith, room.few)) (all_has (λ t. t.key ≡ None → AllByRecursion (λ r. LeavesRoom (length wanted) (rowid r)) (trees t.tree)) desk_schema.tables this room.room there) in
         let stored = stored_with rows after trees this _ there has.stored same (stored_as this (wanted ++ rows tree) (after tree) _ perm put.are) in
         let free = insert_free after trees (rows tree) sources wanted reals put stored keys in

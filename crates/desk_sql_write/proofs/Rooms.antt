@@ -1,5 +1,5 @@
 -- The rowids that a table gives to new rows.
-use Rattle.std.proofs.Common.{◌≡◌, ℕ, zero, suc, ℤ, pos, negsuc, ◌+◌, ◌^◌, ◌<◌, ◌+ℤ◌, true, List, [], ◌∷◌, fold, arith}
+use Rattle.std.proofs.Common.{◌≡◌, ◌++◌, ℕ, zero, suc, ℤ, pos, negsuc, ◌+◌, ◌^◌, ◌<◌, ◌+ℤ◌, true, List, [], ◌∷◌, fold, arith}
 use Rattle.std.proofs.lemmas.Int.{ints}
 use Rattle.std.specs.List.{AllByRecursion}
 use Rattle.std.proofs.lemmas.Bool.Decides.{nat_tests}
@@ -52,3 +52,11 @@ more_room n many (Int (negsuc id)) h = h
 more_room n many (Real x) h = h
 more_room n many (Text t) h = h
 more_room n many (Blob b) h = h
+
+pub front_all : {X : Type 0} (P : X → Type 0) (xs ys : List X) → AllByRecursion P (xs ++ ys) → AllByRecursion P xs
+front_all P [] ys all = tt
+front_all P (x ∷ xs) ys all = (all.0, front_all P xs ys all.1)
+
+pub fewer_left : (n many : ℕ) (rows : List Row) → AllByRecursion (λ r. LeavesRoom (n + many) (rowid r)) rows → AllByRecursion (λ r. LeavesRoom n (rowid r)) rows
+fewer_left n many [] all = tt
+fewer_left n many (r ∷ rows) all = (more_room n many (rowid r) all.0, fewer_left n many rows all.1)

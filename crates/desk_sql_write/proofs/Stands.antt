@@ -1,5 +1,5 @@
 -- Duties whose states are set can stand as they could before.
-use Rattle.std.proofs.Common.{◌≡◌, ◌≢◌, inl, ℕ, ◌^◌, ◌<◌, ◌≤◌, Bool, true, false, cond, List, [], ◌∷◌, ◌++◌, filter, map, length, refl, sym, subst, arith}
+use Rattle.std.proofs.Common.{◌≡◌, ◌≢◌, inl, ℕ, ◌^◌, ◌<◌, ◌≤◌, Bool, true, false, cond, List, [], ◌∷◌, filter, map, length, refl, sym, subst, arith}
 use Rattle.std.specs.Prelude.{◌==◌}
 use Rattle.std.specs.List.{AllByRecursion}
 use Rattle.std.proofs.lemmas.Bool.Decides.{nat_tests}
@@ -14,20 +14,18 @@ use Rattle.desk_model.specs.Keys.{is_duty}
 use Rattle.desk_model.specs.Lists.{updated}
 use Rattle.desk_model.specs.Names.{duty_state_name}
 use Rattle.desk_model.specs.States.{state_after}
-use Rattle.desk_model.specs.Tables.{moved_by, with_duty_state}
-use Rattle.desk_model.specs.declared.command.Fault.{Fault}
+use Rattle.desk_model.specs.Tables.{Tables, moved_by, with_duty_state}
 use Rattle.desk_model.specs.declared.row.ChangeRow.{ChangeRow}
 use Rattle.desk_model.specs.declared.row.ReleaseRow.{ReleaseRow}
-use Rattle.sqlite.specs.State.{State}
-use Rattle.sqlite_rules.proofs.ProbeLemmas.{mapped_has}
 use Rattle.desk_model.specs.declared.row.DutyRow.{DutyRow}
 use Rattle.desk_model.specs.declared.state.DutyState.{DutyState}
 use Rattle.desk_model.specs.declared.state.DutyState.TheVariants as duty
 use Rattle.desk_sql_layout.specs.Cells.{duty_cells, release_cells}
+use Rattle.desk_sql_layout.specs.Held.{rows_of}
 use Rattle.desk_sql_layout.specs.Layout.{desk_schema, duty_table, releases_table}
 use Rattle.desk_sql_layout.proofs.Statements.{apart}
-use Rattle.desk_sql_write.specs.Contents.{Contents, cells_of, with_tables}
-use Rattle.desk_sql_write.specs.Taking.{IsSmall, StandsOnce, CanStand, FailsFor, in_cells}
+use Rattle.desk_sql_write.specs.Taking.{IsSmall, StandsOnce, CanStand, in_cells}
+use Rattle.desk_sql_write.specs.Turning.{with_rows}
 
 state_small : (s : DutyState) → length (duty_state_name s) ≤ 10 ^ 8
 state_small duty.IsOpen = omega arith
@@ -55,58 +53,55 @@ set_once n s h same (d ∷ duties) = go (set_once n s h same duties) (h (duty_ce
     go more true is false = rw is (omega (arith, more))
     go more false is false = rw is more
 
-abbrev set_all : ℕ → DutyState → Contents → Contents
-set_all n s = with_tables (λ t. record t { duty = updated (is_duty n) (with_duty_state s) t.duty })
+abbrev set_all : ℕ → DutyState → Tables → Tables
+set_all n s t = record t { duty = updated (is_duty n) (with_duty_state s) t.duty }
 
 listed : Has desk_schema.tables duty_table
 listed = has_got desk_schema.tables 12 duty_table refl
 
-elsewhere : (n : ℕ) (s : DutyState) (it : Contents) → AllByRecursion (λ t. t.tree ≢ 23 → cells_of (set_all n s it) t.tree ≡ cells_of it t.tree) desk_schema.tables
+elsewhere : (n : ℕ) (s : DutyState) (it : Tables) → AllByRecursion (λ t. t.tree ≢ 23 → rows_of (set_all n s it) t.tree ≡ rows_of it t.tree) desk_schema.tables
 elsewhere n s it = (λ n. refl, (λ n. refl, (λ n. refl, (λ n. refl, (λ n. refl, (λ n. refl, (λ n. refl, (λ n. refl, (λ n. refl, (λ n. refl, (λ n. refl, (λ n. refl, (λ n. absurd (n refl), (λ n. refl, (λ n. refl, (λ n. refl, tt))))))))))))))))
 
-pub set_stand : (n : ℕ) (s : DutyState) (it : Contents) → CanStand (cells_of it) → CanStand (cells_of (set_all n s it))
+pub set_stand : (n : ℕ) (s : DutyState) (it : Tables) → CanStand (rows_of it) → CanStand (rows_of (set_all n s it))
 set_stand n s it can = record {
-  small = all_from (λ t. AllByRecursion (AllByRecursion IsSmall) (cells_of (set_all n s it) t.tree)) desk_schema.tables (λ t there. small t there (t.tree == 23) refl);
-  keys = all_from (λ t. AllByRecursion (StandsOnce (cells_of (set_all n s it) t.tree)) (t.primary ∷ t.uniques)) desk_schema.tables (λ t there. keys t there (t.tree == 23) refl);
+  small = all_from (λ t. AllByRecursion (AllByRecursion IsSmall) (rows_of (set_all n s it) t.tree)) desk_schema.tables (λ t there. small t there (t.tree == 23) refl);
+  keys = all_from (λ t. AllByRecursion (StandsOnce (rows_of (set_all n s it) t.tree)) (t.primary ∷ t.uniques)) desk_schema.tables (λ t there. keys t there (t.tree == 23) refl);
 }
   where
     one : (t : Table) → Has desk_schema.tables t → (t.tree == 23) ≡ true → t ≡ duty_table
     one t there is = same_table desk_schema.tables t duty_table apart there listed (grind (arith, nat_tests))
 
-    kept : (t : Table) → Has desk_schema.tables t → (t.tree == 23) ≡ false → cells_of (set_all n s it) t.tree ≡ cells_of it t.tree
-    kept t there is = all_has (λ t. t.tree ≢ 23 → cells_of (set_all n s it) t.tree ≡ cells_of it t.tree) desk_schema.tables t (elsewhere n s it) there (λ e. grind (arith, nat_tests))
+    kept : (t : Table) → Has desk_schema.tables t → (t.tree == 23) ≡ false → rows_of (set_all n s it) t.tree ≡ rows_of it t.tree
+    kept t there is = all_has (λ t. t.tree ≢ 23 → rows_of (set_all n s it) t.tree ≡ rows_of it t.tree) desk_schema.tables t (elsewhere n s it) there (λ e. grind (arith, nat_tests))
 
-    small : (t : Table) → Has desk_schema.tables t → (b : Bool) → (t.tree == 23) ≡ b → AllByRecursion (AllByRecursion IsSmall) (cells_of (set_all n s it) t.tree)
+    small : (t : Table) → Has desk_schema.tables t → (b : Bool) → (t.tree == 23) ≡ b → AllByRecursion (AllByRecursion IsSmall) (rows_of (set_all n s it) t.tree)
     small t there true is =
-        subst (λ (u : Table). AllByRecursion (AllByRecursion IsSmall) (cells_of (set_all n s it) u.tree)) (sym (one t there is))
-        (set_small n s it.tables.duty (all_has (λ t. AllByRecursion (AllByRecursion IsSmall) (cells_of it t.tree)) desk_schema.tables duty_table can.small listed))
-    small t there false is = subst (AllByRecursion (AllByRecursion IsSmall)) (sym (kept t there is)) (all_has (λ t. AllByRecursion (AllByRecursion IsSmall) (cells_of it t.tree)) desk_schema.tables t can.small there)
+        subst (λ (u : Table). AllByRecursion (AllByRecursion IsSmall) (rows_of (set_all n s it) u.tree)) (sym (one t there is))
+        (set_small n s it.duty (all_has (λ t. AllByRecursion (AllByRecursion IsSmall) (rows_of it t.tree)) desk_schema.tables duty_table can.small listed))
+    small t there false is = subst (AllByRecursion (AllByRecursion IsSmall)) (sym (kept t there is)) (all_has (λ t. AllByRecursion (AllByRecursion IsSmall) (rows_of it t.tree)) desk_schema.tables t can.small there)
 
-    mine : AllByRecursion (StandsOnce (map duty_cells it.tables.duty)) (duty_table.primary ∷ duty_table.uniques)
-    mine = all_has (λ t. AllByRecursion (StandsOnce (cells_of it t.tree)) (t.primary ∷ t.uniques)) desk_schema.tables duty_table can.keys listed
+    mine : AllByRecursion (StandsOnce (map duty_cells it.duty)) (duty_table.primary ∷ duty_table.uniques)
+    mine = all_has (λ t. AllByRecursion (StandsOnce (rows_of it t.tree)) (t.primary ∷ t.uniques)) desk_schema.tables duty_table can.keys listed
 
-    numbers : StandsOnce (map duty_cells (updated (is_duty n) (with_duty_state s) it.tables.duty)) (0 ∷ [])
-    numbers key = omega (arith, mine.0 key, set_once n s (λ row. agree plain (in_cells (0 ∷ [])) row (in_cells (0 ∷ [])) key) (λ d. refl) it.tables.duty)
+    numbers : StandsOnce (map duty_cells (updated (is_duty n) (with_duty_state s) it.duty)) (0 ∷ [])
+    numbers key = omega (arith, mine.0 key, set_once n s (λ row. agree plain (in_cells (0 ∷ [])) row (in_cells (0 ∷ [])) key) (λ d. refl) it.duty)
 
-    places : StandsOnce (map duty_cells (updated (is_duty n) (with_duty_state s) it.tables.duty)) (2 ∷ 3 ∷ 4 ∷ 5 ∷ 6 ∷ [])
-    places key = omega (arith, mine.1.0 key, set_once n s (λ row. agree plain (in_cells (2 ∷ 3 ∷ 4 ∷ 5 ∷ 6 ∷ [])) row (in_cells (2 ∷ 3 ∷ 4 ∷ 5 ∷ 6 ∷ [])) key) (λ d. refl) it.tables.duty)
+    places : StandsOnce (map duty_cells (updated (is_duty n) (with_duty_state s) it.duty)) (2 ∷ 3 ∷ 4 ∷ 5 ∷ 6 ∷ [])
+    places key = omega (arith, mine.1.0 key, set_once n s (λ row. agree plain (in_cells (2 ∷ 3 ∷ 4 ∷ 5 ∷ 6 ∷ [])) row (in_cells (2 ∷ 3 ∷ 4 ∷ 5 ∷ 6 ∷ [])) key) (λ d. refl) it.duty)
 
-    keys : (t : Table) → Has desk_schema.tables t → (b : Bool) → (t.tree == 23) ≡ b → AllByRecursion (StandsOnce (cells_of (set_all n s it) t.tree)) (t.primary ∷ t.uniques)
-    keys t there true is = subst (λ (u : Table). AllByRecursion (StandsOnce (cells_of (set_all n s it) u.tree)) (u.primary ∷ u.uniques)) (sym (one t there is)) (numbers, (places, tt))
-    keys t there false is = subst (λ rows. AllByRecursion (StandsOnce rows) (t.primary ∷ t.uniques)) (sym (kept t there is)) (all_has (λ t. AllByRecursion (StandsOnce (cells_of it t.tree)) (t.primary ∷ t.uniques)) desk_schema.tables t can.keys there)
+    keys : (t : Table) → Has desk_schema.tables t → (b : Bool) → (t.tree == 23) ≡ b → AllByRecursion (StandsOnce (rows_of (set_all n s it) t.tree)) (t.primary ∷ t.uniques)
+    keys t there true is = subst (λ (u : Table). AllByRecursion (StandsOnce (rows_of (set_all n s it) u.tree)) (u.primary ∷ u.uniques)) (sym (one t there is)) (numbers, (places, tt))
+    keys t there false is = subst (λ rows. AllByRecursion (StandsOnce rows) (t.primary ∷ t.uniques)) (sym (kept t there is)) (all_has (λ t. AllByRecursion (StandsOnce (rows_of it t.tree)) (t.primary ∷ t.uniques)) desk_schema.tables t can.keys there)
 
-pub moved_stand : (changes : List ChangeRow) (it : Contents) → CanStand (cells_of it) → CanStand (cells_of (with_tables (λ t. record t { duty = moved_by changes t.duty }) it))
+pub moved_stand : (changes : List ChangeRow) (it : Tables) → CanStand (rows_of it) → CanStand (rows_of (record it { duty = moved_by changes it.duty }))
 moved_stand [] it can = can
-moved_stand (c ∷ changes) it can = set_stand c.duty (state_after c.word) (with_tables (λ t. record t { duty = moved_by changes t.duty }) it) (moved_stand changes it can)
+moved_stand (c ∷ changes) it can = set_stand c.duty (state_after c.word) (record it { duty = moved_by changes it.duty }) (moved_stand changes it can)
 
 -- ---- a release whose revision is no number of 32 bits
 
-last_small : (it : Contents) (row : ReleaseRow) → CanStand (cells_of (with_tables (λ t. record t { releases = t.releases ++ row ∷ [] }) it)) → row.revision < 2 ^ 32
-last_small it row can =
-    let rows = it.tables.releases ++ row ∷ [] in
-    let small = all_has (λ t. AllByRecursion (AllByRecursion IsSmall) (cells_of (with_tables (λ t. record t { releases = t.releases ++ row ∷ [] }) it) t.tree)) desk_schema.tables releases_table can.small (has_got desk_schema.tables 8 releases_table refl) in
-    let last = all_has (AllByRecursion IsSmall) (map release_cells rows) (release_cells row) small (mapped_has release_cells rows row (has_right it.tables.releases (row ∷ []) row (inl refl))) in
+pub last_small : (rows : ℕ → List Row) (row : ReleaseRow) → CanStand (with_rows releases_table.tree (release_cells row ∷ []) rows) → row.revision < 2 ^ 32
+last_small rows row can =
+    let now = with_rows releases_table.tree (release_cells row ∷ []) rows in
+    let small = all_has (λ t. AllByRecursion (AllByRecursion IsSmall) (now t.tree)) desk_schema.tables releases_table can.small (has_got desk_schema.tables 8 releases_table refl) in
+    let last = all_has (AllByRecursion IsSmall) (now 14) (release_cells row) small (has_right (rows 14) (release_cells row ∷ []) (release_cells row) (inl refl)) in
     last.1.1.1.1.0
-
-pub untold : (row : ReleaseRow) (old new : State) (fault : Fault) → (row.revision < 2 ^ 32 → ⊥) → FailsFor cells_of (with_tables (λ t. record t { releases = t.releases ++ row ∷ [] })) 1 old new fault
-untold row old new fault never = record { cause = λ clean inside opened unlimited it has before after room. absurd (never (last_small it row after)) }

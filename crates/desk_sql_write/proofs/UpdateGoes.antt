@@ -44,8 +44,8 @@ use Rattle.sqlite.specs.Effect.{Answers}
 use Rattle.sqlite.specs.Listing.{understood}
 use Rattle.sqlite.specs.Rows.{Then, Updates, Task}
 use Rattle.sqlite.specs.Does.{Does, Concludes}
-use Rattle.sqlite.specs.State.{State, Executes, mode_of}
-use Rattle.sqlite.proofs.Callers.{IsPlain, command_of, statement_of, runs_as}
+use Rattle.sqlite.specs.State.{State, Executes, Survives, mode_of}
+use Rattle.sqlite.proofs.Callers.{statement_of, runs_as}
 use Rattle.desk_model.specs.declared.command.Fault.{Fault}
 use Rattle.desk_sql_layout.specs.Held.{HasRows}
 use Rattle.desk_sql_layout.specs.Layout.{desk_schema, table_of}
@@ -53,17 +53,19 @@ use Rattle.desk_sql_layout.specs.Stored.{cells, AreStored}
 use Rattle.desk_sql_layout.proofs.Edits.{left_is, has_permuted, changed_where, put_fresh}
 use Rattle.desk_sql_layout.proofs.Keeps.{stored_changed}
 use Rattle.desk_sql_layout.proofs.Queries.{query_on, passes, env, selected}
-use Rattle.desk_sql_layout.proofs.Statements.{alone}
+use Rattle.desk_sql_layout.proofs.Statements.{alone, updated}
 use Rattle.desk_sql_layout.proofs.Steps.{at, updates}
 use Rattle.desk_sql_layout.proofs.Writes.{stored_as}
-use Rattle.desk_sql_write.specs.Taking.{IsSmall, HaveKeys, LeavesRoom, HasRoom, RanInto, Goes}
+use Rattle.desk_sql_write.specs.Taking.{IsSmall, HaveKeys, LeavesRoom, HasRoom, RanInto}
+use Rattle.desk_sql_write.specs.Turning.{Turns}
 use Rattle.desk_sql_write.specs.Written.{Ran}
 use Rattle.desk_sql_write.proofs.DeleteGoes.{ids_are, no_refusal}
-use Rattle.desk_sql_write.proofs.Failing.{Fits, caused, goes_by}
-use Rattle.desk_sql_write.proofs.InsertGoes.{rooms_after, fewer_left}
+use Rattle.desk_sql_write.proofs.Failing.{Reads, caused, turns_by}
+use Rattle.desk_sql_write.proofs.InsertGoes.{rooms_after}
 use Rattle.desk_sql_write.proofs.Keyed.{unique_kept, some_there}
 use Rattle.desk_sql_write.proofs.Lists.{filter_both}
 use Rattle.desk_sql_write.proofs.Puts.{as_stored, IsRight, Suits, fitting}
+use Rattle.desk_sql_write.proofs.Rooms.{fewer_left}
 use Rattle.desk_sql_write.proofs.Refusing.{IsFree, fits_none, never_stops, never_concludes, stored_with}
 use Rattle.desk_sql_write.proofs.Storable.{never_oversized}
 
@@ -289,9 +291,8 @@ module _ (name : List ℕ) (tree : ℕ) (columns : List Column) (key : Option �
         go (inl (st, setting, told)) = sets st setting
         go (inr (w, setting, concludes)) = never_concludes doing (mode_of s) w stop refl concludes
 
-  module _ {A : Type 0} (rows : A → ℕ → List Row) (made : A → A) (place : ℕ) (listed : slice_get desk_schema.tables place ≡ Some this) (sql : List ℕ) (plain : IsPlain (understood desk_schema sql)) (params : Row)
-      (fits : Fits sql (length params) (understood desk_schema sql)) (tests project : List Term) (q : Row → Bool) (u : Row → Row)
-      (is : command_of (understood desk_schema sql) ≡ Update place (record { lets = []; body = query_on tree tests (col 1 0 ∷ project) [] })) (accepts : accepts_program desk_schema [] (query_on tree tests (col 1 0 ∷ project) []) params ≡ true)
+  module _ {A : Type 0} (rows : A → ℕ → List Row) (made : A → A) (place : ℕ) (listed : slice_get desk_schema.tables place ≡ Some this) (sql : List ℕ) (params : Row) (tests project : List Term) (q : Row → Bool) (u : Row → Row)
+      (reads : Reads sql (length params) (Update place (record { lets = []; body = query_on tree tests (col 1 0 ∷ project) [] }))) (accepts : accepts_program desk_schema [] (query_on tree tests (col 1 0 ∷ project) []) params ≡ true)
       (reals : table_reals this ≡ 0) (agree : (r : Row) → passes tests params r ≡ q (cells this r))
       (form : (r : Row) → is_int (rowid r) ≡ true → cast_row this (eval_all project (env params r)) ≡ as_stored key (id_in (rowid r)) (u (cells this r)))
       (acts : (r : Row) → cells this (cast_row this (eval_all project (env params r))) ≡ u (cells this r)) (stays : (r : Row) → is_int (rowid r) ≡ true → rowid (cast_row this (eval_all project (env params r))) ≡ rowid r)
@@ -300,7 +301,7 @@ module _ (name : List ℕ) (tree : ℕ) (columns : List Column) (key : Option �
     uses : (count : ℕ) (a : A) → Executes sql params old new (Ok count) → HasRows (rows a) old.now → (n : ℕ) → HasRoom (n + 0) old.now.trees → HasRoom n new.now.trees
     uses count a executed has n room =
         let program : Program = record { lets = []; body = query_on tree tests (col 1 0 ∷ project) [] } in
-        let w = runs_as sql params old new desk_schema has.declared (Update place program) is plain count executed in
+        let w = runs_as sql params old new desk_schema has.declared (Update place program) reads.is reads.plain count executed in
         let step = updates name tree columns key primary uniques orders desk_schema place listed alone old has.declared params (statement_of sql (understood desk_schema sql)) new.now w.tally program w.changed in
         let same_many : n + 0 ≡ n = omega arith in
         rooms_after 0 n old.now.trees new.now.trees this (edit_of old.now.trees this (ids_of step.0) Given 1 step.0) refl (has_got desk_schema.tables place this listed) step.2.applies room (λ r low. omega (arith, low))
@@ -309,9 +310,11 @@ module _ (name : List ℕ) (tree : ℕ) (columns : List Column) (key : Option �
         (rooms_kept place listed (rows a) (rows (made a)) (same a) old has params tests project q u agree form acts stays (perm a) step.0 step.1 n
         (subst (λ m. AllByRecursion (λ r. LeavesRoom m (rowid r)) (old.now.trees tree)) same_many before)))
 
-    pub updated_goes : (r : Result (Unit {0}) Fault) → Ran sql params old new r → IfErr r (RanInto sql params old new) → Goes rows made 0 old new r
-    updated_goes r ran into = goes_by rows made 0 sql params old new r ran into uses
+    pub updated_turns : (r : Result (Unit {0}) Fault) → Ran sql params old new r → IfErr r (RanInto sql params old new) → Survives old new (λ _. ⊥) → Turns rows (λ a. rows (made a)) 0 old new r
+    updated_turns = turns_by rows (λ a. rows (made a)) 0 sql params old new
+        (λ count a executed has. updated name tree columns key primary uniques orders place listed sql reads.plain params (rows a) (rows (made a)) (same a) old new count executed has tests project q u reads.is agree acts (perm a))
+        uses
         (λ opened unlimited a has before after room.
         let small = all_has (λ t. AllByRecursion (AllByRecursion IsSmall) (rows (made a) t.tree)) desk_schema.tables this after.small (has_got desk_schema.tables place this listed) in
-        caused sql params old new has.declared opened plain fits (Update place (record { lets = []; body = query_on tree tests (col 1 0 ∷ project) [] })) is refl
+        caused sql params old new has.declared opened reads.plain reads.fits (Update place (record { lets = []; body = query_on tree tests (col 1 0 ∷ project) [] })) reads.is refl
         (never_updated place listed (rows a) (rows (made a)) (same a) old has params tests project q u agree form acts stays (perm a) unlimited (statement_of sql (understood desk_schema sql)) accepts reals (suits a old.now.trees small) after.keys room))

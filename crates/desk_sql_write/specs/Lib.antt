@@ -1,4 +1,4 @@
-pub mod Contents
+pub mod Turning
 pub mod Written
 pub mod Declaring
 pub mod Creating

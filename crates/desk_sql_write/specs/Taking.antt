@@ -70,19 +70,23 @@ abbrev pub IsCaused : State → State → Fault → Type 0
 IsCaused old new fault = (fault ≡ Memory) ⊎ ((fault ≡ Store DatabaseFault) × MoreFaults old.faults new.faults)
 
 -- a write used so many rowids at most
-pub record Uses {A : Type 0} (rows : A → ℕ → List Row) (many : ℕ) (old new : State) : Type 0 where
+pub record Uses {A : Type 0} (before : A → ℕ → List Row) (many : ℕ) (old new : State) : Type 0 where
   pub is_open : IsTrue old.is_open → IsTrue new.is_open
-  pub room : (a : A) → HasRows (rows a) old.now → (n : ℕ) → HasRoom (n + many) old.now.trees → HasRoom n new.now.trees
+  pub room : (a : A) → HasRows (before a) old.now → (n : ℕ) → HasRoom (n + many) old.now.trees → HasRoom n new.now.trees
 
-module _ {A : Type 0} (rows : A → ℕ → List Row) (made : A → A) (many : ℕ) (old new : State) where
+module _ {A : Type 0} (before after : A → ℕ → List Row) (many : ℕ) (old new : State) where
   -- where the rows before and after can stand, and there are rowids for as many as are added, a write inside a transaction fails only
   -- for such a cause
   pub record FailsFor (fault : Fault) : Type 0 where
-    pub cause : HasCleanDisk new → IsTrue old.in_transaction → IsTrue old.is_open → old.step_limit ≡ None → (a : A) → HasRows (rows a) old.now → CanStand (rows a) → CanStand (rows (made a)) → HasRoom many old.now.trees → IsCaused old new fault
+    pub cause : HasCleanDisk new → IsTrue old.in_transaction → IsTrue old.is_open → old.step_limit ≡ None → (a : A) → HasRows (before a) old.now → CanStand (before a) → CanStand (after a) → HasRoom many old.now.trees → IsCaused old new fault
 
-  abbrev pub Goes : Result (Unit {0}) Fault → Type 0
-  Goes (Ok done) = HasCleanDisk new → IsTrue old.in_transaction → Uses rows many old new
-  Goes (Err fault) = FailsFor fault
+  abbrev pub GoesAs : Result (Unit {0}) Fault → Type 0
+  GoesAs (Ok done) = HasCleanDisk new → IsTrue old.in_transaction → Uses before many old new
+  GoesAs (Err fault) = FailsFor fault
+
+-- the same, where this is made of what the rows show
+abbrev pub Goes : {A : Type 0} → (A → ℕ → List Row) → (A → A) → ℕ → State → State → Result (Unit {0}) Fault → Type 0
+Goes rows made = GoesAs rows (λ a. rows (made a))
 
 -- how many rows a change adds at most
 abbrev pub rows_in : Change → ℕ

@@ -9,16 +9,20 @@ use Rattle.desk_model.specs.declared.command.Change.{Change}
 use Rattle.desk_model.specs.declared.command.Fault.{Fault}
 use Rattle.desk_sql_layout.specs.Held.{HasRows, rows_of}
 
--- Inside a transaction, which goes on, this was made of whatever rows the database had, and nothing was committed.
-pub record Wrote {A : Type 0} (rows : A → ℕ → List Row) (made : A → A) (old new : State) : Type 0 where
+-- Inside a transaction, which goes on, the rows that the database had became others, and nothing was committed.
+pub record Wrote {A : Type 0} (before after : A → ℕ → List Row) (old new : State) : Type 0 where
   pub inside : IsTrue new.in_transaction
   pub kept : KeepsCommit old new
-  pub change : (a : A) → HasRows (rows a) old.now → HasRows (rows (made a)) new.now
+  pub change : (a : A) → HasRows (before a) old.now → HasRows (after a) new.now
 
 -- a statement, or several, inside a transaction
+abbrev pub WritesAs : {A : Type 0} → (A → ℕ → List Row) → (A → ℕ → List Row) → State → State → Result (Unit {0}) Fault → Type 0
+WritesAs before after old new (Ok done) = HasCleanDisk new → IsTrue old.in_transaction → Wrote before after old new
+WritesAs before after old new (Err fault) = HasCleanDisk new → IsTrue old.in_transaction → KeepsCommit old new
+
+-- the same, where this is made of what the rows show
 abbrev pub Writes : {A : Type 0} → (A → ℕ → List Row) → (A → A) → State → State → Result (Unit {0}) Fault → Type 0
-Writes rows made old new (Ok done) = HasCleanDisk new → IsTrue old.in_transaction → Wrote rows made old new
-Writes rows made old new (Err fault) = HasCleanDisk new → IsTrue old.in_transaction → KeepsCommit old new
+Writes rows made = WritesAs rows (λ a. rows (made a))
 
 -- a text that was run inside a transaction
 abbrev pub Ran : List ℕ → Row → State → State → Result (Unit {0}) Fault → Type 0

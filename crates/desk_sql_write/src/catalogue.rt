@@ -1,15 +1,14 @@
 //! Revisions of the catalogue and their rules.
 
-ghost use Rattle.std.specs.Prelude.{◌≡◌, ◌++◌, ◌∷◌, [], IfOk, length};
+ghost use Rattle.std.specs.Prelude.{◌≡◌, ◌∷◌, [], IfOk};
 ghost use Rattle.std.specs.String.{string_bytes};
 ghost use Rattle.sqlite.specs.Held.{state};
-ghost use Rattle.sqlite.specs.State.{Survives};
 ghost use Rattle.sqlite.specs.Values.{bound};
 ghost use Rattle.desk_sql_layout.specs.Cells.{joined, catalogue_cells, rule_cells};
-ghost use Rattle.desk_sql_write.specs.Contents.{cells_of, with_tables};
-ghost use Rattle.desk_sql_write.specs.Taking.{Goes};
-ghost use Rattle.desk_sql_write.specs.Written.{Writes};
+ghost use Rattle.desk_sql_layout.specs.Layout.{catalogue_table, rule_table};
+ghost use Rattle.desk_sql_write.specs.Turning.{Adds, with_rows};
 
+use crate::adding::Added;
 use crate::statement::execute;
 use desk_base::Text;
 use desk_model::{CatalogueRow, Fault, RuleRow};
@@ -30,14 +29,8 @@ pub(crate) fn add_revision<S: Alter>(
     row: &CatalogueRow,
 ) -> Result<(), Fault>
     ensures same_reference { tx.new.conn.ghost_name ≡ tx.old.conn.ghost_name }
-    ensures wrote { Writes cells_of (with_tables (λ t.
-        record t { catalogue = t.catalogue ++ row.now ∷ [] })) (state S.Store tx.old.conn.now)
-        (state S.Store tx.new.conn.now) result }
-    ensures cause { Goes cells_of (with_tables (λ t.
-        record t { catalogue = t.catalogue ++ row.now ∷ [] })) 1
+    ensures adds { Adds (with_rows catalogue_table.tree (catalogue_cells row.now ∷ [])) 1
         (state S.Store tx.old.conn.now) (state S.Store tx.new.conn.now) result }
-    ensures survives { Survives (state S.Store tx.old.conn.now) (state S.Store tx.new.conn.now)
-        (λ _. ⊥) }
 {
     execute(
         tx,
@@ -75,45 +68,17 @@ fn rule_values<'a>(row: &'a RuleRow, codes: &'a String) -> [ValueRef<'a>; 5]
     ]
 }
 
-/// Adds a rule.
-pub(crate) fn add_rule<S: Alter>(
-    alloc: Global,
-    tx: &mut Transaction<'_, S>,
-    row: &RuleRow,
-) -> Result<(), Fault>
-    ensures same_reference { tx.new.conn.ghost_name ≡ tx.old.conn.ghost_name }
-    ensures wrote { Writes cells_of (with_tables (λ t. record t { rule = t.rule ++ row.now ∷ [] }))
-        (state S.Store tx.old.conn.now) (state S.Store tx.new.conn.now) result }
-    ensures cause { Goes cells_of (with_tables (λ t. record t { rule = t.rule ++ row.now ∷ [] })) 1
-        (state S.Store tx.old.conn.now) (state S.Store tx.new.conn.now) result }
-    ensures survives { Survives (state S.Store tx.old.conn.now) (state S.Store tx.new.conn.now)
-        (λ _. ⊥) }
-{
-    let codes = joined(alloc, row.codes.as_slice())?;
-    execute(
-        tx,
-        "INSERT INTO rule VALUES (?1, ?2, ?3, ?4, ?5)",
-        &rule_values(row, &codes),
-    )
-}
+impl Added for RuleRow {
+    ghost tree = { rule_table.tree };
 
-/// Adds the rules of a revision.
-pub(crate) fn add_rules<S: Alter>(
-    alloc: Global,
-    tx: &mut Transaction<'_, S>,
-    rows: &[RuleRow],
-) -> Result<(), Fault>
-    ensures same_reference { tx.new.conn.ghost_name ≡ tx.old.conn.ghost_name }
-    ensures wrote { Writes cells_of (with_tables (λ t. record t { rule = t.rule ++ rows.now }))
-        (state S.Store tx.old.conn.now) (state S.Store tx.new.conn.now) result }
-    ensures cause { Goes cells_of (with_tables (λ t. record t { rule = t.rule ++ rows.now }))
-        (length rows.now)
-        (state S.Store tx.old.conn.now) (state S.Store tx.new.conn.now) result }
-    ensures survives { Survives (state S.Store tx.old.conn.now) (state S.Store tx.new.conn.now)
-        (λ _. ⊥) }
-{
-    for row in rows {
-        add_rule(alloc, tx, row)?;
+    ghost rows = { λ row. rule_cells row ∷ [] };
+
+    fn add<S: Alter>(&self, alloc: Global, tx: &mut Transaction<'_, S>) -> Result<(), Fault> {
+        let codes = joined(alloc, self.codes.as_slice())?;
+        execute(
+            tx,
+            "INSERT INTO rule VALUES (?1, ?2, ?3, ?4, ?5)",
+            &rule_values(self, &codes),
+        )
     }
-    Ok(())
 }

@@ -1,24 +1,27 @@
 //! What each change writes.
 
-ghost use Rattle.std.specs.Prelude.{◌≡◌, ◌++◌, ◌∷◌, [], filter, not, length, ◌+◌, ◌<◌, ◌^◌};
+ghost use Rattle.std.specs.Prelude.{◌≡◌, ◌∷◌, [], map, filter, not, length, ◌+◌};
 ghost use Rattle.sqlite.specs.Held.{state};
 ghost use Rattle.sqlite.specs.State.{Survives};
 ghost use Rattle.desk_model.specs.Keys.{is_release, is_conclusion, is_adoption};
 ghost use Rattle.desk_model.specs.Lists.{updated};
 ghost use Rattle.desk_model.specs.Tables.{applied, is_other_choice, is_choice_elsewhere, with_release_state, withdrawn_release, moved_by};
 ghost use Rattle.desk_model.specs.declared.state.ReleaseState.TheVariants.{Frozen};
+ghost use Rattle.desk_sql_layout.specs.Cells.{catalogue_cells, rule_cells, choice_cells, conclusion_cells, adoption_cells, frozen_cells};
 ghost use Rattle.desk_sql_layout.specs.Held.{rows_of};
-ghost use Rattle.desk_sql_write.specs.Contents.{cells_of, with_tables, with_steps, with_document};
+ghost use Rattle.desk_sql_layout.specs.Layout.{catalogue_table, rule_table, choice_table, conclusion_table, adoption_table, frozen_table};
 ghost use Rattle.desk_sql_write.specs.Taking.{Goes, IsTold, rows_in};
+ghost use Rattle.desk_sql_write.specs.Turning.{Adds, Turns, with_rows, with_steps, with_raised, with_document, with_parts};
 ghost use Rattle.desk_sql_write.specs.Written.{Writes};
 
-use crate::catalogue::{add_revision, add_rules};
-use crate::document::{add_document, add_packages, add_reading, add_references};
-use crate::duty::{add_duties, add_steps, set_duties};
+use crate::adding::{add_all, add_in_eights};
+use crate::catalogue::add_revision;
+use crate::document::{add_document, add_reading};
+use crate::duty::{add_steps, set_duties};
 use crate::office::{add_adoption, add_conclusion, drop_adoption, drop_conclusion};
 use crate::release::{
-    add_attached, add_choices, add_frozen_terms, add_release, drop_choices, drop_choices_in,
-    freeze_release, withdraw_release,
+    add_attached, add_release, drop_choices, drop_choices_in, freeze_release, small_revision,
+    withdraw_release,
 };
 use desk_base::Text;
 use desk_model::{
@@ -36,18 +39,12 @@ pub(crate) fn load<S: Alter>(
     rules: &[RuleRow],
 ) -> Result<(), Fault>
     ensures same_reference { tx.new.conn.ghost_name ≡ tx.old.conn.ghost_name }
-    ensures wrote { Writes cells_of (with_tables (λ t.
-        record t { catalogue = t.catalogue ++ row.now ∷ []; rule = t.rule ++ rules.now }))
+    ensures adds { Adds (λ rows. with_rows rule_table.tree (map rule_cells rules.now)
+        (with_rows catalogue_table.tree (catalogue_cells row.now ∷ []) rows)) (1 + length rules.now)
         (state S.Store tx.old.conn.now) (state S.Store tx.new.conn.now) result }
-    ensures cause { Goes cells_of (with_tables (λ t.
-        record t { catalogue = t.catalogue ++ row.now ∷ []; rule = t.rule ++ rules.now }))
-        (1 + length rules.now)
-        (state S.Store tx.old.conn.now) (state S.Store tx.new.conn.now) result }
-    ensures survives { Survives (state S.Store tx.old.conn.now) (state S.Store tx.new.conn.now)
-        (λ _. ⊥) }
 {
     add_revision(tx, row)?;
-    add_rules(alloc, tx, rules)
+    add_all(alloc, tx, rules)
 }
 
 /// Adds a document, with its profile.
@@ -56,12 +53,8 @@ pub(crate) fn add_read_document<S: Alter>(
     row: &DocumentRow,
 ) -> Result<(), Fault>
     ensures same_reference { tx.new.conn.ghost_name ≡ tx.old.conn.ghost_name }
-    ensures wrote { Writes cells_of (with_document row.now) (state S.Store tx.old.conn.now)
-        (state S.Store tx.new.conn.now) result }
-    ensures cause { Goes cells_of (with_document row.now) 2
+    ensures adds { Adds (with_document row.now) 2
         (state S.Store tx.old.conn.now) (state S.Store tx.new.conn.now) result }
-    ensures survives { Survives (state S.Store tx.old.conn.now) (state S.Store tx.new.conn.now)
-        (λ _. ⊥) }
 {
     add_document(tx, row)?;
     add_reading(tx, row)
@@ -69,51 +62,41 @@ pub(crate) fn add_read_document<S: Alter>(
 
 /// Adds what a document defines.
 pub(crate) fn add_parts<S: Alter>(
+    alloc: Global,
     tx: &mut Transaction<'_, S>,
     packages: &[PackageRow],
     references: &[ExtractedRow],
 ) -> Result<(), Fault>
     ensures same_reference { tx.new.conn.ghost_name ≡ tx.old.conn.ghost_name }
-    ensures wrote { Writes cells_of (with_tables (λ t.
-        record t { packages = t.packages ++ packages.now; extracted = t.extracted ++ references.now }))
-        (state S.Store tx.old.conn.now) (state S.Store tx.new.conn.now) result }
-    ensures cause { Goes cells_of (with_tables (λ t.
-        record t { packages = t.packages ++ packages.now; extracted = t.extracted ++ references.now }))
+    ensures adds { Adds (with_parts packages.now references.now)
         (length packages.now + length references.now)
         (state S.Store tx.old.conn.now) (state S.Store tx.new.conn.now) result }
-    ensures survives { Survives (state S.Store tx.old.conn.now) (state S.Store tx.new.conn.now)
-        (λ _. ⊥) }
 {
-    add_packages(tx, packages)?;
-    add_references(tx, references)
+    add_all(alloc, tx, packages)?;
+    add_all(alloc, tx, references)
 }
 
 /// A document is imported.
 pub(crate) fn import<S: Alter>(
+    alloc: Global,
     tx: &mut Transaction<'_, S>,
     row: &DocumentRow,
     packages: &[PackageRow],
     references: &[ExtractedRow],
 ) -> Result<(), Fault>
     ensures same_reference { tx.new.conn.ghost_name ≡ tx.old.conn.ghost_name }
-    ensures wrote { Writes cells_of (λ it. with_tables (λ t.
-        record t { packages = t.packages ++ packages.now; extracted = t.extracted ++ references.now })
-        (with_document row.now it))
-        (state S.Store tx.old.conn.now) (state S.Store tx.new.conn.now) result }
-    ensures cause { Goes cells_of (λ it. with_tables (λ t.
-        record t { packages = t.packages ++ packages.now; extracted = t.extracted ++ references.now })
-        (with_document row.now it))
+    ensures adds { Adds (λ rows. with_parts packages.now references.now
+        (with_document row.now rows))
         (2 + (length packages.now + length references.now))
         (state S.Store tx.old.conn.now) (state S.Store tx.new.conn.now) result }
-    ensures survives { Survives (state S.Store tx.old.conn.now) (state S.Store tx.new.conn.now)
-        (λ _. ⊥) }
 {
     add_read_document(tx, row)?;
-    add_parts(tx, packages, references)
+    add_parts(alloc, tx, packages, references)
 }
 
 /// The terms that are chosen for a package take the place of those that were.
 pub(crate) fn choose<S: Alter>(
+    alloc: Global,
     tx: &mut Transaction<'_, S>,
     release: &Text,
     document: u32,
@@ -121,23 +104,14 @@ pub(crate) fn choose<S: Alter>(
     rows: &[ChoiceRow],
 ) -> Result<(), Fault>
     ensures same_reference { tx.new.conn.ghost_name ≡ tx.old.conn.ghost_name }
-    ensures wrote { Writes cells_of (with_tables (λ t.
-        record t {
-          choice =
-              filter (is_other_choice release.now document package_id.now) t.choice ++ rows.now;
-        }))
+    ensures makes { Turns rows_of (λ t. with_rows choice_table.tree (map choice_cells rows.now)
+        (rows_of (record t {
+          choice = filter (is_other_choice release.now document package_id.now) t.choice;
+        }))) (length rows.now)
         (state S.Store tx.old.conn.now) (state S.Store tx.new.conn.now) result }
-    ensures cause { Goes cells_of (with_tables (λ t.
-        record t {
-          choice =
-              filter (is_other_choice release.now document package_id.now) t.choice ++ rows.now;
-        })) (length rows.now)
-        (state S.Store tx.old.conn.now) (state S.Store tx.new.conn.now) result }
-    ensures survives { Survives (state S.Store tx.old.conn.now) (state S.Store tx.new.conn.now)
-        (λ _. ⊥) }
 {
     drop_choices(tx, release, document, package_id)?;
-    add_choices(tx, rows)
+    add_all(alloc, tx, rows)
 }
 
 /// A conclusion takes the place of an earlier one.
@@ -146,24 +120,12 @@ pub(crate) fn conclude<S: Alter>(
     row: &ConclusionRow,
 ) -> Result<(), Fault>
     ensures same_reference { tx.new.conn.ghost_name ≡ tx.old.conn.ghost_name }
-    ensures wrote { Writes cells_of (with_tables (λ t.
-        record t {
-          conclusion =
-              filter (λ other. not (is_conclusion row.now.document row.now.package_id other))
-              t.conclusion
-              ++ row.now ∷ [];
-        }))
+    ensures makes { Turns rows_of (λ t. with_rows conclusion_table.tree
+        (conclusion_cells row.now ∷ []) (rows_of (record t {
+          conclusion = filter (λ other.
+              not (is_conclusion row.now.document row.now.package_id other)) t.conclusion;
+        }))) 1
         (state S.Store tx.old.conn.now) (state S.Store tx.new.conn.now) result }
-    ensures cause { Goes cells_of (with_tables (λ t.
-        record t {
-          conclusion =
-              filter (λ other. not (is_conclusion row.now.document row.now.package_id other))
-              t.conclusion
-              ++ row.now ∷ [];
-        })) 1
-        (state S.Store tx.old.conn.now) (state S.Store tx.new.conn.now) result }
-    ensures survives { Survives (state S.Store tx.old.conn.now) (state S.Store tx.new.conn.now)
-        (λ _. ⊥) }
 {
     drop_conclusion(tx, row.document, &row.package_id)?;
     add_conclusion(tx, row)
@@ -172,24 +134,12 @@ pub(crate) fn conclude<S: Alter>(
 /// A licence takes the place of an earlier one.
 pub(crate) fn adopt<S: Alter>(tx: &mut Transaction<'_, S>, row: &AdoptionRow) -> Result<(), Fault>
     ensures same_reference { tx.new.conn.ghost_name ≡ tx.old.conn.ghost_name }
-    ensures wrote { Writes cells_of (with_tables (λ t.
-        record t {
-          adoption =
-              filter (λ other. not (is_adoption row.now.document row.now.reference other))
-              t.adoption
-              ++ row.now ∷ [];
-        }))
+    ensures makes { Turns rows_of (λ t. with_rows adoption_table.tree
+        (adoption_cells row.now ∷ []) (rows_of (record t {
+          adoption = filter (λ other.
+              not (is_adoption row.now.document row.now.reference other)) t.adoption;
+        }))) 1
         (state S.Store tx.old.conn.now) (state S.Store tx.new.conn.now) result }
-    ensures cause { Goes cells_of (with_tables (λ t.
-        record t {
-          adoption =
-              filter (λ other. not (is_adoption row.now.document row.now.reference other))
-              t.adoption
-              ++ row.now ∷ [];
-        })) 1
-        (state S.Store tx.old.conn.now) (state S.Store tx.new.conn.now) result }
-    ensures survives { Survives (state S.Store tx.old.conn.now) (state S.Store tx.new.conn.now)
-        (λ _. ⊥) }
 {
     drop_adoption(tx, row.document, &row.reference)?;
     add_adoption(tx, row)
@@ -203,17 +153,11 @@ pub(crate) fn raise<S: Alter>(
     changes: &[ChangeRow],
 ) -> Result<(), Fault>
     ensures same_reference { tx.new.conn.ghost_name ≡ tx.old.conn.ghost_name }
-    ensures wrote { Writes cells_of (λ it. with_steps changes.now
-        (with_tables (λ t. record t { duty = t.duty ++ duties.now }) it))
-        (state S.Store tx.old.conn.now) (state S.Store tx.new.conn.now) result }
-    ensures cause { Goes cells_of (λ it. with_steps changes.now
-        (with_tables (λ t. record t { duty = t.duty ++ duties.now }) it))
+    ensures adds { Adds (with_raised duties.now changes.now)
         (length duties.now + (length changes.now + length changes.now))
         (state S.Store tx.old.conn.now) (state S.Store tx.new.conn.now) result }
-    ensures survives { Survives (state S.Store tx.old.conn.now) (state S.Store tx.new.conn.now)
-        (λ _. ⊥) }
 {
-    add_duties(alloc, tx, duties)?;
+    add_in_eights(alloc, tx, duties)?;
     add_steps(alloc, tx, changes)
 }
 
@@ -226,19 +170,12 @@ pub(crate) fn add_terms<S: Alter>(
     changes: &[ChangeRow],
 ) -> Result<(), Fault>
     ensures same_reference { tx.new.conn.ghost_name ≡ tx.old.conn.ghost_name }
-    ensures wrote { Writes cells_of (λ it. with_steps changes.now
-        (with_tables (λ t.
-        record t { frozen = t.frozen ++ frozen.now; duty = t.duty ++ duties.now }) it))
-        (state S.Store tx.old.conn.now) (state S.Store tx.new.conn.now) result }
-    ensures cause { Goes cells_of (λ it. with_steps changes.now
-        (with_tables (λ t.
-        record t { frozen = t.frozen ++ frozen.now; duty = t.duty ++ duties.now }) it))
+    ensures adds { Adds (λ rows. with_raised duties.now changes.now
+        (with_rows frozen_table.tree (map frozen_cells frozen.now) rows))
         (length frozen.now + (length duties.now + (length changes.now + length changes.now)))
         (state S.Store tx.old.conn.now) (state S.Store tx.new.conn.now) result }
-    ensures survives { Survives (state S.Store tx.old.conn.now) (state S.Store tx.new.conn.now)
-        (λ _. ⊥) }
 {
-    add_frozen_terms(tx, frozen)?;
+    add_all(alloc, tx, frozen)?;
     raise(alloc, tx, duties, changes)
 }
 
@@ -247,31 +184,18 @@ pub(crate) fn freeze<S: Alter>(
     alloc: Global,
     tx: &mut Transaction<'_, S>,
     release: &Text,
-    revision: u64,
+    revision: u32,
     frozen: &[FrozenRow],
     duties: &[DutyRow],
     changes: &[ChangeRow],
 ) -> Result<(), Fault>
     ensures same_reference { tx.new.conn.ghost_name ≡ tx.old.conn.ghost_name }
-    ensures wrote { Writes cells_of (λ it. with_steps changes.now
-        (with_tables (λ t. record t {
+    ensures makes { Turns rows_of (λ t. with_raised duties.now changes.now
+        (with_rows frozen_table.tree (map frozen_cells frozen.now) (rows_of (record t {
           releases = updated (is_release release.now) (with_release_state Frozen revision)
               t.releases;
-          frozen = t.frozen ++ frozen.now;
-          duty = t.duty ++ duties.now;
-        }) it))
+        })))) (length frozen.now + (length duties.now + (length changes.now + length changes.now)))
         (state S.Store tx.old.conn.now) (state S.Store tx.new.conn.now) result }
-    ensures cause { revision < 2 ^ 32 → Goes cells_of (λ it. with_steps changes.now
-        (with_tables (λ t. record t {
-          releases = updated (is_release release.now) (with_release_state Frozen revision)
-              t.releases;
-          frozen = t.frozen ++ frozen.now;
-          duty = t.duty ++ duties.now;
-        }) it))
-        (length frozen.now + (length duties.now + (length changes.now + length changes.now)))
-        (state S.Store tx.old.conn.now) (state S.Store tx.new.conn.now) result }
-    ensures survives { Survives (state S.Store tx.old.conn.now) (state S.Store tx.new.conn.now)
-        (λ _. ⊥) }
 {
     freeze_release(tx, release, revision)?;
     add_terms(alloc, tx, frozen, duties, changes)
@@ -284,15 +208,10 @@ pub(crate) fn move_duties<S: Alter>(
     changes: &[ChangeRow],
 ) -> Result<(), Fault>
     ensures same_reference { tx.new.conn.ghost_name ≡ tx.old.conn.ghost_name }
-    ensures wrote { Writes cells_of (λ it. with_steps changes.now
-        (with_tables (λ t. record t { duty = moved_by changes.now t.duty }) it))
-        (state S.Store tx.old.conn.now) (state S.Store tx.new.conn.now) result }
-    ensures cause { Goes cells_of (λ it. with_steps changes.now
-        (with_tables (λ t. record t { duty = moved_by changes.now t.duty }) it))
+    ensures makes { Turns rows_of (λ t. with_steps changes.now
+        (rows_of (record t { duty = moved_by changes.now t.duty })))
         (length changes.now + length changes.now)
         (state S.Store tx.old.conn.now) (state S.Store tx.new.conn.now) result }
-    ensures survives { Survives (state S.Store tx.old.conn.now) (state S.Store tx.new.conn.now)
-        (λ _. ⊥) }
 {
     set_duties(tx, changes)?;
     add_steps(alloc, tx, changes)
@@ -306,22 +225,11 @@ pub(crate) fn clear<S: Alter>(
     changes: &[ChangeRow],
 ) -> Result<(), Fault>
     ensures same_reference { tx.new.conn.ghost_name ≡ tx.old.conn.ghost_name }
-    ensures wrote { Writes cells_of (λ it. with_steps changes.now
-        (with_tables (λ t. record t {
-          choice = filter
-              (is_choice_elsewhere release.now) t.choice;
-          duty = moved_by changes.now t.duty;
-        }) it))
+    ensures makes { Turns rows_of (λ t. with_steps changes.now (rows_of (record t {
+      choice = filter (is_choice_elsewhere release.now) t.choice;
+      duty = moved_by changes.now t.duty;
+    }))) (length changes.now + length changes.now)
         (state S.Store tx.old.conn.now) (state S.Store tx.new.conn.now) result }
-    ensures cause { Goes cells_of (λ it. with_steps changes.now
-        (with_tables (λ t. record t {
-          choice = filter
-              (is_choice_elsewhere release.now) t.choice;
-          duty = moved_by changes.now t.duty;
-        }) it)) (length changes.now + length changes.now)
-        (state S.Store tx.old.conn.now) (state S.Store tx.new.conn.now) result }
-    ensures survives { Survives (state S.Store tx.old.conn.now) (state S.Store tx.new.conn.now)
-        (λ _. ⊥) }
 {
     drop_choices_in(tx, release)?;
     move_duties(alloc, tx, changes)
@@ -335,26 +243,12 @@ pub(crate) fn withdraw<S: Alter>(
     changes: &[ChangeRow],
 ) -> Result<(), Fault>
     ensures same_reference { tx.new.conn.ghost_name ≡ tx.old.conn.ghost_name }
-    ensures wrote { Writes cells_of (λ it. with_steps changes.now
-        (with_tables (λ t. record t {
-          releases = updated
-              (is_release release.now) withdrawn_release t.releases;
-          choice = filter
-              (is_choice_elsewhere release.now) t.choice;
-          duty = moved_by changes.now t.duty;
-        }) it))
+    ensures makes { Turns rows_of (λ t. with_steps changes.now (rows_of (record t {
+      releases = updated (is_release release.now) withdrawn_release t.releases;
+      choice = filter (is_choice_elsewhere release.now) t.choice;
+      duty = moved_by changes.now t.duty;
+    }))) (length changes.now + length changes.now)
         (state S.Store tx.old.conn.now) (state S.Store tx.new.conn.now) result }
-    ensures cause { Goes cells_of (λ it. with_steps changes.now
-        (with_tables (λ t. record t {
-          releases = updated
-              (is_release release.now) withdrawn_release t.releases;
-          choice = filter
-              (is_choice_elsewhere release.now) t.choice;
-          duty = moved_by changes.now t.duty;
-        }) it)) (length changes.now + length changes.now)
-        (state S.Store tx.old.conn.now) (state S.Store tx.new.conn.now) result }
-    ensures survives { Survives (state S.Store tx.old.conn.now) (state S.Store tx.new.conn.now)
-        (λ _. ⊥) }
 {
     withdraw_release(tx, release)?;
     clear(alloc, tx, release, changes)
@@ -385,7 +279,13 @@ pub fn make<S: Alter>(
             document,
             packages,
             references,
-        } => import(tx, document, packages.as_slice(), references.as_slice()),
+        } => import(
+            alloc,
+            tx,
+            document,
+            packages.as_slice(),
+            references.as_slice(),
+        ),
         Change::Opened(row) => add_release(tx, row),
         Change::Attached(row) => add_attached(tx, row),
         Change::Chosen {
@@ -393,7 +293,7 @@ pub fn make<S: Alter>(
             document,
             package_id,
             rows,
-        } => choose(tx, release, *document, package_id, rows.as_slice()),
+        } => choose(alloc, tx, release, *document, package_id, rows.as_slice()),
         Change::Froze {
             release,
             revision,
@@ -404,7 +304,7 @@ pub fn make<S: Alter>(
             alloc,
             tx,
             release,
-            *revision,
+            small_revision(*revision)?,
             frozen.as_slice(),
             duties.as_slice(),
             changes.as_slice(),

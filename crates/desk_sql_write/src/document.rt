@@ -1,19 +1,19 @@
 //! Documents, and what they define.
 
-ghost use Rattle.std.specs.Prelude.{◌≡◌, ◌++◌, ◌∷◌, [], filter, not, length};
+ghost use Rattle.std.specs.Prelude.{◌≡◌, ◌∷◌, []};
 ghost use Rattle.sqlite.specs.Held.{state};
-ghost use Rattle.sqlite.specs.State.{Survives};
 ghost use Rattle.sqlite.specs.Values.{bound};
 ghost use Rattle.desk_sql_layout.specs.Cells.{document_cells, reading_cells, package_cells, extracted_cells};
-ghost use Rattle.desk_sql_write.specs.Contents.{cells_of, with_tables};
-ghost use Rattle.desk_sql_write.specs.Taking.{Goes};
-ghost use Rattle.desk_sql_write.specs.Written.{Writes};
+ghost use Rattle.desk_sql_layout.specs.Layout.{document_table, reading_table, package_table, extracted_table};
+ghost use Rattle.desk_sql_write.specs.Turning.{Adds, with_rows};
 
+use crate::adding::Added;
 use crate::statement::execute;
 use desk_model::{DocumentRow, ExtractedRow, Fault, PackageRow};
 use desk_sql_layout::values::{flag, number, profile, text, text_or_null};
 use sqlite::{Alter, Transaction};
 use sqlite_value::value::ValueRef;
+use std::alloc::Global;
 
 fn document_values<'a>(row: &'a DocumentRow) -> [ValueRef<'a>; 3]
     ensures { bound result ≡ document_cells row.now }
@@ -31,14 +31,8 @@ pub(crate) fn add_document<S: Alter>(
     row: &DocumentRow,
 ) -> Result<(), Fault>
     ensures same_reference { tx.new.conn.ghost_name ≡ tx.old.conn.ghost_name }
-    ensures wrote { Writes cells_of (with_tables (λ t.
-        record t { document = t.document ++ row.now ∷ [] })) (state S.Store tx.old.conn.now)
-        (state S.Store tx.new.conn.now) result }
-    ensures cause { Goes cells_of (with_tables (λ t.
-        record t { document = t.document ++ row.now ∷ [] })) 1
+    ensures adds { Adds (with_rows document_table.tree (document_cells row.now ∷ [])) 1
         (state S.Store tx.old.conn.now) (state S.Store tx.new.conn.now) result }
-    ensures survives { Survives (state S.Store tx.old.conn.now) (state S.Store tx.new.conn.now)
-        (λ _. ⊥) }
 {
     execute(
         tx,
@@ -59,12 +53,8 @@ pub(crate) fn add_reading<S: Alter>(
     row: &DocumentRow,
 ) -> Result<(), Fault>
     ensures same_reference { tx.new.conn.ghost_name ≡ tx.old.conn.ghost_name }
-    ensures wrote { Writes cells_of (λ it. record it { reading = it.reading ++ row.now ∷ [] })
+    ensures adds { Adds (with_rows reading_table.tree (reading_cells row.now ∷ [])) 1
         (state S.Store tx.old.conn.now) (state S.Store tx.new.conn.now) result }
-    ensures cause { Goes cells_of (λ it. record it { reading = it.reading ++ row.now ∷ [] }) 1
-        (state S.Store tx.old.conn.now) (state S.Store tx.new.conn.now) result }
-    ensures survives { Survives (state S.Store tx.old.conn.now) (state S.Store tx.new.conn.now)
-        (λ _. ⊥) }
 {
     execute(
         tx,
@@ -87,26 +77,18 @@ fn package_values<'a>(row: &'a PackageRow) -> [ValueRef<'a>; 7]
     ]
 }
 
-/// Adds a package of a document.
-pub(crate) fn add_package<S: Alter>(
-    tx: &mut Transaction<'_, S>,
-    row: &PackageRow,
-) -> Result<(), Fault>
-    ensures same_reference { tx.new.conn.ghost_name ≡ tx.old.conn.ghost_name }
-    ensures wrote { Writes cells_of (with_tables (λ t.
-        record t { packages = t.packages ++ row.now ∷ [] })) (state S.Store tx.old.conn.now)
-        (state S.Store tx.new.conn.now) result }
-    ensures cause { Goes cells_of (with_tables (λ t.
-        record t { packages = t.packages ++ row.now ∷ [] })) 1
-        (state S.Store tx.old.conn.now) (state S.Store tx.new.conn.now) result }
-    ensures survives { Survives (state S.Store tx.old.conn.now) (state S.Store tx.new.conn.now)
-        (λ _. ⊥) }
-{
-    execute(
-        tx,
-        "INSERT INTO package VALUES (?1, ?2, ?3, ?4, ?5, ?6, ?7)",
-        &package_values(row),
-    )
+impl Added for PackageRow {
+    ghost tree = { package_table.tree };
+
+    ghost rows = { λ row. package_cells row ∷ [] };
+
+    fn add<S: Alter>(&self, _alloc: Global, tx: &mut Transaction<'_, S>) -> Result<(), Fault> {
+        execute(
+            tx,
+            "INSERT INTO package VALUES (?1, ?2, ?3, ?4, ?5, ?6, ?7)",
+            &package_values(self),
+        )
+    }
 }
 
 fn reference_values<'a>(row: &'a ExtractedRow) -> [ValueRef<'a>; 3]
@@ -119,67 +101,16 @@ fn reference_values<'a>(row: &'a ExtractedRow) -> [ValueRef<'a>; 3]
     ]
 }
 
-/// Adds a reference that a document defines.
-pub(crate) fn add_reference<S: Alter>(
-    tx: &mut Transaction<'_, S>,
-    row: &ExtractedRow,
-) -> Result<(), Fault>
-    ensures same_reference { tx.new.conn.ghost_name ≡ tx.old.conn.ghost_name }
-    ensures wrote { Writes cells_of (with_tables (λ t.
-        record t { extracted = t.extracted ++ row.now ∷ [] })) (state S.Store tx.old.conn.now)
-        (state S.Store tx.new.conn.now) result }
-    ensures cause { Goes cells_of (with_tables (λ t.
-        record t { extracted = t.extracted ++ row.now ∷ [] })) 1
-        (state S.Store tx.old.conn.now) (state S.Store tx.new.conn.now) result }
-    ensures survives { Survives (state S.Store tx.old.conn.now) (state S.Store tx.new.conn.now)
-        (λ _. ⊥) }
-{
-    execute(
-        tx,
-        "INSERT INTO extracted VALUES (?1, ?2, ?3)",
-        &reference_values(row),
-    )
-}
+impl Added for ExtractedRow {
+    ghost tree = { extracted_table.tree };
 
-/// Adds the packages of a document.
-pub(crate) fn add_packages<S: Alter>(
-    tx: &mut Transaction<'_, S>,
-    rows: &[PackageRow],
-) -> Result<(), Fault>
-    ensures same_reference { tx.new.conn.ghost_name ≡ tx.old.conn.ghost_name }
-    ensures wrote { Writes cells_of
-        (with_tables (λ t. record t { packages = t.packages ++ rows.now }))
-        (state S.Store tx.old.conn.now) (state S.Store tx.new.conn.now) result }
-    ensures cause { Goes cells_of
-        (with_tables (λ t. record t { packages = t.packages ++ rows.now }))
-        (length rows.now)
-        (state S.Store tx.old.conn.now) (state S.Store tx.new.conn.now) result }
-    ensures survives { Survives (state S.Store tx.old.conn.now) (state S.Store tx.new.conn.now)
-        (λ _. ⊥) }
-{
-    for row in rows {
-        add_package(tx, row)?;
-    }
-    Ok(())
-}
+    ghost rows = { λ row. extracted_cells row ∷ [] };
 
-/// Adds the references that a document defines.
-pub(crate) fn add_references<S: Alter>(
-    tx: &mut Transaction<'_, S>,
-    rows: &[ExtractedRow],
-) -> Result<(), Fault>
-    ensures same_reference { tx.new.conn.ghost_name ≡ tx.old.conn.ghost_name }
-    ensures wrote { Writes cells_of (with_tables (λ t.
-        record t { extracted = t.extracted ++ rows.now })) (state S.Store tx.old.conn.now)
-        (state S.Store tx.new.conn.now) result }
-    ensures cause { Goes cells_of (with_tables (λ t.
-        record t { extracted = t.extracted ++ rows.now })) (length rows.now)
-        (state S.Store tx.old.conn.now) (state S.Store tx.new.conn.now) result }
-    ensures survives { Survives (state S.Store tx.old.conn.now) (state S.Store tx.new.conn.now)
-        (λ _. ⊥) }
-{
-    for row in rows {
-        add_reference(tx, row)?;
+    fn add<S: Alter>(&self, _alloc: Global, tx: &mut Transaction<'_, S>) -> Result<(), Fault> {
+        execute(
+            tx,
+            "INSERT INTO extracted VALUES (?1, ?2, ?3)",
+            &reference_values(self),
+        )
     }
-    Ok(())
 }

@@ -1,11 +1,13 @@
 //! What is written to the desk's tables in a SQL database.
 //!
 //! `make` writes a change of rows inside a transaction. `desk_sql_commit` has the transaction, and
-//! asks first whether the tables can hold the change (`is_writable`). Below it stand a function for each change, and one for
-//! each statement, whose clause says what it makes of the rows of each table. `create_tables`
-//! creates the tables of an empty desk in a database where nothing stands.
+//! asks first whether the tables can hold the change (`is_writable`). Below it stand a function for
+//! each change, and one for each statement, whose clause says what it makes of the rows of each
+//! table (`Turns`); rows of which there may be many are added by `add_all` and `add_in_eights`.
+//! `create_tables` creates the tables of an empty desk in a database where nothing stands.
 #![tactic(auto)]
 
+mod adding;
 mod catalogue;
 mod change;
 mod create;

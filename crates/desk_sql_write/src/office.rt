@@ -1,14 +1,13 @@
 //! What the office concludes and adopts.
 
-ghost use Rattle.std.specs.Prelude.{◌≡◌, ◌++◌, ◌∷◌, [], filter, not};
+ghost use Rattle.std.specs.Prelude.{◌≡◌, ◌∷◌, [], filter, not};
 ghost use Rattle.sqlite.specs.Held.{state};
-ghost use Rattle.sqlite.specs.State.{Survives};
 ghost use Rattle.sqlite.specs.Values.{bound};
 ghost use Rattle.desk_model.specs.Keys.{is_conclusion, is_adoption};
 ghost use Rattle.desk_sql_layout.specs.Cells.{conclusion_cells, adoption_cells};
-ghost use Rattle.desk_sql_write.specs.Contents.{cells_of, with_tables};
-ghost use Rattle.desk_sql_write.specs.Taking.{Goes};
-ghost use Rattle.desk_sql_write.specs.Written.{Writes};
+ghost use Rattle.desk_sql_layout.specs.Held.{rows_of};
+ghost use Rattle.desk_sql_layout.specs.Layout.{conclusion_table, adoption_table};
+ghost use Rattle.desk_sql_write.specs.Turning.{Adds, Turns, with_rows};
 
 use crate::statement::execute;
 use desk_base::Text;
@@ -33,14 +32,8 @@ pub(crate) fn add_conclusion<S: Alter>(
     row: &ConclusionRow,
 ) -> Result<(), Fault>
     ensures same_reference { tx.new.conn.ghost_name ≡ tx.old.conn.ghost_name }
-    ensures wrote { Writes cells_of (with_tables (λ t.
-        record t { conclusion = t.conclusion ++ row.now ∷ [] })) (state S.Store tx.old.conn.now)
-        (state S.Store tx.new.conn.now) result }
-    ensures cause { Goes cells_of (with_tables (λ t.
-        record t { conclusion = t.conclusion ++ row.now ∷ [] })) 1
+    ensures adds { Adds (with_rows conclusion_table.tree (conclusion_cells row.now ∷ [])) 1
         (state S.Store tx.old.conn.now) (state S.Store tx.new.conn.now) result }
-    ensures survives { Survives (state S.Store tx.old.conn.now) (state S.Store tx.new.conn.now)
-        (λ _. ⊥) }
 {
     execute(
         tx,
@@ -65,14 +58,8 @@ pub(crate) fn add_adoption<S: Alter>(
     row: &AdoptionRow,
 ) -> Result<(), Fault>
     ensures same_reference { tx.new.conn.ghost_name ≡ tx.old.conn.ghost_name }
-    ensures wrote { Writes cells_of (with_tables (λ t.
-        record t { adoption = t.adoption ++ row.now ∷ [] })) (state S.Store tx.old.conn.now)
-        (state S.Store tx.new.conn.now) result }
-    ensures cause { Goes cells_of (with_tables (λ t.
-        record t { adoption = t.adoption ++ row.now ∷ [] })) 1
+    ensures adds { Adds (with_rows adoption_table.tree (adoption_cells row.now ∷ [])) 1
         (state S.Store tx.old.conn.now) (state S.Store tx.new.conn.now) result }
-    ensures survives { Survives (state S.Store tx.old.conn.now) (state S.Store tx.new.conn.now)
-        (λ _. ⊥) }
 {
     execute(
         tx,
@@ -88,20 +75,9 @@ pub(crate) fn drop_conclusion<S: Alter>(
     package_id: &Text,
 ) -> Result<(), Fault>
     ensures same_reference { tx.new.conn.ghost_name ≡ tx.old.conn.ghost_name }
-    ensures wrote { Writes cells_of (with_tables (λ t.
-        record t {
-          conclusion = filter (λ row.
-              not (is_conclusion document package_id.now row)) t.conclusion;
-        }))
-        (state S.Store tx.old.conn.now) (state S.Store tx.new.conn.now) result }
-    ensures cause { Goes cells_of (with_tables (λ t.
-        record t {
-          conclusion = filter (λ row.
-              not (is_conclusion document package_id.now row)) t.conclusion;
-        })) 0
-        (state S.Store tx.old.conn.now) (state S.Store tx.new.conn.now) result }
-    ensures survives { Survives (state S.Store tx.old.conn.now) (state S.Store tx.new.conn.now)
-        (λ _. ⊥) }
+    ensures drops { Turns rows_of (λ t. rows_of (record t {
+      conclusion = filter (λ row. not (is_conclusion document package_id.now row)) t.conclusion;
+    })) 0 (state S.Store tx.old.conn.now) (state S.Store tx.new.conn.now) result }
 {
     execute(
         tx,
@@ -117,20 +93,9 @@ pub(crate) fn drop_adoption<S: Alter>(
     reference: &Text,
 ) -> Result<(), Fault>
     ensures same_reference { tx.new.conn.ghost_name ≡ tx.old.conn.ghost_name }
-    ensures wrote { Writes cells_of (with_tables (λ t.
-        record t {
-          adoption = filter (λ row.
-              not (is_adoption document reference.now row)) t.adoption;
-        })) (state S.Store tx.old.conn.now)
-        (state S.Store tx.new.conn.now) result }
-    ensures cause { Goes cells_of (with_tables (λ t.
-        record t {
-          adoption = filter (λ row.
-              not (is_adoption document reference.now row)) t.adoption;
-        })) 0
-        (state S.Store tx.old.conn.now) (state S.Store tx.new.conn.now) result }
-    ensures survives { Survives (state S.Store tx.old.conn.now) (state S.Store tx.new.conn.now)
-        (λ _. ⊥) }
+    ensures drops { Turns rows_of (λ t. rows_of (record t {
+      adoption = filter (λ row. not (is_adoption document reference.now row)) t.adoption;
+    })) 0 (state S.Store tx.old.conn.now) (state S.Store tx.new.conn.now) result }
 {
     execute(
         tx,

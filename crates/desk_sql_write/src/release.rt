@@ -1,24 +1,25 @@
 //! Releases, and what is attached to them and chosen in them.
 
-ghost use Rattle.std.specs.Prelude.{◌≡◌, ◌++◌, ◌∷◌, [], filter, not, length, ◌<◌, ◌^◌};
+ghost use Rattle.std.specs.Prelude.{◌≡◌, ◌<◌, ◌^◌, ◌∷◌, [], filter, IfOk, IfErr};
 ghost use Rattle.sqlite.specs.Held.{state};
-ghost use Rattle.sqlite.specs.State.{Survives};
 ghost use Rattle.sqlite.specs.Values.{bound};
 ghost use Rattle.desk_model.specs.Keys.{is_release};
 ghost use Rattle.desk_model.specs.Lists.{updated};
 ghost use Rattle.desk_model.specs.Tables.{is_other_choice, is_choice_elsewhere, with_release_state, withdrawn_release};
 ghost use Rattle.desk_model.specs.declared.state.ReleaseState.TheVariants.{Frozen};
 ghost use Rattle.desk_sql_layout.specs.Cells.{release_cells, attached_cells, choice_cells, frozen_cells};
-ghost use Rattle.desk_sql_write.specs.Contents.{cells_of, with_tables};
-ghost use Rattle.desk_sql_write.specs.Taking.{Goes};
-ghost use Rattle.desk_sql_write.specs.Written.{Writes};
+ghost use Rattle.desk_sql_layout.specs.Held.{rows_of};
+ghost use Rattle.desk_sql_layout.specs.Layout.{releases_table, attached_table, choice_table, frozen_table};
+ghost use Rattle.desk_sql_write.specs.Turning.{Adds, Turns, with_rows};
 
+use crate::adding::Added;
 use crate::statement::execute;
 use desk_base::Text;
 use desk_model::{AttachedRow, ChoiceRow, Fault, FrozenRow, ReleaseRow, ReleaseState, StoreFault};
 use desk_sql_layout::values::{number, release_state, text};
 use sqlite::{Alter, Transaction};
 use sqlite_value::value::ValueRef;
+use std::alloc::Global;
 
 fn attached_values<'a>(row: &'a AttachedRow) -> [ValueRef<'a>; 2]
     ensures { bound result ≡ attached_cells row.now }
@@ -32,14 +33,8 @@ pub(crate) fn add_attached<S: Alter>(
     row: &AttachedRow,
 ) -> Result<(), Fault>
     ensures same_reference { tx.new.conn.ghost_name ≡ tx.old.conn.ghost_name }
-    ensures wrote { Writes cells_of (with_tables (λ t.
-        record t { attached = t.attached ++ row.now ∷ [] })) (state S.Store tx.old.conn.now)
-        (state S.Store tx.new.conn.now) result }
-    ensures cause { Goes cells_of (with_tables (λ t.
-        record t { attached = t.attached ++ row.now ∷ [] })) 1
+    ensures adds { Adds (with_rows attached_table.tree (attached_cells row.now ∷ [])) 1
         (state S.Store tx.old.conn.now) (state S.Store tx.new.conn.now) result }
-    ensures survives { Survives (state S.Store tx.old.conn.now) (state S.Store tx.new.conn.now)
-        (λ _. ⊥) }
 {
     execute(
         tx,
@@ -59,27 +54,18 @@ fn choice_values<'a>(row: &'a ChoiceRow) -> [ValueRef<'a>; 4]
     ]
 }
 
-/// Adds a term that is chosen for a package.
-pub(crate) fn add_choice<S: Alter>(
-    tx: &mut Transaction<'_, S>,
-    row: &ChoiceRow,
-) -> Result<(), Fault>
-    ensures same_reference { tx.new.conn.ghost_name ≡ tx.old.conn.ghost_name }
-    ensures wrote { Writes cells_of
-        (with_tables (λ t. record t { choice = t.choice ++ row.now ∷ [] }))
-        (state S.Store tx.old.conn.now) (state S.Store tx.new.conn.now) result }
-    ensures cause { Goes cells_of
-        (with_tables (λ t. record t { choice = t.choice ++ row.now ∷ [] }))
-        1
-        (state S.Store tx.old.conn.now) (state S.Store tx.new.conn.now) result }
-    ensures survives { Survives (state S.Store tx.old.conn.now) (state S.Store tx.new.conn.now)
-        (λ _. ⊥) }
-{
-    execute(
-        tx,
-        "INSERT INTO choice VALUES (?1, ?2, ?3, ?4)",
-        &choice_values(row),
-    )
+impl Added for ChoiceRow {
+    ghost tree = { choice_table.tree };
+
+    ghost rows = { λ row. choice_cells row ∷ [] };
+
+    fn add<S: Alter>(&self, _alloc: Global, tx: &mut Transaction<'_, S>) -> Result<(), Fault> {
+        execute(
+            tx,
+            "INSERT INTO choice VALUES (?1, ?2, ?3, ?4)",
+            &choice_values(self),
+        )
+    }
 }
 
 fn frozen_values<'a>(row: &'a FrozenRow) -> [ValueRef<'a>; 5]
@@ -94,27 +80,29 @@ fn frozen_values<'a>(row: &'a FrozenRow) -> [ValueRef<'a>; 5]
     ]
 }
 
-/// Adds a term that a release is frozen with.
-pub(crate) fn add_frozen<S: Alter>(
-    tx: &mut Transaction<'_, S>,
-    row: &FrozenRow,
-) -> Result<(), Fault>
-    ensures same_reference { tx.new.conn.ghost_name ≡ tx.old.conn.ghost_name }
-    ensures wrote { Writes cells_of
-        (with_tables (λ t. record t { frozen = t.frozen ++ row.now ∷ [] }))
-        (state S.Store tx.old.conn.now) (state S.Store tx.new.conn.now) result }
-    ensures cause { Goes cells_of
-        (with_tables (λ t. record t { frozen = t.frozen ++ row.now ∷ [] }))
-        1
-        (state S.Store tx.old.conn.now) (state S.Store tx.new.conn.now) result }
-    ensures survives { Survives (state S.Store tx.old.conn.now) (state S.Store tx.new.conn.now)
-        (λ _. ⊥) }
+impl Added for FrozenRow {
+    ghost tree = { frozen_table.tree };
+
+    ghost rows = { λ row. frozen_cells row ∷ [] };
+
+    fn add<S: Alter>(&self, _alloc: Global, tx: &mut Transaction<'_, S>) -> Result<(), Fault> {
+        execute(
+            tx,
+            "INSERT INTO frozen VALUES (?1, ?2, ?3, ?4, ?5)",
+            &frozen_values(self),
+        )
+    }
+}
+
+/// The revision as a number of 32 bits, if it is one.
+pub(crate) fn small_revision(revision: u64) -> Result<u32, Fault>
+    ensures value { IfOk result (λ small. small ≡ revision) }
+    ensures large { IfErr result (λ _. revision < 2 ^ 32 → ⊥) }
 {
-    execute(
-        tx,
-        "INSERT INTO frozen VALUES (?1, ?2, ?3, ?4, ?5)",
-        &frozen_values(row),
-    )
+    match u32::try_from(revision) {
+        Ok(small) => Ok(small),
+        Err(_) => Err(Fault::Store(StoreFault::Rows)),
+    }
 }
 
 fn release_values<'a>(row: &'a ReleaseRow, revision: u32) -> [ValueRef<'a>; 5]
@@ -136,18 +124,10 @@ pub(crate) fn add_release<S: Alter>(
     row: &ReleaseRow,
 ) -> Result<(), Fault>
     ensures same_reference { tx.new.conn.ghost_name ≡ tx.old.conn.ghost_name }
-    ensures wrote { Writes cells_of (with_tables (λ t.
-        record t { releases = t.releases ++ row.now ∷ [] })) (state S.Store tx.old.conn.now)
-        (state S.Store tx.new.conn.now) result }
-    ensures cause { Goes cells_of (with_tables (λ t.
-        record t { releases = t.releases ++ row.now ∷ [] })) 1
+    ensures adds { Adds (with_rows releases_table.tree (release_cells row.now ∷ [])) 1
         (state S.Store tx.old.conn.now) (state S.Store tx.new.conn.now) result }
-    ensures survives { Survives (state S.Store tx.old.conn.now) (state S.Store tx.new.conn.now)
-        (λ _. ⊥) }
 {
-    let Ok(revision) = u32::try_from(row.revision) else {
-        return Err(Fault::Store(StoreFault::Rows));
-    };
+    let revision = small_revision(row.revision)?;
     execute(
         tx,
         "INSERT INTO releases VALUES (?1, ?2, ?3, ?4, ?5)",
@@ -159,34 +139,20 @@ pub(crate) fn add_release<S: Alter>(
 pub(crate) fn freeze_release<S: Alter>(
     tx: &mut Transaction<'_, S>,
     name: &Text,
-    revision: u64,
+    revision: u32,
 ) -> Result<(), Fault>
     ensures same_reference { tx.new.conn.ghost_name ≡ tx.old.conn.ghost_name }
-    ensures wrote { Writes cells_of (with_tables (λ t.
-        record t {
-          releases = updated (is_release name.now)
-              (with_release_state Frozen revision) t.releases;
-        })) (state S.Store tx.old.conn.now)
-        (state S.Store tx.new.conn.now) result }
-    ensures cause { revision < 2 ^ 32 → Goes cells_of (with_tables (λ t.
-        record t {
-          releases = updated (is_release name.now)
-              (with_release_state Frozen revision) t.releases;
-        })) 0
-        (state S.Store tx.old.conn.now) (state S.Store tx.new.conn.now) result }
-    ensures survives { Survives (state S.Store tx.old.conn.now) (state S.Store tx.new.conn.now)
-        (λ _. ⊥) }
+    ensures sets { Turns rows_of (λ t. rows_of (record t {
+      releases = updated (is_release name.now) (with_release_state Frozen revision) t.releases;
+    })) 0 (state S.Store tx.old.conn.now) (state S.Store tx.new.conn.now) result }
 {
-    let Ok(told) = u32::try_from(revision) else {
-        return Err(Fault::Store(StoreFault::Rows));
-    };
     execute(
         tx,
         "UPDATE releases SET state = ?2, revision = ?3 WHERE name = ?1",
         &[
             text(name),
             release_state(ReleaseState::Frozen),
-            number(told),
+            number(revision),
         ],
     )
 }
@@ -197,14 +163,9 @@ pub(crate) fn withdraw_release<S: Alter>(
     name: &Text,
 ) -> Result<(), Fault>
     ensures same_reference { tx.new.conn.ghost_name ≡ tx.old.conn.ghost_name }
-    ensures wrote { Writes cells_of (with_tables (λ t.
-        record t { releases = updated (is_release name.now) withdrawn_release t.releases }))
-        (state S.Store tx.old.conn.now) (state S.Store tx.new.conn.now) result }
-    ensures cause { Goes cells_of (with_tables (λ t.
-        record t { releases = updated (is_release name.now) withdrawn_release t.releases })) 0
-        (state S.Store tx.old.conn.now) (state S.Store tx.new.conn.now) result }
-    ensures survives { Survives (state S.Store tx.old.conn.now) (state S.Store tx.new.conn.now)
-        (λ _. ⊥) }
+    ensures sets { Turns rows_of (λ t. rows_of (record t {
+      releases = updated (is_release name.now) withdrawn_release t.releases;
+    })) 0 (state S.Store tx.old.conn.now) (state S.Store tx.new.conn.now) result }
 {
     execute(
         tx,
@@ -221,15 +182,9 @@ pub(crate) fn drop_choices<S: Alter>(
     package_id: &Text,
 ) -> Result<(), Fault>
     ensures same_reference { tx.new.conn.ghost_name ≡ tx.old.conn.ghost_name }
-    ensures wrote { Writes cells_of (with_tables (λ t.
-        record t { choice = filter (is_other_choice release.now document package_id.now) t.choice }))
-        (state S.Store tx.old.conn.now) (state S.Store tx.new.conn.now) result }
-    ensures cause { Goes cells_of (with_tables (λ t.
-        record t { choice = filter (is_other_choice release.now document package_id.now) t.choice }))
-        0
-        (state S.Store tx.old.conn.now) (state S.Store tx.new.conn.now) result }
-    ensures survives { Survives (state S.Store tx.old.conn.now) (state S.Store tx.new.conn.now)
-        (λ _. ⊥) }
+    ensures drops { Turns rows_of (λ t. rows_of (record t {
+      choice = filter (is_other_choice release.now document package_id.now) t.choice;
+    })) 0 (state S.Store tx.old.conn.now) (state S.Store tx.new.conn.now) result }
 {
     execute(
         tx,
@@ -244,58 +199,13 @@ pub(crate) fn drop_choices_in<S: Alter>(
     release: &Text,
 ) -> Result<(), Fault>
     ensures same_reference { tx.new.conn.ghost_name ≡ tx.old.conn.ghost_name }
-    ensures wrote { Writes cells_of (with_tables (λ t.
-        record t { choice = filter (is_choice_elsewhere release.now) t.choice }))
-        (state S.Store tx.old.conn.now) (state S.Store tx.new.conn.now) result }
-    ensures cause { Goes cells_of (with_tables (λ t.
-        record t { choice = filter (is_choice_elsewhere release.now) t.choice })) 0
-        (state S.Store tx.old.conn.now) (state S.Store tx.new.conn.now) result }
-    ensures survives { Survives (state S.Store tx.old.conn.now) (state S.Store tx.new.conn.now)
-        (λ _. ⊥) }
+    ensures drops { Turns rows_of (λ t. rows_of (record t {
+      choice = filter (is_choice_elsewhere release.now) t.choice;
+    })) 0 (state S.Store tx.old.conn.now) (state S.Store tx.new.conn.now) result }
 {
     execute(
         tx,
         "DELETE FROM choice WHERE release = ?1",
         &[text(release)],
     )
-}
-
-/// Adds terms that are chosen.
-pub(crate) fn add_choices<S: Alter>(
-    tx: &mut Transaction<'_, S>,
-    rows: &[ChoiceRow],
-) -> Result<(), Fault>
-    ensures same_reference { tx.new.conn.ghost_name ≡ tx.old.conn.ghost_name }
-    ensures wrote { Writes cells_of (with_tables (λ t. record t { choice = t.choice ++ rows.now }))
-        (state S.Store tx.old.conn.now) (state S.Store tx.new.conn.now) result }
-    ensures cause { Goes cells_of (with_tables (λ t. record t { choice = t.choice ++ rows.now }))
-        (length rows.now)
-        (state S.Store tx.old.conn.now) (state S.Store tx.new.conn.now) result }
-    ensures survives { Survives (state S.Store tx.old.conn.now) (state S.Store tx.new.conn.now)
-        (λ _. ⊥) }
-{
-    for row in rows {
-        add_choice(tx, row)?;
-    }
-    Ok(())
-}
-
-/// Adds terms that a release is frozen with.
-pub(crate) fn add_frozen_terms<S: Alter>(
-    tx: &mut Transaction<'_, S>,
-    rows: &[FrozenRow],
-) -> Result<(), Fault>
-    ensures same_reference { tx.new.conn.ghost_name ≡ tx.old.conn.ghost_name }
-    ensures wrote { Writes cells_of (with_tables (λ t. record t { frozen = t.frozen ++ rows.now }))
-        (state S.Store tx.old.conn.now) (state S.Store tx.new.conn.now) result }
-    ensures cause { Goes cells_of (with_tables (λ t. record t { frozen = t.frozen ++ rows.now }))
-        (length rows.now)
-        (state S.Store tx.old.conn.now) (state S.Store tx.new.conn.now) result }
-    ensures survives { Survives (state S.Store tx.old.conn.now) (state S.Store tx.new.conn.now)
-        (λ _. ⊥) }
-{
-    for row in rows {
-        add_frozen(tx, row)?;
-    }
-    Ok(())
 }

@@ -1,28 +1,26 @@
-use Rattle.std.proofs.Common.{◌++◌, inl, inr, ◌+◌, length, refl, arith}
+use Rattle.std.proofs.Common.{inl, inr, ℕ, List, ◌+◌, map, length, refl, arith}
+use Rattle.sqlite_value.specs.Order.{Row}
 use Rattle.sqlite.specs.Held.{state}
-use Rattle.desk_sql_write.specs.Contents.{cells_of, with_tables, with_steps}
-use Rattle.desk_sql_write.proofs.Going.{can_stand, err_goes, first_fails, then_goes}
-use Rattle.desk_sql_write.proofs.Inside.{wrote_then}
+use Rattle.desk_sql_layout.specs.Cells.{duty_cells}
+use Rattle.desk_sql_write.specs.Turning.{with_rows, with_steps, with_raised}
+use Rattle.desk_sql_write.proofs.Going.{along, can_stand, first_fails, then_turns}
 use Rattle.desk_sql_write.proofs.change.raise.Goals as goal
 
-pub returns-clause-wrote : goal.returns-clause-wrote
-returns-clause-wrote g c =
-    wrote_then cells_of (with_tables (λ t. record t { duty = t.duty ++ c.args.duties.now })) (with_steps c.args.changes.now)
-    (state g.S.Store c.args.tx.now.conn.now) (state g.S.Store c.add_duties.new.tx.conn.now) (state g.S.Store c.add_steps.new.tx.conn.now) c.add_steps.result
-    (λ clean inside. c.in_ok-add_duties.ensures.wrote clean inside) c.add_steps.ensures.survives c.add_steps.ensures.wrote
-
-pub returns-clause-cause : goal.returns-clause-cause
-returns-clause-cause g c =
-    then_goes cells_of (with_tables (λ t. record t { duty = t.duty ++ c.args.duties.now })) (with_steps c.args.changes.now) (length c.args.duties.now) (length c.args.changes.now + length c.args.changes.now) (length c.args.duties.now + (length c.args.changes.now + length c.args.changes.now))
-    (state g.S.Store c.args.tx.now.conn.now) (state g.S.Store c.add_duties.new.tx.conn.now) (state g.S.Store c.add_steps.new.tx.conn.now) c.add_steps.result (omega arith)
-    (λ clean inside. c.in_ok-add_duties.ensures.wrote clean inside) (λ clean inside. c.in_ok-add_duties.ensures.cause clean inside) c.add_duties.ensures.survives c.add_steps.ensures.survives
-    (λ it before after. can_stand (cells_of it) (cells_of ((with_tables (λ t. record t { duty = t.duty ++ c.args.duties.now })) it)) (cells_of ((with_steps c.args.changes.now) ((with_tables (λ t. record t { duty = t.duty ++ c.args.duties.now })) it))) (inl refl, (inl refl, (inl refl, (inl refl, (inl refl, (inl refl, (inl refl, (inl refl, (inl refl, (inl refl, (inl refl, (inl refl, (inr (inl refl), (inl refl, (inl refl, (inl refl, tt)))))))))))))))) before after) c.add_steps.ensures.cause
-
-pub returns-in_err-add_duties-clause-cause : goal.returns-in_err-add_duties-clause-cause
-returns-in_err-add_duties-clause-cause g c =
+pub returns-clause-adds : goal.returns-clause-adds
+returns-clause-adds g c =
     let a = state g.S.Store c.args.tx.now.conn.now in
-    let b = state g.S.Store c.add_duties.new.tx.conn.now in
-    let fault = c.in_err-add_duties.field-0.0 in
-    err_goes cells_of (λ it. (with_steps c.args.changes.now) ((with_tables (λ t. record t { duty = t.duty ++ c.args.duties.now })) it)) (length c.args.duties.now + (length c.args.changes.now + length c.args.changes.now)) a b c.from_residual.result fault c.from_residual.ensures.1
-    (first_fails cells_of (with_tables (λ t. record t { duty = t.duty ++ c.args.duties.now })) (λ it. (with_steps c.args.changes.now) ((with_tables (λ t. record t { duty = t.duty ++ c.args.duties.now })) it)) (length c.args.duties.now) (length c.args.duties.now + (length c.args.changes.now + length c.args.changes.now)) a b fault (omega arith)
-    (λ it before after. can_stand (cells_of it) (cells_of ((with_tables (λ t. record t { duty = t.duty ++ c.args.duties.now })) it)) (cells_of ((with_steps c.args.changes.now) ((with_tables (λ t. record t { duty = t.duty ++ c.args.duties.now })) it))) (inl refl, (inl refl, (inl refl, (inl refl, (inl refl, (inl refl, (inl refl, (inl refl, (inl refl, (inl refl, (inl refl, (inl refl, (inr (inl refl), (inl refl, (inl refl, (inl refl, tt)))))))))))))))) before after) c.in_err-add_duties.ensures.cause)
+    let b = state g.S.Store c.add_in_eights.new.tx.conn.now in
+    let e = state g.S.Store c.add_steps.new.tx.conn.now in
+    then_turns (λ rows. rows) (λ rows. with_rows 23 (map duty_cells c.args.duties.now) rows) (λ rows. with_raised c.args.duties.now c.args.changes.now rows) (length c.args.duties.now) (length c.args.changes.now + length c.args.changes.now) a b e c.add_steps.result
+    (λ rows before after. can_stand rows (with_rows 23 (map duty_cells c.args.duties.now) rows) (with_raised c.args.duties.now c.args.changes.now rows) (inl refl, (inl refl, (inl refl, (inl refl, (inl refl, (inl refl, (inl refl, (inl refl, (inl refl, (inl refl, (inl refl, (inl refl, (inr (inl refl), (inl refl, (inl refl, (inl refl, tt)))))))))))))))) before after)
+    c.in_ok-add_in_eights.ensures.adds
+    (along (λ (rows : ℕ → List Row). with_rows 23 (map duty_cells c.args.duties.now) rows) (λ rows. rows) (with_steps c.args.changes.now) (length c.args.changes.now + length c.args.changes.now) b e c.add_steps.result c.add_steps.ensures.adds)
+
+pub returns-in_err-add_in_eights-clause-adds : goal.returns-in_err-add_in_eights-clause-adds
+returns-in_err-add_in_eights-clause-adds g c =
+    let a = state g.S.Store c.args.tx.now.conn.now in
+    let b = state g.S.Store c.add_in_eights.new.tx.conn.now in
+    let fault = c.in_err-add_in_eights.field-0.0 in
+    first_fails (λ rows. rows) (λ rows. with_rows 23 (map duty_cells c.args.duties.now) rows) (λ rows. with_raised c.args.duties.now c.args.changes.now rows) (length c.args.duties.now) (length c.args.duties.now + (length c.args.changes.now + length c.args.changes.now)) a b c.from_residual.result fault c.from_residual.ensures.1 (omega arith)
+    (λ rows before after. can_stand rows (with_rows 23 (map duty_cells c.args.duties.now) rows) (with_raised c.args.duties.now c.args.changes.now rows) (inl refl, (inl refl, (inl refl, (inl refl, (inl refl, (inl refl, (inl refl, (inl refl, (inl refl, (inl refl, (inl refl, (inl refl, (inr (inl refl), (inl refl, (inl refl, (inl refl, tt)))))))))))))))) before after)
+    c.in_err-add_in_eights.ensures.adds

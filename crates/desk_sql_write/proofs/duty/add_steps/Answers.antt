@@ -1,29 +1,27 @@
-use Rattle.std.proofs.Common.{◌++◌, filter, inl, inr, ◌+◌, length, refl, arith}
+use Rattle.std.proofs.Common.{inl, inr, ℕ, List, ◌+◌, map, filter, length, refl, arith}
+use Rattle.sqlite_value.specs.Order.{Row}
 use Rattle.sqlite.specs.Held.{state}
-use Rattle.desk_sql_layout.specs.Cells.{is_waiver}
-use Rattle.desk_sql_write.specs.Contents.{Contents, cells_of, with_tables}
-use Rattle.desk_sql_write.proofs.Going.{can_stand, err_goes, first_fails, then_goes}
-use Rattle.desk_sql_write.proofs.Inside.{wrote_then}
+use Rattle.desk_sql_layout.specs.Cells.{change_cells, is_waiver, waiver_cells}
+use Rattle.desk_sql_write.specs.Turning.{with_rows, with_steps}
+use Rattle.desk_sql_write.proofs.Behind.{waivers_put}
+use Rattle.desk_sql_write.proofs.Going.{along, can_stand, first_fails, then_turns}
 use Rattle.desk_sql_write.proofs.duty.add_steps.Goals as goal
 
-pub returns-clause-wrote : goal.returns-clause-wrote
-returns-clause-wrote g c =
-    wrote_then cells_of (with_tables (λ t. record t { changes = t.changes ++ c.args.rows.now })) (λ it. record it { waiver = it.waiver ++ filter is_waiver c.args.rows.now })
-    (state g.S.Store c.args.tx.now.conn.now) (state g.S.Store c.add_changes.new.tx.conn.now) (state g.S.Store c.add_waivers.new.tx.conn.now) c.add_waivers.result
-    (λ clean inside. c.in_ok-add_changes.ensures.wrote clean inside) c.add_waivers.ensures.survives c.add_waivers.ensures.wrote
-
-pub returns-clause-cause : goal.returns-clause-cause
-returns-clause-cause g c =
-    then_goes cells_of (with_tables (λ t. record t { changes = t.changes ++ c.args.rows.now })) (λ (it : Contents). record it { waiver = it.waiver ++ filter is_waiver c.args.rows.now }) (length c.args.rows.now) (length c.args.rows.now) (length c.args.rows.now + length c.args.rows.now)
-    (state g.S.Store c.args.tx.now.conn.now) (state g.S.Store c.add_changes.new.tx.conn.now) (state g.S.Store c.add_waivers.new.tx.conn.now) c.add_waivers.result (omega arith)
-    (λ clean inside. c.in_ok-add_changes.ensures.wrote clean inside) (λ clean inside. c.in_ok-add_changes.ensures.cause clean inside) c.add_changes.ensures.survives c.add_waivers.ensures.survives
-    (λ it before after. can_stand (cells_of it) (cells_of ((with_tables (λ t. record t { changes = t.changes ++ c.args.rows.now })) it)) (cells_of ((λ (it : Contents). record it { waiver = it.waiver ++ filter is_waiver c.args.rows.now }) ((with_tables (λ t. record t { changes = t.changes ++ c.args.rows.now })) it))) (inl refl, (inl refl, (inl refl, (inl refl, (inl refl, (inl refl, (inl refl, (inl refl, (inl refl, (inl refl, (inl refl, (inl refl, (inl refl, (inr (inl refl), (inl refl, (inl refl, tt)))))))))))))))) before after) c.add_waivers.ensures.cause
-
-pub returns-in_err-add_changes-clause-cause : goal.returns-in_err-add_changes-clause-cause
-returns-in_err-add_changes-clause-cause g c =
+pub returns-clause-adds : goal.returns-clause-adds
+returns-clause-adds g c =
     let a = state g.S.Store c.args.tx.now.conn.now in
-    let b = state g.S.Store c.add_changes.new.tx.conn.now in
-    let fault = c.in_err-add_changes.field-0.0 in
-    err_goes cells_of (λ it. (λ (it : Contents). record it { waiver = it.waiver ++ filter is_waiver c.args.rows.now }) ((with_tables (λ t. record t { changes = t.changes ++ c.args.rows.now })) it)) (length c.args.rows.now + length c.args.rows.now) a b c.from_residual.result fault c.from_residual.ensures.1
-    (first_fails cells_of (with_tables (λ t. record t { changes = t.changes ++ c.args.rows.now })) (λ it. (λ (it : Contents). record it { waiver = it.waiver ++ filter is_waiver c.args.rows.now }) ((with_tables (λ t. record t { changes = t.changes ++ c.args.rows.now })) it)) (length c.args.rows.now) (length c.args.rows.now + length c.args.rows.now) a b fault (omega arith)
-    (λ it before after. can_stand (cells_of it) (cells_of ((with_tables (λ t. record t { changes = t.changes ++ c.args.rows.now })) it)) (cells_of ((λ (it : Contents). record it { waiver = it.waiver ++ filter is_waiver c.args.rows.now }) ((with_tables (λ t. record t { changes = t.changes ++ c.args.rows.now })) it))) (inl refl, (inl refl, (inl refl, (inl refl, (inl refl, (inl refl, (inl refl, (inl refl, (inl refl, (inl refl, (inl refl, (inl refl, (inl refl, (inr (inl refl), (inl refl, (inl refl, tt)))))))))))))))) before after) c.in_err-add_changes.ensures.cause)
+    let b = state g.S.Store c.add_in_eights.new.tx.conn.now in
+    let e = state g.S.Store c.add_all.new.tx.conn.now in
+    then_turns (λ rows. rows) (λ rows. with_rows 25 (map change_cells c.args.rows.now) rows) (λ rows. with_steps c.args.rows.now rows) (length c.args.rows.now) (length c.args.rows.now) a b e c.add_all.result
+    (λ rows before after. can_stand rows (with_rows 25 (map change_cells c.args.rows.now) rows) (with_steps c.args.rows.now rows) (inl refl, (inl refl, (inl refl, (inl refl, (inl refl, (inl refl, (inl refl, (inl refl, (inl refl, (inl refl, (inl refl, (inl refl, (inl refl, (inr (inl refl), (inl refl, (inl refl, tt)))))))))))))))) before after)
+    c.in_ok-add_in_eights.ensures.adds
+    (along (λ (rows : ℕ → List Row). with_rows 25 (map change_cells c.args.rows.now) rows) (λ rows. rows) (with_rows 28 (map waiver_cells (filter is_waiver c.args.rows.now))) (length c.args.rows.now) b e c.add_all.result (waivers_put c.args.rows.now (length c.args.rows.now) b e c.add_all.result c.add_all.ensures.adds))
+
+pub returns-in_err-add_in_eights-clause-adds : goal.returns-in_err-add_in_eights-clause-adds
+returns-in_err-add_in_eights-clause-adds g c =
+    let a = state g.S.Store c.args.tx.now.conn.now in
+    let b = state g.S.Store c.add_in_eights.new.tx.conn.now in
+    let fault = c.in_err-add_in_eights.field-0.0 in
+    first_fails (λ rows. rows) (λ rows. with_rows 25 (map change_cells c.args.rows.now) rows) (λ rows. with_steps c.args.rows.now rows) (length c.args.rows.now) (length c.args.rows.now + (length c.args.rows.now)) a b c.from_residual.result fault c.from_residual.ensures.1 (omega arith)
+    (λ rows before after. can_stand rows (with_rows 25 (map change_cells c.args.rows.now) rows) (with_steps c.args.rows.now rows) (inl refl, (inl refl, (inl refl, (inl refl, (inl refl, (inl refl, (inl refl, (inl refl, (inl refl, (inl refl, (inl refl, (inl refl, (inl refl, (inr (inl refl), (inl refl, (inl refl, tt)))))))))))))))) before after)
+    c.in_err-add_in_eights.ensures.adds

@@ -1,20 +1,8 @@
-use Rattle.std.proofs.Common.{◌++◌, ◌∷◌, []}
 use Rattle.sqlite.specs.Held.{state}
-use Rattle.desk_sql_layout.specs.Cells.{adoption_cells}
-use Rattle.desk_sql_write.specs.Contents.{cells_of, with_tables}
-use Rattle.desk_sql_write.proofs.Inside.{wrote_by}
-use Rattle.desk_sql_write.proofs.InsertCauses.{adoption_goes}
-use Rattle.desk_sql_write.proofs.Inserts.{add_adoption_text, adoption_added}
+use Rattle.desk_sql_write.proofs.Inserts.{adoption_added}
 use Rattle.desk_sql_write.proofs.office.add_adoption.Goals as goal
 
-pub returns-clause-wrote : goal.returns-clause-wrote
-returns-clause-wrote g c =
-    let old = state g.S.Store c.args.tx.now.conn.now in
-    let new = state g.S.Store c.execute.new.tx.conn.now in
-    wrote_by cells_of (with_tables (λ t. record t { adoption = t.adoption ++ c.args.row.now ∷ [] })) add_adoption_text (adoption_cells c.args.row.now) old new c.execute.result
-    (rw c.adoption_values.ensures at c.execute.ensures.ran) (adoption_added c.args.row.now old new)
-
-pub returns-clause-cause : goal.returns-clause-cause
-returns-clause-cause g c =
-    adoption_goes c.args.row.now (state g.S.Store c.args.tx.now.conn.now) (state g.S.Store c.execute.new.tx.conn.now) c.execute.result
-    (rw c.adoption_values.ensures at c.execute.ensures.ran) (rw c.adoption_values.ensures at c.execute.ensures.into)
+pub returns-clause-adds : goal.returns-clause-adds
+returns-clause-adds g c =
+    adoption_added c.args.row.now (state g.S.Store c.args.tx.now.conn.now) (state g.S.Store c.execute.new.tx.conn.now) c.execute.result
+    (rw c.adoption_values.ensures at c.execute.ensures.ran) (rw c.adoption_values.ensures at c.execute.ensures.into) c.execute.ensures.survives
