@@ -11,7 +11,8 @@ use Rattle.desk_access.proofs.Chains.{spared_self}
 use Rattle.desk_sql_layout.specs.Held.{Holds, Showing, Stands, seen_of}
 use Rattle.desk_sql_layout.specs.Writable.{is_writable}
 use Rattle.desk_sql_layout.proofs.Orderly.{order_kept}
-use Rattle.desk_sql_write.specs.Written.{Done, Undone, Leaves}
+use Rattle.desk_sql_commit.specs.Committing.{Done, Leaves}
+use Rattle.desk_sql_write.specs.Written.{Undone}
 
 -- nothing was tried
 pub refused : (change : Change) (s : State) → Failed Stands change (seen_of s) (seen_of s)

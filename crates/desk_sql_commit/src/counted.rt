@@ -6,7 +6,8 @@ ghost use Rattle.desk_access.specs.Seen.{Wrote};
 ghost use Rattle.desk_model.specs.Tables.{Tables};
 ghost use Rattle.desk_sql_layout.specs.Held.{Stands, seen_of};
 ghost use Rattle.desk_sql_layout.specs.Writable.{is_writable};
-ghost use Rattle.desk_sql_write.specs.Taking.{CommitFails, IsTold};
+ghost use Rattle.desk_sql_commit.specs.Committing.{CommitFails};
+ghost use Rattle.desk_sql_write.specs.Taking.{HasSmallRevision};
 ghost use Rattle.desk_tally.specs.Kept.{AreKept, Fits, LeadsTo};
 
 use crate::transaction::commit;
@@ -28,7 +29,7 @@ pub fn commit_counted<S: Alter>(
     requires fits { Fits step tallies.old }
     ensures wrote { Wrote Stands change.now (seen_of (state S.Store conn.old))
         (seen_of (state S.Store conn.new)) result }
-    ensures cause { is_writable change.now ≡ true → IsTold change.now → IfErr result
+    ensures cause { is_writable change.now ≡ true → HasSmallRevision change.now → IfErr result
         (CommitFails change.now (state S.Store conn.old) (state S.Store conn.new)) }
     ensures unwritable { is_writable change.now ≡ false
         → (result ≡ Err (Fault.Store StoreFault.Rows)) × (conn.new ≡ conn.old) }

@@ -6,8 +6,9 @@ ghost use Rattle.sqlite.specs.State.{HasCleanDisk, Survives};
 ghost use Rattle.desk_access.specs.Seen.{Wrote};
 ghost use Rattle.desk_sql_layout.specs.Held.{Stands, seen_of};
 ghost use Rattle.desk_sql_layout.specs.Writable.{is_writable};
-ghost use Rattle.desk_sql_write.specs.Taking.{CommitFails, IsTold};
-ghost use Rattle.desk_sql_write.specs.Written.{Done, Undone, Leaves};
+ghost use Rattle.desk_sql_commit.specs.Committing.{CommitFails, Done, Leaves};
+ghost use Rattle.desk_sql_write.specs.Taking.{HasSmallRevision};
+ghost use Rattle.desk_sql_write.specs.Written.{Undone};
 
 use desk_model::{Change, Fault, StoreFault};
 use desk_sql_layout::fault::fault_of;
@@ -22,7 +23,7 @@ fn write<S: Alter>(alloc: Global, conn: &mut Connection<S>, change: &Change) -> 
         → OnOk result (Done change.now (state S.Store conn.old) (state S.Store conn.new)) }
     ensures err { HasCleanDisk (state S.Store conn.new)
         → OnErr result (Undone (state S.Store conn.old) (state S.Store conn.new)) }
-    ensures cause { IsTold change.now → IfErr result
+    ensures cause { HasSmallRevision change.now → IfErr result
         (CommitFails change.now (state S.Store conn.old) (state S.Store conn.new)) }
     ensures mode { conn.new.in_transaction ≡ false }
     ensures crash { Survives (state S.Store conn.old) (state S.Store conn.new)
@@ -53,7 +54,7 @@ pub fn commit<S: Alter>(
     requires { conn.old.in_transaction ≡ false }
     ensures wrote { Wrote Stands change.now (seen_of (state S.Store conn.old))
         (seen_of (state S.Store conn.new)) result }
-    ensures cause { is_writable change.now ≡ true → IsTold change.now → IfErr result
+    ensures cause { is_writable change.now ≡ true → HasSmallRevision change.now → IfErr result
         (CommitFails change.now (state S.Store conn.old) (state S.Store conn.new)) }
     ensures unwritable { is_writable change.now ≡ false
         → (result ≡ Err (Fault.Store StoreFault.Rows)) × (conn.new ≡ conn.old) }

@@ -34,7 +34,7 @@ use Rattle.desk_sql_layout.specs.Stored.{AreStored}
 use Rattle.desk_sql_layout.specs.Cells.{catalogue_cells, rule_cells, document_cells, reading_cells, package_cells, extracted_cells, duty_cells, release_cells, attached_cells, choice_cells, frozen_cells, change_cells, conclusion_cells, adoption_cells, is_waiver, waiver_cells}
 use Rattle.desk_sql_layout.specs.Held.{HasRows, rows_of}
 use Rattle.desk_sql_layout.proofs.Writes.{stored_as}
-use Rattle.desk_sql_write.specs.Taking.{IsSmall, StandsOnce, CanStand, Goes}
+use Rattle.desk_sql_write.specs.Taking.{IsSmall, StandsOnce, CanStand, FailsOnlyFor}
 use Rattle.desk_sql_write.specs.Turning.{Turns, with_rows, with_steps, with_raised, with_document, with_parts}
 use Rattle.desk_sql_write.specs.Written.{Writes}
 use Rattle.desk_sql_write.proofs.Lists.{append_nil, filter_both}
@@ -69,7 +69,7 @@ permuted_stand rows other same can = record { small = small desk_schema.tables s
 
 -- a change is written by what makes the same of the tables
 abbrev IsWritten : (Tables → ℕ → List Row) → ℕ → Change → Type 1
-IsWritten after many change = (old new : State) (r : Result (Unit {0}) Fault) → Turns rows_of after many old new r → Writes rows_of (applied change) old new r × Goes rows_of (applied change) many old new r
+IsWritten after many change = (old new : State) (r : Result (Unit {0}) Fault) → Turns rows_of after many old new r → Writes rows_of (applied change) old new r × FailsOnlyFor rows_of (applied change) many old new r
 
 written : (after : Tables → ℕ → List Row) (many : ℕ) (change : Change) → ((t : Tables) → AreSame (rows_of (applied change t)) (after t)) → IsWritten after many change
 written after many change same old new (Ok done) turns = (

@@ -23,7 +23,7 @@ use Rattle.desk_sql_layout.specs.Cells.{number, choice_cells, conclusion_cells, 
 use Rattle.desk_sql_layout.specs.Held.{rows_of}
 use Rattle.desk_sql_layout.proofs.Casts.{int_test, text_test, and_true, same}
 use Rattle.desk_sql_layout.proofs.Queries.{query_on}
-use Rattle.desk_sql_write.proofs.DeleteGoes.{deleted_turns}
+use Rattle.desk_sql_write.proofs.Deleting.{deleted_turns}
 use Rattle.desk_sql_write.proofs.Failing.{Makes, Reads}
 use Rattle.desk_base.proofs.Bools.{together}
 

@@ -38,7 +38,7 @@ use Rattle.desk_sql_write.specs.Taking.{IsSmall, RanInto}
 use Rattle.desk_sql_write.specs.Turning.{Adds, with_rows}
 use Rattle.desk_sql_write.specs.Written.{Ran}
 use Rattle.desk_sql_write.proofs.Failing.{Reads}
-use Rattle.desk_sql_write.proofs.InsertGoes.{inserted_adds}
+use Rattle.desk_sql_write.proofs.Inserting.{inserted_adds}
 use Rattle.desk_sql_write.proofs.Lists.{eight}
 use Rattle.desk_sql_write.proofs.Puts.{AreShown, Make, Suits}
 use Rattle.desk_sql_write.proofs.Storable.{all_light, int_light, null_light}

@@ -15,9 +15,9 @@ mod Rooms
 mod Puts
 mod Refusing
 mod Failing
-mod InsertGoes
+mod Inserting
 mod Going
-mod DeleteGoes
-mod UpdateGoes
-pub mod Ends
+mod Deleting
+mod Updating
 mod Stands
+pub mod Causes

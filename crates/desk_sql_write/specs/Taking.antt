@@ -9,7 +9,6 @@ use Rattle.sqlite_trees.specs.Tree.{Trees, rowid}
 use Rattle.sqlite_schema.specs.Rules.{agree}
 use Rattle.sqlite.specs.declared.error.Error.{Error}
 use Rattle.sqlite.specs.State.{State, HasCleanDisk, ExecutesInside}
-use Rattle.desk_model.specs.Tables.{Tables, applied}
 use Rattle.desk_model.specs.declared.command.Change.{Change}
 use Rattle.desk_model.specs.declared.command.Change.TheVariants as change
 use Rattle.desk_model.specs.declared.command.Fault.{Fault}
@@ -17,7 +16,7 @@ use Rattle.desk_model.specs.declared.command.Fault.TheVariants.{Memory, Store}
 use Rattle.desk_model.specs.declared.command.StoreFault.TheVariants.{Database as DatabaseFault}
 use Rattle.desk_access.specs.Seen.{MoreFaults}
 use Rattle.desk_sql_layout.specs.Faults.{fault_by}
-use Rattle.desk_sql_layout.specs.Held.{HasRows, rows_of}
+use Rattle.desk_sql_layout.specs.Held.{HasRows}
 use Rattle.desk_sql_layout.specs.Layout.{desk_schema}
 
 -- what a cell can take: NULL, a number of 32 bits, or a hundred million bytes at most
@@ -80,13 +79,13 @@ module _ {A : Type 0} (before after : A → ℕ → List Row) (many : ℕ) (old 
   pub record FailsFor (fault : Fault) : Type 0 where
     pub cause : HasCleanDisk new → IsTrue old.in_transaction → IsTrue old.is_open → old.step_limit ≡ None → (a : A) → HasRows (before a) old.now → CanStand (before a) → CanStand (after a) → HasRoom many old.now.trees → IsCaused old new fault
 
-  abbrev pub GoesAs : Result (Unit {0}) Fault → Type 0
-  GoesAs (Ok done) = HasCleanDisk new → IsTrue old.in_transaction → Uses before many old new
-  GoesAs (Err fault) = FailsFor fault
+  abbrev pub FailsOnlyAs : Result (Unit {0}) Fault → Type 0
+  FailsOnlyAs (Ok done) = HasCleanDisk new → IsTrue old.in_transaction → Uses before many old new
+  FailsOnlyAs (Err fault) = FailsFor fault
 
 -- the same, where this is made of what the rows show
-abbrev pub Goes : {A : Type 0} → (A → ℕ → List Row) → (A → A) → ℕ → State → State → Result (Unit {0}) Fault → Type 0
-Goes rows made = GoesAs rows (λ a. rows (made a))
+abbrev pub FailsOnlyFor : {A : Type 0} → (A → ℕ → List Row) → (A → A) → ℕ → State → State → Result (Unit {0}) Fault → Type 0
+FailsOnlyFor rows made = FailsOnlyAs rows (λ a. rows (made a))
 
 -- how many rows a change adds at most
 abbrev pub rows_in : Change → ℕ
@@ -102,11 +101,6 @@ rows_in (change.Concluded row) = 1
 rows_in (change.Adopted row) = 1
 
 -- the revision that a freeze names is a number of 32 bits
-abbrev pub IsTold : Change → Type 0
-IsTold (change.Froze release revision rows duties changes) = revision < 2 ^ 32
-IsTold _ = Unit {0}
-
--- Where the rows before and after the change can stand, and there are rowids for those that it adds, its transaction fails only for
--- such a cause.
-pub record CommitFails (change : Change) (old new : State) (fault : Fault) : Type 0 where
-  pub cause : HasCleanDisk new → IsTrue old.is_open → old.step_limit ≡ None → (t : Tables) → HasRows (rows_of t) old.now → CanStand (rows_of t) → CanStand (rows_of (applied change t)) → HasRoom (rows_in change) old.now.trees → IsCaused old new fault
+abbrev pub HasSmallRevision : Change → Type 0
+HasSmallRevision (change.Froze release revision rows duties changes) = revision < 2 ^ 32
+HasSmallRevision _ = Unit {0}

@@ -10,14 +10,14 @@ use Rattle.desk_model.specs.declared.row.DutyRow.{DutyRow}
 use Rattle.desk_model.specs.declared.row.ChangeRow.{ChangeRow}
 use Rattle.desk_sql_layout.specs.Layout.{document_table, package_table, extracted_table, duty_table, change_table, reading_table, waiver_table}
 use Rattle.desk_sql_layout.specs.Cells.{document_cells, package_cells, extracted_cells, duty_cells, change_cells, reading_cells, is_waiver, waiver_cells}
-use Rattle.desk_sql_write.specs.Taking.{GoesAs}
+use Rattle.desk_sql_write.specs.Taking.{FailsOnlyAs}
 use Rattle.desk_sql_write.specs.Written.{WritesAs}
 
 -- Inside a transaction a write makes other rows of those that the tables had, adds so many at most, fails only for a cause, and leaves
 -- nothing that a stop could keep.
 pub record Turns {A : Type 0} (before after : A → ℕ → List Row) (many : ℕ) (old new : State) (result : Result (Unit {0}) Fault) : Type 0 where
   pub wrote : WritesAs before after old new result
-  pub cause : GoesAs before after many old new result
+  pub cause : FailsOnlyAs before after many old new result
   pub survives : Survives old new (λ _. ⊥)
 
 -- the same of whatever rows the tables had

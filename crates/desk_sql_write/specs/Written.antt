@@ -1,13 +1,9 @@
 -- What a statement, a change and a transaction do to a connection.
 use Rattle.std.specs.Prelude.{◌≡◌, ℕ, List, IsTrue, Result, Ok, Err}
 use Rattle.sqlite_value.specs.Order.{Row}
-use Rattle.sqlite_trees.specs.Tree.{Trees}
-use Rattle.sqlite.specs.Effect.{Database}
 use Rattle.sqlite.specs.State.{State, HasCleanDisk, KeepsCommit, ExecutesInside}
-use Rattle.desk_model.specs.Tables.{Tables, applied}
-use Rattle.desk_model.specs.declared.command.Change.{Change}
 use Rattle.desk_model.specs.declared.command.Fault.{Fault}
-use Rattle.desk_sql_layout.specs.Held.{HasRows, rows_of}
+use Rattle.desk_sql_layout.specs.Held.{HasRows}
 
 -- Inside a transaction, which goes on, the rows that the database had became others, and nothing was committed.
 pub record Wrote {A : Type 0} (before after : A → ℕ → List Row) (old new : State) : Type 0 where
@@ -29,19 +25,8 @@ abbrev pub Ran : List ℕ → Row → State → State → Result (Unit {0}) Faul
 Ran sql params old new (Ok done) = HasCleanDisk new → IsTrue old.in_transaction → (count : ℕ) × ExecutesInside 0 sql params old new (Ok count)
 Ran sql params old new (Err fault) = HasCleanDisk new → IsTrue old.in_transaction → KeepsCommit old new
 
--- the change was made of whatever tables the database had, and committed
-pub record Done (change : Change) (old new : State) : Type 0 where
-  pub was_open : IsTrue old.is_open
-  pub is_open : IsTrue new.is_open
-  pub settled : new.committed ≡ new.now
-  pub made : (t : Tables) → HasRows (rows_of t) old.now → HasRows (rows_of (applied change t)) new.now
-
 -- nothing was committed, and what was begun is gone
 pub record Undone (old new : State) : Type 0 where
   pub was_open : IsTrue new.is_open → IsTrue old.is_open
   pub now : IsTrue new.is_open → new.now ≡ old.committed
   pub committed : IsTrue new.is_open → new.committed ≡ old.committed
-
--- a stop leaves the change
-abbrev pub Leaves : Change → State → Trees → Type 0
-Leaves change old trees = (db : Database) × ((t : Tables) → HasRows (rows_of t) old.now → HasRows (rows_of (applied change t)) db) × (trees ≡ db.trees)

@@ -10,7 +10,7 @@ ghost use Rattle.desk_model.specs.declared.state.ReleaseState.TheVariants.{Froze
 ghost use Rattle.desk_sql_layout.specs.Cells.{catalogue_cells, rule_cells, choice_cells, conclusion_cells, adoption_cells, frozen_cells};
 ghost use Rattle.desk_sql_layout.specs.Held.{rows_of};
 ghost use Rattle.desk_sql_layout.specs.Layout.{catalogue_table, rule_table, choice_table, conclusion_table, adoption_table, frozen_table};
-ghost use Rattle.desk_sql_write.specs.Taking.{Goes, IsTold, rows_in};
+ghost use Rattle.desk_sql_write.specs.Taking.{FailsOnlyFor, HasSmallRevision, rows_in};
 ghost use Rattle.desk_sql_write.specs.Turning.{Adds, Turns, with_rows, with_steps, with_raised, with_document, with_parts};
 ghost use Rattle.desk_sql_write.specs.Written.{Writes};
 
@@ -263,7 +263,7 @@ pub fn make<S: Alter>(
     ensures same_reference { tx.new.conn.ghost_name ≡ tx.old.conn.ghost_name }
     ensures wrote { Writes rows_of (applied change.now) (state S.Store tx.old.conn.now)
         (state S.Store tx.new.conn.now) result }
-    ensures cause { IsTold change.now → Goes rows_of (applied change.now)
+    ensures cause { HasSmallRevision change.now → FailsOnlyFor rows_of (applied change.now)
         (rows_in change.now) (state S.Store tx.old.conn.now)
         (state S.Store tx.new.conn.now) result }
     ensures survives { Survives (state S.Store tx.old.conn.now) (state S.Store tx.new.conn.now)

@@ -3,9 +3,8 @@ use Rattle.sqlite.specs.State.{HasCleanDisk, Survives}
 use Rattle.sqlite.specs.Held.{state}
 use Rattle.sqlite.proofs.StateLemmas.{survives_then}
 use Rattle.sqlite.proofs.Callers.{survives_begin}
-use Rattle.desk_sql_write.specs.Written.{Leaves}
-use Rattle.desk_sql_write.specs.Taking.{CommitFails}
-use Rattle.desk_sql_write.proofs.Ends.{made_fails, commit_fails, err_ends}
+use Rattle.desk_sql_commit.specs.Committing.{Leaves, CommitFails}
+use Rattle.desk_sql_commit.proofs.Ends.{made_fails, commit_fails, err_ends}
 use Rattle.desk_sql_write.proofs.Inside.{clean_before}
 use Rattle.desk_sql_commit.proofs.transaction.write.Goals as goal
 

@@ -59,9 +59,9 @@ use Rattle.desk_sql_layout.proofs.Writes.{stored_as}
 use Rattle.desk_sql_write.specs.Taking.{IsSmall, HaveKeys, LeavesRoom, HasRoom, RanInto}
 use Rattle.desk_sql_write.specs.Turning.{Turns}
 use Rattle.desk_sql_write.specs.Written.{Ran}
-use Rattle.desk_sql_write.proofs.DeleteGoes.{ids_are, no_refusal}
+use Rattle.desk_sql_write.proofs.Deleting.{ids_are, no_refusal}
 use Rattle.desk_sql_write.proofs.Failing.{Reads, caused, turns_by}
-use Rattle.desk_sql_write.proofs.InsertGoes.{rooms_after}
+use Rattle.desk_sql_write.proofs.Inserting.{rooms_after}
 use Rattle.desk_sql_write.proofs.Keyed.{unique_kept, some_there}
 use Rattle.desk_sql_write.proofs.Lists.{filter_both}
 use Rattle.desk_sql_write.proofs.Puts.{as_stored, IsRight, Suits, fitting}

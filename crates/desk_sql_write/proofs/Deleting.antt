@@ -49,7 +49,7 @@ use Rattle.desk_sql_write.specs.Taking.{HaveKeys, LeavesRoom, HasRoom, RanInto}
 use Rattle.desk_sql_write.specs.Turning.{Turns}
 use Rattle.desk_sql_write.specs.Written.{Ran}
 use Rattle.desk_sql_write.proofs.Failing.{Reads, caused, turns_by}
-use Rattle.desk_sql_write.proofs.InsertGoes.{rooms_after}
+use Rattle.desk_sql_write.proofs.Inserting.{rooms_after}
 use Rattle.desk_sql_write.proofs.Keyed.{unique_kept}
 use Rattle.desk_sql_write.proofs.Refusing.{IsFree, fits_none, never_stops, never_concludes, stored_with}
 

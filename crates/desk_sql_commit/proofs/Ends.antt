@@ -1,8 +1,7 @@
 -- A transaction fails only for a cause where its writes and its commit do.
-use Rattle.std.proofs.Common.{◌≡◌, inl, inr, true, IfErr, IsTrue, Ok, Err, Result, refl, arith}
+use Rattle.std.proofs.Common.{◌≡◌, inl, inr, true, IfErr, Ok, Err, Result, refl, arith}
 use Rattle.std.specs.Result.{IsErrAnd}
 use Rattle.sqlite_trees.specs.Tree.{Trees}
-use Rattle.sqlite_trees.specs.declared.error.StoreError.TheVariants as store
 use Rattle.sqlite_trees.specs.declared.store.Store.{Ghosts}
 use Rattle.sqlite.specs.declared.error.Error.{Error}
 use Rattle.sqlite.specs.Held.{Held, state}
@@ -13,13 +12,11 @@ use Rattle.desk_model.specs.declared.command.Change.{Change}
 use Rattle.desk_model.specs.declared.command.Fault.{Fault}
 use Rattle.desk_sql_layout.specs.Faults.{fault_by}
 use Rattle.desk_sql_layout.specs.Held.{rows_of}
-use Rattle.desk_sql_write.specs.Taking.{IsCaused, FailsFor, Uses, CommitFails, rows_in}
+use Rattle.desk_sql_commit.specs.Committing.{CommitFails}
+use Rattle.desk_sql_write.specs.Taking.{FailsFor, Uses, rows_in}
 use Rattle.desk_sql_write.specs.Written.{Wrote}
+use Rattle.desk_sql_write.proofs.Causes.{later_caused, ends_caused}
 use Rattle.desk_sql_write.proofs.Inside.{clean_before}
-
-later : (a b c : State) (P : Trees → Type 0) (fault : Fault) → Survives b c P → IsCaused a b fault → IsCaused a c fault
-later a b c P fault s (inl memory) = inl memory
-later a b c P fault s (inr more) = inr (more.0, omega (arith, s.counts, more.1))
 
 module _ {S : Type 0} (g : Ghosts S) (old : Held S) (last new : State) (change : Change) where
   abbrev begun : State
@@ -29,17 +26,8 @@ module _ {S : Type 0} (g : Ghosts S) (old : Held S) (last new : State) (change :
   pub made_fails : (P : Trees → Type 0) (fault : Fault) → Survives last new P → FailsFor rows_of (λ t. rows_of (applied change t)) (rows_in change) begun last fault → CommitFails change (state g old) new fault
   made_fails P fault s fails = record {
     cause = λ clean opened unlimited t has before after room.
-        later begun last new P fault s (fails.cause (clean_before last new P s clean) refl opened unlimited t has before after room);
+        later_caused begun last new P fault s (fails.cause (clean_before last new P s clean) refl opened unlimited t has before after room);
   }
-
-  fails_last : (e : Error) → IsTrue last.is_open → IsTrue last.in_transaction → FailsToCommit last new e → IsCaused last new (fault_by e)
-  fails_last e opened inside (inl (store.OutOfMemory, is, cause, back, tells)) = inl (rw is refl)
-  fails_last e opened inside (inl (store.Io, is, cause, back, tells)) = inr (rw is refl, cause)
-  fails_last e opened inside (inl (store.Corrupt, is, cause, back, tells)) = inr (rw is refl, cause)
-  fails_last e opened inside (inl (store.Full, is, cause, back, tells)) = inr (rw is refl, cause)
-  fails_last e opened inside (inl (store.Broken, is, cause, back, tells)) = absurd (let shut = rw cause at opened in cc)
-  fails_last e opened inside (inl (store.Unstorable, is, cause, back, tells)) = absurd cause
-  fails_last e opened inside (inr (is, none, same)) = absurd (let no = rw none at inside in cc)
 
   -- the commit failed
   pub commit_fails : (P Q : Trees → Type 0) (e : Error) → Survives begun last Q → Survives last new P → (HasCleanDisk last → Wrote rows_of (λ t. rows_of (applied change t)) begun last) → (HasCleanDisk last → Uses rows_of (rows_in change) begun last)
@@ -47,7 +35,7 @@ module _ {S : Type 0} (g : Ghosts S) (old : Held S) (last new : State) (change :
   commit_fails P Q e s u wrote uses fails = record {
     cause = λ clean opened unlimited t has before after room.
         let was = clean_before last new P u clean in
-        elim (fails_last e ((uses was).is_open opened) (wrote was).inside (fails clean)) [
+        elim (ends_caused last new e ((uses was).is_open opened) (wrote was).inside (fails clean)) [
           | inl memory ↦ inl memory
           | inr more ↦ inr (more.0, omega (arith, s.counts, more.1))
         ];
