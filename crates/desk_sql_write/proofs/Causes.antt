@@ -1,4 +1,4 @@
--- A fault that has a cause has it after more was done, and a commit fails only for one.
+-- A fault that has a cause has it where more was done before or after, and a commit fails only for one.
 use Rattle.std.proofs.Common.{inl, inr, IsTrue, refl, arith}
 use Rattle.sqlite_trees.specs.Tree.{Trees}
 use Rattle.sqlite_trees.specs.declared.error.StoreError.TheVariants as store
@@ -12,6 +12,10 @@ use Rattle.desk_sql_write.specs.Taking.{IsCaused}
 pub later_caused : (a b c : State) (P : Trees → Type 0) (fault : Fault) → Survives b c P → IsCaused a b fault → IsCaused a c fault
 later_caused a b c P fault s (inl memory) = inl memory
 later_caused a b c P fault s (inr more) = inr (more.0, omega (arith, s.counts, more.1))
+
+pub first_caused : (a b c : State) (fault : Fault) → Survives a b (λ _. ⊥) → IsCaused b c fault → IsCaused a c fault
+first_caused a b c fault s (inl memory) = inl memory
+first_caused a b c fault s (inr more) = inr (more.0, omega (arith, s.counts, more.1))
 
 pub ends_caused : (last new : State) (e : Error) → IsTrue last.is_open → IsTrue last.in_transaction → FailsToCommit last new e → IsCaused last new (fault_by e)
 ends_caused last new e opened inside (inl (store.OutOfMemory, is, cause, back, tells)) = inl (rw is refl)

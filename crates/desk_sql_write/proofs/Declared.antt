@@ -1,19 +1,43 @@
 -- Tables are declared one after another.
-use Rattle.std.proofs.Common.{◌≡◌, ◌∙◌, ℕ, suc, ◌+◌, false, List, [], ◌∷◌, ◌++◌, map, None, Some, drop, slice_get, Ok, Err, Result, sym, ap, subst, add-one, drop-cons}
-use Rattle.std.specs.List.{AllByRecursion}
+use Rattle.std.proofs.Common.{◌≡◌, ◌∙◌, inl, inr, ℕ, zero, suc, ◌+◌, ◌*◌, ◌^◌, ◌<◌, ◌≤◌, true, false, not, length, codes, Option, IsTrue, IfErr, refl, arith, List, [], ◌∷◌, ◌++◌, map, None, Some, drop, slice_get, Ok, Err, Result, sym, ap, subst, add-one, drop-cons}
+use Rattle.std.specs.Prelude.{nat_lt, IsUtf8, IsAscii}
+use Rattle.std.proofs.lemmas.Str.{IsUtf8-from_ascii}
+use Rattle.std.specs.List.{AllByRecursion, list_all}
+use Rattle.std.proofs.lemmas.Bool.{and_parts}
+use Rattle.std.proofs.lemmas.Bool.Decides.{nat_tests}
+use Rattle.sqlite_value.specs.declared.value.Value.TheVariants.{Text}
+use Rattle.sqlite_schema.specs.declared.schema.Index.{Index}
+use Rattle.sqlite_schema.specs.Rules.{table_reals, index_reals}
+use Rattle.sqlite_resolve.specs.Compile.{table_defined_by}
+use Rattle.std.specs.Result.{IsErrAnd}
+use Rattle.sqlite_rules.specs.Lists.{Has}
+use Rattle.sqlite_rules.proofs.ListLemmas.{test_has}
+use Rattle.sqlite_catalog.specs.declared.error.Refusal.{Refusal}
+use Rattle.sqlite_catalog.specs.declared.error.Refusal.TheVariants.{Invalid, NameTaken, BadName, TooBig, BadKey, BadText, Violates}
+use Rattle.sqlite_catalog.specs.Calls.{RefusesTable}
+use Rattle.sqlite_catalog.specs.Listing.{is_fit, is_formed}
 use Rattle.sqlite_schema.specs.declared.schema.Table.{Table}
 use Rattle.sqlite_schema.specs.declared.schema.Schema.{Schema}
 use Rattle.sqlite_schema.specs.declared.command.Command.TheVariants.{CreateTable}
-use Rattle.sqlite_catalog.specs.Change.{created, next_tree, KeepsRows}
+use Rattle.sqlite_catalog.specs.Change.{created, next_tree, is_used, is_reserved, automatics, KeepsRows}
 use Rattle.sqlite_trees.specs.Tree.{Trees}
 use Rattle.sqlite.specs.Effect.{Database, IsDatabase}
-use Rattle.sqlite.specs.Does.{Tally, lacks_sequence}
-use Rattle.sqlite.specs.State.{State, Writes, Executes, HasCleanDisk}
-use Rattle.sqlite.proofs.Callers.{runs_as}
+use Rattle.sqlite.specs.declared.error.Error.{Error}
+use Rattle.sqlite.specs.declared.run.Mode.{Mode}
+use Rattle.sqlite.specs.Listing.{understood}
+use Rattle.sqlite.specs.Does.{Tally, Does, MakesTable, MakesSequence, lacks_sequence}
+use Rattle.sqlite.specs.State.{State, Writes, Executes, ExecutesInside, Survives, HasCleanDisk, mode_of}
+use Rattle.sqlite.proofs.Callers.{runs_as, statement_of}
 use Rattle.sqlite.proofs.InsideLemmas.{keeps_then}
 use Rattle.desk_model.specs.declared.command.Fault.{Fault}
 use Rattle.std.proofs.lemmas.Option.{slice_get_within, get_or_from_slice_get}
-use Rattle.desk_sql_write.specs.Declaring.{Declares, AreDeclared, schema_after, IsBare, Left, Went}
+use Rattle.desk_sql_write.specs.Declaring.{Declares, IsTaken, AreDeclared, DeclareFails, schema_after, IsBare, Left, Went}
+use Rattle.desk_sql_write.specs.Taking.{IsCaused, RanInto}
+use Rattle.desk_sql_write.proofs.Causes.{first_caused}
+use Rattle.desk_sql_write.proofs.Failing.{caused}
+use Rattle.desk_sql_write.proofs.Inside.{clean_before}
+use Rattle.desk_sql_write.proofs.Storable.{no_reals}
+use Rattle.desk_sql_layout.specs.Faults.{fault_by}
 use Rattle.desk_sql_write.specs.Written.{Ran}
 use Rattle.desk_sql_layout.proofs.Steps.{same_value, went}
 
@@ -63,7 +87,7 @@ left_after text rest final old new count ran l = go l.tables l.are_texts l.decla
           tables = ds;
           schema = created l.schema d.1;
           are_texts = others;
-          declared = declared.1;
+          declared = declared.1.1;
           bare = bare_after d.0 d.1 l.schema old new count declared.0 l.bare (subst (λ t. Executes t [] old new (Ok count)) (sym same) ran);
           final_is = is;
         }
@@ -87,7 +111,86 @@ went_on texts k text a b c (Ok d) at done is before ran clean =
     let it = ran clean before.inside in
     record {
       inside = it.1.1.mode;
+      is_open = λ was. it.1.1.is_open;
       kept = keeps_then a b c before.kept (record { was_open = λ is. it.1.1.was_open; committed = λ is. it.1.1.committed_is });
       left = λ final l. left_after text (drop (k + 1) texts) final b c it.0 it.1.0 (subst (λ (ts : List (List ℕ)). Left ts final b.now) (drop_at texts k text at) (before.left final l));
     }
 went_on texts k text a b c (Err fault) at done is before ran clean = absurd (cc)
+
+-- ---- a text that can be taken is never refused
+
+ascii : (text : List ℕ) → list_all (λ byte. nat_lt byte 128) text ≡ true → IsAscii text
+ascii [] all i = omega arith
+ascii (b ∷ text) all zero = let here = (and_parts (nat_lt b 128) (list_all (λ byte. nat_lt byte 128) text) all).0 in grind (arith, nat_tests)
+ascii (b ∷ text) all (suc i) = ascii text (and_parts (nat_lt b 128) (list_all (λ byte. nat_lt byte 128) text) all).1 i
+
+module _ (text : List ℕ) (table : Table) (schema : Schema) (d : Declares text table schema) (t : IsTaken text table schema) where
+  one : (other : Table) → table_defined_by text ≡ Ok other → other ≡ table
+  one other is = let both : Ok other ≡ Ok table = sym is ∙ d.defines in cc
+
+  low : (m n : ℕ) → nat_lt m n ≡ true → n ≤ m → ⊥
+  low m n below high = let less : m < n = grind (arith, nat_tests) in omega (arith, less, high)
+
+  never : (why : Refusal) → RefusesTable schema text why → ⊥
+  never (Invalid e) refused = absurd (let no = sym d.defines ∙ refused in cc)
+  never NameTaken (other, is, inl used) = absurd (let no = sym t.unused ∙ subst (λ (o : Table). is_used schema o.name ≡ true) (one other is) used in cc)
+  never NameTaken (other, is, inr (index, has, used)) =
+      let there = subst (λ (o : Table). Has (automatics o 0 0 o.uniques) index) (one other is) has in
+      let free : not (is_used schema index.name) ≡ true = test_has (λ (i : Index). not (is_used schema i.name)) (automatics table 0 0 table.uniques) index t.alone there in
+      absurd (let no = rw used at free in cc)
+  never BadName (other, is, inl wrong) = wrong (subst (λ (o : Table). IsUtf8 o.name) (sym (one other is)) (IsUtf8-from_ascii table.name (ascii table.name t.named)))
+  never BadName (other, is, inr reserved) = absurd (let no = sym t.own ∙ subst (λ (o : Table). is_reserved o.name ≡ true) (one other is) reserved.0 in cc)
+  never TooBig (other, is, inl many) = low (next_tree schema + length table.uniques) 65536 t.few (subst (λ (o : Table). 65536 ≤ next_tree schema + length o.uniques) (one other is) many)
+  never TooBig (other, is, inr (inl reals)) = absurd (omega (arith, t.plain, subst (λ (o : Table). 2 ^ 64 ≤ table_reals o) (one other is) reals))
+  never TooBig (other, is, inr (inr (key, has, reals))) =
+      let some : 2 ^ 64 ≤ index_reals (table_reals table) key = subst (λ (o : Table). 2 ^ 64 ≤ index_reals (table_reals o) key) (one other is) reals in
+      absurd (omega (arith, subst (λ n. 2 ^ 64 ≤ index_reals n key) t.plain some, no_reals key))
+  never BadKey (other, is, wrong) = absurd (let no = sym t.formed ∙ subst (λ (o : Table). is_formed o ≡ false) (one other is) wrong in cc)
+  never BadText (other, is, wrong) = absurd (let no = sym t.listed ∙ subst (λ (o : Table). is_fit (Text (codes "table")) (Text o.name) (Text o.name) (Text text) ≡ false) (one other is) wrong in cc)
+  never (Violates rule) refused = refused
+
+  no_table : (db : Database) → db.schema ≡ schema → (stop : Option Error) → MakesTable text db (Err stop) → ⊥
+  no_table db has None (other, is, long) = low (2 * length table.name + length text + 200) (10 ^ 9) t.small (subst (λ (o : Table). 10 ^ 9 ≤ 2 * length o.name + length text + 200) (one other is) long)
+  no_table db has (Some e) (inl (wrong, told)) = wrong (IsUtf8-from_ascii text (ascii text t.written))
+  no_table db has (Some e) (inr (why, refused, told)) = never why (subst (λ s. RefusesTable s text why) has refused)
+
+  no_sequence : (db after : Database) → db.schema ≡ schema → MakesTable text db (Ok after) → (stop : Option Error) → MakesSequence after (Err stop) → ⊥
+  no_sequence db after has made stop refused =
+      let now : after.schema ≡ created schema table = made.is ∙ ap (λ s. created s made.table) has ∙ ap (created schema) (one made.table made.defined) in
+      let bare : lacks_sequence after.schema ≡ false = ap lacks_sequence now ∙ d.counts in
+      absurd (let no = rw bare at refused in cc)
+
+  never_declared : (limit : Option ℕ) (mode : Mode) (db : Database) → db.schema ≡ schema → (stop : Option Error) → Does limit mode [] db (statement_of text (understood schema text)) None CreateTable (Err stop) → ⊥
+  never_declared limit mode db has stop did = go (subst (λ s. Does limit mode [] db s None CreateTable (Err stop)) d.whole did)
+    where
+      go : Does limit mode [] db text None CreateTable (Err stop) → ⊥
+      go (inl (s, inl (s2, made, told), told2)) = no_table db has s2 made
+      go (inl (s, inr (after, made, refused), told2)) = no_sequence db after has made s refused
+      go (inr (after, made, gives)) = absurd (let no = gives in cc)
+
+-- one of the texts fails only for a cause
+next_fails : (text : List ℕ) (rest : List (List ℕ)) (final : Schema) (b c : State) (e : Error) → Left (text ∷ rest) final b.now → IsTrue b.is_open → ExecutesInside 0 text [] b c (Err e) → IsCaused b c (fault_by e)
+next_fails text rest final b c e l opened ran = go l.tables l.are_texts l.declared
+  where
+    go : (ds : List (List ℕ × Table)) → map (λ (d : List ℕ × Table). d.0) ds ≡ text ∷ rest → AreDeclared ds l.schema → IsCaused b c (fault_by e)
+    go [] are declared = absurd (cc)
+    go (d ∷ ds) are declared =
+        let same : d.0 ≡ text = cc in
+        let here = declared.0 in
+        let taken = declared.1.0 in
+        caused l.schema d.0 [] b c l.bare.declared opened here.plain taken.fits CreateTable here.is_create refl (never_declared d.0 d.1 l.schema here taken b.step_limit (mode_of b) b.now l.bare.declared) e
+        (subst (λ t. ExecutesInside 0 t [] b c (Err e)) (sym same) ran)
+
+pub declare_fails : (texts : List (List ℕ)) (k : ℕ) (text : List ℕ) (a b c : State) (fault : Fault) → slice_get texts k ≡ Some text → (HasCleanDisk b → IsTrue a.in_transaction → Went texts (drop k texts) a b)
+    → Survives a b (λ _. ⊥) → Survives b c (λ _. ⊥) → RanInto text [] b c fault → DeclareFails texts a c fault
+declare_fails texts k text a b c fault at went s t into = record {
+  cause = λ clean inside opened unlimited final left.
+      let before = went (clean_before b c _ t clean) inside in
+      let l = subst (λ (ts : List (List ℕ)). Left ts final b.now) (drop_at texts k text at) (before.left final left) in
+      let it = into clean before.inside in
+      first_caused a b c fault s (subst (IsCaused b c) (sym it.1) (next_fails text (drop (k + 1) texts) final b c it.0 l (before.is_open opened) it.2));
+}
+
+pub err_declares : (texts : List (List ℕ)) (a c : State) (r : Result (Unit {0}) Fault) (fault : Fault) → IsErrAnd r (λ e. e ≡ fault) → DeclareFails texts a c fault → IfErr r (DeclareFails texts a c)
+err_declares texts a c (Ok done) fault is fails = absurd is
+err_declares texts a c (Err e) fault is fails = rw is fails

@@ -160,5 +160,5 @@ module _ (name : List ℕ) (tree : ℕ) (columns : List Column) (key : Option �
         (λ count a executed has. deleted name tree columns key primary uniques orders place listed sql reads.plain params (rows a) (rows (made a)) (same a) old new count executed has tests q reads.is agree (perm a))
         uses
         (λ opened unlimited a has before after room.
-        caused sql params old new has.declared opened reads.plain reads.fits (Delete place (record { lets = []; body = query_on tree tests (col 1 0 ∷ []) [] })) reads.is refl
+        caused desk_schema sql params old new has.declared opened reads.plain reads.fits (Delete place (record { lets = []; body = query_on tree tests (col 1 0 ∷ []) [] })) reads.is refl
         (never_deleted place listed (rows a) (rows (made a)) (same a) old has params tests q agree (perm a) unlimited (statement_of sql (understood desk_schema sql)) accepts after.keys))

@@ -1,5 +1,10 @@
 -- An empty desk's tables.
-use Rattle.std.proofs.Common.{◌≡◌, ◌⊎◌, inl, inr, ℕ, pos, List, [], ◌∷◌, codes, IsTrue, Ok, Err, Result, refl, sym, subst}
+use Rattle.std.proofs.Common.{◌≡◌, ◌∙◌, ◌⊎◌, inl, inr, ℕ, pos, ◌≤◌, Bool, true, false, cond, filter, length, List, [], ◌∷◌, codes, None, IfErr, IsTrue, Ok, Err, Result, refl, sym, subst, arith}
+use Rattle.std.specs.Prelude.{◌==◌}
+use Rattle.std.specs.List.{AllByRecursion}
+use Rattle.sqlite_value.specs.Keys.{plain}
+use Rattle.sqlite_schema.specs.Rules.{agree}
+use Rattle.sqlite_rules.proofs.ListLemmas.{all_from, all_has}
 use Rattle.std.proofs.lemmas.List.Sorted.{IsPermutation-refl}
 use Rattle.sqlite_value.specs.declared.value.Value.TheVariants.{Null, Int}
 use Rattle.sqlite_value.specs.Order.{Row}
@@ -7,23 +12,35 @@ use Rattle.sqlite_sql.specs.Term.{Term, lit}
 use Rattle.sqlite_schema.specs.declared.command.Command.TheVariants.{Insert}
 use Rattle.sqlite_schema.specs.declared.command.Source.TheVariants.{Values}
 use Rattle.sqlite_tied.specs.Compute.{everything}
-use Rattle.sqlite_trees.specs.Tree.{Trees}
+use Rattle.sqlite_trees.specs.Tree.{Trees, rowid}
+use Rattle.std.specs.Result.{IsErrAnd}
+use Rattle.sqlite_trees.specs.declared.store.Store.{Ghosts}
+use Rattle.sqlite.specs.declared.error.Error.{Error}
+use Rattle.sqlite.specs.Held.{Held, state}
+use Rattle.sqlite.specs.Steps.{FailsToCommit}
+use Rattle.desk_sql_layout.specs.Faults.{fault_by}
 use Rattle.sqlite.specs.Listing.{understood}
 use Rattle.sqlite.specs.Effect.{Database}
-use Rattle.sqlite.specs.State.{State, Executes, HasCleanDisk, Survives}
-use Rattle.sqlite.proofs.Callers.{IsPlain, command_of}
+use Rattle.sqlite.specs.State.{State, HasCleanDisk, Survives}
 use Rattle.sqlite.proofs.InsideLemmas.{keeps_then}
 use Rattle.desk_model.specs.declared.command.Fault.{Fault}
 use Rattle.desk_sql_layout.specs.Layout as d
 use Rattle.desk_sql_layout.specs.Cells.{number, meta_cells}
-use Rattle.desk_sql_layout.specs.Held.{HasRows, Holds, AreOrderly, Stands, rows_of}
+use Rattle.desk_sql_layout.specs.Held.{HasRows, AreOrderly, Stands, rows_of}
 use Rattle.desk_sql_layout.specs.Stored.{AreStored}
 use Rattle.desk_sql_layout.proofs.Casts.{cast_null, cast_int}
-use Rattle.desk_sql_layout.proofs.Statements.{inserted}
 use Rattle.sqlite_schema.specs.declared.schema.Table.{Table}
-use Rattle.desk_sql_write.specs.Declaring.{IsBare, Left, Went}
+use Rattle.desk_sql_write.specs.Declaring.{IsBare, DeclareFails, Left, Went}
+use Rattle.desk_sql_write.specs.Taking.{IsCaused, StandsOnce, CanStand, LeavesRoom, HasRoom, RanInto, in_cells}
+use Rattle.desk_sql_write.specs.Turning.{with_rows}
+use Rattle.desk_sql_write.proofs.Causes.{first_caused, later_caused, ends_caused}
+use Rattle.desk_sql_write.proofs.Failing.{Reads}
+use Rattle.desk_sql_write.proofs.Inserting.{inserted_adds}
+use Rattle.desk_sql_write.proofs.Inserts.{AreAdded}
+use Rattle.desk_sql_write.proofs.Inside.{clean_before}
+use Rattle.desk_sql_write.proofs.Storable.{int_light, null_light}
 use Rattle.desk_sql_write.specs.Written.{Ran}
-use Rattle.desk_sql_write.specs.Creating.{no_tables, HasFounded, LeavesTables}
+use Rattle.desk_sql_write.specs.Creating.{no_tables, HasFounded, FoundFails, CreateFails, Founds, LeavesTables}
 use Rattle.desk_sql_write.proofs.Declared.{all_declared}
 use Rattle.desk_sql_write.proofs.Declarations.{declarations, all_are_declared, desk_schema_is}
 
@@ -35,13 +52,16 @@ version_text = codes "INSERT INTO meta VALUES (3)"
 abbrev version_terms : List Term
 version_terms = lit (Int (pos 3)) ∷ lit Null ∷ []
 
-version_is : command_of (understood d.desk_schema version_text) ≡ Insert 0 (Values version_terms 2)
+version_reads : Reads version_text 0 (Insert 0 (Values version_terms 2))
 unfolding understood everything
-version_is = refl
+version_reads = record { is = refl; plain = (refl, refl); fits = (refl, refl) }
 
-version_plain : IsPlain (understood d.desk_schema version_text)
-unfolding understood everything
-version_plain = (refl, refl)
+version_adds : AreAdded version_text [] 0 (meta_cells ∷ []) 1
+version_adds old new =
+    let this = d.meta_table in
+    inserted_adds this.name 0 this.columns this.key this.primary this.uniques this.orders 0 refl version_text [] version_terms 2 version_reads refl
+    ((number 3 ∷ Null ∷ []) ∷ []) (meta_cells ∷ []) refl refl (refl, λ r. refl) ((λ stored. rw (cast_null, cast_int (pos 3)) refl), tt) (λ id. refl, tt)
+    (λ trees small. (record { number = (3, _, refl, omega arith); right = λ id. record { typed = refl; present = refl; light = (int_light (pos 3), (null_light, tt)); some = omega arith; few = omega arith } }, tt)) old new
 
 -- no rows anywhere
 abbrev nothing : ℕ → List Row
@@ -60,12 +80,8 @@ bare_rows db bare =
       sound = bare.sound;
     }
 
-version_added : (old new : State) (count : ℕ) → Executes version_text [] old new (Ok count) → HasRows nothing old.now → HasRows (rows_of no_tables) new.now
-version_added old new count ran has =
-    let this = d.meta_table in
-    inserted this.name 0 this.columns this.key this.primary this.uniques this.orders 0 refl version_text version_plain [] nothing (rows_of no_tables)
-    (λ n. absurd (n refl), (λ n. refl, (λ n. refl, (λ n. refl, (λ n. refl, (λ n. refl, (λ n. refl, (λ n. refl, (λ n. refl, (λ n. refl, (λ n. refl, (λ n. refl, (λ n. refl, (λ n. refl, (λ n. refl, (λ n. refl, tt))))))))))))))))
-    old new count ran has version_terms 2 (number 3 ∷ Null ∷ []) meta_cells version_is refl (λ stored. rw (cast_null, cast_int (pos 3)) refl) (IsPermutation-refl (meta_cells ∷ []))
+version_added : (db : Database) → HasRows (with_rows 0 (meta_cells ∷ []) nothing) db → HasRows (rows_of no_tables) db
+version_added db has = record { declared = has.declared; stored = has.stored; sound = has.sound }
 
 orderly : AreOrderly no_tables
 orderly = record {
@@ -79,8 +95,40 @@ orderly = record {
   codes = refl;
 }
 
-empty_desk : (old new : State) (count : ℕ) → Executes version_text [] old new (Ok count) → IsBare d.desk_schema old.now → Holds no_tables new.now
-empty_desk old new count ran bare = record { rows = version_added old new count ran (bare_rows old.now bare); orderly = orderly }
+none_stand : CanStand nothing
+none_stand = record {
+  small = (tt, (tt, (tt, (tt, (tt, (tt, (tt, (tt, (tt, (tt, (tt, (tt, (tt, (tt, (tt, (tt, tt))))))))))))))));
+  keys = all_from (λ t. AllByRecursion (StandsOnce []) (t.primary ∷ t.uniques)) d.desk_schema.tables (λ t there. once (t.primary ∷ t.uniques));
+}
+  where
+    once : (keys : List (List ℕ)) → AllByRecursion (StandsOnce []) keys
+    once [] = tt
+    once (k ∷ keys) = ((λ key. omega arith), once keys)
+
+version_stands : CanStand (with_rows 0 (meta_cells ∷ []) nothing)
+version_stands = record {
+  small = (((omega arith, tt), tt), (tt, (tt, (tt, (tt, (tt, (tt, (tt, (tt, (tt, (tt, (tt, (tt, (tt, (tt, (tt, tt))))))))))))))));
+  keys = all_from (λ t. AllByRecursion (StandsOnce (with_rows 0 (meta_cells ∷ []) nothing t.tree)) (t.primary ∷ t.uniques)) d.desk_schema.tables (λ t there. each (t.tree == 0) (t.primary ∷ t.uniques));
+}
+  where
+    once : (b : Bool) (test : Row → Bool) → length (filter test (cond b (meta_cells ∷ []) [])) ≤ 1
+    once false test = omega arith
+    once true test = go (test meta_cells)
+      where
+        go : (c : Bool) → length (cond c (meta_cells ∷ []) []) ≤ 1
+        go true = omega arith
+        go false = omega arith
+
+    each : (b : Bool) (keys : List (List ℕ)) → AllByRecursion (StandsOnce (cond b (meta_cells ∷ []) [])) keys
+    each b [] = tt
+    each b (k ∷ keys) = ((λ key. once b (λ row. agree plain (in_cells k) row (in_cells k) key)), each b keys)
+
+bare_room : (db : Database) → IsBare d.desk_schema db → HasRoom 1 db.trees
+bare_room db bare = record {
+  few = omega arith;
+  room = all_from (λ t. t.key ≡ None → AllByRecursion (λ r. LeavesRoom 1 (rowid r)) (db.trees t.tree)) d.desk_schema.tables (λ t there none.
+      subst (AllByRecursion (λ r. LeavesRoom 1 (rowid r))) (sym (all_has (λ t. db.trees t.tree ≡ []) d.desk_schema.tables t bare.empty there)) tt);
+}
 
 abbrev pub all_texts : List (List ℕ)
 all_texts = d.meta_text ∷ d.catalogue_text ∷ d.rule_text ∷ d.document_text ∷ d.package_text ∷ d.extracted_text ∷ d.conclusion_text ∷ d.adoption_text ∷ d.releases_text ∷ d.attached_text ∷ d.choice_text ∷ d.frozen_text ∷ d.duty_text ∷ d.change_text ∷ d.reading_text ∷ d.waiver_text ∷ []
@@ -96,20 +144,62 @@ all_left db bare = record {
 }
 
 -- the tables were declared, and the version noted
-pub founded : (a b c : State) (texts : List (List ℕ)) (r : Result (Unit {0}) Fault) → texts ≡ all_texts → (HasCleanDisk b → IsTrue a.in_transaction → Went texts [] a b) → (HasCleanDisk c → HasCleanDisk b)
-    → Ran version_text [] b c r → HasFounded a c r
-founded a b c texts (Ok done) are went before ran = λ clean inside.
-    let first = went (before clean) inside in
-    let it = ran clean first.inside in
+pub founded : (a b c : State) (texts : List (List ℕ)) (r : Result (Unit {0}) Fault) → texts ≡ all_texts → (HasCleanDisk b → IsTrue a.in_transaction → Went texts [] a b) → Survives b c (λ _. ⊥)
+    → Ran version_text [] b c r → IfErr r (RanInto version_text [] b c) → HasFounded a c r
+founded a b c texts (Ok done) are went survives ran into = λ clean inside.
+    let first = went (clean_before b c _ survives clean) inside in
+    let next = (version_adds b c (Ok done) ran into survives).wrote clean first.inside in
     record {
-      inside = it.1.1.mode;
-      was_open = first.kept.was_open it.1.1.was_open;
-      kept = keeps_then a b c first.kept (record { was_open = λ is. it.1.1.was_open; committed = λ is. it.1.1.committed_is });
-      holds = λ bare. empty_desk b c it.0 it.1.0 (all_declared d.desk_schema b.now (first.left d.desk_schema (subst (λ (ts : List (List ℕ)). Left ts d.desk_schema a.now) (sym are) (all_left a.now bare))));
+      inside = next.inside;
+      was_open = first.kept.was_open (ran clean first.inside).1.1.was_open;
+      is_open = (ran clean first.inside).1.1.is_open;
+      kept = keeps_then a b c first.kept next.kept;
+      holds = λ bare.
+          let declared = all_declared d.desk_schema b.now (first.left d.desk_schema (subst (λ (ts : List (List ℕ)). Left ts d.desk_schema a.now) (sym are) (all_left a.now bare))) in
+          record { rows = version_added c.now (next.change nothing (bare_rows b.now declared)); orderly = orderly };
     }
-founded a b c texts (Err fault) are went before ran = λ clean inside.
-    let first = went (before clean) inside in
+founded a b c texts (Err fault) are went survives ran into = λ clean inside.
+    let first = went (clean_before b c _ survives clean) inside in
     keeps_then a b c first.kept (ran clean first.inside)
+
+-- and it fails only for a cause, as declaring them does
+pub declared_fails : (a c : State) (texts : List (List ℕ)) (fault : Fault) → texts ≡ all_texts → DeclareFails texts a c fault → FoundFails a c fault
+declared_fails a c texts fault are fails = record {
+  cause = λ clean inside opened unlimited bare. fails.cause clean inside opened unlimited d.desk_schema (subst (λ (ts : List (List ℕ)). Left ts d.desk_schema a.now) (sym are) (all_left a.now bare));
+}
+
+pub founding_fails : (a b c : State) (texts : List (List ℕ)) (r : Result (Unit {0}) Fault) → texts ≡ all_texts → (HasCleanDisk b → IsTrue a.in_transaction → Went texts [] a b) → Survives a b (λ _. ⊥) → Survives b c (λ _. ⊥)
+    → Ran version_text [] b c r → IfErr r (RanInto version_text [] b c) → IfErr r (FoundFails a c)
+founding_fails a b c texts (Ok done) are went s survives ran into = tt
+founding_fails a b c texts (Err fault) are went s survives ran into = record {
+  cause = λ clean inside opened unlimited bare.
+      let first = went (clean_before b c _ survives clean) inside in
+      let declared = all_declared d.desk_schema b.now (first.left d.desk_schema (subst (λ (ts : List (List ℕ)). Left ts d.desk_schema a.now) (sym are) (all_left a.now bare))) in
+      first_caused a b c fault s
+      ((version_adds b c (Err fault) ran into survives).cause.cause clean first.inside (first.is_open opened) (s.limit ∙ unlimited) nothing (bare_rows b.now declared) none_stand version_stands (bare_room b.now declared));
+}
+
+pub err_founds : (a c : State) (r : Result (Unit {0}) Fault) (fault : Fault) → IsErrAnd r (λ e. e ≡ fault) → FoundFails a c fault → IfErr r (FoundFails a c)
+err_founds a c (Ok done) fault is fails = absurd is
+err_founds a c (Err e) fault is fails = rw is fails
+
+-- the transaction is dropped after a fault, and its commit fails only for a cause
+module _ {S : Type 0} (g : Ghosts S) (old : Held S) (last new : State) (P : Trees → Type 0) where
+  abbrev begun : State
+  begun = state g (record old { in_transaction = true })
+
+  pub dropped_fails : (r : Result (Unit {0}) Fault) (fault : Fault) → IsErrAnd r (λ e. e ≡ fault) → Survives last new P → FoundFails begun last fault → IfErr r (CreateFails (state g old) new)
+  dropped_fails (Ok done) fault is s fails = absurd is
+  dropped_fails (Err e) fault is s fails = record {
+    cause = λ clean opened unlimited bare. later_caused begun last new P e s (subst (IsCaused begun last) (sym is) (fails.cause (clean_before last new P s clean) refl opened unlimited bare));
+  }
+
+  pub commit_fails : (e : Error) → Survives begun last (λ _. ⊥) → Survives last new P → (HasCleanDisk last → Founds begun last) → (HasCleanDisk new → FailsToCommit last new e) → CreateFails (state g old) new (fault_by e)
+  commit_fails e s u founds fails = record {
+    cause = λ clean opened unlimited bare.
+        let it = founds (clean_before last new P u clean) in
+        first_caused begun last new (fault_by e) s (ends_caused last new e it.is_open it.inside (fails clean));
+  }
 
 -- what a stop leaves, in words of the tables alone
 pub leaves_tables : (old new : State) → (IsTrue old.is_open → IsBare d.no_schema old.now) → Survives old new (LeavesTables old) → Survives old new (λ trees. Stands trees no_tables)

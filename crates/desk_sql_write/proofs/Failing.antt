@@ -4,10 +4,10 @@ use Rattle.std.specs.Prelude.{nat_le}
 use Rattle.std.proofs.lemmas.Bool.Decides.{nat_tests}
 use Rattle.sqlite_value.specs.Order.{Row}
 use Rattle.sqlite_trees.specs.declared.error.StoreError.TheVariants as store
+use Rattle.sqlite_schema.specs.declared.schema.Schema.{Schema}
 use Rattle.sqlite_schema.specs.declared.command.Command.{Command}
 use Rattle.sqlite_schema.specs.declared.command.Command.TheVariants.{Select, Rows, Begin, Commit, Rollback, Release, RollbackTo}
 use Rattle.sqlite_resolve.specs.declared.compiled.Compiled.{Compiled}
-use Rattle.sqlite_resolve.specs.declared.error.CompileError.{CompileError}
 use Rattle.sqlite.specs.declared.error.Error.{Error}
 use Rattle.sqlite.specs.Clock.{timed}
 use Rattle.sqlite.specs.Does.{Does}
@@ -19,14 +19,10 @@ use Rattle.desk_model.specs.declared.command.Fault.{Fault}
 use Rattle.desk_sql_layout.specs.Faults.{fault_by}
 use Rattle.desk_sql_layout.specs.Held.{HasRows, rows_of}
 use Rattle.desk_sql_layout.specs.Layout.{desk_schema}
+use Rattle.desk_sql_write.specs.Declaring.{Fits}
 use Rattle.desk_sql_write.specs.Taking.{CanStand, HasRoom, IsCaused, RanInto}
 use Rattle.desk_sql_write.specs.Turning.{Turns}
 use Rattle.desk_sql_write.specs.Written.{Ran}
-
--- the statement is whole, and has this many parameters
-abbrev pub Fits : List ℕ → ℕ → Result Compiled CompileError → Type 0
-Fits sql count (Ok c) = (nat_le (length sql) c.tail ≡ true) × (count ≡ length c.names)
-Fits sql count (Err e) = ⊥
 
 -- a text is this statement
 pub record Reads (sql : List ℕ) (count : ℕ) (command : Command) : Type 0 where
@@ -53,11 +49,11 @@ quiet (Select q names) other c is none = absurd (cc)
 quiet (Rows values width names) other c is none = absurd (cc)
 quiet k other c is none = rw (is, none) refl
 
-module _ (sql : List ℕ) (params : Row) (old new : State) (has : old.now.schema ≡ desk_schema) (opened : IsTrue old.is_open) (plain : IsPlain (understood desk_schema sql)) (fits : Fits sql (length params) (understood desk_schema sql))
-    (command : Command) (is : command_of (understood desk_schema sql) ≡ command) (other : is_other command ≡ false)
-    (never : (stop : Option Error) → Does old.step_limit (mode_of old) params old.now (statement_of sql (understood desk_schema sql)) None command (Err stop) → ⊥) where
+module _ (schema : Schema) (sql : List ℕ) (params : Row) (old new : State) (has : old.now.schema ≡ schema) (opened : IsTrue old.is_open) (plain : IsPlain (understood schema sql)) (fits : Fits sql (length params) (understood schema sql))
+    (command : Command) (is : command_of (understood schema sql) ≡ command) (other : is_other command ≡ false)
+    (never : (stop : Option Error) → Does old.step_limit (mode_of old) params old.now (statement_of sql (understood schema sql)) None command (Err stop) → ⊥) where
   module _ (c : Compiled) (it : understood old.now.schema sql ≡ Ok c) where
-    known : Ok c ≡ understood desk_schema sql
+    known : Ok c ≡ understood schema sql
     known = sym it ∙ ap (λ s. understood s sql) has
 
     bare : (c.returning ≡ None) × (c.formats ≡ [])

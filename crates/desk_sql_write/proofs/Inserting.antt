@@ -104,6 +104,6 @@ module _ (name : List ℕ) (tree : ℕ) (columns : List Column) (key : Option �
         uses
         (λ opened unlimited rows has before after room.
         let small = front_all (AllByRecursion IsSmall) wanted (rows tree) (all-permutation (AllByRecursion IsSmall) _ _ (perm rows) (all_has (λ t. AllByRecursion (AllByRecursion IsSmall) (with_rows tree wanted rows t.tree)) desk_schema.tables this after.small there)) in
-        caused sql params old new has.declared opened reads.plain reads.fits (Insert place (Values terms width)) reads.is refl
+        caused desk_schema sql params old new has.declared opened reads.plain reads.fits (Insert place (Values terms width)) reads.is refl
         (never_inserted name tree columns key primary uniques orders place listed rows (with_rows tree wanted rows) (same rows) old has unlimited params (statement_of sql (understood desk_schema sql)) terms width accepts sources wanted source reals first make shown
         (suits old.now.trees small) (perm rows) after.keys room))

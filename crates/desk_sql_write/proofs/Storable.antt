@@ -63,7 +63,7 @@ storable entry all some few =
       short = omega (arith, sum_by-le size (10 ^ 8 + 18) entry (λ i d low. (all i d low).1), mul-le-mul_right (10 ^ 8 + 18) few);
     }
 
-no_reals : (places : List ℕ) → index_reals 0 places ≡ 0
+pub no_reals : (places : List ℕ) → index_reals 0 places ≡ 0
 no_reals [] = refl
 no_reals (p ∷ places) = omega (arith, bit_at-zero p, no_reals places)
 

@@ -316,5 +316,5 @@ module _ (name : List ℕ) (tree : ℕ) (columns : List Column) (key : Option �
         uses
         (λ opened unlimited a has before after room.
         let small = all_has (λ t. AllByRecursion (AllByRecursion IsSmall) (rows (made a) t.tree)) desk_schema.tables this after.small (has_got desk_schema.tables place this listed) in
-        caused sql params old new has.declared opened reads.plain reads.fits (Update place (record { lets = []; body = query_on tree tests (col 1 0 ∷ project) [] })) reads.is refl
+        caused desk_schema sql params old new has.declared opened reads.plain reads.fits (Update place (record { lets = []; body = query_on tree tests (col 1 0 ∷ project) [] })) reads.is refl
         (never_updated place listed (rows a) (rows (made a)) (same a) old has params tests project q u agree form acts stays (perm a) unlimited (statement_of sql (understood desk_schema sql)) accepts reals (suits a old.now.trees small) after.keys room))

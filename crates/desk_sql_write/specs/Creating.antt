@@ -1,5 +1,5 @@
 -- What creating the desk's tables does to a connection.
-use Rattle.std.specs.Prelude.{◌≡◌, Bool, [], codes, IsTrue, Result, Ok, Err}
+use Rattle.std.specs.Prelude.{◌≡◌, Bool, [], codes, None, IsTrue, Result, Ok, Err}
 use Rattle.std.specs.List.{list_any}
 use Rattle.sqlite_schema.specs.declared.schema.Schema.{Schema}
 use Rattle.sqlite_schema.specs.Names.{same_name}
@@ -11,6 +11,7 @@ use Rattle.desk_model.specs.declared.command.Fault.{Fault}
 use Rattle.desk_sql_layout.specs.Layout.{no_schema}
 use Rattle.desk_sql_layout.specs.Held.{Holds}
 use Rattle.desk_sql_write.specs.Declaring.{IsBare}
+use Rattle.desk_sql_write.specs.Taking.{IsCaused}
 
 -- a table `meta` stands in the database
 abbrev pub has_meta : Schema → Bool
@@ -39,6 +40,7 @@ no_tables = record {
 pub record Founds (old new : State) : Type 0 where
   pub inside : IsTrue new.in_transaction
   pub was_open : IsTrue old.is_open
+  pub is_open : IsTrue new.is_open
   pub kept : KeepsCommit old new
   pub holds : IsBare no_schema old.now → Holds no_tables new.now
 
@@ -63,3 +65,11 @@ pub record Founded (old new : State) : Type 0 where
 -- a stop leaves the tables of an empty desk
 abbrev pub LeavesTables : State → Trees → Type 0
 LeavesTables old trees = IsTrue old.is_open × (db : Database) × (IsBare no_schema old.now → Holds no_tables db) × (trees ≡ db.trees)
+
+-- where nothing stands, creating the tables fails only for a cause
+pub record FoundFails (old new : State) (fault : Fault) : Type 0 where
+  pub cause : HasCleanDisk new → IsTrue old.in_transaction → IsTrue old.is_open → old.step_limit ≡ None → IsBare no_schema old.now → IsCaused old new fault
+
+-- the same, in a transaction of its own
+pub record CreateFails (old new : State) (fault : Fault) : Type 0 where
+  pub cause : HasCleanDisk new → IsTrue old.is_open → old.step_limit ≡ None → IsBare no_schema old.now → IsCaused old new fault

@@ -1,13 +1,15 @@
 //! The desk's tables are created in a database that has none.
 
-ghost use Rattle.std.specs.Prelude.{◌≡◌, ◌<◌, ℕ, List, length, map, slice_get, Some, false, true, IsTrue, IfErr, OnOk, OnErr, Err};
+ghost use Rattle.std.specs.Prelude.{◌≡◌, ◌≢◌, ◌<◌, ℕ, List, length, map, slice_get, None, Some, false, true, IsTrue, IfErr, OnOk, OnErr, Err};
 ghost use Rattle.sqlite.specs.Held.{state};
 ghost use Rattle.sqlite.specs.State.{HasCleanDisk, Survives};
 ghost use Rattle.desk_sql_layout.specs.Layout.{no_schema};
 ghost use Rattle.desk_sql_layout.specs.Held.{Stands};
-ghost use Rattle.desk_sql_write.specs.Creating.{Created, Founded, HasFounded, LeavesTables, has_meta, no_tables};
+ghost use Rattle.desk_sql_write.specs.Creating.{Created, CreateFails, Founded, FoundFails, HasFounded, LeavesTables, has_meta, no_tables};
 ghost use Rattle.desk_sql_write.specs.Written.{Undone};
-ghost use Rattle.desk_sql_write.specs.Declaring.{HasDeclared};
+ghost use Rattle.desk_sql_write.specs.Declaring.{DeclareFails, HasDeclared};
+ghost use Rattle.desk_sql_write.specs.Taking.{IsCaused};
+ghost use Rattle.desk_model.specs.declared.command.Fault.{Fault};
 
 use crate::statement::execute;
 use desk_model::{Fault, StoreFault};
@@ -66,6 +68,8 @@ fn declare<S: Alter>(tx: &mut Transaction<'_, S>, texts: &[&str]) -> Result<(), 
     ensures declared { HasDeclared (map (λ text. text.now) texts.now)
         (state S.Store tx.old.conn.now)
         (state S.Store tx.new.conn.now) result }
+    ensures cause { IfErr result (DeclareFails (map (λ text. text.now) texts.now)
+        (state S.Store tx.old.conn.now) (state S.Store tx.new.conn.now)) }
     ensures survives { Survives (state S.Store tx.old.conn.now) (state S.Store tx.new.conn.now)
         (λ _. ⊥) }
 {
@@ -80,6 +84,8 @@ fn found<S: Alter>(tx: &mut Transaction<'_, S>) -> Result<(), Fault>
     ensures same_reference { tx.new.conn.ghost_name ≡ tx.old.conn.ghost_name }
     ensures founded { HasFounded (state S.Store tx.old.conn.now) (state S.Store tx.new.conn.now)
         result }
+    ensures cause { IfErr result (FoundFails (state S.Store tx.old.conn.now)
+        (state S.Store tx.new.conn.now)) }
     ensures survives { Survives (state S.Store tx.old.conn.now) (state S.Store tx.new.conn.now)
         (λ _. ⊥) }
 {
@@ -94,6 +100,7 @@ fn write<S: Alter>(conn: &mut Connection<S>) -> Result<(), Fault>
         → OnOk result (Created (state S.Store conn.old) (state S.Store conn.new)) }
     ensures err { HasCleanDisk (state S.Store conn.new)
         → OnErr result (Undone (state S.Store conn.old) (state S.Store conn.new)) }
+    ensures cause { IfErr result (CreateFails (state S.Store conn.old) (state S.Store conn.new)) }
     ensures mode { conn.new.in_transaction ≡ false }
     ensures crash { Survives (state S.Store conn.old) (state S.Store conn.new)
         (LeavesTables (state S.Store conn.old)) }
@@ -119,7 +126,8 @@ fn has_meta(schema: &Schema) -> bool
 
 /// Whether nothing stands in a database.
 fn is_blank(schema: &Schema) -> bool
-    ensures { result ≡ true → schema.now ≡ no_schema }
+    ensures blank { result ≡ true → schema.now ≡ no_schema }
+    ensures other { schema.now ≡ no_schema → result ≡ true }
 {
     schema.tables.as_slice().is_empty()
         && schema.indexes.as_slice().is_empty()
@@ -129,7 +137,8 @@ fn is_blank(schema: &Schema) -> bool
 /// Creates the tables of an empty desk in a database where nothing stands, in one transaction.
 ///
 /// A database with a table `meta` is refused as NotEmpty, and one with other tables by a fault of
-/// the store. After a refusal or a fault the tables are as they were.
+/// the store. After a refusal or a fault the tables are as they were. Where nothing stands, it
+/// fails only for want of memory, or as the disk failed once more.
 pub fn create_tables<S: Alter>(conn: &mut Connection<S>) -> Result<(), Refused>
     requires { conn.old.in_transaction ≡ false }
     ensures ok { HasCleanDisk (state S.Store conn.new)
@@ -138,6 +147,15 @@ pub fn create_tables<S: Alter>(conn: &mut Connection<S>) -> Result<(), Refused>
         → has_meta (state S.Store conn.old).now.schema ≡ true) }
     ensures meta { has_meta (state S.Store conn.old).now.schema ≡ true
         → (result ≡ Err Refused.NotEmpty) × (conn.new ≡ conn.old) }
+    ensures others { has_meta (state S.Store conn.old).now.schema ≡ false
+        → (state S.Store conn.old).now.schema ≢ no_schema
+        → (result ≡ Err (Refused.Fault (Fault.Store StoreFault.Database)))
+        × (conn.new ≡ conn.old) }
+    ensures cause { (state S.Store conn.old).now.schema ≡ no_schema → IfErr result (λ refused.
+        HasCleanDisk (state S.Store conn.new) → IsTrue (state S.Store conn.old).is_open
+        → (state S.Store conn.old).step_limit ≡ None
+        → (fault : Fault) × (refused ≡ Refused.Fault fault)
+        × IsCaused (state S.Store conn.old) (state S.Store conn.new) fault) }
     ensures err { HasCleanDisk (state S.Store conn.new)
         → OnErr result (Undone (state S.Store conn.old) (state S.Store conn.new)) }
     ensures mode { conn.new.in_transaction ≡ false }

@@ -1,7 +1,7 @@
 use Rattle.std.proofs.Common.{◌∙◌, map}
 use Rattle.sqlite.specs.Held.{state}
 use Rattle.sqlite.proofs.StateLemmas.{survives_then}
-use Rattle.desk_sql_write.proofs.Declared.{went_on}
+use Rattle.desk_sql_write.proofs.Declared.{went_on, declare_fails, err_declares}
 use Rattle.desk_sql_write.proofs.Inside.{clean_before}
 use Rattle.desk_sql_write.proofs.create.declare.Goals as goal
 
@@ -14,3 +14,13 @@ loop-place-preserved g c = record {
       (c.loop-place.invariant.went (clean_before _ _ _ c.execute.ensures.survives clean) inside) c.execute.ensures.ran clean;
   survives = survives_then _ _ _ _ _ (λ _. ⊥) (λ _ db none. none) (λ _ db none. none) c.loop-place.invariant.survives c.execute.ensures.survives;
 }
+
+pub returns-in_err-execute-clause-cause : goal.returns-in_err-execute-clause-cause
+returns-in_err-execute-clause-cause g c =
+    let texts = map (λ text. text.now) c.args.texts.now in
+    let a = state g.S.Store c.args.tx.now.conn.now in
+    let b = state g.S.Store c.loop-place.tx.conn.now in
+    let e = state g.S.Store c.execute.new.tx.conn.now in
+    let fault = c.in_err-execute.field-0.0 in
+    err_declares texts a e c.from_residual.result fault c.from_residual.ensures.1
+    (declare_fails texts c.loop-place.place c.text_at.result.now a b e fault c.text_at.ensures c.loop-place.invariant.went c.loop-place.invariant.survives c.execute.ensures.survives c.in_err-execute.ensures.into)
