@@ -10,7 +10,10 @@ ghost use Rattle.desk_model.specs.Keys.{is_release, is_document, is_revision, ha
 ghost use Rattle.desk_model.specs.Queries.{head_of};
 ghost use Rattle.desk_model.specs.Tables.{Tables, applied, with_release_state, withdrawn_release};
 ghost use Rattle.desk_model.specs.declared.state.ReleaseState.TheVariants.{Frozen};
-ghost use Rattle.desk_tally.specs.Kept.{place_found, AreKept, IsPlaceFor};
+ghost use Rattle.desk_access.specs.Follows.{Follows};
+ghost use Rattle.desk_history.specs.Laws.{Ascends};
+ghost use Rattle.desk_model.specs.Keys.{release_below};
+ghost use Rattle.desk_tally.specs.Kept.{place_found, AreKept, Fits, IsPlaceFor, LeadsTo};
 ghost use Rattle.desk_memory_rows.specs.Books.{takes};
 ghost use Rattle.desk_memory_rows.specs.Holders.{holders_after};
 ghost use Rattle.desk_sorted.specs.Blocks.{rows_in};
@@ -31,7 +34,7 @@ use desk_model::{
     Standing, Totals,
 };
 use desk_sorted::{Appended, Blocks, Sorted, reserve, run_of};
-use desk_tally::Tallies;
+use desk_tally::{Step, Tallies};
 use std::alloc::{AllocError, Global};
 
 fn copy_of(text: &Option<Text>) -> Result<Option<Text>, AllocError>
@@ -499,6 +502,29 @@ impl MemStore {
         }
     }
 
+    /// What a change comes to for the tallies, with room made for it, and none where it doesn't go on
+    /// from the rows.
+    fn plan(&mut self, change: &Change) -> Result<Option<Step>, Fault>
+        ensures takes { IfOk result (λ found. IfSome found (λ step.
+            takes change.now self.new.ledger ≡ true)) }
+        ensures fits { IfOk result (λ found. IfSome found (λ step. Fits step self.new.tallies)) }
+        ensures leads { IfOk result (λ found. IfSome found (λ step.
+            Ascends release_below (applied change.now (rows_of self.old)).releases
+            → AreKept self.old.tallies (rows_of self.old)
+            → LeadsTo step self.new.tallies (applied change.now (rows_of self.old)))) }
+        ensures none { IfOk result (λ found. IfNone found (AreKept self.old.tallies
+            (rows_of self.old) → Follows change.now (rows_of self.old) → ⊥)) }
+        ensures kept { (t : Tables) → AreKept self.old.tallies t → AreKept self.new.tallies t }
+        ensures rest { self.new ≡ record self.old { tallies = self.new.tallies } }
+        ensures fault { IfErr result (λ fault. fault ≡ Fault.Memory) }
+    {
+        if !self.ledger.can_take(change) {
+            return Ok(None);
+        }
+        let place = self.place_for(change);
+        Ok(self.tallies.plan(change, place)?)
+    }
+
     /// The place of a release.
     fn place_of(&self, name: &str) -> Option<u32>
         ensures { result ≡ place_found (rows_of self.now).releases name.now }
@@ -722,11 +748,7 @@ impl Store for MemStore {
     // Where its duties, their changes or the place of its release don't go on, it is left undone;
     // any other is written as it stands.
     fn commit(&mut self, change: Change) -> Result<(), Fault> {
-        if !self.ledger.can_take(&change) {
-            return Ok(());
-        }
-        let place = self.place_for(&change);
-        let Some(step) = self.tallies.plan(&change, place)? else {
+        let Some(step) = self.plan(&change)? else {
             return Ok(());
         };
         self.write(change)?;
