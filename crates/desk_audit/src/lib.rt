@@ -130,9 +130,7 @@ fn first_fault<T: Texts>(
     }
 }
 
-/// The report on a snapshot: sound where the ten conditions are met, else the first that isn't.
-/// Texts are read by their standards.
-pub fn judge(alloc: Global, snapshot: &Snapshot) -> Result<AuditReport, AllocError>
+fn report_on(alloc: Global, snapshot: &Snapshot) -> Result<AuditReport, AllocError>
     ensures { (w : Readings) → AreRight w → IfOk result (IsReport w snapshot.now) }
 {
     let found = first_fault(alloc, &Standard, snapshot)?;
@@ -140,4 +138,12 @@ pub fn judge(alloc: Global, snapshot: &Snapshot) -> Result<AuditReport, AllocErr
         Some(fault) => Ok(AuditReport::Unsound(fault)),
         None => Ok(AuditReport::Sound),
     }
+}
+
+/// The report on a snapshot: sound where the ten conditions are met, else the first that isn't.
+/// Texts are read by their standards.
+pub fn judge(alloc: Global, snapshot: Snapshot) -> Result<AuditReport, AllocError>
+    ensures { (w : Readings) → AreRight w → IfOk result (IsReport w snapshot) }
+{
+    report_on(alloc, &snapshot)
 }

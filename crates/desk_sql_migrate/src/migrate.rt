@@ -43,8 +43,7 @@ fn report_inside<S: Alter>(alloc: Global, tx: &mut Transaction<'_, S>) -> Result
     desk_history_laws::right_readings_list_in_order();
     desk_history_laws::audits::histories_are_sound();
     let snapshot = snapshot_inside(alloc, tx)?;
-    let report = judge(alloc, &snapshot)?;
-    Ok(report)
+    Ok(judge(alloc, snapshot)?)
 }
 
 /// Writes what a version lacks, and tells the report on the rows that come of it.

@@ -36,6 +36,5 @@ pub fn audit_connection<S: Alter>(
     desk_history_laws::right_readings_list_in_order();
     desk_history_laws::audits::histories_are_sound();
     let snapshot = desk_sql_scan::snapshot(alloc, conn)?;
-    let report = judge(alloc, &snapshot)?;
-    Ok(report)
+    Ok(judge(alloc, snapshot)?)
 }
