@@ -1,5 +1,5 @@
 -- The table of the routes: the method, the pattern and what is asked for.
-use Rattle.std.specs.Prelude.{ℕ, List, [], codes, if◌then◌else◌, Result, Ok, Err, Option, Some, None, option_map}
+use Rattle.std.specs.Prelude.{ℕ, List, [], ◌∷◌, codes, if◌then◌else◌, Result, Ok, Err, Option, Some, None, option_map}
 use Rattle.std.specs.Str.{bytes_eq}
 use Rattle.matchit.specs.Rows.{RowsOf}
 use Rattle.matchit.specs.Seek.{first}
@@ -9,6 +9,7 @@ use Rattle.matchit.specs.Router.{RouteOf, route_from}
 use Rattle.matchit.specs.declared.error.InsertError.{InsertError}
 use Rattle.desk_http.specs.declared.table.Route.{Route}
 use Rattle.desk_http.specs.declared.table.Route.TheVariants.{Post, Get}
+use Rattle.desk_http.specs.declared.table.RouteRow.{RouteRow}
 use Rattle.desk_http.specs.declared.table.Posted.TheVariants as posted
 use Rattle.desk_http.specs.declared.table.Shown.TheVariants as shown
 
@@ -19,6 +20,11 @@ with_scan (Err e) route rows = rows
 
 abbrev pub with_route : List ℕ → Route → RowsOf (RouteOf Route) → RowsOf (RouteOf Route)
 with_route pattern route rows = with_scan (parse_route pattern) route rows
+
+-- and with more of them, one after another
+abbrev pub with_rows : List RouteRow → RowsOf (RouteOf Route) → RowsOf (RouteOf Route)
+with_rows [] rows = rows
+with_rows (row ∷ more) rows = with_rows more (with_route row.path.now row.route rows)
 
 unfoldable pub desk_routes : RowsOf (RouteOf Route)
 desk_routes =

@@ -1,7 +1,7 @@
 //! The table of the routes.
 
-ghost use Rattle.std.specs.Prelude.{◌≡◌, IfOk, unwrap_or};
-ghost use Rattle.desk_http.specs.Routes.{desk_routes, method_of, found_at, route_of, with_method};
+ghost use Rattle.std.specs.Prelude.{◌≡◌, [], IfOk, unwrap_or};
+ghost use Rattle.desk_http.specs.Routes.{desk_routes, method_of, found_at, route_of, with_method, with_rows};
 
 use matchit::{InsertError, Router};
 use std::alloc::{AllocError, Global};
@@ -40,28 +40,70 @@ pub enum Shown {
     Changes,
 }
 
-fn rows(alloc: Global) -> Result<Router<Route>, InsertError>
-    ensures { IfOk result (λ r. r ≡ desk_routes) }
+/// A path, with a name in braces for each segment that may be any, and what it leads to.
+struct RouteRow {
+    path: &'static str,
+    route: Route,
+}
+
+const ROUTES: [RouteRow; 12] = [
+    RouteRow {
+        path: "/commands",
+        route: Route::Post(Posted::Request),
+    },
+    RouteRow {
+        path: "/documents",
+        route: Route::Post(Posted::Document),
+    },
+    RouteRow {
+        path: "/catalogue",
+        route: Route::Post(Posted::Catalogue),
+    },
+    RouteRow {
+        path: "/documents/{n}/findings",
+        route: Route::Get(Shown::Findings),
+    },
+    RouteRow {
+        path: "/documents/{n}/packages/{id}/alternatives",
+        route: Route::Get(Shown::Alternatives),
+    },
+    RouteRow {
+        path: "/documents/{n}/packages/{id}/cheapest/{form}",
+        route: Route::Get(Shown::Cheapest),
+    },
+    RouteRow {
+        path: "/releases/{name}",
+        route: Route::Get(Shown::Release),
+    },
+    RouteRow {
+        path: "/releases/{name}/duties",
+        route: Route::Get(Shown::Duties),
+    },
+    RouteRow {
+        path: "/releases/{name}/totals",
+        route: Route::Get(Shown::Totals),
+    },
+    RouteRow {
+        path: "/releases/{name}/notices",
+        route: Route::Get(Shown::Notices),
+    },
+    RouteRow {
+        path: "/releases/{name}/duties.csv",
+        route: Route::Get(Shown::DutyTable),
+    },
+    RouteRow {
+        path: "/duties/{n}/changes",
+        route: Route::Get(Shown::Changes),
+    },
+];
+
+fn router_of(alloc: Global, rows: &[RouteRow]) -> Result<Router<Route>, InsertError>
+    ensures { IfOk result (λ r. r ≡ with_rows rows.now []) }
 {
     let mut routes = Router::new(alloc);
-    routes.insert("/commands", Route::Post(Posted::Request))?;
-    routes.insert("/documents", Route::Post(Posted::Document))?;
-    routes.insert("/catalogue", Route::Post(Posted::Catalogue))?;
-    routes.insert("/documents/{n}/findings", Route::Get(Shown::Findings))?;
-    routes.insert(
-        "/documents/{n}/packages/{id}/alternatives",
-        Route::Get(Shown::Alternatives),
-    )?;
-    routes.insert(
-        "/documents/{n}/packages/{id}/cheapest/{form}",
-        Route::Get(Shown::Cheapest),
-    )?;
-    routes.insert("/releases/{name}", Route::Get(Shown::Release))?;
-    routes.insert("/releases/{name}/duties", Route::Get(Shown::Duties))?;
-    routes.insert("/releases/{name}/totals", Route::Get(Shown::Totals))?;
-    routes.insert("/releases/{name}/notices", Route::Get(Shown::Notices))?;
-    routes.insert("/releases/{name}/duties.csv", Route::Get(Shown::DutyTable))?;
-    routes.insert("/duties/{n}/changes", Route::Get(Shown::Changes))?;
+    for row in rows {
+        routes.insert(row.path, row.route)?;
+    }
     Ok(routes)
 }
 
@@ -69,7 +111,7 @@ fn rows(alloc: Global) -> Result<Router<Route>, InsertError>
 fn routes(alloc: Global) -> Result<Router<Route>, AllocError>
     ensures { IfOk result (λ r. r ≡ desk_routes) }
 {
-    match rows(alloc) {
+    match router_of(alloc, &ROUTES) {
         Ok(routes) => Ok(routes),
         Err(_) => Err(AllocError),
     }
