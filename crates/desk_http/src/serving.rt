@@ -84,8 +84,9 @@ pub fn serve_with<D: Desk, R: Read, W: Write>(
     let Some(reply) = answer(alloc, routes, desk, received) else {
         return Ok(Served::Nothing);
     };
-    let status = write_reply(alloc, writer, &reply)?;
-    Ok(Served::Replied(status))
+    let written = write_reply(alloc, writer, &reply);
+    drop(reply);
+    Ok(Served::Replied(written?))
 }
 
 /// Serves the one request of a connection as `serve_with` does, with a table of routes of its own.
