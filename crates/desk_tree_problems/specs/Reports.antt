@@ -106,6 +106,13 @@ abbrev pub is_none : List Row → Bool
 is_none [] = true
 is_none (row ∷ rows) = false
 
+-- the rows of a tree's problems, and how many of its files are covered
+pub record AreListed (r : Reader) (files : List SourceFile) (rows : List Row) (covered : ℕ) : Type 0 where
+  pub problems : Problems
+  pub are_problems : AreProblems r files problems
+  pub are_rows : AreRows problems rows
+  pub counts : covered ≡ problems.covered
+
 -- the report on a tree: the rows of its problems; it is clean where it has none
 pub record IsReport (r : Reader) (files : List SourceFile) (json : Bool) (report : Report) : Type 0 where
   pub problems : Problems

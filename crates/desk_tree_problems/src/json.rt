@@ -3,24 +3,31 @@
 ghost use Rattle.std.specs.Prelude.{◌≡◌, ◌++◌, IfOk, map, codes};
 ghost use Rattle.std.specs.String.{string_bytes};
 ghost use Rattle.serde_json.specs.View.{view, items_view, items_of};
-ghost use Rattle.desk_tree_problems.specs.Reports.{row_value, report_value, json_text};
+ghost use Rattle.desk_tree_problems.specs.Reports.{line_value, row_value, report_value, json_text};
 
 use crate::row::Row;
-use serde_json::{Value, json};
+use serde_json::{Number, Value, json};
 use std::alloc::{AllocError, Global};
+
+// The number of a line, or null.
+fn line_value(line: Option<u64>) -> Value
+    ensures { view result ≡ line_value line }
+{
+    match line {
+        Some(line) => Value::Number(Number::from(line)),
+        None => Value::Null,
+    }
+}
 
 // The object of a row.
 fn row_value(alloc: Global, row: &Row) -> Result<Value, AllocError>
     ensures { IfOk result (λ v. view v ≡ row_value row.now) }
 {
     let kind = row.kind.name();
+    let line = line_value(row.line);
     let message = row.message.as_str();
     let path = row.path.as_str();
-    match row.line {
-        Some(line) =>
-            json!(in alloc; {"kind": kind, "line": line, "message": message, "path": path}),
-        None => json!(in alloc; {"kind": kind, "line": null, "message": message, "path": path}),
-    }
+    json!(in alloc; {"kind": kind, "line": line, "message": message, "path": path})
 }
 
 fn row_values(alloc: Global, rows: &[Row]) -> Result<Vec<Value>, AllocError>

@@ -2,7 +2,7 @@
 
 ghost use Rattle.std.specs.Prelude.{◌≡◌, IfOk};
 ghost use Rattle.desk_tree_gather.specs.Readers.{Reader, IsRightReader};
-ghost use Rattle.desk_tree_problems.specs.Reports.{text_of, is_none, AreBlankLines, IsReport};
+ghost use Rattle.desk_tree_problems.specs.Reports.{text_of, is_none, AreBlankLines, AreListed, IsReport};
 
 use crate::json::json_text;
 use crate::lines::{lines_of_kind, lines_text};
@@ -39,17 +39,33 @@ fn is_none(rows: &[Row]) -> bool
     rows.is_empty()
 }
 
+/// The rows of a tree's problems.
+#[derive(Drop)]
+struct Listed {
+    rows: Vec<Row>,
+    covered: usize,
+}
+
+fn rows_in(alloc: Global, files: &[SourceFile]) -> Result<Listed, AllocError>
+    ensures { (r : Reader) → IsRightReader r
+        → IfOk result (λ l. AreListed r files.now l.rows.items l.covered) }
+{
+    let problems = problems_of(alloc, files)?;
+    Ok(Listed {
+        rows: rows_of(alloc, &problems)?,
+        covered: problems.covered,
+    })
+}
+
 /// The report on a tree, as lines or as a JSON object. The only error is want of memory.
 ///
 /// For each right reader it is that of `IsReport`.
 pub fn report_on(alloc: Global, files: &[SourceFile], json: bool) -> Result<Report, AllocError>
     ensures { (r : Reader) → IsRightReader r → IfOk result (IsReport r files.now json) }
 {
-    let problems = problems_of(alloc, files)?;
-    let rows = rows_of(alloc, &problems)?;
-    let text = text_of(alloc, json, rows.as_slice(), problems.covered)?;
+    let Listed { rows, covered } = rows_in(alloc, files)?;
     Ok(Report {
-        text,
+        text: text_of(alloc, json, rows.as_slice(), covered)?,
         is_clean: is_none(rows.as_slice()),
     })
 }
@@ -62,7 +78,6 @@ pub fn blank_lines(alloc: Global, files: &[SourceFile]) -> Result<Vec<u8>, Alloc
     ensures { (r : Reader) → IsRightReader r
         → IfOk result (λ text. AreBlankLines r files.now text.items) }
 {
-    let problems = problems_of(alloc, files)?;
-    let rows = rows_of(alloc, &problems)?;
+    let Listed { rows, .. } = rows_in(alloc, files)?;
     lines_of_kind(alloc, rows.as_slice(), Kind::BlankAtEnd)
 }
