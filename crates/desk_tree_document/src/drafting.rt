@@ -3,8 +3,10 @@
 ghost use Rattle.std.specs.Prelude.{◌≡◌, ◌⊎◌, ℕ, List, IfOk, IfErr, Ok, Err, alloc_error, map};
 ghost use Rattle.desk_bom.specs.Codes.{IsCode};
 ghost use Rattle.desk_tree_gather.specs.Readers.{Reader, IsRightReader};
-ghost use Rattle.desk_tree_document.specs.Drafts.{Named, draft_with, draft_of};
-ghost use Rattle.desk_tree_document.specs.Shown.{named};
+ghost use Rattle.desk_tree_document.specs.Drafts.{draft_with, draft_of};
+ghost use Rattle.desk_tree_document.specs.Shown.{Gives, named};
+ghost use Rattle.desk_tree_document.specs.Texts.{copyright_of, expression_read};
+ghost use Rattle.desk_tree_document.specs.Drafts.{package_licences, package_notices};
 
 use crate::files::{digests_of, files_of, infos_of, package_licences, package_notices};
 use crate::texts::{copyright_of, expression_read};
@@ -34,6 +36,43 @@ fn code_of(alloc: Global, files: &[DraftFile]) -> Result<Text, AllocError>
     }
 }
 
+// What a document is called, as a draft keeps it.
+#[derive(Drop)]
+struct Names {
+    name: Text,
+    namespace: Text,
+    created: Text,
+}
+
+fn names_of(alloc: Global, title: Title<'_>) -> Result<Names, AllocError>
+    ensures name { IfOk result (λ n. n.name ≡ title.entry.name.now) }
+    ensures namespace { IfOk result (λ n. n.namespace ≡ title.entry.namespace.now) }
+    ensures created { IfOk result (λ n. n.created ≡ title.entry.created.now) }
+{
+    Ok(Names {
+        name: Text::of(alloc, title.name)?,
+        namespace: Text::of(alloc, title.namespace)?,
+        created: Text::of(alloc, title.created)?,
+    })
+}
+
+// What the package concludes of all files.
+fn concluded(alloc: Global, infos: &[FileInfo]) -> Result<Result<Text, GatherFault>, AllocError>
+    ensures { (r : Reader) → IsRightReader r → IfOk result
+        (Gives (expression_read r.reading (package_licences infos.now)) (λ t. t)) }
+{
+    let licences = package_licences(alloc, infos)?;
+    expression_read(alloc, licences.as_slice())
+}
+
+// The copyright notices of all files.
+fn copyright(alloc: Global, infos: &[FileInfo]) -> Result<Text, AllocError>
+    ensures { IfOk result (λ t. t ≡ copyright_of (package_notices infos.now)) }
+{
+    let notices = package_notices(alloc, infos)?;
+    copyright_of(alloc, notices.as_slice())
+}
+
 // The draft of files, of which each is told.
 fn draft_with(
     alloc: Global,
@@ -49,18 +88,21 @@ fn draft_with(
         → IfOk result (λ x. IfErr x (λ f.
         (code : List ℕ) → draft_with r (named title.entry) infos.now files.items code ≡ Err f)) }
 {
-    let licences = package_licences(alloc, infos)?;
-    let concluded = match expression_read(alloc, licences.as_slice())? {
+    let concluded = match concluded(alloc, infos)? {
         Ok(concluded) => concluded,
         Err(fault) => return Ok(Err(fault)),
     };
-    let notices = package_notices(alloc, infos)?;
-    let copyright = copyright_of(alloc, notices.as_slice())?;
+    let copyright = copyright(alloc, infos)?;
     let code = code_of(alloc, files.as_slice())?;
+    let Names {
+        name,
+        namespace,
+        created,
+    } = names_of(alloc, title)?;
     Ok(Ok(Draft {
-        name: Text::of(alloc, title.name)?,
-        namespace: Text::of(alloc, title.namespace)?,
-        created: Text::of(alloc, title.created)?,
+        name,
+        namespace,
+        created,
         code,
         concluded,
         copyright,
