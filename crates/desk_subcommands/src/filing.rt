@@ -131,6 +131,28 @@ fn loaded<D: Desk>(desk: &mut D, text: Text) -> Outcome
     Outcome::from(desk.apply(&command))
 }
 
+// Writes the reply to an outcome as `tell` does, and tells why it isn't done.
+fn answer<W: Write, E: Write>(
+    alloc: Global,
+    outcome: Outcome,
+    writer: &mut W,
+    teller: &mut Teller<E>,
+) -> Result<u8, Failure>
+    ensures done { IfOk result (λ status. (answer : Answer) × (outcome ≡ Answered answer)
+        × Appends (W.contents writer.old) (W.contents writer.new) (outcome_line (Answered answer))
+        × (status ≡ answer_status answer)) }
+    ensures failed { IfErr result (OfRequest
+        (λ fault. (outcome ≡ Failed fault)
+        × Appends (W.contents writer.old) (W.contents writer.new) (outcome_line outcome))
+        (Unit {0})) }
+    ensures memory { IfErr result
+        (IfMemory (Keeps (W.contents writer.old) (W.contents writer.new))) }
+{
+    let told = tell(alloc, &outcome, writer);
+    teller.explain(&outcome);
+    told
+}
+
 /// Has a desk import a document, as the request `import` does, writes the reply as a line, and
 /// answers the program's status. Where the desk fails, the reply tells it and so does the failure.
 /// Where the reply can't be written, what the desk did stands.
@@ -155,9 +177,7 @@ pub fn import<D: Desk, W: Write, E: Write>(
         (IfMemory (Keeps (W.contents writer.old) (W.contents writer.new))) }
 {
     let outcome = imported(desk, bytes, profile);
-    let told = tell(alloc, &outcome, writer);
-    teller.explain(&outcome);
-    told
+    answer(alloc, outcome, writer, teller)
 }
 
 /// Has a desk load a catalogue, as the request `catalogue` does, writes the reply as a line, and
@@ -183,9 +203,7 @@ pub fn catalogue<D: Desk, W: Write, E: Write>(
         (IfMemory (Keeps (W.contents writer.old) (W.contents writer.new))) }
 {
     let outcome = loaded(desk, text);
-    let told = tell(alloc, &outcome, writer);
-    teller.explain(&outcome);
-    told
+    answer(alloc, outcome, writer, teller)
 }
 
 /// The text that bytes are, or none where they are no UTF-8.
@@ -215,9 +233,7 @@ pub fn refuse_catalogue<W: Write, E: Write>(
     let outcome = Outcome::Answered(Answer::Refused(Refusal::BadCatalogue(
         CatalogueFault::NotToml,
     )));
-    let told = tell(alloc, &outcome, writer);
-    teller.explain(&outcome);
-    told
+    answer(alloc, outcome, writer, teller)
 }
 
 // The line that tells why a file keeps no desk, without its end.
