@@ -5,3 +5,4 @@ mod Uses
 pub mod InTurn
 mod Naming
 mod Bodies
+mod Kept

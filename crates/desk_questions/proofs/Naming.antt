@@ -1,6 +1,6 @@
 -- Texts that terms name, where those that a term names again are left out.
 use Rattle.std.proofs.Common.{◌≡◌, ◌∙◌, inl, inr, ℕ, ◌+◌, ◌<◌, Bool, true, false, cond, List, [], ◌∷◌, ◌++◌, length, take, get_or, Option, None, Some, sym, ap, refl, subst}
-use Rattle.std.specs.Prelude.{◌||◌, if◌then◌else◌}
+use Rattle.std.specs.Prelude.{◌||◌, filter, if◌then◌else◌}
 use Rattle.std.specs.List.{flat_map, list_any}
 use Rattle.std.specs.BTreeSet.{Updates, contains_by}
 use Rattle.std.specs.Cmp.Lexicographic.{slice_cmp}
@@ -8,7 +8,7 @@ use Rattle.std.specs.Ordering.{nat_cmp}
 use Rattle.std.specs.Option.{option_map_or}
 use Rattle.std.specs.Str.{bytes_eq}
 use Rattle.std.proofs.lemmas.Bool.{cases_Bool, false≢true}
-use Rattle.std.proofs.lemmas.List.{append_assoc, append-nil, take_more}
+use Rattle.std.proofs.lemmas.List.{append_assoc, append-nil}
 use Rattle.std.proofs.lemmas.List.Concat.{flat_map-append}
 use Rattle.std.proofs.lemmas.List.Folds.{list_any-append}
 use Rattle.std.proofs.lemmas.Map.Text.{is_eq-slice_cmp}
@@ -20,6 +20,7 @@ use Rattle.desk_model.specs.declared.bill.TextOf.{TextOf}
 use Rattle.desk_model.specs.declared.bill.TextOf.TheVariants.{Licence, Reference}
 use Rattle.desk_questions.specs.Billing.{Adds, AreAmong, AreNamed, is_licence, is_met, main_text}
 use Rattle.desk_questions.specs.declared.texts.Named.{Named}
+use Rattle.desk_questions.proofs.Kept.{kept_next, left_next}
 use Rattle.desk_questions.proofs.Uses.{first_uses-append, same_itself}
 
 -- One of two lists
@@ -135,12 +136,20 @@ met_more w d term old mid new is_anywhere put updates adds = λ xs are.
 
 -- One row more
 
-pub named_next : {X : Type 0} (w : Readings) (f : X → List TextOf) (xs : List X) (i : ℕ) (x d : X) (a b c : Named) → i < length xs → x ≡ get_or xs i d
-    → Adds w (flat_map f (take i xs)) a b → Adds w (f x) b c → Adds w (flat_map f (take (i + 1) xs)) a c
-named_next {X} w f xs i x d a b c within is first second = λ ys are.
-    let whole : flat_map f (take (i + 1) xs) ≡ flat_map f (take i xs) ++ f x =
-    ap (flat_map f) (take_more xs i d within ∙ ap (λ (z : X). take i xs ++ z ∷ []) (sym is))
-    ∙ (flat_map-append f (take i xs) (x ∷ []) ∙ ap (λ (l : List TextOf). flat_map f (take i xs) ++ l) (append-nil (f x))) in
+-- it passes, and what it names is added
+pub named_next : {X : Type 0} (w : Readings) (f : X → List TextOf) (p : X → Bool) (xs : List X) (i : ℕ) (x : X) (a b c : Named) → i < length xs → x ≡ get_or xs i x → p x ≡ true
+    → Adds w (flat_map f (filter p (take i xs))) a b → Adds w (f x) b c → Adds w (flat_map f (filter p (take (i + 1) xs))) a c
+named_next {X} w f p xs i x a b c within is passes first second = λ ys are.
+    let before = filter p (take i xs) in
+    let whole : flat_map f (filter p (take (i + 1) xs)) ≡ flat_map f before ++ f x =
+    ap (flat_map f) (kept_next p xs i x within is passes)
+    ∙ (flat_map-append f before (x ∷ []) ∙ ap (λ (l : List TextOf). flat_map f before ++ l) (append-nil (f x))) in
     subst (λ (l : List TextOf). AreNamed w l c)
-    (append_assoc ys (flat_map f (take i xs)) (f x) ∙ ap (λ (l : List TextOf). ys ++ l) (sym whole))
-    (second (ys ++ flat_map f (take i xs)) (first ys are))
+    (append_assoc ys (flat_map f before) (f x) ∙ ap (λ (l : List TextOf). ys ++ l) (sym whole))
+    (second (ys ++ flat_map f before) (first ys are))
+
+-- it doesn't
+pub named_same : {X : Type 0} (w : Readings) (f : X → List TextOf) (p : X → Bool) (xs : List X) (i : ℕ) (x : X) (a b : Named) → i < length xs → x ≡ get_or xs i x → p x ≡ false
+    → Adds w (flat_map f (filter p (take i xs))) a b → Adds w (flat_map f (filter p (take (i + 1) xs))) a b
+named_same {X} w f p xs i x a b within is fails first =
+    subst (λ (rows : List X). Adds w (flat_map f rows) a b) (sym (left_next p xs i x within is fails)) first

@@ -18,9 +18,16 @@ use Rattle.desk_model.specs.declared.bill.BillLine.{BillLine}
 use Rattle.desk_model.specs.declared.bill.TextOf.{TextOf}
 use Rattle.desk_model.specs.declared.bill.TextOf.TheVariants.{Licence, Reference}
 use Rattle.desk_model.specs.declared.reading.LicenceText.{LicenceText}
+use Rattle.desk_model.specs.Keys.{is_frozen_of}
+use Rattle.desk_model.specs.declared.row.FrozenRow.{FrozenRow}
 use Rattle.desk_model.specs.declared.row.PackageRow.{PackageRow}
+use Rattle.desk_questions.specs.declared.frozen.ByPackage.{ByPackage}
 use Rattle.desk_questions.specs.declared.texts.Named.{Named}
 use Rattle.desk_questions.specs.declared.texts.TextKey.{TextKey}
+
+-- a frozen row is a term of the package that is looked for
+abbrev pub is_of : ByPackage → FrozenRow → Bool
+is_of key row = is_frozen_of key.release.now key.document key.id.now row
 
 -- the text of a term's reference, or else of its licence
 abbrev pub main_text : Readings → ℕ → List ℕ → TextOf

@@ -1,15 +1,15 @@
 //! The bill of a frozen release: its packages with the rules that they were frozen by.
 
-ghost use Rattle.std.specs.Prelude.{◌≡◌, IfOk, IfErr, map};
+ghost use Rattle.std.specs.Prelude.{◌≡◌, IfOk, IfErr, filter, map};
 ghost use Rattle.std.specs.List.{flat_map};
 ghost use Rattle.desk_model.specs.Readings.{Readings};
 ghost use Rattle.desk_model.specs.Bills.{bill_line, bill_of, first_uses, package_texts};
 ghost use Rattle.desk_model.specs.Faults.{MayFail};
 ghost use Rattle.desk_access.specs.Seen.{Looked, OfRows};
 ghost use Rattle.desk_history.specs.FromTables.{queried_from, shipped_found};
-ghost use Rattle.desk_questions.specs.Billing.{line_with};
+ghost use Rattle.desk_questions.specs.Billing.{is_of, line_with};
 
-use crate::frozen::{frozen_rows, terms_of};
+use crate::frozen::{ByPackage, frozen_rows, terms_near};
 use crate::texts::{Named, add_terms, bill_texts_of, first_uses};
 use desk_access::store::Store;
 use desk_access::texts::Texts;
@@ -38,27 +38,34 @@ fn packages_of<S: Store>(
     shipped_packages(alloc, store, attached.as_slice())
 }
 
-fn rules_of(alloc: Global, terms: &[&FrozenRow]) -> Result<Items<Text>, AllocError>
-    ensures { IfOk result (λ rules. rules ≡ map (λ row. row.now.rule) terms.now) }
+/// The rules of those rows that are terms of a package.
+fn rules_of(
+    alloc: Global,
+    rows: &[FrozenRow],
+    key: &ByPackage<'_>,
+) -> Result<Items<Text>, AllocError>
+    ensures { IfOk result (λ rules.
+        rules ≡ map (λ row. row.rule) (filter (is_of key.now) rows.now)) }
 {
     let mut rules = Items::new(alloc);
-    for row in terms {
-        rules.push(row.rule.clone()?)?;
+    for row in rows {
+        if key.has(row) {
+            rules.push(row.rule.clone()?)?;
+        }
     }
     Ok(rules)
 }
 
-/// The line of a package with its terms.
-fn line_of(alloc: Global, terms: &[&FrozenRow], row: PackageRow) -> Result<BillLine, AllocError>
-    ensures { IfOk result (λ line. line ≡ line_with (map (λ term. term.now.rule) terms.now) row) }
+/// The line of a package with the rules of its terms.
+fn line_with(row: PackageRow, rules: Items<Text>) -> BillLine
+    ensures { result ≡ line_with rules row }
 {
-    let rules = rules_of(alloc, terms)?;
-    Ok(BillLine {
+    BillLine {
         name: row.name,
         version: row.version,
         rules,
         copyright: row.copyright,
-    })
+    }
 }
 
 /// What packages are written as in a bill.
@@ -88,10 +95,11 @@ fn parts_of<T: Texts>(
     let mut named = Named::new(alloc);
     let mut place = 0;
     for row in packages {
-        let terms = terms_of(alloc, frozen, &mut place, release, &row)?;
-        add_terms(alloc, texts, terms.as_slice(), &mut named)?;
-        let line = line_of(alloc, terms.as_slice(), row)?;
-        lines.push(line)?;
+        let key = ByPackage::of(release, &row);
+        let terms = terms_near(frozen, &mut place, &key);
+        add_terms(alloc, texts, terms, &key, &mut named)?;
+        let rules = rules_of(alloc, terms, &key)?;
+        lines.push(line_with(row, rules))?;
     }
     Ok(Parts {
         lines,

@@ -1,26 +1,51 @@
 //! The terms that a release was frozen with, found by row.
 
-ghost use Rattle.std.specs.Prelude.{◌≡◌, IfOk, IfErr, OnOk, filter, map};
+ghost use Rattle.std.specs.Prelude.{◌≡◌, IfOk, IfErr, List, filter};
 ghost use Rattle.std.specs.Str.{bytes_eq};
 ghost use Rattle.desk_model.specs.Bills.{frozen_terms};
 ghost use Rattle.desk_model.specs.Faults.{MayFail};
 ghost use Rattle.desk_model.specs.Keys.{is_frozen_of};
 ghost use Rattle.desk_access.specs.Seen.{Looked, OfRows};
+ghost use Rattle.desk_model.specs.declared.row.FrozenRow.{FrozenRow as Frozen};
+ghost use Rattle.desk_questions.specs.Billing.{is_of};
 ghost use Rattle.desk_questions.specs.Sides.{package_meets, package_side, package_splits};
 
 use desk_access::store::Store;
 use desk_base::Text;
 use desk_model::{Fault, FrozenRow, PackageRow};
 use desk_sorted::{Appended, Sought};
-use std::alloc::{AllocError, Global};
+use std::alloc::Global;
 use std::cmp::Ordering;
 
-/// The terms that a release was frozen with for a row.
+/// What the terms that a release was frozen with for a package are looked for by.
 #[derive(Clone, Copy)]
 pub(crate) struct ByPackage<'a> {
     release: &'a str,
     document: u32,
     id: &'a str,
+}
+
+impl<'a> ByPackage<'a> {
+    pub(crate) fn of(release: &'a Text, row: &'a PackageRow) -> ByPackage<'a>
+        ensures { (frozen : List Frozen) → filter (is_of result) frozen
+            ≡ frozen_terms frozen release.now row.now }
+    {
+        ByPackage {
+            release: release.as_str(),
+            document: row.document,
+            id: row.id.as_str(),
+        }
+    }
+}
+
+impl ByPackage<'_> {
+    /// Whether a row is one of these terms.
+    #[tactic(auto, using(crate::specs::Sides::package_meets))]
+    pub(crate) fn has(&self, row: &FrozenRow) -> bool
+        ensures { result ≡ is_of self.now row.now }
+    {
+        self.side_of(row).is_eq()
+    }
 }
 
 impl Sought<FrozenRow> for ByPackage<'_> {
@@ -68,42 +93,16 @@ pub(crate) fn frozen_rows<S: Store>(
     appended(alloc, rows)
 }
 
-/// Those of some rows that are sought.
-fn sought<'a>(
-    alloc: Global,
-    rows: &'a [FrozenRow],
-    key: &ByPackage<'_>,
-) -> Result<Vec<&'a FrozenRow>, AllocError>
-    ensures { IfOk result (λ found. map (λ row. row.now) found.items
-        ≡ filter (is_frozen_of key.now.release.now key.now.document key.now.id.now) rows.now) }
-{
-    let mut found = Vec::new(alloc);
-    for row in rows {
-        if key.side_of(row).is_eq() {
-            found.push(row)?;
-        }
-    }
-    Ok(found)
-}
-
-/// The terms that a release was frozen with for a row, in their order. They are looked for at a
-/// place first, which moves behind them: both tables are in the order of packages.
-pub(crate) fn terms_of<'a>(
-    alloc: Global,
+/// Rows among which the terms of a package stand. They are looked for at a place first, which moves
+/// behind them: both tables are in the order of packages.
+pub(crate) fn terms_near<'a>(
     frozen: &'a Appended<FrozenRow>,
     place: &mut usize,
-    release: &Text,
-    row: &PackageRow,
-) -> Result<Vec<&'a FrozenRow>, AllocError>
-    ensures { IfOk result (λ terms.
-        map (λ row. row.now) terms.items ≡ frozen_terms frozen.now.rows.items release.now row.now) }
+    key: &ByPackage<'_>,
+) -> &'a [FrozenRow]
+    ensures { filter (is_of key.now) result.now ≡ filter (is_of key.now) frozen.now.rows.items }
 {
-    let key = ByPackage {
-        release: release.as_str(),
-        document: row.document,
-        id: row.id.as_str(),
-    };
-    let run = frozen.run_near(&key, *place);
+    let run = frozen.run_near(key, *place);
     *place = run.end;
-    sought(alloc, &frozen.rows[run.start..run.end], &key)
+    &frozen.rows[run.start..run.end]
 }

@@ -1,7 +1,7 @@
 //! The texts that go with a frozen release: those that its terms name, in the order of first use,
 //! each once.
 
-ghost use Rattle.std.specs.Prelude.{◌≡◌, ◌++◌, [], ℕ, List, Option, None, IfOk, IfErr, OnOk, map};
+ghost use Rattle.std.specs.Prelude.{◌≡◌, ◌++◌, [], ℕ, List, Option, None, IfOk, IfErr, OnOk, filter, map};
 ghost use Rattle.std.specs.List.{flat_map};
 ghost use Rattle.std.specs.Option.{option_map_or};
 ghost use Rattle.std.specs.Ordering.{nat_cmp, on, then_cmp, as_partial_cmp};
@@ -13,8 +13,9 @@ ghost use Rattle.desk_model.specs.Readings.{Readings};
 ghost use Rattle.desk_model.specs.Bills.{bill_text, first_uses, licence_bill, revision_text, texts_named};
 ghost use Rattle.desk_model.specs.Faults.{MayFail};
 ghost use Rattle.desk_access.specs.Seen.{Looked, OfRows};
-ghost use Rattle.desk_questions.specs.Billing.{Adds, AreLeft, AreNamed, is_licence, licence_found, licence_ids, main_text, text_key};
+ghost use Rattle.desk_questions.specs.Billing.{Adds, AreLeft, AreNamed, is_licence, is_of, licence_found, licence_ids, main_text, text_key};
 
+use crate::frozen::ByPackage;
 use desk_access::store::Store;
 use desk_access::texts::Texts;
 use desk_base::{Items, Text};
@@ -116,19 +117,22 @@ fn add_term<'a, T: Texts>(
     Ok(())
 }
 
-/// Adds the texts that the terms of a package name.
+/// Adds the texts that those rows name that are terms of a package.
 pub(crate) fn add_terms<'a, T: Texts>(
     alloc: Global,
     texts: &T,
-    terms: &[&'a FrozenRow],
+    rows: &'a [FrozenRow],
+    key: &ByPackage<'_>,
     named: &mut Named<'a>,
 ) -> Result<(), AllocError>
     ensures { (w : Readings) → T.are_right w → OnOk result (Adds w
-        (flat_map (λ row. texts_named w row.now.document row.now.term) terms.now)
-        named.old named.new) }
+        (flat_map (λ row. texts_named w row.document row.term)
+        (filter (is_of key.now) rows.now)) named.old named.new) }
 {
-    for row in terms {
-        add_term(alloc, texts, *row, named)?;
+    for row in rows {
+        if key.has(row) {
+            add_term(alloc, texts, row, named)?;
+        }
     }
     Ok(())
 }

@@ -2,9 +2,7 @@ use Rattle.std.proofs.Common.{◌≡◌, ◌∙◌, ◌++◌, ◌∷◌, [], ℕ
 use Rattle.std.specs.List.{flat_map}
 use Rattle.std.proofs.lemmas.List.{append-nil, map-append}
 use Rattle.std.proofs.lemmas.List.Concat.{flat_map-append}
-use Rattle.std.proofs.lemmas.List.Folds.{flat_map-map}
-use Rattle.std.proofs.lemmas.Simd.{map-map}
-use Rattle.desk_model.specs.Bills.{bill_line, frozen_terms, package_texts, texts_named}
+use Rattle.desk_model.specs.Bills.{bill_line, package_texts, texts_named}
 use Rattle.desk_model.specs.declared.bill.BillLine.{BillLine}
 use Rattle.desk_model.specs.declared.bill.TextOf.{TextOf}
 use Rattle.desk_model.specs.declared.row.FrozenRow.{FrozenRow}
@@ -20,17 +18,14 @@ loop-row-preserved g c =
     let frozen = c.args.frozen.now.rows.items in
     let release = c.args.release.now in
     let x = c.in-Some.row in
-    let terms = c.as_slice.ensures.value in
+    let terms = c.terms_near-terms.ensures ∙ c.of-key.ensures frozen in
     let rule : FrozenRow → List ℕ = λ row. row.rule in
-    let rules : map (λ term. term.now.rule) c.as_slice-in-loop-row.result.now ≡ map rule (frozen_terms frozen release x) =
-    ap (map (λ term. term.now.rule)) c.as_slice-in-loop-row.ensures.value ∙ (sym (map-map rule (λ row. row.now) c.in_ok-terms.terms.items) ∙ ap (map rule) c.in_ok-terms.ensures) in
-    let line : c.in_ok-line.line ≡ bill_line frozen release x = c.in_ok-line.ensures ∙ ap (λ rs. line_with rs x) rules in (
+    let line : c.line_with.result ≡ bill_line frozen release x = c.line_with.ensures ∙ ap (λ rs. line_with rs x) (c.in_ok-rules.ensures ∙ ap (map rule) terms) in (
       c.in_ok-push.ensures.ok ∙ (ap₂ (λ (ls : List BillLine) (l : BillLine). ls ++ l ∷ []) c.loop-row.invariant.0 line ∙ sym (map-append (bill_line frozen release) c.loop-row.yielded (x ∷ []))),
       λ w right.
           let texts : PackageRow → List TextOf = package_texts w frozen release in
           let named : FrozenRow → List TextOf = λ row. texts_named w row.document row.term in
-          let these = ap (flat_map (λ row. texts_named w row.now.document row.now.term)) terms
-          ∙ (sym (flat_map-map named (λ row. row.now) c.in_ok-terms.terms.items) ∙ (ap (flat_map named) c.in_ok-terms.ensures ∙ sym (append-nil (texts x)))) in
+          let these = ap (flat_map named) terms ∙ sym (append-nil (texts x)) in
           let whole = ap (λ (l : List TextOf). flat_map texts c.loop-row.yielded ++ l) these ∙ sym (flat_map-append texts c.loop-row.yielded (x ∷ [])) in
           subst (λ (l : List TextOf). AreNamed w l c.add_terms.new.named) whole
           (c.in_ok-add_terms.ensures w right (flat_map texts c.loop-row.yielded) (c.loop-row.invariant.1 w right)),
