@@ -3,8 +3,8 @@ mod Behind
 mod Inserts
 mod Deletes
 mod Updates
+mod RunLemmas
 mod Lists
-mod Moves
 mod Applied
 pub mod Declared
 pub mod Declarations

@@ -38,12 +38,8 @@ drop_next [] n d low = absurd (omega arith)
 drop_next (x ∷ rows) zero d low = refl
 drop_next (x ∷ rows) (suc n) d low = drop_next rows n d (omega arith)
 
-pub drop_less : {X : Type 0} (rows : List X) (n : ℕ) (d : X) → n < length rows → drop n rows ≡ get_or rows n d ∷ drop (n + 1) rows
+drop_less : {X : Type 0} (rows : List X) (n : ℕ) (d : X) → n < length rows → drop n rows ≡ get_or rows n d ∷ drop (n + 1) rows
 drop_less rows n d low = drop_next rows n d low ∙ ap (λ m. get_or rows n d ∷ drop m rows) (sym (add-one n))
-
-pub drop_whole : {X : Type 0} (rows : List X) → drop (length rows) rows ≡ []
-drop_whole [] = refl
-drop_whole (x ∷ rows) = drop_whole rows
 
 -- the rows that pass a test, of two lists
 pub filter_both : {X : Type 0} (p : X → Bool) (xs ys : List X) → filter p (xs ++ ys) ≡ filter p xs ++ filter p ys

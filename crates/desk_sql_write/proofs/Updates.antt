@@ -1,6 +1,6 @@
 -- What each UPDATE does to the tables, and why it fails.
 use Rattle.std.proofs.Common.{◌≡◌, ◌∙◌, ℕ, pos, Bool, true, false, cond, List, [], ◌∷◌, map, codes, refl, sym, ap, arith}
-use Rattle.std.specs.Prelude.{◌&&◌, ◌==◌, bytes_eq, if◌then◌else◌}
+use Rattle.std.specs.Prelude.{◌&&◌, ◌==◌, nat_le, bytes_eq, if◌then◌else◌}
 use Rattle.sqlite_value.specs.declared.keys.Collation.TheVariants.{Binary}
 use Rattle.std.specs.List.{AllByRecursion}
 use Rattle.sqlite_value.specs.declared.value.Value.{Value}
@@ -10,9 +10,9 @@ use Rattle.sqlite_trees.specs.Tree.{Trees, rowid}
 use Rattle.sqlite_trees.specs.View.{is_int}
 use Rattle.sqlite_trees.proofs.ListLemmas.{IsPermutation-same}
 use Rattle.sqlite_sql.specs.declared.ops.BinaryOp.TheVariants.{Compare}
-use Rattle.sqlite_sql.specs.declared.ops.CompareOp.TheVariants.{Eq}
+use Rattle.sqlite_sql.specs.declared.ops.CompareOp.TheVariants.{Eq, Ge, Le}
 use Rattle.sqlite_sql.specs.Ops.{binary, is_true}
-use Rattle.sqlite_sql.specs.Term.{Term, lit, col}
+use Rattle.sqlite_sql.specs.Term.{Term, lit, col, op2}
 use Rattle.sqlite_schema.specs.declared.schema.Kind.TheVariants.{Integer, Text as Words}
 use Rattle.sqlite_schema.specs.declared.command.Command.TheVariants.{Update}
 use Rattle.sqlite_rules.specs.Cast.{cast}
@@ -31,9 +31,14 @@ use Rattle.desk_model.specs.declared.state.DutyState.{DutyState}
 use Rattle.desk_sql_layout.specs.Layout as d
 use Rattle.desk_sql_layout.specs.Cells.{number, release_cells, duty_cells}
 use Rattle.desk_sql_layout.specs.Held.{rows_of}
-use Rattle.desk_sql_layout.proofs.Casts.{cast_int, cast_null, int_test, text_test, and_true, same}
+use Rattle.std.specs.Ordering.{int_cmp, is_ge, is_le}
+use Rattle.std.proofs.lemmas.Bool.Decides.{nat_tests}
+use Rattle.std.proofs.lemmas.Int.{ints}
+use Rattle.sqlite_value.proofs.OrderLemmas.{value_cmp-Int}
+use Rattle.desk_sql_layout.proofs.Casts.{cast_int, cast_null, int_test, text_test, truth_is, and_true, same}
 use Rattle.desk_sql_layout.proofs.Edits.{changed_where}
 use Rattle.desk_sql_layout.proofs.Queries.{query_on}
+use Rattle.desk_sql_write.specs.Runs.{is_numbered}
 use Rattle.desk_sql_write.specs.Taking.{IsSmall}
 use Rattle.desk_sql_write.proofs.Failing.{Makes, Reads}
 use Rattle.desk_sql_write.proofs.Inserts.{duties_suit}
@@ -156,3 +161,55 @@ duty_set n to old new =
     (λ t. (λ n. refl, (λ n. refl, (λ n. refl, (λ n. refl, (λ n. refl, (λ n. refl, (λ n. refl, (λ n. refl, (λ n. refl, (λ n. refl, (λ n. refl, (λ n. refl, (λ n. absurd (n refl), (λ n. refl, (λ n. refl, (λ n. refl, tt)))))))))))))))))
     (λ t. IsPermutation-same _ _ (changed_cells duty_cells (is_duty n) (with_duty_state to) q u (λ row. set_duty_one n to row) t.duty))
     (λ t trees small. duties_suit trees (changed (is_duty n) (with_duty_state to) t.duty) small) old new
+
+-- ---- set_run
+
+abbrev set_run_text : List ℕ
+set_run_text = codes "UPDATE duty SET state = ?3 WHERE number >= ?1 AND number <= ?2"
+
+abbrev set_run_tests : List Term
+set_run_tests = op2 (Compare Ge Binary) (col 1 0) (col 0 0) ∷ op2 (Compare Le Binary) (col 1 0) (col 0 1) ∷ []
+
+abbrev set_run_project : List Term
+set_run_project = col 1 0 ∷ lit Null ∷ col 1 2 ∷ col 1 3 ∷ col 1 4 ∷ col 1 5 ∷ col 1 6 ∷ col 1 7 ∷ col 0 2 ∷ []
+
+set_run_reads : Reads set_run_text 3 (Update 12 (record { lets = []; body = query_on 23 set_run_tests (col 1 0 ∷ set_run_project) [] }))
+unfolding understood everything
+set_run_reads = record { is = refl; plain = (refl, refl); fits = (refl, refl) }
+
+int_is_ge : (a b : ℕ) → is_ge (int_cmp (pos a) (pos b)) ≡ nat_le b a
+int_is_ge a b = grind (arith, ints, nat_tests)
+
+int_is_le : (a b : ℕ) → is_le (int_cmp (pos a) (pos b)) ≡ nat_le a b
+int_is_le a b = grind (arith, ints, nat_tests)
+
+ge_test : (a b : ℕ) → is_true (binary (Compare Ge Binary) (Int (pos a)) (Int (pos b))) ≡ nat_le b a
+unfolding binary
+ge_test a b = rw (value_cmp-Int (pos a) (pos b)) (truth_is (is_ge (int_cmp (pos a) (pos b))) ∙ int_is_ge a b)
+
+le_test : (a b : ℕ) → is_true (binary (Compare Le Binary) (Int (pos a)) (Int (pos b))) ≡ nat_le a b
+unfolding binary
+le_test a b = rw (value_cmp-Int (pos a) (pos b)) (truth_is (is_le (int_cmp (pos a) (pos b))) ∙ int_is_le a b)
+
+-- a number is among those of a run
+run_test : (first last n : ℕ) → (is_true (binary (Compare Ge Binary) (Int (pos n)) (Int (pos first))) && (is_true (binary (Compare Le Binary) (Int (pos n)) (Int (pos last))) && true)) ≡ (nat_le first n && nat_le n last)
+run_test first last n = (λ i. ge_test n first i && (le_test n last i && true)) ∙ ap (λ b. nat_le first n && b) (and_true (nat_le n last))
+
+set_run_one : (first last : ℕ) (to : DutyState) (row : DutyRow)
+    → (if is_true (binary (Compare Ge Binary) (column (duty_cells row) 0) (Int (pos first))) && (is_true (binary (Compare Le Binary) (column (duty_cells row) 0) (Int (pos last))) && true) then set_duty_cells to (duty_cells row) else duty_cells row) ≡ duty_cells (if is_numbered first last row then with_duty_state to row else row)
+set_run_one first last to row = rw (run_test first last row.number, cast_int (pos row.number), cast_int (pos row.document)) (go (nat_le first row.number && nat_le row.number last))
+  where
+    go : (b : Bool) → cond b (duty_cells (with_duty_state to row)) (duty_cells row) ≡ duty_cells (cond b (with_duty_state to row) row)
+    go true = refl
+    go false = refl
+
+pub run_set : (first last : ℕ) (to : DutyState) → Makes set_run_text (number first ∷ number last ∷ Text (duty_state_name to) ∷ []) (λ t. record t { duty = changed (is_numbered first last) (with_duty_state to) t.duty })
+run_set first last to old new =
+    let this = d.duty_table in
+    let q = λ (cs : Row). is_true (binary (Compare Ge Binary) (column cs 0) (Int (pos first))) && (is_true (binary (Compare Le Binary) (column cs 0) (Int (pos last))) && true) in
+    let u = set_duty_cells to in
+    updated_turns this.name 23 this.columns this.key this.primary this.uniques this.orders rows_of (λ t. record t { duty = changed (is_numbered first last) (with_duty_state to) t.duty }) 12 refl set_run_text (number first ∷ number last ∷ Text (duty_state_name to) ∷ []) set_run_tests set_run_project q u set_run_reads refl refl (λ r. refl)
+    (λ r whole. rw cast_null refl) (λ r. refl) (λ r whole. cast_rowid (rowid r) whole ∙ sym (int_is (rowid r) whole))
+    (λ t. (λ n. refl, (λ n. refl, (λ n. refl, (λ n. refl, (λ n. refl, (λ n. refl, (λ n. refl, (λ n. refl, (λ n. refl, (λ n. refl, (λ n. refl, (λ n. refl, (λ n. absurd (n refl), (λ n. refl, (λ n. refl, (λ n. refl, tt)))))))))))))))))
+    (λ t. IsPermutation-same _ _ (changed_cells duty_cells (is_numbered first last) (with_duty_state to) q u (λ row. set_run_one first last to row) t.duty))
+    (λ t trees small. duties_suit trees (changed (is_numbered first last) (with_duty_state to) t.duty) small) old new

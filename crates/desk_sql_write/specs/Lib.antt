@@ -3,3 +3,4 @@ pub mod Written
 pub mod Declaring
 pub mod Creating
 pub mod Taking
+pub mod Runs

@@ -1,15 +1,16 @@
 //! Duties and their changes.
 
-ghost use Rattle.std.specs.Prelude.{◌≡◌, ◌∷◌, [], filter, map, length, IfOk, ◌+◌};
+ghost use Rattle.std.specs.Prelude.{◌≡◌, ◌∷◌, [], filter, map, length, IfOk, MatchOption, true, ◌+◌};
 ghost use Rattle.std.specs.List.{flat_map};
 ghost use Rattle.sqlite.specs.Held.{state};
 ghost use Rattle.sqlite.specs.Values.{bound};
-ghost use Rattle.desk_model.specs.Keys.{is_duty};
 ghost use Rattle.desk_model.specs.Lists.{updated};
+ghost use Rattle.desk_model.specs.States.{state_after};
 ghost use Rattle.desk_model.specs.Tables.{with_duty_state, moved_by};
 ghost use Rattle.desk_sql_layout.specs.Cells.{duty_cells, change_cells, is_waiver, waiver_cells};
 ghost use Rattle.desk_sql_layout.specs.Held.{rows_of};
 ghost use Rattle.desk_sql_layout.specs.Layout.{duty_table, change_table, waiver_table};
+ghost use Rattle.desk_sql_write.specs.Runs.{IsRun, is_numbered};
 ghost use Rattle.desk_sql_write.specs.Turning.{Adds, Turns, with_steps};
 
 use crate::adding::{Added, AddedInEights, add_all, add_in_eights};
@@ -154,25 +155,68 @@ impl Added for ChangeRow {
     }
 }
 
-/// Sets the state of a duty.
-pub(crate) fn set_duty<S: Alter>(
+/// Duties of consecutive numbers that changes leave in one state, and the changes before these.
+#[derive(Clone, Copy)]
+struct Run<'a> {
+    before: &'a [ChangeRow],
+    first: u32,
+    last: u32,
+    to: DutyState,
+}
+
+/// Whether a change goes before a run: it is of the duty before the first, and leaves it where the
+/// run leaves its duties.
+fn goes_before(row: &ChangeRow, first: u32, to: DutyState) -> bool
+    ensures next { result ≡ true → row.now.duty + 1 ≡ first }
+    ensures state { result ≡ true → state_after row.now.word ≡ to }
+{
+    row.duty < first && first - row.duty == 1 && row.word.state_after() == to
+}
+
+/// The last run of changes, if there are any.
+fn last_run<'a>(rows: &'a [ChangeRow]) -> Option<Run<'a>>
+    ensures { MatchOption result (rows.now ≡ [])
+        (λ run. IsRun rows.now run.before.now run.first run.last run.to) }
+{
+    let (last, front) = rows.split_last()?;
+    let to = last.word.state_after();
+    let mut first = last.duty;
+    let mut before = front;
+    while let Some((row, front)) = before.split_last() {
+        if !goes_before(row, first, to) {
+            break;
+        }
+        first = row.duty;
+        before = front;
+    }
+    Some(Run {
+        before,
+        first,
+        last: last.duty,
+        to,
+    })
+}
+
+/// Sets the state of the duties with numbers from one to another.
+fn set_run<S: Alter>(
     tx: &mut Transaction<'_, S>,
-    duty: u32,
+    first: u32,
+    last: u32,
     to: DutyState,
 ) -> Result<(), Fault>
     ensures same_reference { tx.new.conn.ghost_name ≡ tx.old.conn.ghost_name }
     ensures sets { Turns rows_of (λ t. rows_of (record t {
-      duty = updated (is_duty duty) (with_duty_state to) t.duty;
+      duty = updated (is_numbered first last) (with_duty_state to) t.duty;
     })) 0 (state S.Store tx.old.conn.now) (state S.Store tx.new.conn.now) result }
 {
     execute(
         tx,
-        "UPDATE duty SET state = ?2 WHERE number = ?1",
-        &[number(duty), duty_state(to)],
+        "UPDATE duty SET state = ?3 WHERE number >= ?1 AND number <= ?2",
+        &[number(first), number(last), duty_state(to)],
     )
 }
 
-/// Sets the state of each duty, the last one first.
+/// Sets the state of each duty, the last ones first, by a statement for each run.
 pub(crate) fn set_duties<S: Alter>(
     tx: &mut Transaction<'_, S>,
     rows: &[ChangeRow],
@@ -181,10 +225,10 @@ pub(crate) fn set_duties<S: Alter>(
     ensures sets { Turns rows_of (λ t. rows_of (record t { duty = moved_by rows.now t.duty })) 0
         (state S.Store tx.old.conn.now) (state S.Store tx.new.conn.now) result }
 {
-    let mut left = rows.len();
-    while left > 0 {
-        left -= 1;
-        set_duty(tx, rows[left].duty, rows[left].word.state_after())?;
+    let mut left = rows;
+    while let Some(these) = last_run(left) {
+        set_run(tx, these.first, these.last, these.to)?;
+        left = these.before;
     }
     Ok(())
 }
