@@ -155,6 +155,10 @@ impl Added for ChangeRow {
     }
 }
 
+/// How far apart the duties of a run are at most: the database keeps all rows that a statement
+/// changes, and takes longer for many at once.
+const LONGEST: u32 = 1_000;
+
 /// Duties of consecutive numbers that changes leave in one state, and the changes before these.
 #[derive(Clone, Copy)]
 struct Run<'a> {
@@ -173,7 +177,7 @@ fn goes_before(row: &ChangeRow, first: u32, to: DutyState) -> bool
     row.duty < first && first - row.duty == 1 && row.word.state_after() == to
 }
 
-/// The last run of changes, if there are any.
+/// The last run of changes, if there are any, as far as a statement takes it.
 fn last_run<'a>(rows: &'a [ChangeRow]) -> Option<Run<'a>>
     ensures { MatchOption result (rows.now ≡ [])
         (λ run. IsRun rows.now run.before.now run.first run.last run.to) }
@@ -183,7 +187,7 @@ fn last_run<'a>(rows: &'a [ChangeRow]) -> Option<Run<'a>>
     let mut first = last.duty;
     let mut before = front;
     while let Some((row, front)) = before.split_last() {
-        if !goes_before(row, first, to) {
+        if last.duty - first >= LONGEST || !goes_before(row, first, to) {
             break;
         }
         first = row.duty;
