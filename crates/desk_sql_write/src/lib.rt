@@ -3,7 +3,8 @@
 //! `make` writes a change of rows inside a transaction. `desk_sql_commit` has the transaction, and
 //! asks first whether the tables can hold the change (`is_writable`). Below it stand a function for
 //! each change, and one for each statement, whose clause says what it makes of the rows of each
-//! table (`Turns`); rows of which there may be many are added by `add_all` and `add_in_eights`.
+//! table (`Turns`); rows of which there may be many are added by `add_all` and `add_in_eights`, and
+//! duties are set by runs (`set_duties`).
 //! `create_tables` creates the tables of an empty desk in a database where nothing stands.
 #![tactic(auto)]
 
