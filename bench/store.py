@@ -146,7 +146,7 @@ def timed(program, beside, alone, room, duties):
         copied(kept, path)
         note("freeze", "library", measured(beside, "freeze", path, duties))
         note("withdraw", "library", measured(beside, "withdraw", path, duties))
-        for step in ("withdraw", "withdraw-at-once"):
+        for step in ("withdraw", "withdraw-by-thousands"):
             copied(kept, path)
             note("freeze", "alone", measured(alone, "freeze", path, duties))
             note("withdraw", "alone", measured(alone, step, path, duties))
