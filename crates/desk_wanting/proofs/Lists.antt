@@ -3,7 +3,7 @@ use Rattle.std.proofs.Common.{◌≡◌, ℕ, Bool, true, false, ◌+◌, ◌<�
 use Rattle.std.specs.Prelude.{◌==◌, not, if◌then◌else◌}
 use Rattle.std.specs.List.{cons_option, filter_map, flat_map, list_any}
 use Rattle.std.proofs.lemmas.Bool.Decides.{nat_tests}
-use Rattle.std.proofs.lemmas.List.{append-nil, at_drop_all, flat_map_more, take_more}
+use Rattle.std.proofs.lemmas.List.{append-nil, at_drop_all, flat_map_more, map-append, map_more, take_more}
 use Rattle.desk_model.specs.Obstacles.{is_told, told_once}
 use Rattle.desk_model.specs.declared.refusal.Refusal.{Refusal}
 
@@ -85,3 +85,9 @@ pub joined_more : {A : Type 0} (f : A → List ℕ) (xs : List A) (i : ℕ) (x :
     → old ≡ flat_map f (take i xs) → piece ≡ f x → new ≡ old ++ piece → new ≡ flat_map f (take (i + 1) xs)
 joined_more f xs i x old new piece lt is sofar made grown =
     grown ∙ ap₂ (λ a b. a ++ b) sofar (made ∙ ap f is) ∙ flat_map_more f [] (take i xs) (get_or xs i x) ∙ ap (flat_map f) (sym (take_more xs i x lt))
+
+-- one item more is made, as it is seen
+pub seen_more : {A B C : Type 0} (seen : B → C) (f : A → C) (xs : List A) (i : ℕ) (x : A) (old new : List B) (y : B) → i < length xs → x ≡ get_or xs i x
+    → map seen old ≡ map f (take i xs) → seen y ≡ f x → new ≡ old ++ y ∷ [] → map seen new ≡ map f (take (i + 1) xs)
+seen_more seen f xs i x old new y lt is sofar made grown =
+    ap (map seen) grown ∙ map-append seen old (y ∷ []) ∙ ap₂ (λ zs z. zs ++ z ∷ []) sofar (made ∙ ap f is) ∙ sym (map_more f xs i x lt)

@@ -6,7 +6,7 @@ use Rattle.desk_model.specs.Keys.{is_choice_of}
 use Rattle.desk_model.specs.Obstacles.{applying, term_refusals}
 use Rattle.desk_model.specs.declared.refusal.Refusal.{Refusal}
 use Rattle.desk_history.specs.FromTables.{choice_found, conclusion_found, rules_found}
-use Rattle.desk_access.proofs.Chains.{same_then_same}
+use Rattle.desk_access.proofs.Chains.{looked_err, same_then_kept, same_then_same}
 use Rattle.desk_wanting.proofs.Looks.{looked_after, looked_kept}
 use Rattle.desk_wanting.proofs.package.add_package_refusals.Goals as goal
 
@@ -40,3 +40,8 @@ pub returns-clause-kept : goal.returns-clause-kept
 returns-clause-kept g c =
     looked_after _ _ _ c.add_term_refusals.result
     (same_then_same _ _ _ c.in_ok-conclusion_of.ensures.kept c.in_ok-terms.ensures.kept) c.add_term_refusals.ensures.kept
+
+pub returns-in_err-terms-clause-kept : goal.returns-in_err-terms-clause-kept
+returns-in_err-terms-clause-kept g c =
+    looked_err _ _ c.from_residual-in_err-terms.result c.from_residual-in_err-terms.ensures.0
+    (same_then_kept _ _ _ c.in_ok-conclusion_of.ensures.kept c.in_err-terms.ensures.kept)

@@ -1,9 +1,15 @@
-use Rattle.std.proofs.Common.{refl}
+use Rattle.std.proofs.Common.{◌++◌, ap, refl}
 use Rattle.std.specs.List.{flat_map}
-use Rattle.desk_access.proofs.Chains.{looked_err, same_then_kept, same_then_same}
+use Rattle.desk_access.proofs.Chains.{looked_err, same_self, same_then_kept, same_then_same}
 use Rattle.desk_history.specs.FromTables.{refusals_found}
 use Rattle.desk_wanting.proofs.Lists.{ended, flat_map_step}
 use Rattle.desk_wanting.proofs.package.refusals_of.Goals as goal
+
+pub loop-row-init : goal.loop-row-init
+loop-row-init g c = record {
+  same = same_self _;
+  found = λ w right h t held. ap (λ found. found ++ flat_map (refusals_found w t c.args.release.now c.args.form.now) c.args.packages.now) c.new-refusals.ensures.items;
+}
 
 pub loop-row-preserved : goal.loop-row-preserved
 loop-row-preserved g c =

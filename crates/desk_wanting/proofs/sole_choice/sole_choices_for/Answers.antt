@@ -1,8 +1,15 @@
+use Rattle.std.proofs.Common.{◌++◌, ap, refl}
 use Rattle.std.specs.List.{filter_map}
-use Rattle.desk_access.proofs.Chains.{looked_err, same_then_kept, same_then_same}
+use Rattle.desk_access.proofs.Chains.{looked_err, same_self, same_then_kept, same_then_same}
 use Rattle.desk_wanting.specs.Sole.{sole_choice_found}
-use Rattle.desk_wanting.proofs.Lists.{filter_map_step}
+use Rattle.desk_wanting.proofs.Lists.{ended, filter_map_step}
 use Rattle.desk_wanting.proofs.sole_choice.sole_choices_for.Goals as goal
+
+pub loop-row-init : goal.loop-row-init
+loop-row-init g c = record {
+  same = same_self _;
+  found = λ w right h t held. ap (λ found. found ++ filter_map (sole_choice_found w t c.args.release.now) c.args.packages.now) c.new-choices.ensures.items;
+}
 
 pub loop-row-preserved : goal.loop-row-preserved
 loop-row-preserved g c =
@@ -25,3 +32,9 @@ pub returns-in_err-add_choice-clause-kept : goal.returns-in_err-add_choice-claus
 returns-in_err-add_choice-clause-kept g c =
     looked_err _ _ c.from_residual-in_err-add_choice.result c.from_residual-in_err-add_choice.ensures.0
     (same_then_same _ _ _ c.loop-row.invariant.same c.in_ok-choice.ensures.kept).kept
+
+pub returns-clause-found : goal.returns-clause-found
+returns-clause-found g c = λ w right h t held.
+    let told = filter_map (sole_choice_found w t c.args.release.now) in
+    ended told c.args.packages.now c.loop-row.row-index c.loop-row.choices.items (told c.args.packages.now) c.loop-row-test.false refl
+    (c.loop-row.invariant.found w right h t held)

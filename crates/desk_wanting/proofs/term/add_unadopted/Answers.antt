@@ -1,9 +1,12 @@
 use Rattle.std.proofs.Common.{◌++◌, refl}
 use Rattle.std.specs.List.{filter_map}
 use Rattle.desk_model.specs.Answers.{unadopted}
-use Rattle.desk_access.proofs.Chains.{looked_err, same_then_kept, same_then_same}
+use Rattle.desk_access.proofs.Chains.{looked_err, same_self, same_then_kept, same_then_same}
 use Rattle.desk_wanting.proofs.Lists.{ended, filter_map_step}
 use Rattle.desk_wanting.proofs.term.add_unadopted.Goals as goal
+
+pub loop-term-init : goal.loop-term-init
+loop-term-init g c = record { same = same_self _; found = λ w right h t held. refl }
 
 pub loop-term-preserved : goal.loop-term-preserved
 loop-term-preserved g c =

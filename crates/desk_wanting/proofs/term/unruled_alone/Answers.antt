@@ -13,3 +13,6 @@ returns-in_err-no_rule-clause-kept g c =
 
 pub returns-clause-kept : goal.returns-clause-kept
 returns-clause-kept g c = same_then_same _ _ _ c.in_ok-rule_adopted.ensures.kept c.in_ok-unadopted.ensures.kept
+
+pub returns-then-is_found-2-clause-kept : goal.returns-then-is_found-2-clause-kept
+returns-then-is_found-2-clause-kept g c = same_then_same _ _ _ c.in_ok-rule_adopted.ensures.kept c.in_ok-unadopted.ensures.kept
