@@ -2,3 +2,4 @@ pub mod Days
 pub mod RowTexts
 pub mod Texts
 pub mod FormLemmas
+pub mod ListLemmas

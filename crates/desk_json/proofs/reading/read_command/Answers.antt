@@ -1,4 +1,5 @@
 use Rattle.std.proofs.Common.{◌∙◌, sym}
+use Rattle.std.proofs.lemmas.Bool.{false≢true}
 use Rattle.std.proofs.lemmas.Result.{IfOk-weaker}
 use Rattle.serde_json.specs.View.{view}
 use Rattle.desk_json.proofs.Texts.{request_in-json, request_in-other}
@@ -12,4 +13,4 @@ returns-in-Ok c =
 
 pub returns-in-Err-2 : goal.returns-in-Err-2
 returns-in-Err-2 c =
-    sym (request_in-other c.args.bytes.now (c.in-Err.ensures.err (λ memory. let told = c.is_memory.ensures.1 memory in cc)))
+    sym (request_in-other c.args.bytes.now (c.in-Err.ensures.err (λ memory. false≢true (sym c.if-is_memory.false ∙ c.is_memory.ensures.1 memory))))
