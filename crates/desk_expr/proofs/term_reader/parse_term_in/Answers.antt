@@ -1,5 +1,6 @@
-use Rattle.std.proofs.Common.{List, [], sym, subst, refl, inr}
+use Rattle.std.proofs.Common.{List, [], sym, subst, refl, inr, ◌∙◌}
 use Rattle.std.specs.Prelude.{map, ◌≢◌}
+use Rattle.std.proofs.lemmas.Bool.{false≢true}
 use Rattle.std.proofs.lemmas.List.{append-nil}
 use Rattle.desk_expr.specs.declared.fault.ParseFault.TheVariants.{BadToken}
 use Rattle.desk_expr.specs.declared.token.Kind.TheVariants.{Bad}
@@ -50,7 +51,7 @@ returns-then-is_bad-clause-complete c =
 pub returns-in-Err-clause-stop : goal.returns-in-Err-clause-stop
 returns-in-Err-clause-stop c =
     let front : List Lexeme = map lexeme c.loop-token.yielded in
-    let good : c.in-Some.token.kind ≢ Bad = λ h. let is = c.is_bad.ensures.1 h in let is_not = c.if-is_bad.false in cc in
+    let good : c.in-Some.token.kind ≢ Bad = λ h. false≢true (sym c.if-is_bad.false ∙ c.is_bad.ensures.1 h) in
     stop_at_token c.args.profile c.args.text.now c.loop-token.yielded c.in-Some.token c.loop-token.token-iterator c.next.new.self c.at.result c.if-text-gt-EXPRESSION_BYTES.false
     c.loop-token.invariant.so_far c.in-Some.ensures.steps c.loop-token.invariant.read.stands
     (subst (TermStopsAfter front (lexeme c.in-Some.token) c.loop-token.state c.loop-token.invariant.read) (sym c.at.ensures) (stopped front (lexeme c.in-Some.token) c.loop-token.state c.loop-token.invariant.read good c.in-Err.halt c.in-Err.ensures.err))
@@ -58,7 +59,7 @@ returns-in-Err-clause-stop c =
 pub returns-in-Err-clause-complete : goal.returns-in-Err-clause-complete
 returns-in-Err-clause-complete c =
     let front : List Lexeme = map lexeme c.loop-token.yielded in
-    let good : c.in-Some.token.kind ≢ Bad = λ h. let is = c.is_bad.ensures.1 h in let is_not = c.if-is_bad.false in cc in
+    let good : c.in-Some.token.kind ≢ Bad = λ h. false≢true (sym c.if-is_bad.false ∙ c.is_bad.ensures.1 h) in
     stop_spells_no_term c.args.profile c.args.text.now c.at.result
     (stop_at_token c.args.profile c.args.text.now c.loop-token.yielded c.in-Some.token c.loop-token.token-iterator c.next.new.self c.at.result c.if-text-gt-EXPRESSION_BYTES.false
     c.loop-token.invariant.so_far c.in-Some.ensures.steps c.loop-token.invariant.read.stands

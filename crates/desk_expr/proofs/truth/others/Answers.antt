@@ -1,5 +1,6 @@
-use Rattle.std.proofs.Common.{◌≡◌, ◌<◌, ◌+◌, length, get_or, List, ℕ, Some, arith, sym, subst, refl}
+use Rattle.std.proofs.Common.{◌≡◌, ◌<◌, ◌+◌, length, get_or, List, ℕ, Some, arith, sym, subst, refl, ◌∙◌}
 use Rattle.std.specs.Prelude.{slice_get, ◌≢◌}
+use Rattle.std.proofs.lemmas.Bool.{false≢true}
 use Rattle.std.proofs.lemmas.Option.{slice_get_read, slice_get-get_or}
 use Rattle.std.proofs.lemmas.Option.{slice_get_within}
 use Rattle.desk_expr.specs.declared.term.Term.{Term}
@@ -18,7 +19,7 @@ loop-k-preserved c =
     elim c.if-not-is_same.branch [
       | then-not-is_same w ↦
           let low : c.loop-k.k < 64 = omega (arith, c.requires.few) in
-          let other : c.args.term.now ≢ item = λ e. let same = c.is_same.ensures.1 e in let differ = w.if-not-is_same.true in cc in
+          let other : c.args.term.now ≢ item = λ e. false≢true (sym w.if-not-is_same.true ∙ c.is_same.ensures.1 e) in
           record {
             told = subst (λ m. ToldBelow chosen cs c.args.term.now m (c.loop-k.k + 1)) (sym w.marks-is) (told_set chosen cs c.args.term.now item place c.loop-k.marks c.loop-k.k low at item_at other c.loop-k.invariant.told);
             unset = subst (λ m. UnsetFrom m (c.loop-k.k + 1)) (sym w.marks-is) (unset_set c.loop-k.marks c.loop-k.k low c.loop-k.invariant.unset);

@@ -1,5 +1,6 @@
-use Rattle.std.proofs.Common.{refl, true, sym, subst}
+use Rattle.std.proofs.Common.{refl, true, sym, subst, ◌∙◌}
 use Rattle.std.specs.Prelude.{◌≢◌}
+use Rattle.std.proofs.lemmas.Bool.{false≢true}
 use Rattle.desk_expr.specs.declared.token.Kind.TheVariants.{Bad}
 use Rattle.desk_expr.specs.Progress.{StopsAfter}
 use Rattle.desk_expr.specs.Tokens.{lexeme}
@@ -17,5 +18,5 @@ returns-in-Err-count-clause-err c =
 pub returns-in-Err-clause-err : goal.returns-in-Err-clause-err
 returns-in-Err-clause-err c =
     λ front read.
-    let good : c.args.token.now.kind ≢ Bad = λ h. let is = c.is_bad.ensures.1 h in let is_not = c.if-is_bad.false in cc in
+    let good : c.args.token.now.kind ≢ Bad = λ h. false≢true (sym c.if-is_bad.false ∙ c.is_bad.ensures.1 h) in
     subst (StopsAfter front (lexeme c.args.token.now)) (sym c.at.ensures) (stopped front (lexeme c.args.token.now) c.args.self read good c.in-Err.halt c.in-Err.ensures.err)
