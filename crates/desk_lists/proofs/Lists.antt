@@ -1,5 +1,5 @@
 -- A list made one by one of another.
-use Rattle.std.proofs.Common.{◌≡◌, ℕ, ◌+◌, ◌<◌, Bool, true, false, cond, List, [], ◌∷◌, ◌++◌, length, get_or, drop, take, map, refl, sym, ap, ap₂, subst, ◌∙◌, append-nil, append_assoc}
+use Rattle.std.proofs.Common.{◌≡◌, ℕ, ◌+◌, ◌<◌, ◌≤◌, Bool, true, false, cond, List, [], ◌∷◌, ◌++◌, length, get_or, drop, take, take_all, map, refl, sym, ap, ap₂, subst, ◌∙◌, append-nil, append_assoc}
 use Rattle.std.specs.Prelude.{filter, find, reverse, Option, Some, None}
 use Rattle.std.specs.List.{AllZip, flat_map}
 use Rattle.std.proofs.lemmas.List.{drop_more, flat_map_more, map_more, map-append, reverse-append, take_more}
@@ -93,3 +93,13 @@ module _ {A : Type 0} (p : A → Bool) where
   -- among rows that a test tells from the others, the last is the same
   pub find-reverse_among : (rows all : List A) → filter p rows ≡ filter p all → find p (reverse rows) ≡ find p (reverse all)
   find-reverse_among rows all e = find-reverse rows ∙ ap last_of e ∙ sym (find-reverse all)
+
+-- one more is made of an item that is copied
+pub made_at : {X Y : Type 0} (f : X → Y) (xs : List X) (i : ℕ) (d : X) (before after : List Y) (y : Y) → i < length xs → before ≡ map f (take i xs)
+    → y ≡ f (get_or xs i d) → after ≡ before ++ y ∷ [] → after ≡ map f (take (i + 1) xs)
+made_at f xs i d before after y inside so_far made pushed =
+    pushed ∙ ap₂ (λ ys z. ys ++ z ∷ []) so_far made ∙ sym (map_more f xs i d inside)
+
+-- all are made, once no item is left
+pub whole : {X B : Type 0} (f : List X → B) (xs : List X) (i : ℕ) (made : B) → length xs ≤ i → made ≡ f (take i xs) → made ≡ f xs
+whole f xs i made out so_far = so_far ∙ ap f (take_all i xs out)

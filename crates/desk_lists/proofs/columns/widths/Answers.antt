@@ -1,4 +1,5 @@
 use Rattle.std.proofs.Common.{◌≡◌, ℕ, ◌+◌, ◌<◌, ◌∙◌, List, length, get_or, ap, ap₂, drop, sym}
+use Rattle.std.proofs.lemmas.List.{at_drop_all}
 use Rattle.desk_lists.specs.Columns.{widened, widths_with}
 use Rattle.desk_lists.proofs.Lists.{drop_item}
 use Rattle.desk_lists.proofs.columns.widths.Goals as goal
@@ -15,3 +16,7 @@ pub loop-row-preserved : goal.loop-row-preserved
 loop-row-preserved c =
     widened_more _ c.loop-row.row-index c.row-item.result _ c.loop-row.found.items _ _ _ c.loop-row-test.true c.row-item.is c.loop-row.invariant
     c.as_slice-in-loop-row.ensures.value c.as_slice-in-loop-row-2.ensures c.in_ok-found-in-len1-up-2.ensures
+
+pub returns-after-loop-row : goal.returns-after-loop-row
+returns-after-loop-row c =
+    sym (at_drop_all (widths_with c.loop-row.found.items) _ c.loop-row.row-index c.loop-row-test.false) ∙ c.loop-row.invariant

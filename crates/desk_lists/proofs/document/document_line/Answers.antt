@@ -15,5 +15,13 @@ returns c = λ reads are.
       said,
       subst (λ (b : List ℕ). IsSaid reads (profile_at c.args.snapshot.now c.args.row.now.number) b said) c.as_slice.ensures
           (subst (λ (p : Profile). IsSaid reads p c.as_slice.result.now said) read_by (c.in_ok-said.ensures reads are)),
-      cc (number, packages, shipped, profile, c.in_ok-namespace.ensures.cases),
+      (λ i. record {
+        number = number i;
+        name = said.name;
+        namespace = c.in_ok-namespace.ensures.cases i;
+        packages = packages i;
+        shipped = shipped i;
+        findings = said.findings;
+        profile = profile i;
+      }),
     )

@@ -23,15 +23,11 @@ all release held rows e =
 
 pub returns : goal.returns
 returns c =
-    let part = in_state c.args.release.now c.args.held.now.rows.items c.run-rows.result.now c.run-rows.ensures in
-    cc (
-      all c.args.release.now c.args.held.now.rows.items c.run-rows.result.now c.run-rows.ensures,
-      c.count_in.ensures,
-      part state.IsOpen,
-      c.count_in-2.ensures,
-      part state.Met,
-      c.count_in-3.ensures,
-      part state.Waived,
-      c.count_in-4.ensures,
-      part state.Withdrawn,
-    )
+    let rows = c.run-rows.result.now in
+    let among = all c.args.release.now c.args.held.now.rows.items rows c.run-rows.ensures in
+    let part = in_state c.args.release.now c.args.held.now.rows.items rows c.run-rows.ensures in
+    let still_open_is = c.count_in.ensures ∙ part state.IsOpen in
+    let met_is = c.count_in-2.ensures ∙ part state.Met in
+    let waived_is = c.count_in-3.ensures ∙ part state.Waived in
+    let withdrawn_is = c.count_in-4.ensures ∙ part state.Withdrawn in
+    (λ i. record { raised = among i; still_open = still_open_is i; met = met_is i; waived = waived_is i; withdrawn = withdrawn_is i })
