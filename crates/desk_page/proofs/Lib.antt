@@ -1,3 +1,4 @@
 pub mod Days
 pub mod Inert
+pub mod Joined
 pub mod Uses
