@@ -1,7 +1,19 @@
-use Rattle.std.proofs.Common.{ap}
-use Rattle.desk_http.specs.Framings.{framed}
+use Rattle.std.proofs.Common.{◌≡◌, ◌∙◌, ℕ, List, ap, sym}
+use Rattle.std.specs.Prelude.{◌≢◌}
+use Rattle.desk_http.specs.Framings.{bad, framed, part, whole}
+use Rattle.desk_http.specs.declared.framing.Framing.{Framing}
+use Rattle.desk_http.specs.declared.status.Status.{Status}
 use Rattle.desk_http.proofs.Settled.{IsAsked-of, IsAwaited-undue}
 use Rattle.desk_http.proofs.receiving.awaited_after.Goals as goal
+
+bad_is_whole : (status : Status) → bad status ≢ part
+bad_is_whole status is = absurd (cc)
+
+whole_is_whole : (method target body rest : List ℕ) → whole method target body rest ≢ part
+whole_is_whole method target body rest is = absurd (cc)
+
+apart : (f g : Framing) → f ≡ g → framed g ≢ part → framed f ≢ part
+apart f g is other same = other (sym (ap framed is) ∙ same)
 
 pub returns-then-not-is_due : goal.returns-then-not-is_due
 returns-then-not-is_due c = λ front e x.
@@ -9,8 +21,8 @@ returns-then-not-is_due c = λ front e x.
 
 pub returns-in-Bad : goal.returns-in-Bad
 returns-in-Bad c = λ front e x more s y.
-    IsAsked-of c.args.bytes.now more (framed c.frame.result) s c.frame.ensures.reading (λ p. let q = ap framed c.in-Bad.is in cc) y
+    IsAsked-of c.args.bytes.now more (framed c.frame.result) s c.frame.ensures.reading (apart c.frame.result _ c.in-Bad.is (bad_is_whole _)) y
 
 pub returns-in-Whole : goal.returns-in-Whole
 returns-in-Whole c = λ front e x more s y.
-    IsAsked-of c.args.bytes.now more (framed c.frame.result) s c.frame.ensures.reading (λ p. let q = ap framed c.in-Whole.is in cc) y
+    IsAsked-of c.args.bytes.now more (framed c.frame.result) s c.frame.ensures.reading (apart c.frame.result _ c.in-Whole.is (whole_is_whole _ _ _ _)) y
