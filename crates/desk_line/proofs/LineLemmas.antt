@@ -1,11 +1,12 @@
 -- What follows of the call that words hold, from what `clap` answers to them.
-use Rattle.std.proofs.Common.{◌≡◌, true, [], ◌∷◌, List, Option, None, inl, inr, refl, sym, ◌∙◌, subst}
+use Rattle.std.proofs.Common.{◌≡◌, true, [], ◌∷◌, List, Option, None, Some, inl, inr, refl, sym, ◌∙◌, subst}
+use Rattle.std.specs.Prelude.{Result, Ok, Err, IfOk, IfErr}
 use Rattle.clap.specs.Words.{App, HasKind, IsAmong, Kinds, Row, Text, fault_of, is_simple, is_simple_and_free, kind_of, subcommand_of}
 use Rattle.clap.specs.Kinds.{or_else}
 use Rattle.clap.specs.declared.error.Error.{Error}
 use Rattle.clap.specs.declared.error.kind.ErrorKind.{ErrorKind}
 use Rattle.desk_line.specs.Words.{desk_app}
-use Rattle.desk_line.specs.Calls.{call_at, call_of, lacking, unless, usage_of, IsFault, IsFaultOf}
+use Rattle.desk_line.specs.Calls.{call_at, call_of, lacking, unless, usage_of, IsFault, IsFaultOf, IsLack, IsLackOf}
 use Rattle.desk_line.specs.declared.call.Call.{Call}
 use Rattle.desk_line.specs.declared.call.LineFault.{LineFault}
 use Rattle.desk_line.specs.declared.call.LineFault.TheVariants.{Memory, Usage}
@@ -50,14 +51,35 @@ refused app words error fault same kinds of =
         (none_where_refused (fault_of desk_app words) (lacking (subcommand_of desk_app words)) (call_at (subcommand_of desk_app words)) (kind_of error) among)
     go (Memory refused) kinds of = tt
 
+-- an error of one of these kinds tells of it
+pub lack_told : (kinds : Kinds) (kind : ErrorKind) (error : Error) (fault : LineFault) → IsAmong kind kinds → kind_of error ≡ kind → IsFaultOf error fault
+    → IsLack kinds fault
+lack_told kinds kind error (Memory refused) among is of = tt
+lack_told kinds kind error (Usage told) among is of =
+    let told_kind : kind_of told ≡ kind = subst (λ e. kind_of e ≡ kind) (sym of.0) is in subst (λ k. IsAmong k kinds) (sym told_kind) among
+
+pub lack_of : (met : Option (Text × List Row)) (fault : LineFault) → call_at met ≡ None → IsLack (lacking met) fault → IsLackOf met fault
+lack_of met (Memory refused) none lack = tt
+lack_of met (Usage error) none lack = (none, lack)
+
 -- words that `clap` takes, and of which the subcommand that was met is no call, hold none
-pub lacked : (words : List Text) (met : Option (Text × List Row)) (kind : ErrorKind) (error : Error) (fault : LineFault)
-    → (fault_of desk_app words ≡ []) × (call_of words ≡ call_at met) → met ≡ subcommand_of desk_app words → call_at met ≡ None
-    → IsAmong kind (lacking met) → kind_of error ≡ kind → IsFaultOf error fault → IsFault words fault
-lacked words met kind error (Memory refused) whole found none among is of = tt
-lacked words met kind error (Usage told) whole found none among is of =
+pub lacked : (words : List Text) (met : Option (Text × List Row)) (fault : LineFault) → (fault_of desk_app words ≡ []) × (call_of words ≡ call_at met)
+    → met ≡ subcommand_of desk_app words → IsLackOf met fault → IsFault words fault
+lacked words met (Memory refused) whole found lack = tt
+lacked words met (Usage told) whole found lack =
     let kinds : usage_of words ≡ lacking met =
     subst (λ (ks : Kinds). or_else ks (lacking (subcommand_of desk_app words)) ≡ lacking met) (sym whole.0)
     (subst (λ m. lacking m ≡ lacking met) found refl) in
-    let told_kind : kind_of told ≡ kind = subst (λ e. kind_of e ≡ kind) (sym of.0) is in
-    (whole.1 ∙ none, subst (λ k. IsAmong k (usage_of words)) (sym told_kind) (subst (λ (ks : Kinds). IsAmong kind ks) (sym kinds) among))
+    (whole.1 ∙ lack.0, subst (λ (ks : Kinds). IsAmong (kind_of told) ks) (sym kinds) lack.1)
+
+-- what comes of what `clap` met comes of the words
+pub call_told : (words : List Text) (met : Option (Text × List Row)) (found : Result Call LineFault) → call_of words ≡ call_at met
+    → IfOk found (λ call. call_at met ≡ Some call) → IfOk found (λ call. call_of words ≡ Some call)
+call_told words met (Ok call) whole is = whole ∙ is
+call_told words met (Err fault) whole is = tt
+
+pub fault_told : (words : List Text) (met : Option (Text × List Row)) (found : Result Call LineFault)
+    → (fault_of desk_app words ≡ []) × (call_of words ≡ call_at met) → met ≡ subcommand_of desk_app words
+    → IfErr found (IsLackOf met) → IfErr found (IsFault words)
+fault_told words met (Ok call) whole found lack = tt
+fault_told words met (Err fault) whole found lack = lacked words met fault whole found lack

@@ -276,3 +276,13 @@ IsFault words (Memory error) = Unit {0}
 abbrev pub IsFaultOf : Error → LineFault → Type 0
 IsFaultOf error (Usage told) = (told ≡ error) × (kind_of error ≢ OutOfMemory)
 IsFaultOf error (Memory refused) = kind_of error ≡ OutOfMemory
+
+-- the error is of one of these kinds, or there was no memory
+abbrev pub IsLack : Kinds → LineFault → Type 0
+IsLack kinds (Usage error) = IsAmong (kind_of error) kinds
+IsLack kinds (Memory error) = Unit {0}
+
+-- the subcommand that was met is no call, and the error is of a kind that says why; or there was no memory
+abbrev pub IsLackOf : Option (Text × List Row) → LineFault → Type 0
+IsLackOf met (Usage error) = (call_at met ≡ None) × IsAmong (kind_of error) (lacking met)
+IsLackOf met (Memory error) = Unit {0}

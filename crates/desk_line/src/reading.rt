@@ -2,13 +2,13 @@
 
 ghost use Rattle.std.specs.Prelude.{◌≡◌, Some, IfOk, IfErr, map};
 ghost use Rattle.clap.specs.Words.{IsAmong, subcommand_rows_of};
-ghost use Rattle.desk_line.specs.Calls.{call_at, call_of, lacking, IsFault, IsFaultOf};
+ghost use Rattle.desk_line.specs.Calls.{call_at, call_of, lacking, IsFault, IsFaultOf, IsLack, IsLackOf};
 
 use crate::call::{Call, LineFault};
 use crate::subcommands::desk_command;
 use crate::values::call_from;
 use clap::error::ErrorKind;
-use clap::{ArgMatches, Error};
+use clap::{ArgMatches, Command, Error};
 use std::alloc::{AllocError, Global};
 
 const NO_SUBCOMMAND: &str = "a subcommand is wanted";
@@ -69,6 +69,32 @@ fn refusal(error: Error) -> LineFault
     }
 }
 
+/// Why a subcommand that was met is no call, told by the command that met it.
+fn lack(command: &mut Command<'_>, matches: &ArgMatches<'_>) -> LineFault
+    ensures { IsLack (lacking (subcommand_rows_of matches.now)) result }
+{
+    let (kind, message) = lacking(matches);
+    match command.error(kind, message) {
+        Ok(error) => refusal(error),
+        Err(error) => LineFault::Memory(error),
+    }
+}
+
+/// The call of what a command met, or why that is none.
+fn call_or_lack(
+    alloc: Global,
+    command: &mut Command<'_>,
+    matches: &ArgMatches<'_>,
+) -> Result<Call, LineFault>
+    ensures call { IfOk result (λ call. call_at (subcommand_rows_of matches.now) ≡ Some call) }
+    ensures fault { IfErr result (IsLackOf (subcommand_rows_of matches.now)) }
+{
+    match call_found(alloc, matches)? {
+        Some(call) => Ok(call),
+        None => Err(lack(command, matches)),
+    }
+}
+
 /// What the words ask for, the first of them being the program's name.
 pub fn line<'a>(alloc: Global, words: &'a [&'a str]) -> Result<Call, LineFault>
     ensures call { IfOk result (λ call. call_of (map (λ w. w.now) words.entry.now) ≡ Some call) }
@@ -76,13 +102,7 @@ pub fn line<'a>(alloc: Global, words: &'a [&'a str]) -> Result<Call, LineFault>
 {
     let mut command = desk_command(alloc)?;
     match command.try_get_matches_from_mut(words) {
-        Ok(matches) => match call_found(alloc, &matches)? {
-            Some(call) => Ok(call),
-            None => {
-                let (kind, message) = lacking(&matches);
-                Err(refusal(command.error(kind, message)?))
-            }
-        },
+        Ok(matches) => call_or_lack(alloc, &mut command, &matches),
         Err(error) => Err(refusal(error)),
     }
 }
