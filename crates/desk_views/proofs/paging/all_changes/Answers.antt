@@ -1,7 +1,8 @@
-use Rattle.std.proofs.Common.{◌≡◌, subst, sym}
+use Rattle.std.proofs.Common.{◌≡◌, ◌∙◌, ap, map, subst, sym, take_all}
 use Rattle.std.specs.Prelude.{IfOk}
 use Rattle.desk_model.specs.Queries.{queried}
 use Rattle.desk_model.specs.Tables.{tables}
+use Rattle.desk_model.specs.declared.command.DutyLine.{DutyLine}
 use Rattle.desk_model.specs.declared.command.Outcome.{Outcome}
 use Rattle.desk_model.specs.declared.command.Query.TheVariants as query
 use Rattle.desk_access.proofs.Chains.{same_then_kept, same_then_same}
@@ -64,3 +65,9 @@ returns-in_err-add_rows-clause-found g c =
     changes_other g.D.Desk.are_right old new c.args.duties.now c.from_residual-in_err-add_rows.result outcome
     c.from_residual-in_err-add_rows.ensures.1
     (λ w right honest h ok held. subst (λ (o : Outcome). IsOtherChange w h o) (sym c.in_err-add_rows.ensures.memory) tt)
+
+pub returns-clause-found : goal.returns-clause-found
+returns-clause-found g c = λ w right honest h ok held.
+    sym (ap (map (λ (line : DutyLine). queried w h (query.Changes line.number)))
+    (take_all c.loop-duty.duty-index c.args.duties.now c.loop-duty-test.false))
+    ∙ c.loop-duty.invariant.found w right honest h ok held
