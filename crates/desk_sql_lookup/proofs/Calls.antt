@@ -43,7 +43,7 @@ module _ (sql : List ℕ) (params : Row) (old new : State) where
   unfolding Shown
   shown_open rows h = rows_open h.0 (timed params h.0.formats h.1.now) rows h.0.returning h.2
 
-  shown_unchanged : (rows : List Row) → old.now.schema ≡ desk_schema → IsPlain (understood desk_schema sql) → Shown sql params old new rows → IsUnchanged old new
+  pub shown_unchanged : (rows : List Row) → old.now.schema ≡ desk_schema → IsPlain (understood desk_schema sql) → Shown sql params old new rows → IsUnchanged old new
   unfolding Shown
   shown_unchanged rows has plain h =
       let known = sym h.1.is ∙ ap (λ s. understood s sql) has in

@@ -11,6 +11,7 @@ pub mod Ending
 pub mod Among
 pub mod Chains
 pub mod Streaming
+pub mod LookUps
 pub mod Loops
 pub mod DutyQueries
 pub mod ReleaseQueries

@@ -1,4 +1,5 @@
 pub mod Causes
+pub mod LookUps
 pub mod Rules
 pub mod Shown
 pub mod Standings

@@ -1,17 +1,15 @@
 //! The changes of duties.
 
-ghost use Rattle.std.specs.Prelude.{◌≡◌, false, IfErr, IfOk, List, filter, map, length};
+ghost use Rattle.std.specs.Prelude.{◌≡◌, IfErr, IfOk, List, filter, map, length};
 ghost use Rattle.std.specs.List.{AllByRecursion};
-ghost use Rattle.sqlite.specs.Held.{state};
-ghost use Rattle.desk_access.specs.Seen.{Looked, OfRows};
 ghost use Rattle.desk_history.specs.FromTables.{steps_found};
 ghost use Rattle.desk_sql_layout.specs.Cells.{change_cells};
-ghost use Rattle.desk_sql_layout.specs.Held.{seen_of};
 ghost use Rattle.desk_model.specs.Keys.{is_change_of};
 ghost use Rattle.desk_model.specs.Queries.{last_day};
 ghost use Rattle.desk_model.specs.declared.row.ChangeRow.{ChangeRow as Change};
 ghost use Rattle.desk_sql_lookup.specs.Waivers.{AreSteps, EndsOnDay, day_cells, ending_cells, taken, waivers_in};
-ghost use Rattle.desk_sql_lookup.specs.Causes.{HasCause, HasCauseIf, HasDay, IsRow};
+ghost use Rattle.desk_sql_lookup.specs.Causes.{HasDay, IsRow};
+ghost use Rattle.desk_sql_lookup.specs.LookUps.{LooksUp, LooksUpIf};
 
 use crate::columns::{day_at, number_at};
 use crate::query::{among, query};
@@ -28,14 +26,8 @@ fn select_steps<S: Alter>(
     duties: u32,
     duty: u64,
 ) -> Result<Vec<Row>, Fault>
-    ensures found { IfOk result (λ rows. OfRows (λ t.
-        length t.duty ≡ duties → length rows.items ≡ steps_found t duty)
-        (seen_of (state S.Store conn.old)) (seen_of (state S.Store conn.new))) }
-    ensures kept { Looked (seen_of (state S.Store conn.old)) (seen_of (state S.Store conn.new))
-        result }
-    ensures cause { IfErr result (HasCause (state S.Store conn.old) (state S.Store conn.new)) }
-    ensures limit { conn.new.step_limit ≡ conn.old.step_limit }
-    ensures mode { conn.old.in_transaction ≡ false → conn.new.in_transaction ≡ false }
+    ensures { LooksUp S.Store conn.old conn.new result (λ rows t.
+        length t.duty ≡ duties → length rows.items ≡ steps_found t duty) }
 {
     query(
         conn,
@@ -46,14 +38,8 @@ fn select_steps<S: Alter>(
 
 /// How many changes a duty has, of so many duties.
 pub fn steps<S: Alter>(conn: &mut Connection<S>, duties: u32, duty: u64) -> Result<u64, Fault>
-    ensures found { IfOk result (λ found. OfRows (λ t.
-        length t.duty ≡ duties → found ≡ steps_found t duty) (seen_of (state S.Store conn.old))
-        (seen_of (state S.Store conn.new))) }
-    ensures kept { Looked (seen_of (state S.Store conn.old)) (seen_of (state S.Store conn.new))
-        result }
-    ensures cause { IfErr result (HasCause (state S.Store conn.old) (state S.Store conn.new)) }
-    ensures limit { conn.new.step_limit ≡ conn.old.step_limit }
-    ensures mode { conn.old.in_transaction ≡ false → conn.new.in_transaction ≡ false }
+    ensures { LooksUp S.Store conn.old conn.new result (λ found t.
+        length t.duty ≡ duties → found ≡ steps_found t duty) }
 {
     let rows = select_steps(conn, duties, duty)?;
     Ok(rows.len() as u64)
@@ -64,15 +50,9 @@ fn select_changes_of<S: Alter>(
     duties: u32,
     duty: u64,
 ) -> Result<Vec<Row>, Fault>
-    ensures found { IfOk result (λ rows. OfRows (λ t.
+    ensures { LooksUp S.Store conn.old conn.new result (λ rows t.
         length t.duty ≡ duties → (rows.items ≡ map change_cells
-        (filter (is_change_of duty) t.changes)) × AreSteps (filter (is_change_of duty) t.changes))
-        (seen_of (state S.Store conn.old)) (seen_of (state S.Store conn.new))) }
-    ensures kept { Looked (seen_of (state S.Store conn.old)) (seen_of (state S.Store conn.new))
-        result }
-    ensures cause { IfErr result (HasCause (state S.Store conn.old) (state S.Store conn.new)) }
-    ensures limit { conn.new.step_limit ≡ conn.old.step_limit }
-    ensures mode { conn.old.in_transaction ≡ false → conn.new.in_transaction ≡ false }
+        (filter (is_change_of duty) t.changes)) × AreSteps (filter (is_change_of duty) t.changes)) }
 {
     query(
         conn,
@@ -86,15 +66,9 @@ fn select_waivers_of<S: Alter>(
     duties: u32,
     duty: u64,
 ) -> Result<Vec<Row>, Fault>
-    ensures found { IfOk result (λ rows. OfRows (λ t.
+    ensures { LooksUp S.Store conn.old conn.new result (λ rows t.
         length t.duty ≡ duties → rows.items
-        ≡ map ending_cells (waivers_in (filter (is_change_of duty) t.changes)))
-        (seen_of (state S.Store conn.old)) (seen_of (state S.Store conn.new))) }
-    ensures kept { Looked (seen_of (state S.Store conn.old)) (seen_of (state S.Store conn.new))
-        result }
-    ensures cause { IfErr result (HasCause (state S.Store conn.old) (state S.Store conn.new)) }
-    ensures limit { conn.new.step_limit ≡ conn.old.step_limit }
-    ensures mode { conn.old.in_transaction ≡ false → conn.new.in_transaction ≡ false }
+        ≡ map ending_cells (waivers_in (filter (is_change_of duty) t.changes))) }
 {
     query(
         conn,
@@ -106,25 +80,15 @@ fn select_waivers_of<S: Alter>(
 type RowsOfTwo = (Vec<Row>, Vec<Row>);
 
 /// The rows of a duty's changes, and of the waivers among them.
-#[tactic(auto, using(crate::proofs::Chains::same_then_kept, crate::proofs::Chains::same_then_same, crate::proofs::Chains::of_rows_after, crate::proofs::Chains::of_rows_still))]
 fn select_both<S: Alter>(
     conn: &mut Connection<S>,
     duties: u32,
     duty: u64,
 ) -> Result<RowsOfTwo, Fault>
-    ensures changes { IfOk result (λ both. OfRows (λ t.
-        length t.duty ≡ duties → (both.0.items ≡ map change_cells
-        (filter (is_change_of duty) t.changes)) × AreSteps (filter (is_change_of duty) t.changes))
-        (seen_of (state S.Store conn.old)) (seen_of (state S.Store conn.new))) }
-    ensures waivers { IfOk result (λ both. OfRows (λ t.
-        length t.duty ≡ duties → both.1.items
-        ≡ map ending_cells (waivers_in (filter (is_change_of duty) t.changes)))
-        (seen_of (state S.Store conn.old)) (seen_of (state S.Store conn.new))) }
-    ensures kept { Looked (seen_of (state S.Store conn.old)) (seen_of (state S.Store conn.new))
-        result }
-    ensures cause { IfErr result (HasCause (state S.Store conn.old) (state S.Store conn.new)) }
-    ensures limit { conn.new.step_limit ≡ conn.old.step_limit }
-    ensures mode { conn.old.in_transaction ≡ false → conn.new.in_transaction ≡ false }
+    ensures { LooksUp S.Store conn.old conn.new result (λ both t. length t.duty ≡ duties
+        → (both.0.items ≡ map change_cells (filter (is_change_of duty) t.changes))
+        × AreSteps (filter (is_change_of duty) t.changes)
+        × (both.1.items ≡ map ending_cells (waivers_in (filter (is_change_of duty) t.changes)))) }
 {
     let changes = select_changes_of(conn, duties, duty)?;
     let waivers = select_waivers_of(conn, duties, duty)?;
@@ -180,29 +144,16 @@ pub fn changes_of<S: Alter>(
     duties: u32,
     duty: u64,
 ) -> Result<Vec<ChangeRow>, Fault>
-    ensures found { IfOk result (λ found. OfRows (λ t.
-        length t.duty ≡ duties → found.items ≡ filter (is_change_of duty) t.changes)
-        (seen_of (state S.Store conn.old)) (seen_of (state S.Store conn.new))) }
-    ensures kept { Looked (seen_of (state S.Store conn.old)) (seen_of (state S.Store conn.new))
-        result }
-    ensures cause { IfErr result (HasCauseIf (λ t. length t.duty ≡ duties)
-        (state S.Store conn.old) (state S.Store conn.new)) }
-    ensures limit { conn.new.step_limit ≡ conn.old.step_limit }
-    ensures mode { conn.old.in_transaction ≡ false → conn.new.in_transaction ≡ false }
+    ensures { LooksUpIf S.Store (λ t. length t.duty ≡ duties) conn.old conn.new result (λ found t.
+        found.items ≡ filter (is_change_of duty) t.changes) }
 {
     let (changes, ends) = select_both(conn, duties, duty)?;
     read_changes(alloc, &changes, &ends)
 }
 
 fn select_days_of<S: Alter>(conn: &mut Connection<S>, duty: u32) -> Result<Vec<Row>, Fault>
-    ensures found { IfOk result (λ rows. OfRows (λ t.
-        rows.items ≡ map day_cells (filter (is_change_of duty) t.changes))
-        (seen_of (state S.Store conn.old)) (seen_of (state S.Store conn.new))) }
-    ensures kept { Looked (seen_of (state S.Store conn.old)) (seen_of (state S.Store conn.new))
-        result }
-    ensures cause { IfErr result (HasCause (state S.Store conn.old) (state S.Store conn.new)) }
-    ensures limit { conn.new.step_limit ≡ conn.old.step_limit }
-    ensures mode { conn.old.in_transaction ≡ false → conn.new.in_transaction ≡ false }
+    ensures { LooksUp S.Store conn.old conn.new result (λ rows t.
+        rows.items ≡ map day_cells (filter (is_change_of duty) t.changes)) }
 {
     query(
         conn,
@@ -227,14 +178,8 @@ fn last_of(rows: &[Row]) -> Result<Option<Day>, Fault>
 
 /// The day of a duty's last change, if it has one.
 pub fn last_day<S: Alter>(conn: &mut Connection<S>, duty: u32) -> Result<Option<Day>, Fault>
-    ensures found { IfOk result (λ found. OfRows (λ t.
-        found ≡ last_day (filter (is_change_of duty) t.changes)) (seen_of (state S.Store conn.old))
-        (seen_of (state S.Store conn.new))) }
-    ensures kept { Looked (seen_of (state S.Store conn.old)) (seen_of (state S.Store conn.new))
-        result }
-    ensures cause { IfErr result (HasCause (state S.Store conn.old) (state S.Store conn.new)) }
-    ensures limit { conn.new.step_limit ≡ conn.old.step_limit }
-    ensures mode { conn.old.in_transaction ≡ false → conn.new.in_transaction ≡ false }
+    ensures { LooksUp S.Store conn.old conn.new result (λ found t.
+        found ≡ last_day (filter (is_change_of duty) t.changes)) }
 {
     let rows = select_days_of(conn, duty)?;
     last_of(&rows)

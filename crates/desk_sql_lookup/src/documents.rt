@@ -1,18 +1,16 @@
 //! Documents and their packages.
 
-ghost use Rattle.std.specs.Prelude.{◌≡◌, false, IfErr, IfOk, IfSome, List, Option, filter, find, map, length, slice_get};
+ghost use Rattle.std.specs.Prelude.{◌≡◌, IfErr, IfOk, IfSome, List, Option, filter, find, map, length, slice_get};
 ghost use Rattle.std.specs.List.{AllByRecursion};
 ghost use Rattle.std.specs.Option.{option_map};
-ghost use Rattle.sqlite.specs.Held.{state};
-ghost use Rattle.desk_access.specs.Seen.{Looked, OfRows};
-ghost use Rattle.desk_sql_layout.specs.Held.{seen_of};
 ghost use Rattle.desk_history.specs.FromTables.{known_document, known_import};
 ghost use Rattle.desk_sql_layout.specs.Cells.{package_cells};
 ghost use Rattle.desk_model.specs.Findings.{source_of};
 ghost use Rattle.desk_model.specs.Keys.{has_namespace, is_document, is_package, is_shipped_by};
 ghost use Rattle.desk_model.specs.declared.row.DocumentRow.{DocumentRow as Document};
 ghost use Rattle.desk_sql_lookup.specs.Shown.{bytes_cells, import_cells, known_cells};
-ghost use Rattle.desk_sql_lookup.specs.Causes.{HasCause, HasCauseIf, IsRow};
+ghost use Rattle.desk_sql_lookup.specs.Causes.{IsRow};
+ghost use Rattle.desk_sql_lookup.specs.LookUps.{LooksUp, LooksUpIf};
 
 use crate::columns::{ROWS, number_at};
 use crate::query::{among, query, read_rows, text};
@@ -29,15 +27,9 @@ fn select_document<S: Alter>(
     documents: u32,
     n: u64,
 ) -> Result<Vec<Row>, Fault>
-    ensures found { IfOk result (λ rows. OfRows (λ t.
+    ensures { LooksUp S.Store conn.old conn.new result (λ rows t.
         length t.document ≡ documents → rows.items ≡ map known_cells
-        (map known_document (filter (is_document n) t.document))) (seen_of (state S.Store conn.old))
-        (seen_of (state S.Store conn.new))) }
-    ensures kept { Looked (seen_of (state S.Store conn.old)) (seen_of (state S.Store conn.new))
-        result }
-    ensures cause { IfErr result (HasCause (state S.Store conn.old) (state S.Store conn.new)) }
-    ensures limit { conn.new.step_limit ≡ conn.old.step_limit }
-    ensures mode { conn.old.in_transaction ≡ false → conn.new.in_transaction ≡ false }
+        (map known_document (filter (is_document n) t.document))) }
 {
     query(
         conn,
@@ -59,24 +51,16 @@ fn numbered(found: Option<(u32, Profile)>, number: u64) -> Result<Option<(u32, P
 }
 
 /// A document by its number, of so many documents: the number, and its profile.
-#[tactic(auto, using(crate::proofs::Loops::first_mapped))]
 pub fn document<S: Alter>(
     alloc: Global,
     conn: &mut Connection<S>,
     documents: u32,
     number: u64,
 ) -> Result<Option<(u32, Profile)>, Fault>
-    ensures found { IfOk result (λ found. OfRows (λ t.
-        length t.document ≡ documents → found ≡ option_map known_document
-        (find (is_document number) t.document)) (seen_of (state S.Store conn.old))
-        (seen_of (state S.Store conn.new))) }
+    ensures looks { LooksUpIf S.Store (λ t. length t.document ≡ documents) conn.old conn.new
+        result (λ found t.
+        found ≡ option_map known_document (find (is_document number) t.document)) }
     ensures same { IfOk result (λ found. IfSome found (λ known. known.0 ≡ number)) }
-    ensures kept { Looked (seen_of (state S.Store conn.old)) (seen_of (state S.Store conn.new))
-        result }
-    ensures cause { IfErr result (HasCauseIf (λ t. length t.document ≡ documents)
-        (state S.Store conn.old) (state S.Store conn.new)) }
-    ensures limit { conn.new.step_limit ≡ conn.old.step_limit }
-    ensures mode { conn.old.in_transaction ≡ false → conn.new.in_transaction ≡ false }
 {
     let rows = select_document(conn, documents, number)?;
     let found = read_first(alloc, &rows)?;
@@ -88,15 +72,9 @@ fn select_document_bytes<S: Alter>(
     documents: u32,
     n: u64,
 ) -> Result<Vec<Row>, Fault>
-    ensures found { IfOk result (λ rows. OfRows (λ t.
+    ensures { LooksUp S.Store conn.old conn.new result (λ rows t.
         length t.document ≡ documents → rows.items ≡ map bytes_cells
-        (map (λ row. row.bytes) (filter (is_document n) t.document)))
-        (seen_of (state S.Store conn.old)) (seen_of (state S.Store conn.new))) }
-    ensures kept { Looked (seen_of (state S.Store conn.old)) (seen_of (state S.Store conn.new))
-        result }
-    ensures cause { IfErr result (HasCause (state S.Store conn.old) (state S.Store conn.new)) }
-    ensures limit { conn.new.step_limit ≡ conn.old.step_limit }
-    ensures mode { conn.old.in_transaction ≡ false → conn.new.in_transaction ≡ false }
+        (map (λ row. row.bytes) (filter (is_document n) t.document))) }
 {
     query(
         conn,
@@ -106,23 +84,15 @@ fn select_document_bytes<S: Alter>(
 }
 
 /// The bytes of a document, of so many documents.
-#[tactic(auto, using(crate::proofs::Loops::first_mapped))]
 fn document_bytes<S: Alter>(
     alloc: Global,
     conn: &mut Connection<S>,
     documents: u32,
     number: u64,
 ) -> Result<Option<Items<u8>>, Fault>
-    ensures found { IfOk result (λ found. OfRows (λ t.
-        length t.document ≡ documents → found ≡ option_map (λ row. row.bytes)
-        (find (is_document number) t.document)) (seen_of (state S.Store conn.old))
-        (seen_of (state S.Store conn.new))) }
-    ensures kept { Looked (seen_of (state S.Store conn.old)) (seen_of (state S.Store conn.new))
-        result }
-    ensures cause { IfErr result (HasCauseIf (λ t. length t.document ≡ documents)
-        (state S.Store conn.old) (state S.Store conn.new)) }
-    ensures limit { conn.new.step_limit ≡ conn.old.step_limit }
-    ensures mode { conn.old.in_transaction ≡ false → conn.new.in_transaction ≡ false }
+    ensures { LooksUpIf S.Store (λ t. length t.document ≡ documents) conn.old conn.new
+        result (λ found t.
+        found ≡ option_map (λ row. row.bytes) (find (is_document number) t.document)) }
 {
     let rows = select_document_bytes(conn, documents, number)?;
     read_first(alloc, &rows)
@@ -149,16 +119,8 @@ pub fn document_source<S: Alter>(
     documents: u32,
     number: u64,
 ) -> Result<Option<(Items<u8>, Profile)>, Fault>
-    ensures found { IfOk result (λ found. OfRows (λ t.
-        length t.document ≡ documents → found ≡ option_map source_of
-        (find (is_document number) t.document)) (seen_of (state S.Store conn.old))
-        (seen_of (state S.Store conn.new))) }
-    ensures kept { Looked (seen_of (state S.Store conn.old)) (seen_of (state S.Store conn.new))
-        result }
-    ensures cause { IfErr result (HasCauseIf (λ t. length t.document ≡ documents)
-        (state S.Store conn.old) (state S.Store conn.new)) }
-    ensures limit { conn.new.step_limit ≡ conn.old.step_limit }
-    ensures mode { conn.old.in_transaction ≡ false → conn.new.in_transaction ≡ false }
+    ensures { LooksUpIf S.Store (λ t. length t.document ≡ documents) conn.old conn.new
+        result (λ found t. found ≡ option_map source_of (find (is_document number) t.document)) }
 {
     let known = document(alloc, conn, documents, number)?;
     let bytes = document_bytes(alloc, conn, documents, number)?;
@@ -166,14 +128,8 @@ pub fn document_source<S: Alter>(
 }
 
 fn select_import<S: Alter>(conn: &mut Connection<S>, namespace: &str) -> Result<Vec<Row>, Fault>
-    ensures found { IfOk result (λ rows. OfRows (λ t.
-        rows.items ≡ map import_cells (filter (has_namespace namespace.now) t.document))
-        (seen_of (state S.Store conn.old)) (seen_of (state S.Store conn.new))) }
-    ensures kept { Looked (seen_of (state S.Store conn.old)) (seen_of (state S.Store conn.new))
-        result }
-    ensures cause { IfErr result (HasCause (state S.Store conn.old) (state S.Store conn.new)) }
-    ensures limit { conn.new.step_limit ≡ conn.old.step_limit }
-    ensures mode { conn.old.in_transaction ≡ false → conn.new.in_transaction ≡ false }
+    ensures { LooksUp S.Store conn.old conn.new result (λ rows t.
+        rows.items ≡ map import_cells (filter (has_namespace namespace.now) t.document)) }
 {
     query(
         conn,
@@ -213,14 +169,8 @@ pub fn import_of<S: Alter>(
     namespace: &str,
     bytes: &[u8],
 ) -> Result<Option<(u32, bool)>, Fault>
-    ensures found { IfOk result (λ found. OfRows (λ t.
-        found ≡ option_map (known_import bytes.now) (find (has_namespace namespace.now) t.document))
-        (seen_of (state S.Store conn.old)) (seen_of (state S.Store conn.new))) }
-    ensures kept { Looked (seen_of (state S.Store conn.old)) (seen_of (state S.Store conn.new))
-        result }
-    ensures cause { IfErr result (HasCause (state S.Store conn.old) (state S.Store conn.new)) }
-    ensures limit { conn.new.step_limit ≡ conn.old.step_limit }
-    ensures mode { conn.old.in_transaction ≡ false → conn.new.in_transaction ≡ false }
+    ensures { LooksUp S.Store conn.old conn.new result (λ found t. found
+        ≡ option_map (known_import bytes.now) (find (has_namespace namespace.now) t.document)) }
 {
     let rows = select_import(conn, namespace)?;
     first_import(&rows, bytes)
@@ -232,15 +182,9 @@ fn select_package<S: Alter>(
     document: u64,
     id: &str,
 ) -> Result<Vec<Row>, Fault>
-    ensures found { IfOk result (λ rows. OfRows (λ t.
+    ensures { LooksUp S.Store conn.old conn.new result (λ rows t.
         length t.document ≡ documents → rows.items ≡ map package_cells
-        (filter (is_package document id.now) t.packages)) (seen_of (state S.Store conn.old))
-        (seen_of (state S.Store conn.new))) }
-    ensures kept { Looked (seen_of (state S.Store conn.old)) (seen_of (state S.Store conn.new))
-        result }
-    ensures cause { IfErr result (HasCause (state S.Store conn.old) (state S.Store conn.new)) }
-    ensures limit { conn.new.step_limit ≡ conn.old.step_limit }
-    ensures mode { conn.old.in_transaction ≡ false → conn.new.in_transaction ≡ false }
+        (filter (is_package document id.now) t.packages)) }
 {
     query(
         conn,
@@ -250,7 +194,6 @@ fn select_package<S: Alter>(
 }
 
 /// A package of a document, of so many documents.
-#[tactic(auto, using(crate::proofs::Loops::first_is))]
 pub fn package_row<S: Alter>(
     alloc: Global,
     conn: &mut Connection<S>,
@@ -258,15 +201,8 @@ pub fn package_row<S: Alter>(
     document: u64,
     id: &str,
 ) -> Result<Option<PackageRow>, Fault>
-    ensures found { IfOk result (λ found. OfRows (λ t.
-        length t.document ≡ documents → found ≡ find (is_package document id.now) t.packages)
-        (seen_of (state S.Store conn.old)) (seen_of (state S.Store conn.new))) }
-    ensures kept { Looked (seen_of (state S.Store conn.old)) (seen_of (state S.Store conn.new))
-        result }
-    ensures cause { IfErr result (HasCauseIf (λ t. length t.document ≡ documents)
-        (state S.Store conn.old) (state S.Store conn.new)) }
-    ensures limit { conn.new.step_limit ≡ conn.old.step_limit }
-    ensures mode { conn.old.in_transaction ≡ false → conn.new.in_transaction ≡ false }
+    ensures { LooksUpIf S.Store (λ t. length t.document ≡ documents) conn.old conn.new
+        result (λ found t. found ≡ find (is_package document id.now) t.packages) }
 {
     let rows = select_package(conn, documents, document, id)?;
     read_first(alloc, &rows)
@@ -278,14 +214,8 @@ pub fn shipped<S: Alter>(
     conn: &mut Connection<S>,
     document: u32,
 ) -> Result<Vec<PackageRow>, Fault>
-    ensures found { IfOk result (λ found. OfRows (λ t.
-        found.items ≡ filter (is_shipped_by document) t.packages) (seen_of (state S.Store conn.old))
-        (seen_of (state S.Store conn.new))) }
-    ensures kept { Looked (seen_of (state S.Store conn.old)) (seen_of (state S.Store conn.new))
-        result }
-    ensures cause { IfErr result (HasCause (state S.Store conn.old) (state S.Store conn.new)) }
-    ensures limit { conn.new.step_limit ≡ conn.old.step_limit }
-    ensures mode { conn.old.in_transaction ≡ false → conn.new.in_transaction ≡ false }
+    ensures { LooksUp S.Store conn.old conn.new result (λ found t.
+        found.items ≡ filter (is_shipped_by document) t.packages) }
 {
     read_rows(
         alloc,

@@ -1,13 +1,10 @@
 //! Duties and their changes.
 
-ghost use Rattle.std.specs.Prelude.{◌≡◌, false, IfErr, IfOk, IfSome, filter, map, length};
-ghost use Rattle.sqlite.specs.Held.{state};
-ghost use Rattle.desk_access.specs.Seen.{Looked, OfRows};
+ghost use Rattle.std.specs.Prelude.{◌≡◌, IfErr, IfOk, IfSome, filter, map, length};
 ghost use Rattle.desk_history.specs.FromTables.{duty_found};
 ghost use Rattle.desk_sql_layout.specs.Cells.{duty_cells};
-ghost use Rattle.desk_sql_layout.specs.Held.{seen_of};
 ghost use Rattle.desk_model.specs.Keys.{is_duty, is_duty_of};
-ghost use Rattle.desk_sql_lookup.specs.Causes.{HasCause, HasCauseIf};
+ghost use Rattle.desk_sql_lookup.specs.LookUps.{LooksUp, LooksUpIf};
 
 use crate::columns::ROWS;
 use crate::query::{among, query, text};
@@ -21,14 +18,8 @@ fn select_duty<S: Alter>(
     duties: u32,
     number: u64,
 ) -> Result<Vec<Row>, Fault>
-    ensures found { IfOk result (λ rows. OfRows (λ t.
-        length t.duty ≡ duties → rows.items ≡ map duty_cells (filter (is_duty number) t.duty))
-        (seen_of (state S.Store conn.old)) (seen_of (state S.Store conn.new))) }
-    ensures kept { Looked (seen_of (state S.Store conn.old)) (seen_of (state S.Store conn.new))
-        result }
-    ensures cause { IfErr result (HasCause (state S.Store conn.old) (state S.Store conn.new)) }
-    ensures limit { conn.new.step_limit ≡ conn.old.step_limit }
-    ensures mode { conn.old.in_transaction ≡ false → conn.new.in_transaction ≡ false }
+    ensures { LooksUp S.Store conn.old conn.new result (λ rows t.
+        length t.duty ≡ duties → rows.items ≡ map duty_cells (filter (is_duty number) t.duty)) }
 {
     query(
         conn,
@@ -50,23 +41,15 @@ fn numbered(found: Option<DutyRow>, number: u64) -> Result<Option<DutyRow>, Faul
 }
 
 /// The duty with a number, of so many duties.
-#[tactic(auto, using(crate::proofs::Loops::first_is))]
 pub fn duty<S: Alter>(
     alloc: Global,
     conn: &mut Connection<S>,
     duties: u32,
     number: u64,
 ) -> Result<Option<DutyRow>, Fault>
-    ensures found { IfOk result (λ found. OfRows (λ t.
-        length t.duty ≡ duties → found ≡ duty_found t number) (seen_of (state S.Store conn.old))
-        (seen_of (state S.Store conn.new))) }
+    ensures looks { LooksUpIf S.Store (λ t. length t.duty ≡ duties) conn.old conn.new
+        result (λ found t. found ≡ duty_found t number) }
     ensures same { IfOk result (λ found. IfSome found (λ row. row.number ≡ number)) }
-    ensures kept { Looked (seen_of (state S.Store conn.old)) (seen_of (state S.Store conn.new))
-        result }
-    ensures cause { IfErr result (HasCauseIf (λ t. length t.duty ≡ duties)
-        (state S.Store conn.old) (state S.Store conn.new)) }
-    ensures limit { conn.new.step_limit ≡ conn.old.step_limit }
-    ensures mode { conn.old.in_transaction ≡ false → conn.new.in_transaction ≡ false }
 {
     let rows = select_duty(conn, duties, number)?;
     let found = read_first(alloc, &rows)?;
@@ -74,14 +57,8 @@ pub fn duty<S: Alter>(
 }
 
 fn select_duties_of<S: Alter>(conn: &mut Connection<S>, release: &str) -> Result<Vec<Row>, Fault>
-    ensures found { IfOk result (λ rows. OfRows (λ t.
-        rows.items ≡ map duty_cells (filter (is_duty_of release.now) t.duty))
-        (seen_of (state S.Store conn.old)) (seen_of (state S.Store conn.new))) }
-    ensures kept { Looked (seen_of (state S.Store conn.old)) (seen_of (state S.Store conn.new))
-        result }
-    ensures cause { IfErr result (HasCause (state S.Store conn.old) (state S.Store conn.new)) }
-    ensures limit { conn.new.step_limit ≡ conn.old.step_limit }
-    ensures mode { conn.old.in_transaction ≡ false → conn.new.in_transaction ≡ false }
+    ensures { LooksUp S.Store conn.old conn.new result (λ rows t.
+        rows.items ≡ map duty_cells (filter (is_duty_of release.now) t.duty)) }
 {
     query(
         conn,
@@ -96,14 +73,8 @@ pub fn duties_of<S: Alter>(
     conn: &mut Connection<S>,
     release: &str,
 ) -> Result<Vec<DutyRow>, Fault>
-    ensures found { IfOk result (λ found. OfRows (λ t.
-        found.items ≡ filter (is_duty_of release.now) t.duty) (seen_of (state S.Store conn.old))
-        (seen_of (state S.Store conn.new))) }
-    ensures kept { Looked (seen_of (state S.Store conn.old)) (seen_of (state S.Store conn.new))
-        result }
-    ensures cause { IfErr result (HasCause (state S.Store conn.old) (state S.Store conn.new)) }
-    ensures limit { conn.new.step_limit ≡ conn.old.step_limit }
-    ensures mode { conn.old.in_transaction ≡ false → conn.new.in_transaction ≡ false }
+    ensures { LooksUp S.Store conn.old conn.new result (λ found t.
+        found.items ≡ filter (is_duty_of release.now) t.duty) }
 {
     let rows = select_duties_of(conn, release)?;
     read_all(alloc, &rows)

@@ -1,15 +1,13 @@
 //! All documents, without their bytes.
 
-ghost use Rattle.std.specs.Prelude.{◌≡◌, false, IfErr, IfOk, List, map};
+ghost use Rattle.std.specs.Prelude.{◌≡◌, IfErr, IfOk, List, map};
 ghost use Rattle.std.specs.List.{AllByRecursion};
-ghost use Rattle.sqlite.specs.Held.{state};
-ghost use Rattle.desk_access.specs.Seen.{Looked, OfRows};
-ghost use Rattle.desk_sql_layout.specs.Held.{seen_of};
 ghost use Rattle.desk_sql_layout.specs.Cells.{reading_cells};
 ghost use Rattle.desk_model.specs.Queries.{head_of};
 ghost use Rattle.desk_model.specs.declared.row.DocumentRow.{DocumentRow as Document};
 ghost use Rattle.desk_sql_lookup.specs.Shown.{name_cells};
-ghost use Rattle.desk_sql_lookup.specs.Causes.{HasCause, IsRow};
+ghost use Rattle.desk_sql_lookup.specs.Causes.{IsRow};
+ghost use Rattle.desk_sql_lookup.specs.LookUps.{LooksUp};
 
 use crate::columns::{ROWS, number_at, profile_at, text_at};
 use crate::query::query;
@@ -18,14 +16,8 @@ use sqlite::{Alter, Connection, Row};
 use std::alloc::Global;
 
 fn select_names<S: Alter>(conn: &mut Connection<S>) -> Result<Vec<Row>, Fault>
-    ensures found { IfOk result (λ rows. OfRows (λ t.
-        rows.items ≡ map name_cells t.document) (seen_of (state S.Store conn.old))
-        (seen_of (state S.Store conn.new))) }
-    ensures kept { Looked (seen_of (state S.Store conn.old)) (seen_of (state S.Store conn.new))
-        result }
-    ensures cause { IfErr result (HasCause (state S.Store conn.old) (state S.Store conn.new)) }
-    ensures limit { conn.new.step_limit ≡ conn.old.step_limit }
-    ensures mode { conn.old.in_transaction ≡ false → conn.new.in_transaction ≡ false }
+    ensures { LooksUp S.Store conn.old conn.new result (λ rows t.
+        rows.items ≡ map name_cells t.document) }
 {
     query(
         conn,
@@ -35,14 +27,8 @@ fn select_names<S: Alter>(conn: &mut Connection<S>) -> Result<Vec<Row>, Fault>
 }
 
 fn select_readings<S: Alter>(conn: &mut Connection<S>) -> Result<Vec<Row>, Fault>
-    ensures found { IfOk result (λ rows. OfRows (λ t.
-        rows.items ≡ map reading_cells t.document) (seen_of (state S.Store conn.old))
-        (seen_of (state S.Store conn.new))) }
-    ensures kept { Looked (seen_of (state S.Store conn.old)) (seen_of (state S.Store conn.new))
-        result }
-    ensures cause { IfErr result (HasCause (state S.Store conn.old) (state S.Store conn.new)) }
-    ensures limit { conn.new.step_limit ≡ conn.old.step_limit }
-    ensures mode { conn.old.in_transaction ≡ false → conn.new.in_transaction ≡ false }
+    ensures { LooksUp S.Store conn.old conn.new result (λ rows t.
+        rows.items ≡ map reading_cells t.document) }
 {
     query(
         conn,
@@ -54,19 +40,10 @@ fn select_readings<S: Alter>(conn: &mut Connection<S>) -> Result<Vec<Row>, Fault
 type RowsOfTwo = (Vec<Row>, Vec<Row>);
 
 /// The rows of all documents, and of their profiles.
-#[tactic(auto, using(crate::proofs::Chains::same_then_kept, crate::proofs::Chains::same_then_same, crate::proofs::Chains::of_rows_after, crate::proofs::Chains::of_rows_still))]
 fn select_both<S: Alter>(conn: &mut Connection<S>) -> Result<RowsOfTwo, Fault>
-    ensures names { IfOk result (λ both. OfRows (λ t.
-        both.0.items ≡ map name_cells t.document) (seen_of (state S.Store conn.old))
-        (seen_of (state S.Store conn.new))) }
-    ensures readings { IfOk result (λ both. OfRows (λ t.
-        both.1.items ≡ map reading_cells t.document) (seen_of (state S.Store conn.old))
-        (seen_of (state S.Store conn.new))) }
-    ensures kept { Looked (seen_of (state S.Store conn.old)) (seen_of (state S.Store conn.new))
-        result }
-    ensures cause { IfErr result (HasCause (state S.Store conn.old) (state S.Store conn.new)) }
-    ensures limit { conn.new.step_limit ≡ conn.old.step_limit }
-    ensures mode { conn.old.in_transaction ≡ false → conn.new.in_transaction ≡ false }
+    ensures { LooksUp S.Store conn.old conn.new result (λ both t.
+        (both.0.items ≡ map name_cells t.document)
+        × (both.1.items ≡ map reading_cells t.document)) }
 {
     let names = select_names(conn)?;
     let readings = select_readings(conn)?;
@@ -111,14 +88,8 @@ pub fn document_heads<S: Alter>(
     alloc: Global,
     conn: &mut Connection<S>,
 ) -> Result<Vec<DocumentHead>, Fault>
-    ensures found { IfOk result (λ found. OfRows (λ t.
-        found.items ≡ map head_of t.document) (seen_of (state S.Store conn.old))
-        (seen_of (state S.Store conn.new))) }
-    ensures kept { Looked (seen_of (state S.Store conn.old)) (seen_of (state S.Store conn.new))
-        result }
-    ensures cause { IfErr result (HasCause (state S.Store conn.old) (state S.Store conn.new)) }
-    ensures limit { conn.new.step_limit ≡ conn.old.step_limit }
-    ensures mode { conn.old.in_transaction ≡ false → conn.new.in_transaction ≡ false }
+    ensures { LooksUp S.Store conn.old conn.new result (λ found t.
+        found.items ≡ map head_of t.document) }
 {
     let (names, readings) = select_both(conn)?;
     read_heads(alloc, &names, &readings)

@@ -1,12 +1,9 @@
 //! The choices that releases hold.
 
-ghost use Rattle.std.specs.Prelude.{◌≡◌, false, IfErr, IfOk, filter};
-ghost use Rattle.sqlite.specs.Held.{state};
-ghost use Rattle.desk_access.specs.Seen.{Looked, OfRows};
+ghost use Rattle.std.specs.Prelude.{◌≡◌, filter};
 ghost use Rattle.desk_sql_layout.specs.Cells.{choice_cells};
-ghost use Rattle.desk_sql_layout.specs.Held.{seen_of};
 ghost use Rattle.desk_model.specs.Keys.{is_choice_in};
-ghost use Rattle.desk_sql_lookup.specs.Causes.{HasCause};
+ghost use Rattle.desk_sql_lookup.specs.LookUps.{LooksUp};
 
 use crate::columns::{number_at, text_at};
 use crate::query::{read_rows, text};
@@ -30,14 +27,7 @@ impl ReadRow for ChoiceRow {
 
 /// All choices, by release, document, package and term.
 pub fn choices<S: Alter>(alloc: Global, conn: &mut Connection<S>) -> Result<Vec<ChoiceRow>, Fault>
-    ensures found { IfOk result (λ found. OfRows (λ t.
-        found.items ≡ t.choice) (seen_of (state S.Store conn.old))
-        (seen_of (state S.Store conn.new))) }
-    ensures kept { Looked (seen_of (state S.Store conn.old)) (seen_of (state S.Store conn.new))
-        result }
-    ensures cause { IfErr result (HasCause (state S.Store conn.old) (state S.Store conn.new)) }
-    ensures limit { conn.new.step_limit ≡ conn.old.step_limit }
-    ensures mode { conn.old.in_transaction ≡ false → conn.new.in_transaction ≡ false }
+    ensures { LooksUp S.Store conn.old conn.new result (λ found t. found.items ≡ t.choice) }
 {
     read_rows(
         alloc,
@@ -53,14 +43,8 @@ pub fn choices_in<S: Alter>(
     conn: &mut Connection<S>,
     release: &str,
 ) -> Result<Vec<ChoiceRow>, Fault>
-    ensures found { IfOk result (λ found. OfRows (λ t.
-        found.items ≡ filter (is_choice_in release.now) t.choice) (seen_of (state S.Store conn.old))
-        (seen_of (state S.Store conn.new))) }
-    ensures kept { Looked (seen_of (state S.Store conn.old)) (seen_of (state S.Store conn.new))
-        result }
-    ensures cause { IfErr result (HasCause (state S.Store conn.old) (state S.Store conn.new)) }
-    ensures limit { conn.new.step_limit ≡ conn.old.step_limit }
-    ensures mode { conn.old.in_transaction ≡ false → conn.new.in_transaction ≡ false }
+    ensures { LooksUp S.Store conn.old conn.new result (λ found t.
+        found.items ≡ filter (is_choice_in release.now) t.choice) }
 {
     read_rows(
         alloc,

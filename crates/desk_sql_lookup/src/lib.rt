@@ -3,11 +3,12 @@
 //!
 //! Each statement is a SELECT over one table: the rows that equal given values in named columns, by
 //! the table's key. What more is asked is told from these rows. A connection shows the rows of the
-//! tables that its database holds, in each way in which it may hold them; the clause `found` says
-//! what is told of them as of those of a store, `kept` that the look-up leaves them, and `mode`
-//! that no transaction is open after it where none was before.
+//! tables that its database holds, in each way in which it may hold them. What each look-up does is
+//! said by `LooksUp` (`specs/LookUps.antt`): what is told of the rows as of those of a store
+//! (`found`), that it leaves them (`kept`), and with an answer the whole database (`unchanged`), and
+//! that no transaction is open after it where none was before (`mode`).
 //!
-//! `cause` says when a look-up fails: with rows as a desk writes them (`specs/Causes.antt`) and no
+//! Its `cause` says when it fails: with rows as a desk writes them (`specs/Causes.antt`) and no
 //! limit on the steps of a query, only if no memory is left, or with a fault of the database as the
 //! disk failed once more. `limit` says that the look-up sets no such limit.
 //!

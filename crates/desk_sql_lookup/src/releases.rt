@@ -1,17 +1,14 @@
 //! Releases, what is attached to them, and what is chosen and frozen for their packages.
 
-ghost use Rattle.std.specs.Prelude.{◌≡◌, ◌==◌, false, IfErr, IfOk, filter, map, length};
+ghost use Rattle.std.specs.Prelude.{◌≡◌, ◌==◌, filter, map, length};
 ghost use Rattle.std.specs.List.{list_any};
 ghost use Rattle.std.specs.Str.{bytes_eq};
-ghost use Rattle.sqlite.specs.Held.{state};
-ghost use Rattle.desk_access.specs.Seen.{Looked, OfRows};
-ghost use Rattle.desk_sql_layout.specs.Held.{seen_of};
 ghost use Rattle.desk_history.specs.FromTables.{release_found};
 ghost use Rattle.desk_sql_layout.specs.Cells.{attached_cells, release_cells};
 ghost use Rattle.desk_model.specs.History.{attached_to};
 ghost use Rattle.desk_model.specs.Keys.{is_attachment, is_choice_of, is_release};
-ghost use Rattle.desk_sql_lookup.specs.Causes.{HasCause};
 ghost use Rattle.desk_sql_lookup.specs.Shown.{text_cells};
+ghost use Rattle.desk_sql_lookup.specs.LookUps.{LooksUp};
 
 use crate::query::{query, read_rows, text};
 use crate::read::{read_all, read_first};
@@ -22,14 +19,8 @@ use sqlite::{Alter, Connection, Row};
 use std::alloc::Global;
 
 fn select_release<S: Alter>(conn: &mut Connection<S>, name: &str) -> Result<Vec<Row>, Fault>
-    ensures found { IfOk result (λ rows. OfRows (λ t.
-        rows.items ≡ map release_cells (filter (is_release name.now) t.releases))
-        (seen_of (state S.Store conn.old)) (seen_of (state S.Store conn.new))) }
-    ensures kept { Looked (seen_of (state S.Store conn.old)) (seen_of (state S.Store conn.new))
-        result }
-    ensures cause { IfErr result (HasCause (state S.Store conn.old) (state S.Store conn.new)) }
-    ensures limit { conn.new.step_limit ≡ conn.old.step_limit }
-    ensures mode { conn.old.in_transaction ≡ false → conn.new.in_transaction ≡ false }
+    ensures { LooksUp S.Store conn.old conn.new result (λ rows t.
+        rows.items ≡ map release_cells (filter (is_release name.now) t.releases)) }
 {
     query(
         conn,
@@ -44,28 +35,16 @@ pub fn release<S: Alter>(
     conn: &mut Connection<S>,
     name: &str,
 ) -> Result<Option<ReleaseRow>, Fault>
-    ensures found { IfOk result (λ found. OfRows (λ t.
-        found ≡ release_found t name.now) (seen_of (state S.Store conn.old))
-        (seen_of (state S.Store conn.new))) }
-    ensures kept { Looked (seen_of (state S.Store conn.old)) (seen_of (state S.Store conn.new))
-        result }
-    ensures cause { IfErr result (HasCause (state S.Store conn.old) (state S.Store conn.new)) }
-    ensures limit { conn.new.step_limit ≡ conn.old.step_limit }
-    ensures mode { conn.old.in_transaction ≡ false → conn.new.in_transaction ≡ false }
+    ensures { LooksUp S.Store conn.old conn.new result (λ found t.
+        found ≡ release_found t name.now) }
 {
     let rows = select_release(conn, name)?;
     read_first(alloc, &rows)
 }
 
 fn select_releases<S: Alter>(conn: &mut Connection<S>) -> Result<Vec<Row>, Fault>
-    ensures found { IfOk result (λ rows. OfRows (λ t.
-        rows.items ≡ map release_cells t.releases) (seen_of (state S.Store conn.old))
-        (seen_of (state S.Store conn.new))) }
-    ensures kept { Looked (seen_of (state S.Store conn.old)) (seen_of (state S.Store conn.new))
-        result }
-    ensures cause { IfErr result (HasCause (state S.Store conn.old) (state S.Store conn.new)) }
-    ensures limit { conn.new.step_limit ≡ conn.old.step_limit }
-    ensures mode { conn.old.in_transaction ≡ false → conn.new.in_transaction ≡ false }
+    ensures { LooksUp S.Store conn.old conn.new result (λ rows t.
+        rows.items ≡ map release_cells t.releases) }
 {
     query(
         conn,
@@ -79,28 +58,15 @@ pub fn release_rows<S: Alter>(
     alloc: Global,
     conn: &mut Connection<S>,
 ) -> Result<Vec<ReleaseRow>, Fault>
-    ensures found { IfOk result (λ found. OfRows (λ t.
-        found.items ≡ t.releases) (seen_of (state S.Store conn.old))
-        (seen_of (state S.Store conn.new))) }
-    ensures kept { Looked (seen_of (state S.Store conn.old)) (seen_of (state S.Store conn.new))
-        result }
-    ensures cause { IfErr result (HasCause (state S.Store conn.old) (state S.Store conn.new)) }
-    ensures limit { conn.new.step_limit ≡ conn.old.step_limit }
-    ensures mode { conn.old.in_transaction ≡ false → conn.new.in_transaction ≡ false }
+    ensures { LooksUp S.Store conn.old conn.new result (λ found t. found.items ≡ t.releases) }
 {
     let rows = select_releases(conn)?;
     read_all(alloc, &rows)
 }
 
 fn select_attached<S: Alter>(conn: &mut Connection<S>, release: &str) -> Result<Vec<Row>, Fault>
-    ensures found { IfOk result (λ rows. OfRows (λ t.
-        rows.items ≡ map attached_cells (attached_to t.attached release.now))
-        (seen_of (state S.Store conn.old)) (seen_of (state S.Store conn.new))) }
-    ensures kept { Looked (seen_of (state S.Store conn.old)) (seen_of (state S.Store conn.new))
-        result }
-    ensures cause { IfErr result (HasCause (state S.Store conn.old) (state S.Store conn.new)) }
-    ensures limit { conn.new.step_limit ≡ conn.old.step_limit }
-    ensures mode { conn.old.in_transaction ≡ false → conn.new.in_transaction ≡ false }
+    ensures { LooksUp S.Store conn.old conn.new result (λ rows t.
+        rows.items ≡ map attached_cells (attached_to t.attached release.now)) }
 {
     query(
         conn,
@@ -115,14 +81,8 @@ pub fn attached<S: Alter>(
     conn: &mut Connection<S>,
     release: &str,
 ) -> Result<Vec<AttachedRow>, Fault>
-    ensures found { IfOk result (λ found. OfRows (λ t.
-        found.items ≡ attached_to t.attached release.now) (seen_of (state S.Store conn.old))
-        (seen_of (state S.Store conn.new))) }
-    ensures kept { Looked (seen_of (state S.Store conn.old)) (seen_of (state S.Store conn.new))
-        result }
-    ensures cause { IfErr result (HasCause (state S.Store conn.old) (state S.Store conn.new)) }
-    ensures limit { conn.new.step_limit ≡ conn.old.step_limit }
-    ensures mode { conn.old.in_transaction ≡ false → conn.new.in_transaction ≡ false }
+    ensures { LooksUp S.Store conn.old conn.new result (λ found t.
+        found.items ≡ attached_to t.attached release.now) }
 {
     let rows = select_attached(conn, release)?;
     read_all(alloc, &rows)
@@ -142,14 +102,8 @@ pub fn is_attached<S: Alter>(
     release: &str,
     document: u64,
 ) -> Result<bool, Fault>
-    ensures found { IfOk result (λ found. OfRows (λ t.
-        found ≡ list_any (is_attachment release.now document) t.attached)
-        (seen_of (state S.Store conn.old)) (seen_of (state S.Store conn.new))) }
-    ensures kept { Looked (seen_of (state S.Store conn.old)) (seen_of (state S.Store conn.new))
-        result }
-    ensures cause { IfErr result (HasCause (state S.Store conn.old) (state S.Store conn.new)) }
-    ensures limit { conn.new.step_limit ≡ conn.old.step_limit }
-    ensures mode { conn.old.in_transaction ≡ false → conn.new.in_transaction ≡ false }
+    ensures { LooksUp S.Store conn.old conn.new result (λ found t.
+        found ≡ list_any (is_attachment release.now document) t.attached) }
 {
     let rows = attached(alloc, conn, release)?;
     Ok(is_among(&rows, document))
@@ -159,14 +113,8 @@ fn select_attached_count<S: Alter>(
     conn: &mut Connection<S>,
     release: &str,
 ) -> Result<Vec<Row>, Fault>
-    ensures found { IfOk result (λ rows. OfRows (λ t.
-        length rows.items ≡ length (attached_to t.attached release.now))
-        (seen_of (state S.Store conn.old)) (seen_of (state S.Store conn.new))) }
-    ensures kept { Looked (seen_of (state S.Store conn.old)) (seen_of (state S.Store conn.new))
-        result }
-    ensures cause { IfErr result (HasCause (state S.Store conn.old) (state S.Store conn.new)) }
-    ensures limit { conn.new.step_limit ≡ conn.old.step_limit }
-    ensures mode { conn.old.in_transaction ≡ false → conn.new.in_transaction ≡ false }
+    ensures { LooksUp S.Store conn.old conn.new result (λ rows t.
+        length rows.items ≡ length (attached_to t.attached release.now)) }
 {
     query(
         conn,
@@ -177,14 +125,8 @@ fn select_attached_count<S: Alter>(
 
 /// How many documents are attached to a release.
 pub fn attached_count<S: Alter>(conn: &mut Connection<S>, release: &str) -> Result<u64, Fault>
-    ensures found { IfOk result (λ found. OfRows (λ t.
-        found ≡ length (attached_to t.attached release.now)) (seen_of (state S.Store conn.old))
-        (seen_of (state S.Store conn.new))) }
-    ensures kept { Looked (seen_of (state S.Store conn.old)) (seen_of (state S.Store conn.new))
-        result }
-    ensures cause { IfErr result (HasCause (state S.Store conn.old) (state S.Store conn.new)) }
-    ensures limit { conn.new.step_limit ≡ conn.old.step_limit }
-    ensures mode { conn.old.in_transaction ≡ false → conn.new.in_transaction ≡ false }
+    ensures { LooksUp S.Store conn.old conn.new result (λ found t.
+        found ≡ length (attached_to t.attached release.now)) }
 {
     let rows = select_attached_count(conn, release)?;
     Ok(rows.len() as u64)
@@ -196,15 +138,9 @@ pub(crate) fn select_chosen<S: Alter>(
     document: u32,
     id: &str,
 ) -> Result<Vec<Row>, Fault>
-    ensures found { IfOk result (λ rows. OfRows (λ t.
+    ensures { LooksUp S.Store conn.old conn.new result (λ rows t.
         rows.items ≡ map text_cells (map (λ row. row.term)
-        (filter (is_choice_of release.now document id.now) t.choice)))
-        (seen_of (state S.Store conn.old)) (seen_of (state S.Store conn.new))) }
-    ensures kept { Looked (seen_of (state S.Store conn.old)) (seen_of (state S.Store conn.new))
-        result }
-    ensures cause { IfErr result (HasCause (state S.Store conn.old) (state S.Store conn.new)) }
-    ensures limit { conn.new.step_limit ≡ conn.old.step_limit }
-    ensures mode { conn.old.in_transaction ≡ false → conn.new.in_transaction ≡ false }
+        (filter (is_choice_of release.now document id.now) t.choice))) }
 {
     query(
         conn,
@@ -221,15 +157,9 @@ pub fn chosen<S: Alter>(
     document: u32,
     id: &str,
 ) -> Result<Vec<Text>, Fault>
-    ensures found { IfOk result (λ found. OfRows (λ t.
+    ensures { LooksUp S.Store conn.old conn.new result (λ found t.
         found.items ≡ map (λ row. row.term)
-        (filter (is_choice_of release.now document id.now) t.choice))
-        (seen_of (state S.Store conn.old)) (seen_of (state S.Store conn.new))) }
-    ensures kept { Looked (seen_of (state S.Store conn.old)) (seen_of (state S.Store conn.new))
-        result }
-    ensures cause { IfErr result (HasCause (state S.Store conn.old) (state S.Store conn.new)) }
-    ensures limit { conn.new.step_limit ≡ conn.old.step_limit }
-    ensures mode { conn.old.in_transaction ≡ false → conn.new.in_transaction ≡ false }
+        (filter (is_choice_of release.now document id.now) t.choice)) }
 {
     let rows = select_chosen(conn, release, document, id)?;
     read_all(alloc, &rows)
@@ -241,14 +171,8 @@ pub fn frozen<S: Alter>(
     conn: &mut Connection<S>,
     release: &str,
 ) -> Result<Vec<FrozenRow>, Fault>
-    ensures found { IfOk result (λ found. OfRows (λ t.
-        found.items ≡ filter (λ row. bytes_eq row.release release.now) t.frozen)
-        (seen_of (state S.Store conn.old)) (seen_of (state S.Store conn.new))) }
-    ensures kept { Looked (seen_of (state S.Store conn.old)) (seen_of (state S.Store conn.new))
-        result }
-    ensures cause { IfErr result (HasCause (state S.Store conn.old) (state S.Store conn.new)) }
-    ensures limit { conn.new.step_limit ≡ conn.old.step_limit }
-    ensures mode { conn.old.in_transaction ≡ false → conn.new.in_transaction ≡ false }
+    ensures { LooksUp S.Store conn.old conn.new result (λ found t.
+        found.items ≡ filter (λ row. bytes_eq row.release release.now) t.frozen) }
 {
     read_rows(
         alloc,

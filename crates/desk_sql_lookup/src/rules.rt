@@ -1,17 +1,15 @@
 //! Rules of the catalogue.
 
-ghost use Rattle.std.specs.Prelude.{◌≡◌, ◌==◌, ℕ, true, false, IfErr, IfOk, List, filter, map, length, slice_get};
+ghost use Rattle.std.specs.Prelude.{◌≡◌, ◌==◌, ℕ, true, IfErr, IfOk, List, filter, map, length, slice_get};
 ghost use Rattle.std.specs.List.{AllByRecursion, list_all, slice_split};
 ghost use Rattle.std.specs.Option.{option_map};
-ghost use Rattle.sqlite.specs.Held.{state};
-ghost use Rattle.desk_access.specs.Seen.{Looked, OfRows};
-ghost use Rattle.desk_sql_layout.specs.Held.{seen_of};
 ghost use Rattle.desk_history.specs.FromTables.{rule_of, rules_found};
 ghost use Rattle.desk_sql_layout.specs.Cells.{is_word, joined, rule_cells};
 ghost use Rattle.desk_model.specs.History.{rule_for};
 ghost use Rattle.desk_model.specs.declared.row.RuleRow.{RuleRow};
 ghost use Rattle.desk_sql_lookup.specs.Rules.{are_words, is_rule_at, texts};
-ghost use Rattle.desk_sql_lookup.specs.Causes.{HasCause, IsRow};
+ghost use Rattle.desk_sql_lookup.specs.Causes.{IsRow};
+ghost use Rattle.desk_sql_lookup.specs.LookUps.{LooksUp};
 
 use crate::columns::{str_at, text_at};
 use crate::query::{query, text};
@@ -83,15 +81,9 @@ fn select_rule<S: Alter>(
     term: &str,
     form: &str,
 ) -> Result<Vec<Row>, Fault>
-    ensures found { IfOk result (λ rows. OfRows (λ t.
+    ensures { LooksUp S.Store conn.old conn.new result (λ rows t.
         (rows.items ≡ map rule_cells (filter (is_rule_at revision term.now form.now) t.rule))
-        × (are_words (filter (is_rule_at revision term.now form.now) t.rule) ≡ true))
-        (seen_of (state S.Store conn.old)) (seen_of (state S.Store conn.new))) }
-    ensures kept { Looked (seen_of (state S.Store conn.old)) (seen_of (state S.Store conn.new))
-        result }
-    ensures cause { IfErr result (HasCause (state S.Store conn.old) (state S.Store conn.new)) }
-    ensures limit { conn.new.step_limit ≡ conn.old.step_limit }
-    ensures mode { conn.old.in_transaction ≡ false → conn.new.in_transaction ≡ false }
+        × (are_words (filter (is_rule_at revision term.now form.now) t.rule) ≡ true)) }
 {
     query(
         conn,
@@ -108,14 +100,8 @@ pub fn rule<S: Alter>(
     term: &str,
     form: &str,
 ) -> Result<Option<Rule>, Fault>
-    ensures found { IfOk result (λ found. OfRows (λ t.
-        length t.catalogue ≡ revisions → found ≡ rule_for (rules_found t) term.now form.now)
-        (seen_of (state S.Store conn.old)) (seen_of (state S.Store conn.new))) }
-    ensures kept { Looked (seen_of (state S.Store conn.old)) (seen_of (state S.Store conn.new))
-        result }
-    ensures cause { IfErr result (HasCause (state S.Store conn.old) (state S.Store conn.new)) }
-    ensures limit { conn.new.step_limit ≡ conn.old.step_limit }
-    ensures mode { conn.old.in_transaction ≡ false → conn.new.in_transaction ≡ false }
+    ensures { LooksUp S.Store conn.old conn.new result (λ found t.
+        length t.catalogue ≡ revisions → found ≡ rule_for (rules_found t) term.now form.now) }
 {
     let rows = select_rule(conn, revisions, term, form)?;
     first_rule(alloc, &rows)

@@ -1,18 +1,13 @@
 //! Where duties stand.
 
-ghost use Rattle.std.specs.Prelude.{◌≡◌, false, IfErr, IfOk, OnOk, filter, map, length};
+ghost use Rattle.std.specs.Prelude.{◌≡◌, false, OnOk, filter, map, length};
 ghost use Rattle.std.specs.List.{filter_map, last_or};
-ghost use Rattle.std.specs.Option.{option_and_then, option_copied};
-ghost use Rattle.sqlite.specs.Held.{state};
-ghost use Rattle.desk_access.specs.Seen.{Looked, OfRows};
-ghost use Rattle.desk_sql_layout.specs.Held.{seen_of};
+ghost use Rattle.std.specs.Option.{option_and_then};
 ghost use Rattle.desk_history.specs.FromTables.{ended_found, standing_found, standings_found};
 ghost use Rattle.desk_sql_layout.specs.Cells.{duty_cells};
 ghost use Rattle.desk_model.specs.Names.{duty_state_name};
-ghost use Rattle.desk_model.specs.States.{is_waived};
-ghost use Rattle.desk_model.specs.Texts.{is_before};
 ghost use Rattle.desk_sql_lookup.specs.Standings.{and_some, ended_standing, has_end_before, stands_at};
-ghost use Rattle.desk_sql_lookup.specs.Causes.{HasCause, HasCauseIf};
+ghost use Rattle.desk_sql_lookup.specs.LookUps.{LooksUp, LooksUpIf};
 
 use crate::changes::{changes_of, steps};
 use crate::duties::duties_of;
@@ -30,15 +25,8 @@ fn standing<S: Alter>(
     duties: u32,
     row: &DutyRow,
 ) -> Result<Standing, Fault>
-    ensures found { IfOk result (λ found. OfRows (λ t.
-        length t.duty ≡ duties → found ≡ standing_found t row.now)
-        (seen_of (state S.Store conn.old))
-        (seen_of (state S.Store conn.new))) }
-    ensures kept { Looked (seen_of (state S.Store conn.old)) (seen_of (state S.Store conn.new))
-        result }
-    ensures cause { IfErr result (HasCause (state S.Store conn.old) (state S.Store conn.new)) }
-    ensures limit { conn.new.step_limit ≡ conn.old.step_limit }
-    ensures mode { conn.old.in_transaction ≡ false → conn.new.in_transaction ≡ false }
+    ensures { LooksUp S.Store conn.old conn.new result (λ found t.
+        length t.duty ≡ duties → found ≡ standing_found t row.now) }
 {
     let steps = steps(conn, duties, u64::from(row.number))?;
     Ok(Standing {
@@ -48,21 +36,14 @@ fn standing<S: Alter>(
     })
 }
 
-#[tactic(auto, using(crate::proofs::Chains::same_then_kept))]
 fn standings<S: Alter>(
     alloc: Global,
     conn: &mut Connection<S>,
     duties: u32,
     rows: &[DutyRow],
 ) -> Result<Vec<Standing>, Fault>
-    ensures found { IfOk result (λ found. OfRows (λ t.
-        length t.duty ≡ duties → found.items ≡ map (standing_found t) rows.now)
-        (seen_of (state S.Store conn.old)) (seen_of (state S.Store conn.new))) }
-    ensures kept { Looked (seen_of (state S.Store conn.old)) (seen_of (state S.Store conn.new))
-        result }
-    ensures cause { IfErr result (HasCause (state S.Store conn.old) (state S.Store conn.new)) }
-    ensures limit { conn.new.step_limit ≡ conn.old.step_limit }
-    ensures mode { conn.old.in_transaction ≡ false → conn.new.in_transaction ≡ false }
+    ensures { LooksUp S.Store conn.old conn.new result (λ found t.
+        length t.duty ≡ duties → found.items ≡ map (standing_found t) rows.now) }
 {
     let mut found = Vec::new(alloc);
     for row in rows {
@@ -78,28 +59,16 @@ pub fn standings_of<S: Alter>(
     duties: u32,
     release: &str,
 ) -> Result<Vec<Standing>, Fault>
-    ensures found { IfOk result (λ found. OfRows (λ t.
-        length t.duty ≡ duties → found.items ≡ standings_found t release.now)
-        (seen_of (state S.Store conn.old)) (seen_of (state S.Store conn.new))) }
-    ensures kept { Looked (seen_of (state S.Store conn.old)) (seen_of (state S.Store conn.new))
-        result }
-    ensures cause { IfErr result (HasCause (state S.Store conn.old) (state S.Store conn.new)) }
-    ensures limit { conn.new.step_limit ≡ conn.old.step_limit }
-    ensures mode { conn.old.in_transaction ≡ false → conn.new.in_transaction ≡ false }
+    ensures { LooksUp S.Store conn.old conn.new result (λ found t.
+        length t.duty ≡ duties → found.items ≡ standings_found t release.now) }
 {
     let rows = duties_of(alloc, conn, release)?;
     standings(alloc, conn, duties, &rows)
 }
 
 fn select_duties_at<S: Alter>(conn: &mut Connection<S>, place: DutyState) -> Result<Vec<Row>, Fault>
-    ensures found { IfOk result (λ rows. OfRows (λ t.
-        rows.items ≡ map duty_cells (filter (stands_at (duty_state_name place)) t.duty))
-        (seen_of (state S.Store conn.old)) (seen_of (state S.Store conn.new))) }
-    ensures kept { Looked (seen_of (state S.Store conn.old)) (seen_of (state S.Store conn.new))
-        result }
-    ensures cause { IfErr result (HasCause (state S.Store conn.old) (state S.Store conn.new)) }
-    ensures limit { conn.new.step_limit ≡ conn.old.step_limit }
-    ensures mode { conn.old.in_transaction ≡ false → conn.new.in_transaction ≡ false }
+    ensures { LooksUp S.Store conn.old conn.new result (λ rows t.
+        rows.items ≡ map duty_cells (filter (stands_at (duty_state_name place)) t.duty)) }
 {
     query(
         conn,
@@ -110,14 +79,8 @@ fn select_duties_at<S: Alter>(conn: &mut Connection<S>, place: DutyState) -> Res
 
 /// The duties that are waived, by number.
 fn waived<S: Alter>(alloc: Global, conn: &mut Connection<S>) -> Result<Vec<DutyRow>, Fault>
-    ensures found { IfOk result (λ found. OfRows (λ t.
-        found.items ≡ filter (stands_at (duty_state_name DutyState.Waived)) t.duty)
-        (seen_of (state S.Store conn.old)) (seen_of (state S.Store conn.new))) }
-    ensures kept { Looked (seen_of (state S.Store conn.old)) (seen_of (state S.Store conn.new))
-        result }
-    ensures cause { IfErr result (HasCause (state S.Store conn.old) (state S.Store conn.new)) }
-    ensures limit { conn.new.step_limit ≡ conn.old.step_limit }
-    ensures mode { conn.old.in_transaction ≡ false → conn.new.in_transaction ≡ false }
+    ensures { LooksUp S.Store conn.old conn.new result (λ found t.
+        found.items ≡ filter (stands_at (duty_state_name DutyState.Waived)) t.duty) }
 {
     let rows = select_duties_at(conn, DutyState::Waived)?;
     read_all(alloc, &rows)
@@ -151,15 +114,8 @@ fn standing_if_ended<S: Alter>(
     row: &DutyRow,
     day: Day,
 ) -> Result<Option<Standing>, Fault>
-    ensures found { IfOk result (λ found. OfRows (λ t.
-        length t.duty ≡ duties → found ≡ ended_standing t day row.now)
-        (seen_of (state S.Store conn.old)) (seen_of (state S.Store conn.new))) }
-    ensures kept { Looked (seen_of (state S.Store conn.old)) (seen_of (state S.Store conn.new))
-        result }
-    ensures cause { IfErr result (HasCauseIf (λ t. length t.duty ≡ duties)
-        (state S.Store conn.old) (state S.Store conn.new)) }
-    ensures limit { conn.new.step_limit ≡ conn.old.step_limit }
-    ensures mode { conn.old.in_transaction ≡ false → conn.new.in_transaction ≡ false }
+    ensures { LooksUpIf S.Store (λ t. length t.duty ≡ duties) conn.old conn.new result (λ found t.
+        found ≡ ended_standing t day row.now) }
 {
     let changes = changes_of(alloc, conn, duties, u64::from(row.number))?;
     if has_end_before(&changes, day) {
@@ -182,7 +138,6 @@ fn push_some(found: &mut Vec<Standing>, standing: Option<Standing>) -> Result<()
     Ok(())
 }
 
-#[tactic(auto, using(crate::proofs::Chains::same_then_kept))]
 fn ended_among<S: Alter>(
     alloc: Global,
     conn: &mut Connection<S>,
@@ -190,15 +145,8 @@ fn ended_among<S: Alter>(
     rows: &[DutyRow],
     day: Day,
 ) -> Result<Vec<Standing>, Fault>
-    ensures found { IfOk result (λ found. OfRows (λ t.
-        length t.duty ≡ duties → found.items ≡ filter_map (ended_standing t day) rows.now)
-        (seen_of (state S.Store conn.old)) (seen_of (state S.Store conn.new))) }
-    ensures kept { Looked (seen_of (state S.Store conn.old)) (seen_of (state S.Store conn.new))
-        result }
-    ensures cause { IfErr result (HasCauseIf (λ t. length t.duty ≡ duties)
-        (state S.Store conn.old) (state S.Store conn.new)) }
-    ensures limit { conn.new.step_limit ≡ conn.old.step_limit }
-    ensures mode { conn.old.in_transaction ≡ false → conn.new.in_transaction ≡ false }
+    ensures { LooksUpIf S.Store (λ t. length t.duty ≡ duties) conn.old conn.new result (λ found t.
+        found.items ≡ filter_map (ended_standing t day) rows.now) }
 {
     let mut found = Vec::new(alloc);
     for row in rows {
@@ -216,15 +164,8 @@ pub fn ended<S: Alter>(
     duties: u32,
     day: Day,
 ) -> Result<Vec<Standing>, Fault>
-    ensures found { IfOk result (λ found. OfRows (λ t.
-        length t.duty ≡ duties → found.items ≡ ended_found t day) (seen_of (state S.Store conn.old))
-        (seen_of (state S.Store conn.new))) }
-    ensures kept { Looked (seen_of (state S.Store conn.old)) (seen_of (state S.Store conn.new))
-        result }
-    ensures cause { IfErr result (HasCauseIf (λ t. length t.duty ≡ duties)
-        (state S.Store conn.old) (state S.Store conn.new)) }
-    ensures limit { conn.new.step_limit ≡ conn.old.step_limit }
-    ensures mode { conn.old.in_transaction ≡ false → conn.new.in_transaction ≡ false }
+    ensures { LooksUpIf S.Store (λ t. length t.duty ≡ duties) conn.old conn.new result (λ found t.
+        found.items ≡ ended_found t day) }
 {
     let rows = waived(alloc, conn)?;
     ended_among(alloc, conn, duties, &rows, day)

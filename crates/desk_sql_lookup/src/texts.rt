@@ -1,16 +1,14 @@
 //! The texts of catalogues, and those that documents give for references.
 
-ghost use Rattle.std.specs.Prelude.{◌≡◌, false, IfErr, IfOk, List, filter, find, map, length, slice_get};
+ghost use Rattle.std.specs.Prelude.{◌≡◌, IfErr, IfOk, List, filter, map, length, slice_get};
 ghost use Rattle.std.specs.List.{AllByRecursion};
 ghost use Rattle.std.specs.Option.{option_and_then};
-ghost use Rattle.sqlite.specs.Held.{state};
-ghost use Rattle.desk_access.specs.Seen.{Looked, OfRows};
-ghost use Rattle.desk_sql_layout.specs.Held.{seen_of};
 ghost use Rattle.desk_model.specs.Bills.{extracted_text, revision_text};
 ghost use Rattle.desk_model.specs.Keys.{is_extracted, is_revision};
 ghost use Rattle.desk_model.specs.declared.row.ExtractedRow.{ExtractedRow as Extracted};
 ghost use Rattle.desk_sql_lookup.specs.Shown.{extracted_body_cells};
-ghost use Rattle.desk_sql_lookup.specs.Causes.{HasCause, IsRow};
+ghost use Rattle.desk_sql_lookup.specs.Causes.{IsRow};
+ghost use Rattle.desk_sql_lookup.specs.LookUps.{LooksUp};
 
 use crate::columns::text_or_null_at;
 use crate::query::{among, query, read_rows, text};
@@ -27,15 +25,9 @@ fn catalogue_texts<S: Alter>(
     revisions: u32,
     n: u64,
 ) -> Result<Vec<Text>, Fault>
-    ensures found { IfOk result (λ found. OfRows (λ t.
+    ensures { LooksUp S.Store conn.old conn.new result (λ found t.
         length t.catalogue ≡ revisions → found.items
-        ≡ map (λ row. row.body) (filter (is_revision n) t.catalogue))
-        (seen_of (state S.Store conn.old)) (seen_of (state S.Store conn.new))) }
-    ensures kept { Looked (seen_of (state S.Store conn.old)) (seen_of (state S.Store conn.new))
-        result }
-    ensures cause { IfErr result (HasCause (state S.Store conn.old) (state S.Store conn.new)) }
-    ensures limit { conn.new.step_limit ≡ conn.old.step_limit }
-    ensures mode { conn.old.in_transaction ≡ false → conn.new.in_transaction ≡ false }
+        ≡ map (λ row. row.body) (filter (is_revision n) t.catalogue)) }
 {
     read_rows(
         alloc,
@@ -59,14 +51,8 @@ pub fn catalogue_text<S: Alter>(
     revisions: u32,
     revision: u64,
 ) -> Result<Option<Text>, Fault>
-    ensures found { IfOk result (λ found. OfRows (λ t.
-        length t.catalogue ≡ revisions → found ≡ revision_text t.catalogue revision)
-        (seen_of (state S.Store conn.old)) (seen_of (state S.Store conn.new))) }
-    ensures kept { Looked (seen_of (state S.Store conn.old)) (seen_of (state S.Store conn.new))
-        result }
-    ensures cause { IfErr result (HasCause (state S.Store conn.old) (state S.Store conn.new)) }
-    ensures limit { conn.new.step_limit ≡ conn.old.step_limit }
-    ensures mode { conn.old.in_transaction ≡ false → conn.new.in_transaction ≡ false }
+    ensures { LooksUp S.Store conn.old conn.new result (λ found t.
+        length t.catalogue ≡ revisions → found ≡ revision_text t.catalogue revision) }
 {
     let texts = catalogue_texts(alloc, conn, revisions, revision)?;
     Ok(first_of(texts))
@@ -77,16 +63,9 @@ fn select_extracted<S: Alter>(
     document: u32,
     reference: &str,
 ) -> Result<Vec<Row>, Fault>
-    ensures found { IfOk result (λ rows. OfRows (λ t.
+    ensures { LooksUp S.Store conn.old conn.new result (λ rows t.
         rows.items ≡ map extracted_body_cells
-        (filter (is_extracted document reference.now) t.extracted))
-        (seen_of (state S.Store conn.old))
-        (seen_of (state S.Store conn.new))) }
-    ensures kept { Looked (seen_of (state S.Store conn.old)) (seen_of (state S.Store conn.new))
-        result }
-    ensures cause { IfErr result (HasCause (state S.Store conn.old) (state S.Store conn.new)) }
-    ensures limit { conn.new.step_limit ≡ conn.old.step_limit }
-    ensures mode { conn.old.in_transaction ≡ false → conn.new.in_transaction ≡ false }
+        (filter (is_extracted document reference.now) t.extracted)) }
 {
     query(
         conn,
@@ -117,15 +96,8 @@ pub fn extracted_text<S: Alter>(
     document: u32,
     reference: &str,
 ) -> Result<Option<Text>, Fault>
-    ensures found { IfOk result (λ found. OfRows (λ t.
-        found ≡ extracted_text t.extracted document reference.now)
-        (seen_of (state S.Store conn.old))
-        (seen_of (state S.Store conn.new))) }
-    ensures kept { Looked (seen_of (state S.Store conn.old)) (seen_of (state S.Store conn.new))
-        result }
-    ensures cause { IfErr result (HasCause (state S.Store conn.old) (state S.Store conn.new)) }
-    ensures limit { conn.new.step_limit ≡ conn.old.step_limit }
-    ensures mode { conn.old.in_transaction ≡ false → conn.new.in_transaction ≡ false }
+    ensures { LooksUp S.Store conn.old conn.new result (λ found t.
+        found ≡ extracted_text t.extracted document reference.now) }
 {
     let rows = select_extracted(conn, document, reference)?;
     first_body(alloc, &rows)

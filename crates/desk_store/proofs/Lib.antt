@@ -8,3 +8,5 @@ mod Vetted
 mod Migrated
 mod FoundRows
 mod Missed
+mod Looks
+mod Failing

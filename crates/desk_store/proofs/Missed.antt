@@ -1,19 +1,41 @@
--- A look-up of a store fails as the look-up in its tables does.
+-- A look-up of a store finds, and fails, as the look-up in its tables does.
 use Rattle.std.proofs.Common.{◌≡◌, Result}
 use Rattle.std.specs.Prelude.{IfErr}
-use Rattle.std.proofs.lemmas.Result.{IfErr-weaker}
+use Rattle.std.proofs.lemmas.Result.{IfErr-weaker, IfOk-weaker}
+use Rattle.sqlite_trees.specs.declared.store.Store.{Ghosts}
+use Rattle.sqlite.specs.Held.{Held, state}
 use Rattle.sqlite.specs.State.{State}
 use Rattle.desk_model.specs.Tables.{Tables}
 use Rattle.desk_model.specs.declared.command.Fault.{Fault}
 use Rattle.desk_sql_layout.specs.Held.{Known, known_of, seen_of}
 use Rattle.desk_sql_lookup.specs.Causes.{HasCauseIf}
+use Rattle.desk_sql_lookup.specs.LookUps.{LooksUp, LooksUpGiven, LooksUpIf}
 use Rattle.desk_tally.specs.declared.tallies.Tallies.{Tallies}
-use Rattle.desk_store.specs.Causes.{MissesFor}
+use Rattle.desk_store.specs.Causes.{FindsGiven, MissesIf}
 use Rattle.desk_store.specs.Counting.{tallied}
 use Rattle.desk_store.specs.declared.found.Found.{Found}
+use Rattle.desk_store.proofs.Counted.{looked}
 
-pub missed : (Is : Tables → Type 0) (had : Found) (n : Tallies) (k : Known) (a b : State) → ((t : Tables) → known_of t ≡ k → Is t) → {A : Type 0} (r : Result A Fault) → IfErr r (HasCauseIf Is a b)
-    → IfErr r (MissesFor (tallied had n k (seen_of a)) a b)
-missed Is had n k a b right r = IfErr-weaker r (HasCauseIf Is a b) (MissesFor (tallied had n k (seen_of a)) a b) (λ fault has. record {
-  cause = λ clean opened unlimited t holds written. has.cause clean opened unlimited t holds.2 written (right t holds.0);
+pub missed : (Given Is : Tables → Type 0) (had : Found) (n : Tallies) (k : Known) (a b : State) → ((t : Tables) → known_of t ≡ k → Given t → Is t) → {A : Type 0} (r : Result A Fault) → IfErr r (HasCauseIf Is a b)
+    → IfErr r (MissesIf Given (tallied had n k (seen_of a)) a b)
+missed Given Is had n k a b right r = IfErr-weaker r (HasCauseIf Is a b) (MissesIf Given (tallied had n k (seen_of a)) a b) (λ fault has. record {
+  cause = λ clean opened unlimited t holds written so. has.cause clean opened unlimited t holds.2 written (right t holds.0 so);
 })
+
+module _ {S : Type 0} (g : Ghosts S) (had : Found) (n : Tallies) (k : Known) (a b : Held S) {A : Type 0} (r : Result A Fault) where
+  -- where the counts are right
+  pub finds_so : {Is : Tables → Type 0} {Told : A → Tables → Type 0} → LooksUpGiven g Is a b r Told → (Given : Tables → Type 0) (Has : A → Tables → Type 0)
+      → ((t : Tables) → known_of t ≡ k → Given t → Is t) → ((x : A) (t : Tables) → known_of t ≡ k → Told x t → Has x t)
+      → FindsGiven Given (tallied had n k (seen_of (state g a))) (tallied had n k (seen_of (state g b))) (state g a) (state g b) r Has
+  finds_so {Is} it Given Has right so = record {
+    found = IfOk-weaker r _ _ (λ x is clean t holds. so x t holds.0 (is clean t holds.2)) it.found;
+    kept = looked had n k (seen_of (state g a)) (seen_of (state g b)) r it.kept;
+    cause = missed Given Is had n k (state g a) (state g b) right r it.cause;
+  }
+
+  pub finds : {Has : A → Tables → Type 0} → LooksUp g a b r Has → FindsGiven (λ t. Unit {0}) (tallied had n k (seen_of (state g a))) (tallied had n k (seen_of (state g b))) (state g a) (state g b) r Has
+  finds {Has} it = finds_so it (λ t. Unit {0}) Has (λ t same any. any) (λ x t same is. is)
+
+  pub finds_if : {Given : Tables → Type 0} {Has : A → Tables → Type 0} → LooksUpIf g Given a b r Has → ((t : Tables) → known_of t ≡ k → Given t)
+      → FindsGiven (λ t. Unit {0}) (tallied had n k (seen_of (state g a))) (tallied had n k (seen_of (state g b))) (state g a) (state g b) r Has
+  finds_if {Has = Has} it right = finds_so it (λ t. Unit {0}) Has (λ t same any. right t same) (λ x t same is. is (right t same))

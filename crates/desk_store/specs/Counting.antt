@@ -1,6 +1,6 @@
 -- What the store keeps beside its tables: how many rows some of them have, the forms of the catalogue in force, the tallies of the
 -- releases, how many references of one document are adopted, and the releases that hold a choice.
-use Rattle.std.specs.Prelude.{◌≡◌, ℕ, ◌+◌, List, length, Option, Some, None}
+use Rattle.std.specs.Prelude.{◌≡◌, ◌<◌, ◌^◌, ℕ, ◌+◌, List, length, Option, Some, None}
 use Rattle.sqlite_trees.specs.Tree.{Trees}
 use Rattle.desk_model.specs.declared.command.Change.{Change}
 use Rattle.desk_model.specs.declared.command.Change.TheVariants as change
@@ -31,6 +31,14 @@ counts_after (change.Imported row packages references) c = record c { documents 
 counts_after (change.Opened row) c = record c { releases = c.releases + 1 }
 counts_after (change.Froze release revision rows duties changes) c = record c { duties = c.duties + length duties }
 counts_after _ c = c
+
+-- the count that a change adds to has room for it in 32 bits
+abbrev pub HasCount : Change → Counts → Type 0
+HasCount (change.Loaded row rules forms) c = c.revisions + 1 < 2 ^ 32
+HasCount (change.Imported row packages references) c = c.documents + 1 < 2 ^ 32
+HasCount (change.Opened row) c = c.releases + 1 < 2 ^ 32
+HasCount (change.Froze release revision rows duties changes) c = c.duties + length duties < 2 ^ 32
+HasCount _ c = Unit {0}
 
 -- the forms after a change
 abbrev pub forms_after : Change → List (List ℕ) → List (List ℕ)

@@ -1,7 +1,7 @@
 //! How many rows some of the tables have.
 
-ghost use Rattle.std.specs.Prelude.{◌≡◌, ◌+◌, IfSome};
-ghost use Rattle.desk_store.specs.Counting.{counts_after};
+ghost use Rattle.std.specs.Prelude.{◌≡◌, ◌+◌, IfNone, IfSome};
+ghost use Rattle.desk_store.specs.Counting.{HasCount, counts_after};
 
 use desk_model::Change;
 
@@ -16,7 +16,8 @@ pub struct Counts {
 
 /// The counts after a change, where they have room.
 pub(crate) fn counts_after(change: &Change, counts: Counts) -> Option<Counts>
-    ensures { IfSome result (λ after. after ≡ counts_after change.now counts) }
+    ensures after { IfSome result (λ after. after ≡ counts_after change.now counts) }
+    ensures none { IfNone result (¬ HasCount change.now counts) }
 {
     let mut after = counts;
     match change {

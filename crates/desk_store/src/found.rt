@@ -1,13 +1,11 @@
 //! What a store found of its rows, and keeps beside them.
 
-ghost use Rattle.std.specs.Prelude.{◌≡◌, false, IfOk, None};
-ghost use Rattle.sqlite.specs.Held.{state};
+ghost use Rattle.std.specs.Prelude.{◌≡◌, None};
 ghost use Rattle.desk_access.specs.Follows.{Follows};
-ghost use Rattle.desk_access.specs.Seen.{Looked, OfRows};
 ghost use Rattle.desk_history.specs.Laws.{Ascends};
 ghost use Rattle.desk_model.specs.Keys.{release_below};
 ghost use Rattle.desk_model.specs.Tables.{applied};
-ghost use Rattle.desk_sql_layout.specs.Held.{seen_of};
+ghost use Rattle.desk_sql_lookup.specs.LookUps.{LooksUp};
 ghost use Rattle.desk_store.specs.Counting.{AreCounted, AreFound};
 ghost use Rattle.desk_store.specs.Holding.{AreHeld};
 
@@ -55,12 +53,8 @@ fn adoptions_after<S: Alter>(
     change: &Change,
     adoptions: Option<Adoptions>,
 ) -> Result<Option<Adoptions>, Fault>
-    ensures counted { IfOk result (λ after. OfRows (λ t.
-        AreCounted adoptions t → AreCounted after (applied change.now t))
-        (seen_of (state S.Store conn.old)) (seen_of (state S.Store conn.new))) }
-    ensures kept { Looked (seen_of (state S.Store conn.old)) (seen_of (state S.Store conn.new))
-        result }
-    ensures mode { conn.old.in_transaction ≡ false → conn.new.in_transaction ≡ false }
+    ensures { LooksUp S.Store conn.old conn.new result (λ after t.
+        AreCounted adoptions t → AreCounted after (applied change.now t)) }
 {
     let Some(counted) = adoptions else {
         return Ok(None);
@@ -84,13 +78,9 @@ fn holders_after<S: Alter>(
     change: &Change,
     holders: Option<Holders>,
 ) -> Result<Option<Holders>, Fault>
-    ensures held { IfOk result (λ after. OfRows (λ t.
+    ensures { LooksUp S.Store conn.old conn.new result (λ after t.
         Ascends release_below (applied change.now t).releases → Follows change.now t
-        → AreHeld holders t → AreHeld after (applied change.now t))
-        (seen_of (state S.Store conn.old)) (seen_of (state S.Store conn.new))) }
-    ensures kept { Looked (seen_of (state S.Store conn.old)) (seen_of (state S.Store conn.new))
-        result }
-    ensures mode { conn.old.in_transaction ≡ false → conn.new.in_transaction ≡ false }
+        → AreHeld holders t → AreHeld after (applied change.now t)) }
 {
     let Some(mut held) = holders else {
         return Ok(None);
@@ -106,13 +96,9 @@ pub(crate) fn found_after<S: Alter>(
     change: &Change,
     found: Found,
 ) -> Result<Found, Fault>
-    ensures found { IfOk result (λ after. OfRows (λ t.
+    ensures { LooksUp S.Store conn.old conn.new result (λ after t.
         Ascends release_below (applied change.now t).releases → Follows change.now t
-        → AreFound found t → AreFound after (applied change.now t))
-        (seen_of (state S.Store conn.old)) (seen_of (state S.Store conn.new))) }
-    ensures kept { Looked (seen_of (state S.Store conn.old)) (seen_of (state S.Store conn.new))
-        result }
-    ensures mode { conn.old.in_transaction ≡ false → conn.new.in_transaction ≡ false }
+        → AreFound found t → AreFound after (applied change.now t)) }
 {
     let Found { adoptions, holders } = found;
     let counted = adoptions_after(alloc, conn, change, adoptions)?;

@@ -1,13 +1,11 @@
 //! The releases that hold a choice for a package, kept beside the rows.
 
-ghost use Rattle.std.specs.Prelude.{◌≡◌, true, false, filter, IfOk, IfNone, IfSome, OnOk, None, Some};
-ghost use Rattle.sqlite.specs.Held.{state};
-ghost use Rattle.desk_access.specs.Seen.{Looked, OfRows};
+ghost use Rattle.std.specs.Prelude.{◌≡◌, true, false, filter, IfErr, IfOk, IfNone, IfSome, OnOk, None, Some};
 ghost use Rattle.desk_history.specs.FromTables.{holder_found};
 ghost use Rattle.desk_model.specs.Keys.{below_by, is_choice_in};
 ghost use Rattle.desk_model.specs.Lists.{ascends};
 ghost use Rattle.desk_model.specs.Tables.{Tables};
-ghost use Rattle.desk_sql_layout.specs.Held.{seen_of};
+ghost use Rattle.desk_sql_lookup.specs.LookUps.{LooksUp};
 ghost use Rattle.desk_tally.specs.Kept.{ArePlaces, place_found};
 ghost use Rattle.desk_memory_rows.specs.Holders.{AreHolders, choosing, holders_after, leaving};
 ghost use Rattle.desk_sorted.specs.Orders.{release_order};
@@ -50,6 +48,7 @@ impl Holders {
         ensures none { IfOk result (λ found. IfNone found
             (ascends (below_by release_order) releases.now ≡ true
             → have_releases releases.now choices.now ≡ false)) }
+        ensures fault { IfErr result (λ fault. fault ≡ Fault.Memory) }
     {
         let mut rows = Blocks::new(alloc);
         for row in choices {
@@ -87,8 +86,9 @@ impl Holders {
         package_id: &Text,
         rows: &[ChoiceRow],
     ) -> Result<(), Fault>
-        ensures { OnOk result (held_by self.new ≡ choosing release.now (Some place) document
+        ensures held { OnOk result (held_by self.new ≡ choosing release.now (Some place) document
             package_id.now rows.now (held_by self.old)) }
+        ensures fault { IfErr result (λ fault. fault ≡ Fault.Memory) }
     {
         if rows.is_empty() {
             drop_choice(&mut self.rows, release, place, document, package_id);
@@ -103,15 +103,9 @@ pub(crate) fn read_holders<S: Alter>(
     alloc: Global,
     conn: &mut Connection<S>,
 ) -> Result<Option<Holders>, Fault>
-    ensures held { IfOk result (λ found. IfSome found (λ holders.
-        OfRows (AreHolders (held_by holders)) (seen_of (state S.Store conn.old))
-        (seen_of (state S.Store conn.new)))) }
-    ensures none { IfOk result (λ found. IfNone found
-        (OfRows (λ t. have_releases t.releases t.choice ≡ false) (seen_of (state S.Store conn.old))
-        (seen_of (state S.Store conn.new)))) }
-    ensures kept { Looked (seen_of (state S.Store conn.old)) (seen_of (state S.Store conn.new))
-        result }
-    ensures mode { conn.old.in_transaction ≡ false → conn.new.in_transaction ≡ false }
+    ensures { LooksUp S.Store conn.old conn.new result (λ found t.
+        IfSome found (λ holders. AreHolders (held_by holders) t)
+        × IfNone found (have_releases t.releases t.choice ≡ false)) }
 {
     let releases = desk_sql_lookup::release_rows(alloc, conn)?;
     let choices = desk_sql_lookup::choices(alloc, conn)?;
@@ -124,11 +118,8 @@ pub(crate) fn release_place<S: Alter>(
     conn: &mut Connection<S>,
     name: &str,
 ) -> Result<Option<u32>, Fault>
-    ensures found { IfOk result (λ place. OfRows (λ t. place ≡ place_found t.releases name.now)
-        (seen_of (state S.Store conn.old)) (seen_of (state S.Store conn.new))) }
-    ensures kept { Looked (seen_of (state S.Store conn.old)) (seen_of (state S.Store conn.new))
-        result }
-    ensures mode { conn.old.in_transaction ≡ false → conn.new.in_transaction ≡ false }
+    ensures { LooksUp S.Store conn.old conn.new result (λ place t.
+        place ≡ place_found t.releases name.now) }
 {
     match desk_sql_lookup::release(alloc, conn, name)? {
         Some(row) => Ok(Some(row.place)),
@@ -146,13 +137,9 @@ fn choose<S: Alter>(
     package_id: &Text,
     rows: &[ChoiceRow],
 ) -> Result<(), Fault>
-    ensures held { OnOk result (OfRows (λ t. held_by holders.new ≡ choosing release.now
-        (place_found t.releases release.now) document package_id.now rows.now
-        (held_by holders.old)) (seen_of (state S.Store conn.old))
-        (seen_of (state S.Store conn.new))) }
-    ensures kept { Looked (seen_of (state S.Store conn.old)) (seen_of (state S.Store conn.new))
-        result }
-    ensures mode { conn.old.in_transaction ≡ false → conn.new.in_transaction ≡ false }
+    ensures { LooksUp S.Store conn.old conn.new result (λ done t. held_by holders.new
+        ≡ choosing release.now (place_found t.releases release.now) document package_id.now
+        rows.now (held_by holders.old)) }
 {
     match release_place(alloc, conn, release.as_str())? {
         Some(place) => holders.choose(release, place, document, package_id, rows),
@@ -167,13 +154,9 @@ fn withdraw<S: Alter>(
     holders: &mut Holders,
     release: &Text,
 ) -> Result<(), Fault>
-    ensures held { OnOk result (OfRows (λ t. held_by holders.new ≡ leaving
-        (place_found t.releases release.now) (filter (is_choice_in release.now) t.choice)
-        (held_by holders.old)) (seen_of (state S.Store conn.old))
-        (seen_of (state S.Store conn.new))) }
-    ensures kept { Looked (seen_of (state S.Store conn.old)) (seen_of (state S.Store conn.new))
-        result }
-    ensures mode { conn.old.in_transaction ≡ false → conn.new.in_transaction ≡ false }
+    ensures { LooksUp S.Store conn.old conn.new result (λ done t. held_by holders.new
+        ≡ leaving (place_found t.releases release.now) (filter (is_choice_in release.now) t.choice)
+        (held_by holders.old)) }
 {
     let Some(place) = release_place(alloc, conn, release.as_str())? else {
         return Ok(());
@@ -190,12 +173,8 @@ pub(crate) fn change_holders<S: Alter>(
     holders: &mut Holders,
     change: &Change,
 ) -> Result<(), Fault>
-    ensures held { OnOk result (OfRows (λ t. held_by holders.new
-        ≡ holders_after change.now t (held_by holders.old)) (seen_of (state S.Store conn.old))
-        (seen_of (state S.Store conn.new))) }
-    ensures kept { Looked (seen_of (state S.Store conn.old)) (seen_of (state S.Store conn.new))
-        result }
-    ensures mode { conn.old.in_transaction ≡ false → conn.new.in_transaction ≡ false }
+    ensures { LooksUp S.Store conn.old conn.new result (λ done t.
+        held_by holders.new ≡ holders_after change.now t (held_by holders.old)) }
 {
     match change {
         Change::Chosen {

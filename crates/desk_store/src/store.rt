@@ -1,19 +1,23 @@
 //! The store: the desk's rows over a connection.
 //!
-//! Its look-ups repeat what the trait says of them, and say by `cause` when they fail
-//! (`specs/Causes.antt`), all but `holder`.
+//! Its look-ups and its commit say what the trait says of them, and when they fail
+//! (`specs/Causes.antt`).
 
-ghost use Rattle.std.specs.Prelude.{◌≡◌, ℕ, List, false, unwrap_or, IfErr, IfOk, IfSome, length, filter, find, map};
+ghost use Rattle.std.specs.Prelude.{◌≡◌, ℕ, List, true, false, unwrap_or, IfErr, IfOk, IfSome, length, filter, find, map};
 ghost use Rattle.std.specs.Option.{option_map};
 ghost use Rattle.std.specs.List.{list_any};
 ghost use Rattle.std.specs.Str.{bytes_eq};
 ghost use Rattle.sqlite_trees.specs.Tree.{Trees};
 ghost use Rattle.sqlite.specs.Held.{state};
 ghost use Rattle.desk_model.specs.Tables.{Tables, applied, tables};
-ghost use Rattle.desk_access.specs.Seen.{Looked, OfRows};
+ghost use Rattle.desk_access.specs.Follows.{Follows};
+ghost use Rattle.desk_access.specs.Seen.{Looked, Wrote};
 ghost use Rattle.desk_history.specs.Laws.{Ascends};
 ghost use Rattle.desk_core.specs.Desks.{InHistory};
 ghost use Rattle.desk_sql_layout.specs.Held.{Stands, known_of, seen_of};
+ghost use Rattle.desk_sql_layout.specs.Writable.{is_writable};
+ghost use Rattle.desk_sql_lookup.specs.LookUps.{LooksUp, LooksUpGiven};
+ghost use Rattle.desk_sql_write.specs.Taking.{HasSmallRevision};
 ghost use Rattle.desk_model.specs.Bills.{extracted_text, revision_text};
 ghost use Rattle.desk_model.specs.Conclusions.{licence_for, office_text};
 ghost use Rattle.desk_model.specs.Findings.{source_of};
@@ -24,8 +28,9 @@ ghost use Rattle.desk_history.specs.FromTables.{adoption_count, duty_found, ende
 ghost use Rattle.desk_tally.specs.Kept.{AreKept, Fits, IsPlaceFor, LeadsTo};
 ghost use Rattle.desk_snapshot.specs.Tables.{snapshot_of};
 ghost use Rattle.desk_store.specs.Auditing.{IsAudit};
-ghost use Rattle.desk_store.specs.Causes.{MissesFor};
+ghost use Rattle.desk_store.specs.Causes.{CommitFailsFor, Finds, FindsIf};
 ghost use Rattle.desk_store.specs.Counting.{forms_after, known_by, tallied};
+ghost use Rattle.desk_store.specs.Holding.{have_releases};
 ghost use Rattle.desk_texts.specs.Right.{AreRight};
 
 use crate::audit::audit_connection;
@@ -154,11 +159,7 @@ fn place_for<S: Alter>(
     conn: &mut Connection<S>,
     change: &Change,
 ) -> Result<Option<u32>, Fault>
-    ensures found { IfOk result (λ place. OfRows (IsPlaceFor change.now place)
-        (seen_of (state S.Store conn.old)) (seen_of (state S.Store conn.new))) }
-    ensures kept { Looked (seen_of (state S.Store conn.old)) (seen_of (state S.Store conn.new))
-        result }
-    ensures mode { conn.old.in_transaction ≡ false → conn.new.in_transaction ≡ false }
+    ensures { LooksUp S.Store conn.old conn.new result (IsPlaceFor change.now) }
 {
     let Change::Froze { release, .. } = change else {
         return Ok(None);
@@ -169,13 +170,11 @@ fn place_for<S: Alter>(
 impl<S: Alter> SqlStore<S> {
     /// What a change comes to for the tallies, with room made for it.
     fn plan(&mut self, change: &Change) -> Result<Step, Fault>
-        ensures leads { IfOk result (λ step. OfRows (λ t.
+        ensures looks { LooksUpGiven S.Store (λ t. AreKept self.old.tallies t
+            × Follows change.now t) self.old.conn self.new.conn result (λ step t.
             Ascends release_below (applied change.now t).releases → AreKept self.old.tallies t
-            → LeadsTo step self.new.tallies (applied change.now t))
-            (seen_of (state S.Store self.old.conn)) (seen_of (state S.Store self.new.conn))) }
+            → LeadsTo step self.new.tallies (applied change.now t)) }
         ensures fits { IfOk result (λ step. Fits step self.new.tallies) }
-        ensures kept { Looked (seen_of (state S.Store self.old.conn))
-            (seen_of (state S.Store self.new.conn)) result }
         ensures tallies { (t : Tables) → AreKept self.old.tallies t → AreKept self.new.tallies t }
         ensures counts { self.new.counts ≡ self.old.counts }
         ensures forms { self.new.forms ≡ self.old.forms }
@@ -226,13 +225,8 @@ impl<S: Alter> Store for SqlStore<S> {
     }
 
     fn catalogue_text(&mut self, revision: u64) -> Result<Option<Text>, Fault>
-        ensures found { IfOk result (λ found. OfRows (λ t. found ≡ revision_text t.catalogue
-            revision) (⟦<SqlStore<S> as Store>⟧.seen self.old)
-            (⟦<SqlStore<S> as Store>⟧.seen self.new)) }
-        ensures kept { Looked (⟦<SqlStore<S> as Store>⟧.seen self.old)
-            (⟦<SqlStore<S> as Store>⟧.seen self.new) result }
-        ensures cause { IfErr result (MissesFor (⟦<SqlStore<S> as Store>⟧.seen self.old) (state
-            S.Store self.old.conn) (state S.Store self.new.conn)) }
+        ensures { Finds ⟦<SqlStore<S> as Store>⟧.seen (λ s. state S.Store s.conn) self.old self.new
+            result (λ found t. found ≡ revision_text t.catalogue revision) }
     {
         desk_sql_lookup::catalogue_text(self.alloc, &mut self.conn, self.counts.revisions, revision)
     }
@@ -242,13 +236,8 @@ impl<S: Alter> Store for SqlStore<S> {
     }
 
     fn rule(&mut self, term: &str, form: &str) -> Result<Option<Rule>, Fault>
-        ensures found { IfOk result (λ found. OfRows (λ t. found ≡ rule_for (rules_found t)
-            term.now form.now) (⟦<SqlStore<S> as Store>⟧.seen self.old)
-            (⟦<SqlStore<S> as Store>⟧.seen self.new)) }
-        ensures kept { Looked (⟦<SqlStore<S> as Store>⟧.seen self.old)
-            (⟦<SqlStore<S> as Store>⟧.seen self.new) result }
-        ensures cause { IfErr result (MissesFor (⟦<SqlStore<S> as Store>⟧.seen self.old) (state
-            S.Store self.old.conn) (state S.Store self.new.conn)) }
+        ensures { Finds ⟦<SqlStore<S> as Store>⟧.seen (λ s. state S.Store s.conn) self.old self.new
+            result (λ found t. found ≡ rule_for (rules_found t) term.now form.now) }
     {
         desk_sql_lookup::rule(
             self.alloc,
@@ -264,108 +253,69 @@ impl<S: Alter> Store for SqlStore<S> {
     }
 
     fn import_of(&mut self, namespace: &str, bytes: &[u8]) -> Result<Option<(u32, bool)>, Fault>
-        ensures found { IfOk result (λ found. OfRows (λ t. found ≡ option_map (known_import
-            bytes.now) (find (has_namespace namespace.now) t.document))
-            (⟦<SqlStore<S> as Store>⟧.seen self.old) (⟦<SqlStore<S> as Store>⟧.seen self.new)) }
-        ensures kept { Looked (⟦<SqlStore<S> as Store>⟧.seen self.old)
-            (⟦<SqlStore<S> as Store>⟧.seen self.new) result }
-        ensures cause { IfErr result (MissesFor (⟦<SqlStore<S> as Store>⟧.seen self.old) (state
-            S.Store self.old.conn) (state S.Store self.new.conn)) }
+        ensures { Finds ⟦<SqlStore<S> as Store>⟧.seen (λ s. state S.Store s.conn) self.old self.new
+            result (λ found t. found ≡ option_map (known_import bytes.now) (find (has_namespace
+            namespace.now) t.document)) }
     {
         desk_sql_lookup::import_of(&mut self.conn, namespace, bytes)
     }
 
     fn document(&mut self, number: u64) -> Result<Option<(u32, Profile)>, Fault>
-        ensures found { IfOk result (λ found. OfRows (λ t. found ≡ option_map known_document (find
-            (is_document number) t.document)) (⟦<SqlStore<S> as Store>⟧.seen self.old)
-            (⟦<SqlStore<S> as Store>⟧.seen self.new)) }
+        ensures looks { Finds ⟦<SqlStore<S> as Store>⟧.seen (λ s. state S.Store s.conn) self.old
+            self.new result (λ found t. found ≡ option_map known_document (find (is_document number)
+            t.document)) }
         ensures same { IfOk result (λ found. IfSome found (λ known. known.0 ≡ number)) }
-        ensures kept { Looked (⟦<SqlStore<S> as Store>⟧.seen self.old)
-            (⟦<SqlStore<S> as Store>⟧.seen self.new) result }
-        ensures cause { IfErr result (MissesFor (⟦<SqlStore<S> as Store>⟧.seen self.old) (state
-            S.Store self.old.conn) (state S.Store self.new.conn)) }
     {
         desk_sql_lookup::document(self.alloc, &mut self.conn, self.counts.documents, number)
     }
 
     fn documents(&mut self) -> Result<Vec<DocumentHead>, Fault>
-        ensures found { IfOk result (λ found. OfRows (λ t. found.items ≡ map head_of t.document)
-            (⟦<SqlStore<S> as Store>⟧.seen self.old) (⟦<SqlStore<S> as Store>⟧.seen self.new)) }
-        ensures kept { Looked (⟦<SqlStore<S> as Store>⟧.seen self.old)
-            (⟦<SqlStore<S> as Store>⟧.seen self.new) result }
-        ensures cause { IfErr result (MissesFor (⟦<SqlStore<S> as Store>⟧.seen self.old) (state
-            S.Store self.old.conn) (state S.Store self.new.conn)) }
+        ensures { Finds ⟦<SqlStore<S> as Store>⟧.seen (λ s. state S.Store s.conn) self.old self.new
+            result (λ found t. found.items ≡ map head_of t.document) }
     {
         desk_sql_lookup::document_heads(self.alloc, &mut self.conn)
     }
 
     fn document_source(&mut self, number: u64) -> Result<Option<(Items<u8>, Profile)>, Fault>
-        ensures found { IfOk result (λ found. OfRows (λ t. found ≡ option_map source_of (find
-            (is_document number) t.document)) (⟦<SqlStore<S> as Store>⟧.seen self.old)
-            (⟦<SqlStore<S> as Store>⟧.seen self.new)) }
-        ensures kept { Looked (⟦<SqlStore<S> as Store>⟧.seen self.old)
-            (⟦<SqlStore<S> as Store>⟧.seen self.new) result }
-        ensures cause { IfErr result (MissesFor (⟦<SqlStore<S> as Store>⟧.seen self.old) (state
-            S.Store self.old.conn) (state S.Store self.new.conn)) }
+        ensures { Finds ⟦<SqlStore<S> as Store>⟧.seen (λ s. state S.Store s.conn) self.old self.new
+            result (λ found t. found ≡ option_map source_of (find (is_document number)
+            t.document)) }
     {
         desk_sql_lookup::document_source(self.alloc, &mut self.conn, self.counts.documents, number)
     }
 
     fn package_row(&mut self, document: u64, id: &str) -> Result<Option<PackageRow>, Fault>
-        ensures found { IfOk result (λ found. OfRows (λ t. found ≡ find (is_package document
-            id.now) t.packages) (⟦<SqlStore<S> as Store>⟧.seen self.old)
-            (⟦<SqlStore<S> as Store>⟧.seen self.new)) }
-        ensures kept { Looked (⟦<SqlStore<S> as Store>⟧.seen self.old)
-            (⟦<SqlStore<S> as Store>⟧.seen self.new) result }
-        ensures cause { IfErr result (MissesFor (⟦<SqlStore<S> as Store>⟧.seen self.old) (state
-            S.Store self.old.conn) (state S.Store self.new.conn)) }
+        ensures { Finds ⟦<SqlStore<S> as Store>⟧.seen (λ s. state S.Store s.conn) self.old self.new
+            result (λ found t. found ≡ find (is_package document id.now) t.packages) }
     {
         let documents = self.counts.documents;
         desk_sql_lookup::package_row(self.alloc, &mut self.conn, documents, document, id)
     }
 
     fn shipped(&mut self, document: u32) -> Result<Vec<PackageRow>, Fault>
-        ensures found { IfOk result (λ found. OfRows (λ t. found.items ≡ filter (is_shipped_by
-            document) t.packages) (⟦<SqlStore<S> as Store>⟧.seen self.old)
-            (⟦<SqlStore<S> as Store>⟧.seen self.new)) }
-        ensures kept { Looked (⟦<SqlStore<S> as Store>⟧.seen self.old)
-            (⟦<SqlStore<S> as Store>⟧.seen self.new) result }
-        ensures cause { IfErr result (MissesFor (⟦<SqlStore<S> as Store>⟧.seen self.old) (state
-            S.Store self.old.conn) (state S.Store self.new.conn)) }
+        ensures { Finds ⟦<SqlStore<S> as Store>⟧.seen (λ s. state S.Store s.conn) self.old self.new
+            result (λ found t. found.items ≡ filter (is_shipped_by document) t.packages) }
     {
         desk_sql_lookup::shipped(self.alloc, &mut self.conn, document)
     }
 
     fn extracted_text(&mut self, document: u32, reference: &str) -> Result<Option<Text>, Fault>
-        ensures found { IfOk result (λ found. OfRows (λ t. found ≡ extracted_text t.extracted
-            document reference.now) (⟦<SqlStore<S> as Store>⟧.seen self.old)
-            (⟦<SqlStore<S> as Store>⟧.seen self.new)) }
-        ensures kept { Looked (⟦<SqlStore<S> as Store>⟧.seen self.old)
-            (⟦<SqlStore<S> as Store>⟧.seen self.new) result }
-        ensures cause { IfErr result (MissesFor (⟦<SqlStore<S> as Store>⟧.seen self.old) (state
-            S.Store self.old.conn) (state S.Store self.new.conn)) }
+        ensures { Finds ⟦<SqlStore<S> as Store>⟧.seen (λ s. state S.Store s.conn) self.old self.new
+            result (λ found t. found ≡ extracted_text t.extracted document reference.now) }
     {
         desk_sql_lookup::extracted_text(self.alloc, &mut self.conn, document, reference)
     }
 
     fn release(&mut self, name: &str) -> Result<Option<ReleaseRow>, Fault>
-        ensures found { IfOk result (λ found. OfRows (λ t. found ≡ release_found t name.now)
-            (⟦<SqlStore<S> as Store>⟧.seen self.old) (⟦<SqlStore<S> as Store>⟧.seen self.new)) }
-        ensures kept { Looked (⟦<SqlStore<S> as Store>⟧.seen self.old)
-            (⟦<SqlStore<S> as Store>⟧.seen self.new) result }
-        ensures cause { IfErr result (MissesFor (⟦<SqlStore<S> as Store>⟧.seen self.old) (state
-            S.Store self.old.conn) (state S.Store self.new.conn)) }
+        ensures { Finds ⟦<SqlStore<S> as Store>⟧.seen (λ s. state S.Store s.conn) self.old self.new
+            result (λ found t. found ≡ release_found t name.now) }
     {
         desk_sql_lookup::release(self.alloc, &mut self.conn, name)
     }
 
     fn releases(&mut self) -> Result<Vec<ReleaseRow>, Fault>
-        ensures found { IfOk result (λ found. OfRows (λ t. found.items ≡ t.releases)
-            (⟦<SqlStore<S> as Store>⟧.seen self.old) (⟦<SqlStore<S> as Store>⟧.seen self.new)) }
-        ensures kept { Looked (⟦<SqlStore<S> as Store>⟧.seen self.old)
-            (⟦<SqlStore<S> as Store>⟧.seen self.new) result }
-        ensures cause { IfErr result (MissesFor (⟦<SqlStore<S> as Store>⟧.seen self.old) (state
-            S.Store self.old.conn) (state S.Store self.new.conn)) }
+        ensures { Finds ⟦<SqlStore<S> as Store>⟧.seen (λ s. state S.Store s.conn) self.old self.new
+            result (λ found t. found.items ≡ t.releases) }
     {
         desk_sql_lookup::release_rows(self.alloc, &mut self.conn)
     }
@@ -375,78 +325,54 @@ impl<S: Alter> Store for SqlStore<S> {
     }
 
     fn attached(&mut self, release: &str) -> Result<Vec<AttachedRow>, Fault>
-        ensures found { IfOk result (λ found. OfRows (λ t. found.items ≡ attached_to t.attached
-            release.now) (⟦<SqlStore<S> as Store>⟧.seen self.old)
-            (⟦<SqlStore<S> as Store>⟧.seen self.new)) }
-        ensures kept { Looked (⟦<SqlStore<S> as Store>⟧.seen self.old)
-            (⟦<SqlStore<S> as Store>⟧.seen self.new) result }
-        ensures cause { IfErr result (MissesFor (⟦<SqlStore<S> as Store>⟧.seen self.old) (state
-            S.Store self.old.conn) (state S.Store self.new.conn)) }
+        ensures { Finds ⟦<SqlStore<S> as Store>⟧.seen (λ s. state S.Store s.conn) self.old self.new
+            result (λ found t. found.items ≡ attached_to t.attached release.now) }
     {
         desk_sql_lookup::attached(self.alloc, &mut self.conn, release)
     }
 
     fn is_attached(&mut self, release: &str, document: u64) -> Result<bool, Fault>
-        ensures found { IfOk result (λ is. OfRows (λ t. is ≡ list_any (is_attachment release.now
-            document) t.attached) (⟦<SqlStore<S> as Store>⟧.seen self.old)
-            (⟦<SqlStore<S> as Store>⟧.seen self.new)) }
-        ensures kept { Looked (⟦<SqlStore<S> as Store>⟧.seen self.old)
-            (⟦<SqlStore<S> as Store>⟧.seen self.new) result }
-        ensures cause { IfErr result (MissesFor (⟦<SqlStore<S> as Store>⟧.seen self.old) (state
-            S.Store self.old.conn) (state S.Store self.new.conn)) }
+        ensures { Finds ⟦<SqlStore<S> as Store>⟧.seen (λ s. state S.Store s.conn) self.old self.new
+            result (λ is t. is ≡ list_any (is_attachment release.now document) t.attached) }
     {
         desk_sql_lookup::is_attached(self.alloc, &mut self.conn, release, document)
     }
 
     fn attached_count(&mut self, release: &str) -> Result<u64, Fault>
-        ensures found { IfOk result (λ n. OfRows (λ t. n ≡ length (attached_to t.attached
-            release.now)) (⟦<SqlStore<S> as Store>⟧.seen self.old)
-            (⟦<SqlStore<S> as Store>⟧.seen self.new)) }
-        ensures kept { Looked (⟦<SqlStore<S> as Store>⟧.seen self.old)
-            (⟦<SqlStore<S> as Store>⟧.seen self.new) result }
-        ensures cause { IfErr result (MissesFor (⟦<SqlStore<S> as Store>⟧.seen self.old) (state
-            S.Store self.old.conn) (state S.Store self.new.conn)) }
+        ensures { Finds ⟦<SqlStore<S> as Store>⟧.seen (λ s. state S.Store s.conn) self.old self.new
+            result (λ n t. n ≡ length (attached_to t.attached release.now)) }
     {
         desk_sql_lookup::attached_count(&mut self.conn, release)
     }
 
     fn chosen(&mut self, release: &str, document: u32, id: &str) -> Result<Vec<Text>, Fault>
-        ensures found { IfOk result (λ found. OfRows (λ t. found.items ≡ map (λ row. row.term)
-            (filter (is_choice_of release.now document id.now) t.choice))
-            (⟦<SqlStore<S> as Store>⟧.seen self.old) (⟦<SqlStore<S> as Store>⟧.seen self.new)) }
-        ensures kept { Looked (⟦<SqlStore<S> as Store>⟧.seen self.old)
-            (⟦<SqlStore<S> as Store>⟧.seen self.new) result }
-        ensures cause { IfErr result (MissesFor (⟦<SqlStore<S> as Store>⟧.seen self.old) (state
-            S.Store self.old.conn) (state S.Store self.new.conn)) }
+        ensures { Finds ⟦<SqlStore<S> as Store>⟧.seen (λ s. state S.Store s.conn) self.old self.new
+            result (λ found t. found.items ≡ map (λ row. row.term) (filter (is_choice_of release.now
+            document id.now) t.choice)) }
     {
         desk_sql_lookup::chosen(self.alloc, &mut self.conn, release, document, id)
     }
 
     fn frozen(&mut self, release: &str) -> Result<Vec<FrozenRow>, Fault>
-        ensures found { IfOk result (λ found. OfRows (λ t. found.items ≡ filter (λ row. bytes_eq
-            row.release release.now) t.frozen) (⟦<SqlStore<S> as Store>⟧.seen self.old)
-            (⟦<SqlStore<S> as Store>⟧.seen self.new)) }
-        ensures kept { Looked (⟦<SqlStore<S> as Store>⟧.seen self.old)
-            (⟦<SqlStore<S> as Store>⟧.seen self.new) result }
-        ensures cause { IfErr result (MissesFor (⟦<SqlStore<S> as Store>⟧.seen self.old) (state
-            S.Store self.old.conn) (state S.Store self.new.conn)) }
+        ensures { Finds ⟦<SqlStore<S> as Store>⟧.seen (λ s. state S.Store s.conn) self.old self.new
+            result (λ found t. found.items ≡ filter (λ row. bytes_eq row.release release.now)
+            t.frozen) }
     {
         desk_sql_lookup::frozen(self.alloc, &mut self.conn, release)
     }
 
     fn conclusion(&mut self, document: u32, id: &str) -> Result<Option<Text>, Fault>
-        ensures found { IfOk result (λ found. OfRows (λ t. found ≡ office_text t.conclusion
-            document id.now) (⟦<SqlStore<S> as Store>⟧.seen self.old)
-            (⟦<SqlStore<S> as Store>⟧.seen self.new)) }
-        ensures kept { Looked (⟦<SqlStore<S> as Store>⟧.seen self.old)
-            (⟦<SqlStore<S> as Store>⟧.seen self.new) result }
-        ensures cause { IfErr result (MissesFor (⟦<SqlStore<S> as Store>⟧.seen self.old) (state
-            S.Store self.old.conn) (state S.Store self.new.conn)) }
+        ensures { Finds ⟦<SqlStore<S> as Store>⟧.seen (λ s. state S.Store s.conn) self.old self.new
+            result (λ found t. found ≡ office_text t.conclusion document id.now) }
     {
         desk_sql_lookup::conclusion(self.alloc, &mut self.conn, document, id)
     }
 
-    fn holder(&mut self, document: u32, id: &str) -> Result<Option<Text>, Fault> {
+    fn holder(&mut self, document: u32, id: &str) -> Result<Option<Text>, Fault>
+        ensures { FindsIf (λ t. have_releases t.releases t.choice ≡ true)
+            ⟦<SqlStore<S> as Store>⟧.seen (λ s. state S.Store s.conn) self.old self.new result
+            (λ found t. found ≡ holder_found t document id.now) }
+    {
         if let Some(holders) = &self.found.holders {
             return Ok(holders.first(document, id)?);
         }
@@ -459,24 +385,15 @@ impl<S: Alter> Store for SqlStore<S> {
     }
 
     fn adoption(&mut self, document: u32, reference: &str) -> Result<Option<Text>, Fault>
-        ensures found { IfOk result (λ found. OfRows (λ t. found ≡ licence_for t.adoption document
-            reference.now) (⟦<SqlStore<S> as Store>⟧.seen self.old)
-            (⟦<SqlStore<S> as Store>⟧.seen self.new)) }
-        ensures kept { Looked (⟦<SqlStore<S> as Store>⟧.seen self.old)
-            (⟦<SqlStore<S> as Store>⟧.seen self.new) result }
-        ensures cause { IfErr result (MissesFor (⟦<SqlStore<S> as Store>⟧.seen self.old) (state
-            S.Store self.old.conn) (state S.Store self.new.conn)) }
+        ensures { Finds ⟦<SqlStore<S> as Store>⟧.seen (λ s. state S.Store s.conn) self.old self.new
+            result (λ found t. found ≡ licence_for t.adoption document reference.now) }
     {
         desk_sql_lookup::adoption(self.alloc, &mut self.conn, document, reference)
     }
 
     fn adoption_count(&mut self, document: u32) -> Result<u64, Fault>
-        ensures found { IfOk result (λ n. OfRows (λ t. n ≡ adoption_count t document)
-            (⟦<SqlStore<S> as Store>⟧.seen self.old) (⟦<SqlStore<S> as Store>⟧.seen self.new)) }
-        ensures kept { Looked (⟦<SqlStore<S> as Store>⟧.seen self.old)
-            (⟦<SqlStore<S> as Store>⟧.seen self.new) result }
-        ensures cause { IfErr result (MissesFor (⟦<SqlStore<S> as Store>⟧.seen self.old) (state
-            S.Store self.old.conn) (state S.Store self.new.conn)) }
+        ensures { Finds ⟦<SqlStore<S> as Store>⟧.seen (λ s. state S.Store s.conn) self.old self.new
+            result (λ n t. n ≡ adoption_count t document) }
     {
         if let Some(adoptions) = self.found.adoptions
             && adoptions.document == document
@@ -489,13 +406,9 @@ impl<S: Alter> Store for SqlStore<S> {
     }
 
     fn duty(&mut self, number: u64) -> Result<Option<DutyRow>, Fault>
-        ensures found { IfOk result (λ found. OfRows (λ t. found ≡ duty_found t number)
-            (⟦<SqlStore<S> as Store>⟧.seen self.old) (⟦<SqlStore<S> as Store>⟧.seen self.new)) }
+        ensures looks { Finds ⟦<SqlStore<S> as Store>⟧.seen (λ s. state S.Store s.conn) self.old
+            self.new result (λ found t. found ≡ duty_found t number) }
         ensures same { IfOk result (λ found. IfSome found (λ row. row.number ≡ number)) }
-        ensures kept { Looked (⟦<SqlStore<S> as Store>⟧.seen self.old)
-            (⟦<SqlStore<S> as Store>⟧.seen self.new) result }
-        ensures cause { IfErr result (MissesFor (⟦<SqlStore<S> as Store>⟧.seen self.old) (state
-            S.Store self.old.conn) (state S.Store self.new.conn)) }
     {
         desk_sql_lookup::duty(self.alloc, &mut self.conn, self.counts.duties, number)
     }
@@ -505,25 +418,16 @@ impl<S: Alter> Store for SqlStore<S> {
     }
 
     fn duties_of(&mut self, release: &str) -> Result<Vec<DutyRow>, Fault>
-        ensures found { IfOk result (λ found. OfRows (λ t. found.items ≡ filter (is_duty_of
-            release.now) t.duty) (⟦<SqlStore<S> as Store>⟧.seen self.old)
-            (⟦<SqlStore<S> as Store>⟧.seen self.new)) }
-        ensures kept { Looked (⟦<SqlStore<S> as Store>⟧.seen self.old)
-            (⟦<SqlStore<S> as Store>⟧.seen self.new) result }
-        ensures cause { IfErr result (MissesFor (⟦<SqlStore<S> as Store>⟧.seen self.old) (state
-            S.Store self.old.conn) (state S.Store self.new.conn)) }
+        ensures { Finds ⟦<SqlStore<S> as Store>⟧.seen (λ s. state S.Store s.conn) self.old self.new
+            result (λ found t. found.items ≡ filter (is_duty_of release.now) t.duty) }
     {
         desk_sql_lookup::duties_of(self.alloc, &mut self.conn, release)
     }
 
     fn tally(&mut self, release: &str) -> Result<Option<Totals>, Fault>
-        ensures found { IfOk result (λ found. OfRows (λ t. found ≡ option_map (λ row. totals_of
-            (filter (is_duty_of release.now) t.duty)) (release_found t release.now))
-            (⟦<SqlStore<S> as Store>⟧.seen self.old) (⟦<SqlStore<S> as Store>⟧.seen self.new)) }
-        ensures kept { Looked (⟦<SqlStore<S> as Store>⟧.seen self.old)
-            (⟦<SqlStore<S> as Store>⟧.seen self.new) result }
-        ensures cause { IfErr result (MissesFor (⟦<SqlStore<S> as Store>⟧.seen self.old) (state
-            S.Store self.old.conn) (state S.Store self.new.conn)) }
+        ensures { Finds ⟦<SqlStore<S> as Store>⟧.seen (λ s. state S.Store s.conn) self.old self.new
+            result (λ found t. found ≡ option_map (λ row. totals_of (filter (is_duty_of release.now)
+            t.duty)) (release_found t release.now)) }
     {
         match desk_sql_lookup::release(self.alloc, &mut self.conn, release)? {
             Some(row) => Ok(self.tallies.totals(row.place)),
@@ -532,64 +436,47 @@ impl<S: Alter> Store for SqlStore<S> {
     }
 
     fn standings_of(&mut self, release: &str) -> Result<Vec<Standing>, Fault>
-        ensures found { IfOk result (λ found. OfRows (λ t. found.items ≡ standings_found t
-            release.now) (⟦<SqlStore<S> as Store>⟧.seen self.old)
-            (⟦<SqlStore<S> as Store>⟧.seen self.new)) }
-        ensures kept { Looked (⟦<SqlStore<S> as Store>⟧.seen self.old)
-            (⟦<SqlStore<S> as Store>⟧.seen self.new) result }
-        ensures cause { IfErr result (MissesFor (⟦<SqlStore<S> as Store>⟧.seen self.old) (state
-            S.Store self.old.conn) (state S.Store self.new.conn)) }
+        ensures { Finds ⟦<SqlStore<S> as Store>⟧.seen (λ s. state S.Store s.conn) self.old self.new
+            result (λ found t. found.items ≡ standings_found t release.now) }
     {
         desk_sql_lookup::standings_of(self.alloc, &mut self.conn, self.counts.duties, release)
     }
 
     fn ended(&mut self, day: Day) -> Result<Vec<Standing>, Fault>
-        ensures found { IfOk result (λ found. OfRows (λ t. found.items ≡ ended_found t day)
-            (⟦<SqlStore<S> as Store>⟧.seen self.old) (⟦<SqlStore<S> as Store>⟧.seen self.new)) }
-        ensures kept { Looked (⟦<SqlStore<S> as Store>⟧.seen self.old)
-            (⟦<SqlStore<S> as Store>⟧.seen self.new) result }
-        ensures cause { IfErr result (MissesFor (⟦<SqlStore<S> as Store>⟧.seen self.old) (state
-            S.Store self.old.conn) (state S.Store self.new.conn)) }
+        ensures { Finds ⟦<SqlStore<S> as Store>⟧.seen (λ s. state S.Store s.conn) self.old self.new
+            result (λ found t. found.items ≡ ended_found t day) }
     {
         desk_sql_lookup::ended(self.alloc, &mut self.conn, self.counts.duties, day)
     }
 
     fn steps(&mut self, duty: u64) -> Result<u64, Fault>
-        ensures found { IfOk result (λ n. OfRows (λ t. n ≡ steps_found t duty)
-            (⟦<SqlStore<S> as Store>⟧.seen self.old) (⟦<SqlStore<S> as Store>⟧.seen self.new)) }
-        ensures kept { Looked (⟦<SqlStore<S> as Store>⟧.seen self.old)
-            (⟦<SqlStore<S> as Store>⟧.seen self.new) result }
-        ensures cause { IfErr result (MissesFor (⟦<SqlStore<S> as Store>⟧.seen self.old) (state
-            S.Store self.old.conn) (state S.Store self.new.conn)) }
+        ensures { Finds ⟦<SqlStore<S> as Store>⟧.seen (λ s. state S.Store s.conn) self.old self.new
+            result (λ n t. n ≡ steps_found t duty) }
     {
         desk_sql_lookup::steps(&mut self.conn, self.counts.duties, duty)
     }
 
     fn changes_of(&mut self, duty: u64) -> Result<Vec<ChangeRow>, Fault>
-        ensures found { IfOk result (λ found. OfRows (λ t. found.items ≡ filter (is_change_of duty)
-            t.changes) (⟦<SqlStore<S> as Store>⟧.seen self.old)
-            (⟦<SqlStore<S> as Store>⟧.seen self.new)) }
-        ensures kept { Looked (⟦<SqlStore<S> as Store>⟧.seen self.old)
-            (⟦<SqlStore<S> as Store>⟧.seen self.new) result }
-        ensures cause { IfErr result (MissesFor (⟦<SqlStore<S> as Store>⟧.seen self.old) (state
-            S.Store self.old.conn) (state S.Store self.new.conn)) }
+        ensures { Finds ⟦<SqlStore<S> as Store>⟧.seen (λ s. state S.Store s.conn) self.old self.new
+            result (λ found t. found.items ≡ filter (is_change_of duty) t.changes) }
     {
         desk_sql_lookup::changes_of(self.alloc, &mut self.conn, self.counts.duties, duty)
     }
 
     fn last_day(&mut self, duty: u32) -> Result<Option<Day>, Fault>
-        ensures found { IfOk result (λ day. OfRows (λ t. day ≡ last_day (filter (is_change_of duty)
-            t.changes)) (⟦<SqlStore<S> as Store>⟧.seen self.old)
-            (⟦<SqlStore<S> as Store>⟧.seen self.new)) }
-        ensures kept { Looked (⟦<SqlStore<S> as Store>⟧.seen self.old)
-            (⟦<SqlStore<S> as Store>⟧.seen self.new) result }
-        ensures cause { IfErr result (MissesFor (⟦<SqlStore<S> as Store>⟧.seen self.old) (state
-            S.Store self.old.conn) (state S.Store self.new.conn)) }
+        ensures { Finds ⟦<SqlStore<S> as Store>⟧.seen (λ s. state S.Store s.conn) self.old self.new
+            result (λ day t. day ≡ last_day (filter (is_change_of duty) t.changes)) }
     {
         desk_sql_lookup::last_day(&mut self.conn, duty)
     }
 
-    fn commit(&mut self, change: Change) -> Result<(), Fault> {
+    fn commit(&mut self, change: Change) -> Result<(), Fault>
+        ensures wrote { Wrote Stands change (⟦<SqlStore<S> as Store>⟧.seen self.old)
+            (⟦<SqlStore<S> as Store>⟧.seen self.new) result }
+        ensures cause { is_writable change ≡ true → HasSmallRevision change → IfErr result
+            (CommitFailsFor change (⟦<SqlStore<S> as Store>⟧.seen self.old)
+            (state S.Store self.old.conn) (state S.Store self.new.conn)) }
+    {
         let Some(counts) = counts_after(&change, self.counts) else {
             return Err(Fault::Store(StoreFault::Rows));
         };

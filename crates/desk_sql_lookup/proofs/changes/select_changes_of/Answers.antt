@@ -7,22 +7,15 @@ use Rattle.desk_sql_lookup.proofs.Among.{changes_among}
 use Rattle.desk_sql_lookup.proofs.Ending.{are_steps}
 use Rattle.desk_sql_lookup.proofs.DutyQueries.{changes_of_apart}
 use Rattle.sqlite.specs.Held.{state}
-use Rattle.desk_sql_lookup.proofs.Calls.{found_by, looked_by}
+use Rattle.desk_sql_lookup.proofs.LookUps.{query_looks}
 use Rattle.desk_sql_lookup.proofs.DutyQueries.{changes_of_text, changes_of_asked, changes_of_plain, changes_of_read}
 use Rattle.desk_sql_lookup.proofs.changes.select_changes_of.Goals as goal
 
-pub returns-clause-found : goal.returns-clause-found
-returns-clause-found g c =
+pub returns : goal.returns
+returns g c =
     let old = state g.S.Store c.args.conn.now in
     let new = state g.S.Store c.query.new.conn in
-    found_by changes_of_text (number (min c.args.duty (c.args.duties + 1)) ∷ []) old new c.query.result (λ v. v.items) (λ t rows. length t.duty ≡ c.args.duties → (rows ≡ map change_cells (filter (is_change_of c.args.duty) t.changes)) × AreSteps (filter (is_change_of c.args.duty) t.changes)) (λ rows t shown holds is. (changes_of_read (min c.args.duty (c.args.duties + 1)) old new rows t shown holds ∙ ap (map change_cells) (changes_among c.args.duty c.args.duties t holds.orderly is), subst AreSteps (changes_among c.args.duty c.args.duties t holds.orderly is) (are_steps (min c.args.duty (c.args.duties + 1)) t.changes (changes_of_apart (min c.args.duty (c.args.duties + 1)) old new rows t shown holds))))
-    (rw c.among.ensures at (c.query.ensures.ok changes_of_plain))
-
-pub returns-clause-kept : goal.returns-clause-kept
-returns-clause-kept g c =
-    let old = state g.S.Store c.args.conn.now in
-    let new = state g.S.Store c.query.new.conn in
-    looked_by changes_of_text (number (min c.args.duty (c.args.duties + 1)) ∷ []) old new c.query.result (λ v. v.items) (rw c.among.ensures at (c.query.ensures.ok changes_of_plain)) (c.query.ensures.err changes_of_plain)
-
-pub returns-clause-cause : goal.returns-clause-cause
-returns-clause-cause g c = c.query.ensures.cause (rw c.among.ensures (changes_of_asked (min c.args.duty (c.args.duties + 1))))
+    query_looks g.S.Store changes_of_text (number (min c.args.duty (c.args.duties + 1)) ∷ []) c.args.conn.now c.query.new.conn changes_of_plain c.query.ensures.limit c.query.ensures.mode c.query.result (λ t rows. length t.duty ≡ c.args.duties → (rows ≡ map change_cells (filter (is_change_of c.args.duty) t.changes)) × AreSteps (filter (is_change_of c.args.duty) t.changes))
+    (λ rows t shown holds is. (changes_of_read (min c.args.duty (c.args.duties + 1)) old new rows t shown holds ∙ ap (map change_cells) (changes_among c.args.duty c.args.duties t holds.orderly is), subst AreSteps (changes_among c.args.duty c.args.duties t holds.orderly is) (are_steps (min c.args.duty (c.args.duties + 1)) t.changes (changes_of_apart (min c.args.duty (c.args.duties + 1)) old new rows t shown holds))))
+    (rw c.among.ensures at (c.query.ensures.ok changes_of_plain)) (c.query.ensures.err changes_of_plain)
+    (c.query.ensures.cause (rw c.among.ensures (changes_of_asked (min c.args.duty (c.args.duties + 1)))))

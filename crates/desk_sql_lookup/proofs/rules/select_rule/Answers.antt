@@ -5,22 +5,15 @@ use Rattle.std.proofs.Common.{true}
 use Rattle.desk_sql_lookup.specs.Rules.{are_words, is_rule_at}
 use Rattle.desk_sql_lookup.proofs.Ruling.{words_kept}
 use Rattle.sqlite.specs.Held.{state}
-use Rattle.desk_sql_lookup.proofs.Calls.{found_by, looked_by}
+use Rattle.desk_sql_lookup.proofs.LookUps.{query_looks}
 use Rattle.desk_sql_lookup.proofs.OfficeQueries.{rule_text, rule_asked, rule_plain, rule_read}
 use Rattle.desk_sql_lookup.proofs.rules.select_rule.Goals as goal
 
-pub returns-clause-found : goal.returns-clause-found
-returns-clause-found g c =
+pub returns : goal.returns
+returns g c =
     let old = state g.S.Store c.args.conn.now in
     let new = state g.S.Store c.query.new.conn in
-    found_by rule_text (number c.args.revision ∷ Text c.args.term.now ∷ Text c.args.form.now ∷ []) old new c.query.result (λ v. v.items) (λ t rows. (rows ≡ map rule_cells (filter (is_rule_at c.args.revision c.args.term.now c.args.form.now) t.rule)) × (are_words (filter (is_rule_at c.args.revision c.args.term.now c.args.form.now) t.rule) ≡ true)) (λ rows t shown holds. (rule_read c.args.revision c.args.term.now c.args.form.now old new rows t shown holds, words_kept (is_rule_at c.args.revision c.args.term.now c.args.form.now) t.rule holds.orderly.codes))
-    (rw (c.number.ensures, c.text.ensures, c.text-2.ensures) at (c.query.ensures.ok rule_plain))
-
-pub returns-clause-kept : goal.returns-clause-kept
-returns-clause-kept g c =
-    let old = state g.S.Store c.args.conn.now in
-    let new = state g.S.Store c.query.new.conn in
-    looked_by rule_text (number c.args.revision ∷ Text c.args.term.now ∷ Text c.args.form.now ∷ []) old new c.query.result (λ v. v.items) (rw (c.number.ensures, c.text.ensures, c.text-2.ensures) at (c.query.ensures.ok rule_plain)) (c.query.ensures.err rule_plain)
-
-pub returns-clause-cause : goal.returns-clause-cause
-returns-clause-cause g c = c.query.ensures.cause (rw (c.number.ensures, c.text.ensures, c.text-2.ensures) (rule_asked c.args.revision c.args.term.now c.args.form.now))
+    query_looks g.S.Store rule_text (number c.args.revision ∷ Text c.args.term.now ∷ Text c.args.form.now ∷ []) c.args.conn.now c.query.new.conn rule_plain c.query.ensures.limit c.query.ensures.mode c.query.result (λ t rows. (rows ≡ map rule_cells (filter (is_rule_at c.args.revision c.args.term.now c.args.form.now) t.rule)) × (are_words (filter (is_rule_at c.args.revision c.args.term.now c.args.form.now) t.rule) ≡ true))
+    (λ rows t shown holds. (rule_read c.args.revision c.args.term.now c.args.form.now old new rows t shown holds, words_kept (is_rule_at c.args.revision c.args.term.now c.args.form.now) t.rule holds.orderly.codes))
+    (rw (c.number.ensures, c.text.ensures, c.text-2.ensures) at (c.query.ensures.ok rule_plain)) (c.query.ensures.err rule_plain)
+    (c.query.ensures.cause (rw (c.number.ensures, c.text.ensures, c.text-2.ensures) (rule_asked c.args.revision c.args.term.now c.args.form.now)))

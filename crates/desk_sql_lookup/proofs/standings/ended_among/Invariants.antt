@@ -1,18 +1,9 @@
-use Rattle.std.proofs.Common.{◌≡◌, false, length, take}
+use Rattle.std.proofs.Common.{◌≡◌, length, take, Ok}
 use Rattle.std.specs.List.{filter_map}
-use Rattle.sqlite.specs.Held.{state}
-use Rattle.desk_access.specs.Seen.{Same, OfRows}
-use Rattle.desk_sql_layout.specs.Held.{seen_of}
+use Rattle.desk_sql_lookup.specs.LookUps.{LooksUpIf}
 use Rattle.desk_sql_lookup.specs.Standings.{ended_standing}
 use Rattle.desk_sql_lookup.proofs.standings.ended_among.Given as goal
 
 abbrev pub invariant-loop-row : goal.invariant-loop-row
 invariant-loop-row g l =
-    let old = seen_of (state g.S.Store l.fn.conn) in
-    let new = seen_of (state g.S.Store l.conn) in
-    record {
-      same : Same old new;
-      limit : l.conn.step_limit ≡ l.fn.conn.step_limit;
-      standings : OfRows (λ t. length t.duty ≡ l.duties → l.found.items ≡ filter_map (ended_standing t l.day) (take l.row-index l.rows)) old new;
-      mode : l.fn.conn.in_transaction ≡ false → l.conn.in_transaction ≡ false;
-    }
+    LooksUpIf g.S.Store (λ t. length t.duty ≡ l.duties) l.fn.conn l.conn (Ok l.found) (λ found t. found.items ≡ filter_map (ended_standing t l.day) (take l.row-index l.rows))

@@ -1,23 +1,19 @@
-use Rattle.std.proofs.Common.{filter, ap, ◌∙◌}
+use Rattle.std.proofs.Common.{◌≡◌, ◌∙◌, ap, filter, slice_get}
 use Rattle.std.specs.Option.{option_and_then}
-use Rattle.std.proofs.lemmas.Result.{IfOk-weaker}
+use Rattle.desk_model.specs.Bills.{extracted_text}
 use Rattle.desk_model.specs.Keys.{is_extracted}
 use Rattle.desk_model.specs.declared.row.ExtractedRow.{ExtractedRow}
-use Rattle.desk_sql_lookup.proofs.Loops.{first_is}
-use Rattle.sqlite.specs.Held.{state}
-use Rattle.desk_sql_lookup.proofs.Causes.{rows_cause, filter_written}
 use Rattle.desk_sql_layout.specs.Cells.{extracted_cells}
 use Rattle.desk_sql_lookup.specs.Shown.{extracted_body_cells}
+use Rattle.desk_sql_lookup.proofs.Causes.{filter_written}
+use Rattle.desk_sql_lookup.proofs.LookUps.{then_rows}
+use Rattle.desk_sql_lookup.proofs.Loops.{first_is}
 use Rattle.desk_sql_lookup.proofs.texts.extracted_text.Goals as goal
 
-pub returns-clause-found : goal.returns-clause-found
-returns-clause-found g c =
+pub returns : goal.returns
+returns g c =
     let p = is_extracted c.args.document c.args.reference.now in
-    IfOk-weaker c.first_body.result _ _
-    (λ found is clean t held. is (filter p t.extracted) (c.deref.ensures.value ∙ c.in_ok-rows.ensures.found clean t held) ∙ ap (option_and_then (λ (row : ExtractedRow). row.body)) (first_is p t.extracted)) c.first_body.ensures.value
-
-pub returns-clause-cause : goal.returns-clause-cause
-returns-clause-cause g c =
-    let p = is_extracted c.args.document c.args.reference.now in
-    rows_cause extracted_body_cells (λ t. Unit {0}) (state g.S.Store c.args.conn.now) (state g.S.Store c.select_extracted.new.conn) c.first_body.result c.deref.result.now (λ t. filter p t.extracted)
-    (λ clean t held any. c.deref.ensures.value ∙ c.in_ok-rows.ensures.found clean t held) (λ t written. filter_written extracted_cells extracted_body_cells (λ x row. row.1.1) p t.extracted (written.cells 8)) c.first_body.ensures.cause
+    let body = option_and_then (λ (row : ExtractedRow). row.body) in
+    then_rows g.S.Store c.args.conn.now c.select_extracted.new.conn c.in_ok-rows.ensures (λ t. Unit {0}) c.first_body.result (λ found t. found ≡ extracted_text t.extracted c.args.document c.args.reference.now) extracted_body_cells c.deref.result.now (λ t. filter p t.extracted)
+    (λ clean t held any. c.deref.ensures.value ∙ c.in_ok-rows.ensures.found clean t held) (λ t written. filter_written extracted_cells extracted_body_cells (λ x row. row.1.1) p t.extracted (written.cells 8))
+    (λ found rows. found ≡ body (slice_get rows 0)) (λ found t is. is tt ∙ ap body (first_is p t.extracted)) c.first_body.ensures.value c.first_body.ensures.cause

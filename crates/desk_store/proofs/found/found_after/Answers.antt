@@ -1,23 +1,25 @@
-use Rattle.sqlite.specs.Held.{state}
-use Rattle.desk_access.proofs.Chains.{looked_err, same_then_kept, same_then_same}
-use Rattle.desk_sql_layout.specs.Held.{seen_of}
+use Rattle.std.proofs.Common.{Err, Ok}
+use Rattle.desk_access.specs.Follows.{Follows}
+use Rattle.desk_history.specs.Laws.{Ascends}
+use Rattle.desk_model.specs.Keys.{release_below}
+use Rattle.desk_model.specs.Tables.{applied}
+use Rattle.desk_sql_lookup.proofs.LookUps.{fails_too, looks_then, then_tells}
+use Rattle.desk_store.specs.Counting.{AreCounted, AreFound}
+use Rattle.desk_store.specs.Holding.{AreHeld}
 use Rattle.desk_store.proofs.found.found_after.Goals as goal
 
-pub returns-in_err-held-clause-kept : goal.returns-in_err-held-clause-kept
-returns-in_err-held-clause-kept g c =
-    let old = seen_of (state g.S.Store c.args.conn.now) in
-    let new = seen_of (state g.S.Store c.holders_after.new.conn) in
-    looked_err old new c.from_residual-in_err-held.result c.from_residual-in_err-held.ensures.0
-    (same_then_kept old (seen_of (state g.S.Store c.adoptions_after.new.conn)) new c.in_ok-counted.ensures.kept c.in_err-held.ensures.kept)
+pub returns-in_err-held : goal.returns-in_err-held
+returns-in_err-held g c =
+    let fault = c.in_err-held.field-0.0 in
+    let both = looks_then g.S.Store c.args.conn.now c.adoptions_after.new.conn c.holders_after.new.conn (λ t. Unit {0}) c.in_ok-counted.ensures (Err fault) c.in_err-held.ensures (λ held t. Unit {0}) (λ held t first is. tt) in
+    fails_too g.S.Store c.args.conn.now c.holders_after.new.conn c.from_residual-in_err-held.result fault c.from_residual-in_err-held.ensures.1 _ (λ t. Unit {0}) both
 
-pub returns-clause-kept : goal.returns-clause-kept
-returns-clause-kept g c =
-    same_then_same (seen_of (state g.S.Store c.args.conn.now)) (seen_of (state g.S.Store c.adoptions_after.new.conn)) (seen_of (state g.S.Store c.holders_after.new.conn)) c.in_ok-counted.ensures.kept c.in_ok-held.ensures.kept
-
-pub returns-clause-found : goal.returns-clause-found
-returns-clause-found g c = λ clean t held up follows are.
-    let first = c.in_ok-counted.ensures in
-    let second = c.in_ok-held.ensures in (
-      first.counted (second.kept.kept.spared.honest clean) t held are.0,
-      second.held clean t (first.kept.kept.spared.holds t held) up follows are.1,
-    )
+pub returns : goal.returns
+returns g c =
+    let change = c.args.change.now in
+    let counted = c.in_ok-counted.counted in
+    let both = looks_then g.S.Store c.args.conn.now c.adoptions_after.new.conn c.holders_after.new.conn (λ t. Unit {0}) c.in_ok-counted.ensures (Ok c.in_ok-held.held) c.in_ok-held.ensures
+    (λ held t. Ascends release_below (applied change t).releases → Follows change t → AreFound c.args.found t → AreCounted counted (applied change t) × AreHeld held (applied change t))
+    (λ held t first second up follows are. (first are.0, second up follows are.1)) in
+    then_tells g.S.Store c.args.conn.now c.holders_after.new.conn both (λ t. Unit {0}) (Ok (record { adoptions = counted; holders = c.in_ok-held.held }))
+    (λ after t. Ascends release_below (applied change t).releases → Follows change t → AreFound c.args.found t → AreFound after (applied change t)) both.found tt

@@ -1,49 +1,35 @@
-use Rattle.std.proofs.Common.{◌∙◌}
+use Rattle.std.proofs.Common.{◌≡◌, ◌∙◌, IfNone, IfSome, Err, Ok, false}
 use Rattle.std.proofs.lemmas.Result.{IfOk-weaker}
 use Rattle.sqlite.specs.Held.{state}
-use Rattle.desk_access.proofs.Chains.{looked_err, same_then_kept, same_then_same}
-use Rattle.desk_sql_layout.specs.Held.{seen_of}
-use Rattle.desk_store.specs.Holding.{held_by}
-use Rattle.desk_store.proofs.Holding.{looked_so, none_weaker, read_held, read_none, some_weaker}
+use Rattle.desk_memory_rows.specs.Holders.{AreHolders}
+use Rattle.desk_sql_lookup.proofs.LookUps.{fails_too, looks_then, then_tells}
+use Rattle.desk_store.specs.Holding.{have_releases, held_by}
+use Rattle.desk_store.proofs.Holding.{none_weaker, read_held, read_none, some_weaker}
+use Rattle.desk_store.proofs.Looks.{both_ok, memory_causes}
 use Rattle.desk_store.proofs.holders.read_holders.Goals as goal
 
-pub returns-in_err-choices-clause-kept : goal.returns-in_err-choices-clause-kept
-returns-in_err-choices-clause-kept g c =
-    let old = seen_of (state g.S.Store c.args.conn.now) in
-    let new = seen_of (state g.S.Store c.choices.new.conn) in
-    looked_err old new c.from_residual-in_err-choices.result c.from_residual-in_err-choices.ensures.0
-    (same_then_kept old (seen_of (state g.S.Store c.release_rows.new.conn)) new c.in_ok-releases.ensures.kept c.in_err-choices.ensures.kept)
+pub returns-in_err-choices : goal.returns-in_err-choices
+returns-in_err-choices g c =
+    let fault = c.in_err-choices.field-0.0 in
+    let both = looks_then g.S.Store c.args.conn.now c.release_rows.new.conn c.choices.new.conn (λ t. Unit {0}) c.in_ok-releases.ensures (Err fault) c.in_err-choices.ensures (λ choices t. choices.items ≡ t.choice) (λ choices t first is. is) in
+    fails_too g.S.Store c.args.conn.now c.choices.new.conn c.from_residual-in_err-choices.result fault c.from_residual-in_err-choices.ensures.1 _ (λ t. Unit {0}) both
 
-pub returns-clause-kept : goal.returns-clause-kept
-returns-clause-kept g c =
-    let old = seen_of (state g.S.Store c.args.conn.now) in
-    let new = seen_of (state g.S.Store c.choices.new.conn) in
-    looked_so old new c.of.result (same_then_same old (seen_of (state g.S.Store c.release_rows.new.conn)) new c.in_ok-releases.ensures.kept c.in_ok-choices.ensures.kept)
-
-pub returns-clause-held : goal.returns-clause-held
-returns-clause-held g c =
+pub returns : goal.returns
+returns g c =
+    let s = state g.S.Store c.args.conn.now in
+    let new = state g.S.Store c.choices.new.conn in
     let first = c.in_ok-releases.ensures in
     let second = c.in_ok-choices.ensures in
-    IfOk-weaker c.of.result _ _
-    (λ found is. some_weaker _ _
-    (λ holders are clean t held.
+    let both = looks_then g.S.Store c.args.conn.now c.release_rows.new.conn c.choices.new.conn (λ t. Unit {0}) first (Ok c.in_ok-choices.choices) second (λ choices t. choices.items ≡ t.choice) (λ choices t first is. is) in
+    then_tells g.S.Store c.args.conn.now c.choices.new.conn both (λ t. Unit {0}) c.of.result
+    (λ found t. IfSome found (λ holders. AreHolders (held_by holders) t) × IfNone found (have_releases t.releases t.choice ≡ false))
+    (IfOk-weaker c.of.result _ _
+    (λ found is clean t held.
     let between = second.kept.kept.spared.honest clean in
-    read_held (state g.S.Store c.args.conn.now) c.as_slice.result.now c.as_slice-2.result.now (held_by holders) are
-    (first.kept.kept.spared.honest between) (λ u holds. c.as_slice.ensures.value ∙ first.found between u holds)
-    t held (c.as_slice-2.ensures.value ∙ second.found clean t (first.kept.kept.spared.holds t held)))
-    found is)
-    c.of.ensures.held
-
-pub returns-clause-none : goal.returns-clause-none
-returns-clause-none g c =
-    let first = c.in_ok-releases.ensures in
-    let second = c.in_ok-choices.ensures in
-    IfOk-weaker c.of.result _ _
-    (λ found is. none_weaker _ _
-    (λ none clean t held.
-    let between = second.kept.kept.spared.honest clean in
-    read_none (state g.S.Store c.args.conn.now) c.as_slice.result.now c.as_slice-2.result.now none
-    (first.kept.kept.spared.honest between) (λ u holds. c.as_slice.ensures.value ∙ first.found between u holds)
-    t held (c.as_slice-2.ensures.value ∙ second.found clean t (first.kept.kept.spared.holds t held)))
-    found is)
-    c.of.ensures.none
+    let was = first.kept.kept.spared.honest between in
+    let choices = c.as_slice-2.ensures.value ∙ both.found clean t held in (
+      some_weaker _ _ (λ holders are. read_held s c.as_slice.result.now c.as_slice-2.result.now (held_by holders) are was (λ u holds. c.as_slice.ensures.value ∙ first.found between u holds) t held choices) found is.0,
+      none_weaker _ _ (λ none. read_none s c.as_slice.result.now c.as_slice-2.result.now none was (λ u holds. c.as_slice.ensures.value ∙ first.found between u holds) t held choices) found is.1,
+    ))
+    (both_ok c.of.result _ _ c.of.ensures.held c.of.ensures.none))
+    (memory_causes (λ t. Unit {0}) s new c.of.result c.of.ensures.fault)

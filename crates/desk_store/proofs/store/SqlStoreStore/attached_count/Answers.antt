@@ -1,13 +1,8 @@
-use Rattle.desk_store.proofs.Missed.{missed}
 use Rattle.desk_store.specs.Counting.{known_by}
-use Rattle.sqlite.specs.Held.{state}
-use Rattle.desk_store.proofs.Counted.{looked}
+use Rattle.desk_store.proofs.Missed.{finds}
 use Rattle.desk_store.proofs.store.SqlStoreStore.attached_count.Goals as goal
 
-pub returns-clause-kept : goal.returns-clause-kept
-returns-clause-kept g c = looked c.args.self.now.found c.args.self.now.tallies _ _ _ _ c.attached_count.ensures.kept
-
-pub returns-clause-cause : goal.returns-clause-cause
-returns-clause-cause g c =
+pub returns : goal.returns
+returns g c =
     let self = c.args.self.now in
-    missed (λ t. Unit {0}) self.found self.tallies (known_by self.counts self.forms) (state g.S.Store self.conn) (state g.S.Store c.attached_count.new.conn) (λ t same. tt) c.attached_count.result c.attached_count.ensures.cause
+    finds g.S.Store self.found self.tallies (known_by self.counts self.forms) self.conn c.attached_count.new.conn c.attached_count.result c.attached_count.ensures

@@ -1,14 +1,9 @@
-use Rattle.desk_store.proofs.Missed.{missed}
+use Rattle.std.proofs.Common.{ap}
 use Rattle.desk_store.specs.Counting.{known_by}
-use Rattle.sqlite.specs.Held.{state}
-use Rattle.std.proofs.Common.{◌≡◌, ap, length}
-use Rattle.desk_store.proofs.Counted.{looked}
+use Rattle.desk_store.proofs.Missed.{finds_if}
 use Rattle.desk_store.proofs.store.SqlStoreStore.document.Goals as goal
 
-pub returns-clause-kept : goal.returns-clause-kept
-returns-clause-kept g c = looked c.args.self.now.found c.args.self.now.tallies _ _ _ _ c.document.ensures.kept
-
-pub returns-clause-cause : goal.returns-clause-cause
-returns-clause-cause g c =
+pub returns-clause-looks : goal.returns-clause-looks
+returns-clause-looks g c =
     let self = c.args.self.now in
-    missed (λ t. length t.document ≡ self.counts.documents) self.found self.tallies (known_by self.counts self.forms) (state g.S.Store self.conn) (state g.S.Store c.document.new.conn) (λ t same. ap (λ k. k.documents) same) c.document.result c.document.ensures.cause
+    finds_if g.S.Store self.found self.tallies (known_by self.counts self.forms) self.conn c.document.new.conn c.document.result c.document.ensures.looks (λ t same. ap (λ k. k.documents) same)

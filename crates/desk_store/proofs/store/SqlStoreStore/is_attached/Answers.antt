@@ -1,13 +1,8 @@
-use Rattle.desk_store.proofs.Missed.{missed}
 use Rattle.desk_store.specs.Counting.{known_by}
-use Rattle.sqlite.specs.Held.{state}
-use Rattle.desk_store.proofs.Counted.{looked}
+use Rattle.desk_store.proofs.Missed.{finds}
 use Rattle.desk_store.proofs.store.SqlStoreStore.is_attached.Goals as goal
 
-pub returns-clause-kept : goal.returns-clause-kept
-returns-clause-kept g c = looked c.args.self.now.found c.args.self.now.tallies _ _ _ _ c.is_attached.ensures.kept
-
-pub returns-clause-cause : goal.returns-clause-cause
-returns-clause-cause g c =
+pub returns : goal.returns
+returns g c =
     let self = c.args.self.now in
-    missed (λ t. Unit {0}) self.found self.tallies (known_by self.counts self.forms) (state g.S.Store self.conn) (state g.S.Store c.is_attached.new.conn) (λ t same. tt) c.is_attached.result c.is_attached.ensures.cause
+    finds g.S.Store self.found self.tallies (known_by self.counts self.forms) self.conn c.is_attached.new.conn c.is_attached.result c.is_attached.ensures

@@ -1,13 +1,9 @@
-use Rattle.desk_store.proofs.Missed.{missed}
+use Rattle.std.proofs.Common.{ap}
 use Rattle.desk_store.specs.Counting.{known_by}
-use Rattle.sqlite.specs.Held.{state}
-use Rattle.desk_store.proofs.Counted.{looked}
+use Rattle.desk_store.proofs.Missed.{finds_so}
 use Rattle.desk_store.proofs.store.SqlStoreStore.standings_of.Goals as goal
 
-pub returns-clause-kept : goal.returns-clause-kept
-returns-clause-kept g c = looked c.args.self.now.found c.args.self.now.tallies _ _ _ _ c.standings_of.ensures.kept
-
-pub returns-clause-cause : goal.returns-clause-cause
-returns-clause-cause g c =
+pub returns : goal.returns
+returns g c =
     let self = c.args.self.now in
-    missed (λ t. Unit {0}) self.found self.tallies (known_by self.counts self.forms) (state g.S.Store self.conn) (state g.S.Store c.standings_of.new.conn) (λ t same. tt) c.standings_of.result c.standings_of.ensures.cause
+    finds_so g.S.Store self.found self.tallies (known_by self.counts self.forms) self.conn c.standings_of.new.conn c.standings_of.result c.standings_of.ensures (λ t. Unit {0}) _ (λ t same any. any) (λ x t same is. is (ap (λ k. k.duties) same))
