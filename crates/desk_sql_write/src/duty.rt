@@ -1,6 +1,6 @@
 //! Duties and their changes.
 
-ghost use Rattle.std.specs.Prelude.{◌≡◌, ◌∷◌, [], filter, map, length, IfOk, MatchOption, true, ◌+◌};
+ghost use Rattle.std.specs.Prelude.{◌≡◌, ◌≢◌, ◌∷◌, [], filter, map, length, IfOk, MatchOption, true, false, ◌+◌};
 ghost use Rattle.std.specs.List.{flat_map};
 ghost use Rattle.sqlite.specs.Held.{state};
 ghost use Rattle.sqlite.specs.Values.{bound};
@@ -173,6 +173,7 @@ struct Run<'a> {
 fn goes_before(row: &ChangeRow, first: u32, to: DutyState) -> bool
     ensures next { result ≡ true → row.now.duty + 1 ≡ first }
     ensures state { result ≡ true → state_after row.now.word ≡ to }
+    ensures apart { result ≡ false → row.now.duty + 1 ≡ first → state_after row.now.word ≢ to }
 {
     row.duty < first && first - row.duty == 1 && row.word.state_after() == to
 }
