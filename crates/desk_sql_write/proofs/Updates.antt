@@ -31,11 +31,7 @@ use Rattle.desk_model.specs.declared.state.DutyState.{DutyState}
 use Rattle.desk_sql_layout.specs.Layout as d
 use Rattle.desk_sql_layout.specs.Cells.{number, release_cells, duty_cells}
 use Rattle.desk_sql_layout.specs.Held.{rows_of}
-use Rattle.std.specs.Ordering.{int_cmp, is_ge, is_le}
-use Rattle.std.proofs.lemmas.Bool.Decides.{nat_tests}
-use Rattle.std.proofs.lemmas.Int.{ints}
-use Rattle.sqlite_value.proofs.OrderLemmas.{value_cmp-Int}
-use Rattle.desk_sql_layout.proofs.Casts.{cast_int, cast_null, int_test, text_test, truth_is, and_true, same}
+use Rattle.desk_sql_layout.proofs.Casts.{cast_int, cast_null, int_test, text_test, and_true, run_test, same, within}
 use Rattle.desk_sql_layout.proofs.Edits.{changed_where}
 use Rattle.desk_sql_layout.proofs.Queries.{query_on}
 use Rattle.desk_sql_write.specs.Runs.{is_numbered}
@@ -168,7 +164,7 @@ abbrev set_run_text : List ℕ
 set_run_text = codes "UPDATE duty SET state = ?3 WHERE number >= ?1 AND number <= ?2"
 
 abbrev set_run_tests : List Term
-set_run_tests = op2 (Compare Ge Binary) (col 1 0) (col 0 0) ∷ op2 (Compare Le Binary) (col 1 0) (col 0 1) ∷ []
+set_run_tests = within 0
 
 abbrev set_run_project : List Term
 set_run_project = col 1 0 ∷ lit Null ∷ col 1 2 ∷ col 1 3 ∷ col 1 4 ∷ col 1 5 ∷ col 1 6 ∷ col 1 7 ∷ col 0 2 ∷ []
@@ -176,24 +172,6 @@ set_run_project = col 1 0 ∷ lit Null ∷ col 1 2 ∷ col 1 3 ∷ col 1 4 ∷ c
 set_run_reads : Reads set_run_text 3 (Update 12 (record { lets = []; body = query_on 23 set_run_tests (col 1 0 ∷ set_run_project) [] }))
 unfolding understood everything
 set_run_reads = record { is = refl; plain = (refl, refl); fits = (refl, refl) }
-
-int_is_ge : (a b : ℕ) → is_ge (int_cmp (pos a) (pos b)) ≡ nat_le b a
-int_is_ge a b = grind (arith, ints, nat_tests)
-
-int_is_le : (a b : ℕ) → is_le (int_cmp (pos a) (pos b)) ≡ nat_le a b
-int_is_le a b = grind (arith, ints, nat_tests)
-
-ge_test : (a b : ℕ) → is_true (binary (Compare Ge Binary) (Int (pos a)) (Int (pos b))) ≡ nat_le b a
-unfolding binary
-ge_test a b = rw (value_cmp-Int (pos a) (pos b)) (truth_is (is_ge (int_cmp (pos a) (pos b))) ∙ int_is_ge a b)
-
-le_test : (a b : ℕ) → is_true (binary (Compare Le Binary) (Int (pos a)) (Int (pos b))) ≡ nat_le a b
-unfolding binary
-le_test a b = rw (value_cmp-Int (pos a) (pos b)) (truth_is (is_le (int_cmp (pos a) (pos b))) ∙ int_is_le a b)
-
--- a number is among those of a run
-run_test : (first last n : ℕ) → (is_true (binary (Compare Ge Binary) (Int (pos n)) (Int (pos first))) && (is_true (binary (Compare Le Binary) (Int (pos n)) (Int (pos last))) && true)) ≡ (nat_le first n && nat_le n last)
-run_test first last n = (λ i. ge_test n first i && (le_test n last i && true)) ∙ ap (λ b. nat_le first n && b) (and_true (nat_le n last))
 
 set_run_one : (first last : ℕ) (to : DutyState) (row : DutyRow)
     → (if is_true (binary (Compare Ge Binary) (column (duty_cells row) 0) (Int (pos first))) && (is_true (binary (Compare Le Binary) (column (duty_cells row) 0) (Int (pos last))) && true) then set_duty_cells to (duty_cells row) else duty_cells row) ≡ duty_cells (if is_numbered first last row then with_duty_state to row else row)
