@@ -6,7 +6,7 @@ use Rattle.sqlite_value.specs.declared.value.Value.TheVariants.{Text}
 use Rattle.sqlite_value.specs.Order.{Row, column}
 use Rattle.sqlite_trees.proofs.ListLemmas.{ascending-filter}
 use Rattle.sqlite_sql.specs.declared.ops.BinaryOp.TheVariants.{Compare}
-use Rattle.sqlite_sql.specs.declared.ops.CompareOp.TheVariants.{Eq}
+use Rattle.sqlite_sql.specs.declared.ops.CompareOp.TheVariants.{Eq, Ge, Le}
 use Rattle.sqlite_sql.specs.Ops.{binary, is_true}
 use Rattle.sqlite_sql.specs.Term.{col}
 use Rattle.sqlite_sql.specs.Query.{key_cmp}
@@ -19,12 +19,13 @@ use Rattle.sqlite.proofs.Callers.{IsPlain, command_of}
 use Rattle.desk_sql_layout.specs.Layout as d
 use Rattle.desk_sql_layout.specs.Cells.{number, text_or_null, duty_cells, change_cells, is_waiver, waiver_cells}
 use Rattle.desk_sql_layout.specs.Held.{Holds, rows_of}
-use Rattle.desk_sql_layout.proofs.Casts.{same, int_test, text_test, and_true}
+use Rattle.desk_sql_layout.proofs.Casts.{same, int_test, text_test, and_true, run_test, within}
 use Rattle.desk_sql_layout.proofs.Queries.{query_on}
 use Rattle.desk_model.specs.Tables.{Tables}
 use Rattle.desk_model.specs.Keys.{is_duty, is_duty_of, is_change_of}
 use Rattle.desk_model.specs.Names.{duty_state_name}
 use Rattle.desk_sql_lookup.specs.Standings.{stands_at}
+use Rattle.desk_sql_lookup.specs.Steps.{is_change_within}
 use Rattle.desk_model.specs.declared.row.DutyRow.{DutyRow}
 use Rattle.desk_model.specs.declared.row.ChangeRow.{ChangeRow}
 use Rattle.desk_sql_lookup.specs.Waivers.{day_cells}
@@ -129,6 +130,37 @@ pub steps_count : (duty : ℕ) (old new : State) (rows : List Row) (t : Tables) 
 steps_count duty old new rows t shown holds =
     let this = d.change_table in
     counts this.name 25 this.columns this.key this.primary this.uniques this.orders 13 refl change_cells (rows_of t) t.changes refl old.now holds.rows steps_text (codes "step" ∷ []) (same 1 0 ∷ []) (col 1 2 ∷ []) ([]) steps_is steps_plain (number duty ∷ []) (steps_test duty) (λ (cs : Row). ([], column cs 1 ∷ [])) (is_change_of duty) (λ r. refl) (λ r. refl) (steps_picks duty) old new rows shown refl
+
+-- ---- the duties of changes from a first to a last one
+
+abbrev pub changed_text : List ℕ
+changed_text = codes "SELECT duty FROM change WHERE duty >= ?1 AND duty <= ?2 ORDER BY duty, step"
+
+changed_is : (command_of (understood d.desk_schema changed_text) ≡ Select (record { lets = []; body = query_on 25 (within 1) (col 1 1 ∷ []) (order_by (1 ∷ 2 ∷ [])) }) (codes "duty" ∷ [])) × (reads_listing d.desk_schema changed_text ≡ false)
+unfolding understood everything
+changed_is = (refl, refl)
+
+pub changed_plain : IsPlain (understood d.desk_schema changed_text)
+unfolding understood everything
+changed_plain = (refl, refl)
+
+pub changed_suits : Suits changed_text 2 (understood d.desk_schema changed_text)
+unfolding understood everything
+changed_suits = (refl, refl)
+
+pub changed_asked : (first last : ℕ) → IsAsked changed_text (number first ∷ number last ∷ [])
+changed_asked first last = asked changed_text (number first ∷ number last ∷ []) 25 (within 1) (col 1 1 ∷ []) (order_by (1 ∷ 2 ∷ [])) (codes "duty" ∷ []) changed_is changed_plain changed_suits refl
+
+abbrev changed_test : ℕ → ℕ → Row → Bool
+changed_test first last cs = is_true (binary (Compare Ge Binary) (column cs 0) (number first)) && (is_true (binary (Compare Le Binary) (column cs 0) (number last)) && true)
+
+changed_picks : (first last : ℕ) (x : ChangeRow) → changed_test first last (change_cells x) ≡ (is_change_within first last) x
+changed_picks first last x = run_test first last x.duty
+
+pub changed_read : (first last : ℕ) (old new : State) (rows : List Row) (t : Tables) → Shown changed_text (number first ∷ number last ∷ []) old new rows → Holds t old.now → rows ≡ map (λ (x : ChangeRow). number x.duty ∷ []) (filter (is_change_within first last) t.changes)
+changed_read first last old new rows t shown holds =
+    let this = d.change_table in
+    shows this.name 25 this.columns this.key this.primary this.uniques this.orders 13 refl change_cells (rows_of t) t.changes refl old.now holds.rows changed_text (codes "duty" ∷ []) (within 1) (col 1 1 ∷ []) (1 ∷ 2 ∷ []) changed_is changed_plain (number first ∷ number last ∷ []) (changed_test first last) (λ (cs : Row). (column cs 0 ∷ column cs 1 ∷ [], column cs 0 ∷ [])) (is_change_within first last) (λ r. refl) (λ r. refl) (changed_picks first last) old new rows shown refl (by_unique this.name 25 this.columns this.key this.primary this.uniques this.orders 13 refl change_cells (rows_of t) t.changes refl old.now holds.rows 0 (1 ∷ 2 ∷ []) refl refl (λ (cs : Row). is_key (column cs 0) && (is_key (column cs 1) && true)) (λ r. refl) (λ x. refl)) (ascending-filter _ (is_change_within first last) t.changes (changes_sorted t.changes holds.orderly.sorted.changes))
 
 -- ---- the changes of a duty
 

@@ -13,6 +13,7 @@ pub mod Chains
 pub mod Streaming
 pub mod LookUps
 pub mod Loops
+pub mod StepLemmas
 pub mod DutyQueries
 pub mod ReleaseQueries
 pub mod ChoiceQueries

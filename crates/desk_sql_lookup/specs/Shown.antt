@@ -8,6 +8,9 @@ use Rattle.desk_sql_layout.specs.Cells.{number, text_or_null}
 use Rattle.desk_model.specs.declared.row.DocumentRow.{DocumentRow}
 use Rattle.desk_model.specs.declared.row.ExtractedRow.{ExtractedRow}
 
+abbrev pub number_cells : ℕ → Row
+number_cells n = number n ∷ []
+
 abbrev pub text_cells : List ℕ → Row
 text_cells text = Text text ∷ []
 

@@ -30,6 +30,7 @@ mod read;
 mod releases;
 mod rows;
 mod rules;
+mod runs;
 mod standings;
 mod texts;
 

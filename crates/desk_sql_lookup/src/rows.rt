@@ -7,7 +7,7 @@ ghost use Rattle.desk_sql_layout.specs.Cells.{attached_cells, change_cells, duty
 ghost use Rattle.desk_model.specs.declared.row.ChangeRow.{ChangeRow as Change};
 ghost use Rattle.desk_model.specs.declared.row.DutyRow.{DutyRow as Duty};
 ghost use Rattle.desk_model.specs.declared.row.ReleaseRow.{ReleaseRow as Release};
-ghost use Rattle.desk_sql_lookup.specs.Shown.{bytes_cells, known_cells, text_cells};
+ghost use Rattle.desk_sql_lookup.specs.Shown.{number_cells, bytes_cells, known_cells, text_cells};
 ghost use Rattle.desk_sql_lookup.specs.Waivers.{EndsOnDay, ending_cells};
 
 use crate::columns::{
@@ -19,6 +19,14 @@ use desk_base::{Day, Items, Profile, Text};
 use desk_model::{AttachedRow, ChangeRow, DutyRow, Fault, FrozenRow, PackageRow, ReleaseRow};
 use sqlite::Row;
 use std::alloc::Global;
+
+impl ReadRow for u32 {
+    ghost cells = { number_cells };
+
+    fn read(_alloc: Global, row: &Row) -> Result<u32, Fault> {
+        number_at(row, 0)
+    }
+}
 
 impl ReadRow for Text {
     ghost cells = { text_cells };

@@ -13,6 +13,7 @@ use crate::changes::{changes_of, steps};
 use crate::duties::duties_of;
 use crate::query::query;
 use crate::read::read_all;
+use crate::runs::standings_from;
 use desk_base::Day;
 use desk_model::{ChangeRow, DutyRow, DutyState, Fault, Standing};
 use desk_sql_layout::values::duty_state;
@@ -36,7 +37,8 @@ fn standing<S: Alter>(
     })
 }
 
-fn standings<S: Alter>(
+/// Where duties stand, each looked up by itself.
+fn each_standing<S: Alter>(
     alloc: Global,
     conn: &mut Connection<S>,
     duties: u32,
@@ -50,6 +52,26 @@ fn standings<S: Alter>(
         found.push(standing(conn, duties, row)?)?;
     }
     Ok(found)
+}
+
+/// Where duties stand. Those that a freeze raised are numbered one after the other, so that their
+/// changes are looked up together.
+fn standings<S: Alter>(
+    alloc: Global,
+    conn: &mut Connection<S>,
+    duties: u32,
+    rows: &[DutyRow],
+) -> Result<Vec<Standing>, Fault>
+    ensures { LooksUp S.Store conn.old conn.new result (λ found t.
+        length t.duty ≡ duties → found.items ≡ map (standing_found t) rows.now) }
+{
+    let Some(first) = rows.first() else {
+        return Ok(Vec::new(alloc));
+    };
+    match standings_from(alloc, conn, first.number, rows)? {
+        Some(found) => Ok(found),
+        None => each_standing(alloc, conn, duties, rows),
+    }
 }
 
 /// Where the duties of a release stand, by number, of so many duties.

@@ -1,7 +1,7 @@
 use Rattle.std.proofs.Common.{◌≡◌, length, map, take, Ok}
 use Rattle.desk_history.specs.FromTables.{standing_found}
 use Rattle.desk_sql_lookup.specs.LookUps.{LooksUp}
-use Rattle.desk_sql_lookup.proofs.standings.standings.Given as goal
+use Rattle.desk_sql_lookup.proofs.standings.each_standing.Given as goal
 
 abbrev pub invariant-loop-row : goal.invariant-loop-row
 invariant-loop-row g l =
