@@ -345,7 +345,7 @@ pub fn findings_in(
     let elements = Elements::of(alloc, document)?;
     let known = known_of(alloc, document, &elements, profile)?;
     let mut found = gathered(alloc, document, &known, &elements)?;
-    found.sort_by_key(|finding| key(finding))?;
+    found.sort_unstable_by_key(|finding| key(finding));
     Ok(found)
 }
 
