@@ -40,11 +40,16 @@ pub(crate) fn row_text<R: Row>(alloc: Global, row: &R) -> Result<String, AllocEr
     value_text(alloc, &value)
 }
 
+/// About the least that a row takes.
+const ROW_BYTES: usize = 32;
+
 /// Adds rows behind another one.
 fn add_rows<R: Row>(alloc: Global, text: &mut String, rows: &[R]) -> Result<(), AllocError>
     ensures { OnOk result (string_bytes text.new
         ≡ string_bytes text.old ++ flat_map (λ row. behind_a_comma (R.json row)) rows.now) }
 {
+    // a text that grows is held twice
+    text.reserve(rows.len().saturating_mul(ROW_BYTES))?;
     for row in rows {
         text.push_str(",")?;
         text.push_str(row_text(alloc, row)?.as_str())?;
