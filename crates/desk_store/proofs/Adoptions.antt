@@ -198,6 +198,15 @@ shown s d r found t is = go s.is_open refl
 pub counted_elsewhere : (row : AdoptionRow) (kept : Adoptions) (t : Tables) → (row.document ≡ kept.document → ⊥) → AreCounted (Some kept) t → AreCounted (Some kept) (applied (Adopted row) t)
 counted_elsewhere row kept t other are = are ∙ sym (adopted_elsewhere t row kept.document other)
 
+-- one more, where the reference wasn't adopted
+pub counted_new : (row : AdoptionRow) (kept : Adoptions) (t : Tables) → row.document ≡ kept.document → licence_for t.adoption row.document row.reference ≡ None → AreCounted (Some kept) t
+    → (after : Option Adoptions) → IfSome after (λ more. more ≡ record kept { count = kept.count + 1 }) → AreCounted after (applied (Adopted row) t)
+counted_new row kept t here none are None more = tt
+counted_new row kept t here none are (Some after) more =
+    let first = adopted_first t row none in
+    subst (λ (x : Adoptions). AreCounted (Some x) (applied (Adopted row) t)) (sym more)
+    (ap (λ n. n + 1) (are ∙ ap (adoption_count t) (sym here)) ∙ (sym first ∙ ap (adoption_count (applied (Adopted row) t)) here))
+
 -- what was found of the reference tells whether it counts
 module _ (s : State) (row : AdoptionRow) (kept : Adoptions) (reference : List ℕ) (found : Option (List ℕ)) (here : row.document ≡ kept.document) (named : reference ≡ row.reference)
     (is : (t : Tables) → (seen_of s).holds t → found ≡ licence_for t.adoption row.document reference) (t : Tables) (held : (seen_of s).holds t) (are : AreCounted (Some kept) t) where
@@ -210,8 +219,4 @@ module _ (s : State) (row : AdoptionRow) (kept : Adoptions) (reference : List �
       are ∙ (ap (adoption_count t) (sym here) ∙ (sym (adopted_again t row s.now licence showing.holds (sym (found_there t held) ∙ some)) ∙ ap (adoption_count (applied (Adopted row) t)) here))
 
   pub counted_first : found ≡ None → (after : Option Adoptions) → IfSome after (λ more. more ≡ record kept { count = kept.count + 1 }) → AreCounted after (applied (Adopted row) t)
-  counted_first none None more = tt
-  counted_first none (Some after) more =
-      let first = adopted_first t row (sym (found_there t held) ∙ none) in
-      subst (λ (x : Adoptions). AreCounted (Some x) (applied (Adopted row) t)) (sym more)
-      (ap (λ n. n + 1) (are ∙ ap (adoption_count t) (sym here)) ∙ (sym first ∙ ap (adoption_count (applied (Adopted row) t)) here))
+  counted_first none = counted_new row kept t here (sym (found_there t held) ∙ none) are

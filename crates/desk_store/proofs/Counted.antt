@@ -14,7 +14,7 @@ use Rattle.desk_store.specs.Adopting.{IsUncountable}
 use Rattle.desk_tally.specs.declared.tallies.Tallies.{Tallies}
 use Rattle.desk_model.specs.declared.command.Change.{Change}
 use Rattle.desk_model.specs.declared.command.Change.TheVariants as change
-use Rattle.desk_store.specs.Counting.{AreFound, known_by, counts_after, forms_after, tallied}
+use Rattle.desk_store.specs.Counting.{AreFound, known_by, counts_after, forms_after, nothing_kept, tallied}
 use Rattle.desk_store.specs.declared.counts.Counts.{Counts}
 use Rattle.desk_store.specs.declared.found.Found.{Found}
 use Rattle.desk_model.specs.declared.command.Fault.{Fault}
@@ -29,8 +29,8 @@ beside : (had has : Found) (n m : Tallies) (k l : Known) (a b : Seen Trees) → 
 beside had has n m k l a b it = record { counts = it.counts; closes = it.closes }
 
 -- nothing that was found is so of any tables
-pub nothing_found : (has : Found) → has ≡ record { adoptions = None; holders = None } → (t : Tables) → AreFound has t
-nothing_found has none t = subst (λ (f : Found). AreFound f t) (sym none) (tt, tt)
+pub nothing_found : (has : Found) → has ≡ nothing_kept → (t : Tables) → AreFound has t
+nothing_found has none t = subst (λ (f : Found). AreFound f t) (sym none) (tt, tt, record { document = tt; rule = tt; unadopted = tt })
 
 -- ---- look-ups
 
@@ -60,12 +60,12 @@ module _ (had : Found) (n : Tallies) (k : Known) where
   of_counted Q P a b right it = λ honest t holds. it honest t holds.2 (right t holds.0)
 
   -- what was looked up is kept
-  pub found : (has : Found) (a b : Seen Trees) → Same a b → OfRows (λ t. AreKept n t → AreFound had t → AreFound has t) a b → Same (tallied had n k a) (tallied has n k b)
+  pub found : (has : Found) (a b : Seen Trees) → Same a b → OfRows (λ t. known_of t ≡ k → AreKept n t → AreFound had t → AreFound has t) a b → Same (tallied had n k a) (tallied has n k b)
   found has a b it are = record {
     kept = record {
       spared = record {
         honest = it.kept.spared.honest;
-        holds = λ t holds. (holds.0, holds.1, it.kept.spared.holds t holds.2, λ honest. are honest t holds.2 holds.1 (holds.3 (it.kept.spared.honest honest)));
+        holds = λ t holds. (holds.0, holds.1, it.kept.spared.holds t holds.2, λ honest. are honest t holds.2 holds.0 holds.1 (holds.3 (it.kept.spared.honest honest)));
         outlasts = beside had has n n k k a b it.kept.spared.outlasts;
       };
       leaves = λ honest is t holds x left. it.kept.leaves honest is t holds.2 x left;

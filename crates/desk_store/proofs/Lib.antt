@@ -1,5 +1,6 @@
 mod Distinct
 mod Adoptions
+mod LastLemmas
 mod Holding
 mod Counted
 mod Bodies

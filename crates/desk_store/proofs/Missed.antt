@@ -1,12 +1,15 @@
 -- A look-up of a store finds, and fails, as the look-up in its tables does.
-use Rattle.std.proofs.Common.{◌≡◌, Result}
+use Rattle.std.proofs.Common.{◌≡◌, Err, Ok, Result, inl}
 use Rattle.std.specs.Prelude.{IfErr}
+use Rattle.std.specs.Result.{IsErrAnd}
 use Rattle.std.proofs.lemmas.Result.{IfErr-weaker, IfOk-weaker}
 use Rattle.sqlite_trees.specs.declared.store.Store.{Ghosts}
 use Rattle.sqlite.specs.Held.{Held, state}
 use Rattle.sqlite.specs.State.{State}
 use Rattle.desk_model.specs.Tables.{Tables}
 use Rattle.desk_model.specs.declared.command.Fault.{Fault}
+use Rattle.desk_model.specs.declared.command.Fault.TheVariants.{Memory}
+use Rattle.desk_access.proofs.Chains.{same_self}
 use Rattle.desk_sql_layout.specs.Held.{Known, known_of, seen_of}
 use Rattle.desk_sql_lookup.specs.Causes.{HasCauseIf}
 use Rattle.desk_sql_lookup.specs.LookUps.{LooksUp, LooksUpGiven, LooksUpIf}
@@ -39,3 +42,13 @@ module _ {S : Type 0} (g : Ghosts S) (had : Found) (n : Tallies) (k : Known) (a 
   pub finds_if : {Given : Tables → Type 0} {Has : A → Tables → Type 0} → LooksUpIf g Given a b r Has → ((t : Tables) → known_of t ≡ k → Given t)
       → FindsGiven (λ t. Unit {0}) (tallied had n k (seen_of (state g a))) (tallied had n k (seen_of (state g b))) (state g a) (state g b) r Has
   finds_if {Has = Has} it right = finds_so it (λ t. Unit {0}) Has (λ t same any. right t same) (λ x t same is. is (right t same))
+
+-- no memory was left before anything was asked
+pub lacks_first : {S : Type 0} (g : Ghosts S) (had : Found) (n : Tallies) (k : Known) (a : Held S) {A : Type 0} (r : Result A Fault) (Given : Tables → Type 0) (Has : A → Tables → Type 0) → IsErrAnd r (λ e. e ≡ Memory)
+    → FindsGiven Given (tallied had n k (seen_of (state g a))) (tallied had n k (seen_of (state g a))) (state g a) (state g a) r Has
+lacks_first g had n k a (Ok x) Given Has is = absurd is
+lacks_first g had n k a (Err fault) Given Has is = record {
+  found = tt;
+  kept = (same_self (tallied had n k (seen_of (state g a)))).kept;
+  cause = record { cause = λ clean opened unlimited t holds written so. inl is };
+}

@@ -1,5 +1,5 @@
 -- What the store keeps beside its tables: how many rows some of them have, the forms of the catalogue in force, the tallies of the
--- releases, how many references of one document are adopted, and the releases that hold a choice.
+-- releases, how many references of one document are adopted, the releases that hold a choice, and what was looked up last.
 use Rattle.std.specs.Prelude.{◌≡◌, ◌<◌, ◌^◌, ℕ, ◌+◌, List, length, Option, Some, None}
 use Rattle.sqlite_trees.specs.Tree.{Trees}
 use Rattle.desk_model.specs.declared.command.Change.{Change}
@@ -14,6 +14,7 @@ use Rattle.desk_store.specs.declared.counts.Adoptions.{Adoptions}
 use Rattle.desk_store.specs.declared.counts.Counts.{Counts}
 use Rattle.desk_store.specs.declared.found.Found.{Found}
 use Rattle.desk_store.specs.Holding.{AreHeld}
+use Rattle.desk_store.specs.Last.{AreLast, nothing_last}
 
 abbrev pub known_by : Counts → List (List ℕ) → Known
 known_by counts forms = record {
@@ -52,7 +53,10 @@ AreCounted (Some adoptions) t = adoptions.count ≡ adoption_count t adoptions.d
 
 -- what was found of the rows is so of these
 abbrev pub AreFound : Found → Tables → Type 0
-AreFound found t = AreCounted found.adoptions t × AreHeld found.holders t
+AreFound found t = AreCounted found.adoptions t × AreHeld found.holders t × AreLast found.last t
+
+abbrev pub nothing_kept : Found
+nothing_kept = record { adoptions = None; holders = None; last = nothing_last }
 
 -- What is seen of a store that knows these of its rows, has these tallies of them, and found this. It was looked up, so it is so of the
 -- rows as far as the disk is honest.

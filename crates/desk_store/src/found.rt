@@ -1,46 +1,51 @@
 //! What a store found of its rows, and keeps beside them.
 
-ghost use Rattle.std.specs.Prelude.{◌≡◌, None};
+ghost use Rattle.std.specs.Prelude.{◌≡◌};
 ghost use Rattle.desk_access.specs.Follows.{Follows};
 ghost use Rattle.desk_history.specs.Laws.{Ascends};
 ghost use Rattle.desk_model.specs.Keys.{release_below};
 ghost use Rattle.desk_model.specs.Tables.{applied};
 ghost use Rattle.desk_sql_lookup.specs.LookUps.{LooksUp};
-ghost use Rattle.desk_store.specs.Counting.{AreCounted, AreFound};
+ghost use Rattle.desk_store.specs.Counting.{AreCounted, AreFound, nothing_kept};
 ghost use Rattle.desk_store.specs.Holding.{AreHeld};
+ghost use Rattle.desk_store.specs.Last.{IsUnadopted};
 
 use crate::counts::Adoptions;
 use crate::holders::{Holders, change_holders};
+use crate::last::Last;
 use desk_model::{Change, Fault};
 use sqlite::{Alter, Connection};
 use std::alloc::Global;
 
-/// The count of adoptions of the document whose count was asked for last, if one was, and the
-/// releases that hold a choice, if one was asked for.
+/// The count of adoptions of the document whose count was asked for last, if one was, the releases
+/// that hold a choice, if one was asked for, and what was looked up last.
 #[derive(Drop)]
 pub(crate) struct Found {
     pub(crate) adoptions: Option<Adoptions>,
     pub(crate) holders: Option<Holders>,
+    pub(crate) last: Last,
 }
 
 impl Found {
     pub(crate) fn nothing() -> Found
-        ensures { result ≡ record { adoptions = None; holders = None } }
+        ensures { result ≡ nothing_kept }
     {
         Found {
             adoptions: None,
             holders: None,
+            last: Last::nothing(),
         }
     }
 
     /// Hands out what was found, and leaves nothing of it.
     pub(crate) fn take(&mut self) -> Found
         ensures taken { result ≡ self.old }
-        ensures left { self.new ≡ record { adoptions = None; holders = None } }
+        ensures left { self.new ≡ nothing_kept }
     {
         Found {
             adoptions: self.adoptions.take(),
             holders: self.holders.take(),
+            last: self.last.take(),
         }
     }
 }
@@ -52,9 +57,10 @@ fn adoptions_after<S: Alter>(
     conn: &mut Connection<S>,
     change: &Change,
     adoptions: Option<Adoptions>,
+    last: &Last,
 ) -> Result<Option<Adoptions>, Fault>
-    ensures { LooksUp S.Store conn.old conn.new result (λ after t.
-        AreCounted adoptions t → AreCounted after (applied change.now t)) }
+    ensures { LooksUp S.Store conn.old conn.new result (λ after t. AreCounted adoptions t
+        → IsUnadopted last.now.unadopted t → AreCounted after (applied change.now t)) }
 {
     let Some(counted) = adoptions else {
         return Ok(None);
@@ -64,6 +70,9 @@ fn adoptions_after<S: Alter>(
     };
     if row.document != counted.document {
         return Ok(adoptions);
+    }
+    if last.lacks(row) {
+        return Ok(counted.with_one_more());
     }
     match desk_sql_lookup::adoption(alloc, conn, row.document, row.reference.as_str())? {
         Some(_) => Ok(adoptions),
@@ -100,11 +109,16 @@ pub(crate) fn found_after<S: Alter>(
         Ascends release_below (applied change.now t).releases → Follows change.now t
         → AreFound found t → AreFound after (applied change.now t)) }
 {
-    let Found { adoptions, holders } = found;
-    let counted = adoptions_after(alloc, conn, change, adoptions)?;
+    let Found {
+        adoptions,
+        holders,
+        last,
+    } = found;
+    let counted = adoptions_after(alloc, conn, change, adoptions, &last)?;
     let held = holders_after(alloc, conn, change, holders)?;
     Ok(Found {
         adoptions: counted,
         holders: held,
+        last: last.after_change(),
     })
 }

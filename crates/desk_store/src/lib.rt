@@ -4,7 +4,8 @@
 //! change by `desk_sql_commit`, and keeps in its own value how many rows some tables have, the
 //! forms of the catalogue in force and the tallies of the releases (`specs/Counting.antt`). What
 //! look-ups ask for again is kept once it was found: how many references of one document are
-//! adopted, and the releases that hold a choice (`Found`, `specs/Holding.antt`).
+//! adopted, the releases that hold a choice (`Found`, `specs/Holding.antt`), and a document, a rule
+//! and a reference of the last look-ups (`Last`).
 //!
 //! `SqlDesk` is the desk over such a store, with the reader of texts by their standards. `create`
 //! makes the tables of an empty desk in a database where nothing stands; `adopt_connection` takes a
@@ -23,6 +24,7 @@ mod desk;
 mod fault;
 mod found;
 mod holders;
+mod last;
 mod looking;
 mod migrate;
 mod store;

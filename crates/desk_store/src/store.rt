@@ -239,13 +239,13 @@ impl<S: Alter> Store for SqlStore<S> {
         ensures { Finds ⟦<SqlStore<S> as Store>⟧.seen (λ s. state S.Store s.conn) self.old self.new
             result (λ found t. found ≡ rule_for (rules_found t) term.now form.now) }
     {
-        desk_sql_lookup::rule(
-            self.alloc,
-            &mut self.conn,
-            self.counts.revisions,
-            term,
-            form,
-        )
+        if let Some(known) = self.found.last.rule_for(self.alloc, term, form)? {
+            return Ok(Some(known));
+        }
+        let revisions = self.counts.revisions;
+        let found = desk_sql_lookup::rule(self.alloc, &mut self.conn, revisions, term, form)?;
+        self.found.last.keep_rule(self.alloc, &found)?;
+        Ok(found)
     }
 
     fn document_count(&mut self) -> Result<u64, Fault> {
@@ -266,7 +266,13 @@ impl<S: Alter> Store for SqlStore<S> {
             t.document)) }
         ensures same { IfOk result (λ found. IfSome found (λ known. known.0 ≡ number)) }
     {
-        desk_sql_lookup::document(self.alloc, &mut self.conn, self.counts.documents, number)
+        if let Some(known) = self.found.last.document_at(number) {
+            return Ok(Some(known));
+        }
+        let documents = self.counts.documents;
+        let found = desk_sql_lookup::document(self.alloc, &mut self.conn, documents, number)?;
+        self.found.last.keep_document(number, found);
+        Ok(found)
     }
 
     fn documents(&mut self) -> Result<Vec<DocumentHead>, Fault>
@@ -388,7 +394,11 @@ impl<S: Alter> Store for SqlStore<S> {
         ensures { Finds ⟦<SqlStore<S> as Store>⟧.seen (λ s. state S.Store s.conn) self.old self.new
             result (λ found t. found ≡ licence_for t.adoption document reference.now) }
     {
-        desk_sql_lookup::adoption(self.alloc, &mut self.conn, document, reference)
+        let licence = desk_sql_lookup::adoption(self.alloc, &mut self.conn, document, reference)?;
+        self.found
+            .last
+            .keep_adoption(self.alloc, document, reference, &licence)?;
+        Ok(licence)
     }
 
     fn adoption_count(&mut self, document: u32) -> Result<u64, Fault>

@@ -18,8 +18,9 @@ pub returns : goal.returns
 returns g c =
     let change = c.args.change.now in
     let counted = c.in_ok-counted.counted in
+    let kept = c.after_change.result in
     let both = looks_then g.S.Store c.args.conn.now c.adoptions_after.new.conn c.holders_after.new.conn (λ t. Unit {0}) c.in_ok-counted.ensures (Ok c.in_ok-held.held) c.in_ok-held.ensures
-    (λ held t. Ascends release_below (applied change t).releases → Follows change t → AreFound c.args.found t → AreCounted counted (applied change t) × AreHeld held (applied change t))
-    (λ held t first second up follows are. (first are.0, second up follows are.1)) in
-    then_tells g.S.Store c.args.conn.now c.holders_after.new.conn both (λ t. Unit {0}) (Ok (record { adoptions = counted; holders = c.in_ok-held.held }))
+    (λ held t. Ascends release_below (applied change t).releases → Follows change t → AreFound c.args.found t → AreFound (record { adoptions = counted; holders = held; last = kept }) (applied change t))
+    (λ held t first second up follows are. (first are.0 are.2.unadopted, second up follows are.1, c.after_change.ensures change t are.2)) in
+    then_tells g.S.Store c.args.conn.now c.holders_after.new.conn both (λ t. Unit {0}) (Ok (record { adoptions = counted; holders = c.in_ok-held.held; last = kept }))
     (λ after t. Ascends release_below (applied change t).releases → Follows change t → AreFound c.args.found t → AreFound after (applied change t)) both.found tt

@@ -25,6 +25,6 @@ returns-2 g c =
     let has : Found = record self.found { adoptions = Some (record { document = c.args.document; count = c.in_ok-count.count }) } in
     record {
       found = of_rows self.found self.tallies known (λ t. c.in_ok-count.count ≡ adoption_count t c.args.document) old new it.found;
-      kept = found self.found self.tallies known has old new it.kept (λ honest t held kept are. (it.found honest t held, are.1));
+      kept = found self.found self.tallies known has old new it.kept (λ honest t held known kept are. (it.found honest t held, are.1, are.2));
       cause = tt;
     }

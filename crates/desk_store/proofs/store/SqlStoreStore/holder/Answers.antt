@@ -62,6 +62,6 @@ returns g c =
     record {
       found = λ clean t holds. c.in_ok-release.ensures t holds.1.places (rw c.in-Some-2.is at (it.found clean t holds.2)).0;
       kept = found self.found self.tallies (known_by self.counts self.forms) has (seen_of (state g.S.Store self.conn)) (seen_of (state g.S.Store c.read_holders.new.conn)) it.kept
-          (λ honest t held kept are. (are.0, (rw c.in-Some-2.is at (it.found honest t held)).0));
+          (λ honest t held known kept are. (are.0, (rw c.in-Some-2.is at (it.found honest t held)).0, are.2));
       cause = tt;
     }

@@ -1,0 +1,47 @@
+-- What is kept of the last look-ups, and what becomes of it.
+use Rattle.std.proofs.Common.{◌≡◌, ◌∙◌, ◌∷◌, [], ℕ, List, Option, Some, None, ap, sym, subst, find}
+use Rattle.std.specs.Prelude.{bytes_eq}
+use Rattle.std.specs.Option.{option_map, option_or}
+use Rattle.std.proofs.lemmas.Bool.{and_parts}
+use Rattle.std.proofs.lemmas.List.Folds.{find-append}
+use Rattle.desk_base.specs.declared.profile.Profile.{Profile}
+use Rattle.desk_model.specs.History.{rule_for}
+use Rattle.desk_model.specs.Keys.{is_document, is_rule}
+use Rattle.desk_model.specs.Tables.{Tables, applied}
+use Rattle.desk_model.specs.declared.command.Change.{Change}
+use Rattle.desk_model.specs.declared.command.Change.TheVariants as change
+use Rattle.desk_model.specs.declared.reading.Rule.{Rule}
+use Rattle.desk_model.specs.declared.row.DocumentRow.{DocumentRow}
+use Rattle.desk_history.specs.FromTables.{known_document}
+use Rattle.desk_history_laws.proofs.Lists.{found_in}
+use Rattle.desk_sql_lookup.proofs.Keyed.{same_text}
+use Rattle.desk_store.specs.Last.{AreLast, IsDocument}
+
+-- a document that was found stays, since others are put behind it
+document_stays : (change : Change) (t : Tables) (known : ℕ × Profile) → IsDocument (Some known) t → IsDocument (Some known) (applied change t)
+document_stays (change.Imported row packages references) t known is =
+    let at = is_document known.0 in
+    ap (option_map known_document) (find-append at t.document (row ∷ [])) ∙ first (find at t.document) (find at (row ∷ [])) is
+  where
+    first : (found other : Option DocumentRow) → option_map known_document found ≡ Some known → option_map known_document (option_or found other) ≡ Some known
+    first None other is = absurd (cc)
+    first (Some row) other is = is
+document_stays (change.Loaded row rules forms) t known is = is
+document_stays (change.Opened row) t known is = is
+document_stays (change.Attached row) t known is = is
+document_stays (change.Chosen r d p rows) t known is = is
+document_stays (change.Froze r revision rows duties changes) t known is = is
+document_stays (change.Moved moved) t known is = is
+document_stays (change.Withdrew r moved) t known is = is
+document_stays (change.Concluded row) t known is = is
+document_stays (change.Adopted row) t known is = is
+
+pub last_stays : (change : Change) (t : Tables) (document : Option (ℕ × Profile)) → IsDocument document t → AreLast (record { document = document; rule = None; unadopted = None }) (applied change t)
+last_stays change t None is = record { document = tt; rule = tt; unadopted = tt }
+last_stays change t (Some known) is = record { document = document_stays change t known is; rule = tt; unadopted = tt }
+
+-- a rule that was found is that for its own term and form
+pub rule_is_own : (rules : List Rule) (term form : List ℕ) (rule : Rule) → rule_for rules term form ≡ Some rule → rule_for rules rule.term rule.form ≡ Some rule
+rule_is_own rules term form rule is =
+    let both = and_parts (bytes_eq rule.term term) (bytes_eq rule.form form) (found_in (is_rule term form) rules rule is).1 in
+    subst (λ x. rule_for rules x rule.form ≡ Some rule) (sym (same_text rule.term term both.0)) (subst (λ x. rule_for rules term x ≡ Some rule) (sym (same_text rule.form form both.1)) is)

@@ -1,0 +1,5 @@
+use Rattle.desk_store.proofs.LastLemmas.{last_stays}
+use Rattle.desk_store.proofs.last.Last.after_change.Goals as goal
+
+pub returns : goal.returns
+returns c = λ change t are. last_stays change t c.args.self.document are.document

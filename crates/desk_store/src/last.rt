@@ -1,0 +1,182 @@
+//! What look-ups found last, for those that ask again: a freeze asks for the same document and the
+//! same rule package by package, and an adoption for its reference twice.
+
+ghost use Rattle.std.specs.Prelude.{◌≡◌, true, ℕ, List, None, Some, IfOk, IfSome, OnErr, OnOk, find};
+ghost use Rattle.std.specs.Option.{option_map};
+ghost use Rattle.desk_model.specs.Conclusions.{licence_for};
+ghost use Rattle.desk_model.specs.History.{rule_for};
+ghost use Rattle.desk_model.specs.Keys.{is_document};
+ghost use Rattle.desk_model.specs.Tables.{Tables, applied};
+ghost use Rattle.desk_model.specs.declared.command.Change.{Change};
+ghost use Rattle.desk_history.specs.FromTables.{known_document, rules_found};
+ghost use Rattle.desk_store.specs.Last.{AreLast, IsDocument, IsRule, IsUnadopted, nothing_last};
+
+use desk_base::{Items, Text};
+use desk_model::{AdoptionRow, Profile, Rule};
+use std::alloc::{AllocError, Global};
+
+/// A reference of a document that isn't adopted.
+#[derive(Drop)]
+pub(crate) struct Unadopted {
+    pub(crate) document: u32,
+    pub(crate) reference: Text,
+}
+
+/// A document with its profile, a rule, and a reference that isn't adopted.
+#[derive(Drop)]
+pub(crate) struct Last {
+    pub(crate) document: Option<(u32, Profile)>,
+    pub(crate) rule: Option<Rule>,
+    pub(crate) unadopted: Option<Unadopted>,
+}
+
+fn copies(alloc: Global, texts: &Items<Text>) -> Result<Items<Text>, AllocError>
+    ensures { IfOk result (λ copies. copies ≡ texts.now) }
+{
+    let mut copies = Items::new(alloc);
+    for text in texts.as_slice() {
+        copies.push(text.clone()?)?;
+    }
+    Ok(copies)
+}
+
+fn copy_of(alloc: Global, rule: &Rule) -> Result<Rule, AllocError>
+    ensures { IfOk result (λ copy. copy ≡ rule.now) }
+{
+    Ok(Rule {
+        term: rule.term.clone()?,
+        form: rule.form.clone()?,
+        spelled: rule.spelled.clone()?,
+        codes: copies(alloc, &rule.codes)?,
+    })
+}
+
+impl Last {
+    pub(crate) fn nothing() -> Last
+        ensures { result ≡ nothing_last }
+    {
+        Last {
+            document: None,
+            rule: None,
+            unadopted: None,
+        }
+    }
+
+    /// Hands out what was found, and leaves nothing of it.
+    pub(crate) fn take(&mut self) -> Last
+        ensures taken { result ≡ self.old }
+        ensures left { self.new ≡ nothing_last }
+    {
+        Last {
+            document: self.document.take(),
+            rule: self.rule.take(),
+            unadopted: self.unadopted.take(),
+        }
+    }
+
+    /// What is still so after a change: documents are only added.
+    pub(crate) fn after_change(self) -> Last
+        ensures { (change : Change) (t : Tables) → AreLast self t
+            → AreLast result (applied change t) }
+    {
+        Last {
+            document: self.document,
+            rule: None,
+            unadopted: None,
+        }
+    }
+
+    /// The document with a number, if it is known.
+    pub(crate) fn document_at(&self, number: u64) -> Option<(u32, Profile)>
+        ensures found { IfSome result (λ known. (t : Tables) → IsDocument self.now.document t
+            → Some known ≡ option_map known_document (find (is_document number) t.document)) }
+        ensures same { IfSome result (λ known. known.0 ≡ number) }
+    {
+        match self.document {
+            Some((known, profile)) if u64::from(known) == number => Some((known, profile)),
+            _ => None,
+        }
+    }
+
+    /// Keeps a document that was looked up, if it was found.
+    pub(crate) fn keep_document(&mut self, number: u64, found: Option<(u32, Profile)>)
+        requires { IfSome found (λ known. known.0 ≡ number) }
+        ensures { (t : Tables)
+            → found ≡ option_map known_document (find (is_document number) t.document)
+            → AreLast self.old t → AreLast self.new t }
+    {
+        self.document = found;
+    }
+
+    /// The rule for a term and a form, if it is known.
+    pub(crate) fn rule_for(
+        &self,
+        alloc: Global,
+        term: &str,
+        form: &str,
+    ) -> Result<Option<Rule>, AllocError>
+        ensures { IfOk result (λ found. IfSome found (λ rule. (t : Tables)
+            → IsRule self.now.rule t
+            → Some rule ≡ rule_for (rules_found t) term.now form.now)) }
+    {
+        match &self.rule {
+            Some(rule) if rule.term.as_str() == term && rule.form.as_str() == form => {
+                Ok(Some(copy_of(alloc, rule)?))
+            }
+            _ => Ok(None),
+        }
+    }
+
+    /// Keeps a rule that was looked up, if it was found.
+    pub(crate) fn keep_rule(
+        &mut self,
+        alloc: Global,
+        found: &Option<Rule>,
+    ) -> Result<(), AllocError>
+        ensures ok { OnOk result ((t : Tables) (term form : List ℕ)
+            → found.now ≡ rule_for (rules_found t) term form
+            → AreLast self.old t → AreLast self.new t) }
+        ensures err { OnErr result (self.new ≡ self.old) }
+    {
+        if let Some(rule) = found {
+            self.rule = Some(copy_of(alloc, rule)?);
+        }
+        Ok(())
+    }
+
+    /// Whether it is known that a reference isn't adopted.
+    pub(crate) fn lacks(&self, row: &AdoptionRow) -> bool
+        ensures { result ≡ true → (t : Tables) → IsUnadopted self.now.unadopted t
+            → licence_for t.adoption row.now.document row.now.reference ≡ None }
+    {
+        match &self.unadopted {
+            Some(it) => {
+                it.document == row.document && it.reference.as_str() == row.reference.as_str()
+            }
+            None => false,
+        }
+    }
+
+    /// Keeps that a reference isn't adopted, if no licence was found for it.
+    pub(crate) fn keep_adoption(
+        &mut self,
+        alloc: Global,
+        document: u32,
+        reference: &str,
+        licence: &Option<Text>,
+    ) -> Result<(), AllocError>
+        ensures ok { OnOk result ((t : Tables)
+            → licence.now ≡ licence_for t.adoption document reference.now
+            → AreLast self.old t → AreLast self.new t) }
+        ensures err { OnErr result (self.new ≡ self.old) }
+    {
+        if licence.is_none() {
+            let reference = Text::of(alloc, reference)?;
+            self.unadopted = Some(Unadopted {
+                document,
+                reference,
+            });
+        }
+        Ok(())
+    }
+}
