@@ -12,3 +12,8 @@ module _ {Left : Type 0} where
   pub looked_after : {A : Type 0} (a b c : Seen Left) (r : Result A Fault) → Same a b → Looked b c r → Looked a c r
   looked_after a b c (Ok x) same looked = same_then_same a b c same looked
   looked_after a b c (Err fault) same looked = same_then_kept a b c same looked
+
+  -- what takes memory alone looks at nothing
+  pub looked_same : {A : Type 0} (a b : Seen Left) (r : Result A Fault) → Same a b → Looked a b r
+  looked_same a b (Ok x) same = same
+  looked_same a b (Err fault) same = same.kept

@@ -3,6 +3,7 @@
 ghost use Rattle.std.specs.Prelude.{◌≡◌, ◌∷◌, [], IfOk, IfErr};
 ghost use Rattle.desk_model.specs.Readings.{Readings};
 ghost use Rattle.desk_model.specs.Faults.{MayFail};
+ghost use Rattle.desk_model.specs.declared.command.Fault.TheVariants.{Memory};
 ghost use Rattle.desk_access.specs.Seen.{Looked, OfRows};
 ghost use Rattle.desk_wanting.specs.Obstacles.{open_wanting, wanting_found};
 
@@ -13,11 +14,12 @@ use desk_access::texts::Texts;
 use desk_base::Text;
 use desk_model::{Fault, Refusal};
 use desk_packages::{shipped_packages, unready};
-use std::alloc::{AllocError, Global};
+use std::alloc::Global;
 
 /// A refusal alone.
-fn alone(alloc: Global, refusal: Refusal) -> Result<Vec<Refusal>, AllocError>
-    ensures { IfOk result (λ refusals. refusals.items ≡ refusal ∷ []) }
+fn alone(alloc: Global, refusal: Refusal) -> Result<Vec<Refusal>, Fault>
+    ensures found { IfOk result (λ refusals. refusals.items ≡ refusal ∷ []) }
+    ensures fault { IfErr result (λ fault. fault ≡ Memory) }
 {
     let mut refusals = Vec::new(alloc);
     refusals.push(refusal)?;
@@ -45,11 +47,11 @@ pub fn open_wanting<T: Texts, S: Store>(
 {
     let attached = store.attached(release.as_str())?;
     if attached.is_empty() {
-        return Ok(alone(alloc, Refusal::EmptyRelease)?);
+        return alone(alloc, Refusal::EmptyRelease);
     }
     let packages = shipped_packages(alloc, store, attached.as_slice())?;
     let refusals = refusals_of(alloc, texts, store, release, form, packages.as_slice())?;
-    Ok(told_once(alloc, refusals)?)
+    told_once(alloc, refusals)
 }
 
 /// All that stands in the way of a freeze of a release, in the order in which a freeze meets it. If
@@ -75,10 +77,10 @@ pub fn wanting<T: Texts, S: Store>(
     ensures fault { IfErr result (MayFail S.tells) }
 {
     let Some(row) = store.release(release.as_str())? else {
-        return Ok(alone(alloc, Refusal::UnknownRelease)?);
+        return alone(alloc, Refusal::UnknownRelease);
     };
     if let Some(refusal) = unready(row.state) {
-        return Ok(alone(alloc, refusal)?);
+        return alone(alloc, refusal);
     }
     open_wanting(alloc, texts, store, release, &row.form)
 }

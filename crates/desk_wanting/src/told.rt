@@ -1,11 +1,12 @@
 //! Each reference without adoption is listed once.
 
-ghost use Rattle.std.specs.Prelude.{◌≡◌, ◌++◌, ◌∷◌, [], IfOk, OnOk, if◌then◌else◌};
+ghost use Rattle.std.specs.Prelude.{◌≡◌, ◌++◌, ◌∷◌, [], IfOk, IfErr, OnOk, if◌then◌else◌};
 ghost use Rattle.std.specs.List.{list_any};
+ghost use Rattle.desk_model.specs.declared.command.Fault.TheVariants.{Memory};
 ghost use Rattle.desk_model.specs.Obstacles.{is_told, names_reference, told_once};
 
 use desk_base::Text;
-use desk_model::Refusal;
+use desk_model::{Fault, Refusal};
 use std::alloc::{AllocError, Global};
 
 /// Whether a refusal names a reference of a document as one without adoption.
@@ -55,8 +56,9 @@ fn add_once(told: &mut Vec<Refusal>, refusal: Refusal) -> Result<(), AllocError>
 }
 
 /// The refusals, each reference without adoption only where it is named first.
-pub(crate) fn told_once(alloc: Global, refusals: Vec<Refusal>) -> Result<Vec<Refusal>, AllocError>
-    ensures { IfOk result (λ told. told.items ≡ told_once [] refusals.items) }
+pub(crate) fn told_once(alloc: Global, refusals: Vec<Refusal>) -> Result<Vec<Refusal>, Fault>
+    ensures found { IfOk result (λ told. told.items ≡ told_once [] refusals.items) }
+    ensures fault { IfErr result (λ fault. fault ≡ Memory) }
 {
     let mut told = Vec::new(alloc);
     for refusal in refusals {

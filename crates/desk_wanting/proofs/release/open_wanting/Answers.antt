@@ -1,4 +1,5 @@
 use Rattle.desk_access.proofs.Chains.{looked_err, same_then_kept, same_then_same}
+use Rattle.desk_wanting.proofs.Looks.{looked_same}
 use Rattle.desk_wanting.proofs.release.open_wanting.Goals as goal
 
 pub returns-in_err-packages-clause-kept : goal.returns-in_err-packages-clause-kept
@@ -11,11 +12,7 @@ returns-in_err-refusals-clause-kept g c =
     looked_err _ _ c.from_residual-in_err-refusals.result c.from_residual-in_err-refusals.ensures.0
     (same_then_kept _ _ _ c.in_ok-attached.ensures.kept (same_then_kept _ _ _ c.in_ok-packages.ensures.kept c.in_err-refusals.ensures.kept))
 
-pub returns-in_err-told_once-clause-kept : goal.returns-in_err-told_once-clause-kept
-returns-in_err-told_once-clause-kept g c =
-    looked_err _ _ c.from_residual-in_err-told_once.result c.from_residual-in_err-told_once.ensures.0
-    (same_then_kept _ _ _ c.in_ok-attached.ensures.kept (same_then_kept _ _ _ c.in_ok-packages.ensures.kept c.in_ok-refusals.ensures.kept.kept))
-
 pub returns-clause-kept : goal.returns-clause-kept
 returns-clause-kept g c =
-    same_then_same _ _ _ c.in_ok-attached.ensures.kept (same_then_same _ _ _ c.in_ok-packages.ensures.kept c.in_ok-refusals.ensures.kept)
+    looked_same _ _ c.told_once.result
+    (same_then_same _ _ _ c.in_ok-attached.ensures.kept (same_then_same _ _ _ c.in_ok-packages.ensures.kept c.in_ok-refusals.ensures.kept))
