@@ -47,7 +47,9 @@ fn choice_line(alloc: Global, release: &Text, choice: &SoleChoice) -> Result<Str
     ensures { IfOk result (λ line. string_bytes line ≡ choice_line release.now choice.now) }
 {
     let value = choose_request(alloc, release, choice)?;
-    let mut line = value.to_string(alloc)?;
+    let line = value.to_string(alloc);
+    drop(value);
+    let mut line = line?;
     line.push_str("\n")?;
     Ok(line)
 }

@@ -49,6 +49,7 @@ fn add_once(told: &mut Vec<Refusal>, refusal: Refusal) -> Result<(), AllocError>
         ≡ told.old.items ++ (if is_told told.old.items refusal then [] else refusal ∷ [])) }
 {
     if is_told(told.as_slice(), &refusal) {
+        drop(refusal);
         return Ok(());
     }
     told.push(refusal)?;
