@@ -38,7 +38,9 @@ fn answer_of<D: Desk>(desk: &mut D, query: Query) -> Result<Answer, Fault>
         answer ≡ queried w h query) (D.seen desk.old) (D.seen desk.new)) }
     ensures kept { Looked (D.seen desk.old) (D.seen desk.new) result }
 {
-    desk.ask(&query)
+    let answer = desk.ask(&query);
+    drop(query);
+    answer
 }
 
 fn bill_of<D: Desk>(desk: &mut D, release: &Text) -> Result<Answer, Fault>
@@ -90,7 +92,10 @@ fn totals_in(asked: Result<Answer, Fault>) -> Result<Totals, Outcome>
     ensures { IsToldBy answered.Totals asked result }
 {
     match asked {
-        Ok(Answer::Totals(totals)) => Ok(totals),
+        Ok(Answer::Totals(totals)) => {
+            drop(asked);
+            Ok(totals)
+        }
         other => Err(Outcome::from(other)),
     }
 }
@@ -191,7 +196,9 @@ fn write_page<W: Write>(alloc: Global, contents: Contents, writer: &mut W) -> Re
     ensures memory { IfErr result
         (IfMemory (Keeps (W.contents writer.old) (W.contents writer.new))) }
 {
-    write_contents(alloc, &contents, writer)
+    let status = write_contents(alloc, &contents, writer);
+    drop(contents);
+    status
 }
 
 /// Writes what a question came to in place of what a page is written of, and what it means.
@@ -216,6 +223,7 @@ fn tell_instead<W: Write, E: Write>(
     if let Outcome::Answered(_) = &outcome {
         teller.explain(&outcome);
     }
+    drop(outcome);
     status
 }
 

@@ -77,7 +77,13 @@ fn document_held<'a>(
     ensures { IfOk result (λ held. document_text held
         ≡ document_held snapshot.now number (document_text document.entry)) }
 {
-    let packages = packages_held(alloc, snapshot, number, document.packages.as_slice())?;
+    let packages = match packages_held(alloc, snapshot, number, document.packages.as_slice()) {
+        Ok(packages) => packages,
+        Err(error) => {
+            drop(document);
+            return Err(error);
+        }
+    };
     Ok(Document {
         packages: Items::from_vec(packages),
         ..document
@@ -110,9 +116,14 @@ pub fn propose_held<X: Texts, W: Write, T: Write>(
         Ok(document) => {
             let document = document_held(alloc, snapshot, i64::from(number), document)?;
             let profile = profile_at(snapshot, i64::from(number));
-            write_proposals(alloc, number, &document, profile, writer, teller)
+            let status = write_proposals(alloc, number, &document, profile, writer, teller);
+            drop(document);
+            status
         }
-        Err(_fault) => refuse_document(alloc, texts, bytes, writer),
+        Err(fault) => {
+            drop(fault);
+            refuse_document(alloc, texts, bytes, writer)
+        }
     }
 }
 

@@ -129,5 +129,6 @@ pub fn show<D: Desk, W: Write, E: Write>(
     let outcome = asked(desk, query);
     let told = write_outcome(alloc, &outcome, in_columns, writer);
     teller.explain(&outcome);
+    drop(outcome);
     told
 }

@@ -14,10 +14,10 @@ returns-in_ok-document-in-Ok-clause-told g c = λ w reads right is.
     let held = simp number at c.in_ok-document-in-Ok.ensures in
     let profile = simp again at c.profile_at-profile.ensures in
     let reading = subst (λ (p : Profile). IsReading p reads) (sym profile) is in
-    IfOk-weaker c.write_proposals.result _ _
+    IfOk-weaker c.write_proposals-status.result _ _
     (λ status h. (
       h.0,
       inl (document_text c.in-Ok.document, c.in-Ok.ensures.ok, subst (λ (d : DocumentText). HasLines reads c.args.number d h.0 status) held h.1),
       h.2,
     ))
-    (c.write_proposals.ensures.told reads reading)
+    (c.write_proposals-status.ensures.told reads reading)
