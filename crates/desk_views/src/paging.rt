@@ -154,9 +154,28 @@ fn contents_of<D: Desk>(alloc: Global, desk: &mut D, release: &Text) -> Result<C
     ensures kept { Kept (D.seen desk.old) (D.seen desk.new) }
 {
     let bill = bill_in(bill_of(desk, release))?;
-    let totals = totals_in(totals_of(desk, release))?;
-    let duties = duties_in(duties_of(desk, release))?;
-    let changes = all_changes(alloc, desk, duties.as_slice())?;
+    let totals = match totals_in(totals_of(desk, release)) {
+        Ok(totals) => totals,
+        Err(outcome) => {
+            drop(bill);
+            return Err(outcome);
+        }
+    };
+    let duties = match duties_in(duties_of(desk, release)) {
+        Ok(duties) => duties,
+        Err(outcome) => {
+            drop(bill);
+            return Err(outcome);
+        }
+    };
+    let changes = match all_changes(alloc, desk, duties.as_slice()) {
+        Ok(changes) => changes,
+        Err(outcome) => {
+            drop(bill);
+            drop(duties);
+            return Err(outcome);
+        }
+    };
     Ok(Contents {
         bill,
         totals,
