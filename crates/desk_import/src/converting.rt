@@ -109,7 +109,11 @@ pub fn convert(alloc: Global, bytes: &[u8]) -> Result<Converted, ConvertFault>
     ensures err { IfErr result (λ e. (e ≡ ConvertFault.Memory) ⊎ IsRefused bytes.now e) }
 {
     match Value::from_slice(alloc, bytes) {
-        Ok(value) => conversion_of(alloc, &value),
+        Ok(value) => {
+            let converted = conversion_of(alloc, &value);
+            drop(value);
+            converted
+        }
         Err(error) if error.is_memory() => Err(ConvertFault::Memory),
         Err(_) => Err(ConvertFault::NotJson),
     }

@@ -44,7 +44,10 @@ fn is_read(alloc: Global, text: &str, profile: Profile) -> Result<bool, AllocErr
     ensures { (reads : List ℕ → Option Tree) → IsReading profile reads
         → IfOk result (λ is. is ≡ is_some (reads text.now)) }
 {
-    Ok(expression_in(alloc, text, profile)?.is_some())
+    let expression = expression_in(alloc, text, profile)?;
+    let is = expression.is_some();
+    drop(expression);
+    Ok(is)
 }
 
 /// Whether a field tells of a licence: it is an expression by the profile of operators, and neither

@@ -63,7 +63,9 @@ fn line_of(alloc: Global, document: u32, id: &str, expression: &Expr) -> Result<
 {
     let text = print(alloc, expression)?;
     let value = request(alloc, document, id, text.as_str())?;
-    let mut line = value.to_string(alloc)?;
+    let line = value.to_string(alloc);
+    drop(value);
+    let mut line = line?;
     line.push_str("\n")?;
     Ok(line)
 }
@@ -100,7 +102,11 @@ fn proposal_of(
         return Ok(String::new(alloc));
     }
     match declared_in(alloc, text, profile)? {
-        Some(expression) => line_of(alloc, document, text.id, &expression),
+        Some(expression) => {
+            let line = line_of(alloc, document, text.id, &expression);
+            drop(expression);
+            line
+        }
         None => Ok(String::new(alloc)),
     }
 }

@@ -11,8 +11,8 @@ returns-then-not-is c = λ reads ships is stands.
 
 pub returns-in-Some : goal.returns-in-Some
 returns-in-Some c = λ reads ships is stands.
-    proposed reads c.args.document (package_text c.args.text.now) c.args.standing c.in-Some.expression c.line_of.result
-    (sym c.is.ensures ∙ c.if-not-is.false) (sym c.in-Some.is ∙ c.in_ok-expression.ensures reads is) c.line_of.ensures.text c.line_of.ensures.spells
+    proposed reads c.args.document (package_text c.args.text.now) c.args.standing c.in-Some.expression c.line_of-line.result
+    (sym c.is.ensures ∙ c.if-not-is.false) (sym c.in-Some.is ∙ c.in_ok-expression.ensures reads is) c.line_of-line.ensures.text c.line_of-line.ensures.spells
 
 pub returns-in-None : goal.returns-in-None
 returns-in-None c = λ reads ships is stands.
