@@ -1,4 +1,3 @@
-mod Attaching
 mod Names
 mod Sets
 mod Places

@@ -1,16 +1,12 @@
 -- Where terms are chosen, from what was looked up.
 use Rattle.std.proofs.Common.{◌≡◌, ℕ, Bool, List, Option, Some, None, sym, refl, ap, ◌∙◌, subst}
-use Rattle.std.specs.Prelude.{find, is_some, true, IfOk, IfSome, Result, Ok, Err}
+use Rattle.std.specs.Prelude.{true, IfOk, Result, Ok, Err}
 use Rattle.std.specs.List.{filter_map, list_any}
-use Rattle.std.specs.Option.{option_map}
 use Rattle.desk_model.specs.Readings.{Readings}
-use Rattle.desk_model.specs.Keys.{is_document, is_package, is_attachment}
+use Rattle.desk_model.specs.Keys.{is_attachment}
 use Rattle.desk_model.specs.Tables.{Tables}
-use Rattle.desk_history.specs.FromTables.{answer_from, change_for, chosen_change, release_found, conclusion_found, known_document}
-use Rattle.desk_model.specs.declared.reading.Conclusion.{Conclusion}
-use Rattle.desk_packages.specs.Claims.{read_claim}
-use Rattle.desk_packages.specs.declared.conclusion.Claim.{Claim}
-use Rattle.desk_access.specs.Seen.{Seen, OfRows}
+use Rattle.desk_history.specs.FromTables.{answer_from, change_for, chosen_change, conclusion_found, package_found, stands_document, state_found}
+use Rattle.desk_access.specs.Seen.{Seen, Looked, OfRows, Same}
 use Rattle.desk_access.specs.Plans.{IsPlan, IsPlanOf}
 use Rattle.desk_model.specs.Answers.{first_bad}
 use Rattle.desk_model.specs.Texts.{sorted_set}
@@ -18,40 +14,35 @@ use Rattle.desk_model.specs.declared.command.Answer.{Answer}
 use Rattle.desk_model.specs.declared.command.Command.TheVariants.{Choose}
 use Rattle.desk_model.specs.declared.command.Fault.{Fault}
 use Rattle.desk_model.specs.declared.command.Plan.{Plan}
-use Rattle.desk_preparing.specs.Choosing.{AreTermsOf, choose_found, choose_for, choose_shipped, IsFound, IsOpenPlace}
+use Rattle.desk_preparing.specs.Choosing.{AreTermsOf, choose_found, choose_for, choose_in, choose_shipped, IsFound, IsFoundIn, IsOpenPlace}
 use Rattle.desk_preparing.specs.declared.choice.TermsRead.TheVariants.{Terms}
 use Rattle.desk_preparing.specs.declared.choice.Place.{Place}
 use Rattle.desk_preparing.specs.declared.choice.Found.{Found}
 use Rattle.desk_preparing.specs.declared.choice.Found.TheVariants.{Here, Nowhere}
-use Rattle.desk_base.specs.declared.profile.Profile.{Profile}
-use Rattle.desk_model.specs.declared.row.DocumentRow.{DocumentRow}
 use Rattle.desk_model.specs.declared.row.PackageRow.{PackageRow}
-use Rattle.desk_model.specs.declared.row.ReleaseRow.{ReleaseRow}
 use Rattle.desk_model.specs.declared.state.ReleaseState.{ReleaseState}
 
-inner : {A : Type 0} (x y : A) → Some x ≡ Some y → x ≡ y
-inner x y e = cc
+-- a document that was found, in a release in this state
+pub choose_known : (w : Readings) (terms : List (List ℕ)) (t : Tables) (r : List ℕ) (d : ℕ) (p : List ℕ) (state : ReleaseState) (row : Option PackageRow) → state_found t r ≡ Some state → stands_document t d ≡ true
+    → package_found t d p ≡ row → choose_in w t state r d p terms ≡ choose_found w t r d p terms
+choose_known w terms t r d p state None e k f = rw (e, k, f) refl
+choose_known w terms t r d p state (Some row) e k f = rw (e, k, f) refl
 
--- a document that is told stands
-told : (document : Option DocumentRow) (k : ℕ × Profile) → option_map known_document document ≡ Some k → is_some document ≡ true
-told None k e = cc
-told (Some row) k e = refl
+pub found_known : (t : Tables) (r : List ℕ) (d : ℕ) (p : List ℕ) (state : ReleaseState) (o : Found) → state_found t r ≡ Some state → stands_document t d ≡ true → IsFoundIn t state r d p o → IsFound t r d p o
+found_known t r d p state (Here place) e k is = (is.0, λ w terms. is.1 w terms ∙ choose_known w terms t r d p state (package_found t d p) e k refl)
+found_known t r d p state (Nowhere refusal) e k is = λ w terms. is w terms ∙ choose_known w terms t r d p state (package_found t d p) e k refl
 
-pub found_at : (w : Readings) (terms : List (List ℕ)) (t : Tables) (r : List ℕ) (d : ℕ) (p : List ℕ) (found : ReleaseRow) (k : ℕ × Profile) (row : PackageRow) → release_found t r ≡ Some found
-    → option_map known_document (find (is_document d) t.document) ≡ Some k → find (is_package d p) t.packages ≡ Some row
-    → choose_found w t r d p terms ≡ choose_shipped w terms (list_any (is_attachment r d) t.attached) (conclusion_found w t) found.state row
-found_at w terms t r d p found k row e1 f2 f3 = rw (e1, told (find (is_document d) t.document) k f2, f3) refl
+pub found_at : (w : Readings) (terms : List (List ℕ)) (t : Tables) (state : ReleaseState) (r : List ℕ) (d : ℕ) (p : List ℕ) (row : PackageRow) → package_found t d p ≡ Some row
+    → choose_in w t state r d p terms ≡ choose_shipped w terms (list_any (is_attachment r d) t.attached) (conclusion_found w t) state row
+found_at w terms t state r d p row e = rw e refl
 
 pub is_found : (t : Tables) (r : List ℕ) (d : ℕ) (p : List ℕ) (state : ReleaseState) (attached : Bool) (place : Place) (o : Found) → IsOpenPlace state attached place o → place.document ≡ d
-    → ((w : Readings) (terms : List (List ℕ)) → choose_found w t r d p terms ≡ choose_shipped w terms attached (conclusion_found w t) state place.row) → IsFound t r d p o
+    → ((w : Readings) (terms : List (List ℕ)) → choose_in w t state r d p terms ≡ choose_shipped w terms attached (conclusion_found w t) state place.row) → IsFoundIn t state r d p o
 is_found t r d p state attached place (Here found) is same at = (
   ap (λ (x : Place). x.document) is.0 ∙ same,
   λ w terms. ap (λ (x : Place). choose_for w terms (conclusion_found w t x.row) x.row) is.0 ∙ (is.1 w terms (conclusion_found w t) ∙ sym (at w terms)),
 )
 is_found t r d p state attached place (Nowhere refusal) is same at = λ w terms. is w terms (conclusion_found w t) ∙ sym (at w terms)
-
-pub same_number : (o : Option (ℕ × Profile)) (n d : ℕ) (profile : Profile) → o ≡ Some (n, profile) → IfSome o (λ known. known.0 ≡ d) → n ≡ d
-same_number o n d profile e is = subst (λ o. IfSome o (λ (known : ℕ × Profile). known.0 ≡ d)) e is
 
 -- the answer to a choice whose texts were read
 choice_known : (w : Readings) (t : Tables) (r : List ℕ) (d : ℕ) (p : List ℕ) (texts terms : List (List ℕ)) → first_bad w 0 texts ≡ None → terms ≡ filter_map w.term texts
@@ -66,12 +57,10 @@ module _ {Left : Type 0} where
       (subst (λ (x : List (List ℕ)). IsPlan (choose_found w t r d p terms) (chosen_change r d p (sorted_set x)) plan) are.1 (is h t held))
   chosen_plan old new w r d p texts terms (Err fault) are is = tt
 
--- what is chosen at a place that was found, under a claim that is the package's, is what is chosen there
-pub chosen_at : (w : Readings) (t : Tables) (r : List ℕ) (d : ℕ) (p : List ℕ) (terms : List (List ℕ)) (place : Place) (claim : Claim) (plan : Plan)
-    → IsFound t r d p (Here place) → read_claim w claim ≡ conclusion_found w t place.row
-    → IsPlan (choose_for w terms (read_claim w claim) place.row) (chosen_change r place.document p (sorted_set terms)) plan
-    → IsPlan (choose_found w t r d p terms) (chosen_change r d p (sorted_set terms)) plan
-chosen_at w t r d p terms place claim plan there same planned =
-    subst (λ (n : ℕ). IsPlan (choose_found w t r d p terms) (chosen_change r n p (sorted_set terms)) plan) there.0
-    (subst (λ (answer : Answer). IsPlan answer (chosen_change r place.document p (sorted_set terms)) plan)
-    (ap (λ (c : Option Conclusion). choose_for w terms c place.row) same ∙ there.1 w terms) planned)
+  pub found_after : (a b c : Seen Left) (r : List ℕ) (n d : ℕ) (p : List ℕ) (state : ReleaseState) (o : Result Found Fault) → Same a b → Looked b c o → n ≡ d
+      → (b.is_honest → (t : Tables) → a.holds t → (state_found t r ≡ Some state) × (stands_document t d ≡ true)) → IfOk o (λ found. OfRows (λ t. IsFoundIn t state r n p found) b c)
+      → IfOk o (λ found. OfRows (λ t. IsFound t r d p found) a c)
+  found_after a b c r n d p state (Ok found) s looked same right is = λ h t held.
+      let known = right (looked.kept.spared.honest h) t held in
+      found_known t r d p state found known.0 known.1 (subst (λ (k : ℕ). IsFoundIn t state r k p found) same (is h t (s.kept.spared.holds t held)))
+  found_after a b c r n d p state (Err fault) s looked same right is = tt

@@ -65,11 +65,21 @@ choose_found w t r d p terms =
     ∷ option_and_then (not_minimal terms) verdict
     ∷ []) answered.Done
 
+-- and of a document that was found, in a release in this state
+abbrev pub choose_in : Readings → Tables → ReleaseState → List ℕ → ℕ → List ℕ → List (List ℕ) → Answer
+choose_in w t state r d p terms = option_map_or (choose_shipped w terms (list_any (is_attachment r d) t.attached) (conclusion_found w t) state) (package_found t d p) (answered.Refused why.UnknownPackage)
+
 -- where terms may be chosen, or the refusal, whatever the terms are
 abbrev pub IsFound : Tables → List ℕ → ℕ → List ℕ → Found → Type 0
 IsFound t r d p (Here place) =
     (place.document ≡ d) × ((w : Readings) (terms : List (List ℕ)) → choose_for w terms (conclusion_found w t place.row) place.row ≡ choose_found w t r d p terms)
 IsFound t r d p (Nowhere refusal) = (w : Readings) (terms : List (List ℕ)) → answered.Refused refusal ≡ choose_found w t r d p terms
+
+-- the same of a document that was found, in a release in this state
+abbrev pub IsFoundIn : Tables → ReleaseState → List ℕ → ℕ → List ℕ → Found → Type 0
+IsFoundIn t state r d p (Here place) =
+    (place.document ≡ d) × ((w : Readings) (terms : List (List ℕ)) → choose_for w terms (conclusion_found w t place.row) place.row ≡ choose_in w t state r d p terms)
+IsFoundIn t state r d p (Nowhere refusal) = (w : Readings) (terms : List (List ℕ)) → answered.Refused refusal ≡ choose_in w t state r d p terms
 
 -- the same of a place that was looked up, by the state of the release and whether the document is attached
 abbrev pub IsOpenPlace : ReleaseState → Bool → Place → Found → Type 0

@@ -24,6 +24,13 @@ conclude_known t d p = refused_first (
     ∷ option_map (λ r. why.Chosen r) (holder_found t d p)
     ∷ []) answered.Done
 
+-- and of a document that was found
+abbrev pub conclude_in : Tables → ℕ → List ℕ → Answer
+conclude_in t d p = refused_first (
+    unless (is_some (find (is_package d p) t.packages)) why.UnknownPackage
+    ∷ option_map (λ r. why.Chosen r) (holder_found t d p)
+    ∷ []) answered.Done
+
 -- the reference alone, and the licence alone, that a text spells
 abbrev pub reference_alone : Readings → List ℕ → Option (List ℕ)
 reference_alone w text = if is_reference w text then w.term text else None

@@ -1,3 +1,4 @@
 pub mod Concluding
 pub mod Choosing
 pub mod Dropping
+pub mod Opening

@@ -7,16 +7,17 @@ ghost use Rattle.desk_model.specs.Faults.{MayFail};
 ghost use Rattle.desk_model.specs.Texts.{put_new, sorted_set};
 ghost use Rattle.desk_model.specs.Tables.{choice_row};
 ghost use Rattle.desk_model.specs.Answers.{refused_or};
-ghost use Rattle.desk_history.specs.FromTables.{chosen_change};
+ghost use Rattle.desk_history.specs.FromTables.{chosen_change, conclusion_found};
 ghost use Rattle.desk_access.specs.Seen.{Looked, OfRows};
 ghost use Rattle.desk_packages.specs.Claims.{read_claim};
 ghost use Rattle.desk_access.specs.Plans.{IsPlan, IsPlanOf, IsSound, Plans, SparesStore};
-ghost use Rattle.desk_preparing.specs.Choosing.{AreTermsOf, choose_for, choose_found, judged, IsFound, IsOpenPlace};
+ghost use Rattle.desk_preparing.specs.Choosing.{AreTermsOf, choose_for, choose_found, judged, IsFound, IsFoundIn, IsOpenPlace};
 ghost use Rattle.desk_preparing.specs.Dropping.{drop_answer, unchoose_in};
 ghost use Rattle.desk_model.specs.Answers.{refused_alone};
 ghost use Rattle.desk_model.specs.declared.command.Answer.TheVariants.{Done};
 ghost use Rattle.desk_model.specs.declared.command.Command.TheVariants.{Choose, Unchoose};
 
+use crate::looking::{has_package, number_of, state_of};
 use desk_access::store::Store;
 use desk_access::texts::Texts;
 use desk_base::{Items, Text};
@@ -220,6 +221,28 @@ fn open_place(state: ReleaseState, is_attached: bool, place: Place) -> Found
     Found::Here(place)
 }
 
+/// Looks up where terms may be chosen for a package of a document that was found, in a release in
+/// this state.
+fn find_in<S: Store>(
+    store: &mut S,
+    state: ReleaseState,
+    release: &Text,
+    document: u32,
+    package_id: &Text,
+) -> Result<Found, Fault>
+    ensures found { IfOk result (λ found.
+        OfRows (λ t. IsFoundIn t state release.now document package_id.now found)
+        (S.seen store.old) (S.seen store.new)) }
+    ensures kept { Looked (S.seen store.old) (S.seen store.new) result }
+    ensures fault { IfErr result (MayFail S.tells) }
+{
+    let Some(row) = store.package_row(u64::from(document), package_id.as_str())? else {
+        return Ok(Found::Nowhere(Refusal::UnknownPackage));
+    };
+    let is_attached = store.is_attached(release.as_str(), u64::from(document))?;
+    Ok(open_place(state, is_attached, Place { document, row }))
+}
+
 /// Looks up where terms may be chosen.
 fn find_place<S: Store>(
     store: &mut S,
@@ -233,21 +256,13 @@ fn find_place<S: Store>(
     ensures kept { Looked (S.seen store.old) (S.seen store.new) result }
     ensures fault { IfErr result (MayFail S.tells) }
 {
-    let Some(found) = store.release(release.as_str())? else {
+    let Some(state) = state_of(store, release)? else {
         return Ok(Found::Nowhere(Refusal::UnknownRelease));
     };
-    let Some((number, _)) = store.document(document)? else {
+    let Some(number) = number_of(store, document)? else {
         return Ok(Found::Nowhere(Refusal::UnknownDocument));
     };
-    let Some(row) = store.package_row(document, package_id.as_str())? else {
-        return Ok(Found::Nowhere(Refusal::UnknownPackage));
-    };
-    let is_attached = store.is_attached(release.as_str(), document)?;
-    let place = Place {
-        document: number,
-        row,
-    };
-    Ok(open_place(found.state, is_attached, place))
+    find_in(store, state, release, number, package_id)
 }
 
 /// Chooses terms that were read, at a place with this claim.
@@ -271,6 +286,28 @@ fn choose_at<T: Texts>(
     Ok(done(chosen(alloc, release, place.document, package_id, terms)?))
 }
 
+/// Chooses terms that were read, at a place that was found.
+fn choose_here<T: Texts, S: Store>(
+    alloc: Global,
+    texts: &T,
+    store: &mut S,
+    release: &Text,
+    place: &Place,
+    package_id: &Text,
+    terms: Items<Text>,
+) -> Result<Plan, Fault>
+    ensures plan { (w : Readings) → T.are_right w → IfOk result (λ plan.
+        OfRows (λ t. IsPlan
+        (choose_for w terms (conclusion_found w t place.now.row) place.now.row)
+        (chosen_change release.now place.now.document package_id.now (sorted_set terms)) plan)
+        (S.seen store.old) (S.seen store.new)) }
+    ensures kept { Plans (S.seen store.old) (S.seen store.new) result }
+    ensures fault { IfErr result (MayFail S.tells) }
+{
+    let claim = claim_of(store, &place.row)?;
+    Ok(choose_at(alloc, texts, release, place, &claim, package_id, terms)?)
+}
+
 /// Chooses terms that were read.
 fn choose_terms<T: Texts, S: Store>(
     alloc: Global,
@@ -290,10 +327,7 @@ fn choose_terms<T: Texts, S: Store>(
 {
     match find_place(store, release, document, package_id)? {
         Found::Nowhere(refusal) => Ok(refused(refusal)),
-        Found::Here(place) => {
-            let claim = claim_of(store, &place.row)?;
-            Ok(choose_at(alloc, texts, release, &place, &claim, package_id, terms)?)
-        }
+        Found::Here(place) => choose_here(alloc, texts, store, release, &place, package_id, terms),
     }
 }
 
@@ -379,10 +413,7 @@ fn unchoose_in<S: Store>(
     ensures kept { Plans (S.seen store.old) (S.seen store.new) result }
     ensures fault { IfErr result (MayFail S.tells) }
 {
-    if store
-        .package_row(u64::from(document), package_id.as_str())?
-        .is_none()
-    {
+    if !has_package(store, document, package_id)? {
         return Ok(refused(Refusal::UnknownPackage));
     }
     if let Some(refusal) = unready(state) {
@@ -408,11 +439,11 @@ pub fn unchoose<S: Store>(
         → SparesStore (refused_alone w (Unchoose release.now document package_id.now)) result }
     ensures fault { IfErr result (MayFail S.tells) }
 {
-    let Some(row) = store.release(release.as_str())? else {
+    let Some(state) = state_of(store, release)? else {
         return Ok(refused(Refusal::UnknownRelease));
     };
-    let Some((number, _)) = store.document(document)? else {
+    let Some(number) = number_of(store, document)? else {
         return Ok(refused(Refusal::UnknownDocument));
     };
-    unchoose_in(alloc, store, row.state, release, number, package_id)
+    unchoose_in(alloc, store, state, release, number, package_id)
 }

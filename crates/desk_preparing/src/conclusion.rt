@@ -7,10 +7,11 @@ ghost use Rattle.desk_model.specs.Conclusions.{conclusion_row};
 ghost use Rattle.desk_model.specs.Answers.{refused_alone};
 ghost use Rattle.desk_access.specs.Seen.{Looked, OfRows};
 ghost use Rattle.desk_access.specs.Plans.{IsPlan, IsPlanOf, IsSound, Plans, SparesStore};
-ghost use Rattle.desk_preparing.specs.Concluding.{AreAdopted, adopt_known, adopted_row, conclude_known, licence_alone, reference_alone};
+ghost use Rattle.desk_preparing.specs.Concluding.{AreAdopted, adopt_known, adopted_row, conclude_in, conclude_known, licence_alone, reference_alone};
 ghost use Rattle.desk_model.specs.declared.command.Answer.TheVariants.{Done};
 ghost use Rattle.desk_model.specs.declared.command.Command.TheVariants.{Adopt, Conclude};
 
+use crate::looking::{has_package, number_of};
 use desk_access::store::Store;
 use desk_access::texts::Texts;
 use desk_base::{Text, limits};
@@ -30,6 +31,30 @@ fn concluded(document: u32, package_id: &Text, expression: &Text) -> Result<Plan
     })))
 }
 
+/// Concludes an expression for a package of a document that was found, if no release holds a
+/// choice for it.
+fn conclude_in<S: Store>(
+    store: &mut S,
+    document: u32,
+    package_id: &Text,
+    expression: &Text,
+) -> Result<Plan, Fault>
+    ensures plan { IfOk result (λ plan.
+        OfRows (λ t. IsPlan (conclude_in t document package_id.now)
+        (Change.Concluded (conclusion_row document package_id.now expression.now)) plan)
+        (S.seen store.old) (S.seen store.new)) }
+    ensures kept { Plans (S.seen store.old) (S.seen store.new) result }
+    ensures fault { IfErr result (MayFail S.tells) }
+{
+    if !has_package(store, document, package_id)? {
+        return Ok(refused(Refusal::UnknownPackage));
+    }
+    if let Some(release) = store.holder(document, package_id.as_str())? {
+        return Ok(refused(Refusal::Chosen { release }));
+    }
+    Ok(concluded(document, package_id, expression)?)
+}
+
 /// Concludes an expression for a package, if no release holds a choice for it.
 fn conclude_for<S: Store>(
     store: &mut S,
@@ -44,16 +69,10 @@ fn conclude_for<S: Store>(
     ensures kept { Plans (S.seen store.old) (S.seen store.new) result }
     ensures fault { IfErr result (MayFail S.tells) }
 {
-    let Some((number, _)) = store.document(document)? else {
+    let Some(number) = number_of(store, document)? else {
         return Ok(refused(Refusal::UnknownDocument));
     };
-    if store.package_row(document, package_id.as_str())?.is_none() {
-        return Ok(refused(Refusal::UnknownPackage));
-    }
-    if let Some(release) = store.holder(number, package_id.as_str())? {
-        return Ok(refused(Refusal::Chosen { release }));
-    }
-    Ok(concluded(number, package_id, expression)?)
+    conclude_in(store, number, package_id, expression)
 }
 
 /// Concludes an expression for a package, in place of an earlier one.
@@ -147,7 +166,7 @@ fn adopt_read<S: Store>(
     ensures kept { Plans (S.seen store.old) (S.seen store.new) result }
     ensures fault { IfErr result (MayFail S.tells) }
 {
-    let Some((number, _)) = store.document(document)? else {
+    let Some(number) = number_of(store, document)? else {
         return Ok(refused(Refusal::UnknownDocument));
     };
     if store.adoption(number, reference.as_str())?.is_none()

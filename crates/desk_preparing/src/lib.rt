@@ -5,11 +5,13 @@
 //! reader of them (`desk_access::Texts`). It answers as the definitions of the recorded history do
 //! over the tables that the store holds, and gives the change of rows that goes with the answer.
 //!
-//! - `catalogue`, `document`, `release`, `conclusion` and `choice` have one command to two each.
+//! - `catalogue`, `document`, `release`, `conclusion` and `choice` have one command to two each;
+//!   `looking` has what several of them look up.
 #![tactic(auto)]
 
 pub mod catalogue;
 pub mod choice;
 pub mod conclusion;
 pub mod document;
+mod looking;
 pub mod release;

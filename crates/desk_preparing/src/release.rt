@@ -5,13 +5,14 @@ ghost use Rattle.std.specs.List.{list_any, list_all};
 ghost use Rattle.desk_model.specs.Readings.{Readings};
 ghost use Rattle.desk_model.specs.Faults.{MayFail};
 ghost use Rattle.desk_model.specs.Texts.{is_release_name};
-ghost use Rattle.desk_model.specs.Keys.{is_attachment, is_document};
-ghost use Rattle.desk_model.specs.Answers.{unready, refused_alone};
-ghost use Rattle.desk_history.specs.FromTables.{opened_change, state_found};
+ghost use Rattle.desk_model.specs.Answers.{refused_alone};
+ghost use Rattle.desk_history.specs.FromTables.{opened_change};
 ghost use Rattle.desk_access.specs.Seen.{OfRows};
-ghost use Rattle.desk_access.specs.Plans.{IsPlanOf, Plans, SparesStore};
+ghost use Rattle.desk_access.specs.Plans.{IsPlan, IsPlanOf, Plans, SparesStore};
+ghost use Rattle.desk_preparing.specs.Opening.{attach_in, attached_row, open_next};
 ghost use Rattle.desk_model.specs.declared.command.Command.TheVariants.{OpenRelease, Attach};
 
+use crate::looking::{number_of, state_of};
 use desk_access::store::Store;
 use desk_base::{Text, is_idstring, limits};
 use desk_model::{AttachedRow, Change, Fault, Limit, Plan, Refusal, ReleaseRow, ReleaseState};
@@ -22,6 +23,27 @@ pub fn is_release_name(text: &str) -> bool
     ensures { result ≡ is_release_name text.now }
 {
     text.len() <= limits::NAME_BYTES && is_idstring(text)
+}
+
+/// Opens a release whose name is free, in a form of the catalogue, if there is room.
+fn open_next<S: Store>(store: &mut S, release: &Text, form: &Text) -> Result<Plan, Fault>
+    ensures plan { IfOk result (λ plan.
+        OfRows (λ t. IsPlan (open_next (length t.releases))
+        (opened_change t release.now form.now) plan) (S.seen store.old) (S.seen store.new)) }
+    ensures kept { Plans (S.seen store.old) (S.seen store.new) result }
+    ensures fault { IfErr result (MayFail S.tells) }
+{
+    let count = store.release_count()?;
+    if count >= limits::RELEASES {
+        return Ok(refused(Refusal::Full(Limit::Releases)));
+    }
+    Ok(done(Change::Opened(ReleaseRow {
+        name: release.clone()?,
+        place: count as u32 + 1,
+        form: form.clone()?,
+        state: ReleaseState::IsOpen,
+        revision: 0,
+    })))
 }
 
 /// Opens a release.
@@ -43,16 +65,35 @@ pub fn open_release<S: Store>(store: &mut S, release: &Text, form: &Text) -> Res
     if store.release(release.as_str())?.is_some() {
         return Ok(refused(Refusal::NameTaken));
     }
-    let count = store.release_count()?;
-    if count >= limits::RELEASES {
-        return Ok(refused(Refusal::Full(Limit::Releases)));
+    open_next(store, release, form)
+}
+
+/// Attaches a document that was found to a release in this state.
+fn attach_in<S: Store>(
+    store: &mut S,
+    state: ReleaseState,
+    release: &Text,
+    document: u32,
+) -> Result<Plan, Fault>
+    ensures plan { IfOk result (λ plan.
+        OfRows (λ t. IsPlan (attach_in t state release.now document)
+        (Change.Attached (attached_row release.now document)) plan) (S.seen store.old)
+        (S.seen store.new)) }
+    ensures kept { Plans (S.seen store.old) (S.seen store.new) result }
+    ensures fault { IfErr result (MayFail S.tells) }
+{
+    if let Some(refusal) = unready(state) {
+        return Ok(refused(refusal));
     }
-    Ok(done(Change::Opened(ReleaseRow {
-        name: release.clone()?,
-        place: count as u32 + 1,
-        form: form.clone()?,
-        state: ReleaseState::IsOpen,
-        revision: 0,
+    if store.is_attached(release.as_str(), u64::from(document))? {
+        return Ok(refused(Refusal::AlreadyAttached));
+    }
+    if store.attached_count(release.as_str())? >= limits::ATTACHED {
+        return Ok(refused(Refusal::Full(Limit::Attached)));
+    }
+    Ok(done(Change::Attached(AttachedRow {
+        release: release.clone()?,
+        document,
     })))
 }
 
@@ -66,23 +107,11 @@ pub fn attach<S: Store>(store: &mut S, release: &Text, document: u64) -> Result<
         → SparesStore (refused_alone w (Attach release.now document)) result }
     ensures fault { IfErr result (MayFail S.tells) }
 {
-    let Some(row) = store.release(release.as_str())? else {
+    let Some(state) = state_of(store, release)? else {
         return Ok(refused(Refusal::UnknownRelease));
     };
-    let Some((number, _)) = store.document(document)? else {
+    let Some(number) = number_of(store, document)? else {
         return Ok(refused(Refusal::UnknownDocument));
     };
-    if let Some(refusal) = unready(row.state) {
-        return Ok(refused(refusal));
-    }
-    if store.is_attached(release.as_str(), document)? {
-        return Ok(refused(Refusal::AlreadyAttached));
-    }
-    if store.attached_count(release.as_str())? >= limits::ATTACHED {
-        return Ok(refused(Refusal::Full(Limit::Attached)));
-    }
-    Ok(done(Change::Attached(AttachedRow {
-        release: release.clone()?,
-        document: number,
-    })))
+    attach_in(store, state, release, number)
 }
