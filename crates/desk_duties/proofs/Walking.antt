@@ -5,14 +5,14 @@ use Rattle.std.specs.List.{enumerate_from}
 use Rattle.std.proofs.lemmas.List.{map-append}
 use Rattle.desk_model.specs.Tables.{Tables}
 use Rattle.desk_history.specs.FromTables.{new_duty, conclusion_found, rules_found, choice_found}
-use Rattle.desk_duties.specs.Freezing.{GathersPackage, unfit_package}
+use Rattle.desk_duties.specs.Freezing.{GathersPackage, GathersTerm, unfit_package}
 use Rattle.desk_duties.specs.declared.gathering.Gathered.{Gathered}
 use Rattle.desk_model.specs.declared.refusal.Refusal.{Refusal}
 use Rattle.desk_model.specs.declared.row.DutyRow.{DutyRow}
 use Rattle.desk_model.specs.declared.row.AdoptionRow.{AdoptionRow}
 use Rattle.desk_model.specs.declared.row.Owed.{Owed}
-use Rattle.desk_model.specs.Raised.{owed_for, frozen_for, owed_for_terms, frozen_for_terms, owed_code, frozen_term, rule_adopted}
-use Rattle.desk_model.specs.Answers.{first_unruled, first_unadopted, package_fault, unchosen, unconcluded, walk}
+use Rattle.desk_model.specs.Raised.{owed_for, frozen_for, owed_for_terms, frozen_for_terms, owed_under, frozen_under, rule_adopted}
+use Rattle.desk_model.specs.Answers.{first_unruled, first_unadopted, unruled, package_fault, unchosen, unconcluded, walk}
 use Rattle.desk_model.specs.Lists.{or_else}
 use Rattle.desk_model.specs.declared.reading.Conclusion.{Conclusion}
 use Rattle.desk_model.specs.declared.reading.Rule.{Rule}
@@ -27,17 +27,31 @@ pub more_of : {A : Type 0} (old new here before rest total : List A) → new ≡
 more_of old new here before rest total grown split sofar =
     ap (λ xs. xs ++ rest) grown ∙ (append_assoc old here rest ∙ (ap (λ ys. old ++ ys) (sym split) ∙ sofar))
 
-pub record WalksOn (w : Readings) (licences : List AdoptionRow) (rules : List Rule) (form r : List ℕ) (p : PackageRow) (terms rest : List (List ℕ)) (term : List ℕ) (rule : Rule) : Type 0 where
-  pub unruled : first_unruled w licences rules form p terms ≡ first_unruled w licences rules form p rest
-  pub frozen : frozen_for_terms w licences rules form r p terms ≡ (frozen_term r p term rule ∷ []) ++ frozen_for_terms w licences rules form r p rest
-  pub owed : owed_for_terms w licences rules form r p terms ≡ map (owed_code r p term rule) rule.codes ++ owed_for_terms w licences rules form r p rest
+-- the terms of a package, of which the first fails
+pub terms_fail : (w : Readings) (licences : List AdoptionRow) (rules : List Rule) (form r : List ℕ) (p : PackageRow) (terms rest : List (List ℕ)) (term : List ℕ) (old new : Gathered) (o : Option Refusal) (refusal : Refusal)
+    → terms ≡ term ∷ rest → GathersTerm w licences rules form r p term old new o → o ≡ Some refusal → first_unruled w licences rules form p terms ≡ Some refusal
+terms_fail w licences rules form r p terms rest term old new o refusal split g e =
+    let g1 : unruled w licences rules form p term ≡ Some refusal = subst (GathersTerm w licences rules form r p term old new) e g in
+    rw (split, g1) refl
 
-pub walks_on : (w : Readings) (licences : List AdoptionRow) (rules : List Rule) (form r : List ℕ) (p : PackageRow) (terms rest : List (List ℕ)) (term : List ℕ) (rule : Rule) → terms ≡ term ∷ rest → Some rule ≡ rule_adopted w licences rules form p.document term → WalksOn w licences rules form r p terms rest term rule
-walks_on w licences rules form r p terms rest term rule split found = record {
-  unruled = rw (split, ← found) refl;
-  frozen = rw (split, ← found) refl;
-  owed = rw (split, ← found) refl;
-}
+pub record TermsOn (w : Readings) (licences : List AdoptionRow) (rules : List Rule) (form r : List ℕ) (p : PackageRow) (terms rest : List (List ℕ)) (term : List ℕ) (old new : Gathered) : Type 0 where
+  pub unruled : first_unruled w licences rules form p terms ≡ first_unruled w licences rules form p rest
+  pub frozen : frozen_for_terms w licences rules form r p terms ≡ frozen_under r p term (rule_adopted w licences rules form p.document term) ++ frozen_for_terms w licences rules form r p rest
+  pub owed : owed_for_terms w licences rules form r p terms ≡ owed_under r p term (rule_adopted w licences rules form p.document term) ++ owed_for_terms w licences rules form r p rest
+  pub new_frozen : new.frozen.items ≡ old.frozen.items ++ frozen_under r p term (rule_adopted w licences rules form p.document term)
+  pub new_owed : new.owed.items ≡ old.owed.items ++ owed_under r p term (rule_adopted w licences rules form p.document term)
+
+pub terms_on : (w : Readings) (licences : List AdoptionRow) (rules : List Rule) (form r : List ℕ) (p : PackageRow) (terms rest : List (List ℕ)) (term : List ℕ) (old new : Gathered) (o : Option Refusal)
+    → terms ≡ term ∷ rest → GathersTerm w licences rules form r p term old new o → o ≡ None → TermsOn w licences rules form r p terms rest term old new
+terms_on w licences rules form r p terms rest term old new o split g e =
+    let g1 = subst (GathersTerm w licences rules form r p term old new) e g in
+    record {
+      unruled = rw (split, g1.0) refl;
+      frozen = rw split refl;
+      owed = rw split refl;
+      new_frozen = g1.1;
+      new_owed = g1.2;
+    }
 
 -- Numbered duties
 

@@ -10,8 +10,8 @@ use Rattle.desk_history.specs.FromTables.{conclusion_found, rules_found, choice_
 use Rattle.desk_duties.specs.declared.gathering.Gathered.{Gathered}
 use Rattle.desk_model.specs.declared.command.Answer.{Answer}
 use Rattle.desk_model.specs.declared.command.Answer.TheVariants as answered
-use Rattle.desk_model.specs.Answers.{refused_first, unless, unconcluded, unchosen, first_unadopted, first_unruled, walk}
-use Rattle.desk_model.specs.Raised.{owed_for, frozen_for, owed_for_terms, frozen_for_terms}
+use Rattle.desk_model.specs.Answers.{refused_first, unless, unconcluded, unchosen, first_unadopted, first_unruled, unruled, walk}
+use Rattle.desk_model.specs.Raised.{owed_for, frozen_for, owed_for_terms, frozen_for_terms, owed_under, frozen_under, rule_adopted}
 use Rattle.desk_model.specs.declared.reading.Conclusion.{Conclusion}
 use Rattle.desk_model.specs.declared.reading.Rule.{Rule}
 use Rattle.desk_model.specs.declared.row.AdoptionRow.{AdoptionRow}
@@ -27,7 +27,13 @@ abbrev pub Gathers : Option Refusal → List FrozenRow → List Owed → Gathere
 Gathers due rows owed old new None = (due ≡ None) × (new.frozen.items ≡ old.frozen.items ++ rows) × (new.owed.items ≡ old.owed.items ++ owed)
 Gathers due rows owed old new (Some refusal) = due ≡ Some refusal
 
--- the step for some terms of a package
+-- the step for a term of a package
+abbrev pub GathersTerm : Readings → List AdoptionRow → List Rule → List ℕ → List ℕ → PackageRow → List ℕ → Gathered → Gathered → Option Refusal → Type 0
+GathersTerm w licences rules form r p term old new fault =
+    let rule = rule_adopted w licences rules form p.document term in
+    Gathers (unruled w licences rules form p term) (frozen_under r p term rule) (owed_under r p term rule) old new fault
+
+-- for some terms
 abbrev pub GathersTerms : Readings → List AdoptionRow → List Rule → List ℕ → List ℕ → PackageRow → List (List ℕ) → Gathered → Gathered → Option Refusal → Type 0
 GathersTerms w licences rules form r p terms old new fault =
     Gathers (first_unruled w licences rules form p terms) (frozen_for_terms w licences rules form r p terms) (owed_for_terms w licences rules form r p terms) old new fault

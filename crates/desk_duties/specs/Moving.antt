@@ -1,5 +1,5 @@
 -- What the steps of a move of a duty have found.
-use Rattle.std.specs.Prelude.{◌≡◌, ℕ, true, false, List, [], ◌∷◌, ◌&&◌, nat_lt, Option, Some, None, is_some, unwrap_or}
+use Rattle.std.specs.Prelude.{◌≡◌, ◌+◌, ℕ, Result, Ok, Err, true, false, List, [], ◌∷◌, ◌&&◌, nat_lt, Option, Some, None, is_some, unwrap_or}
 use Rattle.std.specs.Option.{option_map_or, option_and_then}
 use Rattle.desk_base.specs.Day.{is_day}
 use Rattle.desk_base.specs.Limits as most
@@ -11,6 +11,7 @@ use Rattle.desk_model.specs.declared.row.Move.{Move}
 use Rattle.desk_model.specs.declared.state.ReleaseState.{ReleaseState}
 use Rattle.desk_model.specs.declared.state.ReleaseState.TheVariants as release
 use Rattle.desk_model.specs.declared.state.Word.{Word}
+use Rattle.desk_model.specs.declared.refusal.Refusal.{Refusal}
 use Rattle.desk_model.specs.declared.refusal.Refusal.TheVariants as why
 use Rattle.desk_model.specs.declared.refusal.Limit.TheVariants as limit
 use Rattle.desk_model.specs.declared.command.Answer.{Answer}
@@ -42,6 +43,11 @@ move_here word state steps place = refused_first (gone state ∷ settled word pl
 -- the same, with what the tables hold of the duty of this row
 abbrev pub move_from : Tables → Word → DutyRow → Answer
 move_from t word row = move_here word (unwrap_or (state_found t row.release) release.IsOpen) (steps_found t row.number) row.state
+
+-- the step of its next move, or the refusal
+abbrev pub IsNextStep : Tables → Word → DutyRow → Result ℕ Refusal → Type 0
+IsNextStep t word row (Ok step) = (answered.Done ≡ move_from t word row) × (step ≡ steps_found t row.number + 1)
+IsNextStep t word row (Err refusal) = answered.Refused refusal ≡ move_from t word row
 
 -- the answer to a move of the duty with a number, once its days and text are read
 abbrev pub move_known : Tables → Word → ℕ → Answer

@@ -11,7 +11,7 @@ ghost use Rattle.desk_model.specs.Answers.{gone, settled, is_over, refused_by, r
 ghost use Rattle.desk_history.specs.FromTables.{moved_change, moved_found, state_found};
 ghost use Rattle.desk_access.specs.Seen.{Looked, OfRows};
 ghost use Rattle.desk_access.specs.Plans.{IsPlan, IsPlanOf, Plans, SparesStore};
-ghost use Rattle.desk_duties.specs.Moving.{AreDays, IsRead, move_as, move_from, move_known};
+ghost use Rattle.desk_duties.specs.Moving.{AreDays, IsNextStep, IsRead, move_as, move_from, move_known};
 ghost use Rattle.desk_model.specs.declared.command.Command.TheVariants.{Meet, Waive, Reopen};
 
 use desk_access::store::Store;
@@ -170,6 +170,30 @@ fn one_change(alloc: Global, duty: u32, step: u32, made: Move) -> Result<Change,
     Ok(Change::Moved { changes })
 }
 
+/// The step of a duty's next move, or why it isn't moved.
+fn next_step<S: Store>(
+    store: &mut S,
+    word: Word,
+    row: &DutyRow,
+) -> Result<Result<u32, Refusal>, Fault>
+    ensures found { IfOk result (λ found.
+        OfRows (λ t. IsNextStep t word row.now found) (S.seen store.old) (S.seen store.new)) }
+    ensures kept { Looked (S.seen store.old) (S.seen store.new) result }
+    ensures fault { IfErr result (MayFail S.tells) }
+{
+    if let Some(refusal) = gone(release_state(store, &row.release)?) {
+        return Ok(Err(refusal));
+    }
+    if let Some(refusal) = settled(word, row.state) {
+        return Ok(Err(refusal));
+    }
+    let steps = store.steps(u64::from(row.number))?;
+    if steps >= limits::CHANGES {
+        return Ok(Err(Refusal::Full(Limit::Changes)));
+    }
+    Ok(Ok(steps as u32 + 1))
+}
+
 /// Moves a duty that was found.
 fn move_found<S: Store>(
     alloc: Global,
@@ -184,17 +208,10 @@ fn move_found<S: Store>(
     ensures kept { Plans (S.seen store.old) (S.seen store.new) result }
     ensures fault { IfErr result (MayFail S.tells) }
 {
-    if let Some(refusal) = gone(release_state(store, &row.release)?) {
-        return Ok(refused(refusal));
+    match next_step(store, made.word, row)? {
+        Ok(step) => Ok(done(one_change(alloc, row.number, step, made)?)),
+        Err(refusal) => Ok(refused(refusal)),
     }
-    if let Some(refusal) = settled(made.word, row.state) {
-        return Ok(refused(refusal));
-    }
-    let steps = store.steps(u64::from(row.number))?;
-    if steps >= limits::CHANGES {
-        return Ok(refused(Refusal::Full(Limit::Changes)));
-    }
-    Ok(done(one_change(alloc, row.number, steps as u32 + 1, made)?))
 }
 
 /// Moves the duty with a number.

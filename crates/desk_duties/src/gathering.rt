@@ -1,18 +1,19 @@
 //! What the packages of a release owe, gathered for its freeze.
 
-ghost use Rattle.std.specs.Prelude.{◌≡◌, ◌++◌, ◌∷◌, [], IfOk, IfErr, OnOk, map};
+ghost use Rattle.std.specs.Prelude.{◌≡◌, ◌++◌, ◌∷◌, [], IfOk, IfErr, OnOk, Option, is_some, map};
 ghost use Rattle.desk_model.specs.Readings.{Readings};
 ghost use Rattle.desk_model.specs.Faults.{MayFail};
 ghost use Rattle.desk_model.specs.Raised.{owed_code, frozen_term};
+ghost use Rattle.desk_model.specs.declared.reading.Conclusion.{Conclusion};
 ghost use Rattle.desk_model.specs.Answers.{first_unadopted};
-ghost use Rattle.desk_history.specs.FromTables.{rules_found};
+ghost use Rattle.desk_history.specs.FromTables.{conclusion_found, rules_found};
 ghost use Rattle.desk_access.specs.Seen.{Looked, OfRows};
-ghost use Rattle.desk_duties.specs.Freezing.{GathersTerms, GathersPackage, GathersAll, unready_package};
+ghost use Rattle.desk_duties.specs.Freezing.{GathersTerm, GathersTerms, GathersPackage, GathersAll, unready_package};
 
 use desk_access::store::Store;
 use desk_access::texts::Texts;
 use desk_base::Text;
-use desk_model::{Conclusion, Fault, FrozenRow, Owed, PackageRow, Refusal, Rule};
+use desk_model::{Fault, FrozenRow, Owed, PackageRow, Refusal, Rule};
 use desk_packages::{conclusion_of, no_rule, rule_adopted, unadopted};
 use std::alloc::{AllocError, Global};
 
@@ -124,6 +125,30 @@ fn first_unadopted<T: Texts, S: Store>(
     Ok(None)
 }
 
+/// Gathers what a term of a package owes, or tells that it has no rule.
+fn freeze_term<T: Texts, S: Store>(
+    alloc: Global,
+    texts: &T,
+    store: &mut S,
+    freezing: &Freezing<'_>,
+    row: &PackageRow,
+    term: &Text,
+    gathered: &mut Gathered,
+) -> Result<Option<Refusal>, Fault>
+    ensures gathered { (w : Readings) → T.are_right w → IfOk result (λ fault.
+        OfRows (λ t. GathersTerm w t.adoption (rules_found t) freezing.now.form.now
+        freezing.now.release.now row.now term.now gathered.old gathered.new fault)
+        (S.seen store.old) (S.seen store.new)) }
+    ensures kept { Looked (S.seen store.old) (S.seen store.new) result }
+    ensures fault { IfErr result (MayFail S.tells) }
+{
+    let Some(rule) = rule_adopted(alloc, texts, store, freezing.form, row.document, term)? else {
+        return Ok(Some(no_rule(row, term)?));
+    };
+    add_term(gathered, freezing.release, row, term, &rule)?;
+    Ok(None)
+}
+
 /// Gathers what the terms of a package owe, or tells the first without a rule.
 fn freeze_terms<T: Texts, S: Store>(
     alloc: Global,
@@ -143,11 +168,9 @@ fn freeze_terms<T: Texts, S: Store>(
     ensures fault { IfErr result (MayFail S.tells) }
 {
     for term in terms {
-        let Some(rule) = rule_adopted(alloc, texts, store, freezing.form, row.document, term)?
-        else {
-            return Ok(Some(no_rule(row, term)?));
-        };
-        add_term(gathered, freezing.release, row, term, &rule)?;
+        if let Some(refusal) = freeze_term(alloc, texts, store, freezing, row, term, gathered)? {
+            return Ok(Some(refusal));
+        }
     }
     Ok(None)
 }
@@ -170,22 +193,40 @@ fn no_choice(row: &PackageRow) -> Result<Refusal, AllocError>
     })
 }
 
-/// What stands against a package with this conclusion and these terms, apart from rules.
+/// Whether a conclusion is in force for a package.
+fn is_concluded<T: Texts, S: Store>(
+    alloc: Global,
+    texts: &T,
+    store: &mut S,
+    row: &PackageRow,
+) -> Result<bool, Fault>
+    ensures found { (w : Readings) → T.are_right w → IfOk result (λ is.
+        OfRows (λ t. is ≡ is_some (conclusion_found w t row.now)) (S.seen store.old)
+        (S.seen store.new)) }
+    ensures kept { Looked (S.seen store.old) (S.seen store.new) result }
+    ensures fault { IfErr result (MayFail S.tells) }
+{
+    let conclusion = conclusion_of(alloc, texts, store, row)?;
+    Ok(conclusion.is_some())
+}
+
+/// What stands against a package with a conclusion or none, and these terms, apart from rules.
 fn unready_package<T: Texts, S: Store>(
     alloc: Global,
     texts: &T,
     store: &mut S,
-    conclusion: &Option<Conclusion>,
+    is_concluded: bool,
     row: &PackageRow,
     terms: &[Text],
 ) -> Result<Option<Refusal>, Fault>
     ensures found { (w : Readings) → T.are_right w → IfOk result (λ refusal.
-        OfRows (λ t. refusal ≡ unready_package w t.adoption conclusion.now terms.now row.now)
+        OfRows (λ t. (conclusion : Option Conclusion) → is_concluded ≡ is_some conclusion
+        → refusal ≡ unready_package w t.adoption conclusion terms.now row.now)
         (S.seen store.old) (S.seen store.new)) }
     ensures kept { Looked (S.seen store.old) (S.seen store.new) result }
     ensures fault { IfErr result (MayFail S.tells) }
 {
-    if conclusion.is_none() {
+    if !is_concluded {
         return Ok(Some(no_conclusion(row)?));
     }
     if terms.is_empty() {
@@ -210,11 +251,17 @@ fn freeze_package<T: Texts, S: Store>(
     ensures kept { Looked (S.seen store.old) (S.seen store.new) result }
     ensures fault { IfErr result (MayFail S.tells) }
 {
-    let conclusion = conclusion_of(alloc, texts, store, row)?;
+    let is_concluded = is_concluded(alloc, texts, store, row)?;
     let terms = store.chosen(freezing.release.as_str(), row.document, row.id.as_str())?;
-    let refusal = unready_package(alloc, texts, store, &conclusion, row, terms.as_slice())?;
-    if refusal.is_some() {
-        return Ok(refusal);
+    if let Some(refusal) = unready_package(
+        alloc,
+        texts,
+        store,
+        is_concluded,
+        row,
+        terms.as_slice(),
+    )? {
+        return Ok(Some(refusal));
     }
     freeze_terms(
         alloc,
