@@ -85,7 +85,7 @@ pub struct TableDesk<T, S> {
     alloc: Global,
 }
 
-impl<T: Texts, S: Store> TableDesk<T, S> {
+impl<T, S> TableDesk<T, S> {
     /// The desk over this store.
     pub fn over(alloc: Global, texts: T, store: S) -> TableDesk<T, S>
         ensures { result.store ≡ store }
@@ -98,7 +98,7 @@ impl<T: Texts, S: Store> TableDesk<T, S> {
     }
 }
 
-impl<T: Texts + Drop, S: Store> TableDesk<T, S> {
+impl<T: Drop, S> TableDesk<T, S> {
     /// Hands the store back.
     pub fn into_store(self) -> S
         ensures { result ≡ self.store }
