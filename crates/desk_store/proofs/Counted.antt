@@ -1,7 +1,7 @@
 -- What is seen of a store that keeps counts and tallies beside its tables.
-use Rattle.std.proofs.Common.{◌≡◌, ◌⊎◌, ◌∙◌, ℕ, List, sym, subst, ap, refl, inl, inr, Ok, Err, Result, Option, Some, None, false}
-use Rattle.std.specs.Prelude.{IsTrue, IfSome, IfNone}
-use Rattle.std.specs.Result.{IsErr}
+use Rattle.std.proofs.Common.{◌≡◌, ◌⊎◌, ◌∙◌, ℕ, List, sym, subst, ap, refl, Bool, inl, inr, Ok, Err, Result, Option, Some, None, false}
+use Rattle.std.specs.Prelude.{IsTrue, IfSome, IfNone, OnErr, OnOk}
+use Rattle.std.specs.Result.{is_ok}
 use Rattle.sqlite_trees.specs.Tree.{Trees}
 use Rattle.sqlite.specs.State.{State, HasCleanDisk}
 use Rattle.desk_model.specs.Keys.{release_below}
@@ -14,7 +14,7 @@ use Rattle.desk_store.specs.Adopting.{IsUncountable}
 use Rattle.desk_tally.specs.declared.tallies.Tallies.{Tallies}
 use Rattle.desk_model.specs.declared.command.Change.{Change}
 use Rattle.desk_model.specs.declared.command.Change.TheVariants as change
-use Rattle.desk_store.specs.Counting.{AreFound, known_by, counts_after, forms_after, nothing_kept, tallied}
+use Rattle.desk_store.specs.Counting.{AreFound, known_by, counts_after, forms_after, forms_noted, nothing_kept, tallied}
 use Rattle.desk_store.specs.declared.counts.Counts.{Counts}
 use Rattle.desk_store.specs.declared.found.Found.{Found}
 use Rattle.desk_model.specs.declared.command.Fault.{Fault}
@@ -139,9 +139,15 @@ left c had has k n m a b none kept it = record {
   leaves = λ honest is t holds follows x left. inl (it.leaves honest is t holds.2 x left);
 }
 
-pub wrote_err : (c : Change) (a b : Seen Trees) (r : Result (Unit {0}) Fault) → IsErr r → Failed Stands c a b → Wrote Stands c a b r
-wrote_err c a b (Ok x) is it = absurd (cc)
-wrote_err c a b (Err fault) is it = it
+pub on_err : (r : Result (Unit {0}) Fault) (P : Type 0) → P → OnErr r P
+on_err (Ok x) P it = tt
+on_err (Err fault) P it = it
+
+-- the forms are kept where the change was written
+pub noted : (c : Change) (old s : Seen Trees) (has : Found) (m : Tallies) (counts : Counts) (forms now : List (List ℕ)) (r : Result (Unit {0}) Fault) (written : Bool) → written ≡ is_ok r → now ≡ forms_noted written c forms
+    → OnOk r (Made Stands c old (tallied has m (known_by counts (forms_after c forms)) s)) → OnErr r (Failed Stands c old (tallied has m (known_by counts forms) s)) → Wrote Stands c old (tallied has m (known_by counts now) s) r
+noted c old s has m counts forms now (Ok x) written e f made failed = rw (f, e) made
+noted c old s has m counts forms now (Err fault) written e f made failed = rw (f, e) failed
 
 -- ---- what is counted of rows that were read
 

@@ -1,6 +1,6 @@
 -- What the store keeps beside its tables: how many rows some of them have, the forms of the catalogue in force, the tallies of the
 -- releases, how many references of one document are adopted, the releases that hold a choice, and what was looked up last.
-use Rattle.std.specs.Prelude.{◌≡◌, ◌<◌, ◌^◌, ℕ, ◌+◌, List, length, Option, Some, None}
+use Rattle.std.specs.Prelude.{◌≡◌, ◌<◌, ◌^◌, ℕ, ◌+◌, Bool, true, false, List, length, Option, Some, None}
 use Rattle.sqlite_trees.specs.Tree.{Trees}
 use Rattle.desk_model.specs.declared.command.Change.{Change}
 use Rattle.desk_model.specs.declared.command.Change.TheVariants as change
@@ -45,6 +45,11 @@ HasCount _ c = Unit {0}
 abbrev pub forms_after : Change → List (List ℕ) → List (List ℕ)
 forms_after (change.Loaded row rules forms) old = forms
 forms_after _ old = old
+
+-- and after one that was written or not
+abbrev pub forms_noted : Bool → Change → List (List ℕ) → List (List ℕ)
+forms_noted true change old = forms_after change old
+forms_noted false change old = old
 
 -- as many references of the document are adopted in the tables; where no count is kept, nothing is said
 abbrev pub AreCounted : Option Adoptions → Tables → Type 0

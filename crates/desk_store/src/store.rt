@@ -3,7 +3,7 @@
 //! Its look-ups and its commit say what the trait says of them, and when they fail
 //! (`specs/Causes.antt`).
 
-ghost use Rattle.std.specs.Prelude.{◌≡◌, ℕ, List, true, false, unwrap_or, IfErr, IfOk, IfSome, length, filter, find, map};
+ghost use Rattle.std.specs.Prelude.{◌≡◌, ℕ, List, true, false, unwrap_or, IfErr, IfOk, IfSome, OnErr, OnOk, length, filter, find, map};
 ghost use Rattle.std.specs.Option.{option_map};
 ghost use Rattle.std.specs.List.{list_any};
 ghost use Rattle.std.specs.Str.{bytes_eq};
@@ -11,7 +11,7 @@ ghost use Rattle.sqlite_trees.specs.Tree.{Trees};
 ghost use Rattle.sqlite.specs.Held.{state};
 ghost use Rattle.desk_model.specs.Tables.{Tables, applied, tables};
 ghost use Rattle.desk_access.specs.Follows.{Follows};
-ghost use Rattle.desk_access.specs.Seen.{Looked, Wrote};
+ghost use Rattle.desk_access.specs.Seen.{Failed, Looked, Made, Wrote};
 ghost use Rattle.desk_history.specs.Laws.{Ascends};
 ghost use Rattle.desk_core.specs.Desks.{InHistory};
 ghost use Rattle.desk_sql_layout.specs.Held.{Stands, known_of, seen_of};
@@ -29,7 +29,7 @@ ghost use Rattle.desk_tally.specs.Kept.{AreKept, Fits, IsPlaceFor, LeadsTo};
 ghost use Rattle.desk_snapshot.specs.Tables.{snapshot_of};
 ghost use Rattle.desk_store.specs.Auditing.{IsAudit};
 ghost use Rattle.desk_store.specs.Causes.{CommitFailsFor, Finds, FindsIf};
-ghost use Rattle.desk_store.specs.Counting.{forms_after, known_by, tallied};
+ghost use Rattle.desk_store.specs.Counting.{AreFound, forms_after, forms_noted, known_by, nothing_kept, tallied};
 ghost use Rattle.desk_store.specs.Holding.{have_releases};
 ghost use Rattle.desk_texts.specs.Right.{AreRight};
 
@@ -138,17 +138,19 @@ impl<S: Alter> SqlStore<S> {
         desk_sql_scan::snapshot(self.alloc, &mut self.conn)
     }
 
-    /// Keeps the forms of a catalogue that was loaded.
-    fn take_forms(&mut self, change: Change)
-        ensures forms { self.new.forms ≡ forms_after change self.old.forms }
+    /// Keeps the forms of a catalogue that was loaded, where it was written.
+    fn take_forms(&mut self, change: Change, is_written: bool)
+        ensures forms { self.new.forms ≡ forms_noted is_written change self.old.forms }
         ensures conn { self.new.conn ≡ self.old.conn }
         ensures counts { self.new.counts ≡ self.old.counts }
         ensures tallies { self.new.tallies ≡ self.old.tallies }
         ensures found { self.new.found ≡ self.old.found }
     {
-        match forms_of(change) {
-            Some(forms) => self.forms = forms,
-            None => {}
+        let Some(forms) = forms_of(change) else {
+            return;
+        };
+        if is_written {
+            self.forms = forms;
         }
     }
 }
@@ -185,6 +187,70 @@ impl<S: Alter> SqlStore<S> {
             Some(step) => Ok(step),
             None => Err(Fault::Store(StoreFault::Rows)),
         }
+    }
+}
+
+/// What goes with a change that is to be written, looked up before it is.
+#[derive(Drop)]
+struct Prepared {
+    found: Found,
+    step: Step,
+}
+
+impl<S: Alter> SqlStore<S> {
+    /// Looks up what goes with a change, and keeps nothing of what was found before it.
+    fn prepare(&mut self, change: &Change) -> Result<Prepared, Fault>
+        ensures looks { LooksUpGiven S.Store (λ t. AreKept self.old.tallies t
+            × Follows change.now t) self.old.conn self.new.conn result (λ made t.
+            Ascends release_below (applied change.now t).releases
+            → (AreKept self.old.tallies t
+            → LeadsTo made.step self.new.tallies (applied change.now t))
+            × (Follows change.now t → AreFound self.old.found t
+            → AreFound made.found (applied change.now t))) }
+        ensures fits { IfOk result (λ made. Fits made.step self.new.tallies) }
+        ensures tallies { (t : Tables) → AreKept self.old.tallies t → AreKept self.new.tallies t }
+        ensures counts { self.new.counts ≡ self.old.counts }
+        ensures forms { self.new.forms ≡ self.old.forms }
+        ensures left { self.new.found ≡ nothing_kept }
+    {
+        let known = self.found.take();
+        let found = found_after(self.alloc, &mut self.conn, change, known)?;
+        let step = self.plan(change)?;
+        Ok(Prepared { found, step })
+    }
+
+    /// Keeps how many rows there are, and what was found of them.
+    fn keep(&mut self, counts: Counts, found: Found)
+        ensures counts { self.new.counts ≡ counts }
+        ensures found { self.new.found ≡ found }
+        ensures conn { self.new.conn ≡ self.old.conn }
+        ensures forms { self.new.forms ≡ self.old.forms }
+        ensures tallies { self.new.tallies ≡ self.old.tallies }
+    {
+        self.counts = counts;
+        self.found = found;
+    }
+
+    /// Writes a change, and keeps what goes with it, apart from the forms.
+    fn write(&mut self, change: &Change) -> Result<(), Fault>
+        ensures wrote { OnOk result (Made Stands change.now (⟦<SqlStore<S> as Store>⟧.seen self.old)
+            (tallied self.new.found self.new.tallies
+            (known_by self.new.counts (forms_after change.now self.old.forms))
+            (seen_of (state S.Store self.new.conn)))) }
+        ensures failed { OnErr result (Failed Stands change.now
+            (⟦<SqlStore<S> as Store>⟧.seen self.old) (⟦<SqlStore<S> as Store>⟧.seen self.new)) }
+        ensures forms { self.new.forms ≡ self.old.forms }
+        ensures cause { is_writable change.now ≡ true → HasSmallRevision change.now
+            → IfErr result (CommitFailsFor change.now (⟦<SqlStore<S> as Store>⟧.seen self.old)
+            (state S.Store self.old.conn) (state S.Store self.new.conn)) }
+    {
+        let Some(counts) = counts_after(change, self.counts) else {
+            return Err(Fault::Store(StoreFault::Rows));
+        };
+        let Prepared { found, step } = self.prepare(change)?;
+        commit_counted(self.alloc, &mut self.conn, change, &mut self.tallies, step)?;
+        self.keep(counts, found);
+        Ok(())
     }
 }
 
@@ -487,20 +553,8 @@ impl<S: Alter> Store for SqlStore<S> {
             (CommitFailsFor change (⟦<SqlStore<S> as Store>⟧.seen self.old)
             (state S.Store self.old.conn) (state S.Store self.new.conn)) }
     {
-        let Some(counts) = counts_after(&change, self.counts) else {
-            return Err(Fault::Store(StoreFault::Rows));
-        };
-        let known = self.found.take();
-        let found = found_after(self.alloc, &mut self.conn, &change, known)?;
-        let step = self.plan(&change)?;
-        match commit_counted(self.alloc, &mut self.conn, &change, &mut self.tallies, step) {
-            Ok(()) => {
-                self.counts = counts;
-                self.found = found;
-                self.take_forms(change);
-                Ok(())
-            }
-            Err(fault) => Err(fault),
-        }
+        let written = self.write(&change);
+        self.take_forms(change, written.is_ok());
+        written
     }
 }
