@@ -4,9 +4,6 @@ ghost use Rattle.std.specs.Prelude.{◌≡◌, ◌<◌, List, ℕ, length, Match
 ghost use Rattle.desk_http.specs.Framings.{Framed, IsFraming, closed, IsAsked, Asked};
 ghost use Rattle.desk_http.specs.Receiving.{IsReceived};
 ghost use Rattle.desk_http.specs.Serving.{Wants, Answers, IsReply, is_get};
-ghost use Rattle.desk_json.specs.declared.request.Request.TheVariants.{Act, Ask};
-ghost use Rattle.desk_script.specs.Replies.{Replies};
-ghost use Rattle.desk_script.specs.declared.answer.Reply.TheVariants as script;
 
 use crate::asking::{Reply, Request, Shape};
 use crate::framing::{Framing, frame};
@@ -15,7 +12,7 @@ use crate::receiving::Received;
 use crate::status::Status;
 use crate::table::RouteTable;
 use desk_core::desk::Desk;
-use desk_model::{Command, Outcome, Query};
+use desk_script::{command_outcome, question_outcome};
 use std::alloc::Global;
 
 /// What is wanted of the desk.
@@ -54,32 +51,13 @@ fn wanted_by(alloc: Global, routes: &mut RouteTable, bytes: &[u8]) -> Wanted
     }
 }
 
-/// Applies a command, and hands on the bytes of an import, so that they are not copied.
-fn applied<D: Desk>(desk: &mut D, command: Command) -> Outcome
-    ensures { Replies D.are_right D.tells D.stands (D.seen desk.old) (Act command)
-        (script.Became result) (D.seen desk.new) }
-{
-    match command {
-        Command::Import { bytes, profile } => Outcome::from(desk.import(bytes, profile)),
-        other => Outcome::from(desk.apply(&other)),
-    }
-}
-
-/// Asks a question.
-fn asked<D: Desk>(desk: &mut D, query: &Query) -> Outcome
-    ensures { Replies D.are_right D.tells D.stands (D.seen desk.old) (Ask query.now)
-        (script.Became result) (D.seen desk.new) }
-{
-    Outcome::from(desk.ask(query))
-}
-
 /// The reply to a request.
 fn reply_to<D: Desk>(desk: &mut D, request: Request, is_get: bool) -> Reply
     ensures { Answers D.are_right D.tells D.stands D.seen is_get desk.old result request desk.new }
 {
     match request {
-        Request::Act(command) => Reply::Became(applied(desk, command), Shape::Json, is_get),
-        Request::Ask(query, shape) => Reply::Became(asked(desk, &query), shape, is_get),
+        Request::Act(command) => Reply::Became(command_outcome(desk, command), Shape::Json, is_get),
+        Request::Ask(query, shape) => Reply::Became(question_outcome(desk, &query), shape, is_get),
         Request::NoRoute => Reply::NoRoute,
         Request::BadCommand => Reply::BadCommand,
         Request::NotText => Reply::NotText,

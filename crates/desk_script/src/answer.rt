@@ -8,6 +8,7 @@ ghost use Rattle.desk_model.specs.declared.command.Command.{Command};
 ghost use Rattle.desk_json.specs.Requests.{request_in};
 ghost use Rattle.desk_json.specs.declared.request.Request.TheVariants.{Act, Ask};
 ghost use Rattle.desk_script.specs.Replies.{Replies};
+ghost use Rattle.desk_script.specs.declared.answer.Reply.TheVariants.{Became};
 
 use crate::watch::Watch;
 use desk_core::desk::Desk;
@@ -25,24 +26,22 @@ pub enum Reply {
 }
 
 /// Applies a command, and hands on the bytes of an import, so that they are not copied.
-fn applied<D: Desk>(desk: &mut D, command: Command) -> Reply
-    ensures { Replies D.are_right D.tells D.stands (D.seen desk.old) (Act command) result
+pub fn command_outcome<D: Desk>(desk: &mut D, command: Command) -> Outcome
+    ensures { Replies D.are_right D.tells D.stands (D.seen desk.old) (Act command) (Became result)
         (D.seen desk.new) }
 {
     match command {
-        Command::Import { bytes, profile } => {
-            Reply::Became(Outcome::from(desk.import(bytes, profile)))
-        }
-        other => Reply::Became(Outcome::from(desk.apply(&other))),
+        Command::Import { bytes, profile } => Outcome::from(desk.import(bytes, profile)),
+        other => Outcome::from(desk.apply(&other)),
     }
 }
 
 /// Asks a question.
-fn asked<D: Desk>(desk: &mut D, query: &Query) -> Reply
-    ensures { Replies D.are_right D.tells D.stands (D.seen desk.old) (Ask query.now) result
+pub fn question_outcome<D: Desk>(desk: &mut D, query: &Query) -> Outcome
+    ensures { Replies D.are_right D.tells D.stands (D.seen desk.old) (Ask query.now) (Became result)
         (D.seen desk.new) }
 {
-    Reply::Became(Outcome::from(desk.ask(query)))
+    Outcome::from(desk.ask(query))
 }
 
 /// Answers the request that the text of a line is. Where memory is wanting to read it, it failed.
@@ -60,11 +59,11 @@ pub fn answer_line<D: Desk, V: Watch>(
     match read_command(alloc, text.as_slice()) {
         Ok(Request::Act(command)) => {
             drop(text);
-            applied(desk, command)
+            Reply::Became(command_outcome(desk, command))
         }
         Ok(Request::Ask(query)) => {
             drop(text);
-            asked(desk, &query)
+            Reply::Became(question_outcome(desk, &query))
         }
         Ok(Request::BadCommand) => {
             watch.no_request(Some(text.as_slice()));

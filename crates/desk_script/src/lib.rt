@@ -28,7 +28,7 @@ mod serving;
 mod stream;
 mod watch;
 
-pub use answer::Reply;
+pub use answer::{Reply, command_outcome, question_outcome};
 pub use serving::{ScriptEnd, ScriptFault};
 pub use stream::script;
 pub use watch::Watch;
