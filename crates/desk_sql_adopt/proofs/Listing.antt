@@ -15,6 +15,8 @@ use Rattle.desk_sql_layout.specs.Layout as d
 use Rattle.desk_sql_layout.specs.Cells.{release_cells, duty_cells}
 use Rattle.desk_sql_layout.specs.Held.{Holds, rows_of}
 use Rattle.desk_sql_layout.proofs.Queries.{query_on}
+use Rattle.desk_sql_lookup.specs.Causes.{IsAsked}
+use Rattle.desk_sql_lookup.proofs.Causes.{Suits, asked}
 use Rattle.desk_sql_lookup.proofs.HolderLemmas.{all_pass}
 use Rattle.desk_sql_lookup.proofs.Keyed.{duties_sorted}
 use Rattle.desk_sql_lookup.proofs.ReleaseQueries.{releases_text, releases_read}
@@ -55,6 +57,14 @@ duties_is = (refl, refl)
 duties_plain : IsPlain (understood d.desk_schema duties_text)
 unfolding understood everything
 duties_plain = (refl, refl)
+
+duties_suits : Suits duties_text 0 (understood d.desk_schema duties_text)
+unfolding understood everything
+duties_suits = (refl, refl)
+
+pub duties_asked : IsAsked duties_text []
+duties_asked = asked duties_text [] 23 ([]) (col 1 0 ∷ col 1 2 ∷ col 1 3 ∷ col 1 4 ∷ col 1 5 ∷ col 1 6 ∷ col 1 7 ∷ col 1 8 ∷ []) (order_by (0 ∷ []))
+    (codes "number" ∷ codes "release" ∷ codes "document" ∷ codes "package" ∷ codes "term" ∷ codes "code" ∷ codes "rule" ∷ codes "state" ∷ []) duties_is duties_plain duties_suits refl
 
 abbrev every : DutyRow → Bool
 every x = true

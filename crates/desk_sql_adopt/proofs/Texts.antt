@@ -21,6 +21,8 @@ use Rattle.desk_sql_layout.specs.Cells.{number, meta_cells, catalogue_cells, doc
 use Rattle.desk_sql_layout.specs.Held.{Holds, rows_of}
 use Rattle.desk_sql_layout.proofs.Casts.{same, int_test, and_true}
 use Rattle.desk_sql_layout.proofs.Queries.{query_on}
+use Rattle.desk_sql_lookup.specs.Causes.{IsAsked}
+use Rattle.desk_sql_lookup.proofs.Causes.{Suits, asked}
 use Rattle.desk_sql_lookup.proofs.HolderLemmas.{all_pass}
 use Rattle.desk_sql_lookup.proofs.Keyed.{same_number}
 use Rattle.desk_sql_lookup.proofs.Selects.{order_by, by_rowid, at_one_key, counts, shows, shows_some}
@@ -47,6 +49,13 @@ version_is = (refl, refl)
 version_plain : IsPlain (understood d.desk_schema version_text)
 unfolding understood everything
 version_plain = (refl, refl)
+
+version_suits : Suits version_text 0 (understood d.desk_schema version_text)
+unfolding understood everything
+version_suits = (refl, refl)
+
+pub version_asked : IsAsked version_text []
+version_asked = asked version_text [] 0 [] (col 1 0 ∷ []) (order_by ([])) (codes "version" ∷ []) version_is version_plain version_suits refl
 
 pub version_read : (old new : State) (rows : List Row) (t : Tables) → Shown version_text [] old new rows → Holds t old.now → rows ≡ meta_cells ∷ []
 version_read old new rows t shown holds =
@@ -75,6 +84,13 @@ revisions_plain : IsPlain (understood d.desk_schema revisions_text)
 unfolding understood everything
 revisions_plain = (refl, refl)
 
+revisions_suits : Suits revisions_text 0 (understood d.desk_schema revisions_text)
+unfolding understood everything
+revisions_suits = (refl, refl)
+
+pub revisions_asked : IsAsked revisions_text []
+revisions_asked = asked revisions_text [] 1 [] (col 1 0 ∷ []) (order_by ([])) (codes "revision" ∷ []) revisions_is revisions_plain revisions_suits refl
+
 pub revisions_count : (old new : State) (rows : List Row) (t : Tables) → Shown revisions_text [] old new rows → Holds t old.now → length t.catalogue ≡ length rows
 revisions_count old new rows t shown holds =
     let this = d.catalogue_table in
@@ -99,6 +115,13 @@ documents_is = (refl, refl)
 documents_plain : IsPlain (understood d.desk_schema documents_text)
 unfolding understood everything
 documents_plain = (refl, refl)
+
+documents_suits : Suits documents_text 0 (understood d.desk_schema documents_text)
+unfolding understood everything
+documents_suits = (refl, refl)
+
+pub documents_asked : IsAsked documents_text []
+documents_asked = asked documents_text [] 4 [] (col 1 0 ∷ []) (order_by ([])) (codes "number" ∷ []) documents_is documents_plain documents_suits refl
 
 pub documents_count : (old new : State) (rows : List Row) (t : Tables) → Shown documents_text [] old new rows → Holds t old.now → length t.document ≡ length rows
 documents_count old new rows t shown holds =
@@ -125,6 +148,13 @@ releases_plain : IsPlain (understood d.desk_schema releases_text)
 unfolding understood everything
 releases_plain = (refl, refl)
 
+releases_suits : Suits releases_text 0 (understood d.desk_schema releases_text)
+unfolding understood everything
+releases_suits = (refl, refl)
+
+pub releases_asked : IsAsked releases_text []
+releases_asked = asked releases_text [] 14 [] (col 1 1 ∷ []) (order_by ([])) (codes "name" ∷ []) releases_is releases_plain releases_suits refl
+
 pub releases_count : (old new : State) (rows : List Row) (t : Tables) → Shown releases_text [] old new rows → Holds t old.now → length t.releases ≡ length rows
 releases_count old new rows t shown holds =
     let this = d.releases_table in
@@ -149,6 +179,13 @@ duties_is = (refl, refl)
 duties_plain : IsPlain (understood d.desk_schema duties_text)
 unfolding understood everything
 duties_plain = (refl, refl)
+
+duties_suits : Suits duties_text 0 (understood d.desk_schema duties_text)
+unfolding understood everything
+duties_suits = (refl, refl)
+
+pub duties_asked : IsAsked duties_text []
+duties_asked = asked duties_text [] 23 [] (col 1 0 ∷ []) (order_by ([])) (codes "number" ∷ []) duties_is duties_plain duties_suits refl
 
 pub duties_count : (old new : State) (rows : List Row) (t : Tables) → Shown duties_text [] old new rows → Holds t old.now → length t.duty ≡ length rows
 duties_count old new rows t shown holds =
@@ -176,6 +213,13 @@ body_is = (refl, refl)
 body_plain : IsPlain (understood d.desk_schema body_text)
 unfolding understood everything
 body_plain = (refl, refl)
+
+body_suits : Suits body_text 1 (understood d.desk_schema body_text)
+unfolding understood everything
+body_suits = (refl, refl)
+
+pub body_asked : (n : ℕ) → IsAsked body_text (number n ∷ [])
+body_asked n = asked body_text (number n ∷ []) 1 (same 0 0 ∷ []) (col 1 2 ∷ []) (order_by (0 ∷ [])) (codes "body" ∷ []) body_is body_plain body_suits refl
 
 abbrev body_test : ℕ → Row → Bool
 body_test n cs = is_true (binary (Compare Eq Binary) (column cs 0) (number n)) && true

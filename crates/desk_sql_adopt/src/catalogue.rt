@@ -1,11 +1,13 @@
 //! The body of a revision of the catalogue.
 
-ghost use Rattle.std.specs.Prelude.{◌≡◌, ℕ, List, map, false, slice_get, IfOk, IfSome};
+ghost use Rattle.std.specs.Prelude.{◌≡◌, ℕ, List, map, false, slice_get, IfErr, IfNone, IfOk, IfSome, IsUtf8};
+ghost use Rattle.std.specs.List.{AllByRecursion};
 ghost use Rattle.sqlite.specs.Held.{state};
 ghost use Rattle.sqlite_value.specs.Order.{column};
 ghost use Rattle.sqlite_value.specs.declared.value.Value.TheVariants.{Text as Words};
 ghost use Rattle.desk_access.specs.Seen.{OfRows};
 ghost use Rattle.desk_sql_layout.specs.Held.{seen_of};
+ghost use Rattle.desk_sql_lookup.specs.Causes.{HasCause, IsRow};
 ghost use Rattle.desk_sql_lookup.specs.Shown.{text_cells};
 ghost use Rattle.desk_sql_adopt.specs.Reading.{HasRead};
 ghost use Rattle.desk_sql_adopt.specs.Revisions.{body_of};
@@ -19,7 +21,9 @@ use sqlite_value::value::ValueRef;
 use std::alloc::Global;
 
 fn str_of(row: &Row) -> Option<&str>
-    ensures { IfSome result (λ text. column row.now 0 ≡ Words text.now) }
+    ensures some { IfSome result (λ text. column row.now 0 ≡ Words text.now) }
+    ensures none { IfNone result ((text : List ℕ)
+        → column row.now 0 ≡ Words text → ¬ IsUtf8 text) }
 {
     match row.get_ref(0) {
         Ok(ValueRef::Text(bytes)) => std::str::from_utf8(bytes).ok(),
@@ -29,8 +33,11 @@ fn str_of(row: &Row) -> Option<&str>
 
 /// The text in the first row, if there is a row.
 fn first_text(alloc: Global, rows: &[Row]) -> Result<Option<Text>, Fault>
-    ensures { IfOk result (λ found. (texts : List (List ℕ)) → rows.now ≡ map text_cells texts
+    ensures value { IfOk result (λ found. (texts : List (List ℕ)) → rows.now ≡ map text_cells texts
         → found ≡ slice_get texts 0) }
+    ensures cause { IfErr result (λ fault. (texts : List (List ℕ))
+        → rows.now ≡ map text_cells texts → AllByRecursion IsRow rows.now
+        → fault ≡ Fault.Memory) }
 {
     let Some(row) = rows.first() else {
         return Ok(None);
@@ -52,6 +59,7 @@ pub fn body_of<S: Alter>(
         body ≡ body_of t revision) (seen_of (state S.Store conn.old))
         (seen_of (state S.Store conn.new))) }
     ensures read { HasRead (state S.Store conn.old) (state S.Store conn.new) result }
+    ensures cause { IfErr result (HasCause (state S.Store conn.old) (state S.Store conn.new)) }
     ensures mode { conn.new.in_transaction ≡ false }
 {
     let rows = query(

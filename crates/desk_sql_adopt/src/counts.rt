@@ -1,10 +1,12 @@
 //! How many rows some of a desk's tables have.
 
-ghost use Rattle.std.specs.Prelude.{◌≡◌, false, length, IfOk};
+ghost use Rattle.std.specs.Prelude.{◌≡◌, ◌<◌, ◌^◌, false, List, [], length, IfErr, IfOk};
 ghost use Rattle.sqlite.specs.Held.{state};
-ghost use Rattle.sqlite.specs.State.{HasCleanDisk};
+ghost use Rattle.sqlite.specs.State.{HasCleanDisk, Shown};
+ghost use Rattle.sqlite_value.specs.Order.{Row as Cells};
 ghost use Rattle.desk_access.specs.Seen.{OfRows};
 ghost use Rattle.desk_sql_layout.specs.Held.{seen_of};
+ghost use Rattle.desk_sql_lookup.specs.Causes.{HasCauseIf, IsAsked};
 ghost use Rattle.desk_sql_adopt.specs.Reading.{Asks, HasRead};
 ghost use Rattle.desk_sql_adopt.specs.Revisions.{ShowsCount};
 
@@ -19,6 +21,10 @@ fn row_count<S: Alter>(conn: &mut Connection<S>, sql: &str) -> Result<u32, Fault
         → IfOk result (λ count.
         ShowsCount sql.now count (state S.Store conn.old) (state S.Store conn.new)) }
     ensures read { Asks sql.now → HasRead (state S.Store conn.old) (state S.Store conn.new) result }
+    ensures cause { IsAsked sql.now [] → IfErr result (HasCauseIf
+        (λ t. (rows : List Cells) → Shown sql.now [] (state S.Store conn.old)
+        (state S.Store conn.new) rows → length rows < 2 ^ 32)
+        (state S.Store conn.old) (state S.Store conn.new)) }
     ensures mode { conn.new.in_transaction ≡ false }
 {
     let rows = query(conn, sql, &[])?;
@@ -35,6 +41,8 @@ pub fn revision_count<S: Alter>(conn: &mut Connection<S>) -> Result<u32, Fault>
         length t.catalogue ≡ count) (seen_of (state S.Store conn.old))
         (seen_of (state S.Store conn.new))) }
     ensures read { HasRead (state S.Store conn.old) (state S.Store conn.new) result }
+    ensures cause { IfErr result (HasCauseIf (λ t. length t.catalogue < 2 ^ 32)
+        (state S.Store conn.old) (state S.Store conn.new)) }
     ensures mode { conn.new.in_transaction ≡ false }
 {
     row_count(conn, "SELECT revision FROM catalogue")
@@ -47,6 +55,8 @@ pub fn document_count<S: Alter>(conn: &mut Connection<S>) -> Result<u32, Fault>
         length t.document ≡ count) (seen_of (state S.Store conn.old))
         (seen_of (state S.Store conn.new))) }
     ensures read { HasRead (state S.Store conn.old) (state S.Store conn.new) result }
+    ensures cause { IfErr result (HasCauseIf (λ t. length t.document < 2 ^ 32)
+        (state S.Store conn.old) (state S.Store conn.new)) }
     ensures mode { conn.new.in_transaction ≡ false }
 {
     row_count(conn, "SELECT number FROM document")
@@ -59,6 +69,8 @@ pub fn release_count<S: Alter>(conn: &mut Connection<S>) -> Result<u32, Fault>
         length t.releases ≡ count) (seen_of (state S.Store conn.old))
         (seen_of (state S.Store conn.new))) }
     ensures read { HasRead (state S.Store conn.old) (state S.Store conn.new) result }
+    ensures cause { IfErr result (HasCauseIf (λ t. length t.releases < 2 ^ 32)
+        (state S.Store conn.old) (state S.Store conn.new)) }
     ensures mode { conn.new.in_transaction ≡ false }
 {
     row_count(conn, "SELECT name FROM releases")
@@ -71,6 +83,8 @@ pub fn duty_count<S: Alter>(conn: &mut Connection<S>) -> Result<u32, Fault>
         length t.duty ≡ count) (seen_of (state S.Store conn.old))
         (seen_of (state S.Store conn.new))) }
     ensures read { HasRead (state S.Store conn.old) (state S.Store conn.new) result }
+    ensures cause { IfErr result (HasCauseIf (λ t. length t.duty < 2 ^ 32)
+        (state S.Store conn.old) (state S.Store conn.new)) }
     ensures mode { conn.new.in_transaction ≡ false }
 {
     row_count(conn, "SELECT number FROM duty")

@@ -1,11 +1,12 @@
 //! Databases of the versions before this one.
 
-ghost use Rattle.std.specs.Prelude.{◌≡◌, ◌≢◌, ℤ, pos, false, Some, None, IfOk, IfSome, IfNone, IsTrue, take};
+ghost use Rattle.std.specs.Prelude.{◌≡◌, ◌≢◌, ℤ, pos, false, Some, None, IfErr, IfOk, IfSome, IfNone, IsTrue, take};
 ghost use Rattle.std.specs.Bool.{Decides};
 ghost use Rattle.sqlite.specs.Held.{state};
 ghost use Rattle.sqlite.specs.State.{HasCleanDisk};
 ghost use Rattle.desk_model.specs.Tables.{Tables};
 ghost use Rattle.desk_sql_layout.specs.Layout.{desk_schema};
+ghost use Rattle.desk_sql_lookup.specs.Causes.{HasCause};
 ghost use Rattle.desk_sql_adopt.specs.Older.{HoldsOlder, IsOlderContent, older_schema, version_number};
 ghost use Rattle.desk_sql_adopt.specs.Reading.{HasRead};
 
@@ -142,6 +143,7 @@ pub fn examine_older<S: Alter>(conn: &mut Connection<S>) -> Result<OlderContent,
         → HoldsOlder version t (state S.Store conn.old).now
         → content ≡ OlderContent.Older version) }
     ensures read { HasRead (state S.Store conn.old) (state S.Store conn.new) result }
+    ensures cause { IfErr result (HasCause (state S.Store conn.old) (state S.Store conn.new)) }
     ensures mode { conn.new.in_transaction ≡ false }
 {
     let schema = conn.schema();

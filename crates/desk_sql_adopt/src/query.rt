@@ -1,9 +1,10 @@
 //! A query of a database that may be none of a desk's.
 
-ghost use Rattle.std.specs.Prelude.{◌≡◌, false, IfOk};
+ghost use Rattle.std.specs.Prelude.{◌≡◌, false, IfErr, IfOk};
 ghost use Rattle.sqlite.specs.Held.{state};
 ghost use Rattle.sqlite.specs.State.{HasCleanDisk, Shown};
 ghost use Rattle.sqlite.specs.Values.{bound};
+ghost use Rattle.desk_sql_lookup.specs.Causes.{HasCause, IsAsked};
 ghost use Rattle.desk_sql_adopt.specs.Reading.{Asks, HasRead};
 
 use desk_model::Fault;
@@ -22,6 +23,8 @@ pub(crate) fn query<S: Alter>(
         → IfOk result (λ rows. Shown sql.now (bound params.now) (state S.Store conn.old)
         (state S.Store conn.new) rows.items) }
     ensures read { Asks sql.now → HasRead (state S.Store conn.old) (state S.Store conn.new) result }
+    ensures cause { IsAsked sql.now (bound params.now) → IfErr result (HasCause
+        (state S.Store conn.old) (state S.Store conn.new)) }
     ensures mode { conn.new.in_transaction ≡ false }
 {
     let _settled = conn.is_autocommit();

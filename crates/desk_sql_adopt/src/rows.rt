@@ -1,9 +1,10 @@
 //! The releases and duties of a desk.
 
-ghost use Rattle.std.specs.Prelude.{◌≡◌, false, IfOk};
+ghost use Rattle.std.specs.Prelude.{◌≡◌, false, IfErr, IfOk};
 ghost use Rattle.sqlite.specs.Held.{state};
 ghost use Rattle.desk_access.specs.Seen.{OfRows};
 ghost use Rattle.desk_sql_layout.specs.Held.{seen_of};
+ghost use Rattle.desk_sql_lookup.specs.Causes.{HasCause};
 ghost use Rattle.desk_sql_adopt.specs.Reading.{HasRead};
 
 use crate::query::query;
@@ -19,6 +20,7 @@ pub fn releases<S: Alter>(alloc: Global, conn: &mut Connection<S>) -> Result<Vec
         found.items ≡ t.releases) (seen_of (state S.Store conn.old))
         (seen_of (state S.Store conn.new))) }
     ensures read { HasRead (state S.Store conn.old) (state S.Store conn.new) result }
+    ensures cause { IfErr result (HasCause (state S.Store conn.old) (state S.Store conn.new)) }
     ensures mode { conn.new.in_transaction ≡ false }
 {
     let rows = query(
@@ -36,6 +38,7 @@ pub fn duties<S: Alter>(alloc: Global, conn: &mut Connection<S>) -> Result<Vec<D
         found.items ≡ t.duty) (seen_of (state S.Store conn.old))
         (seen_of (state S.Store conn.new))) }
     ensures read { HasRead (state S.Store conn.old) (state S.Store conn.new) result }
+    ensures cause { IfErr result (HasCause (state S.Store conn.old) (state S.Store conn.new)) }
     ensures mode { conn.new.in_transaction ≡ false }
 {
     let rows = query(

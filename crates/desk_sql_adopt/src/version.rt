@@ -1,6 +1,6 @@
 //! The version that a database tells of its tables.
 
-ghost use Rattle.std.specs.Prelude.{◌≡◌, ◌≢◌, ℤ, pos, codes, true, false, Some, None, IfOk, IsTrue};
+ghost use Rattle.std.specs.Prelude.{◌≡◌, ◌≢◌, ℤ, pos, codes, true, false, Some, None, IfErr, IfOk, IsTrue};
 ghost use Rattle.std.specs.List.{list_any};
 ghost use Rattle.sqlite_value.specs.Order.{column};
 ghost use Rattle.sqlite_schema.specs.Names.{same_name};
@@ -8,6 +8,7 @@ ghost use Rattle.sqlite.specs.Held.{state};
 ghost use Rattle.sqlite.specs.State.{HasCleanDisk};
 ghost use Rattle.desk_access.specs.Seen.{OfRows};
 ghost use Rattle.desk_sql_layout.specs.Held.{seen_of};
+ghost use Rattle.desk_sql_lookup.specs.Causes.{HasCause};
 ghost use Rattle.desk_sql_adopt.specs.Reading.{HasRead};
 ghost use Rattle.desk_sql_adopt.specs.Version.{IsContent, ShowsVersion, TellsVersion, has_version, is_meta, version_in, whole_number};
 
@@ -85,6 +86,7 @@ pub(crate) fn version<S: Alter>(conn: &mut Connection<S>) -> Result<Option<i64>,
         version ≡ Some (pos 3)) (seen_of (state S.Store conn.old))
         (seen_of (state S.Store conn.new))) }
     ensures read { HasRead (state S.Store conn.old) (state S.Store conn.new) result }
+    ensures cause { IfErr result (HasCause (state S.Store conn.old) (state S.Store conn.new)) }
     ensures mode { conn.new.in_transaction ≡ false }
 {
     let rows = query(conn, "SELECT version FROM meta", &[])?;
@@ -119,6 +121,7 @@ pub fn examine<S: Alter>(conn: &mut Connection<S>) -> Result<Content, Fault>
         content ≡ Content.Desk) (seen_of (state S.Store conn.old))
         (seen_of (state S.Store conn.new))) }
     ensures read { HasRead (state S.Store conn.old) (state S.Store conn.new) result }
+    ensures cause { IfErr result (HasCause (state S.Store conn.old) (state S.Store conn.new)) }
     ensures mode { conn.new.in_transaction ≡ false }
 {
     let schema = conn.schema();

@@ -3,7 +3,8 @@ use Rattle.sqlite.specs.Held.{state}
 use Rattle.desk_sql_adopt.specs.Version.{version_text, version_in}
 use Rattle.desk_sql_adopt.proofs.Asking.{answers}
 use Rattle.desk_sql_adopt.proofs.Spared.{err_read, of_shown}
-use Rattle.desk_sql_adopt.proofs.Texts.{version_asks, version_read}
+use Rattle.desk_sql_adopt.proofs.Texts.{version_asked, version_asks, version_read}
+use Rattle.desk_sql_lookup.proofs.Causes.{err_cause}
 use Rattle.desk_sql_adopt.proofs.version.version.Goals as goal
 
 pub returns-in_err-rows-clause-read : goal.returns-in_err-rows-clause-read
@@ -30,3 +31,6 @@ returns-clause-held g c =
 
 pub returns-clause-read : goal.returns-clause-read
 returns-clause-read g c = c.in_ok-rows.ensures.read version_asks
+
+pub returns-in_err-rows-clause-cause : goal.returns-in_err-rows-clause-cause
+returns-in_err-rows-clause-cause g c = err_cause _ _ _ c.from_residual.result c.in_err-rows.field-0.0 c.from_residual.ensures.1 (c.in_err-rows.ensures.cause version_asked)
