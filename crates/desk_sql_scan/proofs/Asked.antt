@@ -1,10 +1,8 @@
 -- What asking for rows does, one after another.
 use Rattle.std.proofs.Common.{◌≡◌, ◌⊎◌, inl, inr, ◌∙◌, Ok, Err, Result, IsTrue, List, ℕ, sym}
-use Rattle.std.specs.Result.{IsErr}
 use Rattle.sqlite_value.specs.Order.{Row}
 use Rattle.sqlite.specs.declared.error.Error.{Error}
 use Rattle.sqlite.specs.State.{State, HasCleanDisk, FailsToQuery, IsRolledBack, IsTooLate, IsUnchanged, KeepsCommit, Survives}
-use Rattle.sqlite.proofs.Callers.{unchanged_then}
 use Rattle.sqlite.proofs.InsideLemmas.{keeps_then}
 use Rattle.sqlite.proofs.StateLemmas.{survives_then}
 use Rattle.desk_model.specs.declared.command.Fault.{Fault}
@@ -17,15 +15,8 @@ use Rattle.desk_sql_scan.specs.Asked.{IsSettled, IsSpared, HasAsked}
 abbrev pub Stays : State → State → Type 0
 Stays a b = Survives a b (λ _. ⊥) × (HasCleanDisk b → IsUnchanged a b)
 
-pub unchanged_is_kept : (a b : State) → IsUnchanged a b → KeepsCommit a b
+unchanged_is_kept : (a b : State) → IsUnchanged a b → KeepsCommit a b
 unchanged_is_kept a b same = record { was_open = λ _. same.0.was_open; committed = λ _. same.0.committed_is }
-
-pub stays_spared : (a b : State) → Stays a b → IsSpared a b
-stays_spared a b it = record {
-  survives = it.0;
-  kept = λ clean. unchanged_is_kept a b (it.1 clean);
-  now = λ clean settled is. (it.1 clean).0.now_is;
-}
 
 pub spared_then : (a b c : State) → Stays a b → IsSpared b c → IsSpared a c
 spared_then a b c one two =
@@ -37,16 +28,6 @@ spared_then a b c one two =
           let same = one.1 (before clean) in
           two.now clean (λ is. same.0.now_is ∙ settled same.0.was_open ∙ sym same.0.committed_is) is ∙ same.0.now_is;
     }
-
--- a fault that is passed on
-pub err_asked : {A : Type 0} (old new : State) (r : Result A Fault) → IsErr r → IsSpared old new → HasAsked old new r
-err_asked old new (Ok x) is it = absurd (cc)
-err_asked old new (Err e) is it = it
-
--- what is told of rows that came, or not
-pub asked_so : {B : Type 0} (old new : State) (r : Result B Fault) → Stays old new → HasAsked old new r
-asked_so old new (Ok y) it = it
-asked_so old new (Err e) it = stays_spared old new it
 
 -- of a connection of which all is committed
 pub read_outside : {A : Type 0} (old new : State) (r : Result A Fault) → IsSettled old → HasAsked old new r → HasRead old new r

@@ -1,7 +1,8 @@
 -- The revisions and rules of the catalogue, and the version of the tables: what is shown where all of them are asked for.
 use Rattle.desk_sql_layout.specs.Layout as d
-use Rattle.std.proofs.Common.{◌≡◌, ℕ, pos, true, false, List, [], ◌∷◌, map, codes, None, Ok, refl, Result, IfOk}
+use Rattle.std.proofs.Common.{◌≡◌, ℕ, pos, true, false, List, [], ◌∷◌, map, codes, None, Ok, refl, Result}
 use Rattle.std.specs.Prelude.{◌&&◌}
+use Rattle.std.specs.List.{AllByRecursion}
 use Rattle.std.specs.Ordering.{int_cmp, nat_cmp}
 use Rattle.std.specs.Cmp.Lexicographic.{slice_cmp}
 use Rattle.sqlite_value.specs.Order.{Row, column}
@@ -17,7 +18,6 @@ use Rattle.sqlite_tied.specs.Compute.{everything}
 use Rattle.sqlite.specs.Effect.{Database, Reads}
 use Rattle.sqlite.specs.Listing.{understood, reads_listing}
 use Rattle.sqlite.proofs.Callers.{IsPlain, command_of}
-use Rattle.sqlite.specs.State.{State, HasCleanDisk}
 use Rattle.desk_model.specs.declared.command.Fault.{Fault}
 use Rattle.desk_history.specs.Laws.{AreSortedAsListed, revision_below}
 use Rattle.desk_sql_layout.specs.Held.{Holds, rows_of}
@@ -31,12 +31,16 @@ use Rattle.desk_sql_adopt.specs.Reading.{Asks}
 use Rattle.desk_sql_adopt.proofs.Asking.{asks}
 use Rattle.desk_sql_lookup.proofs.Selects.{order_by, mine, by_rowid, by_unique}
 use Rattle.desk_sql_lookup.proofs.Ties.{is_key, keys}
-use Rattle.desk_sql_scan.specs.Asked.{HasAsked}
+use Rattle.desk_sql_lookup.specs.Causes.{AreWritten, IsAsked}
+use Rattle.desk_sql_lookup.proofs.Causes.{Suits, asked}
+use Rattle.desk_sql_scan.specs.Causes.{AreCells}
 use Rattle.desk_sql_scan.specs.Cells.{columns_of, stored_meta_cells, stored_catalogue_cells, stored_rule_cells}
 use Rattle.desk_sql_scan.specs.Orders.{meta_order, catalogue_order, rule_order}
-use Rattle.desk_sql_scan.specs.Scans.{IsScan, IsShown, IsRead}
-use Rattle.desk_sql_scan.proofs.Telling.{told}
-use Rattle.desk_sql_scan.proofs.Scanning.{itself, sorted_by, scanned, is_held}
+use Rattle.desk_sql_scan.specs.Scanning.{Lists, Scans}
+use Rattle.desk_sql_scan.specs.Scans.{IsScan}
+use Rattle.desk_sql_scan.specs.declared.source.Source.{Ghosts}
+use Rattle.desk_sql_scan.proofs.Telling.{scan_told}
+use Rattle.desk_sql_scan.proofs.Scanning.{itself, sorted_by, scanned, is_held, all_written}
 use Rattle.desk_sql_scan.proofs.Values.{number_in, text_in}
 use Rattle.desk_sql_scan.proofs.Rising.{numbers_rise, rules_rise}
 
@@ -66,6 +70,13 @@ meta_is : command_of (understood d.desk_schema meta_text) ≡ Select
     (record { lets = []; body = query_on 0 [] meta_columns (order_by (0 ∷ [])) }) meta_names
 unfolding understood everything
 meta_is = refl
+
+meta_suits : Suits meta_text 0 (understood d.desk_schema meta_text)
+unfolding understood everything
+meta_suits = (refl, refl)
+
+meta_asked : IsAsked meta_text []
+meta_asked = asked meta_text [] 0 [] meta_columns (order_by (0 ∷ [])) meta_names (meta_is, meta_known.1) meta_known.0 meta_suits refl
 
 abbrev meta_key : Row → Row
 meta_key cs = column cs 0 ∷ []
@@ -107,15 +118,17 @@ meta_found db shown rows reads are t holds =
       tt,
     ) meta_in meta_back
 
-pub meta_read : (old new : State) (r : Result (List StoredMeta) Fault)
-    → HasAsked old new r → (HasCleanDisk new → IfOk r (λ rows. IsShown meta_text 1 stored_meta_cells rows old new))
-    → IfOk r
-    (λ rows. IsRead (IsScan d.meta_table stored_meta_cells meta_order rows) (λ t. rows ≡ record { version = pos 3 } ∷ []) old new)
-meta_read old new r read shown =
-    told meta_text meta_asks meta_known 1 stored_meta_cells old new r read shown
-    (λ rows. IsScan d.meta_table stored_meta_cells meta_order rows)
-    (λ rows t. rows ≡ record { version = pos 3 } ∷ [])
-    (λ rows db out. meta_scans db out rows) (λ rows db out. meta_found db out rows)
+meta_written : (db : Database) (shown : List Row) → Reads (command_of (understood d.desk_schema meta_text)) db [] shown → (t : Tables) → Holds t db → AreWritten t → AllByRecursion (AreCells stored_meta_cells) shown
+meta_written db shown reads t holds written =
+    let this = d.meta_table in
+    all_written this.name 0 this.columns this.key this.primary this.uniques this.orders meta_text meta_names meta_columns (0 ∷ []) (order_by (0 ∷ [])) refl meta_key 1 meta_is (λ r. refl) (λ r. refl) db shown reads stored_meta_cells (λ x. x) (record { version = pos 3 } ∷ [])
+    (mine this.name 0 this.columns this.key this.primary this.uniques this.orders 0 refl stored_meta_cells (rows_of t) (record { version = pos 3 } ∷ []) refl db holds.rows).same (written.cells 0)
+
+pub meta_read : {S : Type 0} (g : Ghosts S) (old new : S) (r : Result (List StoredMeta) Fault) → Lists g meta_text 1 stored_meta_cells old new r
+    → Scans g old new r (IsScan d.meta_table stored_meta_cells meta_order) (λ rows t. rows ≡ record { version = pos 3 } ∷ [])
+meta_read g old new r it =
+    scan_told meta_text meta_asks meta_asked meta_known 1 stored_meta_cells g old new r it (IsScan d.meta_table stored_meta_cells meta_order) (λ rows t. rows ≡ record { version = pos 3 } ∷ [])
+    (λ rows db out. meta_scans db out rows) (λ rows db out. meta_found db out rows) meta_written
 
 -- ---- catalogue
 
@@ -143,6 +156,13 @@ catalogue_is : command_of (understood d.desk_schema catalogue_text) ≡ Select
     (record { lets = []; body = query_on 1 [] catalogue_columns (order_by (0 ∷ [])) }) catalogue_names
 unfolding understood everything
 catalogue_is = refl
+
+catalogue_suits : Suits catalogue_text 0 (understood d.desk_schema catalogue_text)
+unfolding understood everything
+catalogue_suits = (refl, refl)
+
+catalogue_asked : IsAsked catalogue_text []
+catalogue_asked = asked catalogue_text [] 1 [] catalogue_columns (order_by (0 ∷ [])) catalogue_names (catalogue_is, catalogue_known.1) catalogue_known.0 catalogue_suits refl
 
 abbrev catalogue_key : Row → Row
 catalogue_key cs = column cs 0 ∷ []
@@ -184,15 +204,17 @@ catalogue_found db shown rows reads are t holds =
     holds.rows).same (numbers_rise revision_below (λ row. row.revision) (λ a b. refl) t.catalogue
     holds.orderly.sorted.catalogue) catalogue_in catalogue_back
 
-pub catalogue_read : (old new : State) (r : Result (List StoredCatalogue) Fault)
-    → HasAsked old new r → (HasCleanDisk new → IfOk r (λ rows. IsShown catalogue_text 2 stored_catalogue_cells rows old new))
-    → IfOk r
-    (λ rows. IsRead (IsScan d.catalogue_table stored_catalogue_cells catalogue_order rows) (λ t. rows ≡ map catalogue_stored t.catalogue) old new)
-catalogue_read old new r read shown =
-    told catalogue_text catalogue_asks catalogue_known 2 stored_catalogue_cells old new r read shown
-    (λ rows. IsScan d.catalogue_table stored_catalogue_cells catalogue_order rows)
-    (λ rows t. rows ≡ map catalogue_stored t.catalogue)
-    (λ rows db out. catalogue_scans db out rows) (λ rows db out. catalogue_found db out rows)
+catalogue_written : (db : Database) (shown : List Row) → Reads (command_of (understood d.desk_schema catalogue_text)) db [] shown → (t : Tables) → Holds t db → AreWritten t → AllByRecursion (AreCells stored_catalogue_cells) shown
+catalogue_written db shown reads t holds written =
+    let this = d.catalogue_table in
+    all_written this.name 1 this.columns this.key this.primary this.uniques this.orders catalogue_text catalogue_names catalogue_columns (0 ∷ []) (order_by (0 ∷ [])) refl catalogue_key 2 catalogue_is (λ r. refl) (λ r. refl) db shown reads stored_catalogue_cells catalogue_stored t.catalogue
+    (mine this.name 1 this.columns this.key this.primary this.uniques this.orders 1 refl (λ x. stored_catalogue_cells (catalogue_stored x)) (rows_of t) t.catalogue refl db holds.rows).same (written.cells 1)
+
+pub catalogue_read : {S : Type 0} (g : Ghosts S) (old new : S) (r : Result (List StoredCatalogue) Fault) → Lists g catalogue_text 2 stored_catalogue_cells old new r
+    → Scans g old new r (IsScan d.catalogue_table stored_catalogue_cells catalogue_order) (λ rows t. rows ≡ map catalogue_stored t.catalogue)
+catalogue_read g old new r it =
+    scan_told catalogue_text catalogue_asks catalogue_asked catalogue_known 2 stored_catalogue_cells g old new r it (IsScan d.catalogue_table stored_catalogue_cells catalogue_order) (λ rows t. rows ≡ map catalogue_stored t.catalogue)
+    (λ rows db out. catalogue_scans db out rows) (λ rows db out. catalogue_found db out rows) catalogue_written
 
 -- ---- rule
 
@@ -220,6 +242,13 @@ rule_is : command_of (understood d.desk_schema rule_text) ≡ Select
     (record { lets = []; body = query_on 2 [] rule_columns (sorted_by (1 ∷ 2 ∷ 3 ∷ [])) }) rule_names
 unfolding understood everything
 rule_is = refl
+
+rule_suits : Suits rule_text 0 (understood d.desk_schema rule_text)
+unfolding understood everything
+rule_suits = (refl, refl)
+
+rule_asked : IsAsked rule_text []
+rule_asked = asked rule_text [] 2 [] rule_columns (sorted_by (1 ∷ 2 ∷ 3 ∷ [])) rule_names (rule_is, rule_known.1) rule_known.0 rule_suits refl
 
 abbrev rule_key : Row → Row
 rule_key cs = column cs 0 ∷ column cs 1 ∷ column cs 2 ∷ []
@@ -271,12 +300,14 @@ rule_found db shown rows reads are t holds sorted =
     (λ x. stored_rule_cells (rule_stored x)) (rows_of t) t.rule refl db holds.rows).same (rules_rise t.rule
     sorted.rule) rule_in rule_back
 
-pub rule_read : (old new : State) (r : Result (List StoredRule) Fault)
-    → HasAsked old new r → (HasCleanDisk new → IfOk r (λ rows. IsShown rule_text 5 stored_rule_cells rows old new))
-    → IfOk r
-    (λ rows. IsRead (IsScan d.rule_table stored_rule_cells rule_order rows) (λ t. AreSortedAsListed t → rows ≡ map rule_stored t.rule) old new)
-rule_read old new r read shown =
-    told rule_text rule_asks rule_known 5 stored_rule_cells old new r read shown
-    (λ rows. IsScan d.rule_table stored_rule_cells rule_order rows)
-    (λ rows t. AreSortedAsListed t → rows ≡ map rule_stored t.rule)
-    (λ rows db out. rule_scans db out rows) (λ rows db out. rule_found db out rows)
+rule_written : (db : Database) (shown : List Row) → Reads (command_of (understood d.desk_schema rule_text)) db [] shown → (t : Tables) → Holds t db → AreWritten t → AllByRecursion (AreCells stored_rule_cells) shown
+rule_written db shown reads t holds written =
+    let this = d.rule_table in
+    all_written this.name 2 this.columns this.key this.primary this.uniques this.orders rule_text rule_names rule_columns (1 ∷ 2 ∷ 3 ∷ []) (sorted_by (1 ∷ 2 ∷ 3 ∷ [])) refl rule_key 5 rule_is (λ r. rw (itself (column r 1)) refl) (λ r. refl) db shown reads stored_rule_cells rule_stored t.rule
+    (mine this.name 2 this.columns this.key this.primary this.uniques this.orders 2 refl (λ x. stored_rule_cells (rule_stored x)) (rows_of t) t.rule refl db holds.rows).same (written.cells 2)
+
+pub rule_read : {S : Type 0} (g : Ghosts S) (old new : S) (r : Result (List StoredRule) Fault) → Lists g rule_text 5 stored_rule_cells old new r
+    → Scans g old new r (IsScan d.rule_table stored_rule_cells rule_order) (λ rows t. AreSortedAsListed t → rows ≡ map rule_stored t.rule)
+rule_read g old new r it =
+    scan_told rule_text rule_asks rule_asked rule_known 5 stored_rule_cells g old new r it (IsScan d.rule_table stored_rule_cells rule_order) (λ rows t. AreSortedAsListed t → rows ≡ map rule_stored t.rule)
+    (λ rows db out. rule_scans db out rows) (λ rows db out. rule_found db out rows) rule_written

@@ -1,7 +1,8 @@
 -- Documents, their profiles, packages and extracted licences: what is shown where all of them are asked for.
 use Rattle.desk_sql_layout.specs.Layout as d
-use Rattle.std.proofs.Common.{◌≡◌, ℕ, true, false, List, [], ◌∷◌, map, codes, None, Ok, refl, Result, IfOk}
+use Rattle.std.proofs.Common.{◌≡◌, ℕ, true, false, List, [], ◌∷◌, map, codes, None, Ok, refl, Result}
 use Rattle.std.specs.Prelude.{◌&&◌}
+use Rattle.std.specs.List.{AllByRecursion}
 use Rattle.std.specs.Ordering.{int_cmp, nat_cmp}
 use Rattle.std.specs.Cmp.Lexicographic.{slice_cmp}
 use Rattle.sqlite_value.specs.Order.{Row, column}
@@ -17,7 +18,6 @@ use Rattle.sqlite_tied.specs.Compute.{everything}
 use Rattle.sqlite.specs.Effect.{Database, Reads}
 use Rattle.sqlite.specs.Listing.{understood, reads_listing}
 use Rattle.sqlite.proofs.Callers.{IsPlain, command_of}
-use Rattle.sqlite.specs.State.{State, HasCleanDisk}
 use Rattle.desk_model.specs.declared.command.Fault.{Fault}
 use Rattle.desk_history.specs.Laws.{AreSortedAsListed, document_below}
 use Rattle.desk_sql_layout.specs.Held.{Holds, rows_of}
@@ -33,12 +33,16 @@ use Rattle.desk_sql_adopt.specs.Reading.{Asks}
 use Rattle.desk_sql_adopt.proofs.Asking.{asks}
 use Rattle.desk_sql_lookup.proofs.Selects.{order_by, mine, by_rowid, by_unique}
 use Rattle.desk_sql_lookup.proofs.Ties.{is_key, keys}
-use Rattle.desk_sql_scan.specs.Asked.{HasAsked}
+use Rattle.desk_sql_lookup.specs.Causes.{AreWritten, IsAsked}
+use Rattle.desk_sql_lookup.proofs.Causes.{Suits, asked}
+use Rattle.desk_sql_scan.specs.Causes.{AreCells}
 use Rattle.desk_sql_scan.specs.Cells.{columns_of, stored_document_cells, stored_reading_cells, stored_package_cells, stored_extracted_cells}
 use Rattle.desk_sql_scan.specs.Orders.{document_order, extracted_order}
-use Rattle.desk_sql_scan.specs.Scans.{IsScan, IsShown, IsRead}
-use Rattle.desk_sql_scan.proofs.Telling.{told}
-use Rattle.desk_sql_scan.proofs.Scanning.{itself, sorted_by, scanned, is_held}
+use Rattle.desk_sql_scan.specs.Scanning.{Lists, Scans}
+use Rattle.desk_sql_scan.specs.Scans.{IsScan}
+use Rattle.desk_sql_scan.specs.declared.source.Source.{Ghosts}
+use Rattle.desk_sql_scan.proofs.Telling.{scan_told}
+use Rattle.desk_sql_scan.proofs.Scanning.{itself, sorted_by, scanned, is_held, all_written}
 use Rattle.desk_sql_scan.proofs.Values.{number_in, text_in, bytes_in, text_if_any, as_it_was}
 use Rattle.desk_sql_scan.proofs.Rising.{numbers_rise, extracted_rise, packages_rise}
 
@@ -68,6 +72,13 @@ document_is : command_of (understood d.desk_schema document_text) ≡ Select
     (record { lets = []; body = query_on 4 [] document_columns (order_by (0 ∷ [])) }) document_names
 unfolding understood everything
 document_is = refl
+
+document_suits : Suits document_text 0 (understood d.desk_schema document_text)
+unfolding understood everything
+document_suits = (refl, refl)
+
+document_asked : IsAsked document_text []
+document_asked = asked document_text [] 4 [] document_columns (order_by (0 ∷ [])) document_names (document_is, document_known.1) document_known.0 document_suits refl
 
 abbrev document_key : Row → Row
 document_key cs = column cs 0 ∷ []
@@ -110,15 +121,17 @@ document_found db shown rows reads are t holds =
     holds.rows).same (numbers_rise document_below (λ row. row.number) (λ a b. refl) t.document
     holds.orderly.sorted.document) document_in document_back
 
-pub document_read : (old new : State) (r : Result (List StoredDocument) Fault)
-    → HasAsked old new r → (HasCleanDisk new → IfOk r (λ rows. IsShown document_text 3 stored_document_cells rows old new))
-    → IfOk r
-    (λ rows. IsRead (IsScan d.document_table stored_document_cells document_order rows) (λ t. rows ≡ map document_stored t.document) old new)
-document_read old new r read shown =
-    told document_text document_asks document_known 3 stored_document_cells old new r read shown
-    (λ rows. IsScan d.document_table stored_document_cells document_order rows)
-    (λ rows t. rows ≡ map document_stored t.document)
-    (λ rows db out. document_scans db out rows) (λ rows db out. document_found db out rows)
+document_written : (db : Database) (shown : List Row) → Reads (command_of (understood d.desk_schema document_text)) db [] shown → (t : Tables) → Holds t db → AreWritten t → AllByRecursion (AreCells stored_document_cells) shown
+document_written db shown reads t holds written =
+    let this = d.document_table in
+    all_written this.name 4 this.columns this.key this.primary this.uniques this.orders document_text document_names document_columns (0 ∷ []) (order_by (0 ∷ [])) refl document_key 3 document_is (λ r. refl) (λ r. refl) db shown reads stored_document_cells document_stored t.document
+    (mine this.name 4 this.columns this.key this.primary this.uniques this.orders 3 refl (λ x. stored_document_cells (document_stored x)) (rows_of t) t.document refl db holds.rows).same (written.cells 4)
+
+pub document_read : {S : Type 0} (g : Ghosts S) (old new : S) (r : Result (List StoredDocument) Fault) → Lists g document_text 3 stored_document_cells old new r
+    → Scans g old new r (IsScan d.document_table stored_document_cells document_order) (λ rows t. rows ≡ map document_stored t.document)
+document_read g old new r it =
+    scan_told document_text document_asks document_asked document_known 3 stored_document_cells g old new r it (IsScan d.document_table stored_document_cells document_order) (λ rows t. rows ≡ map document_stored t.document)
+    (λ rows db out. document_scans db out rows) (λ rows db out. document_found db out rows) document_written
 
 -- ---- reading
 
@@ -146,6 +159,13 @@ reading_is : command_of (understood d.desk_schema reading_text) ≡ Select
     (record { lets = []; body = query_on 27 [] reading_columns (order_by (0 ∷ [])) }) reading_names
 unfolding understood everything
 reading_is = refl
+
+reading_suits : Suits reading_text 0 (understood d.desk_schema reading_text)
+unfolding understood everything
+reading_suits = (refl, refl)
+
+reading_asked : IsAsked reading_text []
+reading_asked = asked reading_text [] 27 [] reading_columns (order_by (0 ∷ [])) reading_names (reading_is, reading_known.1) reading_known.0 reading_suits refl
 
 abbrev reading_key : Row → Row
 reading_key cs = column cs 0 ∷ []
@@ -186,15 +206,17 @@ reading_found db shown rows reads are t holds =
     document_below (λ row. row.number) (λ a b. refl) t.document
     holds.orderly.sorted.document) reading_in reading_back
 
-pub reading_read : (old new : State) (r : Result (List StoredReading) Fault)
-    → HasAsked old new r → (HasCleanDisk new → IfOk r (λ rows. IsShown reading_text 2 stored_reading_cells rows old new))
-    → IfOk r
-    (λ rows. IsRead (IsScan d.reading_table stored_reading_cells reading_order rows) (λ t. rows ≡ map reading_stored t.document) old new)
-reading_read old new r read shown =
-    told reading_text reading_asks reading_known 2 stored_reading_cells old new r read shown
-    (λ rows. IsScan d.reading_table stored_reading_cells reading_order rows)
-    (λ rows t. rows ≡ map reading_stored t.document)
-    (λ rows db out. reading_scans db out rows) (λ rows db out. reading_found db out rows)
+reading_written : (db : Database) (shown : List Row) → Reads (command_of (understood d.desk_schema reading_text)) db [] shown → (t : Tables) → Holds t db → AreWritten t → AllByRecursion (AreCells stored_reading_cells) shown
+reading_written db shown reads t holds written =
+    let this = d.reading_table in
+    all_written this.name 27 this.columns this.key this.primary this.uniques this.orders reading_text reading_names reading_columns (0 ∷ []) (order_by (0 ∷ [])) refl reading_key 2 reading_is (λ r. refl) (λ r. refl) db shown reads stored_reading_cells reading_stored t.document
+    (mine this.name 27 this.columns this.key this.primary this.uniques this.orders 14 refl (λ x. stored_reading_cells (reading_stored x)) (rows_of t) t.document refl db holds.rows).same (written.cells 27)
+
+pub reading_read : {S : Type 0} (g : Ghosts S) (old new : S) (r : Result (List StoredReading) Fault) → Lists g reading_text 2 stored_reading_cells old new r
+    → Scans g old new r (IsScan d.reading_table stored_reading_cells reading_order) (λ rows t. rows ≡ map reading_stored t.document)
+reading_read g old new r it =
+    scan_told reading_text reading_asks reading_asked reading_known 2 stored_reading_cells g old new r it (IsScan d.reading_table stored_reading_cells reading_order) (λ rows t. rows ≡ map reading_stored t.document)
+    (λ rows db out. reading_scans db out rows) (λ rows db out. reading_found db out rows) reading_written
 
 -- ---- package
 
@@ -222,6 +244,13 @@ package_is : command_of (understood d.desk_schema package_text) ≡ Select
     (record { lets = []; body = query_on 6 [] package_columns (sorted_by (1 ∷ 2 ∷ [])) }) package_names
 unfolding understood everything
 package_is = refl
+
+package_suits : Suits package_text 0 (understood d.desk_schema package_text)
+unfolding understood everything
+package_suits = (refl, refl)
+
+package_asked : IsAsked package_text []
+package_asked = asked package_text [] 6 [] package_columns (sorted_by (1 ∷ 2 ∷ [])) package_names (package_is, package_known.1) package_known.0 package_suits refl
 
 abbrev package_key : Row → Row
 package_key cs = column cs 0 ∷ column cs 1 ∷ []
@@ -282,15 +311,17 @@ package_found db shown rows reads are t holds =
     (λ x. stored_package_cells (package_stored x)) (rows_of t) t.packages refl db
     holds.rows).same (packages_rise t.packages holds.orderly.packages) package_in package_back
 
-pub package_read : (old new : State) (r : Result (List StoredPackage) Fault)
-    → HasAsked old new r → (HasCleanDisk new → IfOk r (λ rows. IsShown package_text 7 stored_package_cells rows old new))
-    → IfOk r
-    (λ rows. IsRead (IsScan d.package_table stored_package_cells package_order rows) (λ t. rows ≡ map package_stored t.packages) old new)
-package_read old new r read shown =
-    told package_text package_asks package_known 7 stored_package_cells old new r read shown
-    (λ rows. IsScan d.package_table stored_package_cells package_order rows)
-    (λ rows t. rows ≡ map package_stored t.packages)
-    (λ rows db out. package_scans db out rows) (λ rows db out. package_found db out rows)
+package_written : (db : Database) (shown : List Row) → Reads (command_of (understood d.desk_schema package_text)) db [] shown → (t : Tables) → Holds t db → AreWritten t → AllByRecursion (AreCells stored_package_cells) shown
+package_written db shown reads t holds written =
+    let this = d.package_table in
+    all_written this.name 6 this.columns this.key this.primary this.uniques this.orders package_text package_names package_columns (1 ∷ 2 ∷ []) (sorted_by (1 ∷ 2 ∷ [])) refl package_key 7 package_is (λ r. rw (itself (column r 1)) refl) (λ r. refl) db shown reads stored_package_cells package_stored t.packages
+    (mine this.name 6 this.columns this.key this.primary this.uniques this.orders 4 refl (λ x. stored_package_cells (package_stored x)) (rows_of t) t.packages refl db holds.rows).same (written.cells 6)
+
+pub package_read : {S : Type 0} (g : Ghosts S) (old new : S) (r : Result (List StoredPackage) Fault) → Lists g package_text 7 stored_package_cells old new r
+    → Scans g old new r (IsScan d.package_table stored_package_cells package_order) (λ rows t. rows ≡ map package_stored t.packages)
+package_read g old new r it =
+    scan_told package_text package_asks package_asked package_known 7 stored_package_cells g old new r it (IsScan d.package_table stored_package_cells package_order) (λ rows t. rows ≡ map package_stored t.packages)
+    (λ rows db out. package_scans db out rows) (λ rows db out. package_found db out rows) package_written
 
 -- ---- extracted
 
@@ -318,6 +349,13 @@ extracted_is : command_of (understood d.desk_schema extracted_text) ≡ Select
     (record { lets = []; body = query_on 8 [] extracted_columns (sorted_by (1 ∷ 2 ∷ [])) }) extracted_names
 unfolding understood everything
 extracted_is = refl
+
+extracted_suits : Suits extracted_text 0 (understood d.desk_schema extracted_text)
+unfolding understood everything
+extracted_suits = (refl, refl)
+
+extracted_asked : IsAsked extracted_text []
+extracted_asked = asked extracted_text [] 8 [] extracted_columns (sorted_by (1 ∷ 2 ∷ [])) extracted_names (extracted_is, extracted_known.1) extracted_known.0 extracted_suits refl
 
 abbrev extracted_key : Row → Row
 extracted_key cs = column cs 0 ∷ column cs 1 ∷ []
@@ -365,12 +403,14 @@ extracted_found db shown rows reads are t holds sorted =
     (λ x. stored_extracted_cells (extracted_stored x)) (rows_of t) t.extracted refl db
     holds.rows).same (extracted_rise t.extracted sorted.extracted) extracted_in extracted_back
 
-pub extracted_read : (old new : State) (r : Result (List StoredExtracted) Fault)
-    → HasAsked old new r → (HasCleanDisk new → IfOk r (λ rows. IsShown extracted_text 3 stored_extracted_cells rows old new))
-    → IfOk r
-    (λ rows. IsRead (IsScan d.extracted_table stored_extracted_cells extracted_order rows) (λ t. AreSortedAsListed t → rows ≡ map extracted_stored t.extracted) old new)
-extracted_read old new r read shown =
-    told extracted_text extracted_asks extracted_known 3 stored_extracted_cells old new r read shown
-    (λ rows. IsScan d.extracted_table stored_extracted_cells extracted_order rows)
-    (λ rows t. AreSortedAsListed t → rows ≡ map extracted_stored t.extracted)
-    (λ rows db out. extracted_scans db out rows) (λ rows db out. extracted_found db out rows)
+extracted_written : (db : Database) (shown : List Row) → Reads (command_of (understood d.desk_schema extracted_text)) db [] shown → (t : Tables) → Holds t db → AreWritten t → AllByRecursion (AreCells stored_extracted_cells) shown
+extracted_written db shown reads t holds written =
+    let this = d.extracted_table in
+    all_written this.name 8 this.columns this.key this.primary this.uniques this.orders extracted_text extracted_names extracted_columns (1 ∷ 2 ∷ []) (sorted_by (1 ∷ 2 ∷ [])) refl extracted_key 3 extracted_is (λ r. rw (itself (column r 1)) refl) (λ r. refl) db shown reads stored_extracted_cells extracted_stored t.extracted
+    (mine this.name 8 this.columns this.key this.primary this.uniques this.orders 5 refl (λ x. stored_extracted_cells (extracted_stored x)) (rows_of t) t.extracted refl db holds.rows).same (written.cells 8)
+
+pub extracted_read : {S : Type 0} (g : Ghosts S) (old new : S) (r : Result (List StoredExtracted) Fault) → Lists g extracted_text 3 stored_extracted_cells old new r
+    → Scans g old new r (IsScan d.extracted_table stored_extracted_cells extracted_order) (λ rows t. AreSortedAsListed t → rows ≡ map extracted_stored t.extracted)
+extracted_read g old new r it =
+    scan_told extracted_text extracted_asks extracted_asked extracted_known 3 stored_extracted_cells g old new r it (IsScan d.extracted_table stored_extracted_cells extracted_order) (λ rows t. AreSortedAsListed t → rows ≡ map extracted_stored t.extracted)
+    (λ rows db out. extracted_scans db out rows) (λ rows db out. extracted_found db out rows) extracted_written

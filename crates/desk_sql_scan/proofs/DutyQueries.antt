@@ -1,7 +1,8 @@
 -- Duties, their changes, and the last days of waivers: what is shown where all of them are asked for.
 use Rattle.desk_sql_layout.specs.Layout as d
-use Rattle.std.proofs.Common.{◌≡◌, ℕ, true, false, List, [], ◌∷◌, map, filter, codes, None, Ok, refl, Result, IfOk}
+use Rattle.std.proofs.Common.{◌≡◌, ℕ, true, false, List, [], ◌∷◌, map, filter, codes, None, Ok, refl, Result, subst}
 use Rattle.std.specs.Prelude.{◌&&◌}
+use Rattle.std.specs.List.{AllByRecursion}
 use Rattle.std.specs.Ordering.{int_cmp}
 use Rattle.sqlite_value.specs.Order.{Row, column}
 use Rattle.sqlite_value.specs.declared.value.Value.TheVariants.{Int}
@@ -17,7 +18,6 @@ use Rattle.sqlite_tied.specs.Compute.{everything}
 use Rattle.sqlite.specs.Effect.{Database, Reads}
 use Rattle.sqlite.specs.Listing.{understood, reads_listing}
 use Rattle.sqlite.proofs.Callers.{IsPlain, command_of}
-use Rattle.sqlite.specs.State.{State, HasCleanDisk}
 use Rattle.desk_model.specs.declared.command.Fault.{Fault}
 use Rattle.desk_history.specs.Laws.{duty_below}
 use Rattle.desk_sql_layout.specs.Held.{Holds, rows_of}
@@ -32,12 +32,16 @@ use Rattle.desk_sql_adopt.specs.Reading.{Asks}
 use Rattle.desk_sql_adopt.proofs.Asking.{asks}
 use Rattle.desk_sql_lookup.proofs.Selects.{order_by, mine, by_rowid, by_unique}
 use Rattle.desk_sql_lookup.proofs.Ties.{is_key, keys}
-use Rattle.desk_sql_scan.specs.Asked.{HasAsked}
+use Rattle.desk_sql_lookup.specs.Causes.{AreWritten, IsAsked, IsRow}
+use Rattle.desk_sql_lookup.proofs.Causes.{Suits, asked}
+use Rattle.desk_sql_scan.specs.Causes.{AreCells}
 use Rattle.desk_sql_scan.specs.Cells.{columns_of, stored_duty_cells, stored_change_cells, stored_waiver_cells}
 use Rattle.desk_sql_scan.specs.Orders.{duty_order}
-use Rattle.desk_sql_scan.specs.Scans.{IsScan, IsShown, IsRead}
-use Rattle.desk_sql_scan.proofs.Telling.{told}
-use Rattle.desk_sql_scan.proofs.Scanning.{itself, sorted_by, scanned, is_held}
+use Rattle.desk_sql_scan.specs.Scanning.{Lists, Scans}
+use Rattle.desk_sql_scan.specs.Scans.{IsScan}
+use Rattle.desk_sql_scan.specs.declared.source.Source.{Ghosts}
+use Rattle.desk_sql_scan.proofs.Telling.{scan_told}
+use Rattle.desk_sql_scan.proofs.Scanning.{itself, sorted_by, scanned, is_held, all_written}
 use Rattle.desk_sql_scan.proofs.Values.{number_in, text_in}
 use Rattle.desk_sql_scan.proofs.Rising.{numbers_rise, changes_rise}
 use Rattle.desk_sql_scan.proofs.Waivers.{waivers_are}
@@ -68,6 +72,13 @@ duty_is : command_of (understood d.desk_schema duty_text) ≡ Select
     (record { lets = []; body = query_on 23 [] duty_columns (order_by (0 ∷ [])) }) duty_names
 unfolding understood everything
 duty_is = refl
+
+duty_suits : Suits duty_text 0 (understood d.desk_schema duty_text)
+unfolding understood everything
+duty_suits = (refl, refl)
+
+duty_asked : IsAsked duty_text []
+duty_asked = asked duty_text [] 23 [] duty_columns (order_by (0 ∷ [])) duty_names (duty_is, duty_known.1) duty_known.0 duty_suits refl
 
 abbrev duty_key : Row → Row
 duty_key cs = column cs 0 ∷ []
@@ -116,14 +127,17 @@ duty_found db shown rows reads are t holds =
     (λ x. stored_duty_cells (duty_stored x)) (rows_of t) t.duty refl db holds.rows).same (numbers_rise
     duty_below (λ row. row.number) (λ a b. refl) t.duty holds.orderly.sorted.duty) duty_in duty_back
 
-pub duty_read : (old new : State) (r : Result (List StoredDuty) Fault)
-    → HasAsked old new r → (HasCleanDisk new → IfOk r (λ rows. IsShown duty_text 8 stored_duty_cells rows old new))
-    → IfOk r
-    (λ rows. IsRead (IsScan d.duty_table stored_duty_cells duty_order rows) (λ t. rows ≡ map duty_stored t.duty) old new)
-duty_read old new r read shown =
-    told duty_text duty_asks duty_known 8 stored_duty_cells old new r read shown
-    (λ rows. IsScan d.duty_table stored_duty_cells duty_order rows) (λ rows t. rows ≡ map duty_stored t.duty)
-    (λ rows db out. duty_scans db out rows) (λ rows db out. duty_found db out rows)
+duty_written : (db : Database) (shown : List Row) → Reads (command_of (understood d.desk_schema duty_text)) db [] shown → (t : Tables) → Holds t db → AreWritten t → AllByRecursion (AreCells stored_duty_cells) shown
+duty_written db shown reads t holds written =
+    let this = d.duty_table in
+    all_written this.name 23 this.columns this.key this.primary this.uniques this.orders duty_text duty_names duty_columns (0 ∷ []) (order_by (0 ∷ [])) refl duty_key 8 duty_is (λ r. refl) (λ r. refl) db shown reads stored_duty_cells duty_stored t.duty
+    (mine this.name 23 this.columns this.key this.primary this.uniques this.orders 12 refl (λ x. stored_duty_cells (duty_stored x)) (rows_of t) t.duty refl db holds.rows).same (written.cells 23)
+
+pub duty_read : {S : Type 0} (g : Ghosts S) (old new : S) (r : Result (List StoredDuty) Fault) → Lists g duty_text 8 stored_duty_cells old new r
+    → Scans g old new r (IsScan d.duty_table stored_duty_cells duty_order) (λ rows t. rows ≡ map duty_stored t.duty)
+duty_read g old new r it =
+    scan_told duty_text duty_asks duty_asked duty_known 8 stored_duty_cells g old new r it (IsScan d.duty_table stored_duty_cells duty_order) (λ rows t. rows ≡ map duty_stored t.duty)
+    (λ rows db out. duty_scans db out rows) (λ rows db out. duty_found db out rows) duty_written
 
 -- ---- change
 
@@ -151,6 +165,13 @@ change_is : command_of (understood d.desk_schema change_text) ≡ Select
     (record { lets = []; body = query_on 25 [] change_columns (sorted_by (1 ∷ 2 ∷ [])) }) change_names
 unfolding understood everything
 change_is = refl
+
+change_suits : Suits change_text 0 (understood d.desk_schema change_text)
+unfolding understood everything
+change_suits = (refl, refl)
+
+change_asked : IsAsked change_text []
+change_asked = asked change_text [] 25 [] change_columns (sorted_by (1 ∷ 2 ∷ [])) change_names (change_is, change_known.1) change_known.0 change_suits refl
 
 abbrev change_key : Row → Row
 change_key cs = column cs 0 ∷ column cs 1 ∷ []
@@ -200,15 +221,17 @@ change_found db shown rows reads are t holds =
     (λ x. stored_change_cells (change_stored x)) (rows_of t) t.changes refl db holds.rows).same (changes_rise
     t.changes holds.orderly.sorted.changes) change_in change_back
 
-pub change_read : (old new : State) (r : Result (List StoredChange) Fault)
-    → HasAsked old new r → (HasCleanDisk new → IfOk r (λ rows. IsShown change_text 5 stored_change_cells rows old new))
-    → IfOk r
-    (λ rows. IsRead (IsScan d.change_table stored_change_cells change_order rows) (λ t. rows ≡ map change_stored t.changes) old new)
-change_read old new r read shown =
-    told change_text change_asks change_known 5 stored_change_cells old new r read shown
-    (λ rows. IsScan d.change_table stored_change_cells change_order rows)
-    (λ rows t. rows ≡ map change_stored t.changes)
-    (λ rows db out. change_scans db out rows) (λ rows db out. change_found db out rows)
+change_written : (db : Database) (shown : List Row) → Reads (command_of (understood d.desk_schema change_text)) db [] shown → (t : Tables) → Holds t db → AreWritten t → AllByRecursion (AreCells stored_change_cells) shown
+change_written db shown reads t holds written =
+    let this = d.change_table in
+    all_written this.name 25 this.columns this.key this.primary this.uniques this.orders change_text change_names change_columns (1 ∷ 2 ∷ []) (sorted_by (1 ∷ 2 ∷ [])) refl change_key 5 change_is (λ r. rw (itself (column r 1)) refl) (λ r. refl) db shown reads stored_change_cells change_stored t.changes
+    (mine this.name 25 this.columns this.key this.primary this.uniques this.orders 13 refl (λ x. stored_change_cells (change_stored x)) (rows_of t) t.changes refl db holds.rows).same (written.cells 25)
+
+pub change_read : {S : Type 0} (g : Ghosts S) (old new : S) (r : Result (List StoredChange) Fault) → Lists g change_text 5 stored_change_cells old new r
+    → Scans g old new r (IsScan d.change_table stored_change_cells change_order) (λ rows t. rows ≡ map change_stored t.changes)
+change_read g old new r it =
+    scan_told change_text change_asks change_asked change_known 5 stored_change_cells g old new r it (IsScan d.change_table stored_change_cells change_order) (λ rows t. rows ≡ map change_stored t.changes)
+    (λ rows db out. change_scans db out rows) (λ rows db out. change_found db out rows) change_written
 
 -- ---- waiver
 
@@ -236,6 +259,13 @@ waiver_is : command_of (understood d.desk_schema waiver_text) ≡ Select
     (record { lets = []; body = query_on 28 [] waiver_columns (sorted_by (1 ∷ 2 ∷ [])) }) waiver_names
 unfolding understood everything
 waiver_is = refl
+
+waiver_suits : Suits waiver_text 0 (understood d.desk_schema waiver_text)
+unfolding understood everything
+waiver_suits = (refl, refl)
+
+waiver_asked : IsAsked waiver_text []
+waiver_asked = asked waiver_text [] 28 [] waiver_columns (sorted_by (1 ∷ 2 ∷ [])) waiver_names (waiver_is, waiver_known.1) waiver_known.0 waiver_suits refl
 
 abbrev waiver_key : Row → Row
 waiver_key cs = column cs 0 ∷ column cs 1 ∷ []
@@ -281,12 +311,14 @@ waiver_found db shown rows reads are t holds =
     (waivers_are t.changes) db holds.rows).same (ascending-filter _ is_waiver t.changes
     (changes_rise t.changes holds.orderly.sorted.changes)) waiver_in waiver_back
 
-pub waiver_read : (old new : State) (r : Result (List StoredWaiver) Fault)
-    → HasAsked old new r → (HasCleanDisk new → IfOk r (λ rows. IsShown waiver_text 3 stored_waiver_cells rows old new))
-    → IfOk r
-    (λ rows. IsRead (IsScan d.waiver_table stored_waiver_cells waiver_order rows) (λ t. rows ≡ map waiver_stored (filter is_waiver t.changes)) old new)
-waiver_read old new r read shown =
-    told waiver_text waiver_asks waiver_known 3 stored_waiver_cells old new r read shown
-    (λ rows. IsScan d.waiver_table stored_waiver_cells waiver_order rows)
-    (λ rows t. rows ≡ map waiver_stored (filter is_waiver t.changes))
-    (λ rows db out. waiver_scans db out rows) (λ rows db out. waiver_found db out rows)
+waiver_written : (db : Database) (shown : List Row) → Reads (command_of (understood d.desk_schema waiver_text)) db [] shown → (t : Tables) → Holds t db → AreWritten t → AllByRecursion (AreCells stored_waiver_cells) shown
+waiver_written db shown reads t holds written =
+    let this = d.waiver_table in
+    all_written this.name 28 this.columns this.key this.primary this.uniques this.orders waiver_text waiver_names waiver_columns (1 ∷ 2 ∷ []) (sorted_by (1 ∷ 2 ∷ [])) refl waiver_key 3 waiver_is (λ r. rw (itself (column r 1)) refl) (λ r. refl) db shown reads stored_waiver_cells waiver_stored (filter is_waiver t.changes)
+    (mine this.name 28 this.columns this.key this.primary this.uniques this.orders 15 refl (λ x. stored_waiver_cells (waiver_stored x)) (rows_of t) (filter is_waiver t.changes) (waivers_are t.changes) db holds.rows).same (subst (AllByRecursion IsRow) (waivers_are t.changes) (written.cells 28))
+
+pub waiver_read : {S : Type 0} (g : Ghosts S) (old new : S) (r : Result (List StoredWaiver) Fault) → Lists g waiver_text 3 stored_waiver_cells old new r
+    → Scans g old new r (IsScan d.waiver_table stored_waiver_cells waiver_order) (λ rows t. rows ≡ map waiver_stored (filter is_waiver t.changes))
+waiver_read g old new r it =
+    scan_told waiver_text waiver_asks waiver_asked waiver_known 3 stored_waiver_cells g old new r it (IsScan d.waiver_table stored_waiver_cells waiver_order) (λ rows t. rows ≡ map waiver_stored (filter is_waiver t.changes))
+    (λ rows db out. waiver_scans db out rows) (λ rows db out. waiver_found db out rows) waiver_written

@@ -11,3 +11,5 @@ mod OfficeQueries
 mod ReleaseQueries
 mod DutyQueries
 mod Joining
+mod Causes
+mod Chains

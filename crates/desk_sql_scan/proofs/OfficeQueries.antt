@@ -1,7 +1,8 @@
 -- Conclusions and adoptions of the office: what is shown where all of them are asked for.
 use Rattle.desk_sql_layout.specs.Layout as d
-use Rattle.std.proofs.Common.{◌≡◌, ℕ, true, false, List, [], ◌∷◌, map, codes, None, Ok, refl, Result, IfOk}
+use Rattle.std.proofs.Common.{◌≡◌, ℕ, true, false, List, [], ◌∷◌, map, codes, None, Ok, refl, Result}
 use Rattle.std.specs.Prelude.{◌&&◌}
+use Rattle.std.specs.List.{AllByRecursion}
 use Rattle.std.specs.Ordering.{nat_cmp}
 use Rattle.std.specs.Cmp.Lexicographic.{slice_cmp}
 use Rattle.sqlite_value.specs.Order.{Row, column}
@@ -17,7 +18,6 @@ use Rattle.sqlite_tied.specs.Compute.{everything}
 use Rattle.sqlite.specs.Effect.{Database, Reads}
 use Rattle.sqlite.specs.Listing.{understood, reads_listing}
 use Rattle.sqlite.proofs.Callers.{IsPlain, command_of}
-use Rattle.sqlite.specs.State.{State, HasCleanDisk}
 use Rattle.desk_model.specs.declared.command.Fault.{Fault}
 use Rattle.desk_sql_layout.specs.Held.{Holds, rows_of}
 use Rattle.desk_sql_layout.proofs.Queries.{query_on}
@@ -30,12 +30,16 @@ use Rattle.desk_sql_adopt.specs.Reading.{Asks}
 use Rattle.desk_sql_adopt.proofs.Asking.{asks}
 use Rattle.desk_sql_lookup.proofs.Selects.{mine, by_unique}
 use Rattle.desk_sql_lookup.proofs.Ties.{is_key, keys}
-use Rattle.desk_sql_scan.specs.Asked.{HasAsked}
+use Rattle.desk_sql_lookup.specs.Causes.{AreWritten, IsAsked}
+use Rattle.desk_sql_lookup.proofs.Causes.{Suits, asked}
+use Rattle.desk_sql_scan.specs.Causes.{AreCells}
 use Rattle.desk_sql_scan.specs.Cells.{columns_of, stored_conclusion_cells, stored_adoption_cells}
 use Rattle.desk_sql_scan.specs.Orders.{adoption_order}
-use Rattle.desk_sql_scan.specs.Scans.{IsScan, IsShown, IsRead}
-use Rattle.desk_sql_scan.proofs.Telling.{told}
-use Rattle.desk_sql_scan.proofs.Scanning.{itself, sorted_by, scanned, is_held}
+use Rattle.desk_sql_scan.specs.Scanning.{Lists, Scans}
+use Rattle.desk_sql_scan.specs.Scans.{IsScan}
+use Rattle.desk_sql_scan.specs.declared.source.Source.{Ghosts}
+use Rattle.desk_sql_scan.proofs.Telling.{scan_told}
+use Rattle.desk_sql_scan.proofs.Scanning.{itself, sorted_by, scanned, is_held, all_written}
 use Rattle.desk_sql_scan.proofs.Values.{number_in, text_in}
 use Rattle.desk_sql_scan.proofs.Rising.{conclusions_rise, adoptions_rise}
 
@@ -66,6 +70,13 @@ conclusion_is : command_of (understood d.desk_schema conclusion_text) ≡ Select
     (record { lets = []; body = query_on 10 [] conclusion_columns (sorted_by (1 ∷ 2 ∷ [])) }) conclusion_names
 unfolding understood everything
 conclusion_is = refl
+
+conclusion_suits : Suits conclusion_text 0 (understood d.desk_schema conclusion_text)
+unfolding understood everything
+conclusion_suits = (refl, refl)
+
+conclusion_asked : IsAsked conclusion_text []
+conclusion_asked = asked conclusion_text [] 10 [] conclusion_columns (sorted_by (1 ∷ 2 ∷ [])) conclusion_names (conclusion_is, conclusion_known.1) conclusion_known.0 conclusion_suits refl
 
 abbrev conclusion_key : Row → Row
 conclusion_key cs = column cs 0 ∷ column cs 1 ∷ []
@@ -114,15 +125,17 @@ conclusion_found db shown rows reads are t holds =
     holds.rows).same (conclusions_rise t.conclusion
     holds.orderly.sorted.conclusion) conclusion_in conclusion_back
 
-pub conclusion_read : (old new : State) (r : Result (List StoredConclusion) Fault)
-    → HasAsked old new r → (HasCleanDisk new → IfOk r (λ rows. IsShown conclusion_text 3 stored_conclusion_cells rows old new))
-    → IfOk r
-    (λ rows. IsRead (IsScan d.conclusion_table stored_conclusion_cells conclusion_order rows) (λ t. rows ≡ map conclusion_stored t.conclusion) old new)
-conclusion_read old new r read shown =
-    told conclusion_text conclusion_asks conclusion_known 3 stored_conclusion_cells old new r read shown
-    (λ rows. IsScan d.conclusion_table stored_conclusion_cells conclusion_order rows)
-    (λ rows t. rows ≡ map conclusion_stored t.conclusion)
-    (λ rows db out. conclusion_scans db out rows) (λ rows db out. conclusion_found db out rows)
+conclusion_written : (db : Database) (shown : List Row) → Reads (command_of (understood d.desk_schema conclusion_text)) db [] shown → (t : Tables) → Holds t db → AreWritten t → AllByRecursion (AreCells stored_conclusion_cells) shown
+conclusion_written db shown reads t holds written =
+    let this = d.conclusion_table in
+    all_written this.name 10 this.columns this.key this.primary this.uniques this.orders conclusion_text conclusion_names conclusion_columns (1 ∷ 2 ∷ []) (sorted_by (1 ∷ 2 ∷ [])) refl conclusion_key 3 conclusion_is (λ r. rw (itself (column r 1)) refl) (λ r. refl) db shown reads stored_conclusion_cells conclusion_stored t.conclusion
+    (mine this.name 10 this.columns this.key this.primary this.uniques this.orders 6 refl (λ x. stored_conclusion_cells (conclusion_stored x)) (rows_of t) t.conclusion refl db holds.rows).same (written.cells 10)
+
+pub conclusion_read : {S : Type 0} (g : Ghosts S) (old new : S) (r : Result (List StoredConclusion) Fault) → Lists g conclusion_text 3 stored_conclusion_cells old new r
+    → Scans g old new r (IsScan d.conclusion_table stored_conclusion_cells conclusion_order) (λ rows t. rows ≡ map conclusion_stored t.conclusion)
+conclusion_read g old new r it =
+    scan_told conclusion_text conclusion_asks conclusion_asked conclusion_known 3 stored_conclusion_cells g old new r it (IsScan d.conclusion_table stored_conclusion_cells conclusion_order) (λ rows t. rows ≡ map conclusion_stored t.conclusion)
+    (λ rows db out. conclusion_scans db out rows) (λ rows db out. conclusion_found db out rows) conclusion_written
 
 -- ---- adoption
 
@@ -150,6 +163,13 @@ adoption_is : command_of (understood d.desk_schema adoption_text) ≡ Select
     (record { lets = []; body = query_on 12 [] adoption_columns (sorted_by (1 ∷ 2 ∷ [])) }) adoption_names
 unfolding understood everything
 adoption_is = refl
+
+adoption_suits : Suits adoption_text 0 (understood d.desk_schema adoption_text)
+unfolding understood everything
+adoption_suits = (refl, refl)
+
+adoption_asked : IsAsked adoption_text []
+adoption_asked = asked adoption_text [] 12 [] adoption_columns (sorted_by (1 ∷ 2 ∷ [])) adoption_names (adoption_is, adoption_known.1) adoption_known.0 adoption_suits refl
 
 abbrev adoption_key : Row → Row
 adoption_key cs = column cs 0 ∷ column cs 1 ∷ []
@@ -197,12 +217,14 @@ adoption_found db shown rows reads are t holds =
     (λ x. stored_adoption_cells (adoption_stored x)) (rows_of t) t.adoption refl db
     holds.rows).same (adoptions_rise t.adoption holds.orderly.sorted.adoption) adoption_in adoption_back
 
-pub adoption_read : (old new : State) (r : Result (List StoredAdoption) Fault)
-    → HasAsked old new r → (HasCleanDisk new → IfOk r (λ rows. IsShown adoption_text 3 stored_adoption_cells rows old new))
-    → IfOk r
-    (λ rows. IsRead (IsScan d.adoption_table stored_adoption_cells adoption_order rows) (λ t. rows ≡ map adoption_stored t.adoption) old new)
-adoption_read old new r read shown =
-    told adoption_text adoption_asks adoption_known 3 stored_adoption_cells old new r read shown
-    (λ rows. IsScan d.adoption_table stored_adoption_cells adoption_order rows)
-    (λ rows t. rows ≡ map adoption_stored t.adoption)
-    (λ rows db out. adoption_scans db out rows) (λ rows db out. adoption_found db out rows)
+adoption_written : (db : Database) (shown : List Row) → Reads (command_of (understood d.desk_schema adoption_text)) db [] shown → (t : Tables) → Holds t db → AreWritten t → AllByRecursion (AreCells stored_adoption_cells) shown
+adoption_written db shown reads t holds written =
+    let this = d.adoption_table in
+    all_written this.name 12 this.columns this.key this.primary this.uniques this.orders adoption_text adoption_names adoption_columns (1 ∷ 2 ∷ []) (sorted_by (1 ∷ 2 ∷ [])) refl adoption_key 3 adoption_is (λ r. rw (itself (column r 1)) refl) (λ r. refl) db shown reads stored_adoption_cells adoption_stored t.adoption
+    (mine this.name 12 this.columns this.key this.primary this.uniques this.orders 7 refl (λ x. stored_adoption_cells (adoption_stored x)) (rows_of t) t.adoption refl db holds.rows).same (written.cells 12)
+
+pub adoption_read : {S : Type 0} (g : Ghosts S) (old new : S) (r : Result (List StoredAdoption) Fault) → Lists g adoption_text 3 stored_adoption_cells old new r
+    → Scans g old new r (IsScan d.adoption_table stored_adoption_cells adoption_order) (λ rows t. rows ≡ map adoption_stored t.adoption)
+adoption_read g old new r it =
+    scan_told adoption_text adoption_asks adoption_asked adoption_known 3 stored_adoption_cells g old new r it (IsScan d.adoption_table stored_adoption_cells adoption_order) (λ rows t. rows ≡ map adoption_stored t.adoption)
+    (λ rows db out. adoption_scans db out rows) (λ rows db out. adoption_found db out rows) adoption_written

@@ -1,7 +1,8 @@
 -- Releases, attached documents, and chosen and frozen terms: what is shown where all of them are asked for.
 use Rattle.desk_sql_layout.specs.Layout as d
-use Rattle.std.proofs.Common.{◌≡◌, ℕ, true, false, List, [], ◌∷◌, map, codes, None, Ok, refl, Result, IfOk}
+use Rattle.std.proofs.Common.{◌≡◌, ℕ, true, false, List, [], ◌∷◌, map, codes, None, Ok, refl, Result}
 use Rattle.std.specs.Prelude.{◌&&◌}
+use Rattle.std.specs.List.{AllByRecursion}
 use Rattle.std.specs.Ordering.{int_cmp, nat_cmp}
 use Rattle.std.specs.Cmp.Lexicographic.{slice_cmp}
 use Rattle.sqlite_value.specs.Order.{Row, column}
@@ -17,7 +18,6 @@ use Rattle.sqlite_tied.specs.Compute.{everything}
 use Rattle.sqlite.specs.Effect.{Database, Reads}
 use Rattle.sqlite.specs.Listing.{understood, reads_listing}
 use Rattle.sqlite.proofs.Callers.{IsPlain, command_of}
-use Rattle.sqlite.specs.State.{State, HasCleanDisk}
 use Rattle.desk_model.specs.declared.command.Fault.{Fault}
 use Rattle.desk_sql_layout.specs.Held.{Holds, rows_of}
 use Rattle.desk_sql_layout.proofs.Queries.{query_on}
@@ -32,11 +32,15 @@ use Rattle.desk_sql_adopt.specs.Reading.{Asks}
 use Rattle.desk_sql_adopt.proofs.Asking.{asks}
 use Rattle.desk_sql_lookup.proofs.Selects.{mine, by_unique}
 use Rattle.desk_sql_lookup.proofs.Ties.{is_key, keys}
-use Rattle.desk_sql_scan.specs.Asked.{HasAsked}
+use Rattle.desk_sql_lookup.specs.Causes.{AreWritten, IsAsked}
+use Rattle.desk_sql_lookup.proofs.Causes.{Suits, asked}
+use Rattle.desk_sql_scan.specs.Causes.{AreCells}
 use Rattle.desk_sql_scan.specs.Cells.{columns_of, stored_release_cells, stored_attached_cells, stored_choice_cells, stored_frozen_cells}
-use Rattle.desk_sql_scan.specs.Scans.{IsScan, IsShown, IsRead}
-use Rattle.desk_sql_scan.proofs.Telling.{told}
-use Rattle.desk_sql_scan.proofs.Scanning.{itself, sorted_by, scanned, is_held}
+use Rattle.desk_sql_scan.specs.Scanning.{Lists, Scans}
+use Rattle.desk_sql_scan.specs.Scans.{IsScan}
+use Rattle.desk_sql_scan.specs.declared.source.Source.{Ghosts}
+use Rattle.desk_sql_scan.proofs.Telling.{scan_told}
+use Rattle.desk_sql_scan.proofs.Scanning.{itself, sorted_by, scanned, is_held, all_written}
 use Rattle.desk_sql_scan.proofs.Values.{number_in, text_in}
 use Rattle.desk_sql_scan.proofs.Rising.{releases_rise, attached_rise, choices_rise, frozen_rise}
 
@@ -66,6 +70,13 @@ release_is : command_of (understood d.desk_schema release_text) ≡ Select
     (record { lets = []; body = query_on 14 [] release_columns (sorted_by (1 ∷ [])) }) release_names
 unfolding understood everything
 release_is = refl
+
+release_suits : Suits release_text 0 (understood d.desk_schema release_text)
+unfolding understood everything
+release_suits = (refl, refl)
+
+release_asked : IsAsked release_text []
+release_asked = asked release_text [] 14 [] release_columns (sorted_by (1 ∷ [])) release_names (release_is, release_known.1) release_known.0 release_suits refl
 
 abbrev release_key : Row → Row
 release_key cs = column cs 0 ∷ []
@@ -113,15 +124,17 @@ release_found db shown rows reads are t holds =
     (λ x. stored_release_cells (release_stored x)) (rows_of t) t.releases refl db
     holds.rows).same (releases_rise t.releases holds.orderly.sorted.releases) release_in release_back
 
-pub release_read : (old new : State) (r : Result (List StoredRelease) Fault)
-    → HasAsked old new r → (HasCleanDisk new → IfOk r (λ rows. IsShown release_text 5 stored_release_cells rows old new))
-    → IfOk r
-    (λ rows. IsRead (IsScan d.releases_table stored_release_cells release_order rows) (λ t. rows ≡ map release_stored t.releases) old new)
-release_read old new r read shown =
-    told release_text release_asks release_known 5 stored_release_cells old new r read shown
-    (λ rows. IsScan d.releases_table stored_release_cells release_order rows)
-    (λ rows t. rows ≡ map release_stored t.releases)
-    (λ rows db out. release_scans db out rows) (λ rows db out. release_found db out rows)
+release_written : (db : Database) (shown : List Row) → Reads (command_of (understood d.desk_schema release_text)) db [] shown → (t : Tables) → Holds t db → AreWritten t → AllByRecursion (AreCells stored_release_cells) shown
+release_written db shown reads t holds written =
+    let this = d.releases_table in
+    all_written this.name 14 this.columns this.key this.primary this.uniques this.orders release_text release_names release_columns (1 ∷ []) (sorted_by (1 ∷ [])) refl release_key 5 release_is (λ r. rw (itself (column r 1)) refl) (λ r. refl) db shown reads stored_release_cells release_stored t.releases
+    (mine this.name 14 this.columns this.key this.primary this.uniques this.orders 8 refl (λ x. stored_release_cells (release_stored x)) (rows_of t) t.releases refl db holds.rows).same (written.cells 14)
+
+pub release_read : {S : Type 0} (g : Ghosts S) (old new : S) (r : Result (List StoredRelease) Fault) → Lists g release_text 5 stored_release_cells old new r
+    → Scans g old new r (IsScan d.releases_table stored_release_cells release_order) (λ rows t. rows ≡ map release_stored t.releases)
+release_read g old new r it =
+    scan_told release_text release_asks release_asked release_known 5 stored_release_cells g old new r it (IsScan d.releases_table stored_release_cells release_order) (λ rows t. rows ≡ map release_stored t.releases)
+    (λ rows db out. release_scans db out rows) (λ rows db out. release_found db out rows) release_written
 
 -- ---- attached
 
@@ -149,6 +162,13 @@ attached_is : command_of (understood d.desk_schema attached_text) ≡ Select
     (record { lets = []; body = query_on 17 [] attached_columns (sorted_by (1 ∷ 2 ∷ [])) }) attached_names
 unfolding understood everything
 attached_is = refl
+
+attached_suits : Suits attached_text 0 (understood d.desk_schema attached_text)
+unfolding understood everything
+attached_suits = (refl, refl)
+
+attached_asked : IsAsked attached_text []
+attached_asked = asked attached_text [] 17 [] attached_columns (sorted_by (1 ∷ 2 ∷ [])) attached_names (attached_is, attached_known.1) attached_known.0 attached_suits refl
 
 abbrev attached_key : Row → Row
 attached_key cs = column cs 0 ∷ column cs 1 ∷ []
@@ -194,15 +214,17 @@ attached_found db shown rows reads are t holds =
     (λ x. stored_attached_cells (attached_stored x)) (rows_of t) t.attached refl db
     holds.rows).same (attached_rise t.attached holds.orderly.sorted.attached) attached_in attached_back
 
-pub attached_read : (old new : State) (r : Result (List StoredAttached) Fault)
-    → HasAsked old new r → (HasCleanDisk new → IfOk r (λ rows. IsShown attached_text 2 stored_attached_cells rows old new))
-    → IfOk r
-    (λ rows. IsRead (IsScan d.attached_table stored_attached_cells attached_order rows) (λ t. rows ≡ map attached_stored t.attached) old new)
-attached_read old new r read shown =
-    told attached_text attached_asks attached_known 2 stored_attached_cells old new r read shown
-    (λ rows. IsScan d.attached_table stored_attached_cells attached_order rows)
-    (λ rows t. rows ≡ map attached_stored t.attached)
-    (λ rows db out. attached_scans db out rows) (λ rows db out. attached_found db out rows)
+attached_written : (db : Database) (shown : List Row) → Reads (command_of (understood d.desk_schema attached_text)) db [] shown → (t : Tables) → Holds t db → AreWritten t → AllByRecursion (AreCells stored_attached_cells) shown
+attached_written db shown reads t holds written =
+    let this = d.attached_table in
+    all_written this.name 17 this.columns this.key this.primary this.uniques this.orders attached_text attached_names attached_columns (1 ∷ 2 ∷ []) (sorted_by (1 ∷ 2 ∷ [])) refl attached_key 2 attached_is (λ r. rw (itself (column r 1)) refl) (λ r. refl) db shown reads stored_attached_cells attached_stored t.attached
+    (mine this.name 17 this.columns this.key this.primary this.uniques this.orders 9 refl (λ x. stored_attached_cells (attached_stored x)) (rows_of t) t.attached refl db holds.rows).same (written.cells 17)
+
+pub attached_read : {S : Type 0} (g : Ghosts S) (old new : S) (r : Result (List StoredAttached) Fault) → Lists g attached_text 2 stored_attached_cells old new r
+    → Scans g old new r (IsScan d.attached_table stored_attached_cells attached_order) (λ rows t. rows ≡ map attached_stored t.attached)
+attached_read g old new r it =
+    scan_told attached_text attached_asks attached_asked attached_known 2 stored_attached_cells g old new r it (IsScan d.attached_table stored_attached_cells attached_order) (λ rows t. rows ≡ map attached_stored t.attached)
+    (λ rows db out. attached_scans db out rows) (λ rows db out. attached_found db out rows) attached_written
 
 -- ---- choice
 
@@ -230,6 +252,13 @@ choice_is : command_of (understood d.desk_schema choice_text) ≡ Select
     (record { lets = []; body = query_on 19 [] choice_columns (sorted_by (1 ∷ 2 ∷ 3 ∷ 4 ∷ [])) }) choice_names
 unfolding understood everything
 choice_is = refl
+
+choice_suits : Suits choice_text 0 (understood d.desk_schema choice_text)
+unfolding understood everything
+choice_suits = (refl, refl)
+
+choice_asked : IsAsked choice_text []
+choice_asked = asked choice_text [] 19 [] choice_columns (sorted_by (1 ∷ 2 ∷ 3 ∷ 4 ∷ [])) choice_names (choice_is, choice_known.1) choice_known.0 choice_suits refl
 
 abbrev choice_key : Row → Row
 choice_key cs = column cs 0 ∷ column cs 1 ∷ column cs 2 ∷ column cs 3 ∷ []
@@ -282,15 +311,17 @@ choice_found db shown rows reads are t holds =
     (λ x. stored_choice_cells (choice_stored x)) (rows_of t) t.choice refl db holds.rows).same (choices_rise
     t.choice holds.orderly.sorted.choice) choice_in choice_back
 
-pub choice_read : (old new : State) (r : Result (List StoredChoice) Fault)
-    → HasAsked old new r → (HasCleanDisk new → IfOk r (λ rows. IsShown choice_text 4 stored_choice_cells rows old new))
-    → IfOk r
-    (λ rows. IsRead (IsScan d.choice_table stored_choice_cells choice_order rows) (λ t. rows ≡ map choice_stored t.choice) old new)
-choice_read old new r read shown =
-    told choice_text choice_asks choice_known 4 stored_choice_cells old new r read shown
-    (λ rows. IsScan d.choice_table stored_choice_cells choice_order rows)
-    (λ rows t. rows ≡ map choice_stored t.choice)
-    (λ rows db out. choice_scans db out rows) (λ rows db out. choice_found db out rows)
+choice_written : (db : Database) (shown : List Row) → Reads (command_of (understood d.desk_schema choice_text)) db [] shown → (t : Tables) → Holds t db → AreWritten t → AllByRecursion (AreCells stored_choice_cells) shown
+choice_written db shown reads t holds written =
+    let this = d.choice_table in
+    all_written this.name 19 this.columns this.key this.primary this.uniques this.orders choice_text choice_names choice_columns (1 ∷ 2 ∷ 3 ∷ 4 ∷ []) (sorted_by (1 ∷ 2 ∷ 3 ∷ 4 ∷ [])) refl choice_key 4 choice_is (λ r. rw (itself (column r 1)) refl) (λ r. refl) db shown reads stored_choice_cells choice_stored t.choice
+    (mine this.name 19 this.columns this.key this.primary this.uniques this.orders 10 refl (λ x. stored_choice_cells (choice_stored x)) (rows_of t) t.choice refl db holds.rows).same (written.cells 19)
+
+pub choice_read : {S : Type 0} (g : Ghosts S) (old new : S) (r : Result (List StoredChoice) Fault) → Lists g choice_text 4 stored_choice_cells old new r
+    → Scans g old new r (IsScan d.choice_table stored_choice_cells choice_order) (λ rows t. rows ≡ map choice_stored t.choice)
+choice_read g old new r it =
+    scan_told choice_text choice_asks choice_asked choice_known 4 stored_choice_cells g old new r it (IsScan d.choice_table stored_choice_cells choice_order) (λ rows t. rows ≡ map choice_stored t.choice)
+    (λ rows db out. choice_scans db out rows) (λ rows db out. choice_found db out rows) choice_written
 
 -- ---- frozen
 
@@ -318,6 +349,13 @@ frozen_is : command_of (understood d.desk_schema frozen_text) ≡ Select
     (record { lets = []; body = query_on 21 [] frozen_columns (sorted_by (1 ∷ 2 ∷ 3 ∷ 4 ∷ [])) }) frozen_names
 unfolding understood everything
 frozen_is = refl
+
+frozen_suits : Suits frozen_text 0 (understood d.desk_schema frozen_text)
+unfolding understood everything
+frozen_suits = (refl, refl)
+
+frozen_asked : IsAsked frozen_text []
+frozen_asked = asked frozen_text [] 21 [] frozen_columns (sorted_by (1 ∷ 2 ∷ 3 ∷ 4 ∷ [])) frozen_names (frozen_is, frozen_known.1) frozen_known.0 frozen_suits refl
 
 abbrev frozen_key : Row → Row
 frozen_key cs = column cs 0 ∷ column cs 1 ∷ column cs 2 ∷ column cs 3 ∷ []
@@ -371,12 +409,14 @@ frozen_found db shown rows reads are t holds =
     (λ x. stored_frozen_cells (frozen_stored x)) (rows_of t) t.frozen refl db holds.rows).same (frozen_rise
     t.frozen holds.orderly.sorted.frozen) frozen_in frozen_back
 
-pub frozen_read : (old new : State) (r : Result (List StoredFrozen) Fault)
-    → HasAsked old new r → (HasCleanDisk new → IfOk r (λ rows. IsShown frozen_text 5 stored_frozen_cells rows old new))
-    → IfOk r
-    (λ rows. IsRead (IsScan d.frozen_table stored_frozen_cells frozen_order rows) (λ t. rows ≡ map frozen_stored t.frozen) old new)
-frozen_read old new r read shown =
-    told frozen_text frozen_asks frozen_known 5 stored_frozen_cells old new r read shown
-    (λ rows. IsScan d.frozen_table stored_frozen_cells frozen_order rows)
-    (λ rows t. rows ≡ map frozen_stored t.frozen)
-    (λ rows db out. frozen_scans db out rows) (λ rows db out. frozen_found db out rows)
+frozen_written : (db : Database) (shown : List Row) → Reads (command_of (understood d.desk_schema frozen_text)) db [] shown → (t : Tables) → Holds t db → AreWritten t → AllByRecursion (AreCells stored_frozen_cells) shown
+frozen_written db shown reads t holds written =
+    let this = d.frozen_table in
+    all_written this.name 21 this.columns this.key this.primary this.uniques this.orders frozen_text frozen_names frozen_columns (1 ∷ 2 ∷ 3 ∷ 4 ∷ []) (sorted_by (1 ∷ 2 ∷ 3 ∷ 4 ∷ [])) refl frozen_key 5 frozen_is (λ r. rw (itself (column r 1)) refl) (λ r. refl) db shown reads stored_frozen_cells frozen_stored t.frozen
+    (mine this.name 21 this.columns this.key this.primary this.uniques this.orders 11 refl (λ x. stored_frozen_cells (frozen_stored x)) (rows_of t) t.frozen refl db holds.rows).same (written.cells 21)
+
+pub frozen_read : {S : Type 0} (g : Ghosts S) (old new : S) (r : Result (List StoredFrozen) Fault) → Lists g frozen_text 5 stored_frozen_cells old new r
+    → Scans g old new r (IsScan d.frozen_table stored_frozen_cells frozen_order) (λ rows t. rows ≡ map frozen_stored t.frozen)
+frozen_read g old new r it =
+    scan_told frozen_text frozen_asks frozen_asked frozen_known 5 stored_frozen_cells g old new r it (IsScan d.frozen_table stored_frozen_cells frozen_order) (λ rows t. rows ≡ map frozen_stored t.frozen)
+    (λ rows db out. frozen_scans db out rows) (λ rows db out. frozen_found db out rows) frozen_written

@@ -22,7 +22,7 @@ use Rattle.sqlite_sql.proofs.QueryLemmas.{output_cmp_total}
 use Rattle.sqlite_schema.specs.declared.schema.Column.{Column}
 use Rattle.sqlite_schema.specs.declared.schema.Table.{Table}
 use Rattle.sqlite_schema.specs.declared.command.Command.TheVariants.{Select}
-use Rattle.sqlite_rules.proofs.ListLemmas.{all_from}
+use Rattle.sqlite_rules.proofs.ListLemmas.{all_from, all_has}
 use Rattle.sqlite_rules.proofs.ProbeLemmas.{has_mapped}
 use Rattle.sqlite.specs.Effect.{Database, Reads}
 use Rattle.sqlite.specs.Listing.{understood}
@@ -34,6 +34,8 @@ use Rattle.desk_sql_layout.proofs.Orders.{from_sorted}
 use Rattle.desk_sql_layout.proofs.Queries.{query_on, env, selected, Selected}
 use Rattle.desk_sql_lookup.proofs.Selects.{order_by, AreApart}
 use Rattle.desk_sql_lookup.proofs.Ties.{keys, picked, sorted_from}
+use Rattle.desk_sql_lookup.specs.Causes.{IsRow}
+use Rattle.desk_sql_scan.specs.Causes.{AreCells}
 use Rattle.desk_sql_scan.specs.Cells.{columns_of}
 use Rattle.desk_sql_scan.specs.Scans.{IsScan}
 
@@ -117,6 +119,24 @@ module _ (name : List ℕ) (tree : ℕ) (columns : List Column) (key : Option �
     rows_rise =
         let up = from_sorted (output_cmp asked) (output_cmp_total asked) answer.ordered answer.sorted in
         ascending_from_map (λ a b. is_lt (output_cmp asked b a) ≡ false) of_cells rows (subst (IsAscending (λ a b. is_lt (output_cmp asked b a) ≡ false)) (sym ordered_are) up)
+
+    -- what is shown stands in the table
+    shown_are : IsPermutation (map (cells this) (db.trees tree)) shown
+    shown_are =
+        let second = λ (o : Output). o.1 in
+        let left : map second (map out (db.trees tree)) ≡ map (cells this) (db.trees tree) = map-map second out (db.trees tree) ∙ same_map (λ r. second (out r)) (cells this) (λ r. ap second (acts r)) (db.trees tree) in
+        subst₂ (λ a b. IsPermutation a b) left (sym answer.shown) (IsPermutation-map second _ _ outs_are)
+
+    -- it can be read, where the rows that are held are such as a desk writes them
+    pub all_written : {A X : Type 0} (cells_of : A → Row) (stored_of : X → A) (xs : List X) → IsPermutation (map (λ x. cells_of (stored_of x)) xs) (map (cells this) (db.trees tree))
+        → AllByRecursion IsRow (map (λ x. cells_of (stored_of x)) xs) → AllByRecursion (AreCells cells_of) shown
+    all_written {A} {X} cells_of stored_of xs same written =
+        let base = map (cells this) (db.trees tree) in
+        let f = λ (x : X). cells_of (stored_of x) in
+        all_from (AreCells cells_of) shown (λ row there.
+        let held = has_permuted (map f xs) base row same (has_permuted base shown row shown_are there) in
+        let x = has_mapped f xs row held in
+        (all_has IsRow (map f xs) row written held, (stored_of x.0, x.2)))
 
     module _ {A : Type 0} (cells_of : A → Row) (order : A → A → Ordering) (agrees : (a b : A) → by_key (cells_of a) (cells_of b) ≡ order a b) (found : List A) (are : rows ≡ map cells_of found) where
       pub scanned : IsScan this cells_of order found db

@@ -1,20 +1,25 @@
 -- What a query for all rows of a table tells, of the database that is shown and of the tables that it holds.
-use Rattle.std.proofs.Common.{◌≡◌, ℕ, List, [], map, false, refl, sym, ap, subst, ◌∙◌, Ok, Err, Result, IfOk, IsTrue}
+use Rattle.std.proofs.Common.{◌≡◌, ℕ, List, [], map, false, refl, sym, ap, subst, ◌∙◌, Ok, Err, Result, IfOk}
+use Rattle.std.specs.List.{AllByRecursion}
+use Rattle.std.proofs.lemmas.Result.{IfErr-weaker}
 use Rattle.sqlite_value.specs.Order.{Row}
 use Rattle.sqlite.specs.Effect.{Database, Reads}
 use Rattle.sqlite.specs.Listing.{understood, reads_listing}
-use Rattle.sqlite.specs.State.{State, HasCleanDisk}
+use Rattle.sqlite.specs.State.{State, HasCleanDisk, Shown}
 use Rattle.sqlite.proofs.Callers.{IsPlain, command_of, reads_as, unchanged_then}
 use Rattle.sqlite.proofs.StateLemmas.{survives_then}
 use Rattle.desk_sql_layout.specs.Held.{Holds}
 use Rattle.desk_sql_layout.specs.Layout.{desk_schema}
 use Rattle.desk_model.specs.Tables.{Tables}
 use Rattle.desk_model.specs.declared.command.Fault.{Fault}
+use Rattle.desk_sql_lookup.specs.Causes.{AreWritten, IsAsked}
 use Rattle.desk_sql_adopt.specs.Reading.{Asks}
-use Rattle.desk_sql_adopt.proofs.Asking.{shown_unchanged}
 use Rattle.desk_sql_adopt.proofs.Spared.{clean_before}
 use Rattle.desk_sql_scan.specs.Asked.{HasAsked}
+use Rattle.desk_sql_scan.specs.Causes.{AreCells, ScanFailsFor, ScanFailsIf}
 use Rattle.desk_sql_scan.specs.Cells.{columns_of}
+use Rattle.desk_sql_scan.specs.Scanning.{Lists, Scans}
+use Rattle.desk_sql_scan.specs.declared.source.Source.{Ghosts}
 use Rattle.desk_sql_scan.specs.Scans.{IsRead, IsShown}
 
 module _ (text : List ℕ) (asks : Asks text) (known : IsPlain (understood desk_schema text) × (reads_listing desk_schema text ≡ false)) {A : Type 0} (width : ℕ) (cells_of : A → Row) (old new : State) where
@@ -34,6 +39,32 @@ module _ (text : List ℕ) (asks : Asks text) (known : IsPlain (understood desk_
     where
       reads : old.now.schema ≡ desk_schema → (clean : HasCleanDisk new) → Reads (command_of (understood desk_schema text)) old.now [] (it clean).0
       reads has clean = let o = it clean in reads_as text [] old new desk_schema has (command_of (understood desk_schema text)) refl known.0 known.1 o.0 o.1
+
+-- what comes of a query's rows that are read
+module _ (text : List ℕ) (asks : Asks text) (asked : IsAsked text []) (known : IsPlain (understood desk_schema text) × (reads_listing desk_schema text ≡ false)) {A : Type 0} (width : ℕ) (cells_of : A → Row)
+    {S : Type 0} (g : Ghosts S) (old new : S) (r : Result (List A) Fault) (it : Lists g text width cells_of old new r) where
+  abbrev before : State
+  before = g.shows old
+
+  abbrev Given : Type 0
+  Given = (rows : List Row) → Shown text [] before (g.shows new) rows → AllByRecursion (AreCells cells_of) rows
+
+  pub scan_told : (Raw : List A → Database → Type 0) (Is : List A → Tables → Type 0)
+      → ((rows : List A) (db : Database) (shown : List Row) → Reads (command_of (understood desk_schema text)) db [] shown → map (columns_of width) shown ≡ map cells_of rows → Raw rows db)
+      → ((rows : List A) (db : Database) (shown : List Row) → Reads (command_of (understood desk_schema text)) db [] shown → map (columns_of width) shown ≡ map cells_of rows
+      → (t : Tables) → Holds t db → Is rows t)
+      → ((db : Database) (shown : List Row) → Reads (command_of (understood desk_schema text)) db [] shown → (t : Tables) → Holds t db → AreWritten t → AllByRecursion (AreCells cells_of) shown) → Scans g old new r Raw Is
+  scan_told Raw Is raw found all = record {
+    ok = told text asks known width cells_of before (g.shows new) r (it.asked asks) it.shown Raw Is raw found;
+    asked = it.asked asks;
+    ready = it.ready;
+    same_reference = it.same_reference;
+    cause = IfErr-weaker r (ScanFailsIf Given before (g.shows new)) (ScanFailsFor before (g.shows new)) (λ fault has. record {
+      cause = λ clean opened unlimited t holds written any.
+          has.cause clean opened unlimited t holds written (λ rows shown.
+          all before.now rows (reads_as text [] before (g.shows new) desk_schema holds.rows.declared (command_of (understood desk_schema text)) refl known.0 known.1 rows shown) t holds written);
+    }) (it.cause asks asked);
+  }
 
 -- one reading after another
 pub then_read : (R S : Database → Type 0) (P Q : Tables → Type 0) (a b c : State) → IsRead R P a b → IsRead S Q b c → IsRead (λ db. R db × S db) (λ t. P t × Q t) a c

@@ -3,3 +3,5 @@ pub mod Cells
 pub mod Orders
 pub mod Scans
 pub mod Parts
+pub mod Causes
+pub mod Scanning

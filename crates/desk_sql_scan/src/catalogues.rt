@@ -1,14 +1,14 @@
 //! The version of the tables, and the revisions of the catalogue with their rules.
 
-ghost use Rattle.std.specs.Prelude.{◌≡◌, pos, false, IfOk, [], ◌∷◌, map};
-ghost use Rattle.desk_sql_scan.specs.Asked.{HasAsked};
+ghost use Rattle.std.specs.Prelude.{◌≡◌, pos, false, [], ◌∷◌, map};
 ghost use Rattle.desk_history.specs.Laws.{AreSortedAsListed};
 ghost use Rattle.desk_sql_layout.specs.Layout.{meta_table, catalogue_table, rule_table};
 ghost use Rattle.desk_snapshot.specs.Tables.{catalogue_stored, rule_stored};
 ghost use Rattle.desk_sql_scan.specs.Cells.{stored_meta_cells, stored_catalogue_cells, stored_rule_cells};
 ghost use Rattle.desk_sql_scan.specs.Orders.{meta_order, catalogue_order, rule_order};
 ghost use Rattle.desk_sql_scan.specs.Parts.{HasCatalogues, OfCatalogues};
-ghost use Rattle.desk_sql_scan.specs.Scans.{IsRead, IsScan};
+ghost use Rattle.desk_sql_scan.specs.Scanning.{Scans};
+ghost use Rattle.desk_sql_scan.specs.Scans.{IsScan};
 
 use crate::columns::{number_at, text_at};
 use crate::scan::{Stored, items};
@@ -34,12 +34,9 @@ impl Stored for StoredMeta {
 /// The version of the tables.
 fn meta_rows<R: Source>(alloc: Global, source: &mut R) -> Result<Items<StoredMeta>, Fault>
     requires { R.is_ready source.old }
-    ensures ok { IfOk result (λ rows. IsRead (IsScan meta_table stored_meta_cells meta_order rows)
-        (λ t. rows ≡ record { version = pos 3 } ∷ [])
-        (R.shows source.old) (R.shows source.new)) }
-    ensures asked { HasAsked (R.shows source.old) (R.shows source.new) result }
-    ensures ready { R.is_ready source.new }
-    ensures same_reference { R.name source.new ≡ R.name source.old }
+    ensures { Scans R.Source source.old source.new result
+        (IsScan meta_table stored_meta_cells meta_order)
+        (λ rows t. rows ≡ record { version = pos 3 } ∷ []) }
 {
     items(alloc, source, "SELECT version FROM meta ORDER BY version")
 }
@@ -60,13 +57,9 @@ impl Stored for StoredCatalogue {
 /// All revisions of the catalogue, by number.
 fn catalogue_rows<R: Source>(alloc: Global, source: &mut R) -> Result<Items<StoredCatalogue>, Fault>
     requires { R.is_ready source.old }
-    ensures ok { IfOk result
-        (λ rows. IsRead (IsScan catalogue_table stored_catalogue_cells catalogue_order rows)
-        (λ t. rows ≡ map catalogue_stored t.catalogue)
-        (R.shows source.old) (R.shows source.new)) }
-    ensures asked { HasAsked (R.shows source.old) (R.shows source.new) result }
-    ensures ready { R.is_ready source.new }
-    ensures same_reference { R.name source.new ≡ R.name source.old }
+    ensures { Scans R.Source source.old source.new result
+        (IsScan catalogue_table stored_catalogue_cells catalogue_order)
+        (λ rows t. rows ≡ map catalogue_stored t.catalogue) }
 {
     items(
         alloc,
@@ -94,12 +87,9 @@ impl Stored for StoredRule {
 /// All rules, by revision, term and form.
 fn rule_rows<R: Source>(alloc: Global, source: &mut R) -> Result<Items<StoredRule>, Fault>
     requires { R.is_ready source.old }
-    ensures ok { IfOk result (λ rows. IsRead (IsScan rule_table stored_rule_cells rule_order rows)
-        (λ t. AreSortedAsListed t → rows ≡ map rule_stored t.rule)
-        (R.shows source.old) (R.shows source.new)) }
-    ensures asked { HasAsked (R.shows source.old) (R.shows source.new) result }
-    ensures ready { R.is_ready source.new }
-    ensures same_reference { R.name source.new ≡ R.name source.old }
+    ensures { Scans R.Source source.old source.new result
+        (IsScan rule_table stored_rule_cells rule_order)
+        (λ rows t. AreSortedAsListed t → rows ≡ map rule_stored t.rule) }
 {
     items(
         alloc,
@@ -119,12 +109,7 @@ pub(crate) struct CataloguePart {
 /// The version of the tables, and the revisions of the catalogue with their rules.
 pub(crate) fn catalogues<R: Source>(alloc: Global, source: &mut R) -> Result<CataloguePart, Fault>
     requires { R.is_ready source.old }
-    ensures ok { IfOk result
-        (λ part. IsRead (HasCatalogues part) (OfCatalogues part) (R.shows source.old)
-        (R.shows source.new)) }
-    ensures asked { HasAsked (R.shows source.old) (R.shows source.new) result }
-    ensures ready { R.is_ready source.new }
-    ensures same_reference { R.name source.new ≡ R.name source.old }
+    ensures { Scans R.Source source.old source.new result HasCatalogues OfCatalogues }
 {
     Ok(CataloguePart {
         meta: meta_rows(alloc, source)?,

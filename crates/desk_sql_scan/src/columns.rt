@@ -1,9 +1,10 @@
 //! What stands in a column of a row. Where it is of another kind, no desk's table has it.
 
-ghost use Rattle.std.specs.Prelude.{◌≡◌, IfOk};
+ghost use Rattle.std.specs.Prelude.{◌≡◌, ◌<◌, ℕ, ℤ, IfErr, IfOk, List, Option, length};
 ghost use Rattle.sqlite_value.specs.Order.{column};
 ghost use Rattle.sqlite_value.specs.declared.value.Value.TheVariants.{Int as Whole, Text as Words, Blob};
 ghost use Rattle.desk_sql_layout.specs.Cells.{text_or_null};
+ghost use Rattle.desk_sql_lookup.specs.Causes.{IsWritten};
 
 use desk_base::{Items, Text};
 use desk_model::{Fault, StoreFault};
@@ -16,7 +17,9 @@ const ROWS: Fault = Fault::Store(StoreFault::Rows);
 
 /// A number.
 pub(crate) fn number_at(row: &Row, at: usize) -> Result<i64, Fault>
-    ensures { IfOk result (λ n. column row.now at ≡ Whole n) }
+    ensures value { IfOk result (λ n. column row.now at ≡ Whole n) }
+    ensures cause { IfErr result (λ fault. (n : ℤ)
+        → column row.now at ≡ Whole n → fault ≡ Fault.Memory) }
 {
     match row.get_ref(at) {
         Ok(ValueRef::Int(number)) => Ok(number),
@@ -26,7 +29,10 @@ pub(crate) fn number_at(row: &Row, at: usize) -> Result<i64, Fault>
 
 /// A text.
 pub(crate) fn text_at(alloc: Global, row: &Row, at: usize) -> Result<Text, Fault>
-    ensures { IfOk result (λ text. column row.now at ≡ Words text) }
+    ensures value { IfOk result (λ text. column row.now at ≡ Words text) }
+    ensures cause { IfErr result (λ fault. (text : List ℕ)
+        → column row.now at ≡ Words text
+        → IsWritten (column row.now at) → fault ≡ Fault.Memory) }
 {
     match row.get_ref(at) {
         Ok(ValueRef::Text(bytes)) => match std::str::from_utf8(bytes) {
@@ -39,7 +45,10 @@ pub(crate) fn text_at(alloc: Global, row: &Row, at: usize) -> Result<Text, Fault
 
 /// A text, or none where the column is NULL.
 pub(crate) fn text_or_null_at(alloc: Global, row: &Row, at: usize) -> Result<Option<Text>, Fault>
-    ensures { IfOk result (λ text. column row.now at ≡ text_or_null text) }
+    ensures value { IfOk result (λ text. column row.now at ≡ text_or_null text) }
+    ensures cause { IfErr result (λ fault. (text : Option (List ℕ)) → at < length row.now
+        → column row.now at ≡ text_or_null text
+        → IsWritten (column row.now at) → fault ≡ Fault.Memory) }
 {
     match row.get_ref(at) {
         Ok(ValueRef::Null) => Ok(None),
@@ -49,7 +58,9 @@ pub(crate) fn text_or_null_at(alloc: Global, row: &Row, at: usize) -> Result<Opt
 
 /// Bytes.
 pub(crate) fn bytes_at(alloc: Global, row: &Row, at: usize) -> Result<Items<u8>, Fault>
-    ensures { IfOk result (λ bytes. column row.now at ≡ Blob bytes) }
+    ensures value { IfOk result (λ bytes. column row.now at ≡ Blob bytes) }
+    ensures cause { IfErr result (λ fault. (bytes : List ℕ)
+        → column row.now at ≡ Blob bytes → fault ≡ Fault.Memory) }
 {
     match row.get_ref(at) {
         Ok(ValueRef::Blob(bytes)) => Ok(Items::from_vec(Vec::from_slice(alloc, bytes)?)),

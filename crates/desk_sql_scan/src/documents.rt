@@ -1,7 +1,6 @@
 //! Documents with their profiles, packages and extracted licences.
 
-ghost use Rattle.std.specs.Prelude.{◌≡◌, IfOk, map};
-ghost use Rattle.desk_sql_scan.specs.Asked.{HasAsked};
+ghost use Rattle.std.specs.Prelude.{◌≡◌, map};
 ghost use Rattle.desk_history.specs.Laws.{AreSortedAsListed};
 ghost use Rattle.desk_sql_layout.specs.Layout.{document_table, reading_table, package_table, extracted_table};
 ghost use Rattle.desk_snapshot.specs.Orders.{reading_order, package_order};
@@ -9,7 +8,8 @@ ghost use Rattle.desk_snapshot.specs.Tables.{document_stored, reading_stored, pa
 ghost use Rattle.desk_sql_scan.specs.Cells.{stored_document_cells, stored_reading_cells, stored_package_cells, stored_extracted_cells};
 ghost use Rattle.desk_sql_scan.specs.Orders.{document_order, extracted_order};
 ghost use Rattle.desk_sql_scan.specs.Parts.{HasDocuments, OfDocuments};
-ghost use Rattle.desk_sql_scan.specs.Scans.{IsRead, IsScan};
+ghost use Rattle.desk_sql_scan.specs.Scanning.{Scans};
+ghost use Rattle.desk_sql_scan.specs.Scans.{IsScan};
 
 use crate::columns::{bytes_at, number_at, text_at, text_or_null_at};
 use crate::scan::{Stored, items, listed};
@@ -37,13 +37,9 @@ impl Stored for StoredDocument {
 /// All documents, by number.
 fn document_rows<R: Source>(alloc: Global, source: &mut R) -> Result<Items<StoredDocument>, Fault>
     requires { R.is_ready source.old }
-    ensures ok { IfOk result
-        (λ rows. IsRead (IsScan document_table stored_document_cells document_order rows)
-        (λ t. rows ≡ map document_stored t.document)
-        (R.shows source.old) (R.shows source.new)) }
-    ensures asked { HasAsked (R.shows source.old) (R.shows source.new) result }
-    ensures ready { R.is_ready source.new }
-    ensures same_reference { R.name source.new ≡ R.name source.old }
+    ensures { Scans R.Source source.old source.new result
+        (IsScan document_table stored_document_cells document_order)
+        (λ rows t. rows ≡ map document_stored t.document) }
 {
     items(
         alloc,
@@ -68,13 +64,9 @@ impl Stored for StoredReading {
 /// The profiles of all documents, by number.
 fn reading_rows<R: Source>(alloc: Global, source: &mut R) -> Result<Listed<StoredReading>, Fault>
     requires { R.is_ready source.old }
-    ensures ok { IfOk result
-        (λ rows. IsRead (IsScan reading_table stored_reading_cells reading_order rows)
-        (λ t. rows ≡ map reading_stored t.document)
-        (R.shows source.old) (R.shows source.new)) }
-    ensures asked { HasAsked (R.shows source.old) (R.shows source.new) result }
-    ensures ready { R.is_ready source.new }
-    ensures same_reference { R.name source.new ≡ R.name source.old }
+    ensures { Scans R.Source source.old source.new result
+        (IsScan reading_table stored_reading_cells reading_order)
+        (λ rows t. rows ≡ map reading_stored t.document) }
 {
     listed(
         alloc,
@@ -104,13 +96,9 @@ impl Stored for StoredPackage {
 /// All packages, by document and id.
 fn package_rows<R: Source>(alloc: Global, source: &mut R) -> Result<Listed<StoredPackage>, Fault>
     requires { R.is_ready source.old }
-    ensures ok { IfOk result
-        (λ rows. IsRead (IsScan package_table stored_package_cells package_order rows)
-        (λ t. rows ≡ map package_stored t.packages)
-        (R.shows source.old) (R.shows source.new)) }
-    ensures asked { HasAsked (R.shows source.old) (R.shows source.new) result }
-    ensures ready { R.is_ready source.new }
-    ensures same_reference { R.name source.new ≡ R.name source.old }
+    ensures { Scans R.Source source.old source.new result
+        (IsScan package_table stored_package_cells package_order)
+        (λ rows t. rows ≡ map package_stored t.packages) }
 {
     listed(
         alloc,
@@ -136,13 +124,9 @@ impl Stored for StoredExtracted {
 /// All extracted licences, by document and reference.
 fn extracted_rows<R: Source>(alloc: Global, source: &mut R) -> Result<Items<StoredExtracted>, Fault>
     requires { R.is_ready source.old }
-    ensures ok { IfOk result
-        (λ rows. IsRead (IsScan extracted_table stored_extracted_cells extracted_order rows)
-        (λ t. AreSortedAsListed t → rows ≡ map extracted_stored t.extracted)
-        (R.shows source.old) (R.shows source.new)) }
-    ensures asked { HasAsked (R.shows source.old) (R.shows source.new) result }
-    ensures ready { R.is_ready source.new }
-    ensures same_reference { R.name source.new ≡ R.name source.old }
+    ensures { Scans R.Source source.old source.new result
+        (IsScan extracted_table stored_extracted_cells extracted_order)
+        (λ rows t. AreSortedAsListed t → rows ≡ map extracted_stored t.extracted) }
 {
     items(
         alloc,
@@ -163,12 +147,7 @@ pub(crate) struct DocumentPart {
 /// Documents with their profiles, packages and extracted licences.
 pub(crate) fn documents<R: Source>(alloc: Global, source: &mut R) -> Result<DocumentPart, Fault>
     requires { R.is_ready source.old }
-    ensures ok { IfOk result
-        (λ part. IsRead (HasDocuments part) (OfDocuments part) (R.shows source.old)
-        (R.shows source.new)) }
-    ensures asked { HasAsked (R.shows source.old) (R.shows source.new) result }
-    ensures ready { R.is_ready source.new }
-    ensures same_reference { R.name source.new ≡ R.name source.old }
+    ensures { Scans R.Source source.old source.new result HasDocuments OfDocuments }
 {
     Ok(DocumentPart {
         document: document_rows(alloc, source)?,

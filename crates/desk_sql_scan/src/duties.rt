@@ -1,14 +1,14 @@
 //! Duties with their changes, and the last days of waivers.
 
-ghost use Rattle.std.specs.Prelude.{◌≡◌, IfOk, map, filter};
-ghost use Rattle.desk_sql_scan.specs.Asked.{HasAsked};
+ghost use Rattle.std.specs.Prelude.{◌≡◌, map, filter};
 ghost use Rattle.desk_sql_layout.specs.Layout.{duty_table, change_table, waiver_table};
 ghost use Rattle.desk_snapshot.specs.Orders.{change_order, waiver_order};
 ghost use Rattle.desk_snapshot.specs.Tables.{duty_stored, change_stored, waiver_stored, is_waiver};
 ghost use Rattle.desk_sql_scan.specs.Cells.{stored_duty_cells, stored_change_cells, stored_waiver_cells};
 ghost use Rattle.desk_sql_scan.specs.Orders.{duty_order};
 ghost use Rattle.desk_sql_scan.specs.Parts.{HasDuties, OfDuties};
-ghost use Rattle.desk_sql_scan.specs.Scans.{IsRead, IsScan};
+ghost use Rattle.desk_sql_scan.specs.Scanning.{Scans};
+ghost use Rattle.desk_sql_scan.specs.Scans.{IsScan};
 
 use crate::columns::{number_at, text_at};
 use crate::scan::{Stored, items, listed};
@@ -41,12 +41,9 @@ impl Stored for StoredDuty {
 /// All duties, by number.
 fn duty_rows<R: Source>(alloc: Global, source: &mut R) -> Result<Items<StoredDuty>, Fault>
     requires { R.is_ready source.old }
-    ensures ok { IfOk result (λ rows. IsRead (IsScan duty_table stored_duty_cells duty_order rows)
-        (λ t. rows ≡ map duty_stored t.duty)
-        (R.shows source.old) (R.shows source.new)) }
-    ensures asked { HasAsked (R.shows source.old) (R.shows source.new) result }
-    ensures ready { R.is_ready source.new }
-    ensures same_reference { R.name source.new ≡ R.name source.old }
+    ensures { Scans R.Source source.old source.new result
+        (IsScan duty_table stored_duty_cells duty_order)
+        (λ rows t. rows ≡ map duty_stored t.duty) }
 {
     items(
         alloc,
@@ -74,13 +71,9 @@ impl Stored for StoredChange {
 /// All changes, by duty and step.
 fn change_rows<R: Source>(alloc: Global, source: &mut R) -> Result<Listed<StoredChange>, Fault>
     requires { R.is_ready source.old }
-    ensures ok { IfOk result
-        (λ rows. IsRead (IsScan change_table stored_change_cells change_order rows)
-        (λ t. rows ≡ map change_stored t.changes)
-        (R.shows source.old) (R.shows source.new)) }
-    ensures asked { HasAsked (R.shows source.old) (R.shows source.new) result }
-    ensures ready { R.is_ready source.new }
-    ensures same_reference { R.name source.new ≡ R.name source.old }
+    ensures { Scans R.Source source.old source.new result
+        (IsScan change_table stored_change_cells change_order)
+        (λ rows t. rows ≡ map change_stored t.changes) }
 {
     listed(
         alloc,
@@ -106,13 +99,9 @@ impl Stored for StoredWaiver {
 /// The last days of all waivers that end, by duty and step.
 fn waiver_rows<R: Source>(alloc: Global, source: &mut R) -> Result<Listed<StoredWaiver>, Fault>
     requires { R.is_ready source.old }
-    ensures ok { IfOk result
-        (λ rows. IsRead (IsScan waiver_table stored_waiver_cells waiver_order rows)
-        (λ t. rows ≡ map waiver_stored (filter is_waiver t.changes))
-        (R.shows source.old) (R.shows source.new)) }
-    ensures asked { HasAsked (R.shows source.old) (R.shows source.new) result }
-    ensures ready { R.is_ready source.new }
-    ensures same_reference { R.name source.new ≡ R.name source.old }
+    ensures { Scans R.Source source.old source.new result
+        (IsScan waiver_table stored_waiver_cells waiver_order)
+        (λ rows t. rows ≡ map waiver_stored (filter is_waiver t.changes)) }
 {
     listed(
         alloc,
@@ -132,11 +121,7 @@ pub(crate) struct DutyPart {
 /// Duties with their changes, and the last days of waivers.
 pub(crate) fn duties<R: Source>(alloc: Global, source: &mut R) -> Result<DutyPart, Fault>
     requires { R.is_ready source.old }
-    ensures ok { IfOk result (λ part. IsRead (HasDuties part) (OfDuties part) (R.shows source.old)
-        (R.shows source.new)) }
-    ensures asked { HasAsked (R.shows source.old) (R.shows source.new) result }
-    ensures ready { R.is_ready source.new }
-    ensures same_reference { R.name source.new ≡ R.name source.old }
+    ensures { Scans R.Source source.old source.new result HasDuties OfDuties }
 {
     Ok(DutyPart {
         changes: change_rows(alloc, source)?,

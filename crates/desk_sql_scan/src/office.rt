@@ -1,14 +1,14 @@
 //! What the office concluded and adopted.
 
-ghost use Rattle.std.specs.Prelude.{◌≡◌, IfOk, map};
-ghost use Rattle.desk_sql_scan.specs.Asked.{HasAsked};
+ghost use Rattle.std.specs.Prelude.{◌≡◌, map};
 ghost use Rattle.desk_sql_layout.specs.Layout.{conclusion_table, adoption_table};
 ghost use Rattle.desk_snapshot.specs.Orders.{conclusion_order};
 ghost use Rattle.desk_snapshot.specs.Tables.{conclusion_stored, adoption_stored};
 ghost use Rattle.desk_sql_scan.specs.Cells.{stored_conclusion_cells, stored_adoption_cells};
 ghost use Rattle.desk_sql_scan.specs.Orders.{adoption_order};
 ghost use Rattle.desk_sql_scan.specs.Parts.{HasOffice, OfOffice};
-ghost use Rattle.desk_sql_scan.specs.Scans.{IsRead, IsScan};
+ghost use Rattle.desk_sql_scan.specs.Scanning.{Scans};
+ghost use Rattle.desk_sql_scan.specs.Scans.{IsScan};
 
 use crate::columns::{number_at, text_at};
 use crate::scan::{Stored, items, listed};
@@ -39,13 +39,9 @@ fn conclusion_rows<R: Source>(
     source: &mut R,
 ) -> Result<Listed<StoredConclusion>, Fault>
     requires { R.is_ready source.old }
-    ensures ok { IfOk result
-        (λ rows. IsRead (IsScan conclusion_table stored_conclusion_cells conclusion_order rows)
-        (λ t. rows ≡ map conclusion_stored t.conclusion)
-        (R.shows source.old) (R.shows source.new)) }
-    ensures asked { HasAsked (R.shows source.old) (R.shows source.new) result }
-    ensures ready { R.is_ready source.new }
-    ensures same_reference { R.name source.new ≡ R.name source.old }
+    ensures { Scans R.Source source.old source.new result
+        (IsScan conclusion_table stored_conclusion_cells conclusion_order)
+        (λ rows t. rows ≡ map conclusion_stored t.conclusion) }
 {
     listed(
         alloc,
@@ -71,13 +67,9 @@ impl Stored for StoredAdoption {
 /// All adoptions, by document and reference.
 fn adoption_rows<R: Source>(alloc: Global, source: &mut R) -> Result<Items<StoredAdoption>, Fault>
     requires { R.is_ready source.old }
-    ensures ok { IfOk result
-        (λ rows. IsRead (IsScan adoption_table stored_adoption_cells adoption_order rows)
-        (λ t. rows ≡ map adoption_stored t.adoption)
-        (R.shows source.old) (R.shows source.new)) }
-    ensures asked { HasAsked (R.shows source.old) (R.shows source.new) result }
-    ensures ready { R.is_ready source.new }
-    ensures same_reference { R.name source.new ≡ R.name source.old }
+    ensures { Scans R.Source source.old source.new result
+        (IsScan adoption_table stored_adoption_cells adoption_order)
+        (λ rows t. rows ≡ map adoption_stored t.adoption) }
 {
     items(
         alloc,
@@ -96,11 +88,7 @@ pub(crate) struct OfficePart {
 /// What the office concluded and adopted.
 pub(crate) fn office<R: Source>(alloc: Global, source: &mut R) -> Result<OfficePart, Fault>
     requires { R.is_ready source.old }
-    ensures ok { IfOk result (λ part. IsRead (HasOffice part) (OfOffice part) (R.shows source.old)
-        (R.shows source.new)) }
-    ensures asked { HasAsked (R.shows source.old) (R.shows source.new) result }
-    ensures ready { R.is_ready source.new }
-    ensures same_reference { R.name source.new ≡ R.name source.old }
+    ensures { Scans R.Source source.old source.new result HasOffice OfOffice }
 {
     Ok(OfficePart {
         conclusion: conclusion_rows(alloc, source)?,

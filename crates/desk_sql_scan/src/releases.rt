@@ -1,13 +1,13 @@
 //! Releases with their documents, and their chosen and frozen terms.
 
-ghost use Rattle.std.specs.Prelude.{◌≡◌, IfOk, map};
-ghost use Rattle.desk_sql_scan.specs.Asked.{HasAsked};
+ghost use Rattle.std.specs.Prelude.{◌≡◌, map};
 ghost use Rattle.desk_sql_layout.specs.Layout.{releases_table, attached_table, choice_table, frozen_table};
 ghost use Rattle.desk_snapshot.specs.Orders.{release_order, attached_order, choice_order, frozen_order};
 ghost use Rattle.desk_snapshot.specs.Tables.{release_stored, attached_stored, choice_stored, frozen_stored};
 ghost use Rattle.desk_sql_scan.specs.Cells.{stored_release_cells, stored_attached_cells, stored_choice_cells, stored_frozen_cells};
 ghost use Rattle.desk_sql_scan.specs.Parts.{HasReleases, OfReleases};
-ghost use Rattle.desk_sql_scan.specs.Scans.{IsRead, IsScan};
+ghost use Rattle.desk_sql_scan.specs.Scanning.{Scans};
+ghost use Rattle.desk_sql_scan.specs.Scans.{IsScan};
 
 use crate::columns::{number_at, text_at};
 use crate::scan::{Stored, listed};
@@ -36,13 +36,9 @@ impl Stored for StoredRelease {
 /// All releases, by name.
 fn release_rows<R: Source>(alloc: Global, source: &mut R) -> Result<Listed<StoredRelease>, Fault>
     requires { R.is_ready source.old }
-    ensures ok { IfOk result
-        (λ rows. IsRead (IsScan releases_table stored_release_cells release_order rows)
-        (λ t. rows ≡ map release_stored t.releases)
-        (R.shows source.old) (R.shows source.new)) }
-    ensures asked { HasAsked (R.shows source.old) (R.shows source.new) result }
-    ensures ready { R.is_ready source.new }
-    ensures same_reference { R.name source.new ≡ R.name source.old }
+    ensures { Scans R.Source source.old source.new result
+        (IsScan releases_table stored_release_cells release_order)
+        (λ rows t. rows ≡ map release_stored t.releases) }
 {
     listed(
         alloc,
@@ -67,13 +63,9 @@ impl Stored for StoredAttached {
 /// All attached documents, by release and number.
 fn attached_rows<R: Source>(alloc: Global, source: &mut R) -> Result<Listed<StoredAttached>, Fault>
     requires { R.is_ready source.old }
-    ensures ok { IfOk result
-        (λ rows. IsRead (IsScan attached_table stored_attached_cells attached_order rows)
-        (λ t. rows ≡ map attached_stored t.attached)
-        (R.shows source.old) (R.shows source.new)) }
-    ensures asked { HasAsked (R.shows source.old) (R.shows source.new) result }
-    ensures ready { R.is_ready source.new }
-    ensures same_reference { R.name source.new ≡ R.name source.old }
+    ensures { Scans R.Source source.old source.new result
+        (IsScan attached_table stored_attached_cells attached_order)
+        (λ rows t. rows ≡ map attached_stored t.attached) }
 {
     listed(
         alloc,
@@ -100,13 +92,9 @@ impl Stored for StoredChoice {
 /// All chosen terms, by release, document, package and term.
 fn choice_rows<R: Source>(alloc: Global, source: &mut R) -> Result<Listed<StoredChoice>, Fault>
     requires { R.is_ready source.old }
-    ensures ok { IfOk result
-        (λ rows. IsRead (IsScan choice_table stored_choice_cells choice_order rows)
-        (λ t. rows ≡ map choice_stored t.choice)
-        (R.shows source.old) (R.shows source.new)) }
-    ensures asked { HasAsked (R.shows source.old) (R.shows source.new) result }
-    ensures ready { R.is_ready source.new }
-    ensures same_reference { R.name source.new ≡ R.name source.old }
+    ensures { Scans R.Source source.old source.new result
+        (IsScan choice_table stored_choice_cells choice_order)
+        (λ rows t. rows ≡ map choice_stored t.choice) }
 {
     listed(
         alloc,
@@ -134,13 +122,9 @@ impl Stored for StoredFrozen {
 /// All frozen terms, by release, document, package and term.
 fn frozen_rows<R: Source>(alloc: Global, source: &mut R) -> Result<Listed<StoredFrozen>, Fault>
     requires { R.is_ready source.old }
-    ensures ok { IfOk result
-        (λ rows. IsRead (IsScan frozen_table stored_frozen_cells frozen_order rows)
-        (λ t. rows ≡ map frozen_stored t.frozen)
-        (R.shows source.old) (R.shows source.new)) }
-    ensures asked { HasAsked (R.shows source.old) (R.shows source.new) result }
-    ensures ready { R.is_ready source.new }
-    ensures same_reference { R.name source.new ≡ R.name source.old }
+    ensures { Scans R.Source source.old source.new result
+        (IsScan frozen_table stored_frozen_cells frozen_order)
+        (λ rows t. rows ≡ map frozen_stored t.frozen) }
 {
     listed(
         alloc,
@@ -161,12 +145,7 @@ pub(crate) struct ReleasePart {
 /// Releases with their documents, and their chosen and frozen terms.
 pub(crate) fn releases<R: Source>(alloc: Global, source: &mut R) -> Result<ReleasePart, Fault>
     requires { R.is_ready source.old }
-    ensures ok { IfOk result
-        (λ part. IsRead (HasReleases part) (OfReleases part) (R.shows source.old)
-        (R.shows source.new)) }
-    ensures asked { HasAsked (R.shows source.old) (R.shows source.new) result }
-    ensures ready { R.is_ready source.new }
-    ensures same_reference { R.name source.new ≡ R.name source.old }
+    ensures { Scans R.Source source.old source.new result HasReleases OfReleases }
 {
     Ok(ReleasePart {
         releases: release_rows(alloc, source)?,

@@ -1,12 +1,12 @@
 //! All rows of a table.
 
-ghost use Rattle.std.specs.Prelude.{◌≡◌, ℕ, IfOk, map};
+ghost use Rattle.std.specs.Prelude.{◌≡◌, ℕ, IfErr, IfOk, map};
+ghost use Rattle.std.specs.List.{AllByRecursion};
 ghost use Rattle.sqlite_value.specs.Order.{Row as Cells};
-ghost use Rattle.sqlite.specs.State.{HasCleanDisk};
-ghost use Rattle.desk_sql_adopt.specs.Reading.{Asks};
-ghost use Rattle.desk_sql_scan.specs.Asked.{HasAsked};
+ghost use Rattle.desk_sql_lookup.specs.Causes.{IsRow};
+ghost use Rattle.desk_sql_scan.specs.Causes.{AreCells};
 ghost use Rattle.desk_sql_scan.specs.Cells.{columns_of};
-ghost use Rattle.desk_sql_scan.specs.Scans.{IsShown};
+ghost use Rattle.desk_sql_scan.specs.Scanning.{Lists};
 
 use crate::source::Source;
 use desk_base::Items;
@@ -26,13 +26,18 @@ pub(crate) trait Stored: Sized {
 
     /// The row that shows these cells.
     fn read(alloc: Global, row: &Row) -> Result<Self, Fault>
-        ensures { IfOk result (λ found. columns_of width row.now ≡ cells found) };
+        ensures value { IfOk result (λ found. columns_of width row.now ≡ cells found) }
+        ensures cause { IfErr result (λ fault. (x : Self) → row.now ≡ cells x → IsRow row.now
+            → fault ≡ Fault.Memory) };
 }
 
 /// The rows whose cells these are. Each is let go as soon as it is read, so that no table is held
 /// twice.
 fn read_all<T: Stored + Drop>(alloc: Global, rows: Vec<Row>) -> Result<Vec<T>, Fault>
-    ensures { IfOk result (λ found. map (columns_of T.width) rows.items ≡ map T.cells found.items) }
+    ensures value { IfOk result (λ found.
+        map (columns_of T.width) rows.items ≡ map T.cells found.items) }
+    ensures cause { IfErr result (λ fault. AllByRecursion (AreCells T.cells) rows.items
+        → fault ≡ Fault.Memory) }
 {
     let mut found = Vec::with_capacity(alloc, rows.len())?;
     for row in rows {
@@ -43,7 +48,9 @@ fn read_all<T: Stored + Drop>(alloc: Global, rows: Vec<Row>) -> Result<Vec<T>, F
 
 /// The same, as a list that is searched by its keys.
 fn read_listed<T: Stored + Keyed + Drop>(alloc: Global, rows: Vec<Row>) -> Result<Listed<T>, Fault>
-    ensures { IfOk result (λ found. map (columns_of T.width) rows.items ≡ map T.cells found) }
+    ensures value { IfOk result (λ found. map (columns_of T.width) rows.items ≡ map T.cells found) }
+    ensures cause { IfErr result (λ fault. AllByRecursion (AreCells T.cells) rows.items
+        → fault ≡ Fault.Memory) }
 {
     let mut found = Listed::with_capacity(alloc, rows.len())?;
     for row in rows {
@@ -59,12 +66,7 @@ pub(crate) fn items<T: Stored + Drop, R: Source>(
     sql: &str,
 ) -> Result<Items<T>, Fault>
     requires { R.is_ready source.old }
-    ensures shown { HasCleanDisk (R.shows source.new)
-        → IfOk result (λ rows. IsShown sql.now T.width T.cells rows (R.shows source.old)
-        (R.shows source.new)) }
-    ensures asked { Asks sql.now → HasAsked (R.shows source.old) (R.shows source.new) result }
-    ensures ready { R.is_ready source.new }
-    ensures same_reference { R.name source.new ≡ R.name source.old }
+    ensures { Lists R.Source sql.now T.width T.cells source.old source.new result }
 {
     let rows = source.query(sql)?;
     let found = read_all(alloc, rows)?;
@@ -78,12 +80,7 @@ pub(crate) fn listed<T: Stored + Keyed + Drop, R: Source>(
     sql: &str,
 ) -> Result<Listed<T>, Fault>
     requires { R.is_ready source.old }
-    ensures shown { HasCleanDisk (R.shows source.new)
-        → IfOk result (λ rows. IsShown sql.now T.width T.cells rows (R.shows source.old)
-        (R.shows source.new)) }
-    ensures asked { Asks sql.now → HasAsked (R.shows source.old) (R.shows source.new) result }
-    ensures ready { R.is_ready source.new }
-    ensures same_reference { R.name source.new ≡ R.name source.old }
+    ensures { Lists R.Source sql.now T.width T.cells source.old source.new result }
 {
     let rows = source.query(sql)?;
     read_listed(alloc, rows)

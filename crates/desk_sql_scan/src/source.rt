@@ -1,11 +1,13 @@
 //! What can be asked for rows: a connection, or a transaction that goes on.
 
-ghost use Rattle.std.specs.Prelude.{◌≡◌, false, [], IfOk};
+ghost use Rattle.std.specs.Prelude.{◌≡◌, false, [], IfErr, IfOk};
 ghost use Rattle.std.specs.Borrow.{GName};
 ghost use Rattle.sqlite.specs.Held.{state};
 ghost use Rattle.sqlite.specs.State.{HasCleanDisk, Shown, State};
 ghost use Rattle.desk_sql_adopt.specs.Reading.{Asks};
+ghost use Rattle.desk_sql_lookup.specs.Causes.{IsAsked};
 ghost use Rattle.desk_sql_scan.specs.Asked.{HasAsked};
+ghost use Rattle.desk_sql_scan.specs.Causes.{ScanFailsFor};
 
 use desk_model::Fault;
 use desk_sql_layout::fault::fault_of;
@@ -30,6 +32,8 @@ pub(crate) trait Source {
         ensures shown { HasCleanDisk (shows self.new)
             → IfOk result (λ rows. Shown sql.now [] (shows self.old) (shows self.new) rows.items) }
         ensures asked { Asks sql.now → HasAsked (shows self.old) (shows self.new) result }
+        ensures cause { Asks sql.now → IsAsked sql.now []
+            → IfErr result (ScanFailsFor (shows self.old) (shows self.new)) }
         ensures ready { is_ready self.new }
         ensures same_reference { name self.new ≡ name self.old };
 }

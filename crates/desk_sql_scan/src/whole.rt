@@ -1,16 +1,19 @@
 //! All rows of a desk's tables.
 
-ghost use Rattle.std.specs.Prelude.{◌≡◌, false, IfOk};
+ghost use Rattle.std.specs.Prelude.{◌≡◌, false, IfErr, IfOk};
 ghost use Rattle.sqlite.specs.Held.{state};
 ghost use Rattle.sqlite.specs.State.{HasCleanDisk};
 ghost use Rattle.desk_access.specs.Seen.{OfRows};
+ghost use Rattle.desk_sql_lookup.specs.Causes.{HasCause};
 ghost use Rattle.desk_sql_adopt.specs.Reading.{HasRead};
 ghost use Rattle.desk_history.specs.Laws.{AreSortedAsListed};
 ghost use Rattle.desk_sql_layout.specs.Held.{seen_of};
 ghost use Rattle.desk_sql_layout.specs.Layout.{desk_schema};
 ghost use Rattle.desk_snapshot.specs.Tables.{snapshot_of};
 ghost use Rattle.desk_sql_scan.specs.Asked.{HasAsked};
+ghost use Rattle.desk_sql_scan.specs.Causes.{ScanFailsFor};
 ghost use Rattle.desk_sql_scan.specs.Parts.{HasCatalogues, HasDocuments, HasDuties, HasOffice, HasReleases, OfCatalogues, OfDocuments, OfDuties, OfOffice, OfReleases, joined_of};
+ghost use Rattle.desk_sql_scan.specs.Scanning.{Scans};
 ghost use Rattle.desk_sql_scan.specs.Scans.{IsRead, IsSnapshot};
 
 use crate::catalogues::{CataloguePart, catalogues};
@@ -44,13 +47,9 @@ struct SecondPart {
 /// The tables of the first part, read.
 fn first_part<R: Source>(alloc: Global, source: &mut R) -> Result<FirstPart, Fault>
     requires { R.is_ready source.old }
-    ensures ok { IfOk result
-        (λ part. IsRead (λ db. HasDocuments part.documents db × HasDuties part.duties db)
-        (λ t. OfDocuments part.documents t × OfDuties part.duties t) (R.shows source.old)
-        (R.shows source.new)) }
-    ensures asked { HasAsked (R.shows source.old) (R.shows source.new) result }
-    ensures ready { R.is_ready source.new }
-    ensures same_reference { R.name source.new ≡ R.name source.old }
+    ensures { Scans R.Source source.old source.new result
+        (λ part db. HasDocuments part.documents db × HasDuties part.duties db)
+        (λ part t. OfDocuments part.documents t × OfDuties part.duties t) }
 {
     Ok(FirstPart {
         documents: documents(alloc, source)?,
@@ -61,14 +60,11 @@ fn first_part<R: Source>(alloc: Global, source: &mut R) -> Result<FirstPart, Fau
 /// The tables of the second part, read.
 fn second_part<R: Source>(alloc: Global, source: &mut R) -> Result<SecondPart, Fault>
     requires { R.is_ready source.old }
-    ensures ok { IfOk result (λ part. IsRead (λ db. HasCatalogues part.catalogues db
+    ensures { Scans R.Source source.old source.new result
+        (λ part db. HasCatalogues part.catalogues db
         × (HasOffice part.office db × HasReleases part.releases db))
-        (λ t. OfCatalogues part.catalogues t
-        × (OfOffice part.office t × OfReleases part.releases t)) (R.shows source.old)
-        (R.shows source.new)) }
-    ensures asked { HasAsked (R.shows source.old) (R.shows source.new) result }
-    ensures ready { R.is_ready source.new }
-    ensures same_reference { R.name source.new ≡ R.name source.old }
+        (λ part t. OfCatalogues part.catalogues t
+        × (OfOffice part.office t × OfReleases part.releases t)) }
 {
     Ok(SecondPart {
         catalogues: catalogues(alloc, source)?,
@@ -110,12 +106,8 @@ fn joined(first: FirstPart, second: SecondPart) -> Snapshot
 /// All rows of a desk's tables.
 fn read_whole<R: Source>(alloc: Global, source: &mut R) -> Result<Snapshot, Fault>
     requires { R.is_ready source.old }
-    ensures ok { IfOk result
-        (λ s. IsRead (IsSnapshot s) (λ t. AreSortedAsListed t → s ≡ snapshot_of t)
-        (R.shows source.old) (R.shows source.new)) }
-    ensures asked { HasAsked (R.shows source.old) (R.shows source.new) result }
-    ensures ready { R.is_ready source.new }
-    ensures same_reference { R.name source.new ≡ R.name source.old }
+    ensures { Scans R.Source source.old source.new result IsSnapshot
+        (λ s t. AreSortedAsListed t → s ≡ snapshot_of t) }
 {
     let first = first_part(alloc, source)?;
     let second = second_part(alloc, source)?;
@@ -135,6 +127,7 @@ pub fn snapshot<S: Alter>(alloc: Global, conn: &mut Connection<S>) -> Result<Sna
     ensures found { IfOk result (λ s. OfRows (λ t. AreSortedAsListed t → s ≡ snapshot_of t)
         (seen_of (state S.Store conn.old)) (seen_of (state S.Store conn.new))) }
     ensures read { HasRead (state S.Store conn.old) (state S.Store conn.new) result }
+    ensures cause { IfErr result (HasCause (state S.Store conn.old) (state S.Store conn.new)) }
     ensures mode { conn.new.in_transaction ≡ false }
 {
     let _settled = conn.is_autocommit();
@@ -154,6 +147,8 @@ pub fn snapshot_inside<S: Alter>(
         (state S.Store tx.old.conn.now) (state S.Store tx.new.conn.now)) }
     ensures asked { HasAsked (state S.Store tx.old.conn.now) (state S.Store tx.new.conn.now)
         result }
+    ensures cause { IfErr result (ScanFailsFor (state S.Store tx.old.conn.now)
+        (state S.Store tx.new.conn.now)) }
     ensures same_reference { tx.new.conn.ghost_name ≡ tx.old.conn.ghost_name }
 {
     read_whole(alloc, tx)

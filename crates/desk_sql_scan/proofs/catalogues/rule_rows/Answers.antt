@@ -1,8 +1,5 @@
-use Rattle.desk_sql_scan.proofs.CatalogueQueries.{rule_asks, rule_read}
+use Rattle.desk_sql_scan.proofs.CatalogueQueries.{rule_read}
 use Rattle.desk_sql_scan.proofs.catalogues.rule_rows.Goals as goal
 
-pub returns-clause-ok : goal.returns-clause-ok
-returns-clause-ok g c = rule_read (g.R.Source.shows c.args.source.now) (g.R.Source.shows c.items.new.source) c.items.result (c.items.ensures.asked rule_asks) c.items.ensures.shown
-
-pub returns-clause-asked : goal.returns-clause-asked
-returns-clause-asked g c = c.items.ensures.asked rule_asks
+pub returns : goal.returns
+returns g c = rule_read g.R.Source c.args.source.now c.items.new.source c.items.result c.items.ensures

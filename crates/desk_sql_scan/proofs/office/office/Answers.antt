@@ -1,18 +1,11 @@
-use Rattle.desk_sql_scan.proofs.Asked.{err_asked, spared_then}
-use Rattle.desk_sql_scan.proofs.Telling.{then_read}
+use Rattle.desk_sql_scan.proofs.Chains.{as_one, fails_so, hands_on, then_fails, then_scans}
 use Rattle.desk_sql_scan.proofs.office.office.Goals as goal
 
-pub returns-in_err-adoption_rows-clause-asked : goal.returns-in_err-adoption_rows-clause-asked
-returns-in_err-adoption_rows-clause-asked g c =
-    let s0 = g.R.Source.shows c.args.source.now in
-    let s1 = g.R.Source.shows c.conclusion_rows.new.source in
-    let s2 = g.R.Source.shows c.adoption_rows.new.source in
-    err_asked s0 s2 c.from_residual-in_err-adoption_rows.result c.from_residual-in_err-adoption_rows.ensures.0
-    (spared_then s0 s1 s2 c.in_ok-conclusion_rows.ensures.asked c.in_err-adoption_rows.ensures.asked)
+pub returns-in_err-conclusion_rows : goal.returns-in_err-conclusion_rows
+returns-in_err-conclusion_rows g c = hands_on g.R.Source _ _ c.from_residual.result c.from_residual.ensures.1 (fails_so g.R.Source c.in_err-conclusion_rows.ensures)
 
-pub returns-clause-ok : goal.returns-clause-ok
-returns-clause-ok g c =
-    let s0 = g.R.Source.shows c.args.source.now in
-    let s1 = g.R.Source.shows c.conclusion_rows.new.source in
-    let s2 = g.R.Source.shows c.adoption_rows.new.source in
-    then_read _ _ _ _ s0 s1 s2 c.in_ok-conclusion_rows.ensures.ok c.in_ok-adoption_rows.ensures.ok
+pub returns-in_err-adoption_rows : goal.returns-in_err-adoption_rows
+returns-in_err-adoption_rows g c = hands_on g.R.Source _ _ c.from_residual-in_err-adoption_rows.result c.from_residual-in_err-adoption_rows.ensures.1 (then_fails g.R.Source c.in_ok-conclusion_rows.ensures (fails_so g.R.Source c.in_err-adoption_rows.ensures))
+
+pub returns : goal.returns
+returns g c = as_one g.R.Source _ _ _ (then_scans g.R.Source c.in_ok-conclusion_rows.ensures c.in_ok-adoption_rows.ensures) (λ it. it)

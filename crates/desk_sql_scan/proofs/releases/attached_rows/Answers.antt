@@ -1,8 +1,5 @@
-use Rattle.desk_sql_scan.proofs.ReleaseQueries.{attached_asks, attached_read}
+use Rattle.desk_sql_scan.proofs.ReleaseQueries.{attached_read}
 use Rattle.desk_sql_scan.proofs.releases.attached_rows.Goals as goal
 
-pub returns-clause-ok : goal.returns-clause-ok
-returns-clause-ok g c = attached_read (g.R.Source.shows c.args.source.now) (g.R.Source.shows c.listed.new.source) c.listed.result (c.listed.ensures.asked attached_asks) c.listed.ensures.shown
-
-pub returns-clause-asked : goal.returns-clause-asked
-returns-clause-asked g c = c.listed.ensures.asked attached_asks
+pub returns : goal.returns
+returns g c = attached_read g.R.Source c.args.source.now c.listed.new.source c.listed.result c.listed.ensures

@@ -1,8 +1,5 @@
-use Rattle.desk_sql_scan.proofs.ReleaseQueries.{choice_asks, choice_read}
+use Rattle.desk_sql_scan.proofs.ReleaseQueries.{choice_read}
 use Rattle.desk_sql_scan.proofs.releases.choice_rows.Goals as goal
 
-pub returns-clause-ok : goal.returns-clause-ok
-returns-clause-ok g c = choice_read (g.R.Source.shows c.args.source.now) (g.R.Source.shows c.listed.new.source) c.listed.result (c.listed.ensures.asked choice_asks) c.listed.ensures.shown
-
-pub returns-clause-asked : goal.returns-clause-asked
-returns-clause-asked g c = c.listed.ensures.asked choice_asks
+pub returns : goal.returns
+returns g c = choice_read g.R.Source c.args.source.now c.listed.new.source c.listed.result c.listed.ensures

@@ -1,20 +1,14 @@
-use Rattle.desk_sql_scan.proofs.Asked.{err_asked, spared_then}
-use Rattle.desk_sql_scan.proofs.Telling.{then_read}
+use Rattle.desk_sql_scan.proofs.Chains.{as_one, fails_so, hands_on, then_fails, then_scans}
 use Rattle.desk_sql_scan.proofs.whole.second_part.Goals as goal
 
-pub returns-in_err-releases-clause-asked : goal.returns-in_err-releases-clause-asked
-returns-in_err-releases-clause-asked g c =
-    let s0 = g.R.Source.shows c.args.source.now in
-    let s1 = g.R.Source.shows c.catalogues.new.source in
-    let s2 = g.R.Source.shows c.office.new.source in
-    let s3 = g.R.Source.shows c.releases.new.source in
-    err_asked s0 s3 c.from_residual-in_err-releases.result c.from_residual-in_err-releases.ensures.0
-    (spared_then s0 s1 s3 c.in_ok-catalogues.ensures.asked (spared_then s1 s2 s3 c.in_ok-office.ensures.asked c.in_err-releases.ensures.asked))
+pub returns-in_err-catalogues : goal.returns-in_err-catalogues
+returns-in_err-catalogues g c = hands_on g.R.Source _ _ c.from_residual.result c.from_residual.ensures.1 (fails_so g.R.Source c.in_err-catalogues.ensures)
 
-pub returns-clause-ok : goal.returns-clause-ok
-returns-clause-ok g c =
-    let s0 = g.R.Source.shows c.args.source.now in
-    let s1 = g.R.Source.shows c.catalogues.new.source in
-    let s2 = g.R.Source.shows c.office.new.source in
-    let s3 = g.R.Source.shows c.releases.new.source in
-    then_read _ _ _ _ s0 s1 s3 c.in_ok-catalogues.ensures.ok (then_read _ _ _ _ s1 s2 s3 c.in_ok-office.ensures.ok c.in_ok-releases.ensures.ok)
+pub returns-in_err-office : goal.returns-in_err-office
+returns-in_err-office g c = hands_on g.R.Source _ _ c.from_residual-in_err-office.result c.from_residual-in_err-office.ensures.1 (then_fails g.R.Source c.in_ok-catalogues.ensures (fails_so g.R.Source c.in_err-office.ensures))
+
+pub returns-in_err-releases : goal.returns-in_err-releases
+returns-in_err-releases g c = hands_on g.R.Source _ _ c.from_residual-in_err-releases.result c.from_residual-in_err-releases.ensures.1 (then_fails g.R.Source c.in_ok-catalogues.ensures (then_fails g.R.Source c.in_ok-office.ensures (fails_so g.R.Source c.in_err-releases.ensures)))
+
+pub returns : goal.returns
+returns g c = as_one g.R.Source _ _ _ (then_scans g.R.Source c.in_ok-catalogues.ensures (then_scans g.R.Source c.in_ok-office.ensures c.in_ok-releases.ensures)) (λ it. it)

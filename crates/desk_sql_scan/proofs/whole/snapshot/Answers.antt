@@ -3,6 +3,7 @@ use Rattle.std.proofs.lemmas.Result.{IfOk-weaker}
 use Rattle.sqlite.specs.Held.{state}
 use Rattle.desk_sql_adopt.proofs.Spared.{clean_before}
 use Rattle.desk_sql_scan.proofs.Asked.{read_outside}
+use Rattle.desk_sql_scan.proofs.Causes.{asked_clean, scan_cause}
 use Rattle.desk_sql_scan.proofs.whole.snapshot.Goals as goal
 
 pub returns-clause-raw : goal.returns-clause-raw
@@ -14,3 +15,9 @@ returns-clause-found g c = IfOk-weaker c.read_whole.result _ _ (λ s it. λ clea
 pub returns-clause-read : goal.returns-clause-read
 returns-clause-read g c =
     read_outside (state g.S.Store c.args.conn.now) (state g.S.Store c.read_whole.new.source) c.read_whole.result (c.is_autocommit-settled.ensures.settled (search rules)) c.read_whole.ensures.asked
+
+pub returns-clause-cause : goal.returns-clause-cause
+returns-clause-cause g c =
+    let old = state g.S.Store c.args.conn.now in
+    let new = state g.S.Store c.read_whole.new.source in
+    scan_cause old new (asked_clean old new c.read_whole.result c.read_whole.ensures.asked) c.read_whole.result c.read_whole.ensures.cause
