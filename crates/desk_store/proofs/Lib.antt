@@ -11,3 +11,5 @@ mod FoundRows
 mod Missed
 mod Looks
 mod Failing
+mod Recorded
+mod Adopting

@@ -1,15 +1,23 @@
--- When a look-up of a store fails, and when a commit does.
-use Rattle.std.specs.Prelude.{◌≡◌, IfErr, IfOk, None, IsTrue, Result}
+-- When a look-up of a store fails, when a commit does, and when a database isn't adopted.
+use Rattle.std.specs.Prelude.{◌≡◌, ◌<◌, ◌^◌, true, List, length, is_some, IfErr, IfOk, IfSome, None, IsTrue, Result}
+use Rattle.std.specs.Result.{result_ok}
 use Rattle.sqlite_trees.specs.Tree.{Trees}
 use Rattle.sqlite.specs.State.{State, HasCleanDisk}
-use Rattle.desk_model.specs.Tables.{Tables, applied}
+use Rattle.desk_model.specs.Answers.{IsHistory}
+use Rattle.desk_model.specs.Readings.{Readings}
+use Rattle.desk_model.specs.Tables.{Tables, applied, tables}
 use Rattle.desk_model.specs.declared.command.Change.{Change}
+use Rattle.desk_model.specs.declared.command.Command.{Command}
 use Rattle.desk_model.specs.declared.command.Fault.{Fault}
 use Rattle.desk_access.specs.Follows.{Follows}
 use Rattle.desk_access.specs.Seen.{Looked, OfRows, Seen}
-use Rattle.desk_sql_layout.specs.Held.{rows_of}
+use Rattle.desk_sql_layout.specs.Held.{rows_of, seen_of}
 use Rattle.desk_sql_lookup.specs.Causes.{AreWritten}
 use Rattle.desk_sql_write.specs.Taking.{CanStand, HasRoom, IsCaused, rows_in}
+use Rattle.desk_sql_adopt.specs.Revisions.{body_of}
+use Rattle.desk_store.specs.declared.fault.AdoptFault.{AdoptFault}
+use Rattle.desk_store.specs.declared.fault.AdoptFault.TheVariants as adopt
+use Rattle.desk_texts.specs.Right.{AreRight}
 
 -- With rows as a desk writes them, and no limit on the steps of a query, a look-up of a store fails only if no memory is left, or with a
 -- fault of the database as the disk failed once more. `Given` is what is said of the tables besides.
@@ -35,3 +43,36 @@ Finds seen conn old new = FindsGiven (λ t. Unit {0}) (seen old) (seen new) (con
 pub record CommitFailsFor (change : Change) (seen : Seen Trees) (old new : State) (fault : Fault) : Type 0 where
   pub cause : HasCleanDisk new → IsTrue old.is_open → old.step_limit ≡ None → (t : Tables) → seen.holds t → AreWritten t → Follows change t
       → CanStand (rows_of t) → CanStand (rows_of (applied change t)) → HasRoom (rows_in change) old.now.trees → IsCaused old new fault
+
+-- how many rows of each of these there are is a number of 32 bits
+pub record AreFew (t : Tables) : Type 0 where
+  pub revisions : length t.catalogue < 2 ^ 32
+  pub documents : length t.document < 2 ^ 32
+  pub releases : length t.releases < 2 ^ 32
+  pub duties : length t.duty < 2 ^ 32
+
+-- the body of the last revision, if there is one, is a catalogue
+abbrev pub HasCatalogue : Readings → Tables → Type 0
+HasCatalogue w t = IfSome (body_of t (length t.catalogue)) (λ text. is_some (result_ok (w.catalogue text)) ≡ true)
+
+-- they are the tables of a recorded history
+pub record AreRecorded (t : Tables) : Type 0 where
+  pub w : Readings
+  pub right : AreRight w
+  pub h : List Command
+  pub history : IsHistory w h
+  pub is : t ≡ tables w h
+
+-- it is a fault, and has a cause
+abbrev pub IsCausedFault : State → State → AdoptFault → Type 0
+IsCausedFault old new (adopt.Fault fault) = IsCaused old new fault
+IsCausedFault old new _ = ⊥
+
+-- With rows as a desk writes them, and no limit on the steps of a query, a database isn't adopted only for such a cause. `Given` is what
+-- is said of the tables besides.
+pub record AdoptFailsIf (Given : Tables → Type 0) (old new : State) (fault : AdoptFault) : Type 0 where
+  pub cause : HasCleanDisk new → IsTrue old.is_open → old.step_limit ≡ None → (t : Tables) → (seen_of old).holds t → AreWritten t → Given t → IsCausedFault old new fault
+
+-- of the tables of recorded histories
+abbrev pub AdoptFailsFor : State → State → AdoptFault → Type 0
+AdoptFailsFor = AdoptFailsIf AreRecorded

@@ -1,6 +1,6 @@
 //! What a store knows of the rows of a desk that is adopted.
 
-ghost use Rattle.std.specs.Prelude.{◌≡◌, false, IfOk, IfErr, IfSome, IfNone, OnOk, IsTrue};
+ghost use Rattle.std.specs.Prelude.{◌≡◌, true, false, is_some, IfOk, IfErr, IfSome, IfNone, OnOk, IsTrue};
 ghost use Rattle.std.specs.Option.{option_and_then};
 ghost use Rattle.std.specs.Result.{result_ok};
 ghost use Rattle.sqlite.specs.Held.{state};
@@ -12,10 +12,12 @@ ghost use Rattle.desk_core.specs.Desks.{InHistory};
 ghost use Rattle.desk_sql_layout.specs.Held.{known_of, seen_of};
 ghost use Rattle.desk_sql_layout.specs.Layout.{desk_schema};
 ghost use Rattle.desk_texts.specs.Right.{AreRight};
+ghost use Rattle.desk_sql_lookup.specs.Causes.{HasCause, HasCauseIf};
 ghost use Rattle.desk_sql_adopt.specs.Reading.{HasRead, HasStayed};
 ghost use Rattle.desk_sql_adopt.specs.Version.{IsContent};
 ghost use Rattle.desk_store.specs.Adopting.{HasCounts, HasForms, IsFault, IsFinding, IsLeft, IsOfAudit, IsReason, IsUncountable};
 ghost use Rattle.desk_store.specs.Auditing.{Reports};
+ghost use Rattle.desk_store.specs.Causes.{AdoptFailsFor, AdoptFailsIf, AreFew, AreRecorded};
 ghost use Rattle.desk_store.specs.Counting.{known_by};
 ghost use Rattle.desk_tally.specs.Kept.{AreKept};
 
@@ -42,6 +44,8 @@ fn read_counts<S: Alter>(conn: &mut Connection<S>) -> Result<Counts, Fault>
         (λ counts. OfRows (HasCounts counts) (seen_of (state S.Store conn.old))
         (seen_of (state S.Store conn.new))) }
     ensures read { HasRead (state S.Store conn.old) (state S.Store conn.new) result }
+    ensures cause { IfErr result (HasCauseIf AreFew (state S.Store conn.old)
+        (state S.Store conn.new)) }
     ensures mode { conn.new.in_transaction ≡ false }
 {
     Ok(Counts {
@@ -54,8 +58,11 @@ fn read_counts<S: Alter>(conn: &mut Connection<S>) -> Result<Counts, Fault>
 
 /// The forms of the catalogue that a body is; none where there is no body.
 fn forms_of_body(alloc: Global, body: Option<Text>) -> Result<Items<Text>, Fault>
-    ensures { (w : Readings) → AreRight w → IfOk result (λ forms.
+    ensures value { (w : Readings) → AreRight w → IfOk result (λ forms.
         forms ≡ forms_in (option_and_then (λ text. result_ok (w.catalogue text)) body)) }
+    ensures cause { (w : Readings) → AreRight w → IfErr result (λ fault.
+        IfSome body (λ text. is_some (result_ok (w.catalogue text)) ≡ true)
+        → fault ≡ Fault.Memory) }
 {
     let Some(body) = body else {
         return Ok(Items::new(alloc));
@@ -76,8 +83,11 @@ fn read_known<S: Alter>(
         HasForms w t → known_of t ≡ known_by known.0 known.1) (seen_of (state S.Store conn.old))
         (seen_of (state S.Store conn.new))) }
     ensures read { HasRead (state S.Store conn.old) (state S.Store conn.new) result }
+    ensures cause { IfErr result (HasCauseIf AreRecorded (state S.Store conn.old)
+        (state S.Store conn.new)) }
     ensures mode { conn.new.in_transaction ≡ false }
 {
+    desk_history_laws::audits::histories_are_sound();
     let counts = read_counts(conn)?;
     let body = body_of(alloc, conn, counts.revisions)?;
     let forms = forms_of_body(alloc, body)?;
@@ -95,6 +105,7 @@ fn read_tallies<S: Alter>(alloc: Global, conn: &mut Connection<S>) -> Result<Opt
         (OfRows IsUncountable (seen_of (state S.Store conn.old))
         (seen_of (state S.Store conn.new)))) }
     ensures read { HasRead (state S.Store conn.old) (state S.Store conn.new) result }
+    ensures cause { IfErr result (HasCause (state S.Store conn.old) (state S.Store conn.new)) }
     ensures mode { conn.new.in_transaction ≡ false }
 {
     let releases = releases(alloc, conn)?;
@@ -119,6 +130,8 @@ pub(crate) fn read_beside<S: Alter>(
         (OfRows IsUncountable (seen_of (state S.Store conn.old))
         (seen_of (state S.Store conn.new)))) }
     ensures read { HasRead (state S.Store conn.old) (state S.Store conn.new) result }
+    ensures cause { IfErr result (HasCauseIf AreRecorded (state S.Store conn.old)
+        (state S.Store conn.new)) }
     ensures mode { conn.new.in_transaction ≡ false }
 {
     let (counts, forms) = read_known(alloc, conn)?;
@@ -140,6 +153,8 @@ fn examined<S: Alter>(conn: &mut Connection<S>) -> Result<(), AdoptFault>
         → IfErr result (IsReason (state S.Store conn.old)) }
     ensures stayed { OnOk result (HasStayed (state S.Store conn.old) (state S.Store conn.new)) }
     ensures left { IfErr result (IsLeft (state S.Store conn.old) (state S.Store conn.new)) }
+    ensures cause { IfErr result (AdoptFailsIf (λ t. Unit {0}) (state S.Store conn.old)
+        (state S.Store conn.new)) }
     ensures mode { conn.new.in_transaction ≡ false }
 {
     match examine(conn) {
@@ -164,6 +179,7 @@ fn audited<S: Alter>(alloc: Global, conn: &mut Connection<S>) -> Result<(), Adop
         → OnOk result (Reports (state S.Store conn.old) AuditReport.Sound) }
     ensures stayed { OnOk result (HasStayed (state S.Store conn.old) (state S.Store conn.new)) }
     ensures left { IfErr result (IsLeft (state S.Store conn.old) (state S.Store conn.new)) }
+    ensures cause { IfErr result (AdoptFailsFor (state S.Store conn.old) (state S.Store conn.new)) }
     ensures mode { conn.new.in_transaction ≡ false }
 {
     match audit_connection(alloc, conn) {
@@ -187,6 +203,7 @@ fn vetted<S: Alter>(alloc: Global, conn: &mut Connection<S>) -> Result<(), Adopt
         → IfErr result (IsReason (state S.Store conn.old)) }
     ensures stayed { OnOk result (HasStayed (state S.Store conn.old) (state S.Store conn.new)) }
     ensures left { IfErr result (IsLeft (state S.Store conn.old) (state S.Store conn.new)) }
+    ensures cause { IfErr result (AdoptFailsFor (state S.Store conn.old) (state S.Store conn.new)) }
     ensures mode { conn.new.in_transaction ≡ false }
 {
     match examined(conn) {
@@ -218,6 +235,7 @@ pub(crate) fn examine_desk<S: Alter>(
         → IfErr result (IsReason (state S.Store conn.old)) }
     ensures stayed { OnOk result (HasStayed (state S.Store conn.old) (state S.Store conn.new)) }
     ensures left { IfErr result (IsLeft (state S.Store conn.old) (state S.Store conn.new)) }
+    ensures cause { IfErr result (AdoptFailsFor (state S.Store conn.old) (state S.Store conn.new)) }
     ensures mode { conn.new.in_transaction ≡ false }
 {
     vetted(alloc, conn)?;

@@ -1,9 +1,10 @@
 //! The audit of the tables in a database.
 
-ghost use Rattle.std.specs.Prelude.{◌≡◌, false, IfOk};
+ghost use Rattle.std.specs.Prelude.{◌≡◌, false, IfErr, IfOk};
 ghost use Rattle.sqlite.specs.Held.{state};
 ghost use Rattle.desk_core.specs.Desks.{InHistory};
 ghost use Rattle.desk_sql_layout.specs.Held.{seen_of};
+ghost use Rattle.desk_sql_lookup.specs.Causes.{HasCause};
 ghost use Rattle.desk_sql_adopt.specs.Reading.{HasRead};
 ghost use Rattle.desk_store.specs.Auditing.{IsAudit};
 ghost use Rattle.desk_texts.specs.Right.{AreRight};
@@ -30,6 +31,7 @@ pub fn audit_connection<S: Alter>(
         report ≡ AuditReport.Sound) (seen_of (state S.Store conn.old))
         (seen_of (state S.Store conn.new))) }
     ensures read { HasRead (state S.Store conn.old) (state S.Store conn.new) result }
+    ensures cause { IfErr result (HasCause (state S.Store conn.old) (state S.Store conn.new)) }
     ensures mode { conn.new.in_transaction ≡ false }
 {
     desk_history::listed_tables_are_sorted();

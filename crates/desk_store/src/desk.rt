@@ -20,6 +20,7 @@ ghost use Rattle.desk_sql_adopt.specs.declared.older.OlderVersion.{OlderVersion 
 ghost use Rattle.desk_sql_migrate.specs.Migrating.{InOlderHistory, IsFault as IsMigrateFault, IsReason as IsMigrateReason, LeavesSome, Migrated};
 ghost use Rattle.desk_store.specs.Adopting.{HasForms, IsEmpty, IsFault, IsLeft, IsReason, StandsEmpty};
 ghost use Rattle.desk_store.specs.Auditing.{IsAudit, Reports};
+ghost use Rattle.desk_store.specs.Causes.{AdoptFailsFor, MissesIf};
 ghost use Rattle.desk_store.specs.Counting.{known_by};
 ghost use Rattle.desk_store.specs.Migrating.{IsLeftBy};
 
@@ -147,6 +148,8 @@ impl<S: Alter> SqlDesk<S> {
         ensures stayed { IfOk result (λ desk. HasStayed (state S.Store conn)
             (state S.Store desk.desk.store.conn)) }
         ensures left { IfErr result (λ e. IsLeft (state S.Store conn) (state S.Store e.1) e.0) }
+        ensures cause { IfErr result (λ e.
+            AdoptFailsFor (state S.Store conn) (state S.Store e.1) e.0) }
         ensures idle { IfErr result (λ e. e.1.in_transaction ≡ false) }
     {
         let mut conn = conn;
@@ -202,6 +205,9 @@ impl<S: Alter> SqlDesk<S> {
             (⟦<SqlDesk<S> as Desk>⟧.seen self.new)) }
         ensures kept { Looked (⟦<SqlDesk<S> as Desk>⟧.seen self.old)
             (⟦<SqlDesk<S> as Desk>⟧.seen self.new) result }
+        ensures cause { IfErr result (MissesIf (λ t. Unit {0})
+            (⟦<SqlDesk<S> as Desk>⟧.seen self.old) (state S.Store self.old.desk.store.conn)
+            (state S.Store self.new.desk.store.conn)) }
     {
         self.desk.store.audit()
     }

@@ -1,12 +1,14 @@
 //! What is looked at in a desk beside its answers: all its rows, and what stands in the way of a
 //! freeze, and choices that leave nothing to choose.
 
-ghost use Rattle.std.specs.Prelude.{◌≡◌, IfOk};
+ghost use Rattle.std.specs.Prelude.{◌≡◌, IfErr, IfOk};
 ghost use Rattle.std.specs.Result.{result_map_both};
+ghost use Rattle.sqlite.specs.Held.{state};
 ghost use Rattle.desk_model.specs.Tables.{tables};
 ghost use Rattle.desk_access.specs.Seen.{Looked};
 ghost use Rattle.desk_core.specs.Desks.{InHistory};
 ghost use Rattle.desk_snapshot.specs.Tables.{snapshot_of};
+ghost use Rattle.desk_store.specs.Causes.{MissesIf};
 ghost use Rattle.desk_texts.specs.Right.{AreRight};
 ghost use Rattle.desk_wanting.specs.Sole.{sole_choices_found};
 ghost use Rattle.desk_wanting.specs.Idle.{idle_found};
@@ -30,6 +32,9 @@ impl<S: Alter> SqlDesk<S> {
             (⟦<SqlDesk<S> as Desk>⟧.seen self.new)) }
         ensures kept { Looked (⟦<SqlDesk<S> as Desk>⟧.seen self.old)
             (⟦<SqlDesk<S> as Desk>⟧.seen self.new) result }
+        ensures cause { IfErr result (MissesIf (λ t. Unit {0})
+            (⟦<SqlDesk<S> as Desk>⟧.seen self.old) (state S.Store self.old.desk.store.conn)
+            (state S.Store self.new.desk.store.conn)) }
     {
         self.desk.store.snapshot()
     }

@@ -28,7 +28,7 @@ ghost use Rattle.desk_history.specs.FromTables.{adoption_count, duty_found, ende
 ghost use Rattle.desk_tally.specs.Kept.{AreKept, Fits, IsPlaceFor, LeadsTo};
 ghost use Rattle.desk_snapshot.specs.Tables.{snapshot_of};
 ghost use Rattle.desk_store.specs.Auditing.{IsAudit};
-ghost use Rattle.desk_store.specs.Causes.{CommitFailsFor, Finds, FindsIf};
+ghost use Rattle.desk_store.specs.Causes.{CommitFailsFor, Finds, FindsIf, MissesIf};
 ghost use Rattle.desk_store.specs.Counting.{AreFound, forms_after, forms_noted, known_by, nothing_kept, tallied};
 ghost use Rattle.desk_store.specs.Holding.{have_releases};
 ghost use Rattle.desk_texts.specs.Right.{AreRight};
@@ -121,6 +121,9 @@ impl<S: Alter> SqlStore<S> {
             (⟦<SqlStore<S> as Store>⟧.seen self.new)) }
         ensures kept { Looked (⟦<SqlStore<S> as Store>⟧.seen self.old)
             (⟦<SqlStore<S> as Store>⟧.seen self.new) result }
+        ensures cause { IfErr result (MissesIf (λ t. Unit {0})
+            (⟦<SqlStore<S> as Store>⟧.seen self.old) (state S.Store self.old.conn)
+            (state S.Store self.new.conn)) }
     {
         audit_connection(self.alloc, &mut self.conn)
     }
@@ -132,6 +135,9 @@ impl<S: Alter> SqlStore<S> {
             (⟦<SqlStore<S> as Store>⟧.seen self.new)) }
         ensures kept { Looked (⟦<SqlStore<S> as Store>⟧.seen self.old)
             (⟦<SqlStore<S> as Store>⟧.seen self.new) result }
+        ensures cause { IfErr result (MissesIf (λ t. Unit {0})
+            (⟦<SqlStore<S> as Store>⟧.seen self.old) (state S.Store self.old.conn)
+            (state S.Store self.new.conn)) }
     {
         desk_history::listed_tables_are_sorted();
         desk_history_laws::right_readings_list_in_order();

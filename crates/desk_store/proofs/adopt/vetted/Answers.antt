@@ -2,6 +2,8 @@ use Rattle.sqlite.specs.Held.{state}
 use Rattle.desk_model.specs.Tables.{tables}
 use Rattle.desk_sql_adopt.proofs.Spared.{clean_before}
 use Rattle.desk_store.proofs.Vetted.{left_after, passed_after, reason_after, stayed_after, stayed_now, survived}
+use Rattle.desk_store.specs.Causes.{AreRecorded}
+use Rattle.desk_store.proofs.Adopting.{any_adopts, err_adopts_after}
 use Rattle.desk_store.proofs.adopt.vetted.Goals as goal
 
 pub returns-in-Err-clause-sound : goal.returns-in-Err-clause-sound
@@ -33,3 +35,14 @@ pub returns-in-Ok-clause-stayed : goal.returns-in-Ok-clause-stayed
 returns-in-Ok-clause-stayed g c =
     stayed_after (state g.S.Store c.args.conn.now) (state g.S.Store c.examined.new.conn) (state g.S.Store c.audited.new.conn) c.audited.result
     c.in-Ok.ensures.stayed c.audited.ensures.stayed
+
+pub returns-in-Ok-clause-cause : goal.returns-in-Ok-clause-cause
+returns-in-Ok-clause-cause g c =
+    let old = state g.S.Store c.args.conn.now in
+    let between = state g.S.Store c.examined.new.conn in
+    let new = state g.S.Store c.audited.new.conn in
+    let honest = clean_before between new (λ _. ⊥) (survived between new c.audited.result c.audited.ensures.stayed c.audited.ensures.left) in
+    err_adopts_after AreRecorded old between new c.in-Ok.ensures.stayed honest c.audited.result c.audited.ensures.cause
+
+pub returns-in-Err-clause-cause : goal.returns-in-Err-clause-cause
+returns-in-Err-clause-cause g c = any_adopts AreRecorded _ _ _ c.in-Err.ensures.cause
