@@ -98,12 +98,12 @@ fn answer_text(alloc: Global, answer: &Answer) -> Result<String, AllocError>
     ensures { IfOk result (λ text. string_bytes text ≡ compact_text (answer_reply answer.now)) }
 {
     match answer {
-        Answer::Revision(number) => value_text(alloc, &revision(alloc, *number)?),
-        Answer::Imported(number) => value_text(alloc, &document(alloc, *number, true)?),
-        Answer::Again(number) => value_text(alloc, &document(alloc, *number, false)?),
-        Answer::Done => value_text(alloc, &done(alloc)?),
-        Answer::Frozen { first, count } => value_text(alloc, &frozen(alloc, *first, *count)?),
-        Answer::Closed(count) => value_text(alloc, &closed(alloc, *count)?),
+        Answer::Revision(number) => value_text(alloc, revision(alloc, *number)?),
+        Answer::Imported(number) => value_text(alloc, document(alloc, *number, true)?),
+        Answer::Again(number) => value_text(alloc, document(alloc, *number, false)?),
+        Answer::Done => value_text(alloc, done(alloc)?),
+        Answer::Frozen { first, count } => value_text(alloc, frozen(alloc, *first, *count)?),
+        Answer::Closed(count) => value_text(alloc, closed(alloc, *count)?),
         Answer::Duties(lines) => reply_of(alloc, lines.as_slice()),
         Answer::Totals(row) => totals(alloc, row),
         Answer::Changes(changes) => reply_of(alloc, changes.as_slice()),
@@ -111,7 +111,7 @@ fn answer_text(alloc: Global, answer: &Answer) -> Result<String, AllocError>
         Answer::Release { release, packages } => reply_from(alloc, release, packages.as_slice()),
         Answer::Alternatives(sets) => reply_of(alloc, sets.as_slice()),
         Answer::Cheapest(found) => cheapest(alloc, found),
-        Answer::Bill(given) => value_text(alloc, &bill(alloc, given)?),
+        Answer::Bill(given) => value_text(alloc, bill(alloc, given)?),
         Answer::Releases(lines) => reply_of(alloc, lines.as_slice()),
         Answer::Documents(lines) => reply_of(alloc, lines.as_slice()),
         Answer::OpenDuties(lines) => reply_of(alloc, lines.as_slice()),
@@ -126,7 +126,7 @@ pub fn reply_line(alloc: Global, outcome: &Outcome) -> Result<String, AllocError
 {
     match outcome {
         Outcome::Answered(answer) => answer_text(alloc, answer),
-        Outcome::Failed(reason) => value_text(alloc, &fault(alloc, reason)?),
+        Outcome::Failed(reason) => value_text(alloc, fault(alloc, reason)?),
     }
 }
 

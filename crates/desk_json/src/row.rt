@@ -25,11 +25,13 @@ pub(crate) trait Row {
 }
 
 /// The text of a value whose numbers are integers.
-pub(crate) fn value_text(alloc: Global, value: &Value) -> Result<String, AllocError>
-    requires { has_float (view value.now) ≡ false }
-    ensures { IfOk result (λ text. string_bytes text ≡ compact_text (view value.now)) }
+pub(crate) fn value_text(alloc: Global, value: Value) -> Result<String, AllocError>
+    requires { has_float (view value) ≡ false }
+    ensures { IfOk result (λ text. string_bytes text ≡ compact_text (view value)) }
 {
-    value.to_string(alloc)
+    let text = value.to_string(alloc);
+    drop(value);
+    text
 }
 
 /// The text of a row.
@@ -37,7 +39,7 @@ pub(crate) fn row_text<R: Row>(alloc: Global, row: &R) -> Result<String, AllocEr
     ensures { IfOk result (λ text. string_bytes text ≡ compact_text (R.json row.now)) }
 {
     let value = row.value(alloc)?;
-    value_text(alloc, &value)
+    value_text(alloc, value)
 }
 
 /// About the least that a row takes.
