@@ -32,7 +32,11 @@ pub fn command_outcome<D: Desk>(desk: &mut D, command: Command) -> Outcome
 {
     match command {
         Command::Import { bytes, profile } => Outcome::from(desk.import(bytes, profile)),
-        other => Outcome::from(desk.apply(&other)),
+        other => {
+            let became = desk.apply(&other);
+            drop(other);
+            Outcome::from(became)
+        }
     }
 }
 
@@ -63,7 +67,9 @@ pub fn answer_line<D: Desk, V: Watch>(
         }
         Ok(Request::Ask(query)) => {
             drop(text);
-            Reply::Became(question_outcome(desk, &query))
+            let outcome = question_outcome(desk, &query);
+            drop(query);
+            Reply::Became(outcome)
         }
         Ok(Request::BadCommand) => {
             watch.no_request(Some(text.as_slice()));

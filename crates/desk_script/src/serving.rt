@@ -240,5 +240,7 @@ pub fn serve<D: Desk, W: Write, V: Watch>(
     }
     let reply = answer_kept(alloc, desk, watch, line);
     end.count(&reply);
-    tell_reply(alloc, writer, watch, &reply)
+    let told = tell_reply(alloc, writer, watch, &reply);
+    drop(reply);
+    told
 }
