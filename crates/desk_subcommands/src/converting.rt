@@ -88,10 +88,12 @@ pub fn refuse_conversion<W: Write>(
         (IfMemory (Keeps (W.contents writer.old) (W.contents writer.new))) }
 {
     if let ConvertFault::Memory = &fault {
+        drop(fault);
         return Err(Failure::from(AllocError));
     }
-    let line = fault_text(alloc, &fault)?;
-    write_line(writer, line.as_str())?;
+    let line = fault_text(alloc, &fault);
+    drop(fault);
+    write_line(writer, line?.as_str())?;
     Ok(1)
 }
 

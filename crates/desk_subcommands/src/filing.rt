@@ -128,7 +128,9 @@ fn loaded<D: Desk>(desk: &mut D, text: Text) -> Outcome
         (D.seen desk.new) result }
 {
     let command = Command::LoadCatalogue { text };
-    Outcome::from(desk.apply(&command))
+    let became = desk.apply(&command);
+    drop(command);
+    Outcome::from(became)
 }
 
 // Writes the reply to an outcome as `tell` does, and tells why it isn't done.
@@ -150,6 +152,7 @@ fn answer<W: Write, E: Write>(
 {
     let told = tell(alloc, &outcome, writer);
     teller.explain(&outcome);
+    drop(outcome);
     told
 }
 

@@ -74,11 +74,16 @@ pub fn refuse_document<X: Texts, W: Write>(
 {
     match texts.document(alloc, bytes)? {
         Err(fault) => {
-            let refusal = Refusal::BadDocument(fault);
-            tell(alloc, &Outcome::Answered(Answer::Refused(refusal)), writer)
+            let outcome = Outcome::Answered(Answer::Refused(Refusal::BadDocument(fault)));
+            let told = tell(alloc, &outcome, writer);
+            drop(outcome);
+            told
         }
         // It is a document, and there was no memory to read it.
-        Ok(_document) => Err(Failure::Memory(AllocError)),
+        Ok(document) => {
+            drop(document);
+            Err(Failure::Memory(AllocError))
+        }
     }
 }
 
