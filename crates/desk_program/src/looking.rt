@@ -19,7 +19,10 @@ use std::io::{IsTerminal, Write};
 
 // Replies that the desk failed.
 fn failed<W: Write>(alloc: Global, fault: Fault, writer: &mut W) -> Result<u8, Failure> {
-    tell(alloc, &Outcome::Failed(fault), writer)
+    let outcome = Outcome::Failed(fault);
+    let told = tell(alloc, &outcome, writer);
+    drop(outcome);
+    told
 }
 
 // Writes a list of these rows.
@@ -59,7 +62,11 @@ pub fn list<S: Alter, W: Write>(
     writer: &mut W,
 ) -> Result<u8, Failure> {
     match desk.snapshot() {
-        Ok(snapshot) => write_list(rt, &snapshot, list, writer),
+        Ok(snapshot) => {
+            let told = write_list(rt, &snapshot, list, writer);
+            drop(snapshot);
+            told
+        }
         Err(fault) => failed(rt.alloc(), fault, writer),
     }
 }
@@ -74,6 +81,7 @@ fn refused<W: Write, E: Write>(
     let outcome = Outcome::Answered(Answer::Refused(refusal));
     let told = tell(alloc, &outcome, writer);
     teller.explain(&outcome);
+    drop(outcome);
     told
 }
 
@@ -115,6 +123,35 @@ fn choices_for<S: Alter, W: Write, E: Write>(
     Ok(0)
 }
 
+// Writes the conclusions that are proposed for a document, and returns the open releases to which it
+// is attached; or, where it is refused, the program's status.
+fn propose_conclusions<W: Write, E: Write>(
+    rt: &HostRuntime,
+    snapshot: &Snapshot,
+    document: u32,
+    writer: &mut W,
+    teller: &mut Teller<E>,
+) -> Result<Result<Vec<Text>, u8>, Failure> {
+    let alloc = rt.alloc();
+    let Some(row) = document_row(snapshot, document) else {
+        let status = refused(alloc, Refusal::UnknownDocument, writer, teller)?;
+        return Ok(Err(status));
+    };
+    let status = propose_held(
+        alloc,
+        &Standard,
+        snapshot,
+        document,
+        row.bytes.as_slice(),
+        writer,
+        &mut rt.stderr(),
+    )?;
+    if status != 0 {
+        return Ok(Err(status));
+    }
+    Ok(Ok(open_releases(alloc, snapshot, document)?))
+}
+
 /// Writes what is proposed for a document that a desk holds: conclusions, and then, of each open
 /// release to which it is attached, the choices for its packages that leave nothing to choose.
 pub fn proposals<S: Alter, W: Write, E: Write>(
@@ -129,24 +166,12 @@ pub fn proposals<S: Alter, W: Write, E: Write>(
         Ok(snapshot) => snapshot,
         Err(fault) => return failed(alloc, fault, writer),
     };
-    let Some(row) = document_row(&snapshot, document) else {
-        return refused(alloc, Refusal::UnknownDocument, writer, teller);
-    };
-    let bytes = row.bytes.as_slice();
-    let status = propose_held(
-        alloc,
-        &Standard,
-        &snapshot,
-        document,
-        bytes,
-        writer,
-        &mut rt.stderr(),
-    )?;
-    if status != 0 {
-        return Ok(status);
+    let written = propose_conclusions(rt, &snapshot, document, writer, teller);
+    drop(snapshot);
+    match written? {
+        Ok(releases) => choices_for(alloc, desk, releases.as_slice(), document, writer, teller),
+        Err(status) => Ok(status),
     }
-    let releases = open_releases(alloc, &snapshot, document)?;
-    choices_for(alloc, desk, releases.as_slice(), document, writer, teller)
 }
 
 // Tells which documents ship no package.
