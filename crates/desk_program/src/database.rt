@@ -188,7 +188,9 @@ fn done<S: Alter + Drop, W: Write>(
         Task::Show { query } => {
             // (a pipe and a file get comma-separated values)
             let in_columns = rt.stdout().is_terminal();
-            show(alloc, desk, &query, in_columns, writer, &mut teller(rt))
+            let told = show(alloc, desk, &query, in_columns, writer, &mut teller(rt));
+            drop(query);
+            told
         }
         Task::List { list } => looking::list(rt, desk, list, writer),
         Task::Page { release } => page(alloc, desk, release, writer, &mut teller(rt)),
@@ -203,6 +205,20 @@ fn done<S: Alter + Drop, W: Write>(
         }
         Task::Serve { port, limit } => serving::serve(rt, alloc, desk, port, limit),
     }
+}
+
+// What a piece of work came to whose file was then closed: why it failed goes before why the file
+// wasn't closed.
+fn ended(told: Result<u8, Failure>, closed: Result<(), Failure>) -> Result<u8, Failure> {
+    let status = match told {
+        Ok(status) => status,
+        Err(failure) => {
+            drop(closed);
+            return Err(failure);
+        }
+    };
+    closed?;
+    Ok(status)
 }
 
 // Has the desk behind a connection do a task. The desk is closed whatever became of that.
@@ -223,9 +239,7 @@ fn do_over<D: Disk + Drop, W: Write>(
     };
     let told = done(rt, &mut desk, task, writer);
     let closed = close(rt.alloc(), desk.into_connection(), path);
-    let status = told?;
-    closed?;
-    Ok(status)
+    ended(told, closed)
 }
 
 // The connection to a file whose tables are to be audited. Where there is no table `meta`, an empty
@@ -278,9 +292,7 @@ fn audit_over<D: Disk + Drop, W: Write>(
     let mut conn = tables_of(rt, conn, path)?;
     let told = audited(rt, &mut conn, path, writer);
     let closed = close(rt.alloc(), conn, path);
-    let status = told?;
-    closed?;
-    Ok(status)
+    ended(told, closed)
 }
 
 // Migrates the tables behind a connection. The file is closed whatever became of that.
