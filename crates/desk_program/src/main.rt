@@ -43,7 +43,11 @@ fn run(rt: &HostRuntime, is_watched: bool) -> Result<u8, Failure> {
     };
     let words: Vec<&str> = owned.iter().map(|word| word.as_str()).collect(alloc)?;
     match line(alloc, words.as_slice()) {
-        Ok(call) => answer(rt, alloc, &call, is_watched),
+        Ok(call) => {
+            let told = answer(rt, alloc, &call, is_watched);
+            drop(call);
+            told
+        }
         Err(LineFault::Memory(error)) => Err(Failure::from(error)),
         Err(LineFault::Usage(error)) => {
             error.print(rt)?;
