@@ -221,7 +221,7 @@ fn add_of_field<'a>(
         → OnOk result (found.new.items ≡ found.old.items ++ field_findings reads
         (state_in known.now.states.items) (document_text document.now) (placed_text field.now)) }
 {
-    let line = u64::from(field.entry.line);
+    let line = field.entry.line;
     let licence = licence_of(alloc, known, last, field)?;
     note(found, is_unknown(field), line, FindingKind::UnknownTag)?;
     note(found, is_misplaced(field), line, FindingKind::Misplaced)?;

@@ -7,7 +7,7 @@ use desk_model::{Finding, FindingKind};
 use std::alloc::AllocError;
 
 /// By what findings are sorted: the line, the kind, and the place among findings of the kind.
-pub(crate) fn key(finding: &Finding) -> (u64, u8, u8)
+pub(crate) fn key(finding: &Finding) -> (u32, u8, u8)
     ensures { result ≡ finding_key finding.now }
 {
     (finding.line, finding.kind.number(), finding.kind.place())
@@ -17,7 +17,7 @@ pub(crate) fn key(finding: &Finding) -> (u64, u8, u8)
 pub(crate) fn note(
     found: &mut Vec<Finding>,
     holds: bool,
-    line: u64,
+    line: u32,
     kind: FindingKind,
 ) -> Result<(), AllocError>
     ensures { OnOk result (found.new.items ≡ found.old.items ++ noted holds line kind) }

@@ -208,7 +208,7 @@ impl Row for Finding {
 
     fn value(&self, alloc: Global) -> Result<Value, AllocError> {
         let cells = [
-            Cell::Number(self.line),
+            Cell::Number(u64::from(self.line)),
             Cell::Number(u64::from(self.kind.number())),
             Cell::Text(self.kind.name()),
         ];

@@ -142,7 +142,7 @@ impl FindingKind {
 #[derive(Clone, Copy, PartialEq, Eq)]
 pub struct Finding {
     /// The line, from 1.
-    pub line: u64,
+    pub line: u32,
     /// What it is.
     pub kind: FindingKind,
 }

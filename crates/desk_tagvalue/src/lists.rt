@@ -84,7 +84,7 @@ pub(crate) fn snippets<'a>(
     for entry in entries {
         if entry.tag.is(Tag::SnippetIdentifier) {
             found.push(Snippet {
-                line: u64::from(entry.line),
+                line: entry.line,
                 id: entry.value,
             })?;
         }

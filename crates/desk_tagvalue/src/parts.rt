@@ -18,7 +18,7 @@ use std::alloc::{AllocError, Global};
 #[derive(Debug, Clone, Copy)]
 pub struct Package<'a> {
     /// The line on which it begins.
-    pub line: u64,
+    pub line: u32,
     /// `PackageName`.
     pub name: &'a str,
     /// `SPDXID`.
@@ -43,7 +43,7 @@ pub struct Package<'a> {
 #[derive(Debug, Clone, Copy)]
 pub struct FileEntry<'a> {
     /// The line on which it begins.
-    pub line: u64,
+    pub line: u32,
     /// `FileName`.
     pub name: &'a str,
     /// `SPDXID`.
@@ -60,7 +60,7 @@ pub struct FileEntry<'a> {
 #[derive(Debug, Clone, Copy)]
 pub struct Snippet<'a> {
     /// The line on which it begins.
-    pub line: u64,
+    pub line: u32,
     /// `SnippetSPDXID`.
     pub id: &'a str,
 }
@@ -69,7 +69,7 @@ pub struct Snippet<'a> {
 #[derive(Debug, Clone, Copy)]
 pub struct Extracted<'a> {
     /// The line on which it begins.
-    pub line: u64,
+    pub line: u32,
     /// `LicenseID`.
     pub id: &'a str,
     /// `ExtractedText`.
@@ -80,7 +80,7 @@ pub struct Extracted<'a> {
 #[derive(Debug, Clone, Copy)]
 pub struct Edge<'a> {
     /// The line on which it stands.
-    pub line: u64,
+    pub line: u32,
     /// The element at the left, perhaps of another document.
     pub left: &'a str,
     /// The type, as `CONTAINS`.
@@ -118,7 +118,7 @@ pub(crate) fn package_of<'a>(start: &Entry<'a>, rest: &[Entry<'a>]) -> Package<'
 {
     let fields = head_of(rest);
     Package {
-        line: u64::from(start.line),
+        line: start.line,
         name: start.value,
         id: text_of(fields, Tag::Identifier),
         version: value_of(fields, Tag::PackageVersion),
@@ -185,7 +185,7 @@ pub(crate) fn file_of<'a>(start: &Entry<'a>, rest: &[Entry<'a>]) -> FileEntry<'a
 {
     let fields = head_of(rest);
     FileEntry {
-        line: u64::from(start.line),
+        line: start.line,
         name: start.value,
         id: text_of(fields, Tag::Identifier),
         sha1: sha1_of(fields),
@@ -200,7 +200,7 @@ pub(crate) fn extracted_of<'a>(start: &Entry<'a>, rest: &[Entry<'a>]) -> Extract
         (section_at (entry_text start.now) (map entry_text rest.now)) }
 {
     Extracted {
-        line: u64::from(start.line),
+        line: start.line,
         id: start.value,
         text: value_of(head_of(rest), Tag::ExtractedText),
     }
@@ -214,7 +214,7 @@ pub(crate) fn edge_of<'a>(entry: &Entry<'a>) -> Edge<'a>
     let (kind, rest) = split_word(rest);
     let (right, _) = split_word(rest);
     Edge {
-        line: u64::from(entry.line),
+        line: entry.line,
         left,
         kind,
         right,
