@@ -1,5 +1,6 @@
 mod Firsts
 pub mod Lists
+pub mod SoFar
 mod Against
 mod Once
 mod Floats

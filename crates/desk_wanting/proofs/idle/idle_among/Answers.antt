@@ -1,9 +1,10 @@
 use Rattle.std.proofs.Common.{List, refl}
 use Rattle.std.specs.Prelude.{filter, map}
 use Rattle.desk_model.specs.declared.row.AttachedRow.{AttachedRow}
-use Rattle.desk_access.proofs.Chains.{looked_err, same_then_kept, same_then_same}
+use Rattle.desk_access.proofs.Chains.{same_then_same}
 use Rattle.desk_wanting.specs.Idle.{ships_nothing}
 use Rattle.desk_wanting.proofs.Lists.{ended, filter_step}
+use Rattle.desk_wanting.proofs.SoFar.{fails}
 use Rattle.desk_wanting.proofs.idle.idle_among.Goals as goal
 
 pub loop-row-preserved : goal.loop-row-preserved
@@ -21,12 +22,11 @@ loop-row-preserved g c =
 
 pub returns-in_err-nothing-clause-kept : goal.returns-in_err-nothing-clause-kept
 returns-in_err-nothing-clause-kept g c =
-    looked_err _ _ c.from_residual.result c.from_residual.ensures.0 (same_then_kept _ _ _ c.loop-row.invariant.same c.in_err-nothing.ensures.kept)
+    fails _ _ _ c.from_residual.result c.from_residual.ensures.0 c.loop-row.invariant.same c.in_err-nothing.ensures.kept
 
 pub returns-in_err-add_number-clause-kept : goal.returns-in_err-add_number-clause-kept
 returns-in_err-add_number-clause-kept g c =
-    looked_err _ _ c.from_residual-in_err-add_number.result c.from_residual-in_err-add_number.ensures.0
-    (same_then_same _ _ _ c.loop-row.invariant.same c.in_ok-nothing.ensures.kept).kept
+    fails _ _ _ c.from_residual-in_err-add_number.result c.from_residual-in_err-add_number.ensures.0 c.loop-row.invariant.same c.in_ok-nothing.ensures.kept.kept
 
 pub returns-clause-found : goal.returns-clause-found
 returns-clause-found g c = λ h t held.

@@ -1,8 +1,9 @@
 use Rattle.std.proofs.Common.{◌++◌, ap, refl}
 use Rattle.std.specs.List.{filter_map}
-use Rattle.desk_access.proofs.Chains.{looked_err, same_self, same_then_kept, same_then_same}
+use Rattle.desk_access.proofs.Chains.{same_self, same_then_same}
 use Rattle.desk_wanting.specs.Sole.{sole_choice_found}
-use Rattle.desk_wanting.proofs.Lists.{ended, filter_map_step}
+use Rattle.desk_wanting.proofs.Lists.{ended}
+use Rattle.desk_wanting.proofs.SoFar.{fails, option_more}
 use Rattle.desk_wanting.proofs.sole_choice.sole_choices_for.Goals as goal
 
 pub loop-row-init : goal.loop-row-init
@@ -13,25 +14,23 @@ loop-row-init g c = record {
 
 pub loop-row-preserved : goal.loop-row-preserved
 loop-row-preserved g c =
+    let before = c.loop-row.invariant in
     let one = c.in_ok-choice.ensures in
     record {
-      same = same_then_same _ _ _ c.loop-row.invariant.same one.kept;
-      found = λ w right h t held.
-          filter_map_step (sole_choice_found w t c.args.release.now) c.args.packages.now c.loop-row.row-index c.row-item.result
-          c.loop-row.choices.items c.add_choice.new.choices.items (filter_map (sole_choice_found w t c.args.release.now) c.args.packages.now) c.in_ok-choice.choice
-          c.loop-row-test.true c.row-item.is
-          (one.found w right h t (c.loop-row.invariant.same.kept.spared.holds t held)) c.in_ok-add_choice.ensures
-          (c.loop-row.invariant.found w right (one.kept.kept.spared.honest h) t held);
+      same = same_then_same _ _ _ before.same one.kept;
+      found = λ w right.
+          option_more (λ t. sole_choice_found w t c.args.release.now) c.args.packages.now c.loop-row.row-index c.row-item.result
+          c.loop-row.choices.items c.add_choice.new.choices.items (λ t. filter_map (sole_choice_found w t c.args.release.now) c.args.packages.now)
+          c.in_ok-choice.choice _ _ _ c.loop-row-test.true c.row-item.is before.same one.kept (one.found w right) c.in_ok-add_choice.ensures (before.found w right);
     }
 
 pub returns-in_err-choice-clause-kept : goal.returns-in_err-choice-clause-kept
 returns-in_err-choice-clause-kept g c =
-    looked_err _ _ c.from_residual.result c.from_residual.ensures.0 (same_then_kept _ _ _ c.loop-row.invariant.same c.in_err-choice.ensures.kept)
+    fails _ _ _ c.from_residual.result c.from_residual.ensures.0 c.loop-row.invariant.same c.in_err-choice.ensures.kept
 
 pub returns-in_err-add_choice-clause-kept : goal.returns-in_err-add_choice-clause-kept
 returns-in_err-add_choice-clause-kept g c =
-    looked_err _ _ c.from_residual-in_err-add_choice.result c.from_residual-in_err-add_choice.ensures.0
-    (same_then_same _ _ _ c.loop-row.invariant.same c.in_ok-choice.ensures.kept).kept
+    fails _ _ _ c.from_residual-in_err-add_choice.result c.from_residual-in_err-add_choice.ensures.0 c.loop-row.invariant.same c.in_ok-choice.ensures.kept.kept
 
 pub returns-clause-found : goal.returns-clause-found
 returns-clause-found g c = λ w right h t held.

@@ -3,16 +3,14 @@ use Rattle.std.specs.List.{filter_map}
 use Rattle.desk_model.specs.Readings.{Readings}
 use Rattle.desk_history.specs.FromTables.{rules_found}
 use Rattle.desk_model.specs.Obstacles.{unruled_alone}
-use Rattle.desk_access.specs.Seen.{Same, OfRows}
+use Rattle.desk_access.specs.Seen.{OfRows}
+use Rattle.desk_wanting.proofs.SoFar.{SoFar}
 use Rattle.desk_wanting.proofs.term.add_unruled.Given as goal
 
 abbrev pub invariant-loop-term : goal.invariant-loop-term
 invariant-loop-term g l =
-    let old = g.S.Store.seen l.fn.store in
-    let new = g.S.Store.seen l.store in
-    record {
-      same : Same old new;
-      found : (w : Readings) → g.T.Texts.are_right w
-          → OfRows (λ t. l.refusals.items ++ filter_map (unruled_alone w t.adoption (rules_found t) l.form l.row) (drop l.term-index l.terms)
-          ≡ l.fn.refusals.items ++ filter_map (unruled_alone w t.adoption (rules_found t) l.form l.row) l.terms) old new;
-    }
+    SoFar
+    (λ old new. (w : Readings) → g.T.Texts.are_right w
+    → OfRows (λ t. l.refusals.items ++ filter_map (unruled_alone w t.adoption (rules_found t) l.form l.row) (drop l.term-index l.terms)
+    ≡ l.fn.refusals.items ++ filter_map (unruled_alone w t.adoption (rules_found t) l.form l.row) l.terms) old new)
+    (g.S.Store.seen l.fn.store) (g.S.Store.seen l.store)
