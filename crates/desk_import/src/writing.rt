@@ -1,156 +1,41 @@
 //! The text of some steps.
 
-ghost use Rattle.std.specs.Prelude.{◌≡◌, ◌⊎◌, ◌↔◌, ◌++◌, ◌∷◌, [], Ok, IsTrue, IfOk, IfErr, OnOk, map};
+ghost use Rattle.std.specs.Prelude.{◌≡◌, ◌⊎◌, ◌++◌, IfOk, IfErr, OnOk, map};
 ghost use Rattle.std.specs.String.{string_bytes};
-ghost use Rattle.desk_fields.specs.Cutting.{Reads, behind_mark};
-ghost use Rattle.desk_fields.specs.Found.{field_text};
-ghost use Rattle.desk_fields.specs.Tags.{tag_name};
-ghost use Rattle.desk_tagvalue.specs.Drafts.{one_line, in_text, spelled, text_of_lines};
-ghost use Rattle.desk_tagvalue.specs.Written.{field_at, Stands};
+ghost use Rattle.desk_tagvalue.specs.Drafts.{line_text, spelled, text_of_lines};
+ghost use Rattle.desk_tagvalue.specs.Written.{Stands};
 ghost use Rattle.desk_spdx_json.specs.Steps.{step_text, put};
 ghost use Rattle.desk_import.specs.Results.{IsPut, IsStopped, Passes, FailsAt, Fails, lines_in};
 
 use crate::faults::ConvertFault;
 use desk_base::Text;
-use desk_fields::{DocFault, Field, Tag, fields};
 use desk_spdx_json::{Step, What};
-use std::alloc::{AllocError, Global};
+use desk_tagvalue::{DraftLine, WriteFault, put_line};
+use std::alloc::Global;
 
-// Whether a field is the one on the first line with this tag and value.
-fn is_field(field: &Field, tag: &str, value: &str) -> bool
-    ensures { IsTrue result ↔ (field_text field.now ≡ field_at 1 tag.now value.now) }
-{
-    field.line == 1 && field.tag == tag && field.value == value
-}
-
-// Whether there is one field, with this tag and value.
-fn is_only(found: &[Field], tag: &str, value: &str) -> bool
-    ensures { IsTrue result ↔ (map field_text found.now ≡ field_at 1 tag.now value.now ∷ []) }
-{
-    found.len() == 1 && is_field(&found[0], tag, value)
-}
-
-// Whether the text of a field is read as this one field.
-fn is_read_back(alloc: Global, spelled: &str, tag: &str, value: &str) -> Result<bool, AllocError>
-    ensures { IfOk result (λ b. IsTrue b ↔ Reads 1 (behind_mark spelled.now)
-        (Ok (field_at 1 tag.now value.now ∷ []))) }
-{
-    match fields(alloc, spelled) {
-        Ok(found) => Ok(is_only(&found, tag, value)),
-        Err(fault) => match fault {
-            DocFault::Memory => Err(AllocError),
-            _ => Ok(false),
-        },
-    }
-}
-
-// A fault at a place: a value that its field can't hold.
-fn bad_value(alloc: Global, at: &str) -> ConvertFault
-    ensures { (result ≡ ConvertFault.Memory) ⊎ (result ≡ ConvertFault.BadValue at.now) }
-{
-    match Text::of(alloc, at) {
-        Ok(at) => ConvertFault::BadValue(at),
-        Err(_) => ConvertFault::Memory,
-    }
-}
-
-// A fault at a place: a value of another type.
-fn bad_type(alloc: Global, at: &str) -> ConvertFault
-    ensures { (result ≡ ConvertFault.Memory) ⊎ (result ≡ ConvertFault.BadType at.now) }
-{
-    match Text::of(alloc, at) {
-        Ok(at) => ConvertFault::BadType(at),
-        Err(_) => ConvertFault::Memory,
-    }
-}
-
-// A fault at a place: a member that isn't there.
-fn missing(alloc: Global, at: &str) -> ConvertFault
-    ensures { (result ≡ ConvertFault.Memory) ⊎ (result ≡ ConvertFault.Missing at.now) }
-{
-    match Text::of(alloc, at) {
-        Ok(at) => ConvertFault::Missing(at),
-        Err(_) => ConvertFault::Memory,
-    }
-}
-
-// Adds the text of a field, if the field is read back.
-fn put_field(
-    alloc: Global,
-    out: &mut String,
-    at: &str,
-    spelled: &str,
-    tag: Tag,
-    value: &str,
-) -> Result<(), ConvertFault>
-    ensures ok { OnOk result (string_bytes out.new ≡ string_bytes out.old ++ spelled.now) }
-    ensures stands { OnOk result (Reads 1 (behind_mark spelled.now)
-        (Ok (field_at 1 (tag_name tag) value.now ∷ []))) }
-    ensures err { IfErr result (λ e. (e ≡ ConvertFault.Memory)
-        ⊎ ((e ≡ ConvertFault.BadValue at.now) ×
-        (Reads 1 (behind_mark spelled.now) (Ok (field_at 1 (tag_name tag) value.now ∷ [])) → ⊥))) }
-{
-    match is_read_back(alloc, spelled, tag.name(), value) {
-        Ok(true) => {}
-        Ok(false) => return Err(bad_value(alloc, at)),
-        Err(_) => return Err(ConvertFault::Memory),
-    }
-    match out.push_str(spelled) {
-        Ok(()) => Ok(()),
-        Err(_) => Err(ConvertFault::Memory),
-    }
-}
-
-// Adds a field on one line.
-fn put_one_line(
-    alloc: Global,
-    out: &mut String,
-    at: &str,
-    tag: Tag,
-    value: &str,
-) -> Result<(), ConvertFault>
-    ensures ok { OnOk result
-        (string_bytes out.new ≡ string_bytes out.old ++ spelled (one_line tag value.now)) }
-    ensures stands { OnOk result (Stands (one_line tag value.now)) }
-    ensures err { IfErr result
-        (λ e. (e ≡ ConvertFault.Memory) ⊎ FailsAt at.now (put (one_line tag value.now)) e) }
-{
-    let name = tag.name();
-    match format!(in alloc; "{name}: {value}\n") {
-        Ok(spelled) => put_field(alloc, out, at, &spelled, tag, value),
-        Err(_) => Err(ConvertFault::Memory),
-    }
-}
-
-// Adds a field in `<text>`.
-fn put_in_text(
-    alloc: Global,
-    out: &mut String,
-    at: &str,
-    tag: Tag,
-    value: &str,
-) -> Result<(), ConvertFault>
-    ensures ok { OnOk result
-        (string_bytes out.new ≡ string_bytes out.old ++ spelled (in_text tag value.now)) }
-    ensures stands { OnOk result (Stands (in_text tag value.now)) }
-    ensures err { IfErr result
-        (λ e. (e ≡ ConvertFault.Memory) ⊎ FailsAt at.now (put (in_text tag value.now)) e) }
-{
-    let name = tag.name();
-    match format!(in alloc; "{name}: <text>{value}</text>\n") {
-        Ok(spelled) => put_field(alloc, out, at, &spelled, tag, value),
-        Err(_) => Err(ConvertFault::Memory),
-    }
-}
-
-// Adds a blank line.
-fn put_blank(out: &mut String) -> Result<(), ConvertFault>
-    ensures ok { OnOk result (string_bytes out.new ≡ string_bytes out.old ++ 10 ∷ []) }
+// The place of a fault.
+fn place(alloc: Global, at: &str) -> Result<Text, ConvertFault>
+    ensures text { IfOk result (λ text. text ≡ at.now) }
     ensures err { IfErr result (λ e. e ≡ ConvertFault.Memory) }
 {
-    match out.push_str("\n") {
-        Ok(()) => Ok(()),
+    match Text::of(alloc, at) {
+        Ok(at) => Ok(at),
         Err(_) => Err(ConvertFault::Memory),
+    }
+}
+
+// Adds the text of a line, if its field is read back.
+fn put(alloc: Global, out: &mut String, at: &str, line: DraftLine) -> Result<(), ConvertFault>
+    ensures ok { OnOk result
+        (string_bytes out.new ≡ string_bytes out.old ++ spelled (line_text line.entry)) }
+    ensures stands { OnOk result (Stands (line_text line.entry)) }
+    ensures err { IfErr result
+        (λ e. (e ≡ ConvertFault.Memory) ⊎ FailsAt at.now (put (line_text line.entry)) e) }
+{
+    match put_line(alloc, out, line) {
+        Ok(()) => Ok(()),
+        Err(WriteFault::Memory) => Err(ConvertFault::Memory),
+        Err(WriteFault::BadValue) => Err(ConvertFault::BadValue(place(alloc, at)?)),
     }
 }
 
@@ -163,14 +48,14 @@ fn put_step(alloc: Global, out: &mut String, step: &Step) -> Result<(), ConvertF
 {
     let at = step.at.as_str();
     match &step.what {
-        What::Blank => put_blank(out),
-        What::OneLine(tag, text) => put_one_line(alloc, out, at, *tag, text),
-        What::InText(tag, text) => put_in_text(alloc, out, at, *tag, text),
-        What::Composed(tag, text) => put_one_line(alloc, out, at, *tag, text.as_str()),
+        What::Blank => put(alloc, out, at, DraftLine::Blank),
+        What::OneLine(tag, text) => put(alloc, out, at, DraftLine::OneLine(*tag, *text)),
+        What::InText(tag, text) => put(alloc, out, at, DraftLine::InText(*tag, *text)),
+        What::Composed(tag, text) => put(alloc, out, at, DraftLine::OneLine(*tag, text.as_str())),
         What::LeftOut(_) => Ok(()),
-        What::Missing => Err(missing(alloc, at)),
-        What::BadType => Err(bad_type(alloc, at)),
-        What::BadValue => Err(bad_value(alloc, at)),
+        What::Missing => Err(ConvertFault::Missing(place(alloc, at)?)),
+        What::BadType => Err(ConvertFault::BadType(place(alloc, at)?)),
+        What::BadValue => Err(ConvertFault::BadValue(place(alloc, at)?)),
     }
 }
 

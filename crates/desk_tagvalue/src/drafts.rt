@@ -40,9 +40,12 @@ pub struct DraftFile {
 
 /// A line, or lines, of a draft's text.
 #[derive(Clone, Copy)]
-pub(crate) enum DraftLine<'a> {
+pub enum DraftLine<'a> {
+    /// A blank line.
     Blank,
+    /// A field on one line.
     OneLine(Tag, &'a str),
+    /// A field in `<text>`.
     InText(Tag, &'a str),
 }
 

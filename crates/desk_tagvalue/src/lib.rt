@@ -32,10 +32,10 @@ mod sections;
 mod writing;
 
 pub use desk_fields::{DocFault, Field, Tag, fields, one_reading};
-pub use drafts::{Draft, DraftFile};
+pub use drafts::{Draft, DraftFile, DraftLine};
 pub use entries::Entry;
 pub use ids::behind;
 pub use parts::{Edge, Extracted, FileEntry, Package, Snippet, all_hex, sha1_digits};
 pub use reading::{Document, one_document, read};
 pub use sections::{SectionKind, is_placed, section_begun};
-pub use writing::{WriteFault, one_digest, write};
+pub use writing::{WriteFault, one_digest, put_line, write};

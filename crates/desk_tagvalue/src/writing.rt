@@ -124,8 +124,8 @@ fn put_in_text(alloc: Global, out: &mut String, tag: Tag, value: &str) -> Result
     }
 }
 
-// Adds the text of a line.
-fn put(alloc: Global, out: &mut String, line: DraftLine) -> Result<(), WriteFault>
+/// Adds the text of a line, if its field is read back.
+pub fn put_line(alloc: Global, out: &mut String, line: DraftLine) -> Result<(), WriteFault>
     ensures ok { OnOk result
         (string_bytes out.new ≡ string_bytes out.old ++ spelled (line_text line.entry)) }
     ensures stands { OnOk result (Stands (line_text line.entry)) }
@@ -149,7 +149,7 @@ fn put_all(alloc: Global, out: &mut String, lines: &[DraftLine]) -> Result<(), W
     ensures err { IfErr result (λ e. IsStopped (map line_text lines.now) e) }
 {
     for line in lines {
-        match put(alloc, out, *line) {
+        match put_line(alloc, out, *line) {
             Ok(()) => {}
             Err(fault) => return Err(fault),
         }
