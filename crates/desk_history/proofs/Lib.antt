@@ -1,14 +1,14 @@
-mod Rows
+pub mod Rows
 pub mod Orders
 mod Same
 pub mod Lookups
 mod Chosen
 mod Obstacles
 pub mod Concluding
-mod Recorded
+pub mod Recorded
 mod Opening
 mod Holding
-mod Moving
+pub mod Moving
 mod Withdrawing
 mod Freezing
 pub mod Steps
@@ -18,8 +18,8 @@ pub mod Members
 mod RaisedLaw
 mod Counting
 mod Minimal
-mod Told
-mod Distinct
+pub mod Told
+pub mod Distinct
 pub mod OwnKeys
 mod Held
 mod Numbers

@@ -1,7 +1,7 @@
 -- What is in a list made of others.
-use Rattle.std.proofs.Common.{◌≡◌, List, [], ◌∷◌, ◌++◌, map, sym, refl, ap, subst, inl, inr}
+use Rattle.std.proofs.Common.{◌≡◌, List, [], ◌∷◌, ◌++◌, map, sym, refl, ap, subst, inl, inr, Option, Some, None}
 use Rattle.std.specs.Prelude.{◌⊎◌}
-use Rattle.std.specs.List.{flat_map}
+use Rattle.std.specs.List.{flat_map, cons_option, filter_map}
 use Rattle.desk_model.specs.Lists.{IsIn}
 
 pub in_left : {A : Type 0} (x : A) (xs ys : List A) → IsIn x xs → IsIn x (xs ++ ys)
@@ -31,3 +31,15 @@ in_flat_map f x z (y ∷ xs) h g = elim h [ inl e ↦ in_left z (f y) (flat_map 
 pub from_flat_map : {A B : Type 0} (f : A → List B) (z : B) (xs : List A) → IsIn z (flat_map f xs) → (x : A) × IsIn x xs × IsIn z (f x)
 from_flat_map f z [] h = absurd h
 from_flat_map f z (y ∷ xs) h = elim (in_cases z (f y) (flat_map f xs) h) [ inl l ↦ (y, inl refl, l) | inr r ↦ (let w = from_flat_map f z xs r in (w.0, inr w.1, w.2)) ]
+
+from_cons_option : {B : Type 0} (o : Option B) (z : B) (zs : List B) → IsIn z (cons_option o zs) → (o ≡ Some z) ⊎ IsIn z zs
+from_cons_option None z zs h = inr h
+from_cons_option (Some y) z zs h = elim h [ inl e ↦ inl (ap Some e) | inr m ↦ inr m ]
+
+pub from_filter_map : {A B : Type 0} (f : A → Option B) (z : B) (xs : List A) → IsIn z (filter_map f xs) → (x : A) × IsIn x xs × (f x ≡ Some z)
+from_filter_map f z [] m = absurd m
+from_filter_map f z (y ∷ xs) m =
+    elim (from_cons_option (f y) z (filter_map f xs) m) [
+      | inl e ↦ (y, inl refl, e)
+      | inr later ↦ (let w = from_filter_map f z xs later in (w.0, inr w.1, w.2))
+    ]

@@ -256,7 +256,7 @@ owed_release w h r d m =
 closed_now : (r' r : List ℕ) (o : Option ReleaseState) → r' ≡ r → unwrap_or (or_else (if bytes_eq r' r then Some Frozen else None) o) IsOpen ≢ IsOpen
 closed_now r' r o e = let same : bytes_eq r' r ≡ true = subst (λ n. bytes_eq r' n ≡ true) e (same_text r') in rw same (λ f. cc)
 
-closed_still : (b : Bool) (s : ReleaseState) (o : Option ReleaseState) → s ≢ IsOpen → unwrap_or o IsOpen ≢ IsOpen → unwrap_or (or_else (if b then Some s else None) o) IsOpen ≢ IsOpen
+pub closed_still : (b : Bool) (s : ReleaseState) (o : Option ReleaseState) → s ≢ IsOpen → unwrap_or o IsOpen ≢ IsOpen → unwrap_or (or_else (if b then Some s else None) o) IsOpen ≢ IsOpen
 closed_still true s o f e = f
 closed_still false s o f e = e
 
@@ -272,7 +272,7 @@ raised_closed w (Withdraw r day text ∷ h) d m = closed_still (bytes_eq r d.rel
 raised_closed w (c ∷ h) d m = raised_closed w h d m
 
 -- a freeze is recorded only of a release that is open
-open_by : (s : ReleaseState) (form : Option (List ℕ)) → option_map (λ (form : List ℕ). s) form ≡ Some IsOpen → s ≡ IsOpen
+pub open_by : (s : ReleaseState) (form : Option (List ℕ)) → option_map (λ (form : List ℕ). s) form ≡ Some IsOpen → s ≡ IsOpen
 open_by s None e = cc
 open_by s (Some form) e = cc
 

@@ -1,6 +1,6 @@
 -- Lists of rows made of lists of keys.
 use Rattle.std.proofs.Common.{◌≡◌, ℕ, ◌+◌, Bool, true, false, cond, List, [], ◌∷◌, ◌++◌, length, map, Some, None, sym, refl, ap, ◌∙◌, arith, inl, inr}
-use Rattle.std.specs.Prelude.{if◌then◌else◌, find, ◌||◌}
+use Rattle.std.specs.Prelude.{if◌then◌else◌, find, ◌||◌, filter}
 use Rattle.std.specs.List.{list_any}
 use Rattle.std.specs.Option.{option_map}
 use Rattle.std.specs.Str.{bytes_eq}
@@ -57,6 +57,15 @@ length-put below x (y ∷ ys) =
 pub length-in_order : {A : Type 0} (below : A → A → Bool) (xs : List A) → length (in_order below xs) ≡ length xs
 length-in_order below [] = refl
 length-in_order below (x ∷ xs) = omega (arith, length-put below x (in_order below xs), length-in_order below xs)
+
+-- the rows that a filter keeps
+pub filter-map : {A B : Type 0} (test : B → Bool) (f : A → B) (xs : List A) → filter test (map f xs) ≡ map f (filter (λ x. test (f x)) xs)
+filter-map test f [] = refl
+filter-map test f (x ∷ xs) =
+    elim (test (f x)) as (λ b. cond b (f x ∷ filter test (map f xs)) (filter test (map f xs)) ≡ map f (cond b (x ∷ filter (λ x. test (f x)) xs) (filter (λ x. test (f x)) xs))) [
+      | true ↦ ap (λ ys. f x ∷ ys) (filter-map test f xs)
+      | false ↦ filter-map test f xs
+    ]
 
 -- rows found by their key
 pub find-map : {A B : Type 0} (test : B → Bool) (f : A → B) (xs : List A) → find test (map f xs) ≡ option_map f (find (λ x. test (f x)) xs)

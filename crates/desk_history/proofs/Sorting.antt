@@ -128,7 +128,7 @@ sorted_duties g is n (x ∷ xs) = (
   sorted_duties g is (n + 1) xs,
 )
 
-change_within : (q : ℕ) (ms : List Move) (row : ChangeRow) → IsIn row (change_rows q ms) → (row.duty ≡ q) × (row.step ≤ length ms)
+pub change_within : (q : ℕ) (ms : List Move) (row : ChangeRow) → IsIn row (change_rows q ms) → (row.duty ≡ q) × (row.step ≤ length ms)
 change_within q [] row m = absurd m
 change_within q (c ∷ ms) row m =
     elim (in_cases row (change_rows q ms) (change_row q (length ms + 1) c ∷ []) m) [

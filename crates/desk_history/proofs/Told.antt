@@ -23,7 +23,7 @@ last_or-end : {A : Type 0} (o : Option A) (xs : List A) (x : A) → last_or o (x
 last_or-end o [] x = refl
 last_or-end o (y ∷ ys) x = last_or-end (Some y) ys x
 
-abbrev is_moved : List Move → Bool
+abbrev pub is_moved : List Move → Bool
 is_moved [] = false
 is_moved (m ∷ ms) = true
 
@@ -32,7 +32,7 @@ rows_tell q [] e = cc
 rows_tell q (m ∷ ms) e = ap (option_map (λ change. state_after change.word)) (last_or-end None (change_rows q ms) (change_row q (length ms + 1) m))
 
 -- a duty that was raised has a move
-moved_more : (o : Option Move) (ms : List Move) → is_moved ms ≡ true → is_moved (with_move o ms) ≡ true
+pub moved_more : (o : Option Move) (ms : List Move) → is_moved ms ≡ true → is_moved (with_move o ms) ≡ true
 moved_more None ms e = e
 moved_more (Some m) ms e = refl
 

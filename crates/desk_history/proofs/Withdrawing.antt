@@ -23,7 +23,7 @@ use Rattle.desk_model.specs.declared.command.Command.{Command}
 use Rattle.desk_model.specs.declared.command.Command.TheVariants.{Withdraw, CloseDay}
 use Rattle.desk_history.specs.FromTables.{steps_found, end_found, standing_found, standings_found, ended_found, is_unmet, ends, next_row, withdrawn_rows, ended_rows}
 use Rattle.std.proofs.lemmas.List.{length-map}
-use Rattle.desk_history.proofs.Rows.{updated-map, texts_turned}
+use Rattle.desk_history.proofs.Rows.{updated-map, texts_turned, filter-map, map-map}
 use Rattle.desk_history.proofs.Moving.{in_range, known_at, changes-numbered, steps-numbered, new_row, new_rows, rows_of, changes_of, after, moved-duties, moved-changes}
 use Rattle.desk_base.proofs.Texts.{text_tells}
 use Rattle.desk_base.proofs.Numbers.{same_number}
@@ -69,14 +69,6 @@ mapped_found f g test n (x ∷ xs) same =
       | false ↦ rest
     ]
 
-filter-map : {A B : Type 0} (test : B → Bool) (f : A → B) (xs : List A) → filter test (map f xs) ≡ map f (filter (λ x. test (f x)) xs)
-filter-map test f [] = refl
-filter-map test f (x ∷ xs) =
-    elim (test (f x)) as (λ b. cond b (f x ∷ filter test (map f xs)) (filter test (map f xs)) ≡ map f (cond b (x ∷ filter (λ x. test (f x)) xs) (filter (λ x. test (f x)) xs))) [
-      | true ↦ ap (λ ys. f x ∷ ys) (filter-map test f xs)
-      | false ↦ filter-map test f xs
-    ]
-
 filter-filter : {A : Type 0} (f g : A → Bool) (xs : List A) → filter f (filter g xs) ≡ filter (λ x. g x && f x) xs
 filter-filter f g [] = refl
 filter-filter f g (x ∷ xs) =
@@ -84,10 +76,6 @@ filter-filter f g (x ∷ xs) =
       | true ↦ ap (λ ys. cond (f x) (x ∷ ys) ys) (filter-filter f g xs)
       | false ↦ filter-filter f g xs
     ]
-
-map-map : {A B C : Type 0} (f : B → C) (g : A → B) (xs : List A) → map f (map g xs) ≡ map (λ x. f (g x)) xs
-map-map f g [] = refl
-map-map f g (x ∷ xs) = ap (λ ys. f (g x) ∷ ys) (map-map f g xs)
 
 -- Where the duties of a history stand
 

@@ -1,6 +1,6 @@
 -- A Choose of a sole choice is done.
 use Rattle.std.proofs.Common.{◌≡◌, ◌∙◌, ◌+◌, ℕ, Bool, true, false, List, [], ◌∷◌, Option, Some, None, sym, refl, ap, subst, inl, inr}
-use Rattle.std.specs.Prelude.{filter, if◌then◌else◌, ◌⊎◌, ◌||◌, ◌==◌, Result, Ok, Err}
+use Rattle.std.specs.Prelude.{filter, ◌||◌, ◌==◌, Result, Ok, Err}
 use Rattle.std.specs.List.{cons_option, filter_map, list_any}
 use Rattle.std.specs.Option.{option_and_then}
 use Rattle.desk_base.proofs.Bools.{and_left, and_right, both}
@@ -22,33 +22,13 @@ use Rattle.desk_model.specs.declared.row.PackageRow.{PackageRow}
 use Rattle.desk_model.specs.declared.state.ReleaseState.{ReleaseState}
 use Rattle.desk_model.specs.declared.state.ReleaseState.TheVariants.{IsOpen, Frozen, Withdrawn}
 use Rattle.desk_history.specs.FromTables.{answer_from, choice_found, conclusion_found, package_found, shipped_found, stands_document, state_found}
-use Rattle.desk_history.proofs.Members.{from_flat_map}
+use Rattle.desk_history.proofs.Members.{from_flat_map, from_filter_map}
+use Rattle.desk_history.proofs.Distinct.{from_filter}
 use Rattle.desk_wanting.specs.Premises.{FindsPackages, ListsMinimalSets}
 use Rattle.desk_wanting.specs.Sole.{choice_of, release_refusal, sole_choice_found, sole_choices_found, sole_set, sole_terms, these_unless, unchosen_choice}
 use Rattle.desk_wanting.specs.declared.sole_choice.SoleChoice.{SoleChoice}
 
 -- Lists
-
-from_cons_option : {B : Type 0} (o : Option B) (z : B) (zs : List B) → IsIn z (cons_option o zs) → (o ≡ Some z) ⊎ IsIn z zs
-from_cons_option None z zs h = inr h
-from_cons_option (Some y) z zs h = elim h [ inl e ↦ inl (ap Some e) | inr m ↦ inr m ]
-
-from_filter_map : {A B : Type 0} (f : A → Option B) (z : B) (xs : List A) → IsIn z (filter_map f xs) → (x : A) × IsIn x xs × (f x ≡ Some z)
-from_filter_map f z [] m = absurd m
-from_filter_map f z (y ∷ xs) m =
-    elim (from_cons_option (f y) z (filter_map f xs) m) [
-      | inl e ↦ (y, inl refl, e)
-      | inr later ↦ (let w = from_filter_map f z xs later in (w.0, inr w.1, w.2))
-    ]
-
-in_kept : {A : Type 0} (test : A → Bool) (x y : A) (ys : List A) (b : Bool) → test y ≡ b → IsIn x (if b then y ∷ filter test ys else filter test ys)
-    → (IsIn x (filter test ys) → IsIn x ys × (test x ≡ true)) → IsIn x (y ∷ ys) × (test x ≡ true)
-in_kept test x y ys true e m rest = elim m [ inl same ↦ (inl same, ap test (sym same) ∙ e) | inr n ↦ (let r = rest n in (inr r.0, r.1)) ]
-in_kept test x y ys false e m rest = let r = rest m in (inr r.0, r.1)
-
-from_filter : {A : Type 0} (test : A → Bool) (x : A) (xs : List A) → IsIn x (filter test xs) → IsIn x xs × (test x ≡ true)
-from_filter test x [] m = absurd m
-from_filter test x (y ∷ ys) m = in_kept test x y ys (test y) refl m (from_filter test x ys)
 
 or_right_true : (b : Bool) → (b || true) ≡ true
 or_right_true true = refl

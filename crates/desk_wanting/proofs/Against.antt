@@ -24,7 +24,7 @@ use Rattle.desk_model.specs.declared.row.ReleaseRow.{ReleaseRow}
 use Rattle.desk_model.specs.declared.state.ReleaseState.{ReleaseState}
 use Rattle.desk_model.specs.declared.state.ReleaseState.TheVariants.{IsOpen, Frozen, Withdrawn}
 use Rattle.desk_history.specs.FromTables.{choice_found, conclusion_found, refusals_found, release_found, rules_found, shipped_found}
-use Rattle.desk_history.proofs.Members.{in_cases, in_flat_map, in_left, in_right, from_flat_map}
+use Rattle.desk_history.proofs.Members.{in_cases, in_flat_map, in_left, in_right, from_flat_map, from_filter_map}
 use Rattle.desk_wanting.specs.Against.{IsPrepared, StandsAgainst}
 use Rattle.desk_model.specs.Obstacles.{alone_or, applying, is_told, names_reference, term_refusals, told_once, unruled_alone}
 use Rattle.desk_wanting.specs.Obstacles.{open_wanting, wanting_found}
@@ -35,22 +35,10 @@ in_cons_option : {B : Type 0} (o : Option B) (z : B) (zs : List B) → (o ≡ So
 in_cons_option None z zs h = elim h [ inl e ↦ absurd (cc) | inr m ↦ m ]
 in_cons_option (Some y) z zs h = elim h [ inl e ↦ inl (cc) | inr m ↦ inr m ]
 
-from_cons_option : {B : Type 0} (o : Option B) (z : B) (zs : List B) → IsIn z (cons_option o zs) → (o ≡ Some z) ⊎ IsIn z zs
-from_cons_option None z zs h = inr h
-from_cons_option (Some y) z zs h = elim h [ inl e ↦ inl (ap Some e) | inr m ↦ inr m ]
-
 in_filter_map : {A B : Type 0} (f : A → Option B) (x : A) (z : B) (xs : List A) → IsIn x xs → f x ≡ Some z → IsIn z (filter_map f xs)
 in_filter_map f x z [] m e = absurd m
 in_filter_map f x z (y ∷ xs) m e =
     in_cons_option (f y) z (filter_map f xs) (elim m [ inl same ↦ inl (ap f same ∙ e) | inr later ↦ inr (in_filter_map f x z xs later e) ])
-
-from_filter_map : {A B : Type 0} (f : A → Option B) (z : B) (xs : List A) → IsIn z (filter_map f xs) → (x : A) × IsIn x xs × (f x ≡ Some z)
-from_filter_map f z [] m = absurd m
-from_filter_map f z (y ∷ xs) m =
-    elim (from_cons_option (f y) z (filter_map f xs) m) [
-      | inl e ↦ (y, inl refl, e)
-      | inr later ↦ (let w = from_filter_map f z xs later in (w.0, inr w.1, w.2))
-    ]
 
 -- Told once
 

@@ -1,6 +1,6 @@
 -- The tables of a recorded history find their packages.
 use Rattle.std.proofs.Common.{◌≡◌, ◌∙◌, ◌+◌, ℕ, Bool, true, false, List, [], ◌∷◌, length, Option, Some, None, refl, ap, subst, inl, inr}
-use Rattle.std.specs.Prelude.{find, is_some, IsTrue, if◌then◌else◌}
+use Rattle.std.specs.Prelude.{find, is_some, IsTrue}
 use Rattle.std.specs.Option.{option_or}
 use Rattle.std.specs.Ordering.{is_lt, nat_cmp, ordering_then}
 use Rattle.std.specs.Cmp.Lexicographic.{slice_cmp}
@@ -11,7 +11,7 @@ use Rattle.desk_base.proofs.Bools.{both}
 use Rattle.desk_base.proofs.Numbers.{same_number}
 use Rattle.desk_base.proofs.Texts.{same_text}
 use Rattle.desk_model.specs.Keys.{attached_order, below_by, is_document, is_package, package_order}
-use Rattle.desk_model.specs.Lists.{IsIn, put}
+use Rattle.desk_model.specs.Lists.{IsIn}
 use Rattle.desk_model.specs.Readings.{Readings}
 use Rattle.desk_model.specs.Tables.{tables}
 use Rattle.desk_model.specs.History.{attached, documents, namespace_in}
@@ -25,6 +25,7 @@ use Rattle.desk_model.specs.declared.state.ReleaseState.{ReleaseState}
 use Rattle.desk_model.proofs.Orders.{IsOrder, order_of}
 use Rattle.desk_history.specs.Laws.{AreSortedAsListed, Rises}
 use Rattle.desk_history.proofs.Concluding.{key_number, key_text}
+use Rattle.desk_history.proofs.Distinct.{from_put}
 use Rattle.desk_wanting.specs.Premises.{FindsPackages}
 
 -- Documents
@@ -38,14 +39,6 @@ known_more w (Import bytes profile) h d e =
     let row : DocumentRow = record { number = length (documents w h) + 1; namespace = namespace_in (result_ok (w.document bytes)); bytes = bytes; profile = profile } in
     ap is_some (find-append (is_document d) (documents w h) (row ∷ [])) ∙ or_some (find (is_document d) (documents w h)) (find (is_document d) (row ∷ [])) e
 known_more w c h d e = e
-
-from_put : {A : Type 0} (below : A → A → Bool) (z x : A) (xs : List A) → IsIn z (put below x xs) → IsIn z (x ∷ xs)
-from_put below z x [] m = m
-from_put below z x (y ∷ ys) m =
-    (elim (below x y) as (λ b. IsIn z (if b then x ∷ y ∷ ys else y ∷ put below x ys) → IsIn z (x ∷ y ∷ ys)) [
-      | true ↦ λ n. n
-      | false ↦ λ n. elim n [ inl same ↦ inr (inl same) | inr o ↦ (elim (from_put below z x ys o) [ inl same ↦ inl same | inr p ↦ inr (inr p) ]) ]
-    ]) m
 
 attach_needs : (state : Option ReleaseState) (known again : Bool) (n : ℕ)
     → IsTrue (is_recorded (attach_answer (record { state = state; has_document = known; is_attached = again; attached = n }))) → known ≡ true
