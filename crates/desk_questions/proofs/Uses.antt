@@ -1,5 +1,5 @@
 -- Texts in the order of first use: one text more is at the end, if it isn't among those before; and a set of keys tells whether it is.
-use Rattle.std.proofs.Common.{◌≡◌, ◌∙◌, inl, inr, ℕ, ◌+◌, ◌==◌, Bool, true, false, cond, List, [], ◌∷◌, ◌++◌, sym, ap, refl, nat_cmp, arith}
+use Rattle.std.proofs.Common.{◌≡◌, ◌∙◌, ℕ, ◌+◌, ◌==◌, Bool, true, false, cond, List, [], ◌∷◌, ◌++◌, sym, ap, refl, nat_cmp, arith}
 use Rattle.std.specs.Prelude.{◌||◌, ◌&&◌, not, filter, if◌then◌else◌}
 use Rattle.std.specs.List.{list_any}
 use Rattle.std.specs.Ordering.{is_eq, ordering_then}
@@ -9,7 +9,7 @@ use Rattle.std.specs.Str.{bytes_eq}
 use Rattle.std.specs.BTreeSet.{BTreeSet, contains_by, Updates}
 use Rattle.std.specs.declared.cmp.Ordering.{Ordering}
 use Rattle.std.specs.declared.cmp.Ordering.TheVariants.{Less, Equal, Greater}
-use Rattle.std.proofs.lemmas.Bool.{cases_Bool, false≢true}
+use Rattle.std.proofs.lemmas.Bool.{false≢true}
 use Rattle.std.proofs.lemmas.Bool.Decides.{nat_tests}
 use Rattle.std.proofs.lemmas.List.{append-nil}
 use Rattle.std.proofs.lemmas.Slice.Eq.{bytes_eq-Decides}
@@ -21,18 +21,9 @@ use Rattle.desk_model.specs.declared.bill.TextOf.{TextOf}
 use Rattle.desk_model.specs.declared.bill.TextOf.TheVariants.{Licence, Reference}
 use Rattle.desk_questions.specs.Billing.{HasTexts, key_order, text_key}
 use Rattle.desk_questions.specs.declared.texts.TextKey.{TextKey}
+use Rattle.desk_history.proofs.Rows.{texts_turned}
 
 -- Either side
-
-bytes_flipped : (a b : List ℕ) → bytes_eq a b ≡ bytes_eq b a
-bytes_flipped a b =
-    elim (cases_Bool (bytes_eq a b)) [
-      | inl same ↦ same ∙ sym ((bytes_eq-Decides b a).1 (sym ((bytes_eq-Decides a b).0 same)))
-      | inr other ↦ elim (cases_Bool (bytes_eq b a)) [
-        | inl same ↦ absurd (false≢true (sym other ∙ (bytes_eq-Decides a b).1 (sym ((bytes_eq-Decides b a).0 same))))
-        | inr other' ↦ other ∙ sym other'
-      ]
-    ]
 
 nat_flipped : (d e : ℕ) → (d == e) ≡ (e == d)
 nat_flipped d e = grind (arith, nat_tests)
@@ -76,10 +67,10 @@ same_itself (Licence id) = (bytes_eq-Decides id id).1 refl
 same_itself (Reference d reference) = λ i. nat_itself d i && (bytes_eq-Decides reference reference).1 refl i
 
 flipped : (a b : TextOf) → is_same_text a b ≡ is_same_text b a
-flipped (Licence id) (Licence other) = bytes_flipped id other
+flipped (Licence id) (Licence other) = texts_turned id other
 flipped (Licence id) (Reference e other) = refl
 flipped (Reference d reference) (Licence other) = refl
-flipped (Reference d reference) (Reference e other) = λ i. nat_flipped d e i && bytes_flipped reference other i
+flipped (Reference d reference) (Reference e other) = λ i. nat_flipped d e i && texts_turned reference other i
 
 -- One text more
 
@@ -128,7 +119,7 @@ any_key x [] = refl
 any_key x (y ∷ xs) = λ i. same_key x y i || any_key x xs i
 
 turned : (a b : TextKey) → is_eq (key_order a b) ≡ is_eq (key_order b a)
-turned a b = key_equal a b ∙ (λ i. nat_flipped a.document b.document i && bytes_flipped a.name b.name i) ∙ sym (key_equal b a)
+turned a b = key_equal a b ∙ (λ i. nat_flipped a.document b.document i && texts_turned a.name b.name i) ∙ sym (key_equal b a)
 
 -- a text is new where none before is the same
 pub is_new : (xs : List TextOf) (seen : BTreeSet TextKey) (x : TextOf) (key : TextKey) (told : Bool) → key ≡ text_key x → HasTexts xs seen
