@@ -1,22 +1,20 @@
 -- Texts in the order of first use: one text more is at the end, if it isn't among them.
-use Rattle.std.proofs.Common.{◌≡◌, ◌∙◌, inl, inr, ℕ, Bool, true, false, cond, List, [], ◌∷◌, ◌++◌, sym, ap, refl}
+use Rattle.std.proofs.Common.{◌≡◌, ◌∙◌, inl, inr, ℕ, Bool, true, false, cond, List, [], ◌∷◌, ◌++◌, sym, ap, refl, subst}
 use Rattle.std.specs.Prelude.{◌||◌, not, filter, if◌then◌else◌}
 use Rattle.std.specs.List.{list_any}
 use Rattle.std.specs.Str.{bytes_eq}
-use Rattle.std.proofs.lemmas.Bool.{cases_Bool, false≢true}
+use Rattle.std.proofs.lemmas.Bool.{false≢true}
 use Rattle.std.proofs.lemmas.List.{append-nil}
 use Rattle.std.proofs.lemmas.List.Elements.{filter-append}
 use Rattle.std.proofs.lemmas.Slice.Eq.{bytes_eq-Decides}
 use Rattle.desk_page.specs.Rows.{first_uses}
+use Rattle.desk_base.proofs.Texts.{text_tells}
 
 flipped : (a b : List ℕ) → bytes_eq a b ≡ bytes_eq b a
 flipped a b =
-    elim (cases_Bool (bytes_eq a b)) [
-      | inl same ↦ same ∙ sym ((bytes_eq-Decides b a).1 (sym ((bytes_eq-Decides a b).0 same)))
-      | inr other ↦ elim (cases_Bool (bytes_eq b a)) [
-        | inl same ↦ absurd (false≢true (sym other ∙ (bytes_eq-Decides a b).1 (sym ((bytes_eq-Decides b a).0 same))))
-        | inr other' ↦ other ∙ sym other'
-      ]
+    elim (text_tells a b) [
+      | inl w ↦ subst (λ (t : List ℕ). bytes_eq a t ≡ bytes_eq t a) w.1 refl
+      | inr w ↦ (elim (text_tells b a) [ inl v ↦ absurd (w.1 (sym v.1)) | inr v ↦ w.0 ∙ sym v.0 ])
     ]
 
 added : (x : List ℕ) (xs : List (List ℕ)) (y : List ℕ) (b : Bool)
