@@ -1,8 +1,8 @@
 mod Cutting
 pub mod Chains
 mod Gathering
-mod Losing
-mod OneLine
-mod Progress
-mod Results
+pub mod Losing
+pub mod OneLine
+pub mod Progress
+pub mod Results
 pub mod Applied

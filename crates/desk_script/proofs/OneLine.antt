@@ -4,7 +4,8 @@ use Rattle.std.specs.Prelude.{if◌then◌else◌, nat_lt}
 use Rattle.std.specs.Io.KnownBytes.{Appends}
 use Rattle.std.proofs.lemmas.List.{take_all}
 use Rattle.desk_model.specs.Readings.{Readings}
-use Rattle.desk_model.specs.Tables.{Tables}
+use Rattle.desk_model.specs.Tables.{Tables, tables}
+use Rattle.desk_model.specs.declared.command.Command.{Command}
 use Rattle.desk_access.specs.Seen.{Seen}
 use Rattle.desk_access.proofs.Chains.{outlasts_self, spared_self}
 use Rattle.desk_model.specs.declared.command.Fault.TheVariants as fault_is
@@ -17,7 +18,7 @@ use Rattle.desk_script.specs.Gathered.{HasCome}
 use Rattle.desk_base.specs.Limits.{line_bytes}
 use Rattle.desk_script.specs.Lines.{request_at, request_of}
 use Rattle.desk_script.specs.Losses.{AreDone, IfStop, Loses}
-use Rattle.desk_script.specs.Replies.{Replies}
+use Rattle.desk_script.specs.Replies.{Fits, IsLeftBy, IsReply, Replies, SparesStore, history_past}
 use Rattle.desk_script.specs.Script.{Serves, ServesUntil}
 use Rattle.desk_script.specs.Texts.{line_of, count_refused, count_failed}
 use Rattle.desk_script.specs.declared.answer.Reply.{Reply}
@@ -53,54 +54,30 @@ pub request_at-one : (line : Line) (text : List ℕ) → HasCome line text → l
 request_at-one line text h blank = ap (λ (b : Bool). if b then [] else request_of text ∷ []) (sym h.blank ∙ blank)
 
 module _ (is_right : Readings → Type 0) (tells : StoreFault → Type 0) {Left : Type 0} (stands : Left → Tables → Type 0) where
-  -- memory is wanting to read a request
-  pub Replies-memory : (now : Seen Left) (request : Request) → Replies is_right tells stands now request (Became (outcome_is.Failed fault_is.Memory)) now
-  Replies-memory now (Act c) = record {
-    fits = tt;
+  -- a reply that leaves the desk as it is
+  still : (now : Seen Left) (request : Request) (reply : Reply) → Fits tells request reply → ((w : Readings) (h : List Command) → IsReply w h request reply)
+      → ((h : List Command) → h ≡ history_past h request reply) → ((w : Readings) → SparesStore w request reply)
+      → ((w : Readings) (h : List Command) (x : Left) → now.leaves x → IsLeftBy stands w h now request reply x) → Replies is_right tells stands now request reply now
+  still now request reply fits answer past alone leaves = record {
+    fits = fits;
     honest = λ h. h;
     keeps = λ none. spared_self now;
     outlasts = outlasts_self now;
-    answer = λ w right clean h ok held. tt;
-    content = λ w right clean h ok held. held;
-    alone = λ w right. tt;
-    stays = λ none. absurd (omega (arith, none));
-    leaves = λ w right clean h ok held x left shown. inl left;
-  }
-  Replies-memory now (Ask q) = record {
-    fits = tt;
-    honest = λ h. h;
-    keeps = λ none. spared_self now;
-    outlasts = outlasts_self now;
-    answer = λ w right clean h ok held. tt;
-    content = λ w right clean h ok held. held;
-    alone = λ w right. tt;
-    stays = λ none. absurd (omega (arith, none));
-    leaves = λ w right clean h ok held x left shown. left;
-  }
-  Replies-memory now BadCommand = record {
-    fits = tt;
-    honest = λ h. h;
-    keeps = λ none. spared_self now;
-    outlasts = outlasts_self now;
-    answer = λ w right clean h ok held. tt;
-    content = λ w right clean h ok held. held;
-    alone = λ w right. tt;
-    stays = λ none. absurd (omega (arith, none));
-    leaves = λ w right clean h ok held x left shown. left;
+    answer = λ w right clean h ok held. answer w h;
+    content = λ w right clean h ok held. subst (λ (k : List Command). now.holds (tables w k)) (past h) held;
+    alone = λ w right. alone w;
+    stays = λ none w right clean h ok held shown. shown;
+    leaves = λ w right clean h ok held. leaves w h;
   }
 
+  -- memory is wanting to read a request
+  pub Replies-memory : (now : Seen Left) (request : Request) → Replies is_right tells stands now request (Became (outcome_is.Failed fault_is.Memory)) now
+  Replies-memory now (Act c) = still now (Act c) (Became (outcome_is.Failed fault_is.Memory)) tt (λ w h. tt) (λ h. refl) (λ w. tt) (λ w h x left shown. inl left)
+  Replies-memory now (Ask q) = still now (Ask q) (Became (outcome_is.Failed fault_is.Memory)) tt (λ w h. tt) (λ h. refl) (λ w. tt) (λ w h x left shown. left)
+  Replies-memory now BadCommand = still now BadCommand (Became (outcome_is.Failed fault_is.Memory)) tt (λ w h. tt) (λ h. refl) (λ w. tt) (λ w h x left shown. left)
+
   pub no_request : (now : Seen Left) → Replies is_right tells stands now BadCommand NoRequest now
-  no_request now = record {
-    fits = tt;
-    honest = λ h. h;
-    keeps = λ none. spared_self now;
-    outlasts = outlasts_self now;
-    answer = λ w right clean h ok held. tt;
-    content = λ w right clean h ok held. held;
-    alone = λ w right. tt;
-    stays = λ none w right clean h ok held shown. shown;
-    leaves = λ w right clean h ok held x left shown. left;
-  }
+  no_request now = still now BadCommand NoRequest tt (λ w h. tt) (λ h. refl) (λ w. tt) (λ w h x left shown. left)
 
   -- a long line is no request
   pub Replies-long : (now : Seen Left) (line : Line) (text : List ℕ) → HasCome line text → line.is_long ≡ true → Replies is_right tells stands now (request_of text) NoRequest now

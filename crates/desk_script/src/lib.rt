@@ -29,6 +29,6 @@ mod stream;
 mod watch;
 
 pub use answer::{Reply, command_outcome, question_outcome};
-pub use serving::{ScriptEnd, ScriptFault};
+pub use serving::{ScriptEnd, ScriptFault, write_bytes};
 pub use stream::script;
 pub use watch::Watch;

@@ -96,7 +96,7 @@ fn write_some<W: Write>(writer: &mut W, bytes: &[u8]) -> Result<usize, ScriptFau
 
 /// Writes bytes as `write_all` does, of which nothing is known after a fault: here a front of them
 /// is written then.
-fn write_bytes<W: Write>(writer: &mut W, bytes: &[u8]) -> Result<(), ScriptFault>
+pub fn write_bytes<W: Write>(writer: &mut W, bytes: &[u8]) -> Result<(), ScriptFault>
     ensures ok { OnOk result (Appends (W.contents writer.old) (W.contents writer.new) bytes.now) }
     ensures err { OnErr result
         (AppendsFront (W.contents writer.old) (W.contents writer.new) bytes.now) }
