@@ -1,7 +1,6 @@
 -- Connections are lines of a script.
 use Rattle.std.proofs.Common.{◌≡◌, ℕ, Bool, List, [], ◌∷◌, refl, sym, subst}
 use Rattle.desk_access.specs.Seen.{Seen}
-use Rattle.desk_access.proofs.Chains.{outlasts_self, spared_self}
 use Rattle.desk_http.specs.Requests.{request_for}
 use Rattle.desk_http.specs.declared.asking.Reply.{Reply}
 use Rattle.desk_http.specs.declared.asking.Reply.TheVariants.{Became, Bad, NoRoute, BadCommand, NotText, Memory}
@@ -15,26 +14,13 @@ use Rattle.desk_model.specs.Readings.{Readings}
 use Rattle.desk_model.specs.Tables.{Tables}
 use Rattle.desk_model.specs.declared.command.StoreFault.{StoreFault}
 use Rattle.desk_script.specs.Replies.{Replies, AreReplied}
+use Rattle.desk_script.proofs.OneLine.{no_request}
 use Rattle.desk_script.specs.declared.answer.Reply as script_reply
 use Rattle.desk_script.specs.declared.answer.Reply.TheVariants as script
 
 module _ (is_right : Readings → Type 0) (tells : StoreFault → Type 0) {Left Desk : Type 0} (stands : Left → Tables → Type 0) (seen : Desk → Seen Left) where
-  -- no request leaves what is seen
-  nothing : (s : Seen Left) → Replies is_right tells stands s line.BadCommand script.NoRequest s
-  nothing s = record {
-    fits = tt;
-    honest = λ h. h;
-    keeps = λ e. spared_self s;
-    outlasts = outlasts_self s;
-    answer = λ w right honest h ok holds. tt;
-    content = λ w right honest h ok holds. holds;
-    alone = λ w right. tt;
-    stays = λ none w right honest h ok holds shown. shown;
-    leaves = λ w right honest h ok holds x left shown. left;
-  }
-
   unasked : (before after : Desk) → after ≡ before → Replies is_right tells stands (seen before) line.BadCommand script.NoRequest (seen after)
-  unasked before after same = subst (λ (d : Desk). Replies is_right tells stands (seen before) line.BadCommand script.NoRequest (seen d)) (sym same) (nothing (seen before))
+  unasked before after same = subst (λ (d : Desk). Replies is_right tells stands (seen before) line.BadCommand script.NoRequest (seen d)) (sym same) (no_request is_right tells stands (seen before))
 
   -- a request of a connection is replied as a line
   as_line : (before after : Desk) (get : Bool) (r : Reply) (q : Request) → Answers is_right tells stands seen get before r q after

@@ -4,5 +4,4 @@ pub mod Stability
 pub mod Found
 pub mod LineEnds
 pub mod Settled
-pub mod Fronts
 pub mod Short

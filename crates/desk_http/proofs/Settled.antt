@@ -7,12 +7,12 @@ use Rattle.desk_http.specs.Framings.{Framed, part, bad, whole, after_head, IsFra
 use Rattle.desk_http.specs.declared.framing.Awaited.{Awaited}
 use Rattle.desk_http.specs.declared.framing.Awaited.TheVariants.{Start, Head, Body}
 use Rattle.desk_http.proofs.Stability.{BeginsWith-unique, IsAsked-settled, IsAsked-ended, NeverHasHead-long, NeverHasHead-over}
-use Rattle.std.specs.Prelude.{Option, Some, None, ◌≤◌}
-use Rattle.std.specs.Io.KnownBytes.{Consumes, IsAtEnd}
+use Rattle.std.specs.Prelude.{Option, ◌≤◌}
+use Rattle.std.specs.Io.KnownBytes.{Consumes}
 use Rattle.std.proofs.KnownBytes.{Consumes-trans}
 use Rattle.desk_http.proofs.LineEnds.{HasNoHead-line, HasNoHead-ends, AreLineEnds-append}
 use Rattle.desk_http.specs.Limits.{request_bytes, piece_bytes}
-use Rattle.desk_http.specs.Receiving.{AreLeft, IsPrompt, IsUndue}
+use Rattle.desk_http.specs.Receiving.{IsPrompt, IsUndue}
 use Rattle.desk_http.specs.declared.status.Status.TheVariants.{BadRequest}
 
 -- bytes without a head that are read as settled are so whatever follows
@@ -73,19 +73,7 @@ IsAwaited-undue front came bytes (Body count) e undue x = (
 pub IsAwaited-nil : IsAwaited [] Start
 IsAwaited-nil = (refl, omega arith)
 
--- ---- what a reader gave, and what it has left
-
-pub AreLeft-all : (old mid new : Option (List ℕ)) (front got : List ℕ) → Consumes old mid front → Consumes mid new got → got ≡ [] → IsAtEnd new → AreLeft old front
-AreLeft-all None mid new front got h k none end = tt
-AreLeft-all (Some xs) None new front got h k none end = absurd h
-AreLeft-all (Some xs) (Some ys) None front got h k none end = absurd k
-AreLeft-all (Some xs) (Some ys) (Some zs) front got h k none end =
-    h ∙ (ap (λ (l : List ℕ). front ++ l) (k ∙ (ap (λ (l : List ℕ). l ++ zs) none ∙ end)) ∙ append-nil front)
-
-pub AreLeft-front : (old mid : Option (List ℕ)) (front : List ℕ) → Consumes old mid front → (more : List ℕ) × AreLeft old (front ++ more)
-AreLeft-front None mid front h = ([], tt)
-AreLeft-front (Some xs) None front h = absurd h
-AreLeft-front (Some xs) (Some ys) front h = (ys, h)
+-- ---- how far a reader was read
 
 -- a reader that was read so far, and no further
 pub IsPrompt-still : (old new : Option (List ℕ)) (bytes : List ℕ) (awaited : Awaited) → Consumes old new bytes → IsAwaited bytes awaited → IsPrompt old new

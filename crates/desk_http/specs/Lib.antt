@@ -6,7 +6,6 @@ pub mod Fields
 pub mod Heads
 pub mod Framings
 pub mod Receiving
-pub mod Sending
 pub mod Paths
 pub mod Routes
 pub mod Requests

@@ -1,5 +1,5 @@
 -- What is read of a connection, and when.
-use Rattle.std.specs.Prelude.{◌≡◌, ◌≢◌, ℕ, ◌<◌, ◌≤◌, List, All, ◌++◌, length, Option, IfSome}
+use Rattle.std.specs.Prelude.{◌≡◌, ◌≢◌, ℕ, ◌<◌, ◌≤◌, List, All, ◌++◌, length, Option}
 use Rattle.std.specs.Io.KnownBytes.{Consumes}
 use Rattle.desk_http.specs.Framings.{Framed, IsFraming, closed, IsAsked, AwaitsMore}
 use Rattle.desk_http.specs.Heads.{AreLineEnds}
@@ -10,10 +10,6 @@ use Rattle.desk_http.specs.declared.receiving.Received.{Received}
 use Rattle.desk_http.specs.declared.receiving.Received.TheVariants.{Nothing, Memory, Bytes}
 use Rattle.desk_http.specs.declared.receiving.ServeFault.{ServeFault}
 use Rattle.desk_http.specs.declared.receiving.ServeFault.TheVariants.{Read, Write, Turns}
-
--- the bytes that a reader has left; of one that doesn't show them, any
-abbrev pub AreLeft : Option (List ℕ) → List ℕ → Type 0
-AreLeft remaining bytes = IfSome remaining (λ known. known ≡ bytes)
 
 -- each reading of these bytes says what all bytes ask that begin with them
 abbrev pub IsSettled : List ℕ → Type 0

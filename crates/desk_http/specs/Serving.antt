@@ -4,8 +4,8 @@ use Rattle.std.specs.Str.{bytes_eq}
 use Rattle.std.specs.Io.KnownBytes.{Appends, Consumes, Keeps}
 use Rattle.desk_http.specs.Framings.{Asked, refused, asked, IsAsked}
 use Rattle.desk_http.specs.Limits as most
-use Rattle.desk_http.specs.Receiving.{AreLeft}
-use Rattle.desk_http.specs.Sending.{AppendsFront}
+use Rattle.desk_script.specs.Script.{AreLeft}
+use Rattle.desk_script.specs.Losses.{AppendsFront}
 use Rattle.desk_http.specs.declared.receiving.ServeFault.{ServeFault}
 use Rattle.desk_http.specs.declared.receiving.ServeFault.TheVariants as fault
 use Rattle.desk_http.specs.Replies.{Told, IsTold, reply_bytes}

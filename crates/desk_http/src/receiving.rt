@@ -5,7 +5,8 @@ ghost use Rattle.std.specs.Io.KnownBytes.{Consumes};
 ghost use Rattle.std.specs.List.{list_all};
 ghost use Rattle.desk_http.specs.Heads.{is_line_byte};
 ghost use Rattle.desk_http.specs.Framings.{IsAwaited};
-ghost use Rattle.desk_http.specs.Receiving.{AreLeft, IsSettled, IsReceived, IsPrompt, IsOfReader, IsUndue};
+ghost use Rattle.desk_http.specs.Receiving.{IsSettled, IsReceived, IsPrompt, IsOfReader, IsUndue};
+ghost use Rattle.desk_script.specs.Script.{AreLeft};
 
 use crate::framing::{Awaited, Framing, frame};
 use crate::limits::{HEAD_BYTES, READS};

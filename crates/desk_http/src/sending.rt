@@ -1,44 +1,24 @@
 //! Writes bytes.
 
-ghost use Rattle.std.specs.Prelude.{◌≡◌, ◌++◌, ◌≤◌, IfOk, IfErr, OnOk, OnErr, length, take};
-ghost use Rattle.std.specs.Io.KnownBytes.{Appends, Keeps};
-ghost use Rattle.desk_http.specs.Sending.{AppendsFront};
+ghost use Rattle.std.specs.Prelude.{◌≡◌, ◌++◌, IfErr, OnOk, OnErr};
+ghost use Rattle.std.specs.Io.KnownBytes.{Appends};
+ghost use Rattle.desk_script.specs.Losses.{AppendsFront};
 
 use crate::receiving::ServeFault;
-use std::io::{ErrorKind, Write};
+use desk_script::write_bytes;
+use std::io::Write;
 
-/// Writes some front of the bytes, which is empty where the writer was interrupted.
-fn write_some<W: Write>(writer: &mut W, bytes: &[u8]) -> Result<usize, ServeFault>
-    ensures ok { IfOk result (λ taken. (taken ≤ length bytes.now)
-        × Appends (W.contents writer.old) (W.contents writer.new) (take taken bytes.now)) }
-    ensures err { OnErr result (Keeps (W.contents writer.old) (W.contents writer.new)) }
-    ensures fault { IfErr result (λ fault. fault ≡ ServeFault.Write) }
-{
-    match writer.write(bytes) {
-        Ok(0) => Err(ServeFault::Write),
-        Ok(taken) => Ok(taken),
-        Err(error) if error.kind() == ErrorKind::Interrupted => Ok(0),
-        Err(_) => Err(ServeFault::Write),
-    }
-}
-
-/// Writes bytes, as `write_all` does. After a fault of `write_all` nothing is known: here a front
-/// of the bytes was written then.
+/// Writes bytes. After a fault a front of them was written.
 fn write_whole<W: Write>(writer: &mut W, bytes: &[u8]) -> Result<(), ServeFault>
     ensures ok { OnOk result (Appends (W.contents writer.old) (W.contents writer.new) bytes.now) }
     ensures err { OnErr result
         (AppendsFront (W.contents writer.old) (W.contents writer.new) bytes.now) }
     ensures fault { IfErr result (λ fault. fault ≡ ServeFault.Write) }
 {
-    let mut rest = bytes;
-    for _ in 0..u64::MAX {
-        if rest.is_empty() {
-            return Ok(());
-        }
-        let taken = write_some(writer, rest)?;
-        rest = &rest[taken..];
+    match write_bytes(writer, bytes) {
+        Ok(()) => Ok(()),
+        Err(_) => Err(ServeFault::Write),
     }
-    Err(ServeFault::Write)
 }
 
 /// Writes bytes and flushes the writer. After a fault a front of the bytes was written.

@@ -2,8 +2,9 @@
 
 ghost use Rattle.std.specs.Prelude.{◌≡◌, List, ℕ, IfOk, IfErr, OnErr};
 ghost use Rattle.std.specs.Io.KnownBytes.{Appends};
-ghost use Rattle.desk_http.specs.Receiving.{AreLeft, IsPrompt};
-ghost use Rattle.desk_http.specs.Sending.{AppendsFront};
+ghost use Rattle.desk_http.specs.Receiving.{IsPrompt};
+ghost use Rattle.desk_script.specs.Script.{AreLeft};
+ghost use Rattle.desk_script.specs.Losses.{AppendsFront};
 ghost use Rattle.desk_http.specs.Replies.{Told, IsTold, reply_bytes};
 ghost use Rattle.desk_http.specs.Serving.{IsServed, IsStopped};
 

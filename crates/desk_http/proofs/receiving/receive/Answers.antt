@@ -5,7 +5,8 @@ use Rattle.std.proofs.lemmas.List.{length-take}
 use Rattle.desk_http.specs.Framings.{IsAwaited, IsFraming}
 use Rattle.desk_http.specs.declared.framing.Awaited.TheVariants.{Start}
 use Rattle.desk_http.specs.Receiving.{IsSettled}
-use Rattle.desk_http.proofs.Settled.{AreLeft-front, IsAwaited-nil, IsPrompt-piece, IsPrompt-still}
+use Rattle.desk_script.proofs.Progress.{AreLeft-front}
+use Rattle.desk_http.proofs.Settled.{IsAwaited-nil, IsPrompt-piece, IsPrompt-still}
 use Rattle.desk_http.proofs.receiving.receive.Goals as goal
 
 pub loop-turn-init : goal.loop-turn-init
