@@ -1,7 +1,8 @@
 //! Annotations.
 
 use crate::glob::Glob;
-use desk_base::{Items, Text};
+use crate::shared::SharedText;
+use desk_base::Items;
 
 /// How an annotation stands to what a file states itself.
 #[derive(Clone, Copy, PartialEq, Eq)]
@@ -22,9 +23,9 @@ pub struct Annotation {
     /// How it stands to what a file states itself.
     pub precedence: Precedence,
     /// Copyright notices, as they are written.
-    pub notices: Items<Text>,
+    pub notices: Items<SharedText>,
     /// Licence expressions, as they are written.
-    pub licences: Items<Text>,
+    pub licences: Items<SharedText>,
 }
 
 /// The annotations of a REUSE.toml.

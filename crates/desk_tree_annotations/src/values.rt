@@ -9,7 +9,8 @@ ghost use Rattle.desk_base.specs.Borrowed.{texts, texts_in};
 
 use crate::annotation::Precedence;
 use crate::glob::Glob;
-use desk_base::{Items, Text};
+use crate::shared::SharedText;
+use desk_base::Items;
 use std::alloc::{AllocError, Global};
 use toml::{Table, Value};
 
@@ -102,12 +103,12 @@ pub(crate) fn precedence_of(text: &str) -> Option<Precedence>
 }
 
 /// Copies of texts.
-pub(crate) fn copies(alloc: Global, listed: &[&str]) -> Result<Items<Text>, AllocError>
+pub(crate) fn copies(alloc: Global, listed: &[&str]) -> Result<Items<SharedText>, AllocError>
     ensures { IfOk result (λ v. v ≡ texts listed.now) }
 {
     let mut copies = Items::new(alloc);
     for text in listed {
-        copies.push(Text::of(alloc, text)?)?;
+        copies.push(SharedText::of(alloc, text)?)?;
     }
     Ok(copies)
 }
