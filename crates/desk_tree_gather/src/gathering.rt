@@ -4,21 +4,24 @@ ghost use Rattle.std.specs.Prelude.{◌≡◌, ◌⊎◌, List, IfOk, IfErr, Ok,
 ghost use Rattle.desk_tree_annotations.specs.Tags.{tag_text};
 ghost use Rattle.desk_tree_gather.specs.Readers.{Reader, IsRightReader, Stated};
 ghost use Rattle.desk_tree_gather.specs.Tomls.{TomlText};
+ghost use Rattle.desk_model.specs.Texts.{sorted_set};
 ghost use Rattle.desk_tree_gather.specs.Folders.{Holds};
+ghost use Rattle.desk_tree_gather.specs.Information.{given};
 ghost use Rattle.desk_tree_gather.specs.Gathering.{holder, bad_line, stated_in, values, info_with, info_of, infos_of, gathered};
 ghost use Rattle.desk_tree_gather.specs.Trees.{each};
 ghost use Rattle.desk_tree_gather.specs.Paths.{is_covered};
 ghost use Rattle.desk_tree_gather.specs.Shown.{Gives, file_of, files_of, held_in, tree_in, annotations_of, stated_of};
-ghost use Rattle.desk_base.specs.Borrowed.{texts_in};
 
 use crate::counting::counting;
 use crate::fault::GatherFault;
 use crate::files::{File, SourceFile, bytes_at, files_of, is_covered, tree_of};
 use crate::information::{Subject, given};
+use crate::sets::shared_set;
 use crate::tomls::{by_folder, tomls_of};
 use desk_base::{Items, Text};
-use desk_catalogue::sorted_set;
-use desk_tree_annotations::{Annotation, Annotations, Info, Tagged, header, is_expression_beside};
+use desk_tree_annotations::{
+    Annotation, Annotations, Info, SharedText, Tagged, header, is_expression_beside,
+};
 use std::alloc::{AllocError, Global};
 use std::collections::BTreeMap;
 
@@ -28,9 +31,9 @@ pub struct FileInfo {
     /// Its path.
     pub path: Text,
     /// Copyright notices, each once, in byte order.
-    pub notices: Items<Text>,
+    pub notices: Items<SharedText>,
     /// Licence expressions, each once, in byte order.
-    pub licences: Items<Text>,
+    pub licences: Items<SharedText>,
 }
 
 /// The files that are known by path, and the annotations by folder.
@@ -114,14 +117,29 @@ fn own_of<'a>(
     stated_in(alloc, held.path.as_str(), held.bytes)
 }
 
-fn values<'a>(alloc: Global, tags: &[Tagged<'a>]) -> Result<Vec<&'a str>, AllocError>
-    ensures { IfOk result (λ v. texts_in v ≡ values (map tag_text tags.now)) }
+fn values(alloc: Global, tags: &[Tagged<'_>]) -> Result<Vec<SharedText>, AllocError>
+    ensures { IfOk result (λ v. v.items ≡ values (map tag_text tags.now)) }
 {
     let mut values = Vec::new(alloc);
     for tag in tags {
-        values.push(tag.value)?;
+        values.push(SharedText::of(alloc, tag.value)?)?;
     }
     Ok(values)
+}
+
+// The distinct texts of a file in byte order, from its own and the annotations that count.
+fn set_of(
+    alloc: Global,
+    of: Subject,
+    own: &[Tagged<'_>],
+    counting: &[&Annotation],
+) -> Result<Items<SharedText>, AllocError>
+    ensures { IfOk result (λ set. set
+        ≡ sorted_set (given of (values (map tag_text own.now)) (annotations_of counting.now))) }
+{
+    let own = values(alloc, own)?;
+    let texts = given(alloc, of, own.as_slice(), counting)?;
+    shared_set(alloc, texts)
 }
 
 /// The information of a file, from its own and the annotations that count.
@@ -134,14 +152,10 @@ pub(crate) fn info_with(
     ensures { IfOk result (λ i. i
         ≡ info_with path.now (annotations_of counting.now) (stated_of own.now)) }
 {
-    let notices = values(alloc, own.notices.as_slice())?;
-    let notices = given(alloc, Subject::Notices, notices.as_slice(), counting)?;
-    let licences = values(alloc, own.licences.as_slice())?;
-    let licences = given(alloc, Subject::Licences, licences.as_slice(), counting)?;
     Ok(FileInfo {
         path: Text::of(alloc, path)?,
-        notices: sorted_set(alloc, notices)?,
-        licences: sorted_set(alloc, licences)?,
+        notices: set_of(alloc, Subject::Notices, own.notices.as_slice(), counting)?,
+        licences: set_of(alloc, Subject::Licences, own.licences.as_slice(), counting)?,
     })
 }
 

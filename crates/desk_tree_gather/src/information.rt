@@ -3,10 +3,8 @@
 ghost use Rattle.std.specs.Prelude.{◌≡◌, ◌++◌, IfOk, OnOk};
 ghost use Rattle.desk_tree_gather.specs.Information.{texts_of, some_or, given};
 ghost use Rattle.desk_tree_gather.specs.Shown.{annotations_of};
-ghost use Rattle.desk_base.specs.Borrowed.{texts, texts_in};
 
-use desk_base::Text;
-use desk_tree_annotations::{Annotation, Precedence};
+use desk_tree_annotations::{Annotation, Precedence, SharedText};
 use std::alloc::{AllocError, Global};
 
 /// What is asked of a file.
@@ -19,7 +17,7 @@ pub(crate) enum Subject {
 }
 
 // The texts of an annotation.
-fn texts_of<'m>(of: Subject, annotation: &'m Annotation) -> &'m [Text]
+fn texts_of<'m>(of: Subject, annotation: &'m Annotation) -> &'m [SharedText]
     ensures { result.now ≡ texts_of of annotation.now }
 {
     match of {
@@ -29,49 +27,47 @@ fn texts_of<'m>(of: Subject, annotation: &'m Annotation) -> &'m [Text]
 }
 
 // Texts, or others where there are none.
-fn some_or<'m>(texts: &'m [Text], others: &'m [Text]) -> &'m [Text]
+fn some_or<'m>(texts: &'m [SharedText], others: &'m [SharedText]) -> &'m [SharedText]
     ensures { result.now ≡ some_or texts.now others.now }
 {
     if texts.is_empty() { others } else { texts }
 }
 
-// Adds texts to borrowed ones.
-fn add<'m>(list: &mut Vec<&'m str>, more: &'m [Text]) -> Result<(), AllocError>
-    ensures { OnOk result (texts_in list.new ≡ texts_in list.old ++ more.now) }
+// Adds texts to others.
+fn add(list: &mut Vec<SharedText>, more: &[SharedText]) -> Result<(), AllocError>
+    ensures { OnOk result (list.new.items ≡ list.old.items ++ more.now) }
 {
     for text in more {
-        list.push(text.as_str())?;
+        list.push(text.clone()?)?;
     }
     Ok(())
 }
 
 // Adds a file's own texts, or others where it has none.
-fn add_own<'m>(
-    list: &mut Vec<&'m str>,
-    own: &[&'m str],
-    others: &'m [Text],
+fn add_own(
+    list: &mut Vec<SharedText>,
+    own: &[SharedText],
+    others: &[SharedText],
 ) -> Result<(), AllocError>
-    ensures { OnOk result (texts_in list.new
-        ≡ texts_in list.old ++ some_or (texts own.now) others.now) }
+    ensures { OnOk result (list.new.items ≡ list.old.items ++ some_or own.now others.now) }
 {
     if own.is_empty() {
         return add(list, others);
     }
-    list.extend_from_slice(own)
+    add(list, own)
 }
 
 /// The texts of a file: its own, and those of the annotations that count.
-pub(crate) fn given<'m>(
+pub(crate) fn given(
     alloc: Global,
     of: Subject,
-    own: &[&'m str],
-    counting: &[&'m Annotation],
-) -> Result<Vec<&'m str>, AllocError>
-    ensures { IfOk result (λ v. texts_in v
-        ≡ given of (texts own.now) (annotations_of counting.now)) }
+    own: &[SharedText],
+    counting: &[&Annotation],
+) -> Result<Vec<SharedText>, AllocError>
+    ensures { IfOk result (λ v. v.items ≡ given of own.now (annotations_of counting.now)) }
 {
     let mut list = Vec::new(alloc);
-    let mut closest: &[Text] = &[];
+    let mut closest: &[SharedText] = &[];
     for annotation in counting {
         let texts = texts_of(of, annotation);
         match annotation.precedence {
