@@ -8,7 +8,7 @@
 //! begins in this one. So the pieces behind it are held against each name once, and a search takes
 //! at most about the pieces times the bytes of the path.
 
-ghost use Rattle.std.specs.Prelude.{◌≡◌, ◌↔◌, ◌<◌, ◌+◌, ℕ, List, length, Some, IsTrue, IfSome, IfNone};
+ghost use Rattle.std.specs.Prelude.{◌≡◌, ◌↔◌, ◌<◌, ◌+◌, ◌∷◌, [], ℕ, List, length, Some, IsTrue, IfSome, IfNone};
 ghost use Rattle.desk_tree_annotations.specs.declared.glob.Piece.{Piece};
 ghost use Rattle.desk_tree_annotations.specs.Glob.{IsMatch};
 ghost use Rattle.desk_tree_annotations.specs.Steps.{spot, back, state, Longer, NoLonger, IsBehindName, Further, NoFurther, Follows, Stuck, Spent, Returns, Steps, Ends};
@@ -135,6 +135,13 @@ fn step<'a>(search: Search<'a>) -> Option<Search<'a>>
     }
 }
 
+// Whether one `**` is left, which takes all that is left of a text.
+fn is_any(pieces: &[Piece]) -> bool
+    ensures { IsTrue result ↔ (pieces.now ≡ Piece.InPath ∷ []) }
+{
+    matches!(pieces, [Piece::InPath])
+}
+
 /// Whether the path divides into stretches, one for each piece in order.
 pub(crate) fn matches(pieces: &[Piece], path: &[u8]) -> bool
     ensures { IsTrue result ↔ IsMatch pieces.now path.now }
@@ -145,6 +152,9 @@ pub(crate) fn matches(pieces: &[Piece], path: &[u8]) -> bool
         path: None,
     };
     while !(search.here.pieces.is_empty() && search.here.text.is_empty()) {
+        if is_any(search.here.pieces) {
+            return true;
+        }
         let Some(next) = step(search) else {
             return false;
         };
