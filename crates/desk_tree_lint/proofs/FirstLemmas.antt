@@ -1,34 +1,23 @@
 -- First mentions in a map.
-use Rattle.std.proofs.Common.{◌≡◌, ◌∙◌, inl, inr, subst, sym, ℕ, Bool, true, false, cond, List, [], ◌∷◌, ◌++◌, length, Option, Some, None, ap, refl, nat_cmp, is_eq, Ordering}
-use Rattle.std.specs.Prelude.{Vec, option_map}
+use Rattle.std.proofs.Common.{◌≡◌, ◌∙◌, ◌+◌, ◌<◌, inl, inr, subst, sym, ℕ, Bool, true, false, cond, List, [], ◌∷◌, ◌++◌, length, get_or, take, Option, Some, None, ap, refl, nat_cmp, is_eq, Ordering}
+use Rattle.std.specs.Prelude.{Vec, is_some, option_map}
 use Rattle.std.specs.Str.{bytes_eq}
 use Rattle.std.specs.declared.alloc.Global.{Global}
 use Rattle.std.specs.Cmp.Lexicographic.{slice_cmp}
 use Rattle.std.specs.BTreeMap.{Updates, is_at}
 use Rattle.std.specs.Map.{lookup, IsKeyTest, AreApart, KeepsOthers}
 use Rattle.std.specs.Ordering.{eq_by_cmp}
-use Rattle.std.proofs.lemmas.Bool.{cases_Bool}
+use Rattle.std.proofs.lemmas.Bool.{cases_Bool, false≢true}
+use Rattle.std.proofs.lemmas.List.{append_assoc, flat_map_more, map_more, take_more}
 use Rattle.std.proofs.lemmas.Cmp.{eq_by_cmp_equiv, nat_list_cmp_total, nat_list_eq_equiv}
 use Rattle.std.proofs.lemmas.Slice.Eq.{bytes_eq-Decides}
 use Rattle.std.proofs.lemmas.Map.Text.{is_eq-slice_cmp}
 use Rattle.desk_tree_lint.specs.declared.naming.Mention.{Mention}
-use Rattle.desk_tree_lint.specs.Firsts.{Firsts, mention_in, mentions_shown, kept_for}
-use Rattle.desk_tree_lint.specs.Naming.{MentionText, first_with}
+use Rattle.desk_tree_gather.specs.declared.gathering.FileInfo.{FileInfo}
+use Rattle.desk_tree_gather.specs.Information.{or_else}
+use Rattle.desk_tree_lint.specs.Firsts.{Firsts, mention_in, mentions_shown, kept_for, Holds}
+use Rattle.desk_tree_lint.specs.Naming.{MentionText, mentions_in, mentions, first_with}
 use Rattle.desk_tree_lint.specs.Texts.{key_of}
-
--- the first with a key, or another where none has it
-abbrev pub first_or : List MentionText → List ℕ → Option MentionText → Option MentionText
-first_or [] key other = other
-first_or (m ∷ ms) key other = cond (bytes_eq (key_of m.id) key) (Some m) (first_or ms key other)
-
-pub first_or-none : (ms : List MentionText) (key : List ℕ) → first_or ms key None ≡ first_with key ms
-first_or-none [] key = refl
-first_or-none (m ∷ ms) key = ap (cond (bytes_eq (key_of m.id) key) (Some m)) (first_or-none ms key)
-
-pub first_or-last : (ms : List Mention) (m : Mention) (key : List ℕ) (other : Option MentionText)
-    → first_or (mentions_shown (ms ++ m ∷ [])) key other ≡ first_or (mentions_shown ms) key (cond (bytes_eq (key_of m.id.now) key) (Some (mention_in m)) other)
-first_or-last [] m key other = refl
-first_or-last (n ∷ ns) m key other = ap (cond (bytes_eq (key_of n.id.now) key) (Some (mention_in n))) (first_or-last ns m key other)
 
 abbrev key_cmp : Vec ℕ Global → Vec ℕ Global → Ordering
 key_cmp a b = slice_cmp nat_cmp a.items b.items
@@ -56,7 +45,62 @@ kept_for-insert key name x old new is updates q =
           ∙ sym (ap (λ b. cond b (Some (mention_in x)) (kept_for old q)) (ap (λ f. bytes_eq f q) (sym is) ∙ away))
     ]
 
--- where no mention is left
-pub none_left : (ms : List Mention) → length ms ≡ 0 → (key : List ℕ) (other : Option MentionText) → other ≡ first_or (mentions_shown ms) key other
-none_left [] is key other = refl
-none_left (m ∷ ms) is key other = absurd cc
+-- ---- one mention behind others
+
+or_inside : (b : Bool) (n : MentionText) (o x : Option MentionText) → cond b (Some n) (or_else o x) ≡ or_else (cond b (Some n) o) x
+or_inside true n o x = refl
+or_inside false n o x = refl
+
+first_behind : (ms : List MentionText) (m : MentionText) (key : List ℕ) → first_with key (ms ++ m ∷ []) ≡ or_else (first_with key ms) (cond (bytes_eq (key_of m.id) key) (Some m) None)
+first_behind [] m key = refl
+first_behind (n ∷ ns) m key =
+    ap (cond (bytes_eq (key_of n.id) key) (Some n)) (first_behind ns m key)
+    ∙ or_inside (bytes_eq (key_of n.id) key) n (first_with key ns) (cond (bytes_eq (key_of m.id) key) (Some m) None)
+
+known_one : (b : Bool) (m : MentionText) (old : Option MentionText) → (b ≡ true → is_some old ≡ true) → old ≡ or_else old (cond b (Some m) None)
+known_one b m (Some x) some = refl
+known_one true m None some = absurd (false≢true (some refl))
+known_one false m None some = refl
+
+new_one : (b : Bool) (m : MentionText) (old : Option MentionText) → (b ≡ true → is_some old ≡ false) → cond b (Some m) old ≡ or_else old (cond b (Some m) None)
+new_one true m None none = refl
+new_one true m (Some x) none = absurd (false≢true (sym (none refl)))
+new_one false m None none = refl
+new_one false m (Some x) none = refl
+
+pub some_shown : (o : Option Mention) → is_some (option_map mention_in o) ≡ is_some o
+some_shown None = refl
+some_shown (Some m) = refl
+
+-- a mention changes nothing where its key is kept
+pub kept_before : (m : Mention) (firsts : Firsts) (name : List ℕ) → name ≡ key_of m.id.now → is_some (kept_for firsts name) ≡ true
+    → (ms : List MentionText) → Holds ms firsts → Holds (ms ++ mention_in m ∷ []) firsts
+kept_before m firsts name is some ms holds key =
+    known_one (bytes_eq name key) (mention_in m) (kept_for firsts key) (λ same. subst (λ n. is_some (kept_for firsts n) ≡ true) ((bytes_eq-Decides name key).0 same) some)
+    ∙ ap (λ o. or_else o (cond (bytes_eq name key) (Some (mention_in m)) None)) (holds key)
+    ∙ ap (λ n. or_else (first_with key ms) (cond (bytes_eq n key) (Some (mention_in m)) None)) is
+    ∙ sym (first_behind ms (mention_in m) key)
+
+-- one is kept where its key isn't
+pub kept_new : (m : Mention) (old new : Firsts) (name : List ℕ) → name ≡ key_of m.id.now → is_some (kept_for old name) ≡ false
+    → ((q : List ℕ) → kept_for new q ≡ cond (bytes_eq name q) (Some (mention_in m)) (kept_for old q))
+    → (ms : List MentionText) → Holds ms old → Holds (ms ++ mention_in m ∷ []) new
+kept_new m old new name is none updates ms holds key =
+    updates key
+    ∙ new_one (bytes_eq name key) (mention_in m) (kept_for old key) (λ same. subst (λ n. is_some (kept_for old n) ≡ false) ((bytes_eq-Decides name key).0 same) none)
+    ∙ ap (λ o. or_else o (cond (bytes_eq name key) (Some (mention_in m)) None)) (holds key)
+    ∙ ap (λ n. or_else (first_with key ms) (cond (bytes_eq n key) (Some (mention_in m)) None)) is
+    ∙ sym (first_behind ms (mention_in m) key)
+
+-- one more of some mentions
+pub shown_more : (before : List MentionText) (ms : List Mention) (i : ℕ) (d : Mention) → i < length ms
+    → (before ++ mentions_shown (take i ms)) ++ mention_in (get_or ms i d) ∷ [] ≡ before ++ mentions_shown (take (i + 1) ms)
+shown_more before ms i d within =
+    append_assoc before (mentions_shown (take i ms)) (mention_in (get_or ms i d) ∷ [])
+    ∙ ap (λ l. before ++ l) (sym (map_more mention_in ms i d within))
+
+-- those of one more file
+pub mentions_more : (infos : List FileInfo) (i : ℕ) (d : FileInfo) → i < length infos → mentions (take i infos) ++ mentions_in (get_or infos i d) ≡ mentions (take (i + 1) infos)
+mentions_more infos i d within =
+    flat_map_more mentions_in [] (take i infos) (get_or infos i d)
+    ∙ ap mentions (sym (take_more infos i d within))

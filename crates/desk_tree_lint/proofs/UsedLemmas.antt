@@ -1,5 +1,5 @@
 -- The keys that licences use.
-use Rattle.std.proofs.Common.{◌≡◌, ◌↔◌, ◌∙◌, ◌⊎◌, inl, inr, ℕ, zero, suc, ◌+◌, ◌<◌, List, [], ◌∷◌, ◌++◌, length, get_or, drop, sym, subst, refl, arith}
+use Rattle.std.proofs.Common.{◌≡◌, ◌↔◌, ◌∙◌, ◌⊎◌, inl, inr, ℕ, zero, suc, Bool, true, false, cond, ◌+◌, ◌<◌, List, [], ◌∷◌, ◌++◌, length, get_or, drop, sym, subst, refl, arith}
 use Rattle.std.specs.Prelude.{Contains}
 use Rattle.std.proofs.lemmas.List.{drop_more}
 use Rattle.std.proofs.lemmas.List.Elements.{Contains-append_left, Contains-append_right, Contains-append_cases}
@@ -16,7 +16,10 @@ use Rattle.desk_tree_gather.specs.Gathering.{gathered}
 use Rattle.desk_tree_lint.specs.declared.lists.Lint.{Lint}
 use Rattle.desk_tree_lint.specs.Texts.{text_files}
 use Rattle.desk_tree_lint.specs.Lists.{lists_of, IsLint}
-use Rattle.desk_tree_lint.specs.Used.{term_keys, keys_in, Uses, SomeOf, AreUsed}
+use Rattle.desk_tree_lint.specs.Used.{term_keys, keys_in, Uses, IsUsedIn, SomeOf, AreUsed}
+use Rattle.desk_model.specs.Texts.{text_below, put_new}
+use Rattle.std.specs.Str.{bytes_eq}
+use Rattle.std.proofs.lemmas.Slice.Eq.{bytes_eq-Decides}
 use Rattle.desk_base.proofs.SortedOnce.{same_sorted}
 use Rattle.desk_base.specs.contracts.key.KeyOrd.TheImpl.Laws.{total-law}
 use Rattle.std.specs.Ordering.{nat_cmp}
@@ -112,6 +115,57 @@ some_start P xs x known none = (
   (λ h. elim h [ inl at ↦ absurd (none_in_nil x (subst (λ l. Contains l x) none at)) | inr some ↦ some ]),
   (λ some. inr some),
 )
+
+-- the first of what is left goes to what is known
+pub some_first : {A : Type 0} (P : A → Type 0) (x : A) (all rest : List A) (N O : Type 0) → all ≡ x ∷ rest → (N ↔ (O ⊎ P x)) → (N ⊎ SomeOf P rest) ↔ (O ⊎ SomeOf P all)
+some_first P x all rest N O cut step = (
+  (λ h. subst (λ l. O ⊎ SomeOf P l) (sym cut) (elim h [
+    | inl n ↦ elim (step.0 n) [ inl o ↦ inl o | inr p ↦ inr (inl p) ]
+    | inr later ↦ inr (inr later)
+  ])),
+  (λ h. elim (subst (λ l. O ⊎ SomeOf P l) cut h) [
+    | inl o ↦ inl (step.1 (inl o))
+    | inr here ↦ elim here [ inl p ↦ inl (step.1 (inr p)) | inr later ↦ inr later ]
+  ]),
+)
+
+-- where nothing is known
+pub none_yet : {A : Type 0} (P : A → Type 0) (known : List A) (N : Type 0) → known ≡ [] → (SomeOf P known ⊎ N) ↔ N
+none_yet P known N none = (
+  (λ h. elim h [ inl some ↦ absurd (subst (λ l. SomeOf P l) none some) | inr n ↦ n ]),
+  (λ n. inr n),
+)
+
+-- ---- licences, each once
+
+by_place : (key x y : List ℕ) (ys rest : List (List ℕ)) (below same : Bool) → (same ≡ true → x ≡ y) → (IsUsedIn rest key ↔ (IsUsedIn ys key ⊎ Uses x key))
+    → IsUsedIn (cond below (x ∷ y ∷ ys) (cond same (y ∷ ys) (y ∷ rest))) key ↔ (IsUsedIn (y ∷ ys) key ⊎ Uses x key)
+by_place key x y ys rest true same is step = (
+  (λ h. elim h [ inl own ↦ inr own | inr others ↦ inl others ]),
+  (λ h. elim h [ inl others ↦ inr others | inr own ↦ inl own ]),
+)
+by_place key x y ys rest false true is step = (
+  (λ h. inl h),
+  (λ h. elim h [ inl others ↦ others | inr own ↦ inl (subst (λ t. Uses t key) (is refl) own) ]),
+)
+by_place key x y ys rest false false is step = (
+  (λ h. elim h [
+    | inl here ↦ inl (inl here)
+    | inr later ↦ elim (step.0 later) [ inl others ↦ inl (inr others) | inr own ↦ inr own ]
+  ]),
+  (λ h. elim h [
+    | inl others ↦ elim others [ inl here ↦ inl here | inr later ↦ inr (step.1 (inl later)) ]
+    | inr own ↦ inr (step.1 (inr own))
+  ]),
+)
+
+-- a licence that is put to others is used beside them
+pub used-put_new : (key x : List ℕ) (ys : List (List ℕ)) → IsUsedIn (put_new x ys) key ↔ (IsUsedIn ys key ⊎ Uses x key)
+used-put_new key x [] = (
+  (λ h. elim h [ inl own ↦ inr own | inr no_more ↦ absurd no_more ]),
+  (λ h. elim h [ inl none ↦ absurd none | inr own ↦ inl own ]),
+)
+used-put_new key x (y ∷ ys) = by_place key x y ys (put_new x ys) (text_below x y) (bytes_eq x y) (bytes_eq-Decides x y).0 (used-put_new key x ys)
 
 -- what is used is one list
 pub used_once : (infos : List FileInfo) (a b : List (List ℕ)) → AreUsed infos a → AreUsed infos b → a ≡ b

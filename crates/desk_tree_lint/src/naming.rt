@@ -1,6 +1,6 @@
 //! How licences are written where they are first named.
 
-ghost use Rattle.std.specs.Prelude.{◌≡◌, ◌++◌, ◌<◌, ◌==◌, List, IfOk, OnOk, map, option_map};
+ghost use Rattle.std.specs.Prelude.{◌≡◌, ◌++◌, ◌∷◌, [], ◌<◌, ◌==◌, List, IfOk, OnOk, map, option_map};
 ghost use Rattle.std.specs.List.{flat_map, slice_split};
 ghost use Rattle.desk_base.specs.Borrowed.{texts, texts_in};
 ghost use Rattle.desk_tree_lint.specs.Naming.{cut_at, runs, is_operator, without_plus, ids_in, mention, MentionText, mentions_by, mentions_in, mentions, first_with, name_by, name_of};
@@ -8,6 +8,7 @@ ghost use Rattle.desk_tree_lint.specs.Firsts.{mention_in, mentions_shown, Holds}
 
 use crate::texts::key_of;
 use desk_base::{Items, Text};
+use desk_tree_annotations::SharedText;
 use desk_tree_gather::FileInfo;
 use std::alloc::{AllocError, Global};
 use std::collections::BTreeMap;
@@ -113,7 +114,7 @@ fn add_each<'a>(
     alloc: Global,
     found: &mut Vec<Mention<'a>>,
     path: &'a str,
-    licences: &'a [Text],
+    licences: &'a [SharedText],
 ) -> Result<(), AllocError>
     ensures { OnOk result (mentions_shown found.new.items
         ≡ mentions_shown found.old.items ++ flat_map (mentions_by path.now) licences.now) }
@@ -124,42 +125,64 @@ fn add_each<'a>(
     Ok(())
 }
 
-// Adds the identifiers in the licences of a file.
-fn add_file<'a>(
-    alloc: Global,
-    found: &mut Vec<Mention<'a>>,
-    info: &'a FileInfo,
-) -> Result<(), AllocError>
-    ensures { OnOk result (mentions_shown found.new.items
-        ≡ mentions_shown found.old.items ++ mentions_in info.now) }
-{
-    add_each(alloc, found, info.path.as_str(), info.licences.as_slice())
-}
-
-// The identifiers in the licences of files, each time that one is named.
-fn mentions<'a>(alloc: Global, infos: &'a [FileInfo]) -> Result<Vec<Mention<'a>>, AllocError>
-    ensures { IfOk result (λ v. mentions_shown v.items ≡ mentions infos.now) }
+// The identifiers in the licences of a file.
+fn mentions_in<'a>(alloc: Global, info: &'a FileInfo) -> Result<Vec<Mention<'a>>, AllocError>
+    ensures { IfOk result (λ v. mentions_shown v.items ≡ mentions_in info.now) }
 {
     let mut found = Vec::new(alloc);
-    for info in infos {
-        add_file(alloc, &mut found, info)?;
-    }
+    add_each(
+        alloc,
+        &mut found,
+        info.path.as_str(),
+        info.licences.as_slice(),
+    )?;
     Ok(found)
 }
 
-// The first of each key: of two the one that stands before overwrites the other.
-fn by_key<'a>(
+// Keeps a mention behind others, unless one of them has its key.
+fn keep<'a>(
     alloc: Global,
-    mentions: Vec<Mention<'a>>,
-) -> Result<BTreeMap<Vec<u8>, Mention<'a>>, AllocError>
-    ensures { IfOk result (Holds (mentions_shown mentions.entry.items)) }
+    firsts: &mut BTreeMap<Vec<u8>, Mention<'a>>,
+    mention: Mention<'a>,
+) -> Result<(), AllocError>
+    ensures { OnOk result ((ms : List MentionText) → Holds ms firsts.old
+        → Holds (ms ++ mention_in mention.entry ∷ []) firsts.new) }
 {
-    let mut mentions = mentions;
+    let key = key_of(alloc, mention.id)?;
+    let bytes = Vec::from_slice(alloc, key.as_str().as_bytes())?;
+    if firsts.contains_key(bytes.as_slice()) {
+        return Ok(());
+    }
+    firsts.insert(bytes, mention)?;
+    Ok(())
+}
+
+// Keeps mentions behind others, each unless one before has its key.
+fn keep_each<'a>(
+    alloc: Global,
+    firsts: &mut BTreeMap<Vec<u8>, Mention<'a>>,
+    mentions: &[Mention<'a>],
+) -> Result<(), AllocError>
+    ensures { OnOk result ((ms : List MentionText) → Holds ms firsts.old
+        → Holds (ms ++ mentions_shown mentions.now) firsts.new) }
+{
+    for mention in mentions {
+        keep(alloc, firsts, *mention)?;
+    }
+    Ok(())
+}
+
+// The first mention of each key in the licences of files. Those of one file at a time are listed.
+fn firsts_in<'a>(
+    alloc: Global,
+    infos: &'a [FileInfo],
+) -> Result<BTreeMap<Vec<u8>, Mention<'a>>, AllocError>
+    ensures { IfOk result (Holds (mentions infos.now)) }
+{
     let mut firsts = BTreeMap::new(alloc);
-    while let Some(mention) = mentions.pop() {
-        let key = key_of(alloc, mention.id)?;
-        let bytes = Vec::from_slice(alloc, key.as_str().as_bytes())?;
-        firsts.insert(bytes, mention)?;
+    for info in infos {
+        let found = mentions_in(alloc, info)?;
+        keep_each(alloc, &mut firsts, found.as_slice())?;
     }
     Ok(firsts)
 }
@@ -214,7 +237,6 @@ fn each_name(
 pub fn names_of(alloc: Global, infos: &[FileInfo], keys: &[Text]) -> Result<Items<Name>, AllocError>
     ensures { IfOk result (λ names. names ≡ map (name_of infos.now) keys.now) }
 {
-    let found = mentions(alloc, infos)?;
-    let firsts = by_key(alloc, found)?;
+    let firsts = firsts_in(alloc, infos)?;
     each_name(alloc, &firsts, keys)
 }

@@ -1,12 +1,15 @@
 //! The licences and exceptions that the covered files use.
 
 ghost use Rattle.std.specs.Prelude.{◌≡◌, ◌⊎◌, ◌↔◌, ◌++◌, ℕ, List, OnOk, IfOk, Contains};
+ghost use Rattle.desk_base.specs.Borrowed.{texts};
 ghost use Rattle.desk_tree_lint.specs.Used.{keys_in, Uses, IsUsed, IsUsedIn, AreUsed};
 
-use desk_base::{Key, Text};
+use desk_base::Key;
 use desk_expr::{Term, parse, terms, told};
+use desk_tree_annotations::SharedText;
 use desk_tree_gather::FileInfo;
 use std::alloc::{AllocError, Global};
+use std::collections::BTreeSet;
 
 // Adds the keys of terms.
 fn add_keys(keys: &mut Vec<Key>, terms: &[Term]) -> Result<(), AllocError>
@@ -35,24 +38,46 @@ fn add_used(alloc: Global, keys: &mut Vec<Key>, licence: &str) -> Result<(), All
     }
 }
 
-// Adds the keys that licences use.
-fn add_each(alloc: Global, keys: &mut Vec<Key>, licences: &[Text]) -> Result<(), AllocError>
-    ensures { OnOk result ((key : List ℕ) → Contains keys.new.items key
-        ↔ (Contains keys.old.items key ⊎ IsUsedIn licences.now key)) }
+// Adds a licence to others.
+fn put<'a>(known: &mut BTreeSet<&'a str>, licence: &'a str) -> Result<(), AllocError>
+    ensures { OnOk result ((key : List ℕ) → IsUsedIn (texts known.new.keys) key
+        ↔ (IsUsedIn (texts known.old.keys) key ⊎ Uses licence.now key)) }
+{
+    known.insert(licence)?;
+    Ok(())
+}
+
+// Adds licences to others.
+fn put_each<'a>(known: &mut BTreeSet<&'a str>, licences: &'a [SharedText]) -> Result<(), AllocError>
+    ensures { OnOk result ((key : List ℕ) → IsUsedIn (texts known.new.keys) key
+        ↔ (IsUsedIn (texts known.old.keys) key ⊎ IsUsedIn licences.now key)) }
 {
     for licence in licences {
-        add_used(alloc, keys, licence.as_str())?;
+        put(known, licence.as_str())?;
     }
     Ok(())
 }
 
-// The keys that files use, each time that one stands there.
-fn each_used(alloc: Global, infos: &[FileInfo]) -> Result<Vec<Key>, AllocError>
-    ensures { IfOk result (λ v. (key : List ℕ) → Contains v.items key ↔ IsUsed infos.now key) }
+// The licences of files, each once: many files have the same.
+fn licences_of<'a>(alloc: Global, infos: &'a [FileInfo]) -> Result<BTreeSet<&'a str>, AllocError>
+    ensures { IfOk result (λ known. (key : List ℕ)
+        → IsUsedIn (texts known.keys) key ↔ IsUsed infos.now key) }
+{
+    let mut known = BTreeSet::new(alloc);
+    for info in infos {
+        put_each(&mut known, info.licences.as_slice())?;
+    }
+    Ok(known)
+}
+
+// The keys that licences use, each time that one stands there.
+fn each_used(alloc: Global, licences: BTreeSet<&str>) -> Result<Vec<Key>, AllocError>
+    ensures { IfOk result (λ v. (key : List ℕ)
+        → Contains v.items key ↔ IsUsedIn (texts licences.entry.keys) key) }
 {
     let mut keys = Vec::new(alloc);
-    for info in infos {
-        add_each(alloc, &mut keys, info.licences.as_slice())?;
+    for licence in licences {
+        add_used(alloc, &mut keys, licence)?;
     }
     Ok(keys)
 }
@@ -61,7 +86,8 @@ fn each_used(alloc: Global, infos: &[FileInfo]) -> Result<Vec<Key>, AllocError>
 pub(crate) fn used(alloc: Global, infos: &[FileInfo]) -> Result<Vec<Key>, AllocError>
     ensures { IfOk result (λ v. AreUsed infos.now v.items) }
 {
-    let mut keys = each_used(alloc, infos)?;
+    let licences = licences_of(alloc, infos)?;
+    let mut keys = each_used(alloc, licences)?;
     keys.sort()?;
     keys.dedup();
     Ok(keys)

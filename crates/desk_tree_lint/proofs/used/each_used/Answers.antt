@@ -1,19 +1,19 @@
-use Rattle.std.proofs.Common.{ap, subst, ◌∙◌, ◌⊎◌, ◌↔◌}
+use Rattle.std.proofs.Common.{ap, subst, sym, ◌∙◌, ◌⊎◌, ◌↔◌}
 use Rattle.std.specs.Prelude.{Contains}
-use Rattle.std.proofs.lemmas.List.{drop_all}
-use Rattle.desk_tree_gather.specs.declared.gathering.FileInfo.{FileInfo}
-use Rattle.desk_tree_lint.specs.Used.{IsUsedIn}
-use Rattle.desk_tree_lint.proofs.UsedLemmas.{some_more, some_end, some_start, along}
+use Rattle.desk_base.specs.Borrowed.{texts}
+use Rattle.desk_tree_lint.specs.Used.{Uses, IsUsedIn}
+use Rattle.desk_tree_lint.proofs.UsedLemmas.{some_first, some_end, some_start, along}
 use Rattle.desk_tree_lint.proofs.used.each_used.Goals as goal
 
-pub loop-info-init : goal.loop-info-init
-loop-info-init c = λ key. some_start (λ (i : FileInfo). IsUsedIn i.licences key) c.args.infos.now key _ c.new-keys.ensures.items
+pub loop-licence-init : goal.loop-licence-init
+loop-licence-init c = λ key.
+    subst (λ l. (Contains c.new-keys.result.items key ⊎ IsUsedIn (texts l) key) ↔ IsUsedIn (texts c.args.licences.keys) key) (sym c.into_iter-licence-iterator.ensures.into_iter_gives.0)
+    (some_start (λ text. Uses text key) (texts c.args.licences.keys) key c.new-keys.result.items c.new-keys.ensures.items)
 
-pub loop-info-preserved : goal.loop-info-preserved
-loop-info-preserved c = λ key.
-    along (some_more (λ (i : FileInfo). IsUsedIn i.licences key) c.args.infos.now c.loop-info.info-index c.info-item.result _ _ c.loop-info-test.true
-    (subst (λ l. Contains c.add_each.new.keys.items key ↔ (Contains c.loop-info.keys.items key ⊎ IsUsedIn l key)) (c.as_slice.ensures ∙ ap (λ (i : FileInfo). i.licences) c.info-item.is) (c.in_ok-add_each.ensures key)))
-    (c.loop-info.invariant key)
+pub loop-licence-preserved : goal.loop-licence-preserved
+loop-licence-preserved c = λ key.
+    along (some_first (λ text. Uses text key) c.in-Some.licence.now (texts c.loop-licence.licence-iterator) (texts c.next.new.self) _ _ (ap texts c.in-Some.ensures.steps) (c.in_ok-add_used.ensures key))
+    (c.loop-licence.invariant key)
 
 pub returns : goal.returns
-returns c = λ key. along (some_end (λ (i : FileInfo). IsUsedIn i.licences key) _ _ (drop_all c.loop-info.info-index c.args.infos.now c.loop-info-test.false)) (c.loop-info.invariant key)
+returns c = λ key. along (some_end (λ text. Uses text key) _ _ (ap texts c.in-None.ensures.steps.0)) (c.loop-licence.invariant key)

@@ -1,8 +1,9 @@
-use Rattle.std.proofs.Common.{◌↔◌, ◌⊎◌, ℕ, List, drop}
+use Rattle.std.proofs.Common.{◌↔◌, ◌⊎◌, ℕ, List}
 use Rattle.std.specs.Prelude.{Contains}
-use Rattle.desk_tree_lint.specs.Used.{IsUsed}
+use Rattle.desk_base.specs.Borrowed.{texts}
+use Rattle.desk_tree_lint.specs.Used.{IsUsedIn}
 use Rattle.desk_tree_lint.proofs.used.each_used.Given as goal
 
 -- what was added, and what is still to come, is all that is used
-abbrev pub invariant-loop-info : goal.invariant-loop-info
-invariant-loop-info l = (key : List ℕ) → (Contains l.keys.items key ⊎ IsUsed (drop l.info-index l.infos) key) ↔ IsUsed l.infos key
+abbrev pub invariant-loop-licence : goal.invariant-loop-licence
+invariant-loop-licence l = (key : List ℕ) → (Contains l.keys.items key ⊎ IsUsedIn (texts l.licence-iterator) key) ↔ IsUsedIn (texts l.fn.licences.keys) key

@@ -9,6 +9,7 @@ use Rattle.std.proofs.lemmas.List.Sorted.{Contains-permutation, IsPermutation-sy
 use Rattle.desk_base.specs.contracts.key.KeyOrd.TheImpl.Laws.{total-law, matches_eq-law}
 use Rattle.desk_base.specs.contracts.key.KeyEq.TheImpl.Laws.{laws-law}
 use Rattle.desk_base.specs.contracts.key.KeyPartialEq.TheImpl.{ghosts}
+use Rattle.desk_tree_lint.proofs.UsedLemmas.{along}
 use Rattle.desk_tree_lint.proofs.used.used.Goals as goal
 
 same : (x y : List ℕ) → ghosts.eq x y ≡ true → x ≡ y
@@ -20,9 +21,9 @@ returns c =
     let moved = c.in_ok-sort.ensures.permutation in
     let ordered = IsStrictlySortedBy-dedup total-law matches_eq-law c.sort.new.self.items c.in_ok-sort.ensures.sorted in
     record {
-      members = λ key. (
-        (λ h. (c.in_ok-keys.ensures key).0 (Contains-permutation _ _ key (IsPermutation-sym _ _ moved) (Contains-from_dedup _ _ key (subst (λ l. Contains l key) is h)))),
-        (λ h. subst (λ l. Contains l key) (sym is) (Contains-dedup laws-law same c.sort.new.self.items key (Contains-permutation _ _ key moved ((c.in_ok-keys.ensures key).1 h)))),
+      members = λ key. let known = along (c.in_ok-keys.ensures key) (c.in_ok-licences.ensures key) in (
+        (λ h. known.0 (Contains-permutation _ _ key (IsPermutation-sym _ _ moved) (Contains-from_dedup _ _ key (subst (λ l. Contains l key) is h)))),
+        (λ h. subst (λ l. Contains l key) (sym is) (Contains-dedup laws-law same c.sort.new.self.items key (Contains-permutation _ _ key moved (known.1 h)))),
       );
       ordered = subst (IsStrictlySortedBy (slice_cmp nat_cmp)) (sym is) ordered;
     }

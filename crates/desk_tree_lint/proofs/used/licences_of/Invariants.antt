@@ -1,0 +1,8 @@
+use Rattle.std.proofs.Common.{◌↔◌, ◌⊎◌, ℕ, List, drop}
+use Rattle.desk_base.specs.Borrowed.{texts}
+use Rattle.desk_tree_lint.specs.Used.{IsUsed, IsUsedIn}
+use Rattle.desk_tree_lint.proofs.used.licences_of.Given as goal
+
+-- what was put, and what is still to come, is all that is used
+abbrev pub invariant-loop-info : goal.invariant-loop-info
+invariant-loop-info l = (key : List ℕ) → (IsUsedIn (texts l.known.keys) key ⊎ IsUsed (drop l.info-index l.infos) key) ↔ IsUsed l.infos key
