@@ -5,6 +5,7 @@ ghost use Rattle.desk_tree_lint.specs.Lists.{is_none, is_bare};
 ghost use Rattle.desk_tree_problems.specs.Bare.{lacking, bare_file, bare_files};
 
 use desk_base::{Items, Text};
+use desk_tree_annotations::SharedText;
 use desk_tree_gather::FileInfo;
 use std::alloc::{AllocError, Global};
 
@@ -28,7 +29,7 @@ pub struct Bare {
     pub lacking: Lacking,
 }
 
-fn is_none(texts: &[Text]) -> bool
+fn is_none(texts: &[SharedText]) -> bool
     ensures { result ≡ is_none texts.now }
 {
     texts.is_empty()
