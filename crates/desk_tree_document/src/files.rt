@@ -6,13 +6,12 @@ ghost use Rattle.desk_tree_gather.specs.Readers.{Reader, IsRightReader};
 ghost use Rattle.desk_tree_document.specs.Drafts.{is_bare, package_licences, package_notices};
 ghost use Rattle.desk_tree_document.specs.Told.{infos_in, file_told, files_told};
 ghost use Rattle.desk_tree_document.specs.Shown.{Gives};
-ghost use Rattle.desk_base.specs.Borrowed.{texts_in};
 
 use crate::texts::{copyright_of, expression_read};
-use desk_base::{Items, Text};
-use desk_catalogue::sorted_set;
+use desk_base::Items;
 use desk_tagvalue::DraftFile;
-use desk_tree_gather::{FileInfo, GatherFault, ToldFile};
+use desk_tree_annotations::SharedText;
+use desk_tree_gather::{FileInfo, GatherFault, ToldFile, shared_set};
 use std::alloc::{AllocError, Global};
 
 // What the draft says of a file.
@@ -73,12 +72,12 @@ pub(crate) fn digests_of(alloc: Global, files: &[DraftFile]) -> Result<Vec<[u8; 
     Ok(digests)
 }
 
-// Adds texts to borrowed ones.
-fn add<'a>(list: &mut Vec<&'a str>, more: &'a [Text]) -> Result<(), AllocError>
-    ensures { OnOk result (texts_in list.new ≡ texts_in list.old ++ more.now) }
+// Adds texts to others.
+fn add(list: &mut Vec<SharedText>, more: &[SharedText]) -> Result<(), AllocError>
+    ensures { OnOk result (list.new.items ≡ list.old.items ++ more.now) }
 {
     for text in more {
-        list.push(text.as_str())?;
+        list.push(text.clone()?)?;
     }
     Ok(())
 }
@@ -95,8 +94,8 @@ fn is_bare(infos: &[FileInfo]) -> bool
     false
 }
 
-fn all_licences<'a>(alloc: Global, infos: &'a [FileInfo]) -> Result<Vec<&'a str>, AllocError>
-    ensures { IfOk result (λ v. texts_in v ≡ flat_map (λ i. i.licences) infos.now) }
+fn all_licences(alloc: Global, infos: &[FileInfo]) -> Result<Vec<SharedText>, AllocError>
+    ensures { IfOk result (λ v. v.items ≡ flat_map (λ i. i.licences) infos.now) }
 {
     let mut list = Vec::new(alloc);
     for info in infos {
@@ -105,8 +104,8 @@ fn all_licences<'a>(alloc: Global, infos: &'a [FileInfo]) -> Result<Vec<&'a str>
     Ok(list)
 }
 
-fn all_notices<'a>(alloc: Global, infos: &'a [FileInfo]) -> Result<Vec<&'a str>, AllocError>
-    ensures { IfOk result (λ v. texts_in v ≡ flat_map (λ i. i.notices) infos.now) }
+fn all_notices(alloc: Global, infos: &[FileInfo]) -> Result<Vec<SharedText>, AllocError>
+    ensures { IfOk result (λ v. v.items ≡ flat_map (λ i. i.notices) infos.now) }
 {
     let mut list = Vec::new(alloc);
     for info in infos {
@@ -116,18 +115,24 @@ fn all_notices<'a>(alloc: Global, infos: &'a [FileInfo]) -> Result<Vec<&'a str>,
 }
 
 /// The distinct licences of all files, and none where some file has none.
-pub(crate) fn package_licences(alloc: Global, infos: &[FileInfo]) -> Result<Items<Text>, AllocError>
+pub(crate) fn package_licences(
+    alloc: Global,
+    infos: &[FileInfo],
+) -> Result<Items<SharedText>, AllocError>
     ensures { IfOk result (λ t. t ≡ package_licences infos.now) }
 {
     if is_bare(infos) {
         return Ok(Items::new(alloc));
     }
-    sorted_set(alloc, all_licences(alloc, infos)?)
+    shared_set(alloc, all_licences(alloc, infos)?)
 }
 
 /// The distinct notices of all files.
-pub(crate) fn package_notices(alloc: Global, infos: &[FileInfo]) -> Result<Items<Text>, AllocError>
+pub(crate) fn package_notices(
+    alloc: Global,
+    infos: &[FileInfo],
+) -> Result<Items<SharedText>, AllocError>
     ensures { IfOk result (λ t. t ≡ package_notices infos.now) }
 {
-    sorted_set(alloc, all_notices(alloc, infos)?)
+    shared_set(alloc, all_notices(alloc, infos)?)
 }

@@ -8,14 +8,14 @@ ghost use Rattle.desk_tree_document.specs.Texts.{holds_close, others_joined, exp
 ghost use Rattle.desk_tree_document.specs.Shown.{Gives};
 
 use desk_base::Text;
-use desk_tree_annotations::is_expression;
+use desk_tree_annotations::{SharedText, is_expression};
 use desk_tree_gather::GatherFault;
 use std::alloc::{AllocError, Global};
 
 const CLOSE: &[u8] = b"</text>";
 
 // Adds licences, each in parentheses, behind one.
-fn add_others(text: &mut String, licences: &[Text]) -> Result<(), AllocError>
+fn add_others(text: &mut String, licences: &[SharedText]) -> Result<(), AllocError>
     ensures { OnOk result (string_bytes text.new
         ≡ string_bytes text.old ++ others_joined licences.now) }
 {
@@ -28,7 +28,7 @@ fn add_others(text: &mut String, licences: &[Text]) -> Result<(), AllocError>
 }
 
 // Licences joined to one expression.
-fn expression_of(alloc: Global, licences: &[Text]) -> Result<Text, AllocError>
+fn expression_of(alloc: Global, licences: &[SharedText]) -> Result<Text, AllocError>
     ensures { IfOk result (λ t. t ≡ expression_of licences.now) }
 {
     match licences {
@@ -47,7 +47,7 @@ fn expression_of(alloc: Global, licences: &[Text]) -> Result<Text, AllocError>
 /// Licences joined to one expression, where that is one.
 pub(crate) fn expression_read(
     alloc: Global,
-    licences: &[Text],
+    licences: &[SharedText],
 ) -> Result<Result<Text, GatherFault>, AllocError>
     ensures { (r : Reading) → IsRight r
         → IfOk result (Gives (expression_read r licences.now) (λ t. t)) }
@@ -76,7 +76,7 @@ fn holds_close(text: &[u8]) -> bool
 }
 
 // Whether `</text>` stands in one of some notices.
-fn some_hold_close(notices: &[Text]) -> bool
+fn some_hold_close(notices: &[SharedText]) -> bool
     ensures { result ≡ list_any holds_close notices.now }
 {
     for notice in notices {
@@ -88,7 +88,7 @@ fn some_hold_close(notices: &[Text]) -> bool
 }
 
 // Adds notices, each on a line of its own, below one.
-fn add_below(text: &mut String, notices: &[Text]) -> Result<(), AllocError>
+fn add_below(text: &mut String, notices: &[SharedText]) -> Result<(), AllocError>
     ensures { OnOk result (string_bytes text.new
         ≡ string_bytes text.old ++ others_below notices.now) }
 {
@@ -100,7 +100,7 @@ fn add_below(text: &mut String, notices: &[Text]) -> Result<(), AllocError>
 }
 
 /// Notices joined to one text.
-pub(crate) fn copyright_of(alloc: Global, notices: &[Text]) -> Result<Text, AllocError>
+pub(crate) fn copyright_of(alloc: Global, notices: &[SharedText]) -> Result<Text, AllocError>
     ensures { IfOk result (λ t. t ≡ copyright_of notices.now) }
 {
     let Some((notice, others)) = notices.split_first() else {
