@@ -190,13 +190,13 @@ def many_files(room):
 
 
 def nested_files(room):
-    """Nested folders, each with a REUSE.toml that counts for all below it."""
+    """Nested folders, each with a REUSE.toml that counts for all below it. A file's path is written by a stranger, too."""
     toml = f'version = 1\n[[annotations]]\npath = "**"\nprecedence = "aggregate"\n{LICENCE} = "l{{}}"\n{NOTICE} = "n{{}}"\n'
-    path, size = "tree", 0
+    folder, size = "", 0
     for depth in range(200):
-        size += write(room, f"{path}/REUSE.toml", toml.replace("{}", str(depth)))
-        size += sum(write(room, f"{path}/f{n}", "x") for n in range(45))
-        path += f"/{depth}"
+        texts = {"REUSE.toml": toml.replace("{}", str(depth)), **{f"f{n}": "x" for n in range(45)}}
+        size += sum(write(room, f"tree/{folder}{name}", text) + len(folder + name) for name, text in texts.items())
+        folder += f"{depth}/"
     return ["lint", "tree"], None, size
 
 
