@@ -100,6 +100,31 @@ duties_of_read release old new rows t shown holds =
     let this = d.duty_table in
     shows this.name 23 this.columns this.key this.primary this.uniques this.orders 12 refl duty_cells (rows_of t) t.duty refl old.now holds.rows duties_of_text (codes "number" ∷ codes "release" ∷ codes "document" ∷ codes "package" ∷ codes "term" ∷ codes "code" ∷ codes "rule" ∷ codes "state" ∷ []) (same 2 0 ∷ []) (col 1 0 ∷ col 1 2 ∷ col 1 3 ∷ col 1 4 ∷ col 1 5 ∷ col 1 6 ∷ col 1 7 ∷ col 1 8 ∷ []) (0 ∷ []) duties_of_is duties_of_plain (Text release ∷ []) (duties_of_test release) (λ (cs : Row). (column cs 0 ∷ [], column cs 0 ∷ column cs 1 ∷ column cs 2 ∷ column cs 3 ∷ column cs 4 ∷ column cs 5 ∷ column cs 6 ∷ column cs 7 ∷ [])) (is_duty_of release) (λ r. refl) (λ r. refl) (duties_of_picks release) old new rows shown refl (by_rowid this.name 23 this.columns this.key this.primary this.uniques this.orders 12 refl duty_cells (rows_of t) t.duty refl old.now holds.rows) (ascending-filter _ (is_duty_of release) t.duty (duties_sorted t.duty holds.orderly.sorted.duty))
 
+-- ---- the numbers and the states of the duties of a release
+
+abbrev pub states_of_text : List ℕ
+states_of_text = codes "SELECT number, state FROM duty WHERE release = ?1 ORDER BY number"
+
+states_of_is : (command_of (understood d.desk_schema states_of_text) ≡ Select (record { lets = []; body = query_on 23 (same 2 0 ∷ []) (col 1 0 ∷ col 1 8 ∷ []) (order_by (0 ∷ [])) }) (codes "number" ∷ codes "state" ∷ [])) × (reads_listing d.desk_schema states_of_text ≡ false)
+unfolding understood everything
+states_of_is = (refl, refl)
+
+pub states_of_plain : IsPlain (understood d.desk_schema states_of_text)
+unfolding understood everything
+states_of_plain = (refl, refl)
+
+pub states_of_suits : Suits states_of_text 1 (understood d.desk_schema states_of_text)
+unfolding understood everything
+states_of_suits = (refl, refl)
+
+pub states_of_asked : (release : List ℕ) → IsAsked states_of_text (Text release ∷ [])
+states_of_asked release = asked states_of_text (Text release ∷ []) 23 (same 2 0 ∷ []) (col 1 0 ∷ col 1 8 ∷ []) (order_by (0 ∷ [])) (codes "number" ∷ codes "state" ∷ []) states_of_is states_of_plain states_of_suits refl
+
+pub states_of_read : (release : List ℕ) (old new : State) (rows : List Row) (t : Tables) → Shown states_of_text (Text release ∷ []) old new rows → Holds t old.now → rows ≡ map (λ (x : DutyRow). number x.number ∷ Text (duty_state_name x.state) ∷ []) (filter (is_duty_of release) t.duty)
+states_of_read release old new rows t shown holds =
+    let this = d.duty_table in
+    shows this.name 23 this.columns this.key this.primary this.uniques this.orders 12 refl duty_cells (rows_of t) t.duty refl old.now holds.rows states_of_text (codes "number" ∷ codes "state" ∷ []) (same 2 0 ∷ []) (col 1 0 ∷ col 1 8 ∷ []) (0 ∷ []) states_of_is states_of_plain (Text release ∷ []) (duties_of_test release) (λ (cs : Row). (column cs 0 ∷ [], column cs 0 ∷ column cs 7 ∷ [])) (is_duty_of release) (λ r. refl) (λ r. refl) (duties_of_picks release) old new rows shown refl (by_rowid this.name 23 this.columns this.key this.primary this.uniques this.orders 12 refl duty_cells (rows_of t) t.duty refl old.now holds.rows) (ascending-filter _ (is_duty_of release) t.duty (duties_sorted t.duty holds.orderly.sorted.duty))
+
 -- ---- how many changes a duty has
 
 abbrev pub steps_text : List ℕ

@@ -7,6 +7,8 @@ use Rattle.desk_base.specs.declared.profile.Profile.{Profile}
 use Rattle.desk_sql_layout.specs.Cells.{number, text_or_null}
 use Rattle.desk_model.specs.declared.row.DocumentRow.{DocumentRow}
 use Rattle.desk_model.specs.declared.row.ExtractedRow.{ExtractedRow}
+use Rattle.desk_model.specs.Names.{duty_state_name}
+use Rattle.desk_sql_lookup.specs.declared.rows.StateRow.{StateRow}
 
 abbrev pub number_cells : ℕ → Row
 number_cells n = number n ∷ []
@@ -20,6 +22,10 @@ bytes_cells bytes = Blob bytes ∷ []
 -- the number of a document, and its profile
 abbrev pub known_cells : ℕ × Profile → Row
 known_cells known = number known.0 ∷ number (profile_number known.1) ∷ []
+
+-- the number and the state of a duty
+abbrev pub state_cells : StateRow → Row
+state_cells row = number row.number ∷ Text (duty_state_name row.state) ∷ []
 
 -- the number of a document, and its namespace
 abbrev pub name_cells : DocumentRow → Row

@@ -2,7 +2,7 @@
 use Rattle.std.specs.Prelude.{ℕ, Bool, false, bytes_eq, if◌then◌else◌, List, [], ◌∷◌, ◌++◌, filter, Option, Some, None}
 use Rattle.std.specs.List.{last_or}
 use Rattle.std.specs.Option.{option_and_then, option_map_or}
-use Rattle.desk_history.specs.FromTables.{standing_found}
+use Rattle.desk_history.specs.FromTables.{standing_found, steps_found}
 use Rattle.desk_model.specs.Keys.{is_change_of}
 use Rattle.desk_model.specs.Names.{duty_state_name}
 use Rattle.desk_model.specs.Tables.{Tables}
@@ -10,6 +10,15 @@ use Rattle.desk_model.specs.Texts.{is_before}
 use Rattle.desk_model.specs.declared.row.ChangeRow.{ChangeRow}
 use Rattle.desk_model.specs.declared.row.DutyRow.{DutyRow}
 use Rattle.desk_model.specs.declared.row.Standing.{Standing}
+use Rattle.desk_sql_lookup.specs.declared.rows.StateRow.{StateRow}
+
+-- a duty's number and state
+abbrev pub state_row : DutyRow → StateRow
+state_row row = record { number = row.number; state = row.state }
+
+-- where a duty stands by its number and state
+abbrev pub standing_by : Tables → StateRow → Standing
+standing_by t row = record { number = row.number; state = row.state; steps = steps_found t row.number }
 
 -- a duty stands where the word says
 abbrev pub stands_at : List ℕ → DutyRow → Bool

@@ -7,7 +7,7 @@ ghost use Rattle.desk_sql_layout.specs.Cells.{attached_cells, change_cells, duty
 ghost use Rattle.desk_model.specs.declared.row.ChangeRow.{ChangeRow as Change};
 ghost use Rattle.desk_model.specs.declared.row.DutyRow.{DutyRow as Duty};
 ghost use Rattle.desk_model.specs.declared.row.ReleaseRow.{ReleaseRow as Release};
-ghost use Rattle.desk_sql_lookup.specs.Shown.{number_cells, bytes_cells, known_cells, text_cells};
+ghost use Rattle.desk_sql_lookup.specs.Shown.{number_cells, bytes_cells, known_cells, state_cells, text_cells};
 ghost use Rattle.desk_sql_lookup.specs.Waivers.{EndsOnDay, ending_cells};
 
 use crate::columns::{
@@ -16,7 +16,9 @@ use crate::columns::{
 };
 use crate::read::{ReadRow, read_all};
 use desk_base::{Day, Items, Profile, Text};
-use desk_model::{AttachedRow, ChangeRow, DutyRow, Fault, FrozenRow, PackageRow, ReleaseRow};
+use desk_model::{
+    AttachedRow, ChangeRow, DutyRow, DutyState, Fault, FrozenRow, PackageRow, ReleaseRow,
+};
 use sqlite::Row;
 use std::alloc::Global;
 
@@ -120,6 +122,24 @@ impl ReadRow for DutyRow {
             code: text_at(alloc, row, 5)?,
             rule: text_at(alloc, row, 6)?,
             state: duty_state_at(row, 7)?,
+        })
+    }
+}
+
+/// The number and the state of a duty.
+#[derive(Drop)]
+pub(crate) struct StateRow {
+    pub(crate) number: u32,
+    pub(crate) state: DutyState,
+}
+
+impl ReadRow for StateRow {
+    ghost cells = { state_cells };
+
+    fn read(_alloc: Global, row: &Row) -> Result<StateRow, Fault> {
+        Ok(StateRow {
+            number: number_at(row, 0)?,
+            state: duty_state_at(row, 1)?,
         })
     }
 }

@@ -1,13 +1,15 @@
 //! How many changes duties have that are numbered one after the other.
 
 ghost use Rattle.std.specs.Prelude.{◌≡◌, ◌<◌, ◌^◌, ◌++◌, ◌∷◌, [], ℕ, List, IfOk, IfSome, filter, map, length};
-ghost use Rattle.desk_history.specs.FromTables.{standing_found, steps_found};
+ghost use Rattle.desk_history.specs.FromTables.{steps_found};
 ghost use Rattle.desk_model.specs.Tables.{Tables};
 ghost use Rattle.desk_sql_lookup.specs.LookUps.{LooksUp};
+ghost use Rattle.desk_sql_lookup.specs.Standings.{standing_by};
 ghost use Rattle.desk_sql_lookup.specs.Steps.{AreCounts, HaveSteps, is_change_within};
 
 use crate::query::read_rows;
-use desk_model::{DutyRow, Fault, Standing};
+use crate::rows::StateRow;
+use desk_model::{Fault, Standing};
 use desk_sql_layout::values::number;
 use sqlite::{Alter, Connection};
 use std::alloc::{AllocError, Global};
@@ -100,10 +102,10 @@ fn standings_in(
     alloc: Global,
     steps: &[u64],
     first: u32,
-    rows: &[DutyRow],
+    rows: &[StateRow],
 ) -> Result<Option<Vec<Standing>>, AllocError>
     ensures { IfOk result (λ found. IfSome found (λ found. (t : Tables)
-        → HaveSteps first steps.now t → found.items ≡ map (standing_found t) rows.now)) }
+        → HaveSteps first steps.now t → found.items ≡ map (standing_by t) rows.now)) }
 {
     let mut found = Vec::new(alloc);
     for row in rows {
@@ -124,10 +126,10 @@ pub(crate) fn standings_from<S: Alter>(
     alloc: Global,
     conn: &mut Connection<S>,
     first: u32,
-    rows: &[DutyRow],
+    rows: &[StateRow],
 ) -> Result<Option<Vec<Standing>>, Fault>
     ensures { LooksUp S.Store conn.old conn.new result (λ found t.
-        IfSome found (λ found. found.items ≡ map (standing_found t) rows.now)) }
+        IfSome found (λ found. found.items ≡ map (standing_by t) rows.now)) }
 {
     let more = u32::try_from(rows.len()).unwrap_or(u32::MAX);
     let steps = steps_from(alloc, conn, first, more.saturating_sub(1))?;

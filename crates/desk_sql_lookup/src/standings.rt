@@ -3,16 +3,17 @@
 ghost use Rattle.std.specs.Prelude.{◌≡◌, false, OnOk, filter, map, length};
 ghost use Rattle.std.specs.List.{filter_map, last_or};
 ghost use Rattle.std.specs.Option.{option_and_then};
-ghost use Rattle.desk_history.specs.FromTables.{ended_found, standing_found, standings_found};
+ghost use Rattle.desk_history.specs.FromTables.{ended_found, standings_found};
 ghost use Rattle.desk_sql_layout.specs.Cells.{duty_cells};
+ghost use Rattle.desk_model.specs.Keys.{is_duty_of};
 ghost use Rattle.desk_model.specs.Names.{duty_state_name};
-ghost use Rattle.desk_sql_lookup.specs.Standings.{and_some, ended_standing, has_end_before, stands_at};
+ghost use Rattle.desk_sql_lookup.specs.Standings.{and_some, ended_standing, has_end_before, standing_by, stands_at, state_row};
 ghost use Rattle.desk_sql_lookup.specs.LookUps.{LooksUp, LooksUpIf};
 
 use crate::changes::{changes_of, steps};
-use crate::duties::duties_of;
-use crate::query::query;
+use crate::query::{query, read_rows, text};
 use crate::read::read_all;
+use crate::rows::StateRow;
 use crate::runs::standings_from;
 use desk_base::Day;
 use desk_model::{ChangeRow, DutyRow, DutyState, Fault, Standing};
@@ -24,10 +25,10 @@ use std::alloc::{AllocError, Global};
 fn standing<S: Alter>(
     conn: &mut Connection<S>,
     duties: u32,
-    row: &DutyRow,
+    row: &StateRow,
 ) -> Result<Standing, Fault>
     ensures { LooksUp S.Store conn.old conn.new result (λ found t.
-        length t.duty ≡ duties → found ≡ standing_found t row.now) }
+        length t.duty ≡ duties → found ≡ standing_by t row.now) }
 {
     let steps = steps(conn, duties, u64::from(row.number))?;
     Ok(Standing {
@@ -42,10 +43,10 @@ fn each_standing<S: Alter>(
     alloc: Global,
     conn: &mut Connection<S>,
     duties: u32,
-    rows: &[DutyRow],
+    rows: &[StateRow],
 ) -> Result<Vec<Standing>, Fault>
     ensures { LooksUp S.Store conn.old conn.new result (λ found t.
-        length t.duty ≡ duties → found.items ≡ map (standing_found t) rows.now) }
+        length t.duty ≡ duties → found.items ≡ map (standing_by t) rows.now) }
 {
     let mut found = Vec::new(alloc);
     for row in rows {
@@ -60,10 +61,10 @@ fn standings<S: Alter>(
     alloc: Global,
     conn: &mut Connection<S>,
     duties: u32,
-    rows: &[DutyRow],
+    rows: &[StateRow],
 ) -> Result<Vec<Standing>, Fault>
     ensures { LooksUp S.Store conn.old conn.new result (λ found t.
-        length t.duty ≡ duties → found.items ≡ map (standing_found t) rows.now) }
+        length t.duty ≡ duties → found.items ≡ map (standing_by t) rows.now) }
 {
     let Some(first) = rows.first() else {
         return Ok(Vec::new(alloc));
@@ -72,6 +73,23 @@ fn standings<S: Alter>(
         Some(found) => Ok(found),
         None => each_standing(alloc, conn, duties, rows),
     }
+}
+
+/// The numbers and the states of the duties of a release, by number.
+fn states_of<S: Alter>(
+    alloc: Global,
+    conn: &mut Connection<S>,
+    release: &str,
+) -> Result<Vec<StateRow>, Fault>
+    ensures { LooksUp S.Store conn.old conn.new result (λ found t.
+        found.items ≡ map state_row (filter (is_duty_of release.now) t.duty)) }
+{
+    read_rows(
+        alloc,
+        conn,
+        "SELECT number, state FROM duty WHERE release = ?1 ORDER BY number",
+        &[text(release)],
+    )
 }
 
 /// Where the duties of a release stand, by number, of so many duties.
@@ -84,7 +102,7 @@ pub fn standings_of<S: Alter>(
     ensures { LooksUp S.Store conn.old conn.new result (λ found t.
         length t.duty ≡ duties → found.items ≡ standings_found t release.now) }
 {
-    let rows = duties_of(alloc, conn, release)?;
+    let rows = states_of(alloc, conn, release)?;
     standings(alloc, conn, duties, &rows)
 }
 
