@@ -14,6 +14,7 @@ use crate::fields::{
 use crate::forms::{COMMANDS, Form, QUERIES, form_named};
 use crate::request::Request;
 use desk_base::{Items, Text};
+use desk_json_object::read_object;
 use desk_model::{Command, Profile, Query};
 use serde_json::Value;
 use std::alloc::{AllocError, Global};
@@ -338,13 +339,16 @@ fn read_value(alloc: Global, value: &mut Value) -> Result<Request, AllocError>
     }
 }
 
-/// The request that the bytes are, or `BadCommand` where they are none.
+/// How many members a request has at most.
+const MEMBERS: usize = 5;
+
+/// The request that the bytes are, or `BadCommand` where they are none. What no request needs of
+/// them is passed over (`desk_json_object`).
 pub fn read_command(alloc: Global, bytes: &[u8]) -> Result<Request, AllocError>
     ensures { IfOk result (λ request. request ≡ request_in bytes.now) }
 {
-    match Value::from_slice(alloc, bytes) {
-        Ok(mut value) => read_value(alloc, &mut value),
-        Err(error) if error.is_memory() => Err(AllocError),
-        Err(_) => Ok(Request::BadCommand),
+    match read_object(alloc, bytes, MEMBERS)? {
+        Some(mut value) => read_value(alloc, &mut value),
+        None => Ok(Request::BadCommand),
     }
 }

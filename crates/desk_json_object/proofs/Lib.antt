@@ -1,0 +1,4 @@
+mod Numbers
+mod Taking
+mod Telling
+mod Sparing

@@ -1,0 +1,49 @@
+-- What the parts of a reader keep.
+use Rattle.std.specs.Prelude.{◌≡◌, ℕ, ◌<◌, ◌≤◌, true, false, List, [], Option, Some, None, Result, Ok, Err, ⊤, Vec}
+use Rattle.std.specs.declared.alloc.Global.{Global}
+use Rattle.json.specs.Token.{Token}
+use Rattle.serde_json.specs.Data.{Data, object, Items, no_items, item, Members}
+use Rattle.serde_json.specs.Events.{members_len}
+use Rattle.serde_json.specs.View.{items_view}
+use Rattle.serde_json.specs.declared.value.Value.{Value}
+use Rattle.desk_json_object.specs.Spared.{spared, spared_members, are_texts}
+use Rattle.desk_json_object.specs.declared.object.Unread.{Unread}
+use Rattle.desk_json_object.specs.declared.object.Unread.TheVariants as why
+
+-- nothing is read, and not for want of memory
+abbrev pub IsRefused : {X : Type 0} → Result X Unread → Type 0
+IsRefused (Ok _) = ⊥
+IsRefused (Err why.NoObject) = ⊤
+IsRefused (Err why.Memory) = ⊥
+
+-- items behind others
+abbrev pub joined : Items → Items → Items
+joined no_items behind = behind
+joined (item d ds) behind = item d (joined ds behind)
+
+-- the items so far, where they are texts alone
+abbrev pub AreKept : Items → Option (Vec Value Global) → Type 0
+AreKept items (Some texts) = (items ≡ items_view texts.items) × (are_texts items ≡ true)
+AreKept items None = are_texts items ≡ false
+
+abbrev pub KeepsItems : Option (Items × List Token) → Option (Vec Value Global) → List Token → Type 0
+KeepsItems taken texts rest = (ds : Items) × (taken ≡ Some (ds, rest)) × AreKept ds texts
+
+-- a value, of which this is kept
+abbrev pub Keeps : Option (Data × List Token) → Data → List Token → Type 0
+Keeps taken kept rest = (d : Data) × (taken ≡ Some (d, rest)) × (spared d ≡ kept)
+
+-- at most so many members, of which these are kept
+abbrev pub KeepsMembers : ℕ → Option (Members × List Token) → Members → List Token → Type 0
+KeepsMembers most taken kept rest = (ms : Members) × (taken ≡ Some (ms, rest)) × (members_len ms ≤ most) × (spared_members ms ≡ kept)
+
+-- whatever members there are, there are more than so many
+abbrev pub AreTooMany : ℕ → Option (Members × List Token) → Type 0
+AreTooMany most taken = (ms : Members) (rest : List Token) → taken ≡ Some (ms, rest) → most < members_len ms
+
+-- the same of an object
+abbrev pub KeepsObject : ℕ → Option (Data × List Token) → Members → List Token → Type 0
+KeepsObject most taken kept rest = (ms : Members) × (taken ≡ Some (object ms, rest)) × (members_len ms ≤ most) × (spared_members ms ≡ kept)
+
+abbrev pub IsNoObject : ℕ → Option (Data × List Token) → Type 0
+IsNoObject most taken = (ms : Members) (rest : List Token) → taken ≡ Some (object ms, rest) → rest ≡ [] → most < members_len ms

@@ -1,0 +1,15 @@
+//! Reads the object that a JSON text (RFC 8259) is, and keeps no more of it than a reader of texts,
+//! whole numbers and lists of texts can need.
+//!
+//! A value of the kit's `serde_json` takes up to 175 times the bytes of its text, since each object
+//! keeps room for more members. Here the text is gone through token by token: a value that is an
+//! object, or a list of anything but texts, is passed over and leaves nothing, and an object of too
+//! many members is given up at the first of them that is too many. The text must be read by
+//! `serde_json` all the same, to its end.
+#![tactic(auto)]
+
+mod number;
+mod object;
+mod passing;
+
+pub use object::read_object;
