@@ -138,39 +138,26 @@ tokens_exist profile place bytes = tokens_exist_in profile (length bytes) place 
 
 -- ---- and only one list of them
 
--- two cuts at the blanks in front are one, where no blank begins what follows
+-- no blank begins what follows
 abbrev NoBlankBegins : List ℕ → Type 0
 NoBlankBegins [] = Unit {0}
 NoBlankBegins (b ∷ bs) = is_blank b ≡ false
 
-same_blanks : (xs ys x y : List ℕ) → All Blank xs → All Blank ys → NoBlankBegins x → NoBlankBegins y → xs ++ x ≡ ys ++ y → (xs ≡ ys) × (x ≡ y)
-same_blanks [] [] x y only only' free free' is = (refl, is)
-same_blanks [] (b ∷ ys) [] y only only' free free' is = absurd (cc)
-same_blanks [] (b ∷ ys) (c ∷ x) y only only' free free' is =
-    let same : c ≡ b = cc in clash (is_blank b) (all_head Blank b ys only') (subst (λ v. is_blank v ≡ false) same free)
-same_blanks (b ∷ xs) [] x [] only only' free free' is = absurd (cc)
-same_blanks (b ∷ xs) [] x (c ∷ y) only only' free free' is =
-    let same : c ≡ b = cc in clash (is_blank b) (all_head Blank b xs only) (subst (λ v. is_blank v ≡ false) same free')
-same_blanks (b ∷ xs) (c ∷ ys) x y only only' free free' is =
+-- two longest fronts of bytes that pass a test are one
+same_front : (test : ℕ → Bool) (xs ys x y : List ℕ) → All (λ b. IsTrue (test b)) xs → All (λ b. IsTrue (test b)) ys
+    → ((b : ℕ) (bs : List ℕ) → x ≡ b ∷ bs → test b ≡ false) → ((b : ℕ) (bs : List ℕ) → y ≡ b ∷ bs → test b ≡ false) → xs ++ x ≡ ys ++ y → (xs ≡ ys) × (x ≡ y)
+same_front test [] [] x y only only' stops stops' is = (refl, is)
+same_front test [] (b ∷ ys) x y only only' stops stops' is = clash (test b) (all_head (λ b. IsTrue (test b)) b ys only') (stops b (ys ++ y) is)
+same_front test (b ∷ xs) [] x y only only' stops stops' is = clash (test b) (all_head (λ b. IsTrue (test b)) b xs only) (stops' b (xs ++ x) (sym is))
+same_front test (b ∷ xs) (c ∷ ys) x y only only' stops stops' is =
     let head : b ≡ c = cc in
     let tail : xs ++ x ≡ ys ++ y = cc in
-    let rest = same_blanks xs ys x y (all_tail Blank b xs only) (all_tail Blank c ys only') free free' tail in
+    let rest = same_front test xs ys x y (all_tail (λ b. IsTrue (test b)) b xs only) (all_tail (λ b. IsTrue (test b)) c ys only') stops stops' tail in
     ((λ i. head i ∷ rest.0 i), rest.1)
 
--- two longest runs in front are one
 same_run : (xs ys x y : List ℕ) → All RunByte xs → All RunByte ys → NoRunBegins x → NoRunBegins y → xs ++ x ≡ ys ++ y → (xs ≡ ys) × (x ≡ y)
-same_run [] [] x y only only' free free' is = (refl, is)
-same_run [] (b ∷ ys) [] y only only' free free' is = absurd (cc)
-same_run [] (b ∷ ys) (c ∷ x) y only only' free free' is =
-    let same : c ≡ b = cc in clash (is_run_byte b) (all_head RunByte b ys only') (subst (λ v. is_run_byte v ≡ false) same free)
-same_run (b ∷ xs) [] x [] only only' free free' is = absurd (cc)
-same_run (b ∷ xs) [] x (c ∷ y) only only' free free' is =
-    let same : c ≡ b = cc in clash (is_run_byte b) (all_head RunByte b xs only) (subst (λ v. is_run_byte v ≡ false) same free')
-same_run (b ∷ xs) (c ∷ ys) x y only only' free free' is =
-    let head : b ≡ c = cc in
-    let tail : xs ++ x ≡ ys ++ y = cc in
-    let rest = same_run xs ys x y (all_tail RunByte b xs only) (all_tail RunByte c ys only') free free' tail in
-    ((λ i. head i ∷ rest.0 i), rest.1)
+same_run xs ys x y only only' free free' is =
+    same_front is_run_byte xs ys x y only only' (λ b bs begins. subst NoRunBegins begins free) (λ b bs begins. subst NoRunBegins begins free') is
 
 piece_no_blank : (text rest : List ℕ) → IsPiece text rest → NoBlankBegins (text ++ rest)
 piece_no_blank [] rest p = absurd p
@@ -195,7 +182,8 @@ same_piece (b ∷ bs) (c ∷ cs) x y (inr (only, stops)) (inr (only', stops')) i
 
 same_first : (profile : Profile) (place : ℕ) (bytes : List ℕ) (t u : Lexeme) (x y : List ℕ) → IsFirstToken profile place bytes t x → IsFirstToken profile place bytes u y → (t ≡ u) × (x ≡ y)
 same_first profile place bytes t u x y f g =
-    let outer = same_blanks f.blanks g.blanks (t.text ++ x) (u.text ++ y) f.only_blanks g.only_blanks (piece_no_blank t.text x f.piece) (piece_no_blank u.text y g.piece) (sym f.cut ∙ g.cut) in
+    let outer = same_front is_blank f.blanks g.blanks (t.text ++ x) (u.text ++ y) f.only_blanks g.only_blanks
+    (λ b bs begins. subst NoBlankBegins begins (piece_no_blank t.text x f.piece)) (λ b bs begins. subst NoBlankBegins begins (piece_no_blank u.text y g.piece)) (sym f.cut ∙ g.cut) in
     let inner = same_piece t.text u.text x y f.piece g.piece outer.1 in
     let start : t.start ≡ u.start = f.start ∙ ap (λ l. place + length l) outer.0 ∙ sym g.start in
     let end : t.end ≡ u.end = f.end ∙ (λ i. start i + length (inner.0 i)) ∙ sym g.end in

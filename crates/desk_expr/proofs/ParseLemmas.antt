@@ -12,7 +12,7 @@ use Rattle.desk_expr.specs.declared.token.Token.{Token}
 use Rattle.desk_expr.specs.Tree.{Tree}
 use Rattle.desk_expr.specs.Tokens.{Lexeme, lexeme, AreTokensBy}
 use Rattle.desk_expr.specs.Given.{TokenGiven}
-use Rattle.desk_expr.specs.Grammar.{bad, SpellsTree}
+use Rattle.desk_expr.specs.Grammar.{Symbol, bad, SpellsTree}
 use Rattle.desk_expr.specs.Spelling.{symbol, symbol_of, symbols, AllFronts, KeepsLimits, Begins, Stands, Reason, EndReason, StopsAtToken, StopsAtEnd, IsStopBy, SpellsBy, SpellsWithinBy}
 use Rattle.desk_expr.specs.Progress.{StopsAfter, EndsAfter, HasRead, is_started}
 use Rattle.desk_expr.proofs.Lexing.{tokens_exist, same_tokens}
@@ -115,20 +115,21 @@ no_reason profile text f e (front, t, behind, are, stands, reason) (short, us, a
     none (TooManyTerms p) reason h keeps = let few = keeps.terms in absurd (omega (arith, few, reason.2))
     none (Memory m) reason h keeps = reason
 
+-- behind tokens that stop at the end of the text nothing is spelled
+pub end_spells_nothing : {A : Type 0} (Spells : List Symbol → A → Type 0) (end : ℕ) (ts : List Lexeme) (a : A) (f : ParseFault) → EndReason Spells end ts f → Spells (symbols ts) a → ⊥
+end_spells_nothing Spells end ts a (Empty p) reason h = reason
+end_spells_nothing Spells end ts a (BadToken p) reason h = reason
+end_spells_nothing Spells end ts a (Unexpected p) reason h = reason.0 (0, a, subst (λ l. Spells l a) (sym (append-nil (symbols ts))) h)
+end_spells_nothing Spells end ts a (Unclosed p) reason h = reason.1 a h
+end_spells_nothing Spells end ts a (TooDeep p) reason h = reason
+end_spells_nothing Spells end ts a (TooLong p) reason h = reason
+end_spells_nothing Spells end ts a (TooManyTerms p) reason h = reason
+end_spells_nothing Spells end ts a (Memory m) reason h = reason
+
 no_end : (profile : Profile) (text : List ℕ) (f : ParseFault) (e : Tree) → StopsAtEnd SpellsTree profile text f → SpellsWithinBy profile text e → ⊥
 no_end profile text f e (t, behind, are, stands, reason) (short, us, are', h, keeps) =
     let same : us ≡ t ∷ behind = same_tokens profile 0 text us (t ∷ behind) are' are in
-    none f reason (subst (λ l. SpellsTree (symbols l) e) same h)
-  where
-    none : (f : ParseFault) → EndReason SpellsTree (length text) (t ∷ behind) f → SpellsTree (symbols (t ∷ behind)) e → ⊥
-    none (Empty p) reason h = reason
-    none (BadToken p) reason h = reason
-    none (Unexpected p) reason h = reason.0 (0, e, subst (λ l. SpellsTree l e) (sym (append-nil (symbols (t ∷ behind)))) h)
-    none (Unclosed p) reason h = reason.1 e h
-    none (TooDeep p) reason h = reason
-    none (TooLong p) reason h = reason
-    none (TooManyTerms p) reason h = reason
-    none (Memory m) reason h = reason
+    end_spells_nothing SpellsTree (length text) (t ∷ behind) e f reason (subst (λ l. SpellsTree (symbols l) e) same h)
 
 no_tokens : (profile : Profile) (text : List ℕ) (e : Tree) → AreTokensBy profile 0 text [] → SpellsWithinBy profile text e → ⊥
 no_tokens profile text e are (short, us, are', h, keeps) =

@@ -20,11 +20,11 @@ use Rattle.desk_expr.specs.Words.{with_exception}
 use Rattle.desk_expr.specs.Tokens.{Lexeme, lexeme, AreTokensBy}
 use Rattle.desk_expr.specs.Given.{TokenGiven}
 use Rattle.desk_expr.specs.Grammar.{Symbol, with_word, word, bad, SpellsTerm, bare, excepted}
-use Rattle.desk_expr.specs.Spelling.{symbol, symbol_of, symbols, open_after, is_word, is_with, operand_words_after, closings, AllFronts, Begins, Stands, Reason, EndReason, StopsAtToken, StopsAtEnd, IsStopBy, SpellsTermAloneBy, SpellsTermWithinBy}
+use Rattle.desk_expr.specs.Spelling.{symbol, symbol_of, symbols, open_after, is_word, is_with, operand_words_after, closings, AllFronts, Begins, Stands, Reason, StopsAtToken, StopsAtEnd, IsStopBy, SpellsTermAloneBy, SpellsTermWithinBy}
 use Rattle.desk_expr.specs.TermReading.{TermRest, HasBegun, TermSteps, TermStops, TermEnds, TermFalls}
 use Rattle.desk_expr.proofs.Lexing.{tokens_exist, same_tokens}
 use Rattle.desk_expr.proofs.ProgressLemmas.{symbols_push, fronts_push}
-use Rattle.desk_expr.proofs.ParseLemmas.{SoFar, symbols_behind, symbols_split}
+use Rattle.desk_expr.proofs.ParseLemmas.{SoFar, end_spells_nothing, symbols_behind, symbols_split}
 
 -- ---- steps
 
@@ -318,17 +318,7 @@ no_reason profile text f e (front, t, behind, are, stands, reason) (short, (us, 
 no_end : (profile : Profile) (text : List ℕ) (f : ParseFault) (e : Term) → StopsAtEnd SpellsTerm profile text f → SpellsTermWithinBy profile text e → ⊥
 no_end profile text f e (t, behind, are, stands, reason) (short, (us, are', h)) =
     let same : us ≡ t ∷ behind = same_tokens profile 0 text us (t ∷ behind) are' are in
-    none f reason (subst (λ l. SpellsTerm (symbols l) e) same h)
-  where
-    none : (f : ParseFault) → EndReason SpellsTerm (length text) (t ∷ behind) f → SpellsTerm (symbols (t ∷ behind)) e → ⊥
-    none (Empty p) reason h = reason
-    none (BadToken p) reason h = reason
-    none (Unexpected p) reason h = reason.0 (0, e, subst (λ l. SpellsTerm l e) (sym (append-nil (symbols (t ∷ behind)))) h)
-    none (Unclosed p) reason h = reason.1 e h
-    none (TooDeep p) reason h = reason
-    none (TooLong p) reason h = reason
-    none (TooManyTerms p) reason h = reason
-    none (Memory m) reason h = reason
+    end_spells_nothing SpellsTerm (length text) (t ∷ behind) e f reason (subst (λ l. SpellsTerm (symbols l) e) same h)
 
 no_tokens : (profile : Profile) (text : List ℕ) (e : Term) → AreTokensBy profile 0 text [] → SpellsTermWithinBy profile text e → ⊥
 no_tokens profile text e are (short, (us, are', h)) =

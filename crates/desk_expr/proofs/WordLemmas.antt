@@ -1,5 +1,5 @@
 -- What the kind of a token says of its bytes, and that words are well-formed terms.
-use Rattle.std.proofs.Common.{◌≡◌, ◌∙◌, ℕ, List, [], ◌∷◌, length, Bool, true, false, refl, sym, ap, arith, add-zero, Some, None, drop, get_or, codes, nat_eq}
+use Rattle.std.proofs.Common.{◌≡◌, ◌∙◌, ℕ, List, [], ◌∷◌, length, Bool, true, false, refl, sym, subst, ap, arith, add-zero, Some, None, drop, get_or, codes, nat_eq}
 use Rattle.std.specs.Prelude.{nat_lt, ◌&&◌, ◌||◌, not, if◌then◌else◌, ◌-◌}
 use Rattle.std.specs.Char.{to_ascii_lowercase}
 use Rattle.std.specs.List.{list_all, ends_with}
@@ -18,44 +18,31 @@ use Rattle.desk_expr.specs.declared.term.Term.{Term}
 
 -- ---- kinds
 
-licence_tests : (o c a r w b f i l : Bool) →
-    Licence ≡ (if o then Opening else (if c then Closing else (if a then And else (if r then Or else (if w then With else (if b then (if f then Reference else Bad) else (if i then Licence else (if l then LicenceOrLater else Bad)))))))) → i ≡ true
-licence_tests true c a r w b f i l h = absurd (cc)
-licence_tests false true a r w b f i l h = absurd (cc)
-licence_tests false false true r w b f i l h = absurd (cc)
-licence_tests false false false true w b f i l h = absurd (cc)
-licence_tests false false false false true b f i l h = absurd (cc)
-licence_tests false false false false false true true i l h = absurd (cc)
-licence_tests false false false false false true false i l h = absurd (cc)
-licence_tests false false false false false false f true l h = refl
-licence_tests false false false false false false f false true h = absurd (cc)
-licence_tests false false false false false false f false false h = absurd (cc)
+-- the test that a word of this kind passes: f of a reference, i of a licence, l of one with `+`
+abbrev Passes : Kind → Bool → Bool → Bool → Type 0
+Passes Licence f i l = i ≡ true
+Passes LicenceOrLater f i l = l ≡ true
+Passes Reference f i l = f ≡ true
+Passes _ f i l = Unit {0}
 
-or_later_tests : (o c a r w b f i l : Bool) →
-    LicenceOrLater ≡ (if o then Opening else (if c then Closing else (if a then And else (if r then Or else (if w then With else (if b then (if f then Reference else Bad) else (if i then Licence else (if l then LicenceOrLater else Bad)))))))) → l ≡ true
-or_later_tests true c a r w b f i l h = absurd (cc)
-or_later_tests false true a r w b f i l h = absurd (cc)
-or_later_tests false false true r w b f i l h = absurd (cc)
-or_later_tests false false false true w b f i l h = absurd (cc)
-or_later_tests false false false false true b f i l h = absurd (cc)
-or_later_tests false false false false false true true i l h = absurd (cc)
-or_later_tests false false false false false true false i l h = absurd (cc)
-or_later_tests false false false false false false f true l h = absurd (cc)
-or_later_tests false false false false false false f false true h = refl
-or_later_tests false false false false false false f false false h = absurd (cc)
+passed : (o c a r w b f i l : Bool) →
+    Passes (if o then Opening else (if c then Closing else (if a then And else (if r then Or else (if w then With else (if b then (if f then Reference else Bad) else (if i then Licence else (if l then LicenceOrLater else Bad)))))))) f i l
+passed true c a r w b f i l = tt
+passed false true a r w b f i l = tt
+passed false false true r w b f i l = tt
+passed false false false true w b f i l = tt
+passed false false false false true b f i l = tt
+passed false false false false false true true i l = refl
+passed false false false false false true false i l = tt
+passed false false false false false false f true l = refl
+passed false false false false false false f false true = refl
+passed false false false false false false f false false = tt
 
-reference_tests : (o c a r w b f i l : Bool) →
-    Reference ≡ (if o then Opening else (if c then Closing else (if a then And else (if r then Or else (if w then With else (if b then (if f then Reference else Bad) else (if i then Licence else (if l then LicenceOrLater else Bad)))))))) → f ≡ true
-reference_tests true c a r w b f i l h = absurd (cc)
-reference_tests false true a r w b f i l h = absurd (cc)
-reference_tests false false true r w b f i l h = absurd (cc)
-reference_tests false false false true w b f i l h = absurd (cc)
-reference_tests false false false false true b f i l h = absurd (cc)
-reference_tests false false false false false true true i l h = refl
-reference_tests false false false false false true false i l h = absurd (cc)
-reference_tests false false false false false false f true l h = absurd (cc)
-reference_tests false false false false false false f false true h = absurd (cc)
-reference_tests false false false false false false f false false h = absurd (cc)
+by_kind : (profile : Profile) (k : Kind) (w : List ℕ) → k ≡ kind_by profile w → Passes k (is_reference w) (is_idstring w) (is_licence_or_later w)
+by_kind profile k w h =
+    subst (λ (k : Kind). Passes k (is_reference w) (is_idstring w) (is_licence_or_later w)) (sym h)
+    (passed (bytes_eq w (codes "(")) (bytes_eq w (codes ")")) (is_operator profile (codes "AND") (codes "and") w) (is_operator profile (codes "OR") (codes "or") w)
+    (is_operator profile (codes "WITH") (codes "with") w) (begins_like_reference w) (is_reference w) (is_idstring w) (is_licence_or_later w))
 
 -- a token that is a word is such a word, by each profile
 pub word_of : (profile : Profile) (k : Kind) (w : List ℕ) → k ≡ kind_by profile w → IsWordOf k w
@@ -64,9 +51,9 @@ word_of profile Closing w h = tt
 word_of profile And w h = tt
 word_of profile Or w h = tt
 word_of profile With w h = tt
-word_of profile Licence w h = licence_tests (bytes_eq w (codes "(")) (bytes_eq w (codes ")")) (is_operator profile (codes "AND") (codes "and") w) (is_operator profile (codes "OR") (codes "or") w) (is_operator profile (codes "WITH") (codes "with") w) (begins_like_reference w) (is_reference w) (is_idstring w) (is_licence_or_later w) h
-word_of profile LicenceOrLater w h = or_later_tests (bytes_eq w (codes "(")) (bytes_eq w (codes ")")) (is_operator profile (codes "AND") (codes "and") w) (is_operator profile (codes "OR") (codes "or") w) (is_operator profile (codes "WITH") (codes "with") w) (begins_like_reference w) (is_reference w) (is_idstring w) (is_licence_or_later w) h
-word_of profile Reference w h = reference_tests (bytes_eq w (codes "(")) (bytes_eq w (codes ")")) (is_operator profile (codes "AND") (codes "and") w) (is_operator profile (codes "OR") (codes "or") w) (is_operator profile (codes "WITH") (codes "with") w) (begins_like_reference w) (is_reference w) (is_idstring w) (is_licence_or_later w) h
+word_of profile Licence w h = by_kind profile Licence w h
+word_of profile LicenceOrLater w h = by_kind profile LicenceOrLater w h
+word_of profile Reference w h = by_kind profile Reference w h
 word_of profile Bad w h = tt
 
 -- ---- folded ids
