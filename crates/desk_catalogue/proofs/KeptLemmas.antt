@@ -1,5 +1,5 @@
 -- Texts and rules in their places.
-use Rattle.std.proofs.Common.{◌≡◌, ◌∙◌, inl, inr, ℕ, Bool, true, false, cond, List, [], ◌∷◌, ◌++◌, map, Option, Some, sym, ap, refl, Ordering, Less, Equal, Greater, nat_cmp, is_eq}
+use Rattle.std.proofs.Common.{◌≡◌, ◌∙◌, inl, inr, ℕ, Bool, true, false, cond, List, [], ◌∷◌, ◌++◌, map, Option, Some, sym, ap, refl, Ordering, Less, Equal, Greater, nat_cmp, is_eq, subst}
 use Rattle.std.specs.Prelude.{◌&&◌, ◌||◌, not, is_some}
 use Rattle.std.specs.Ordering.{is_lt, on, then_cmp, match_ordering, ordering_then}
 use Rattle.std.specs.Str.{bytes_eq}
@@ -8,9 +8,7 @@ use Rattle.std.specs.BTreeMap.{insert_entry, is_at}
 use Rattle.std.specs.Map.{lookup}
 use Rattle.std.specs.BTreeSet.{insert_key}
 use Rattle.std.proofs.lemmas.Map.Text.{is_eq-slice_cmp}
-use Rattle.std.proofs.lemmas.Bool.{cases_Bool, false≢true}
 use Rattle.std.proofs.lemmas.Map.Lookups.{exact_bytes}
-use Rattle.std.proofs.lemmas.Slice.Eq.{bytes_eq-Decides}
 use denote.Ref.{Bor}
 use Rattle.desk_model.specs.Keys.{is_rule}
 use Rattle.desk_model.specs.declared.reading.Rule.{Rule}
@@ -20,6 +18,7 @@ use Rattle.desk_catalogue.specs.declared.order.Said.{Said}
 use Rattle.desk_catalogue.specs.Kept.{put_rule, has_rule}
 use Rattle.desk_catalogue.specs.Shown.{rule_of_entry}
 use Rattle.desk_base.specs.Borrowed.{texts, borrowed_cmp}
+use Rattle.desk_base.proofs.Texts.{text_tells}
 
 -- ---- texts
 
@@ -86,12 +85,9 @@ rules-insert_entry (e ∷ es) k v =
 -- texts are the same both ways round
 pub flipped : (a b : List ℕ) → bytes_eq a b ≡ bytes_eq b a
 flipped a b =
-    elim (cases_Bool (bytes_eq a b)) [
-      | inl same ↦ same ∙ sym ((bytes_eq-Decides b a).1 (sym ((bytes_eq-Decides a b).0 same)))
-      | inr other ↦ elim (cases_Bool (bytes_eq b a)) [
-        | inl same ↦ absurd (false≢true (sym other ∙ (bytes_eq-Decides a b).1 (sym ((bytes_eq-Decides b a).0 same))))
-        | inr other' ↦ other ∙ sym other'
-      ]
+    elim (text_tells a b) [
+      | inl w ↦ subst (λ (t : List ℕ). bytes_eq a t ≡ bytes_eq t a) w.1 refl
+      | inr w ↦ (elim (text_tells b a) [ inl v ↦ absurd (w.1 (sym v.1)) | inr v ↦ w.0 ∙ sym v.0 ])
     ]
 
 pub either_equal : (o p : Ordering) → is_eq (ordering_then o p) ≡ (is_eq o && is_eq p)

@@ -14,6 +14,7 @@ use Rattle.desk_model.specs.declared.refusal.CataloguePart.TheVariants as part
 use Rattle.desk_model.specs.declared.refusal.CatalogueFault.{CatalogueFault}
 use Rattle.desk_model.specs.declared.refusal.CatalogueFault.TheVariants.{NotToml, TooLarge, Twice}
 use Rattle.desk_catalogue.specs.declared.catalogue.Catalogue.{Catalogue}
+use Rattle.desk_catalogue.specs.declared.catalogue.LicenceText.{LicenceText}
 use Rattle.desk_base.specs.Limits as limit
 use Rattle.desk_catalogue.specs.Kept.{put_rule, has_rule}
 use Rattle.desk_catalogue.specs.Reading.{Read, each, tables_of, forms_of, duties_of, rule_at, with_one, with_rule, rules_of, licence_texts_of, catalogue_of_table, catalogue_of}
@@ -85,10 +86,21 @@ rules_hold P terms forms duties listed rules none more e =
         let found = then_by (rule_at terms forms duties i d) (with_one rs i) ts e in
         subst P (same_read (put_rule found.0 rs) ts (unless (has_rule rs found.0) (Twice part.Rule i) (Ok (put_rule found.0 rs)) ts found.2)) (more i d found.0 rs found.1 p)
 
--- the rules of a catalogue are those that its table lists
-pub rules_read : (terms : List ℕ → Option (List ℕ)) (text : List ℕ) (catalogue : Catalogue) → catalogue_of terms text ≡ Ok catalogue
-    → (ms : Members) × (forms : List (List ℕ)) × (duties : List (List ℕ)) × (rules_of terms forms duties (get_member (codes "rule") ms) ≡ Ok catalogue.rules)
-rules_read terms text catalogue e =
+-- what the text of a catalogue is read into, part by part
+pub record IsReadFrom (terms : List ℕ → Option (List ℕ)) (catalogue : Catalogue) : Type 0 where
+  pub members : Members
+  pub forms : List (List ℕ)
+  pub duties : List (List ℕ)
+  pub rules : List Rule
+  pub texts : List LicenceText
+  pub forms_are : forms_of (get_member (codes "forms") members) ≡ Ok forms
+  pub duties_are : duties_of (get_member (codes "duty") members) ≡ Ok duties
+  pub rules_are : rules_of terms forms duties (get_member (codes "rule") members) ≡ Ok rules
+  pub texts_are : licence_texts_of (get_member (codes "text") members) ≡ Ok texts
+  pub same : ◌≡◌ {A = Catalogue} (record { forms = forms; rules = rules; texts = texts }) catalogue
+
+pub parts_read : (terms : List ℕ → Option (List ℕ)) (text : List ℕ) (catalogue : Catalogue) → catalogue_of terms text ≡ Ok catalogue → IsReadFrom terms catalogue
+parts_read terms text catalogue e =
     let small = unless (nat_lt limit.catalogue_bytes (length text)) TooLarge (then_read (ok_or (parse_document text) NotToml) (catalogue_of_table terms)) catalogue e in
     let table = then_by (ok_or (parse_document text) NotToml) (catalogue_of_table terms) catalogue small in
     let ms = table.0 in
@@ -96,7 +108,25 @@ rules_read terms text catalogue e =
     let duties = then_by (duties_of (get_member (codes "duty") ms)) _ catalogue forms.2 in
     let rules = then_by (rules_of terms forms.0 duties.0 (get_member (codes "rule") ms)) _ catalogue duties.2 in
     let texts = then_by (licence_texts_of (get_member (codes "text") ms)) _ catalogue rules.2 in
-    (ms, forms.0, duties.0, rules.1 ∙ ap (λ c. Ok c.rules) (same_read _ catalogue texts.2))
+    record {
+      members = ms;
+      forms = forms.0;
+      duties = duties.0;
+      rules = rules.0;
+      texts = texts.0;
+      forms_are = forms.1;
+      duties_are = duties.1;
+      rules_are = rules.1;
+      texts_are = texts.1;
+      same = same_read _ catalogue texts.2;
+    }
+
+-- the rules of a catalogue are those that its table lists
+pub rules_read : (terms : List ℕ → Option (List ℕ)) (text : List ℕ) (catalogue : Catalogue) → catalogue_of terms text ≡ Ok catalogue
+    → (ms : Members) × (forms : List (List ℕ)) × (duties : List (List ℕ)) × (rules_of terms forms duties (get_member (codes "rule") ms) ≡ Ok catalogue.rules)
+rules_read terms text catalogue e =
+    let read = parts_read terms text catalogue e in
+    (read.members, read.forms, read.duties, read.rules_are ∙ ap (λ (c : Catalogue). Ok c.rules) read.same)
 
 no_rules_sorted : IsStrictlySortedBy rule_order []
 unfolding IsStrictlySortedBy

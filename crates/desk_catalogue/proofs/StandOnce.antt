@@ -1,21 +1,18 @@
 -- Forms of a catalogue, and the licences of its texts, stand once each.
-use Rattle.std.proofs.Common.{◌≡◌, ℕ, ◌+◌, Bool, true, false, cond, ◌||◌, List, [], ◌∷◌, ◌++◌, length, Option, None, Some, Ok, Err, subst, refl}
-use Rattle.std.specs.Prelude.{codes, nat_lt}
+use Rattle.std.proofs.Common.{◌≡◌, ℕ, ◌+◌, Bool, true, false, cond, ◌||◌, List, [], ◌∷◌, ◌++◌, Option, None, Some, Ok, Err, subst, refl}
+use Rattle.std.specs.Prelude.{codes}
 use Rattle.std.specs.List.{list_any, AllByRecursion, IsDistinct}
-use Rattle.std.specs.Option.{ok_or}
 use Rattle.std.specs.Str.{bytes_eq}
 use Rattle.toml.specs.Data.{Data, as_array, get_member}
-use Rattle.toml.specs.Parse.{parse_document}
 use Rattle.desk_model.specs.declared.refusal.CataloguePart.TheVariants as part
-use Rattle.desk_model.specs.declared.refusal.CatalogueFault.TheVariants.{NotToml, TooLarge, Twice}
+use Rattle.desk_model.specs.declared.refusal.CatalogueFault.TheVariants.{Twice}
 use Rattle.desk_catalogue.specs.declared.catalogue.Catalogue.{Catalogue}
 use Rattle.desk_catalogue.specs.declared.catalogue.LicenceText.{LicenceText}
 use Rattle.desk_base.specs.Limits as limit
 use Rattle.desk_catalogue.specs.Kept.{is_text_of, same_licence}
 use Rattle.desk_catalogue.specs.Values.{is_among}
-use Rattle.desk_catalogue.specs.Reading.{each, tables_of, forms_of, forms_listed, forms_once, duties_of, rules_of, text_at, with_one_text, with_text, licence_texts_of, catalogue_of_table, catalogue_of}
-use Rattle.desk_catalogue.proofs.OrderLaws.{then_by, unless, same_read, each_holds}
-use Rattle.desk_base.specs.Results.{then_read}
+use Rattle.desk_catalogue.specs.Reading.{each, tables_of, forms_of, forms_listed, forms_once, text_at, with_one_text, with_text, licence_texts_of, catalogue_of}
+use Rattle.desk_catalogue.proofs.OrderLaws.{parts_read, then_by, same_read, each_holds}
 
 module _ {K : Type 0} (eq : K → K → Bool) where
   or_left : (a b : Bool) → (a || b) ≡ false → a ≡ false
@@ -86,14 +83,7 @@ texts_distinct listed texts e =
 
 pub stand_once : (terms : List ℕ → Option (List ℕ)) (text : List ℕ) (catalogue : Catalogue) → catalogue_of terms text ≡ Ok catalogue → IsDistinct bytes_eq catalogue.forms × IsDistinct same_licence catalogue.texts
 stand_once terms text catalogue e =
-    let small = unless (nat_lt limit.catalogue_bytes (length text)) TooLarge (then_read (ok_or (parse_document text) NotToml) (catalogue_of_table terms)) catalogue e in
-    let table = then_by (ok_or (parse_document text) NotToml) (catalogue_of_table terms) catalogue small in
-    let ms = table.0 in
-    let forms = then_by (forms_of (get_member (codes "forms") ms)) _ catalogue table.2 in
-    let duties = then_by (duties_of (get_member (codes "duty") ms)) _ catalogue forms.2 in
-    let rules = then_by (rules_of terms forms.0 duties.0 (get_member (codes "rule") ms)) _ catalogue duties.2 in
-    let texts = then_by (licence_texts_of (get_member (codes "text") ms)) _ catalogue rules.2 in
-    let same = same_read _ catalogue texts.2 in (
-      subst (λ (c : Catalogue). IsDistinct bytes_eq c.forms) same (forms_distinct (get_member (codes "forms") ms) forms.0 forms.1),
-      subst (λ (c : Catalogue). IsDistinct same_licence c.texts) same (texts_distinct (get_member (codes "text") ms) texts.0 texts.1),
+    let read = parts_read terms text catalogue e in (
+      subst (λ (c : Catalogue). IsDistinct bytes_eq c.forms) read.same (forms_distinct (get_member (codes "forms") read.members) read.forms read.forms_are),
+      subst (λ (c : Catalogue). IsDistinct same_licence c.texts) read.same (texts_distinct (get_member (codes "text") read.members) read.texts read.texts_are),
     )
