@@ -1,4 +1,3 @@
-mod Ascending
 mod Counting
 mod Totals
 pub mod Lists

@@ -1,29 +1,13 @@
 //! Tables laid out in columns.
 
-ghost use Rattle.std.specs.Prelude.{◌≡◌, ◌++◌, ◌∷◌, [], ◌-◌, length, map, replicate, take, IfOk, OnOk};
+ghost use Rattle.std.specs.Prelude.{◌≡◌, ◌++◌, [], ◌-◌, length, map, take, IfOk, OnOk};
 ghost use Rattle.std.specs.List.{flat_map};
-ghost use Rattle.desk_lists.specs.Columns.{columns_text, filled, row_line, shown, shown_byte, width, widened, widths};
+ghost use Rattle.desk_lists.specs.Columns.{columns_text, row_line, widths};
+ghost use Rattle.desk_report.specs.Columns.{shown, widened, width};
 
 use desk_base::{Items, Text};
+use desk_report::{add_filled, add_shown, width};
 use std::alloc::{AllocError, Global};
-use unicode_width::UnicodeWidthStr;
-
-/// How many blanks stand between two columns.
-const GAP: usize = 2;
-
-// A byte as a terminal is to show it.
-fn shown_byte(byte: u8) -> u8
-    ensures { result ≡ shown_byte byte }
-{
-    if byte < 32 || byte == 127 { b'?' } else { byte }
-}
-
-// How many columns of a terminal a text takes.
-fn width(text: &str) -> usize
-    ensures { result ≡ width text.now }
-{
-    text.width()
-}
 
 // The widths of texts.
 fn widths_of(alloc: Global, cells: &[Text]) -> Result<Vec<usize>, AllocError>
@@ -84,35 +68,6 @@ fn widths(alloc: Global, table: &[Items<Text>]) -> Result<Vec<usize>, AllocError
             Ok(found)
         }
     }
-}
-
-// Adds a text as a terminal is to show it.
-fn add_shown(text: &mut Vec<u8>, cell: &str) -> Result<(), AllocError>
-    ensures { OnOk result (text.new.items ≡ text.old.items ++ shown cell.now) }
-{
-    for byte in cell.as_bytes() {
-        text.push(shown_byte(*byte))?;
-    }
-    Ok(())
-}
-
-// Adds so many blanks.
-fn add_blanks(text: &mut Vec<u8>, count: usize) -> Result<(), AllocError>
-    ensures { OnOk result (text.new.items ≡ text.old.items ++ replicate count 32) }
-{
-    for _ in 0..count {
-        text.push(b' ')?;
-    }
-    Ok(())
-}
-
-// Adds a cell that is filled up to the width of its column.
-fn add_filled(text: &mut Vec<u8>, wide: usize, cell: &str) -> Result<(), AllocError>
-    ensures { OnOk result (text.new.items ≡ text.old.items ++ filled wide cell.now) }
-{
-    add_shown(text, cell)?;
-    add_blanks(text, wide.saturating_sub(width(cell)))?;
-    add_blanks(text, GAP)
 }
 
 // Adds cells that are not filled up.

@@ -3,10 +3,12 @@
 ghost use Rattle.std.specs.Prelude.{◌≡◌, map, IfOk, OnOk};
 ghost use Rattle.std.specs.Io.KnownBytes.{Appends};
 ghost use Rattle.csv.specs.Writing.{text_written};
-ghost use Rattle.desk_lists.specs.CsvTable.{csv_text, is_between_rows, record_text};
+ghost use Rattle.desk_lists.specs.CsvTable.{csv_text};
+ghost use Rattle.desk_report.specs.CsvTable.{is_between_rows, record_text};
 
 use csv::{Writer, WriterBuilder};
 use desk_base::{Items, Text};
+use desk_report::add_record;
 use std::alloc::{AllocError, Global};
 use std::io::Write;
 
@@ -19,21 +21,6 @@ fn fields_of(alloc: Global, cells: &[Text]) -> Result<Vec<&[u8]>, AllocError>
         fields.push(cell.as_str().as_bytes())?;
     }
     Ok(fields)
-}
-
-// A record of these fields.
-fn add_record<W: Write + Drop>(writer: &mut Writer<W>, fields: &[&[u8]]) -> Result<(), AllocError>
-    requires { is_between_rows writer.old }
-    ensures bytes { OnOk result
-        (Appends (text_written W.contents writer.old) (text_written W.contents writer.new)
-        (record_text (map (λ field. field.now) fields.now))) }
-    ensures ready { OnOk result (is_between_rows writer.new) }
-{
-    match writer.write_fields(fields) {
-        Ok(()) => Ok(()),
-        // The records have one length, so that memory is all that can fail.
-        Err(_) => Err(AllocError),
-    }
 }
 
 // The record of a row.

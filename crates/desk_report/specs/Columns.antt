@@ -9,6 +9,9 @@ use Rattle.desk_model.specs.declared.command.DutyLine.{DutyLine}
 abbrev pub shown_byte : ℕ → ℕ
 shown_byte b = if nat_lt b 32 || b == 127 then 63 else b
 
+abbrev pub shown : List ℕ → List ℕ
+shown cell = map shown_byte cell
+
 -- how many columns of a terminal a text takes
 abbrev pub width : List ℕ → ℕ
 width text = str_width false (chars text)
@@ -38,7 +41,7 @@ widths lines = widths_with (map width front_names) lines
 
 -- a cell, filled up to the width of its column, and two blanks
 abbrev pub filled : ℕ → List ℕ → List ℕ
-filled w cell = map shown_byte cell ++ replicate (w - width cell + 2) 32
+filled w cell = shown cell ++ replicate (w - width cell + 2) 32
 
 abbrev pub front_text : List ℕ → List (List ℕ) → List ℕ
 front_text [] cells = []

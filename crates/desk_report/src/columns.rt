@@ -1,7 +1,7 @@
 //! The table of a release's duties in columns.
 
 ghost use Rattle.std.specs.Prelude.{◌≡◌, ◌++◌, ◌∷◌, decimal, map, replicate, IfOk, OnOk};
-ghost use Rattle.desk_report.specs.Columns.{shown_byte, width, front_names, front_cells, widened, widths, filled, front_text, row_line, duty_row, columns_text};
+ghost use Rattle.desk_report.specs.Columns.{shown, shown_byte, width, front_names, front_cells, widened, widths, filled, front_text, row_line, duty_row, columns_text};
 
 use crate::table::day_cell;
 use desk_model::DutyLine;
@@ -23,8 +23,8 @@ fn shown_byte(byte: u8) -> u8
     if byte < 32 || byte == 127 { b'?' } else { byte }
 }
 
-// How many columns of a terminal a text takes.
-fn width(text: &str) -> usize
+/// How many columns of a terminal a text takes.
+pub fn width(text: &str) -> usize
     ensures { result ≡ width text.now }
 {
     text.width()
@@ -100,9 +100,9 @@ fn widths(alloc: Global, lines: &[DutyLine]) -> Result<Vec<usize>, AllocError>
     Ok(found)
 }
 
-// Adds a text as a terminal is to show it.
-fn add_shown(text: &mut Vec<u8>, cell: &str) -> Result<(), AllocError>
-    ensures { OnOk result (text.new.items ≡ text.old.items ++ map shown_byte cell.now) }
+/// Adds a text as a terminal is to show it.
+pub fn add_shown(text: &mut Vec<u8>, cell: &str) -> Result<(), AllocError>
+    ensures { OnOk result (text.new.items ≡ text.old.items ++ shown cell.now) }
 {
     for byte in cell.as_bytes() {
         text.push(shown_byte(*byte))?;
@@ -120,8 +120,8 @@ fn add_blanks(text: &mut Vec<u8>, count: usize) -> Result<(), AllocError>
     Ok(())
 }
 
-// Adds a cell that is filled up to the width of its column.
-fn add_filled(text: &mut Vec<u8>, wide: usize, cell: &str) -> Result<(), AllocError>
+/// Adds a cell that is filled up to the width of its column, and two blanks.
+pub fn add_filled(text: &mut Vec<u8>, wide: usize, cell: &str) -> Result<(), AllocError>
     ensures { OnOk result (text.new.items ≡ text.old.items ++ filled wide cell.now) }
 {
     add_shown(text, cell)?;

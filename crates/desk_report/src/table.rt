@@ -12,8 +12,11 @@ use desk_model::DutyLine;
 use std::alloc::{AllocError, Global};
 use std::io::Write;
 
-// A record of these fields.
-fn add_record<W: Write + Drop>(writer: &mut Writer<W>, fields: &[&[u8]]) -> Result<(), AllocError>
+/// Adds a record of these fields.
+pub fn add_record<W: Write + Drop>(
+    writer: &mut Writer<W>,
+    fields: &[&[u8]],
+) -> Result<(), AllocError>
     requires { is_between_rows writer.old }
     ensures bytes { OnOk result
         (Appends (text_written W.contents writer.old) (text_written W.contents writer.new)

@@ -1,4 +1,5 @@
 pub mod Ascending
+pub mod Sorting
 pub mod Halving
 pub mod Placing
 mod PutAll

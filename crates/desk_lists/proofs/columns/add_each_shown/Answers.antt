@@ -1,6 +1,6 @@
 use Rattle.std.proofs.Common.{◌++◌, ap}
 use Rattle.std.specs.List.{flat_map}
-use Rattle.desk_lists.specs.Columns.{shown}
+use Rattle.desk_report.specs.Columns.{shown}
 use Rattle.desk_lists.proofs.Lists.{joined_more, whole}
 use Rattle.desk_lists.proofs.columns.add_each_shown.Goals as goal
 

@@ -1,5 +1,5 @@
 use Rattle.std.proofs.Common.{◌∙◌, ap, map}
-use Rattle.desk_lists.specs.Columns.{width}
+use Rattle.desk_report.specs.Columns.{width}
 use Rattle.desk_lists.proofs.Lists.{made_more, whole}
 use Rattle.desk_lists.proofs.columns.widths_of.Goals as goal
 

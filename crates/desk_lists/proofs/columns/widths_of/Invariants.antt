@@ -1,5 +1,5 @@
 use Rattle.std.proofs.Common.{◌≡◌, map, take}
-use Rattle.desk_lists.specs.Columns.{width}
+use Rattle.desk_report.specs.Columns.{width}
 use Rattle.desk_lists.proofs.columns.widths_of.Given as goal
 
 -- the width of each cell before the index

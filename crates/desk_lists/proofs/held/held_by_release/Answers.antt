@@ -7,7 +7,7 @@ use Rattle.desk_model.specs.Keys.{below_by}
 use Rattle.desk_snapshot.specs.declared.rows.StoredDuty.{StoredDuty}
 use Rattle.desk_lists.specs.Held.{duties_held, held_order, held_total}
 use Rattle.desk_lists.specs.declared.held.Held.{Held}
-use Rattle.desk_lists.proofs.Ascending.{ascends-sorted}
+use Rattle.desk_sorted.proofs.Sorting.{ascends-sorted}
 use Rattle.desk_lists.proofs.held.held_by_release.Goals as goal
 
 pub invariant_of-result : goal.invariant_of-result

@@ -1,7 +1,7 @@
 use Rattle.std.proofs.Common.{◌≡◌, take, Some}
 use Rattle.std.specs.List.{flat_map}
 use Rattle.csv.specs.Writing.{text_written}
-use Rattle.desk_lists.specs.CsvTable.{is_between_rows, record_text}
+use Rattle.desk_report.specs.CsvTable.{is_between_rows, record_text}
 use Rattle.desk_lists.proofs.table.csv_text.Given as goal
 
 -- a record for each row before the index
