@@ -40,12 +40,14 @@ use Rattle.desk_history.specs.Laws.{AreDistinct, Rises}
 use Rattle.desk_history.proofs.Members.{from_flat_map, in_map}
 use Rattle.desk_history.proofs.Orders.{filter-in_order}
 use Rattle.desk_history.proofs.OwnKeys.{distinct-shipped, open_at, place_of}
+use Rattle.desk_history.proofs.Sorting.{frozen_is_order}
 use Rattle.desk_history_laws.specs.Billed.{bill_for, line_for, ListsPackagesOnce, spelled_for, texts_for}
 use Rattle.desk_history_laws.specs.Filters.{last_given}
-use Rattle.desk_history_laws.proofs.Bills.{bill_at, bill_stands, find_kept, flat_map_within, freeze_known, frozen_is_order, history_before, line_with, map_within, none_for_terms, none_frozen, none_made, rows_texts, terms_at}
+use Rattle.desk_history_laws.proofs.Bills.{bill_at, bill_stands, find_kept, flat_map_within, freeze_known, line_with, map_within, none_for_terms, none_frozen, none_made, rows_texts, terms_at}
 use Rattle.desk_history_laws.proofs.FrozenChoices.{ruled}
 use Rattle.desk_history_laws.proofs.Given.{latest-last}
 use Rattle.desk_history_laws.proofs.Sets.{set_rises}
+use Rattle.desk_history_laws.proofs.Later.{history_before}
 
 -- ---- the catalogue in force is the last revision
 

@@ -7,7 +7,6 @@ use Rattle.std.specs.Result.{result_ok}
 use Rattle.std.specs.Str.{bytes_eq}
 use Rattle.std.proofs.Math.Path.{fun_ext}
 use Rattle.std.proofs.lemmas.Bool.Decides.{nat_tests}
-use Rattle.std.proofs.lemmas.Cmp.{on_total, then_total, nat_list_cmp_total, nat_cmp_total}
 use Rattle.std.proofs.lemmas.List.Elements.{filter-append}
 use Rattle.desk_base.proofs.Bools.{and_left, and_right, not_true}
 use Rattle.desk_base.proofs.Numbers.{numbers_equal}
@@ -47,15 +46,15 @@ use Rattle.desk_model.specs.declared.row.FrozenRow.{FrozenRow}
 use Rattle.desk_model.specs.declared.row.PackageRow.{PackageRow}
 use Rattle.desk_model.specs.declared.state.ReleaseState.{ReleaseState}
 use Rattle.desk_model.specs.declared.state.ReleaseState.TheVariants.{IsOpen, Frozen, Withdrawn}
-use Rattle.desk_model.proofs.Orders.{IsOrder, order_of}
 use Rattle.desk_history.proofs.Members.{from_flat_map}
 use Rattle.desk_history.proofs.Orders.{ascends-in_order, attached_is_order, filter-in_order, filter-put, put_if}
-use Rattle.desk_history.proofs.OwnKeys.{open_at}
-use Rattle.desk_history_laws.proofs.FrozenChoices.{frozen_at as frozen_when, is_ready, open_by, other_release}
+use Rattle.desk_history.proofs.OwnKeys.{open_at, open_by}
+use Rattle.desk_history.proofs.Sorting.{frozen_is_order}
+use Rattle.desk_history.proofs.Recorded.{past, is_so, is_ready}
+use Rattle.desk_history_laws.proofs.FrozenChoices.{frozen_at as frozen_when, other_release}
 use Rattle.desk_history_laws.proofs.FrozenRows.{still_closed}
 use Rattle.desk_history_laws.proofs.Members.{from_filter, from_filter_map, from_sorted}
 use Rattle.desk_history_laws.proofs.Releases.{attaches, from_shipped}
-use Rattle.desk_history_laws.proofs.Steps.{past, is_so}
 
 -- ---- rows behind others
 
@@ -280,11 +279,6 @@ ships_stay w c h r ok other =
 
 -- the frozen terms
 
-pub frozen_is_order : IsOrder (below_by frozen_order)
-frozen_is_order =
-    order_of (then_total (on_total (λ row. row.release) nat_list_cmp_total) (then_total (on_total (λ row. row.document) nat_cmp_total)
-    (then_total (on_total (λ row. row.package_id) nat_list_cmp_total) (on_total (λ row. row.term) nat_list_cmp_total))))
-
 none_under : (test : FrozenRow → Bool) (r : List ℕ) (p : PackageRow) (term : List ℕ) (o : Option Rule)
     → ((rule : Rule) → test (frozen_term r p term rule) ≡ false) → filter test (frozen_under r p term o) ≡ []
 none_under test r p term None none = refl
@@ -451,10 +445,6 @@ frozen_before w (Freeze r' day) h r recorded closed e =
     ]
 frozen_before w (Withdraw r' day text) h r recorded closed e = before_withdrawal (bytes_eq r' r) (latest (state_given r) h) e
 frozen_before w c h r recorded closed e = e
-
-pub history_before : (w : Readings) (later h : List Command) → IsHistory w (later ++ h) → IsHistory w h
-history_before w [] h ok = ok
-history_before w (c ∷ later) h ok = history_before w later h ok.1
 
 pub bill_stands : (w : Readings) (later h : List Command) (r : List ℕ) → IsHistory w (later ++ h) → state_of h r ≡ Frozen
     → state_of (later ++ h) r ≡ Frozen → queried w (later ++ h) (query.Bill r) ≡ queried w h (query.Bill r)

@@ -32,13 +32,14 @@ use Rattle.desk_model.specs.declared.row.ReleaseRow.{ReleaseRow}
 use Rattle.desk_model.specs.declared.state.Word.TheVariants.{Waived}
 use Rattle.desk_history.proofs.Lookups.{length-releases}
 use Rattle.desk_history.proofs.Members.{from_flat_map, from_map, in_cases}
+use Rattle.desk_history.proofs.Sorting.{change_within}
 use Rattle.desk_snapshot.specs.Changes.{is_waiver_of}
 use Rattle.desk_snapshot.specs.Conditions.{AreNumbered}
 use Rattle.desk_snapshot.specs.Tables.{change_stored, duty_stored, snapshot_of}
 use Rattle.desk_snapshot.specs.declared.rows.StoredChange.{StoredChange}
 use Rattle.desk_history_laws.specs.Within.{AreWithin}
 use Rattle.desk_history_laws.proofs.Bounds.{adoptions_within, attached_within, attachment_within, conclusions_within, documents_within, few_documents, few_opened, few_revisions, frozen_within, later_documents, packages_within, references_within, revisions_within, rules_within}
-use Rattle.desk_history_laws.proofs.Distinct.{change_within, place_within}
+use Rattle.desk_history_laws.proofs.Distinct.{place_within}
 use Rattle.desk_history_laws.proofs.HeldRows.{FromSet, held_for}
 use Rattle.desk_history_laws.proofs.Kept.{ChosenRows, WereHeld}
 use Rattle.desk_history_laws.proofs.Lists.{each_in, in_numbers}

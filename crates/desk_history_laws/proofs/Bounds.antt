@@ -34,11 +34,11 @@ use Rattle.desk_model.specs.declared.row.ExtractedRow.{ExtractedRow}
 use Rattle.desk_model.specs.declared.row.PackageRow.{PackageRow}
 use Rattle.desk_model.specs.declared.row.RuleRow.{RuleRow}
 use Rattle.desk_history.proofs.Members.{from_map, in_cases}
+use Rattle.desk_history.proofs.Recorded.{is_so, past}
 use Rattle.desk_history_laws.proofs.Concluded.{from_replaced}
 use Rattle.desk_history_laws.proofs.Distinct.{is_new, row_of}
 use Rattle.desk_history_laws.proofs.Lists.{found_in}
 use Rattle.desk_history_laws.proofs.Orders.{from_put}
-use Rattle.desk_history_laws.proofs.Recorded.{is_so, past}
 
 less : (a b : ℕ) → nat_lt a b ≡ true → a < b
 less a b e = grind (arith, nat_tests)

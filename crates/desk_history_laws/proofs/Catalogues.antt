@@ -1,6 +1,6 @@
 -- The catalogues are the texts that were loaded.
-use Rattle.std.proofs.Common.{◌≡◌, ℕ, ◌+◌, true, List, [], ◌∷◌, ◌++◌, length, map, refl, ap, ◌∙◌, sym}
-use Rattle.std.specs.Prelude.{filter, IsTrue, is_some, Result, Ok, Err}
+use Rattle.std.proofs.Common.{◌≡◌, ℕ, ◌+◌, List, [], ◌∷◌, ◌++◌, length, map, refl, ap, ◌∙◌, sym}
+use Rattle.std.specs.Prelude.{filter, is_some}
 use Rattle.std.specs.List.{enumerate_from, flat_map}
 use Rattle.std.specs.Option.{option_and_then}
 use Rattle.std.specs.Result.{result_ok}
@@ -8,16 +8,16 @@ use Rattle.desk_model.specs.Lists.{latest}
 use Rattle.desk_model.specs.Readings.{Readings}
 use Rattle.desk_model.specs.History.{revisions, loaded, in_force, rules_in, rule_rows}
 use Rattle.desk_model.specs.Keys.{is_rule_of}
-use Rattle.desk_model.specs.Answers.{IsHistory, is_recorded, Loading, load_answer, loading}
-use Rattle.desk_model.specs.declared.reading.Catalogue.{Catalogue}
-use Rattle.desk_model.specs.declared.refusal.CatalogueFault.{CatalogueFault}
+use Rattle.desk_model.specs.Answers.{IsHistory, loading}
 use Rattle.desk_model.specs.declared.row.CatalogueRow.{CatalogueRow}
 use Rattle.desk_model.specs.declared.command.Command.{Command}
 use Rattle.desk_model.specs.declared.command.Command.TheVariants.{LoadCatalogue}
 use Rattle.desk_history.specs.FromTables.{rule_of}
 use Rattle.desk_history.proofs.Lookups.{rules-found}
 use Rattle.desk_history_laws.specs.Filters.{given, last_given, revision_row, rules_of}
-use Rattle.desk_history_laws.proofs.Given.{given-cons, given_nothing, latest-last, rows-push, length-rows, flat_map-push}
+use Rattle.desk_history_laws.proofs.Given.{given-cons, given_nothing, latest-last, rows-push, length-rows}
+use Rattle.desk_history_laws.proofs.Loads.{was_read}
+use Rattle.desk_history_laws.proofs.Numbered.{flat_map-push}
 
 abbrev rows : List Command → List CatalogueRow
 rows h = map revision_row (enumerate_from 1 (given loaded h))
@@ -45,9 +45,6 @@ pub last-load : (w : Readings) (h : List Command) → in_force w h ≡ option_an
 last-load w h = ap (option_and_then (λ text. result_ok (w.catalogue text))) (latest-last loaded h)
 
 -- a text that was loaded is a catalogue
-was_read : (r : Result Catalogue CatalogueFault) (found : Loading) → IsTrue (is_recorded (load_answer r found)) → is_some (result_ok r) ≡ true
-was_read (Ok c) found e = refl
-was_read (Err f) found e = cc
 
 some-latest : (w : Readings) (h : List Command) → IsHistory w h → is_some (in_force w h) ≡ is_some (latest loaded h)
 some-latest w [] is = refl

@@ -26,6 +26,10 @@ use Rattle.desk_model.specs.declared.state.Word.TheVariants as word
 use Rattle.desk_model.specs.declared.command.Command.{Command}
 use Rattle.desk_history.proofs.Members.{from_flat_map, from_map, in_cases}
 use Rattle.desk_history.proofs.Queries.{changes-found}
+use Rattle.desk_history.proofs.Distinct.{from_filter}
+use Rattle.desk_history.proofs.Rows.{filter-map, find-map, map-map}
+use Rattle.desk_history.proofs.Moving.{length-change_rows}
+use Rattle.desk_history.proofs.Told.{is_moved}
 use Rattle.desk_snapshot.specs.Changes.{are_moves, AreChangesOf, go_on, goes_on, is_formed, is_raising, is_waived, is_waiver_of, is_within, last_change, last_day_at, leaves, may_move}
 use Rattle.desk_snapshot.specs.Conditions.{AreChanges}
 use Rattle.desk_snapshot.specs.Rows.{AreFrom, is_change_at, is_change_of, is_waiver_at, word_named}
@@ -34,10 +38,10 @@ use Rattle.desk_snapshot.specs.declared.rows.StoredChange.{StoredChange}
 use Rattle.desk_snapshot.specs.declared.rows.StoredDuty.{StoredDuty}
 use Rattle.desk_snapshot.specs.declared.rows.StoredWaiver.{StoredWaiver}
 use Rattle.desk_snapshot.specs.declared.snapshot.Snapshot.{Snapshot}
-use Rattle.desk_history_laws.proofs.Lists.{all_in, each_in, filter-map, filter_same, find-filter, find-map, find_same, from_filter, in_numbers, pos_eq}
-use Rattle.desk_history_laws.proofs.Numbered.{map-map, rows_push}
+use Rattle.desk_history_laws.proofs.Lists.{all_in, each_in, filter_same, find-filter, find_same, in_numbers, pos_eq}
+use Rattle.desk_history_laws.proofs.Numbered.{rows_push}
 use Rattle.desk_history_laws.proofs.Duties.{length-duties, row_of}
-use Rattle.desk_history_laws.proofs.Runs.{ends_well, is_moved, IsRun, runs, started}
+use Rattle.desk_history_laws.proofs.Runs.{ends_well, IsRun, runs, started}
 
 abbrev stored_moves : ℕ → List Move → List StoredChange
 stored_moves q ms = map change_stored (change_rows q ms)
@@ -45,10 +49,6 @@ stored_moves q ms = map change_stored (change_rows q ms)
 -- one move more is one row more
 stored_push : (q : ℕ) (m : Move) (ms : List Move) → stored_moves q (m ∷ ms) ≡ stored_moves q ms ++ change_stored (change_row q (length ms + 1) m) ∷ []
 stored_push q m ms = map-append change_stored (change_rows q ms) (change_row q (length ms + 1) m ∷ [])
-
-length-rows : (q : ℕ) (ms : List Move) → length (change_rows q ms) ≡ length ms
-length-rows q [] = refl
-length-rows q (m ∷ ms) = omega (arith, length-append (change_rows q ms) (change_row q (length ms + 1) m ∷ []), length-rows q ms)
 
 -- ---- the changes of a duty
 
@@ -147,7 +147,7 @@ steps q ms = rw (map-map (λ (row : StoredChange). row.step) change_stored (chan
   where
     rows : (ms : List Move) → AreFrom 1 (map (λ (row : ChangeRow). pos row.step) (change_rows q ms))
     rows [] = tt
-    rows (m ∷ ms) = rows_push (λ (row : ChangeRow). pos row.step) (change_rows q ms) (change_row q (length ms + 1) m) (rows ms) (ap (λ n. pos (n + 1)) (sym (length-rows q ms)))
+    rows (m ∷ ms) = rows_push (λ (row : ChangeRow). pos row.step) (change_rows q ms) (change_row q (length ms + 1) m) (rows ms) (ap (λ n. pos (n + 1)) (sym (length-change_rows q ms)))
 
 formed : (q : ℕ) (ms : List Move) → IsRun ms → list_all is_formed (stored_moves q ms) ≡ true
 formed q [] run = refl

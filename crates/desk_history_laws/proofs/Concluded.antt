@@ -1,6 +1,6 @@
 -- The office's conclusions are expressions, its adoptions go from references to licences, and places are those of the opening.
 use Rattle.std.proofs.Common.{◌≡◌, ℕ, ◌+◌, Bool, true, false, List, [], ◌∷◌, ◌++◌, length, map, Option, Some, None, refl, sym, ap, ◌∙◌, subst, add-one, arith, inl, inr}
-use Rattle.std.specs.Prelude.{ℤ, pos, IsTrue, is_some, not, filter, ◌&&◌, unwrap_or, IsPermutation, if◌then◌else◌}
+use Rattle.std.specs.Prelude.{ℤ, pos, IsTrue, is_some, not, filter, ◌&&◌, unwrap_or, IsPermutation}
 use Rattle.std.specs.List.{list_all, flat_map}
 use Rattle.std.specs.Option.{option_map, option_map_or}
 use Rattle.std.specs.Str.{bytes_eq}
@@ -11,7 +11,7 @@ use Rattle.std.proofs.lemmas.List.Sorted.{IsPermutation-append_comm, IsPermutati
 use Rattle.desk_base.specs.declared.profile.Profile.TheVariants.{Capitals}
 use Rattle.desk_base.proofs.Bools.{both}
 use Rattle.desk_base.proofs.Texts.{same_text, text_tells}
-use Rattle.desk_model.specs.Lists.{IsIn, in_order, latest, or_else, replaced}
+use Rattle.desk_model.specs.Lists.{IsIn, in_order, latest, replaced}
 use Rattle.desk_model.specs.Keys.{below_by, adoption_order, conclusion_order, is_adoption, is_conclusion}
 use Rattle.desk_model.specs.Readings.{Readings}
 use Rattle.desk_model.specs.Texts.{text_below}
@@ -28,6 +28,9 @@ use Rattle.desk_model.specs.declared.command.Command.{Command}
 use Rattle.desk_model.specs.declared.command.Command.TheVariants.{Adopt, Conclude, OpenRelease}
 use Rattle.desk_history.proofs.Lookups.{length-releases}
 use Rattle.desk_history.proofs.Members.{from_map}
+use Rattle.desk_history.proofs.Distinct.{from_filter}
+use Rattle.desk_history.proofs.Recorded.{is_so, past}
+use Rattle.desk_history.proofs.Rows.{map-map}
 use Rattle.desk_snapshot.specs.Conditions as audit
 use Rattle.desk_snapshot.specs.Conditions.{is_printed, is_that, numbers_to}
 use Rattle.desk_snapshot.specs.Tables.{adoption_stored, conclusion_stored, release_stored}
@@ -35,11 +38,11 @@ use Rattle.desk_snapshot.specs.declared.rows.StoredAdoption.{StoredAdoption}
 use Rattle.desk_snapshot.specs.declared.rows.StoredConclusion.{StoredConclusion}
 use Rattle.desk_snapshot.specs.declared.rows.StoredRelease.{StoredRelease}
 use Rattle.desk_history_laws.specs.ChoicePremises.{ReadsChoices}
-use Rattle.desk_history_laws.proofs.Lists.{all_in, from_filter}
-use Rattle.desk_history_laws.proofs.Numbered.{map-map}
+use Rattle.desk_history_laws.proofs.Lists.{all_in}
 use Rattle.desk_history_laws.proofs.Orders.{from_put}
 use Rattle.desk_history_laws.proofs.Parts.{ordered_parts}
-use Rattle.desk_history_laws.proofs.Recorded.{is_so, opened_form, past}
+use Rattle.desk_history_laws.proofs.Recorded.{opened_form}
+use Rattle.desk_history_laws.proofs.Duties.{still_opened}
 
 -- a row in place of what stood at its key, or one that stood before
 pub from_replaced : {A : Type 0} (below : A → A → Bool) (at : A → Bool) (x z : A) (xs : List A) → (P : A → Type 0) → P x → (IsIn z xs → P z) → IsIn z (replaced below at x xs) → P z
@@ -109,10 +112,6 @@ licences w reads h ok =
     subst (λ (row : StoredAdoption). audit.is_adoption w row ≡ true) at.2 (are_adoptions w reads h ok at.0 at.1))
 
 -- ---- places
-
-still_opened : (b : Bool) (form : List ℕ) (o : Option (List ℕ)) → is_some o ≡ true → is_some (or_else (if b then Some form else None) o) ≡ true
-still_opened true form o e = refl
-still_opened false form o e = e
 
 pub has_form : (h : List Command) (r : List ℕ) → IsIn r (opened h) → is_some (form_of h r) ≡ true
 has_form [] r m = absurd m

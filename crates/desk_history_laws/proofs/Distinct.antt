@@ -7,6 +7,9 @@ use Rattle.std.specs.Result.{result_err, result_ok}
 use Rattle.std.specs.Str.{bytes_eq}
 use Rattle.std.proofs.lemmas.Cmp.{nat_cmp_total, nat_list_cmp_total, tied_itself}
 use Rattle.std.proofs.lemmas.List.{map-append}
+use Rattle.std.specs.declared.cmp.Ordering.{Ordering}
+use Rattle.std.specs.Cmp.Lexicographic.{slice_cmp}
+use Rattle.std.specs.Ordering.{nat_cmp, on, then_cmp}
 use Rattle.desk_base.proofs.Bools.{not_true}
 use Rattle.desk_base.proofs.Numbers.{same_number}
 use Rattle.desk_base.proofs.Texts.{same_text, text_tells}
@@ -31,7 +34,6 @@ use Rattle.desk_model.specs.declared.refusal.DocumentFault.{DocumentFault}
 use Rattle.desk_model.specs.declared.refusal.Limit.TheVariants as limit
 use Rattle.desk_model.specs.declared.refusal.Refusal.TheVariants as why
 use Rattle.desk_model.specs.declared.row.AdoptionRow.{AdoptionRow}
-use Rattle.desk_model.specs.declared.row.ChangeRow.{ChangeRow}
 use Rattle.desk_model.specs.declared.row.ChoiceRow.{ChoiceRow}
 use Rattle.desk_model.specs.declared.row.ConclusionRow.{ConclusionRow}
 use Rattle.desk_model.specs.declared.row.DocumentRow.{DocumentRow}
@@ -42,12 +44,15 @@ use Rattle.desk_model.specs.declared.row.PackageRow.{PackageRow}
 use Rattle.desk_model.specs.declared.row.ReleaseRow.{ReleaseRow}
 use Rattle.desk_model.specs.declared.row.RuleRow.{RuleRow}
 use Rattle.desk_history.specs.Laws.{AreDistinct, extracted_order, Rises, rule_row_order}
-use Rattle.desk_history.proofs.Members.{from_map, in_cases, in_map}
+use Rattle.desk_history.proofs.Members.{from_map, in_map}
+use Rattle.desk_history.proofs.Distinct.{from_filter, distinct-append, distinct-flat_map}
+use Rattle.desk_history.proofs.Sorting.{change_within}
+use Rattle.desk_history.proofs.Recorded.{is_so, past}
+use Rattle.desk_history.proofs.Rows.{map-map}
 use Rattle.desk_history_laws.specs.OwnKeys.{adoption_key, attached_key, change_key, choice_key, conclusion_key, extracted_key, frozen_key, package_key, rule_key}
-use Rattle.desk_history_laws.proofs.Lists.{from_filter, in_numbers}
-use Rattle.desk_history_laws.proofs.Numbered.{map-map}
-use Rattle.desk_history_laws.proofs.Orders.{distinct_append, distinct_parts, from_order, from_put}
-use Rattle.desk_history_laws.proofs.Recorded.{is_so, opened_form, past}
+use Rattle.desk_history_laws.proofs.Lists.{in_numbers}
+use Rattle.desk_history_laws.proofs.Orders.{from_order, from_put}
+use Rattle.desk_history_laws.proofs.Recorded.{opened_form}
 use Rattle.desk_history_laws.proofs.Concluded.{has_form}
 
 -- ---- lists whose keys are distinct
@@ -125,45 +130,55 @@ distinct_rules rows up = distinct_rises rule_key (below_by rule_row_order) rows 
         let three : x.form ≡ y.form = ap (λ (k : ℕ × List ℕ × List ℕ). k.2) e in
         rw (one, two, three, tied_itself nat_cmp_total y.revision, tied_itself nat_list_cmp_total y.term, tied_itself nat_list_cmp_total y.form) refl
 
+-- rows whose key is a number and a text
+module _ {A : Type 0} (f : A → ℕ) (g : A → List ℕ) where
+  abbrev pair_order : A → A → Ordering
+  pair_order = then_cmp (on f nat_cmp) (on g (slice_cmp nat_cmp))
+
+  abbrev pair_key : A → ℕ × List ℕ
+  pair_key x = (f x, g x)
+
+  not_below : (x y : A) → pair_key x ≡ pair_key y → below_by pair_order x y ≡ false
+  not_below x y e =
+      let one : f x ≡ f y = ap (λ (k : ℕ × List ℕ). k.0) e in
+      let two : g x ≡ g y = ap (λ (k : ℕ × List ℕ). k.1) e in
+      rw (one, two, tied_itself nat_cmp_total (f y), tied_itself nat_list_cmp_total (g y)) refl
+
+  distinct_pairs : (rows : List A) → Rises (below_by pair_order) rows → AreDistinct (map pair_key rows)
+  distinct_pairs rows up = distinct_rises pair_key (below_by pair_order) rows not_below up
+
 pub distinct_packages : (rows : List PackageRow) → Rises (below_by package_order) rows → AreDistinct (map package_key rows)
-distinct_packages rows up = distinct_rises package_key (below_by package_order) rows never up
-  where
-    never : (x y : PackageRow) → package_key x ≡ package_key y → below_by package_order x y ≡ false
-    never x y e =
-        let one : x.document ≡ y.document = ap (λ (k : ℕ × List ℕ). k.0) e in
-        let two : x.id ≡ y.id = ap (λ (k : ℕ × List ℕ). k.1) e in
-        rw (one, two, tied_itself nat_cmp_total y.document, tied_itself nat_list_cmp_total y.id) refl
+distinct_packages rows up = distinct_pairs (λ (row : PackageRow). row.document) (λ (row : PackageRow). row.id) rows up
 
 pub distinct_extracted : (rows : List ExtractedRow) → Rises (below_by extracted_order) rows → AreDistinct (map extracted_key rows)
-distinct_extracted rows up = distinct_rises extracted_key (below_by extracted_order) rows never up
-  where
-    never : (x y : ExtractedRow) → extracted_key x ≡ extracted_key y → below_by extracted_order x y ≡ false
-    never x y e =
-        let one : x.document ≡ y.document = ap (λ (k : ℕ × List ℕ). k.0) e in
-        let two : x.reference ≡ y.reference = ap (λ (k : ℕ × List ℕ). k.1) e in
-        rw (one, two, tied_itself nat_cmp_total y.document, tied_itself nat_list_cmp_total y.reference) refl
+distinct_extracted rows up = distinct_pairs (λ (row : ExtractedRow). row.document) (λ (row : ExtractedRow). row.reference) rows up
+
+-- rows whose key is a term of a package of a document in a release
+module _ {A : Type 0} (r : A → List ℕ) (d : A → ℕ) (p t : A → List ℕ) where
+  abbrev term_order : A → A → Ordering
+  term_order = then_cmp (on r (slice_cmp nat_cmp)) (then_cmp (on d nat_cmp) (then_cmp (on p (slice_cmp nat_cmp)) (on t (slice_cmp nat_cmp))))
+
+  abbrev term_key : A → List ℕ × ℕ × List ℕ × List ℕ
+  term_key x = (r x, d x, p x, t x)
+
+  never_below : (x y : A) → term_key x ≡ term_key y → below_by term_order x y ≡ false
+  never_below x y e =
+      let one : r x ≡ r y = ap (λ (k : List ℕ × ℕ × List ℕ × List ℕ). k.0) e in
+      let two : d x ≡ d y = ap (λ (k : List ℕ × ℕ × List ℕ × List ℕ). k.1) e in
+      let three : p x ≡ p y = ap (λ (k : List ℕ × ℕ × List ℕ × List ℕ). k.2) e in
+      let four : t x ≡ t y = ap (λ (k : List ℕ × ℕ × List ℕ × List ℕ). k.3) e in
+      rw (one, two, three, four, tied_itself nat_list_cmp_total (r y), tied_itself nat_cmp_total (d y), tied_itself nat_list_cmp_total (p y), tied_itself nat_list_cmp_total (t y)) refl
+
+  distinct_terms : (rows : List A) → Rises (below_by term_order) rows → AreDistinct (map term_key rows)
+  distinct_terms rows up = distinct_rises term_key (below_by term_order) rows never_below up
 
 pub distinct_choices : (rows : List ChoiceRow) → Rises (below_by choice_order) rows → AreDistinct (map choice_key rows)
-distinct_choices rows up = distinct_rises choice_key (below_by choice_order) rows never up
-  where
-    never : (x y : ChoiceRow) → choice_key x ≡ choice_key y → below_by choice_order x y ≡ false
-    never x y e =
-        let one : x.release ≡ y.release = ap (λ (k : List ℕ × ℕ × List ℕ × List ℕ). k.0) e in
-        let two : x.document ≡ y.document = ap (λ (k : List ℕ × ℕ × List ℕ × List ℕ). k.1) e in
-        let three : x.package_id ≡ y.package_id = ap (λ (k : List ℕ × ℕ × List ℕ × List ℕ). k.2) e in
-        let four : x.term ≡ y.term = ap (λ (k : List ℕ × ℕ × List ℕ × List ℕ). k.3) e in
-        rw (one, two, three, four, tied_itself nat_list_cmp_total y.release, tied_itself nat_cmp_total y.document, tied_itself nat_list_cmp_total y.package_id, tied_itself nat_list_cmp_total y.term) refl
+distinct_choices rows up =
+    distinct_terms (λ (row : ChoiceRow). row.release) (λ (row : ChoiceRow). row.document) (λ (row : ChoiceRow). row.package_id) (λ (row : ChoiceRow). row.term) rows up
 
 pub distinct_frozen_terms : (rows : List FrozenRow) → Rises (below_by frozen_order) rows → AreDistinct (map frozen_key rows)
-distinct_frozen_terms rows up = distinct_rises frozen_key (below_by frozen_order) rows never up
-  where
-    never : (x y : FrozenRow) → frozen_key x ≡ frozen_key y → below_by frozen_order x y ≡ false
-    never x y e =
-        let one : x.release ≡ y.release = ap (λ (k : List ℕ × ℕ × List ℕ × List ℕ). k.0) e in
-        let two : x.document ≡ y.document = ap (λ (k : List ℕ × ℕ × List ℕ × List ℕ). k.1) e in
-        let three : x.package_id ≡ y.package_id = ap (λ (k : List ℕ × ℕ × List ℕ × List ℕ). k.2) e in
-        let four : x.term ≡ y.term = ap (λ (k : List ℕ × ℕ × List ℕ × List ℕ). k.3) e in
-        rw (one, two, three, four, tied_itself nat_list_cmp_total y.release, tied_itself nat_cmp_total y.document, tied_itself nat_list_cmp_total y.package_id, tied_itself nat_list_cmp_total y.term) refl
+distinct_frozen_terms rows up =
+    distinct_terms (λ (row : FrozenRow). row.release) (λ (row : FrozenRow). row.document) (λ (row : FrozenRow). row.package_id) (λ (row : FrozenRow). row.term) rows up
 
 -- ---- conclusions and adoptions: the last one stands in place of those before it
 
@@ -261,7 +276,7 @@ distinct_namespaces w (Import bytes profile ∷ h) ok =
     let name = λ (row : DocumentRow). row.namespace in
     let row = row_of w h bytes profile in
     subst AreDistinct (sym (map-append name (documents w h) (row ∷ [])))
-    (distinct_append (map name (documents w h)) (row.namespace ∷ []) (distinct_namespaces w h ok.1) (λ m. m, tt)
+    (distinct-append (map name (documents w h)) (row.namespace ∷ []) (distinct_namespaces w h ok.1) (λ m. m, tt)
     (λ k old new. elim new [
       | inl same ↦ none_named row.namespace (documents w h) (is_new bytes (importing w h) (w.document bytes) ok.0) (subst (λ k. IsIn k (map name (documents w h))) (sym same) old)
       | inr none ↦ absurd none
@@ -325,23 +340,12 @@ distinct_places w h ok =
 
 -- ---- changes: the steps of a duty are numbered
 
-pub change_within : (q : ℕ) (ms : List Move) (row : ChangeRow) → IsIn row (change_rows q ms) → (row.duty ≡ q) × (row.step ≤ length ms)
-change_within q [] row m = absurd m
-change_within q (c ∷ ms) row m =
-    elim (in_cases row (change_rows q ms) (change_row q (length ms + 1) c ∷ []) m) [
-      | inl old ↦ (let at = change_within q ms row old in (at.0, omega (arith, at.1)))
-      | inr here ↦ (elim here [
-        | inl e ↦ (sym (ap (λ (r : ChangeRow). r.duty) e), omega (arith, ap (λ (r : ChangeRow). r.step) e))
-        | inr none ↦ absurd none
-      ])
-    ]
-
 distinct_steps : (q : ℕ) (ms : List Move) → AreDistinct (map change_key (change_rows q ms))
 distinct_steps q [] = tt
 distinct_steps q (c ∷ ms) =
     let new = change_row q (length ms + 1) c in
     subst AreDistinct (sym (map-append change_key (change_rows q ms) (new ∷ [])))
-    (distinct_append (map change_key (change_rows q ms)) (change_key new ∷ []) (distinct_steps q ms) (λ m. m, tt)
+    (distinct-append (map change_key (change_rows q ms)) (change_key new ∷ []) (distinct_steps q ms) (λ m. m, tt)
     (λ k old here. elim here [
       | inl same ↦ (let at = from_map change_key k (change_rows q ms) old in
           let step : at.0.step ≡ length ms + 1 = ap (λ (k : ℕ × ℕ). k.1) (at.2 ∙ sym same) in
@@ -351,7 +355,7 @@ distinct_steps q (c ∷ ms) =
 
 pub distinct_changes : (w : Readings) (h : List Command) → AreDistinct (map change_key (all_changes w h))
 distinct_changes w h =
-    distinct_parts (λ (d : ℕ × Owed). changes w h d.0) change_key (λ (k : ℕ × ℕ). k.0) (λ (d : ℕ × Owed). d.0) (numbered w h)
+    distinct-flat_map (λ (d : ℕ × Owed). changes w h d.0) change_key (λ (k : ℕ × ℕ). k.0) (λ (d : ℕ × Owed). d.0) (numbered w h)
     (λ d row m. (change_within d.0 (moves w h d.0) row m).0) (numbers_of 1 (raised w h)) (λ d m. distinct_steps d.0 (moves w h d.0))
   where
     numbers_of : (n : ℕ) (xs : List Owed) → AreDistinct (map (λ (d : ℕ × Owed). d.0) (enumerate_from n xs))

@@ -9,7 +9,8 @@ use Rattle.desk_model.specs.declared.row.DocumentRow.{DocumentRow}
 use Rattle.desk_model.specs.declared.command.Command.{Command}
 use Rattle.desk_model.specs.declared.command.Command.TheVariants.{Import}
 use Rattle.desk_history_laws.specs.Filters.{given, imported, document_row, packages_of, references_of}
-use Rattle.desk_history_laws.proofs.Given.{given-cons, given_nothing, rows-push, length-rows, flat_map-push}
+use Rattle.desk_history_laws.proofs.Given.{given-cons, given_nothing, rows-push, length-rows}
+use Rattle.desk_history_laws.proofs.Numbered.{flat_map-push}
 
 abbrev rows : Readings → List Command → List DocumentRow
 rows w h = map (document_row w) (enumerate_from 1 (given imported h))

@@ -33,6 +33,7 @@ use Rattle.desk_model.specs.declared.command.Command.TheVariants.{LoadCatalogue,
 use Rattle.desk_history.proofs.Lookups.{length-push, release_found-tables}
 use Rattle.desk_history.proofs.Members.{in_cases, from_map}
 use Rattle.desk_history.proofs.OwnKeys.{open_at, owed_release, raised_closed}
+use Rattle.desk_history.proofs.Rows.{find-map}
 use Rattle.desk_model.specs.Names.{duty_state_name, release_state_name}
 use Rattle.desk_snapshot.specs.Conditions.{AreNumbered, AreStates, stands_as, was_frozen}
 use Rattle.desk_snapshot.specs.Rows as stored
@@ -40,7 +41,7 @@ use Rattle.desk_snapshot.specs.Rows.{AreFrom, release_state_named}
 use Rattle.desk_snapshot.specs.Tables.{duty_stored, release_stored, snapshot_of}
 use Rattle.desk_snapshot.specs.declared.rows.StoredDuty.{StoredDuty}
 use Rattle.desk_snapshot.specs.declared.rows.StoredRelease.{StoredRelease}
-use Rattle.desk_history_laws.proofs.Lists.{all_in, at_own, find-map, in_numbers, numbers-append, pos_eq}
+use Rattle.desk_history_laws.proofs.Lists.{all_in, at_own, in_numbers, numbers-append, pos_eq}
 use Rattle.desk_history_laws.proofs.Recorded.{allows, freezes, opened_form, there}
 
 -- ---- how many there are
@@ -98,7 +99,7 @@ pub record WasFrozen (h : List Command) (r : List ℕ) : Type 0 where
   pub opened : is_some (form_of h r) ≡ true
   pub revision : 1 ≤ revision_of h r
 
-still_opened : (b : Bool) (form : List ℕ) (o : Option (List ℕ)) → is_some o ≡ true → is_some (or_else (if b then Some form else None) o) ≡ true
+pub still_opened : (b : Bool) (form : List ℕ) (o : Option (List ℕ)) → is_some o ≡ true → is_some (or_else (if b then Some form else None) o) ≡ true
 still_opened true form o e = refl
 still_opened false form o e = e
 

@@ -28,23 +28,14 @@ use Rattle.desk_model.specs.declared.command.Command.TheVariants.{Import, Attach
 use Rattle.std.specs.Result.{result_ok}
 use Rattle.desk_history.specs.Laws.{IsFrozenTerm}
 use Rattle.desk_history.proofs.Members.{in_left, in_map}
+use Rattle.desk_history.proofs.Recorded.{past, is_so, is_ready}
+use Rattle.desk_history.proofs.OwnKeys.{open_by}
 use Rattle.desk_history_laws.specs.Shipping.{IsShipped}
 use Rattle.desk_history_laws.proofs.FrozenRows.{frozen_once}
 use Rattle.desk_history_laws.proofs.Members.{from_filter_map, from_sorted}
 use Rattle.desk_history_laws.proofs.Releases.{attaches}
-use Rattle.desk_history_laws.proofs.Steps.{past, is_so}
 
 -- ---- what a recorded command looked up
-
-pub is_ready : (o : Option ReleaseState) → is_some o ≡ true → option_and_then unready o ≡ None → o ≡ Some IsOpen
-is_ready None known e = cc
-is_ready (Some IsOpen) known e = refl
-is_ready (Some Frozen) known e = cc
-is_ready (Some Withdrawn) known e = cc
-
-pub open_by : (s : ReleaseState) (form : Option (List ℕ)) → option_map (λ (form : List ℕ). s) form ≡ Some IsOpen → s ≡ IsOpen
-open_by s None e = cc
-open_by s (Some form) e = cc
 
 chosen_open : (w : Readings) (h : List Command) (r : List ℕ) (d : ℕ) (p : List ℕ) (texts : List (List ℕ)) → IsTrue (is_recorded (answer w h (Choose r d p texts)))
     → (state_of h r ≡ IsOpen) × (is_shipped (choosing w h r d p) ≡ true)

@@ -1,9 +1,9 @@
 -- The rows of the frozen terms are those of the freezes, and a release is frozen once.
-use Rattle.std.proofs.Common.{◌≡◌, ◌≢◌, ℕ, Bool, true, false, List, [], ◌∷◌, ◌++◌, Option, Some, None, sym, ap, ◌∙◌, subst, inl}
-use Rattle.std.specs.Prelude.{unwrap_or, IsTrue, if◌then◌else◌}
+use Rattle.std.proofs.Common.{◌≡◌, ◌≢◌, ℕ, List, [], ◌∷◌, ◌++◌, sym, ap, ◌∙◌, subst, inl}
+use Rattle.std.specs.Prelude.{unwrap_or, IsTrue}
 use Rattle.std.specs.Str.{bytes_eq}
 use Rattle.desk_base.proofs.Texts.{same_text}
-use Rattle.desk_model.specs.Lists.{IsIn, latest, or_else}
+use Rattle.desk_model.specs.Lists.{IsIn, latest}
 use Rattle.desk_model.specs.Readings.{Readings}
 use Rattle.desk_model.specs.Keys.{below_by, frozen_order}
 use Rattle.desk_model.specs.History.{in_force, rules_in, form_of, state_of, state_given}
@@ -13,13 +13,12 @@ use Rattle.desk_model.specs.Answers.{answer, is_recorded, IsHistory}
 use Rattle.desk_model.specs.Tables.{tables}
 use Rattle.desk_model.specs.declared.row.FrozenRow.{FrozenRow}
 use Rattle.desk_model.specs.declared.row.PackageRow.{PackageRow}
-use Rattle.desk_model.specs.declared.state.ReleaseState.{ReleaseState}
 use Rattle.desk_model.specs.declared.state.ReleaseState.TheVariants.{IsOpen, Frozen, Withdrawn}
 use Rattle.desk_model.specs.declared.command.Command.{Command}
 use Rattle.desk_model.specs.declared.command.Command.TheVariants.{Freeze, Withdraw}
 use Rattle.desk_history.specs.Laws.{IsFrozenTerm}
 use Rattle.desk_history.proofs.Members.{in_left, in_right, in_flat_map}
-use Rattle.desk_history.proofs.OwnKeys.{open_at}
+use Rattle.desk_history.proofs.OwnKeys.{open_at, closed_still}
 use Rattle.desk_history_laws.proofs.Members.{in_sorted, from_sorted}
 
 frozen_grows : (w : Readings) (c : Command) (h : List Command) (f : FrozenRow) → IsIn f (frozen w h) → IsIn f (frozen w (c ∷ h))
@@ -58,10 +57,6 @@ pub from_frozen : ((w : Readings) (h : List Command) (f : FrozenRow) → IsIn f 
 from_frozen held w h f m = held w h f (from_sorted (below_by frozen_order) f (frozen w h) m)
 
 -- ---- a release is frozen once
-
-closed_still : (b : Bool) (s : ReleaseState) (o : Option ReleaseState) → s ≢ IsOpen → unwrap_or o IsOpen ≢ IsOpen → unwrap_or (or_else (if b then Some s else None) o) IsOpen ≢ IsOpen
-closed_still true s o f e = f
-closed_still false s o f e = e
 
 pub still_closed : (c : Command) (h : List Command) (r : List ℕ) → state_of h r ≢ IsOpen → state_of (c ∷ h) r ≢ IsOpen
 still_closed (Freeze r' day) h r closed = closed_still (bytes_eq r' r) Frozen (latest (state_given r) h) (λ e. cc) closed

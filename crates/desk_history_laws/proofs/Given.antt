@@ -1,7 +1,7 @@
 -- What commands give, in the order in which they were recorded.
-use Rattle.std.proofs.Common.{◌≡◌, ℕ, ◌+◌, List, [], ◌∷◌, ◌++◌, length, map, Option, Some, None, refl, ap, ◌∙◌, sym, arith, append-nil, append_assoc, add-zero}
+use Rattle.std.proofs.Common.{◌≡◌, ℕ, ◌+◌, List, [], ◌∷◌, ◌++◌, length, map, Option, Some, None, refl, ap, ◌∙◌, sym, arith, append-nil, add-zero}
 use Rattle.std.specs.Prelude.{reverse, filter, cond, Bool, true, false, if◌then◌else◌}
-use Rattle.std.specs.List.{filter_map, cons_option, last_or, enumerate_from, flat_map}
+use Rattle.std.specs.List.{filter_map, cons_option, last_or, enumerate_from}
 use Rattle.std.proofs.lemmas.List.{reverse-append, map-append}
 use Rattle.std.proofs.lemmas.List.Elements.{filter_map-append, filter-append}
 use Rattle.desk_model.specs.Lists.{latest, or_else}
@@ -44,10 +44,6 @@ rows-push row xs x =
 pub length-rows : {A B : Type 0} (row : ℕ × A → B) (n : ℕ) (xs : List A) → length (map row (enumerate_from n xs)) ≡ length xs
 length-rows row n [] = refl
 length-rows row n (x ∷ xs) = omega (arith, length-rows row (n + 1) xs)
-
-pub flat_map-push : {A B : Type 0} (f : A → List B) (xs : List A) (x : A) → flat_map f (xs ++ x ∷ []) ≡ flat_map f xs ++ f x
-flat_map-push f [] x = append-nil (f x)
-flat_map-push f (y ∷ ys) x = ap (λ zs. f y ++ zs) (flat_map-push f ys x) ∙ sym (append_assoc (f y) (flat_map f ys) (f x))
 
 -- the last of those that pass a test
 push_last : {A : Type 0} (x : A) (xs : List A) (b : Bool) → last_or None (xs ++ cond b (x ∷ []) []) ≡ or_else (if b then Some x else None) (last_or None xs)

@@ -20,7 +20,7 @@ use Rattle.desk_model.specs.Names.{release_state_name}
 use Rattle.desk_model.specs.Readings.{Readings}
 use Rattle.desk_model.specs.Texts.{sorted_set, text_below}
 use Rattle.desk_model.specs.History as history
-use Rattle.desk_model.specs.History.{attached, attachment, choice, documents, form_given, form_of, is_package_of, package_row, packages, packages_in, state_given, state_of, term_set, terms_given}
+use Rattle.desk_model.specs.History.{attached, choice, documents, form_given, form_of, is_package_of, package_row, packages, packages_in, state_given, state_of, term_set, terms_given}
 use Rattle.desk_model.specs.Conclusions.{conclusion_by, conclusions, office_text, profile_in}
 use Rattle.desk_model.specs.Answers.{answer, choosing, conclusion, first_bad, gone, IsHistory, is_recorded, is_shipped, package_at, unless, unready}
 use Rattle.desk_model.specs.Tables.{choice_row, choices, release_rows, standing, tables}
@@ -37,6 +37,8 @@ use Rattle.desk_model.specs.declared.command.Command.{Command}
 use Rattle.desk_model.specs.declared.command.Command.TheVariants.{Attach, Choose, Freeze, Import, OpenRelease, Unchoose, Withdraw}
 use Rattle.desk_history.specs.Laws.{IsHeldMinimal, Rises}
 use Rattle.desk_history.proofs.Orders.{choice_is_order, filter-in_order}
+use Rattle.desk_history.proofs.Rows.{filter-map, find-map, map-map}
+use Rattle.desk_history.proofs.Recorded.{is_so, past}
 use Rattle.desk_snapshot.specs.Conditions as audit
 use Rattle.desk_snapshot.specs.Conditions.{are_minimal, conclusion_at, is_choice, is_printed, is_withdrawn, profile_at, ships_under, terms_at}
 use Rattle.desk_snapshot.specs.Rows as stored
@@ -47,11 +49,10 @@ use Rattle.desk_snapshot.specs.declared.rows.StoredPackage.{StoredPackage}
 use Rattle.desk_snapshot.specs.declared.rows.StoredReading.{StoredReading}
 use Rattle.desk_snapshot.specs.declared.rows.StoredRelease.{StoredRelease}
 use Rattle.desk_history_laws.specs.ChoicePremises.{ReadsChoices}
-use Rattle.desk_history_laws.proofs.Lists.{all_in, filter-map, filter_same, find-map, find_same, pos_eq}
-use Rattle.desk_history_laws.proofs.Numbered.{map-map}
-use Rattle.desk_history_laws.proofs.Duties.{opened_release}
+use Rattle.desk_history_laws.proofs.Lists.{all_in, filter_same, find_same, pos_eq}
+use Rattle.desk_history_laws.proofs.Duties.{opened_release, still_opened}
 use Rattle.desk_history_laws.proofs.Orders.{map_rises, order_same}
-use Rattle.desk_history_laws.proofs.Recorded.{is_so, known_by, past}
+use Rattle.desk_history_laws.proofs.Recorded.{known_by}
 
 -- ---- what a recorded Choose saw, and what stays of it
 
@@ -67,12 +68,8 @@ abbrev withdraws_it : List ℕ → Command → Bool
 withdraws_it r (Withdraw r' day text) = bytes_eq r' r
 withdraws_it r _ = false
 
-some_before : (b : Bool) (form : List ℕ) (o : Option (List ℕ)) → is_some o ≡ true → is_some (or_else (if b then Some form else None) o) ≡ true
-some_before true form o e = refl
-some_before false form o e = e
-
 opened_more : (c : Command) (h : List Command) (r : List ℕ) → is_some (form_of h r) ≡ true → is_some (form_of (c ∷ h) r) ≡ true
-opened_more (OpenRelease n form) h r e = some_before (bytes_eq n r) form (latest (form_given r) h) e
+opened_more (OpenRelease n form) h r e = still_opened (bytes_eq n r) form (latest (form_given r) h) e
 opened_more c h r e = e
 
 frozen_stands : (b : Bool) (o : Option ReleaseState) → gone (unwrap_or o IsOpen) ≡ None → gone (unwrap_or (or_else (if b then Some Frozen else None) o) IsOpen) ≡ None

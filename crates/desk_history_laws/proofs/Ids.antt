@@ -1,19 +1,18 @@
 -- By a right reading each code of a rule is an idstring.
 use Rattle.std.proofs.Common.{◌≡◌, ◌∙◌, ℕ, Bool, true, false, List, [], ◌∷◌, Option, Some, None, Ok, Err, sym, subst, ap, refl}
-use Rattle.std.specs.Prelude.{codes, length, nat_le, nat_lt, not, ◌||◌, unwrap_or, if◌then◌else◌}
+use Rattle.std.specs.Prelude.{codes, length, nat_le, not, ◌||◌, unwrap_or, if◌then◌else◌}
 use Rattle.std.specs.List.{list_all}
 use Rattle.std.specs.Option.{ok_or, option_and_then}
 use Rattle.std.specs.Str.{bytes_eq}
 use Rattle.toml.specs.Data.{as_str, as_table, Data, get_member, Members}
-use Rattle.toml.specs.Parse.{parse_document}
 use Rattle.desk_base.proofs.Bools.{and_left, and_right, both}
 use Rattle.desk_base.proofs.Texts.{texts_equal}
 use Rattle.desk_base.specs.Idstring.{is_idstring}
 use Rattle.desk_base.specs.Limits as limit
 use Rattle.desk_base.specs.Results.{then_read}
-use Rattle.desk_catalogue.proofs.OrderLaws.{each_holds, rules_hold, same_read, then_by, unless}
+use Rattle.desk_catalogue.proofs.OrderLaws.{each_holds, parts_read, rules_hold, same_read, then_by, unless}
 use Rattle.desk_catalogue.specs.Kept.{stand_once}
-use Rattle.desk_catalogue.specs.Reading.{catalogue_of, catalogue_of_table, duties_of, duty_at, duty_of_keys, duty_of_values, each, forms_of, licence_texts_of, rule_at, rule_of, RuleTexts, rule_written, rules_of, tables_of, with_code, with_duty}
+use Rattle.desk_catalogue.specs.Reading.{catalogue_of, duties_of, duty_at, duty_of_keys, duty_of_values, each, rule_at, rule_of, RuleTexts, rule_written, rules_of, tables_of, with_code, with_duty}
 use Rattle.desk_catalogue.specs.Terms.{licence_of}
 use Rattle.desk_catalogue.specs.Values.{id_of, if_passes, is_among, is_id, title_of}
 use Rattle.desk_catalogue.specs.declared.catalogue.Catalogue.{Catalogue as WholeCatalogue}
@@ -24,7 +23,7 @@ use Rattle.desk_model.specs.Readings.{Readings}
 use Rattle.desk_model.specs.Texts.{put_new, sorted_set, text_below}
 use Rattle.desk_model.specs.declared.reading.Rule.{Rule}
 use Rattle.desk_model.specs.declared.refusal.CatalogueFault.{CatalogueFault}
-use Rattle.desk_model.specs.declared.refusal.CatalogueFault.TheVariants.{BadKind, BadTerm, NotToml, TooLarge, Twice, UnknownDuty, UnknownForm}
+use Rattle.desk_model.specs.declared.refusal.CatalogueFault.TheVariants.{BadKind, BadTerm, Twice, UnknownDuty, UnknownForm}
 use Rattle.desk_model.specs.declared.refusal.CataloguePart.TheVariants as part
 use Rattle.desk_texts.specs.Right.{AreRight}
 use Rattle.desk_texts.specs.Rising.{Each}
@@ -123,14 +122,8 @@ read_of : (terms : List ℕ → Option (List ℕ)) (text : List ℕ) (catalogue 
     → (ms : Members) × (forms : List (List ℕ)) × (duties : List (List ℕ)) × (duties_of (get_member (codes "duty") ms) ≡ Ok duties)
     × (rules_of terms forms duties (get_member (codes "rule") ms) ≡ Ok catalogue.rules)
 read_of terms text catalogue e =
-    let small = unless (nat_lt limit.catalogue_bytes (length text)) TooLarge (then_read (ok_or (parse_document text) NotToml) (catalogue_of_table terms)) catalogue e in
-    let table = then_by (ok_or (parse_document text) NotToml) (catalogue_of_table terms) catalogue small in
-    let ms = table.0 in
-    let forms = then_by (forms_of (get_member (codes "forms") ms)) _ catalogue table.2 in
-    let duties = then_by (duties_of (get_member (codes "duty") ms)) _ catalogue forms.2 in
-    let rules = then_by (rules_of terms forms.0 duties.0 (get_member (codes "rule") ms)) _ catalogue duties.2 in
-    let texts = then_by (licence_texts_of (get_member (codes "text") ms)) _ catalogue rules.2 in
-    (ms, forms.0, duties.0, duties.1, rules.1 ∙ ap (λ c. Ok c.rules) (same_read _ catalogue texts.2))
+    let read = parts_read terms text catalogue e in
+    (read.members, read.forms, read.duties, read.duties_are, read.rules_are ∙ ap (λ (c : WholeCatalogue). Ok c.rules) read.same)
 
 catalogue_has : (terms : List ℕ → Option (List ℕ)) (text : List ℕ) (catalogue : WholeCatalogue) → catalogue_of terms text ≡ Ok catalogue → Each HasIds catalogue.rules
 catalogue_has terms text catalogue e =

@@ -26,7 +26,8 @@ use Rattle.desk_snapshot.specs.Rows.{AreFrom}
 use Rattle.desk_snapshot.specs.Tables.{snapshot_of, document_stored, reading_stored, package_stored, extracted_stored}
 use Rattle.desk_snapshot.specs.declared.rows.StoredDocument.{StoredDocument}
 use Rattle.desk_snapshot.specs.declared.rows.StoredReading.{StoredReading}
-use Rattle.desk_history_laws.proofs.Numbered.{flat_map-push, rows_push, map-map}
+use Rattle.desk_history_laws.proofs.Numbered.{flat_map-push, rows_push}
+use Rattle.desk_history.proofs.Rows.{map-map}
 
 abbrev row_of : Readings → List Command → List ℕ → Profile → DocumentRow
 row_of w h bytes profile = record { number = length (documents w h) + 1; namespace = namespace_in (result_ok (w.document bytes)); bytes = bytes; profile = profile }

@@ -34,19 +34,19 @@ use Rattle.desk_history.proofs.Members.{from_flat_map, from_map, in_map}
 use Rattle.desk_history.proofs.Orders.{choice_is_order}
 use Rattle.desk_history.proofs.OwnKeys.{distinct-shipped, open_at, place_of}
 use Rattle.desk_history.proofs.Sorting.{frozen_is_order}
+use Rattle.desk_history.proofs.Distinct.{from_filter, distinct-append, distinct-flat_map}
+use Rattle.desk_history.proofs.Rows.{filter-map, map-map}
 use Rattle.desk_history_laws.specs.Billed.{ListsPackagesOnce}
 use Rattle.desk_history_laws.specs.Standing.{frozen_row}
 use Rattle.desk_snapshot.specs.Conditions as audit
-use Rattle.desk_snapshot.specs.Conditions.{is_frozen, IsKept}
+use Rattle.desk_snapshot.specs.Conditions.{IsKept}
 use Rattle.desk_snapshot.specs.Rows as stored
 use Rattle.desk_snapshot.specs.Tables.{choice_stored, frozen_stored, release_stored, snapshot_of}
 use Rattle.desk_snapshot.specs.declared.rows.StoredChoice.{StoredChoice}
 use Rattle.desk_snapshot.specs.declared.rows.StoredFrozen.{StoredFrozen}
 use Rattle.desk_snapshot.specs.declared.rows.StoredRelease.{StoredRelease}
-use Rattle.desk_history_laws.proofs.Lists.{filter-map, from_filter}
-use Rattle.desk_history_laws.proofs.Numbered.{map-map}
 use Rattle.desk_history_laws.proofs.Later.{closed_behind}
-use Rattle.desk_history_laws.proofs.Orders.{distinct_alike, distinct_append, distinct_map, distinct_parts, filter_rises, first_tie, in_filter, map_rises, numbers_tie, order_rises, rises_distinct, same_rising, texts_tie, ties}
+use Rattle.desk_history_laws.proofs.Orders.{distinct_alike, distinct_map, filter_rises, first_tie, in_filter, map_rises, numbers_tie, order_rises, rises_distinct, same_rising, texts_tie, ties}
 use Rattle.desk_history_laws.proofs.HeldRows.{choice_rises, SetsRise, Stands}
 
 -- the choice that a frozen term was
@@ -133,8 +133,8 @@ module _ (w : Readings) (h : List Command) (r : List ℕ) where
 
   distinct_at : SetsRise → ListsPackagesOnce w → IsHistory w h → AreDistinct (map choice_of (frozen_at w h r))
   distinct_at sets once ok =
-      distinct_parts rows_of choice_of package_of place_of (shipped w h r) (λ p f m. (placed p f m).1) (distinct-shipped w once h r ok) (λ p m.
-      distinct_parts (λ (term : List ℕ). frozen_under r p term (rule_of_term p term)) choice_of (λ (c : ChoiceRow). c.term) (λ (term : List ℕ). term) (chosen_in w h r p)
+      distinct-flat_map rows_of choice_of package_of place_of (shipped w h r) (λ p f m. (placed p f m).1) (distinct-shipped w once h r ok) (λ p m.
+      distinct-flat_map (λ (term : List ℕ). frozen_under r p term (rule_of_term p term)) choice_of (λ (c : ChoiceRow). c.term) (λ (term : List ℕ). term) (chosen_in w h r p)
       (λ term f n. (placed_under r p term (rule_of_term p term) f n).2)
       (distinct_map (λ (term : List ℕ). term) (chosen_in w h r p) (λ x y e. e) (rises_distinct text_below not_below (chosen_in w h r p) (choice_rises sets w h r p.document p.id)))
       (λ term n. distinct_under r p term (rule_of_term p term)))
@@ -153,7 +153,7 @@ distinct_frozen sets held w once (Freeze r day ∷ h) ok =
     let closed : state_of h old.0.release ≢ IsOpen = subst (λ (h : List Command). state_of h old.0.release ≢ IsOpen) (sym is.split) (closed_behind is.later is.before old.0.release is.day) in
     closed (ap (state_of h) same ∙ open_at w h r day ok.0)) in
     subst AreDistinct (sym (map-append choice_of (frozen_at w h r) (frozen w h)))
-    (distinct_append (map choice_of (frozen_at w h r)) (map choice_of (frozen w h)) (distinct_at w h r sets once ok.1) (distinct_frozen sets held w once h ok.1) apart)
+    (distinct-append (map choice_of (frozen_at w h r)) (map choice_of (frozen w h)) (distinct_at w h r sets once ok.1) (distinct_frozen sets held w once h ok.1) apart)
 distinct_frozen sets held w once (c ∷ h) ok = distinct_frozen sets held w once h ok.1
 
 abbrev table : Readings → List Command → List FrozenRow

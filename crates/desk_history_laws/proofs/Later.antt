@@ -1,37 +1,28 @@
 -- What a freeze saw of its release and of the rules stands in every later history.
 use Rattle.std.proofs.Common.{◌≡◌, ◌≢◌, ℕ, ◌+◌, Bool, true, false, List, [], ◌∷◌, ◌++◌, length, map, Option, Some, None, refl, sym, ap, ◌∙◌, inl, inr}
-use Rattle.std.specs.Prelude.{is_some, unwrap_or, if◌then◌else◌}
+use Rattle.std.specs.Prelude.{is_some, if◌then◌else◌}
 use Rattle.std.specs.Result.{result_ok}
 use Rattle.std.specs.Str.{bytes_eq}
 use Rattle.desk_base.proofs.Texts.{text_tells, same_text}
 use Rattle.desk_model.specs.Lists.{IsIn, latest, or_else}
 use Rattle.desk_model.specs.Readings.{Readings}
-use Rattle.desk_model.specs.History.{form_given, form_of, revision_of, revisions, rule_row, rule_rows, rules_in, state_given, state_of}
+use Rattle.desk_model.specs.History.{form_given, form_of, revision_of, revisions, rule_row, rule_rows, rules_in, state_of}
 use Rattle.desk_model.specs.Answers.{IsHistory}
 use Rattle.desk_model.specs.declared.row.RuleRow.{RuleRow}
-use Rattle.desk_model.specs.declared.state.ReleaseState.{ReleaseState}
-use Rattle.desk_model.specs.declared.state.ReleaseState.TheVariants.{IsOpen, Frozen, Withdrawn}
+use Rattle.desk_model.specs.declared.state.ReleaseState.TheVariants.{IsOpen}
 use Rattle.desk_model.specs.declared.command.Command.{Command}
-use Rattle.desk_model.specs.declared.command.Command.TheVariants.{Freeze, LoadCatalogue, OpenRelease, Withdraw}
+use Rattle.desk_model.specs.declared.command.Command.TheVariants.{Freeze, LoadCatalogue, OpenRelease}
 use Rattle.desk_history.proofs.Members.{in_left}
 use Rattle.desk_history.proofs.OwnKeys.{open_at}
 use Rattle.desk_history_laws.proofs.Recorded.{opened_form}
+use Rattle.desk_history_laws.proofs.FrozenRows.{still_closed}
 
 -- a history from its first commands on
-pub before : (w : Readings) (later h : List Command) → IsHistory w (later ++ h) → IsHistory w h
-before w [] h ok = ok
-before w (c ∷ later) h ok = before w later h ok.1
+pub history_before : (w : Readings) (later h : List Command) → IsHistory w (later ++ h) → IsHistory w h
+history_before w [] h ok = ok
+history_before w (c ∷ later) h ok = history_before w later h ok.1
 
 -- ---- a frozen release is frozen no more
-
-closed_still : (b : Bool) (s : ReleaseState) (o : Option ReleaseState) → s ≢ IsOpen → unwrap_or o IsOpen ≢ IsOpen → unwrap_or (or_else (if b then Some s else None) o) IsOpen ≢ IsOpen
-closed_still true s o f e = f
-closed_still false s o f e = e
-
-still_closed : (c : Command) (h : List Command) (r : List ℕ) → state_of h r ≢ IsOpen → state_of (c ∷ h) r ≢ IsOpen
-still_closed (Freeze r' day) h r closed = closed_still (bytes_eq r' r) Frozen (latest (state_given r) h) (λ e. cc) closed
-still_closed (Withdraw r' day text) h r closed = closed_still (bytes_eq r' r) Withdrawn (latest (state_given r) h) (λ e. cc) closed
-still_closed c h r closed = closed
 
 pub closed_behind : (later h : List Command) (r day : List ℕ) → state_of (later ++ Freeze r day ∷ h) r ≢ IsOpen
 closed_behind [] h r day = rw (same_text r) (λ e. cc)

@@ -1,8 +1,7 @@
 -- What is in a list, and what is found in it.
-use Rattle.std.proofs.Common.{◌≡◌, ℕ, ◌+◌, ◌<◌, ◌≤◌, Bool, true, false, cond, List, [], ◌∷◌, ◌++◌, length, map, Some, refl, ap, ◌∙◌, subst, arith, inl, inr}
+use Rattle.std.proofs.Common.{◌≡◌, ℕ, ◌+◌, ◌<◌, ◌≤◌, Bool, true, false, cond, List, [], ◌∷◌, ◌++◌, length, Some, refl, ap, ◌∙◌, subst, arith, inl, inr}
 use Rattle.std.specs.Prelude.{◌&&◌, ◌==◌, filter, find, pos}
 use Rattle.std.specs.List.{list_all, enumerate_from, AllByRecursion}
-use Rattle.std.specs.Option.{option_map}
 use Rattle.std.specs.Ordering.{int_eq}
 use Rattle.std.proofs.lemmas.Bool.Decides.{nat_tests}
 use Rattle.desk_model.specs.Lists.{IsIn}
@@ -27,30 +26,6 @@ found_in test [] x e = cc
 found_in test (y ∷ ys) x e = by_head test x y ys (test y) refl (found_in test ys x) e
 
 -- what is filtered
-
-from_head : {A : Type 0} (test : A → Bool) (x y : A) (ys : List A) → (b : Bool) → test y ≡ b → (IsIn x (filter test ys) → IsIn x ys × (test x ≡ true)) → IsIn x (cond b (y ∷ filter test ys) (filter test ys)) → IsIn x (y ∷ ys) × (test x ≡ true)
-from_head test x y ys true is rest m = elim m [ inl same ↦ (inl same, subst (λ z. test z ≡ true) same is) | inr n ↦ (let at = rest n in (inr at.0, at.1)) ]
-from_head test x y ys false is rest m = let at = rest m in (inr at.0, at.1)
-
-pub from_filter : {A : Type 0} (test : A → Bool) (x : A) (xs : List A) → IsIn x (filter test xs) → IsIn x xs × (test x ≡ true)
-from_filter test x [] m = absurd m
-from_filter test x (y ∷ ys) m = from_head test x y ys (test y) refl (from_filter test x ys) m
-
-pub filter-map : {A B : Type 0} (test : B → Bool) (f : A → B) (xs : List A) → filter test (map f xs) ≡ map f (filter (λ x. test (f x)) xs)
-filter-map test f [] = refl
-filter-map test f (x ∷ xs) =
-    elim (test (f x)) as (λ b. cond b (f x ∷ filter test (map f xs)) (filter test (map f xs)) ≡ map f (cond b (x ∷ filter (λ x. test (f x)) xs) (filter (λ x. test (f x)) xs))) [
-      | true ↦ ap (λ ys. f x ∷ ys) (filter-map test f xs)
-      | false ↦ filter-map test f xs
-    ]
-
-pub find-map : {A B : Type 0} (test : B → Bool) (f : A → B) (xs : List A) → find test (map f xs) ≡ option_map f (find (λ x. test (f x)) xs)
-find-map test f [] = refl
-find-map test f (x ∷ xs) =
-    elim (test (f x)) as (λ b. cond b (Some (f x)) (find test (map f xs)) ≡ option_map f (cond b (Some x) (find (λ x. test (f x)) xs))) [
-      | true ↦ refl
-      | false ↦ find-map test f xs
-    ]
 
 pub filter_same : {A : Type 0} (test other : A → Bool) → ((x : A) → test x ≡ other x) → (xs : List A) → filter test xs ≡ filter other xs
 filter_same test other same [] = refl

@@ -19,7 +19,8 @@ use Rattle.desk_snapshot.specs.Conditions.{AreRevisions, AreRules, rules_by, sto
 use Rattle.desk_snapshot.specs.Rows.{AreFrom}
 use Rattle.desk_snapshot.specs.Tables.{snapshot_of, catalogue_stored, rule_stored}
 use Rattle.desk_snapshot.specs.declared.rows.StoredCatalogue.{StoredCatalogue}
-use Rattle.desk_history_laws.proofs.Numbered.{flat_map-push, rows_push, map-map}
+use Rattle.desk_history_laws.proofs.Numbered.{flat_map-push, rows_push}
+use Rattle.desk_history.proofs.Rows.{map-map}
 
 abbrev row_of : List Command → List ℕ → CatalogueRow
 row_of h text = record { revision = length (revisions h) + 1; body = text }
@@ -32,7 +33,7 @@ numbered h = rw (map-map (λ (row : StoredCatalogue). row.revision) catalogue_st
     rows (LoadCatalogue text ∷ h) = rows_push (λ (row : CatalogueRow). pos row.revision) (revisions h) (row_of h text) (rows h) refl
     rows (_ ∷ h) = rows h
 
-was_read : (r : Result Catalogue CatalogueFault) (found : Loading) → IsTrue (is_recorded (load_answer r found)) → is_some (result_ok r) ≡ true
+pub was_read : (r : Result Catalogue CatalogueFault) (found : Loading) → IsTrue (is_recorded (load_answer r found)) → is_some (result_ok r) ≡ true
 was_read (Ok c) found e = refl
 was_read (Err f) found e = cc
 

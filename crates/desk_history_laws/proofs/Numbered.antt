@@ -1,5 +1,5 @@
 -- Numbers from 1 on.
-use Rattle.std.proofs.Common.{◌≡◌, ℕ, ◌+◌, List, [], ◌∷◌, ◌++◌, length, map, refl, ap, ◌∙◌, sym, arith, append-nil, append_assoc}
+use Rattle.std.proofs.Common.{◌≡◌, ℕ, ◌+◌, List, [], ◌∷◌, ◌++◌, length, map, ap, ◌∙◌, sym, arith, append-nil, append_assoc}
 use Rattle.std.specs.Prelude.{ℤ, pos}
 use Rattle.std.specs.List.{enumerate_from, flat_map}
 use Rattle.std.proofs.lemmas.List.{map-append, length-map}
@@ -18,10 +18,6 @@ rows_push f xs x from e =
 pub from_rows : {A : Type 0} (f : ℕ × A → ℤ) → ((d : ℕ × A) → f d ≡ pos d.0) → (n : ℕ) (xs : List A) → AreFrom n (map f (enumerate_from n xs))
 from_rows f tells n [] = tt
 from_rows f tells n (x ∷ xs) = (tells (n, x), from_rows f tells (n + 1) xs)
-
-pub map-map : {A B C : Type 0} (f : B → C) (g : A → B) (xs : List A) → map f (map g xs) ≡ map (λ x. f (g x)) xs
-map-map f g [] = refl
-map-map f g (x ∷ xs) = ap (λ ys. f (g x) ∷ ys) (map-map f g xs)
 
 pub flat_map-push : {A B : Type 0} (f : A → List B) (xs : List A) (x : A) → flat_map f (xs ++ x ∷ []) ≡ flat_map f xs ++ f x
 flat_map-push f [] x = append-nil (f x)

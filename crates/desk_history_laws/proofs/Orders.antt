@@ -1,13 +1,11 @@
 -- Rows put in order by distinct keys rise, and rising lists with the same members are one list.
-use Rattle.std.proofs.Common.{◌≡◌, ℕ, Bool, true, false, cond, List, [], ◌∷◌, ◌++◌, map, refl, sym, ap, ◌∙◌, subst, arith, inl, inr}
+use Rattle.std.proofs.Common.{◌≡◌, ℕ, Bool, true, false, cond, List, [], ◌∷◌, map, refl, sym, ap, ◌∙◌, subst, arith, inl, inr}
 use Rattle.std.specs.Prelude.{◌⊎◌, filter, if◌then◌else◌}
-use Rattle.std.specs.List.{flat_map}
 use Rattle.std.specs.Ordering.{is_lt, is_eq, nat_cmp, ordering_reverse, ordering_then}
 use Rattle.std.specs.Cmp.{IsTotalOrder}
 use Rattle.std.specs.Cmp.Lexicographic.{slice_cmp}
 use Rattle.std.specs.declared.cmp.Ordering.{Ordering}
 use Rattle.std.specs.declared.cmp.Ordering.TheVariants.{Less, Equal, Greater}
-use Rattle.std.proofs.lemmas.List.{map-append}
 use Rattle.std.proofs.lemmas.Map.Text.{is_eq-slice_cmp}
 use Rattle.std.proofs.lemmas.Bool.Decides.{nat_tests}
 use Rattle.desk_base.proofs.Texts.{texts_equal}
@@ -15,8 +13,8 @@ use Rattle.desk_model.specs.Lists.{IsIn, put, in_order}
 use Rattle.desk_model.specs.Keys.{below_by}
 use Rattle.desk_model.proofs.Orders.{IsOrder}
 use Rattle.desk_history.specs.Laws.{AreDistinct, Rises}
-use Rattle.desk_history.proofs.Members.{in_cases, in_map, from_map, from_flat_map}
-use Rattle.desk_history_laws.proofs.Lists.{from_filter}
+use Rattle.desk_history.proofs.Members.{in_map, from_map}
+use Rattle.desk_history.proofs.Distinct.{from_filter}
 
 -- ---- what is in a list that was put in order
 
@@ -154,30 +152,12 @@ numbers_tie x y e = grind (arith, nat_tests)
 
 -- ---- lists in which nothing stands twice
 
-pub distinct_append : {A : Type 0} (xs ys : List A) → AreDistinct xs → AreDistinct ys → ((x : A) → IsIn x xs → IsIn x ys → ⊥) → AreDistinct (xs ++ ys)
-distinct_append [] ys a b apart = b
-distinct_append (x ∷ xs) ys a b apart = (λ m. elim (in_cases x xs ys m) [ inl l ↦ a.0 l | inr r ↦ apart x (inl refl) r ], distinct_append xs ys a.1 b (λ y m n. apart y (inr m) n))
-
 pub distinct_map : {A B : Type 0} (f : A → B) (xs : List A) → ((x y : A) → f x ≡ f y → x ≡ y) → AreDistinct xs → AreDistinct (map f xs)
 distinct_map f [] same a = tt
 distinct_map f (x ∷ xs) same a = (
   λ m. (let found = from_map f (f x) xs m in a.0 (subst (λ y. IsIn y xs) (same found.0 x found.2) found.1)),
   distinct_map f xs same a.1,
 )
-
--- lists of things whose keys tell from which list each comes
-pub distinct_parts : {A B K L : Type 0} (f : A → List B) (key : B → K) (part : K → L) (of : A → L) (xs : List A) → ((x : A) (z : B) → IsIn z (f x) → part (key z) ≡ of x) → AreDistinct (map of xs)
-    → ((x : A) → IsIn x xs → AreDistinct (map key (f x))) → AreDistinct (map key (flat_map f xs))
-distinct_parts f key part of [] tells a each = tt
-distinct_parts {A} {B} {K} {L} f key part of (x ∷ xs) tells a each =
-    let rest = distinct_parts f key part of xs tells a.1 (λ y m. each y (inr m)) in
-    let apart : (k : K) → IsIn k (map key (f x)) → IsIn k (map key (flat_map f xs)) → ⊥ =
-    λ k m n. (let here = from_map key k (f x) m in
-    let there = from_map key k (flat_map f xs) n in
-    let at = from_flat_map f there.0 xs there.1 in
-    let same : of at.0 ≡ of x = sym (tells at.0 there.0 at.2) ∙ (ap part (there.2 ∙ sym here.2) ∙ tells x here.0 here.1) in
-    a.0 (subst (λ l. IsIn l (map of xs)) same (in_map of at.0 xs at.1))) in
-    subst AreDistinct (sym (map-append key (f x) (flat_map f xs))) (distinct_append (map key (f x)) (map key (flat_map f xs)) (each x (inl refl)) rest apart)
 
 -- a list of which the items alike to each one are distinct
 pub distinct_alike : {A : Type 0} (alike : A → A → Bool) → ((x : A) → alike x x ≡ true) → (xs : List A) → ((x : A) → AreDistinct (filter (alike x) xs)) → AreDistinct xs

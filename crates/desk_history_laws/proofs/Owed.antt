@@ -34,7 +34,7 @@ use Rattle.desk_history_laws.specs.Premises.{ReadsRules}
 use Rattle.desk_history_laws.proofs.Lists.{all_in}
 use Rattle.desk_history_laws.proofs.Duties.{found_frozen, opened_loaded, WasFrozen}
 use Rattle.desk_history_laws.proofs.Parts.{from_same, ordered_parts, to_same}
-use Rattle.desk_history_laws.proofs.Later.{before, form_stays, revision_stays}
+use Rattle.desk_history_laws.proofs.Later.{history_before, form_stays, revision_stays}
 use Rattle.desk_history_laws.proofs.Recorded.{freezes}
 use Rattle.desk_history_laws.proofs.Rules.{codes_of, rule_form, rule_found}
 use Rattle.desk_history_laws.proofs.Words.{codes-joined}
@@ -104,7 +104,7 @@ module _ (w : Readings) (reads : ReadsRules w) (later : List Command) (h : List 
   -- a release that was frozen so, and the rule of a frozen term
   frozen_so : IsHistory w all → WasFrozen all r
   frozen_so ok =
-      let old = before w later (Freeze r day ∷ h) ok in
+      let old = history_before w later (Freeze r day ∷ h) ok in
       let freeze = freezes w h r day old.0 in
       record {
         opened = ap is_some (form_stays w later (Freeze r day ∷ h) r ok freeze.opened) ∙ freeze.opened;

@@ -1,5 +1,5 @@
 -- What a recorded command looked up: none of its refusals applied.
-use Rattle.std.proofs.Common.{◌≡◌, ℕ, ◌+◌, ◌<◌, Bool, true, false, List, Option, Some, None, refl, arith}
+use Rattle.std.proofs.Common.{◌≡◌, ℕ, ◌+◌, ◌<◌, true, false, List, Option, Some, None, refl, arith}
 use Rattle.std.specs.Prelude.{IsTrue, is_some, not, nat_lt, nat_le, ◌&&◌}
 use Rattle.std.specs.List.{list_any}
 use Rattle.std.specs.Option.{option_map, option_map_or, option_and_then}
@@ -11,23 +11,14 @@ use Rattle.desk_base.proofs.Bools.{and_left, and_right, not_true}
 use Rattle.desk_model.specs.Texts.{is_note, is_release_name}
 use Rattle.desk_model.specs.Readings.{Readings}
 use Rattle.desk_model.specs.History.{form_of, state_of}
-use Rattle.desk_model.specs.Answers.{answer, is_recorded, refused_or, unless, unready, gone, settled, is_over, Moving, move_answer, freezing, opening}
-use Rattle.desk_model.specs.declared.command.Answer.{Answer}
+use Rattle.desk_model.specs.Answers.{answer, is_recorded, unless, unready, gone, settled, is_over, Moving, move_answer, freezing, opening}
 use Rattle.desk_model.specs.declared.command.Command.{Command}
 use Rattle.desk_model.specs.declared.command.Command.TheVariants.{CloseDay, Freeze, OpenRelease, Withdraw}
 use Rattle.desk_model.specs.declared.refusal.Limit.TheVariants as limit
-use Rattle.desk_model.specs.declared.refusal.Refusal.{Refusal}
 use Rattle.desk_model.specs.declared.refusal.Refusal.TheVariants as why
 use Rattle.desk_model.specs.declared.state.ReleaseState.{ReleaseState}
 use Rattle.desk_model.specs.declared.state.Word.{Word}
-
-pub past : (o : Option Refusal) (a : Answer) → IsTrue (is_recorded (refused_or o a)) → (o ≡ None) × IsTrue (is_recorded a)
-past None a e = (refl, e)
-past (Some refusal) a e = absurd (cc)
-
-pub is_so : (so : Bool) (refusal : Refusal) → unless so refusal ≡ None → so ≡ true
-is_so true refusal e = refl
-is_so false refusal e = cc
+use Rattle.desk_history.proofs.Recorded.{past, is_so}
 
 pub known_by : {A B : Type 0} (f : A → B) (o : Option A) → is_some (option_map f o) ≡ true → is_some o ≡ true
 known_by f None e = cc
@@ -48,7 +39,7 @@ pub record Allows (word : Word) (day text : List ℕ) (until : Option (List ℕ)
   pub from : option_and_then (settled word) found.place ≡ None
   pub room : found.steps < 999
 
-less : (m n : ℕ) → nat_lt m n ≡ true → m < n
+pub less : (m n : ℕ) → nat_lt m n ≡ true → m < n
 less m n e = grind (arith, nat_tests)
 
 pub allows : (word : Word) (day text : List ℕ) (until : Option (List ℕ)) (found : Moving) → IsTrue (is_recorded (move_answer word day text until found)) → Allows word day text until found

@@ -15,7 +15,7 @@ use Rattle.desk_model.specs.Lists.{IsIn}
 use Rattle.desk_model.specs.Keys.{below_by, is_rule, is_rule_of}
 use Rattle.desk_model.specs.Readings.{Readings}
 use Rattle.desk_model.specs.History as history
-use Rattle.desk_model.specs.History.{form_of, in_force, loaded, revision_of, revisions, rule_row, rule_rows, rules_in}
+use Rattle.desk_model.specs.History.{form_of, in_force, revisions, rule_row, rule_rows, rules_in}
 use Rattle.desk_model.specs.Answers.{IsHistory}
 use Rattle.desk_model.specs.Tables.{tables}
 use Rattle.desk_model.specs.declared.reading.Catalogue.{Catalogue}
@@ -29,14 +29,16 @@ use Rattle.desk_history.specs.FromTables.{rule_of}
 use Rattle.desk_history.specs.Laws.{Rises, rule_row_order}
 use Rattle.desk_history.proofs.Lookups.{rules-found}
 use Rattle.desk_history.proofs.Members.{in_cases, from_map}
+use Rattle.desk_history.proofs.Distinct.{from_filter}
+use Rattle.desk_history.proofs.Rows.{find-map}
 use Rattle.desk_snapshot.specs.Conditions.{rule_for}
 use Rattle.desk_snapshot.specs.Rows.{is_rule_spelled}
 use Rattle.desk_snapshot.specs.Tables.{frozen_stored, rule_stored, snapshot_of}
 use Rattle.desk_snapshot.specs.declared.rows.StoredRelease.{StoredRelease}
 use Rattle.desk_history_laws.specs.Premises.{ReadsRules}
-use Rattle.desk_history_laws.proofs.Lists.{find-map, found_in, from_filter, pos_eq}
+use Rattle.desk_history_laws.proofs.Lists.{found_in, pos_eq}
 use Rattle.desk_history_laws.proofs.Duties.{opened_release}
-use Rattle.desk_history_laws.proofs.Later.{before, form_stays, revision_stays, rules_stay}
+use Rattle.desk_history_laws.proofs.Later.{history_before, form_stays, revision_stays, rules_stay}
 use Rattle.desk_history_laws.proofs.Recorded.{freezes}
 
 -- ---- rules in order, of which no two share a key
@@ -131,7 +133,7 @@ module _ (w : Readings) (reads : ReadsRules w) (later : List Command) (h : List 
   pub rule_found : IsHistory w all → Rises (below_by rule_row_order) (rule_rows w all) → IsIn rule (rules_in (in_force w h)) → rule.form ≡ unwrap_or (form_of h f.release) [] → f.rule ≡ rule.spelled
       → rule_for (snapshot_of (tables w all)) (frozen_stored f) ≡ Some (rule_stored (rule_row n rule))
   rule_found ok up m form spelled =
-      let freeze = freezes w h f.release day (before w later (Freeze f.release day ∷ h) ok).0 in
+      let freeze = freezes w h f.release day (history_before w later (Freeze f.release day ∷ h) ok).0 in
       let forms : form_of all f.release ≡ form_of h f.release = form_stays w later (Freeze f.release day ∷ h) f.release ok freeze.opened in
       let opened : is_some (form_of all f.release) ≡ true = ap is_some forms ∙ freeze.opened in
       let there : IsIn (rule_row n rule) (rule_rows w all) = rules_stay w later (Freeze f.release day ∷ h) (rule_row n rule) (in_rows w h rule m) in

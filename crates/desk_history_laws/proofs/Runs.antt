@@ -1,7 +1,6 @@
 -- The moves of a duty go on from each other, and each is such as may be written.
-use Rattle.std.proofs.Common.{◌≡◌, ℕ, ◌+◌, ◌<◌, ◌≤◌, Bool, true, false, List, [], ◌∷◌, length, Option, Some, None, refl, sym, ap, ◌∙◌, subst, arith, length-append, inl, inr}
-use Rattle.std.specs.Prelude.{pos, IsTrue, not, nat_lt, nat_le, int_le, ◌&&◌, ◌==◌, find}
-use Rattle.std.specs.List.{enumerate_from}
+use Rattle.std.proofs.Common.{◌≡◌, ℕ, ◌+◌, ◌<◌, Bool, true, false, List, [], ◌∷◌, length, Option, Some, None, refl, sym, ap, ◌∙◌, subst, arith, inl, inr}
+use Rattle.std.specs.Prelude.{pos, IsTrue, not, nat_lt, nat_le, int_le, ◌&&◌, ◌==◌}
 use Rattle.std.specs.Option.{option_map, option_map_or, option_and_then}
 use Rattle.std.specs.Str.{bytes_eq}
 use Rattle.std.proofs.lemmas.Bool.Decides.{nat_tests}
@@ -31,8 +30,11 @@ use Rattle.desk_model.specs.declared.command.Command.TheVariants.{Freeze, Meet, 
 use Rattle.desk_snapshot.specs.Changes.{is_formed, is_waiver_of, may_move}
 use Rattle.desk_snapshot.specs.Tables.{change_stored}
 use Rattle.desk_history_laws.proofs.Lists.{found_in}
-use Rattle.desk_history_laws.proofs.Recorded.{Allows, allows, closes, freezes, is_so, known_by, there, withdraws}
+use Rattle.desk_history_laws.proofs.Recorded.{Allows, allows, closes, freezes, known_by, there, withdraws}
 use Rattle.desk_history_laws.proofs.Duties.{move, new_raised, raised_cases, suited, suits}
+use Rattle.desk_history_laws.proofs.Steps.{unmoved}
+use Rattle.desk_history.proofs.Recorded.{is_so}
+use Rattle.desk_history.proofs.Told.{is_moved, moved_more}
 
 -- a move goes on from those before it
 abbrev pub GoesOn : List Move → Move → Type 0
@@ -50,68 +52,16 @@ abbrev pub IsRun : List Move → Type 0
 IsRun [] = Unit {0}
 IsRun (m ∷ ms) = GoesOn ms m × IsWritten ms m × IsRun ms
 
-abbrev pub is_moved : List Move → Bool
-is_moved [] = false
-is_moved (m ∷ ms) = true
-
 -- ---- a duty that was raised has a move, one that wasn't has none
-
-more : (o : Option Move) (ms : List Move) → is_moved ms ≡ true → is_moved (with_move o ms) ≡ true
-more None ms e = e
-more (Some m) ms e = refl
 
 pub started : (w : Readings) (h : List Command) (d : ℕ × Owed) → IsIn d (numbered w h) → is_moved (moves w h d.0) ≡ true
 started w [] d m = absurd m
 started w (Freeze r day ∷ h) d m =
     elim (raised_cases w h r d m) [
-      | inl old ↦ more (move_by w d.0 (Freeze r day) h (moves w h d.0)) (moves w h d.0) (started w h d old)
+      | inl old ↦ moved_more (move_by w d.0 (Freeze r day) h (moves w h d.0)) (moves w h d.0) (started w h d old)
       | inr new ↦ rw (new_raised w h r d new) refl
     ]
-started w (c ∷ h) d m = more (move_by w d.0 c h (moves w h d.0)) (moves w h d.0) (started w h d m)
-
-none_at : (q n : ℕ) (xs : List Owed) → n + length xs ≤ q → find (λ (d : ℕ × Owed). d.0 == q) (enumerate_from n xs) ≡ None
-none_at q n [] le = refl
-none_at q n (x ∷ xs) le =
-    let other : (n == q) ≡ false = grind (arith, nat_tests) in
-    rw other (none_at q (n + 1) xs (omega arith))
-
-unraised : (n k q : ℕ) → n + k < q → (nat_lt n q && nat_le q (n + k)) ≡ false
-unraised n k q lt = grind (arith, nat_tests)
-
-unknown : (q' q n : ℕ) → n < q → ((q' == q) && nat_le q n) ≡ false
-unknown q' q n lt = grind (arith, nat_tests)
-
-unmoved_by : (b : Bool) (m : Move) (ms : List Move) → ms ≡ [] → b ≡ false → with_move (move_if b m) ms ≡ []
-unmoved_by true m ms none e = cc
-unmoved_by false m ms none e = none
-
-fewer : (w : Readings) (c : Command) (h : List Command) → length (raised w h) ≤ length (raised w (c ∷ h))
-fewer w (Freeze r day) h = omega (arith, length-append (raised w h) (owed_at w h r))
-fewer w c h = omega arith
-
-unmoved : (w : Readings) (h : List Command) (q : ℕ) → length (raised w h) < q → moves w h q ≡ []
-unmoved w [] q lt = refl
-unmoved w (Freeze r day ∷ h) q lt =
-    let le = fewer w (Freeze r day) h in
-    let n = length (raised w h) in
-    let k = length (owed_at w h r) in
-    unmoved_by (raises w h r q) (move word.Raised day [] None) (moves w h q) (unmoved w h q (omega arith))
-    (unraised n k q (omega (arith, length-append (raised w h) (owed_at w h r))))
-unmoved w (Meet q' day text ∷ h) q lt =
-    unmoved_by ((q' == q) && is_known w h q) (move word.Met day text None) (moves w h q) (unmoved w h q lt) (unknown q' q (length (raised w h)) lt)
-unmoved w (Waive q' day text until ∷ h) q lt =
-    unmoved_by ((q' == q) && is_known w h q) (move word.Waived day text until) (moves w h q) (unmoved w h q lt) (unknown q' q (length (raised w h)) lt)
-unmoved w (Reopen q' day text ∷ h) q lt =
-    unmoved_by ((q' == q) && is_known w h q) (move word.Reopened day text None) (moves w h q) (unmoved w h q lt) (unknown q' q (length (raised w h)) lt)
-unmoved w (Withdraw r day text ∷ h) q lt =
-    let none : duty_at w h q ≡ None = none_at q 1 (raised w h) (omega arith) in
-    unmoved_by (is_raised_for w h q r && not (is_met (place w h q))) (move word.Withdrawn day text None) (moves w h q) (unmoved w h q lt)
-    (ap (λ (o : Option (ℕ × Owed)). option_map_or (λ (d : ℕ × Owed). bytes_eq d.1.release r) o false && not (is_met (place w h q))) none)
-unmoved w (CloseDay day ∷ h) q lt =
-    let none = unmoved w h q lt in
-    unmoved_by (has_ended day (place w h q) (end_after (moves w h q))) (move word.Ended day [] None) (moves w h q) none
-    (ap (λ (ms : List Move). has_ended day (place_after ms) (end_after ms)) none)
-unmoved w (c ∷ h) q lt = unmoved w h q lt
+started w (c ∷ h) d m = moved_more (move_by w d.0 c h (moves w h d.0)) (moves w h d.0) (started w h d m)
 
 -- ---- what each command may move
 

@@ -16,8 +16,8 @@ use Rattle.desk_model.specs.Readings.{Readings}
 use Rattle.desk_model.specs.History.{form_of, state_of, state_given}
 use Rattle.desk_model.specs.Raised.{raised, owed_at}
 use Rattle.desk_model.specs.States.{is_met, is_waived, state_after}
-use Rattle.desk_model.specs.Moves.{duty_at, is_raised_for, raises, is_known, has_ended, end_after, move_if, with_move, moves, place, place_after, change_row, change_rows, changes}
-use Rattle.desk_model.specs.Answers.{answer, IsHistory, is_recorded, refused_or, unless, gone, settled, is_over, Moving, move_answer, moving}
+use Rattle.desk_model.specs.Moves.{duty_at, is_raised_for, raises, is_known, has_ended, end_after, move_if, with_move, moves, place, place_after, changes}
+use Rattle.desk_model.specs.Answers.{answer, IsHistory, is_recorded, unless, gone, settled, is_over, Moving, move_answer, moving}
 use Rattle.desk_model.specs.declared.row.Owed.{Owed}
 use Rattle.desk_model.specs.declared.row.Move.{Move}
 use Rattle.desk_model.specs.declared.state.DutyState.{DutyState}
@@ -27,25 +27,15 @@ use Rattle.desk_model.specs.declared.state.ReleaseState.TheVariants as release
 use Rattle.desk_model.specs.declared.state.Word.{Word}
 use Rattle.desk_model.specs.declared.state.Word.TheVariants as word
 use Rattle.desk_model.specs.declared.refusal.Limit.TheVariants as limit
-use Rattle.desk_model.specs.declared.refusal.Refusal.{Refusal}
 use Rattle.desk_model.specs.declared.refusal.Refusal.TheVariants as why
-use Rattle.desk_model.specs.declared.command.Answer.{Answer}
 use Rattle.desk_model.specs.declared.command.Command.{Command}
 use Rattle.desk_model.specs.declared.command.Command.TheVariants.{Freeze, Meet, Waive, Reopen, Withdraw, CloseDay}
 use Rattle.desk_history.proofs.OwnKeys.{open_at}
+use Rattle.desk_history.proofs.Recorded.{past, is_so}
+use Rattle.desk_history.proofs.Moving.{length-change_rows}
+use Rattle.desk_history_laws.proofs.Recorded.{less}
 
 -- What a recorded command looked up
-
-pub past : (o : Option Refusal) (a : Answer) → IsTrue (is_recorded (refused_or o a)) → (o ≡ None) × IsTrue (is_recorded a)
-past None a e = (refl, e)
-past (Some refusal) a e = absurd (cc)
-
-pub is_so : (so : Bool) (refusal : Refusal) → unless so refusal ≡ None → so ≡ true
-is_so true refusal e = refl
-is_so false refusal e = cc
-
-less : (m n : ℕ) → nat_lt m n ≡ true → m < n
-less m n e = grind (arith, nat_tests)
 
 -- Meet, Waive and Reopen: fewer changes than the limit
 steps_below : (word : Word) (day text : List ℕ) (until : Option (List ℕ)) (found : Moving)
@@ -101,7 +91,7 @@ unmoved_by false m ms none e = none
 abbrev move : Word → List ℕ → List ℕ → Option (List ℕ) → Move
 move word day text until = record { day = day; word = word; body = text; last_day = until }
 
-unmoved : (w : Readings) (h : List Command) (q : ℕ) → length (raised w h) < q → moves w h q ≡ []
+pub unmoved : (w : Readings) (h : List Command) (q : ℕ) → length (raised w h) < q → moves w h q ≡ []
 unmoved w [] q lt = refl
 unmoved w (Freeze r day ∷ h) q lt =
     let le = fewer w (Freeze r day) h in
@@ -303,11 +293,8 @@ moves_within w (CloseDay day ∷ h) q ok =
 moves_within w (c ∷ h) q ok = moves_within w h q ok.1
 
 -- each move is a change
-length-rows : (q : ℕ) (ms : List Move) → length (change_rows q ms) ≡ length ms
-length-rows q [] = refl
-length-rows q (m ∷ ms) = omega (arith, length-append (change_rows q ms) (change_row q (length ms + 1) m ∷ []), length-rows q ms)
 
 pub few_changes : (w : Readings) (h : List Command) → IsHistory w h → (q : ℕ) → length (changes w h q) ≤ 1001
 few_changes w h ok q =
     let few = within_all (place w h q) (length (moves w h q)) (moves_within w h q ok) in
-    omega (arith, length-rows q (moves w h q))
+    omega (arith, length-change_rows q (moves w h q))

@@ -29,7 +29,6 @@ use Rattle.desk_model.specs.declared.state.Word.{Word}
 use Rattle.desk_model.specs.declared.state.Word.TheVariants as word
 use Rattle.desk_history_laws.specs.OwnKeys.{HaveOwnKeys}
 use Rattle.desk_history_laws.specs.Within.{AreWithin}
-use Rattle.desk_history_laws.proofs.Lists.{from_filter}
 use Rattle.desk_sql_layout.specs.Cells.{adoption_cells, attached_cells, catalogue_cells, change_cells, choice_cells, conclusion_cells, document_cells, duty_cells, extracted_cells, frozen_cells, is_waiver, meta_cells, number, package_cells, reading_cells, release_cells, rule_cells, text_or_null, waiver_cells}
 use Rattle.desk_sql_layout.specs.Held.{rows_of}
 use Rattle.desk_sql_layout.specs.Layout.{desk_schema}
@@ -37,6 +36,7 @@ use Rattle.desk_sql_lookup.specs.Causes.{AreWritten, IsRow, IsWritten}
 use Rattle.desk_sql_write.specs.Taking.{CanStand, IsSmall}
 use Rattle.desk_laws.specs.Storable.{HaveShortTexts, IsShort}
 use Rattle.desk_laws.proofs.StandOnce.{have_keys}
+use Rattle.desk_history.proofs.Distinct.{from_filter}
 
 -- ---- cells
 
