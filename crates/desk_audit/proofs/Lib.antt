@@ -1,6 +1,5 @@
 pub mod Firsts
 mod Forming
 mod Judging
-mod Sorting
 mod Ruled
 mod OwedOrders

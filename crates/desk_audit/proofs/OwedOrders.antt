@@ -15,7 +15,7 @@ use Rattle.desk_model.specs.Lists.{ascends, over}
 use Rattle.desk_snapshot.specs.Conditions.{Owed}
 use Rattle.desk_audit.specs.Owing.{are_alike, owed_in, owed_order, owed_total}
 use Rattle.desk_audit.specs.declared.owed.OwedFor.{OwedFor}
-use Rattle.desk_audit.proofs.Sorting.{ascends-sorted, sorted_once}
+use Rattle.desk_sorted.proofs.Sorting.{ascends-sorted, sorted_once}
 
 -- what ties is the same
 

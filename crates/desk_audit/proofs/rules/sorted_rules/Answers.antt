@@ -3,7 +3,7 @@ use Rattle.std.proofs.lemmas.List.Sorted.{ranks_by}
 use Rattle.std.proofs.lemmas.Fn.{always_returns_same}
 use Rattle.desk_model.specs.Keys.{below_by}
 use Rattle.desk_audit.specs.Spelled.{spelled_order, spelled_total}
-use Rattle.desk_audit.proofs.Sorting.{ascends-sorted}
+use Rattle.desk_sorted.proofs.Sorting.{ascends-sorted}
 use Rattle.desk_audit.proofs.Ruled.{rules_found}
 use Rattle.desk_audit.proofs.rules.sorted_rules.Goals as goal
 
