@@ -149,10 +149,11 @@ fn keep<'a>(
         → Holds (ms ++ mention_in mention.entry ∷ []) firsts.new) }
 {
     let key = key_of(alloc, mention.id)?;
-    let bytes = Vec::from_slice(alloc, key.as_str().as_bytes())?;
-    if firsts.contains_key(bytes.as_slice()) {
+    let name = key.as_str().as_bytes();
+    if firsts.contains_key(name) {
         return Ok(());
     }
+    let bytes = Vec::from_slice(alloc, name)?;
     firsts.insert(bytes, mention)?;
     Ok(())
 }

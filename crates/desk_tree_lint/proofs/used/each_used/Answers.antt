@@ -1,4 +1,4 @@
-use Rattle.std.proofs.Common.{ap, subst, sym, ◌∙◌, ◌⊎◌, ◌↔◌}
+use Rattle.std.proofs.Common.{ap, subst, sym, ◌⊎◌, ◌↔◌}
 use Rattle.std.specs.Prelude.{Contains}
 use Rattle.desk_base.specs.Borrowed.{texts}
 use Rattle.desk_tree_lint.specs.Used.{Uses, IsUsedIn}
