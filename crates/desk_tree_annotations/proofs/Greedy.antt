@@ -5,8 +5,8 @@ use Rattle.std.proofs.lemmas.List.Elements.{All-get_or, All-tail, All-append, Al
 use Rattle.desk_tree_annotations.specs.declared.glob.Piece.{Piece}
 use Rattle.desk_tree_annotations.specs.declared.glob.Piece.TheVariants.{Byte, InName, InPath}
 use Rattle.desk_tree_annotations.specs.Glob.{IsMatch, Covers}
-use Rattle.desk_tree_annotations.specs.Steps.{Spot, State, Passes, Longer, NoLonger, IsBehindName, Further, NoFurther, ByByte, ByName, ByPath, ByLongerName, ByNextName, Steps, Ends}
-use Rattle.desk_tree_annotations.proofs.Names.{Bounded, bounded, behind_once}
+use Rattle.desk_tree_annotations.specs.Steps.{Spot, State, Passes, Longer, NoLonger, IsBehindName, Further, ByByte, ByName, ByPath, ByLongerName, ByNextName, Steps, Ends}
+use Rattle.desk_tree_annotations.proofs.Names.{bounded, behind_once}
 
 pub nil_of : (ts : List ℕ) → length ts ≡ 0 → ts ≡ []
 nil_of [] h = refl

@@ -23,6 +23,8 @@
 //!   are licence expressions. `read` answers as it says for each reading that is right by the
 //!   definitions of patterns and of `desk_expr` (`IsRight`); they all give one answer
 //!   (`one_reading`).
+//! - The notices and licences of an annotation are each a `SharedText`: all files that it counts for
+//!   hold them without a copy.
 //! - `Annotations::sift` goes on past faults: it gives all annotations that can be read, and the
 //!   fault of each other one (`specs/Sifting.antt`). Where `read` gives annotations, they are those,
 //!   and else its fault is the first (`reading_is_sifting`).

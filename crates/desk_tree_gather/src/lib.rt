@@ -8,6 +8,7 @@
 //!   count, one a folder at most (`specs/Information.antt`).
 //! - A file's information is given by cases: an override, or what the file states itself with the
 //!   aggregates and the nearest `closest` annotation. The code goes down the folders once.
+//! - Files share the texts of the annotations that count for them; `shared_set` sorts them.
 //! - `survey` goes on past faults: it gives all that is wrong in a tree, and the information of the
 //!   files by what can be read (`specs/Survey.antt`). `gathered` stops at the first of these flaws
 //!   (`gathered_is_surveyed`).

@@ -1,7 +1,6 @@
-use Rattle.std.proofs.Common.{length, ◌≡◌, ◌∷◌, [], List, ℕ, subst, sym, refl}
+use Rattle.std.proofs.Common.{length, [], List, subst, sym, refl}
 use Rattle.std.proofs.lemmas.List.{append-nil}
 use Rattle.desk_tree_annotations.specs.declared.glob.Piece.{Piece}
-use Rattle.desk_tree_annotations.specs.declared.glob.Piece.TheVariants.{InPath}
 use Rattle.desk_tree_annotations.specs.Glob.{IsMatch}
 use Rattle.desk_tree_annotations.specs.Steps.{state}
 use Rattle.desk_tree_annotations.proofs.Greedy.{holds_step}
