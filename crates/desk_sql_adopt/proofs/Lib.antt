@@ -1,5 +1,6 @@
 pub mod Turns
 pub mod Asking
+mod Selecting
 pub mod Spared
 pub mod Causes
 pub mod Texts

@@ -1,22 +1,19 @@
 -- What the database answers where it is asked for all releases, and for all duties.
-use Rattle.std.proofs.Common.{◌≡◌, ◌∙◌, ℕ, Bool, true, false, List, [], ◌∷◌, map, codes, None, Ok, refl, ap}
+use Rattle.std.proofs.Common.{◌≡◌, ◌∙◌, ℕ, Bool, true, List, [], ◌∷◌, map, codes, None, Ok, refl, ap}
 use Rattle.sqlite_value.specs.Order.{Row, column}
 use Rattle.sqlite_trees.proofs.ListLemmas.{ascending-filter}
 use Rattle.sqlite_sql.specs.Term.{col}
 use Rattle.sqlite_schema.specs.declared.schema.Schema.{Schema}
-use Rattle.sqlite_schema.specs.declared.command.Command.TheVariants.{Select}
 use Rattle.sqlite_resolve.specs.Lowering.{and_then}
 use Rattle.sqlite_resolve.specs.Compile.{first, returning}
 use Rattle.sqlite_tied.specs.Compute.{everything}
-use Rattle.sqlite.specs.Listing.{understood, reads_listing}
+use Rattle.sqlite.specs.Listing.{understood}
 use Rattle.sqlite.specs.State.{State, Shown}
-use Rattle.sqlite.proofs.Callers.{IsPlain, command_of}
 use Rattle.desk_sql_layout.specs.Layout as d
 use Rattle.desk_sql_layout.specs.Cells.{release_cells, duty_cells}
 use Rattle.desk_sql_layout.specs.Held.{Holds, rows_of}
-use Rattle.desk_sql_layout.proofs.Queries.{query_on}
 use Rattle.desk_sql_lookup.specs.Causes.{IsAsked}
-use Rattle.desk_sql_lookup.proofs.Causes.{Suits, asked}
+use Rattle.desk_sql_lookup.proofs.Causes.{asked}
 use Rattle.desk_sql_lookup.proofs.HolderLemmas.{all_pass}
 use Rattle.desk_sql_lookup.proofs.Keyed.{duties_sorted}
 use Rattle.desk_sql_lookup.proofs.ReleaseQueries.{releases_text, releases_read}
@@ -25,6 +22,7 @@ use Rattle.desk_model.specs.Tables.{Tables}
 use Rattle.desk_model.specs.declared.row.DutyRow.{DutyRow}
 use Rattle.desk_sql_adopt.specs.Reading.{Asks}
 use Rattle.desk_sql_adopt.proofs.Asking.{asks}
+use Rattle.desk_sql_adopt.proofs.Selecting.{IsSelect, select_asks}
 
 -- ---- all releases
 
@@ -43,28 +41,16 @@ all_releases old new rows t shown holds = releases_read old new rows t shown hol
 abbrev pub duties_text : List ℕ
 duties_text = codes "SELECT number, release, document, package, term, code, rule, state FROM duty ORDER BY number"
 
-duties_bare : (schema : Schema) (base : ℕ) → and_then (first duties_text) (λ p. returning schema base p.statement) ≡ Ok None
-unfolding first returning everything
-duties_bare schema base = refl
+duties_are : IsSelect duties_text 0 23 [] (col 1 0 ∷ col 1 2 ∷ col 1 3 ∷ col 1 4 ∷ col 1 5 ∷ col 1 6 ∷ col 1 7 ∷ col 1 8 ∷ []) (0 ∷ []) (codes "number" ∷ codes "release" ∷ codes "document" ∷ codes "package" ∷ codes "term" ∷ codes "code" ∷ codes "rule" ∷ codes "state" ∷ [])
+unfolding first returning understood everything
+duties_are = record { bare = λ schema base. refl; is = (refl, refl); plain = (refl, refl); suits = (refl, refl) }
 
 pub duties_ask : Asks duties_text
-duties_ask = asks duties_text duties_bare
-
-duties_is : (command_of (understood d.desk_schema duties_text) ≡ Select (record { lets = []; body = query_on 23 ([]) (col 1 0 ∷ col 1 2 ∷ col 1 3 ∷ col 1 4 ∷ col 1 5 ∷ col 1 6 ∷ col 1 7 ∷ col 1 8 ∷ []) (order_by (0 ∷ [])) }) (codes "number" ∷ codes "release" ∷ codes "document" ∷ codes "package" ∷ codes "term" ∷ codes "code" ∷ codes "rule" ∷ codes "state" ∷ [])) × (reads_listing d.desk_schema duties_text ≡ false)
-unfolding understood everything
-duties_is = (refl, refl)
-
-duties_plain : IsPlain (understood d.desk_schema duties_text)
-unfolding understood everything
-duties_plain = (refl, refl)
-
-duties_suits : Suits duties_text 0 (understood d.desk_schema duties_text)
-unfolding understood everything
-duties_suits = (refl, refl)
+duties_ask = select_asks duties_are
 
 pub duties_asked : IsAsked duties_text []
 duties_asked = asked duties_text [] 23 ([]) (col 1 0 ∷ col 1 2 ∷ col 1 3 ∷ col 1 4 ∷ col 1 5 ∷ col 1 6 ∷ col 1 7 ∷ col 1 8 ∷ []) (order_by (0 ∷ []))
-    (codes "number" ∷ codes "release" ∷ codes "document" ∷ codes "package" ∷ codes "term" ∷ codes "code" ∷ codes "rule" ∷ codes "state" ∷ []) duties_is duties_plain duties_suits refl
+    (codes "number" ∷ codes "release" ∷ codes "document" ∷ codes "package" ∷ codes "term" ∷ codes "code" ∷ codes "rule" ∷ codes "state" ∷ []) duties_are.is duties_are.plain duties_are.suits refl
 
 abbrev every : DutyRow → Bool
 every x = true
@@ -74,7 +60,7 @@ all_duties old new rows t shown holds =
     let this = d.duty_table in
     shows this.name 23 this.columns this.key this.primary this.uniques this.orders 12 refl duty_cells (rows_of t) t.duty refl old.now holds.rows duties_text
     (codes "number" ∷ codes "release" ∷ codes "document" ∷ codes "package" ∷ codes "term" ∷ codes "code" ∷ codes "rule" ∷ codes "state" ∷ []) ([])
-    (col 1 0 ∷ col 1 2 ∷ col 1 3 ∷ col 1 4 ∷ col 1 5 ∷ col 1 6 ∷ col 1 7 ∷ col 1 8 ∷ []) (0 ∷ []) duties_is duties_plain ([]) (λ (cs : Row). true)
+    (col 1 0 ∷ col 1 2 ∷ col 1 3 ∷ col 1 4 ∷ col 1 5 ∷ col 1 6 ∷ col 1 7 ∷ col 1 8 ∷ []) (0 ∷ []) duties_are.is duties_are.plain ([]) (λ (cs : Row). true)
     (λ (cs : Row). (column cs 0 ∷ [], column cs 0 ∷ column cs 1 ∷ column cs 2 ∷ column cs 3 ∷ column cs 4 ∷ column cs 5 ∷ column cs 6 ∷ column cs 7 ∷ [])) every (λ r. refl) (λ r. refl) (λ x. refl) old new rows shown refl
     (by_rowid this.name 23 this.columns this.key this.primary this.uniques this.orders 12 refl duty_cells (rows_of t) t.duty refl old.now holds.rows)
     (ascending-filter _ every t.duty (duties_sorted t.duty holds.orderly.sorted.duty))

@@ -1,5 +1,5 @@
 -- What the database answers where it is asked for its version, for how many rows there are, and for a body.
-use Rattle.std.proofs.Common.{◌≡◌, ℕ, Bool, true, false, List, [], ◌∷◌, map, filter, codes, length, None, Ok, refl, sym, ap, ◌∙◌}
+use Rattle.std.proofs.Common.{◌≡◌, ℕ, Bool, true, List, [], ◌∷◌, map, filter, codes, length, refl, sym, ap, ◌∙◌}
 use Rattle.std.specs.Prelude.{◌==◌, ◌&&◌}
 use Rattle.sqlite_value.specs.declared.keys.Collation.TheVariants.{Binary}
 use Rattle.sqlite_value.specs.declared.value.Value.TheVariants.{Text}
@@ -8,21 +8,17 @@ use Rattle.sqlite_sql.specs.declared.ops.BinaryOp.TheVariants.{Compare}
 use Rattle.sqlite_sql.specs.declared.ops.CompareOp.TheVariants.{Eq}
 use Rattle.sqlite_sql.specs.Ops.{binary, is_true}
 use Rattle.sqlite_sql.specs.Term.{col}
-use Rattle.sqlite_schema.specs.declared.schema.Schema.{Schema}
-use Rattle.sqlite_schema.specs.declared.command.Command.TheVariants.{Select}
-use Rattle.sqlite_resolve.specs.Lowering.{and_then}
 use Rattle.sqlite_resolve.specs.Compile.{first, returning}
 use Rattle.sqlite_tied.specs.Compute.{everything}
-use Rattle.sqlite.specs.Listing.{understood, reads_listing}
+use Rattle.sqlite.specs.Listing.{understood}
 use Rattle.sqlite.specs.State.{State, Shown}
-use Rattle.sqlite.proofs.Callers.{IsPlain, command_of, one_permutation}
+use Rattle.sqlite.proofs.Callers.{one_permutation}
 use Rattle.desk_sql_layout.specs.Layout as d
 use Rattle.desk_sql_layout.specs.Cells.{number, meta_cells, catalogue_cells, document_cells, release_cells, duty_cells}
 use Rattle.desk_sql_layout.specs.Held.{Holds, rows_of}
 use Rattle.desk_sql_layout.proofs.Casts.{same, int_test, and_true}
-use Rattle.desk_sql_layout.proofs.Queries.{query_on}
 use Rattle.desk_sql_lookup.specs.Causes.{IsAsked}
-use Rattle.desk_sql_lookup.proofs.Causes.{Suits, asked}
+use Rattle.desk_sql_lookup.proofs.Causes.{asked}
 use Rattle.desk_sql_lookup.proofs.HolderLemmas.{all_pass}
 use Rattle.desk_sql_lookup.proofs.Keyed.{same_number}
 use Rattle.desk_sql_lookup.proofs.Selects.{order_by, by_rowid, at_one_key, counts, shows, shows_some}
@@ -31,37 +27,25 @@ use Rattle.desk_model.specs.declared.row.CatalogueRow.{CatalogueRow}
 use Rattle.desk_sql_adopt.specs.Reading.{Asks}
 use Rattle.desk_sql_adopt.specs.Revisions.{is_revision}
 use Rattle.desk_sql_adopt.specs.Version.{version_text}
-use Rattle.desk_sql_adopt.proofs.Asking.{asks}
+use Rattle.desk_sql_adopt.proofs.Selecting.{IsSelect, select_asks}
 
 -- ---- the version
 
-version_bare : (schema : Schema) (base : ℕ) → and_then (first version_text) (λ p. returning schema base p.statement) ≡ Ok None
-unfolding first returning everything
-version_bare schema base = refl
+version_are : IsSelect version_text 0 0 [] (col 1 0 ∷ []) [] (codes "version" ∷ [])
+unfolding first returning understood everything
+version_are = record { bare = λ schema base. refl; is = (refl, refl); plain = (refl, refl); suits = (refl, refl) }
 
 pub version_asks : Asks version_text
-version_asks = asks version_text version_bare
-
-version_is : (command_of (understood d.desk_schema version_text) ≡ Select (record { lets = []; body = query_on 0 [] (col 1 0 ∷ []) (order_by ([])) }) (codes "version" ∷ [])) × (reads_listing d.desk_schema version_text ≡ false)
-unfolding understood everything
-version_is = (refl, refl)
-
-version_plain : IsPlain (understood d.desk_schema version_text)
-unfolding understood everything
-version_plain = (refl, refl)
-
-version_suits : Suits version_text 0 (understood d.desk_schema version_text)
-unfolding understood everything
-version_suits = (refl, refl)
+version_asks = select_asks version_are
 
 pub version_asked : IsAsked version_text []
-version_asked = asked version_text [] 0 [] (col 1 0 ∷ []) (order_by ([])) (codes "version" ∷ []) version_is version_plain version_suits refl
+version_asked = asked version_text [] 0 [] (col 1 0 ∷ []) (order_by ([])) (codes "version" ∷ []) version_are.is version_are.plain version_are.suits refl
 
 pub version_read : (old new : State) (rows : List Row) (t : Tables) → Shown version_text [] old new rows → Holds t old.now → rows ≡ meta_cells ∷ []
 version_read old new rows t shown holds =
     let this = d.meta_table in
     one_permutation meta_cells rows
-    (shows_some this.name 0 this.columns this.key this.primary this.uniques this.orders 0 refl (λ (x : Unit {0}). meta_cells) (rows_of t) (tt ∷ []) refl old.now holds.rows version_text (codes "version" ∷ []) [] (col 1 0 ∷ []) ([]) version_is version_plain []
+    (shows_some this.name 0 this.columns this.key this.primary this.uniques this.orders 0 refl (λ (x : Unit {0}). meta_cells) (rows_of t) (tt ∷ []) refl old.now holds.rows version_text (codes "version" ∷ []) [] (col 1 0 ∷ []) ([]) version_are.is version_are.plain []
     (λ (cs : Row). true) (λ (cs : Row). ([], column cs 0 ∷ [])) (λ x. true) (λ r. refl) (λ r. refl) (λ x. refl) old new rows shown refl)
 
 -- ---- how many rows there are
@@ -69,129 +53,81 @@ version_read old new rows t shown holds =
 abbrev pub revisions_text : List ℕ
 revisions_text = codes "SELECT revision FROM catalogue"
 
-revisions_bare : (schema : Schema) (base : ℕ) → and_then (first revisions_text) (λ p. returning schema base p.statement) ≡ Ok None
-unfolding first returning everything
-revisions_bare schema base = refl
+revisions_are : IsSelect revisions_text 0 1 [] (col 1 0 ∷ []) [] (codes "revision" ∷ [])
+unfolding first returning understood everything
+revisions_are = record { bare = λ schema base. refl; is = (refl, refl); plain = (refl, refl); suits = (refl, refl) }
 
 pub revisions_asks : Asks revisions_text
-revisions_asks = asks revisions_text revisions_bare
-
-revisions_is : (command_of (understood d.desk_schema revisions_text) ≡ Select (record { lets = []; body = query_on 1 [] (col 1 0 ∷ []) (order_by ([])) }) (codes "revision" ∷ [])) × (reads_listing d.desk_schema revisions_text ≡ false)
-unfolding understood everything
-revisions_is = (refl, refl)
-
-revisions_plain : IsPlain (understood d.desk_schema revisions_text)
-unfolding understood everything
-revisions_plain = (refl, refl)
-
-revisions_suits : Suits revisions_text 0 (understood d.desk_schema revisions_text)
-unfolding understood everything
-revisions_suits = (refl, refl)
+revisions_asks = select_asks revisions_are
 
 pub revisions_asked : IsAsked revisions_text []
-revisions_asked = asked revisions_text [] 1 [] (col 1 0 ∷ []) (order_by ([])) (codes "revision" ∷ []) revisions_is revisions_plain revisions_suits refl
+revisions_asked = asked revisions_text [] 1 [] (col 1 0 ∷ []) (order_by ([])) (codes "revision" ∷ []) revisions_are.is revisions_are.plain revisions_are.suits refl
 
 pub revisions_count : (old new : State) (rows : List Row) (t : Tables) → Shown revisions_text [] old new rows → Holds t old.now → length t.catalogue ≡ length rows
 revisions_count old new rows t shown holds =
     let this = d.catalogue_table in
     sym
-    (counts this.name 1 this.columns this.key this.primary this.uniques this.orders 1 refl catalogue_cells (rows_of t) t.catalogue refl old.now holds.rows revisions_text (codes "revision" ∷ []) [] (col 1 0 ∷ []) ([]) revisions_is revisions_plain []
+    (counts this.name 1 this.columns this.key this.primary this.uniques this.orders 1 refl catalogue_cells (rows_of t) t.catalogue refl old.now holds.rows revisions_text (codes "revision" ∷ []) [] (col 1 0 ∷ []) ([]) revisions_are.is revisions_are.plain []
     (λ (cs : Row). true) (λ (cs : Row). ([], column cs 0 ∷ [])) (λ x. true) (λ r. refl) (λ r. refl) (λ x. refl) old new rows shown refl ∙ ap length (all_pass t.catalogue))
 
 abbrev pub documents_text : List ℕ
 documents_text = codes "SELECT number FROM document"
 
-documents_bare : (schema : Schema) (base : ℕ) → and_then (first documents_text) (λ p. returning schema base p.statement) ≡ Ok None
-unfolding first returning everything
-documents_bare schema base = refl
+documents_are : IsSelect documents_text 0 4 [] (col 1 0 ∷ []) [] (codes "number" ∷ [])
+unfolding first returning understood everything
+documents_are = record { bare = λ schema base. refl; is = (refl, refl); plain = (refl, refl); suits = (refl, refl) }
 
 pub documents_asks : Asks documents_text
-documents_asks = asks documents_text documents_bare
-
-documents_is : (command_of (understood d.desk_schema documents_text) ≡ Select (record { lets = []; body = query_on 4 [] (col 1 0 ∷ []) (order_by ([])) }) (codes "number" ∷ [])) × (reads_listing d.desk_schema documents_text ≡ false)
-unfolding understood everything
-documents_is = (refl, refl)
-
-documents_plain : IsPlain (understood d.desk_schema documents_text)
-unfolding understood everything
-documents_plain = (refl, refl)
-
-documents_suits : Suits documents_text 0 (understood d.desk_schema documents_text)
-unfolding understood everything
-documents_suits = (refl, refl)
+documents_asks = select_asks documents_are
 
 pub documents_asked : IsAsked documents_text []
-documents_asked = asked documents_text [] 4 [] (col 1 0 ∷ []) (order_by ([])) (codes "number" ∷ []) documents_is documents_plain documents_suits refl
+documents_asked = asked documents_text [] 4 [] (col 1 0 ∷ []) (order_by ([])) (codes "number" ∷ []) documents_are.is documents_are.plain documents_are.suits refl
 
 pub documents_count : (old new : State) (rows : List Row) (t : Tables) → Shown documents_text [] old new rows → Holds t old.now → length t.document ≡ length rows
 documents_count old new rows t shown holds =
     let this = d.document_table in
     sym
-    (counts this.name 4 this.columns this.key this.primary this.uniques this.orders 3 refl document_cells (rows_of t) t.document refl old.now holds.rows documents_text (codes "number" ∷ []) [] (col 1 0 ∷ []) ([]) documents_is documents_plain []
+    (counts this.name 4 this.columns this.key this.primary this.uniques this.orders 3 refl document_cells (rows_of t) t.document refl old.now holds.rows documents_text (codes "number" ∷ []) [] (col 1 0 ∷ []) ([]) documents_are.is documents_are.plain []
     (λ (cs : Row). true) (λ (cs : Row). ([], column cs 0 ∷ [])) (λ x. true) (λ r. refl) (λ r. refl) (λ x. refl) old new rows shown refl ∙ ap length (all_pass t.document))
 
 abbrev pub releases_text : List ℕ
 releases_text = codes "SELECT name FROM releases"
 
-releases_bare : (schema : Schema) (base : ℕ) → and_then (first releases_text) (λ p. returning schema base p.statement) ≡ Ok None
-unfolding first returning everything
-releases_bare schema base = refl
+releases_are : IsSelect releases_text 0 14 [] (col 1 1 ∷ []) [] (codes "name" ∷ [])
+unfolding first returning understood everything
+releases_are = record { bare = λ schema base. refl; is = (refl, refl); plain = (refl, refl); suits = (refl, refl) }
 
 pub releases_asks : Asks releases_text
-releases_asks = asks releases_text releases_bare
-
-releases_is : (command_of (understood d.desk_schema releases_text) ≡ Select (record { lets = []; body = query_on 14 [] (col 1 1 ∷ []) (order_by ([])) }) (codes "name" ∷ [])) × (reads_listing d.desk_schema releases_text ≡ false)
-unfolding understood everything
-releases_is = (refl, refl)
-
-releases_plain : IsPlain (understood d.desk_schema releases_text)
-unfolding understood everything
-releases_plain = (refl, refl)
-
-releases_suits : Suits releases_text 0 (understood d.desk_schema releases_text)
-unfolding understood everything
-releases_suits = (refl, refl)
+releases_asks = select_asks releases_are
 
 pub releases_asked : IsAsked releases_text []
-releases_asked = asked releases_text [] 14 [] (col 1 1 ∷ []) (order_by ([])) (codes "name" ∷ []) releases_is releases_plain releases_suits refl
+releases_asked = asked releases_text [] 14 [] (col 1 1 ∷ []) (order_by ([])) (codes "name" ∷ []) releases_are.is releases_are.plain releases_are.suits refl
 
 pub releases_count : (old new : State) (rows : List Row) (t : Tables) → Shown releases_text [] old new rows → Holds t old.now → length t.releases ≡ length rows
 releases_count old new rows t shown holds =
     let this = d.releases_table in
     sym
-    (counts this.name 14 this.columns this.key this.primary this.uniques this.orders 8 refl release_cells (rows_of t) t.releases refl old.now holds.rows releases_text (codes "name" ∷ []) [] (col 1 1 ∷ []) ([]) releases_is releases_plain []
+    (counts this.name 14 this.columns this.key this.primary this.uniques this.orders 8 refl release_cells (rows_of t) t.releases refl old.now holds.rows releases_text (codes "name" ∷ []) [] (col 1 1 ∷ []) ([]) releases_are.is releases_are.plain []
     (λ (cs : Row). true) (λ (cs : Row). ([], column cs 0 ∷ [])) (λ x. true) (λ r. refl) (λ r. refl) (λ x. refl) old new rows shown refl ∙ ap length (all_pass t.releases))
 
 abbrev pub duties_text : List ℕ
 duties_text = codes "SELECT number FROM duty"
 
-duties_bare : (schema : Schema) (base : ℕ) → and_then (first duties_text) (λ p. returning schema base p.statement) ≡ Ok None
-unfolding first returning everything
-duties_bare schema base = refl
+duties_are : IsSelect duties_text 0 23 [] (col 1 0 ∷ []) [] (codes "number" ∷ [])
+unfolding first returning understood everything
+duties_are = record { bare = λ schema base. refl; is = (refl, refl); plain = (refl, refl); suits = (refl, refl) }
 
 pub duties_asks : Asks duties_text
-duties_asks = asks duties_text duties_bare
-
-duties_is : (command_of (understood d.desk_schema duties_text) ≡ Select (record { lets = []; body = query_on 23 [] (col 1 0 ∷ []) (order_by ([])) }) (codes "number" ∷ [])) × (reads_listing d.desk_schema duties_text ≡ false)
-unfolding understood everything
-duties_is = (refl, refl)
-
-duties_plain : IsPlain (understood d.desk_schema duties_text)
-unfolding understood everything
-duties_plain = (refl, refl)
-
-duties_suits : Suits duties_text 0 (understood d.desk_schema duties_text)
-unfolding understood everything
-duties_suits = (refl, refl)
+duties_asks = select_asks duties_are
 
 pub duties_asked : IsAsked duties_text []
-duties_asked = asked duties_text [] 23 [] (col 1 0 ∷ []) (order_by ([])) (codes "number" ∷ []) duties_is duties_plain duties_suits refl
+duties_asked = asked duties_text [] 23 [] (col 1 0 ∷ []) (order_by ([])) (codes "number" ∷ []) duties_are.is duties_are.plain duties_are.suits refl
 
 pub duties_count : (old new : State) (rows : List Row) (t : Tables) → Shown duties_text [] old new rows → Holds t old.now → length t.duty ≡ length rows
 duties_count old new rows t shown holds =
     let this = d.duty_table in
     sym
-    (counts this.name 23 this.columns this.key this.primary this.uniques this.orders 12 refl duty_cells (rows_of t) t.duty refl old.now holds.rows duties_text (codes "number" ∷ []) [] (col 1 0 ∷ []) ([]) duties_is duties_plain []
+    (counts this.name 23 this.columns this.key this.primary this.uniques this.orders 12 refl duty_cells (rows_of t) t.duty refl old.now holds.rows duties_text (codes "number" ∷ []) [] (col 1 0 ∷ []) ([]) duties_are.is duties_are.plain []
     (λ (cs : Row). true) (λ (cs : Row). ([], column cs 0 ∷ [])) (λ x. true) (λ r. refl) (λ r. refl) (λ x. refl) old new rows shown refl ∙ ap length (all_pass t.duty))
 
 -- ---- the body of a revision
@@ -199,27 +135,15 @@ duties_count old new rows t shown holds =
 abbrev pub body_text : List ℕ
 body_text = codes "SELECT body FROM catalogue WHERE revision = ?1 ORDER BY revision"
 
-body_bare : (schema : Schema) (base : ℕ) → and_then (first body_text) (λ p. returning schema base p.statement) ≡ Ok None
-unfolding first returning everything
-body_bare schema base = refl
+body_are : IsSelect body_text 1 1 (same 0 0 ∷ []) (col 1 2 ∷ []) (0 ∷ []) (codes "body" ∷ [])
+unfolding first returning understood everything
+body_are = record { bare = λ schema base. refl; is = (refl, refl); plain = (refl, refl); suits = (refl, refl) }
 
 pub body_asks : Asks body_text
-body_asks = asks body_text body_bare
-
-body_is : (command_of (understood d.desk_schema body_text) ≡ Select (record { lets = []; body = query_on 1 (same 0 0 ∷ []) (col 1 2 ∷ []) (order_by (0 ∷ [])) }) (codes "body" ∷ [])) × (reads_listing d.desk_schema body_text ≡ false)
-unfolding understood everything
-body_is = (refl, refl)
-
-body_plain : IsPlain (understood d.desk_schema body_text)
-unfolding understood everything
-body_plain = (refl, refl)
-
-body_suits : Suits body_text 1 (understood d.desk_schema body_text)
-unfolding understood everything
-body_suits = (refl, refl)
+body_asks = select_asks body_are
 
 pub body_asked : (n : ℕ) → IsAsked body_text (number n ∷ [])
-body_asked n = asked body_text (number n ∷ []) 1 (same 0 0 ∷ []) (col 1 2 ∷ []) (order_by (0 ∷ [])) (codes "body" ∷ []) body_is body_plain body_suits refl
+body_asked n = asked body_text (number n ∷ []) 1 (same 0 0 ∷ []) (col 1 2 ∷ []) (order_by (0 ∷ [])) (codes "body" ∷ []) body_are.is body_are.plain body_are.suits refl
 
 abbrev body_test : ℕ → Row → Bool
 body_test n cs = is_true (binary (Compare Eq Binary) (column cs 0) (number n)) && true
@@ -233,6 +157,6 @@ body_key n x h = rw (same_number x.revision n h) refl
 pub body_read : (n : ℕ) (old new : State) (rows : List Row) (t : Tables) → Shown body_text (number n ∷ []) old new rows → Holds t old.now → rows ≡ map (λ (x : CatalogueRow). Text x.body ∷ []) (filter (is_revision n) t.catalogue)
 body_read n old new rows t shown holds =
     let this = d.catalogue_table in
-    shows this.name 1 this.columns this.key this.primary this.uniques this.orders 1 refl catalogue_cells (rows_of t) t.catalogue refl old.now holds.rows body_text (codes "body" ∷ []) (same 0 0 ∷ []) (col 1 2 ∷ []) (0 ∷ []) body_is body_plain (number n ∷ []) (body_test n) (λ (cs : Row). (column cs 0 ∷ [], column cs 1 ∷ [])) (is_revision n) (λ r. refl) (λ r. refl) (body_picks n) old new rows shown refl
+    shows this.name 1 this.columns this.key this.primary this.uniques this.orders 1 refl catalogue_cells (rows_of t) t.catalogue refl old.now holds.rows body_text (codes "body" ∷ []) (same 0 0 ∷ []) (col 1 2 ∷ []) (0 ∷ []) body_are.is body_are.plain (number n ∷ []) (body_test n) (λ (cs : Row). (column cs 0 ∷ [], column cs 1 ∷ [])) (is_revision n) (λ r. refl) (λ r. refl) (body_picks n) old new rows shown refl
     (by_rowid this.name 1 this.columns this.key this.primary this.uniques this.orders 1 refl catalogue_cells (rows_of t) t.catalogue refl old.now holds.rows)
-    (at_one_key this.name 1 this.columns this.key this.primary this.uniques this.orders 1 refl catalogue_cells (rows_of t) t.catalogue refl old.now holds.rows body_text (codes "body" ∷ []) (same 0 0 ∷ []) (col 1 2 ∷ []) (0 ∷ []) body_is body_plain (number n ∷ []) (body_test n) (λ (cs : Row). (column cs 0 ∷ [], column cs 1 ∷ [])) (is_revision n) (λ r. refl) (λ r. refl) (body_picks n) (number n ∷ []) (body_key n))
+    (at_one_key this.name 1 this.columns this.key this.primary this.uniques this.orders 1 refl catalogue_cells (rows_of t) t.catalogue refl old.now holds.rows body_text (codes "body" ∷ []) (same 0 0 ∷ []) (col 1 2 ∷ []) (0 ∷ []) body_are.is body_are.plain (number n ∷ []) (body_test n) (λ (cs : Row). (column cs 0 ∷ [], column cs 1 ∷ [])) (is_revision n) (λ r. refl) (λ r. refl) (body_picks n) (number n ∷ []) (body_key n))
