@@ -14,7 +14,8 @@ use Rattle.sqlite_trees.specs.Tree.{IsAscending}
 use Rattle.sqlite_trees.proofs.ListLemmas.{ascending_weaker}
 use Rattle.sqlite_sql.specs.Query.{key_cmp}
 use Rattle.desk_history.specs.Laws.{Ascends, document_below, duty_below}
-use Rattle.desk_model.specs.Keys.{below_by, attached_order, choice_order, frozen_order, change_below, release_below}
+use Rattle.desk_model.specs.Keys.{below_by, adoption_order, attached_order, choice_order, frozen_order, change_below, release_below}
+use Rattle.desk_model.specs.declared.row.AdoptionRow.{AdoptionRow}
 use Rattle.desk_model.specs.declared.row.AttachedRow.{AttachedRow}
 use Rattle.desk_model.specs.declared.row.ChoiceRow.{ChoiceRow}
 use Rattle.desk_model.specs.declared.row.ChangeRow.{ChangeRow}
@@ -73,6 +74,12 @@ pub packages_sorted : (rows : List PackageRow) → Ascends package_below rows
 packages_sorted rows up =
     in_order package_below (λ a b. key_cmp 0 (keys (1 ∷ 2 ∷ [])) (number a.document ∷ Text a.id ∷ []) (number b.document ∷ Text b.id ∷ [])) rows
     (λ a b. rw (numbers a.document b.document, value_cmp-Text a.id b.id, then-Equal (slice_cmp nat_cmp a.id b.id)) (two_lower a.document b.document (slice_cmp nat_cmp a.id b.id))) up
+
+pub adoptions_sorted : (rows : List AdoptionRow) → Ascends (below_by adoption_order) rows
+    → IsAscending (λ a b. is_lt (key_cmp 0 (keys (1 ∷ 2 ∷ [])) (number b.document ∷ Text b.reference ∷ []) (number a.document ∷ Text a.reference ∷ [])) ≡ false) rows
+adoptions_sorted rows up =
+    in_order (below_by adoption_order) (λ a b. key_cmp 0 (keys (1 ∷ 2 ∷ [])) (number a.document ∷ Text a.reference ∷ []) (number b.document ∷ Text b.reference ∷ [])) rows
+    (λ a b. rw (numbers a.document b.document, value_cmp-Text a.reference b.reference, then-Equal (slice_cmp nat_cmp a.reference b.reference)) refl) up
 
 pub attached_sorted : (rows : List AttachedRow) → Ascends (below_by attached_order) rows
     → IsAscending (λ a b. is_lt (key_cmp 0 (keys (1 ∷ 2 ∷ [])) (Text b.release ∷ number b.document ∷ []) (Text a.release ∷ number a.document ∷ [])) ≡ false) rows

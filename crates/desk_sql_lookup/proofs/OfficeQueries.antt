@@ -1,10 +1,11 @@
 -- What is shown of conclusions, adoptions and rules.
-use Rattle.std.proofs.Common.{◌≡◌, ℕ, Bool, true, false, List, [], ◌∷◌, map, filter, codes, length, refl}
+use Rattle.std.proofs.Common.{◌≡◌, ℕ, Bool, true, false, List, [], ◌∷◌, map, filter, codes, refl}
 use Rattle.std.specs.Prelude.{◌&&◌, ◌==◌, bytes_eq}
 use Rattle.std.proofs.lemmas.Bool.{and_parts}
 use Rattle.sqlite_value.specs.declared.keys.Collation.TheVariants.{Binary}
 use Rattle.sqlite_value.specs.declared.value.Value.TheVariants.{Text}
 use Rattle.sqlite_value.specs.Order.{Row, column}
+use Rattle.sqlite_trees.proofs.ListLemmas.{ascending-filter}
 use Rattle.sqlite_sql.specs.declared.ops.BinaryOp.TheVariants.{Compare}
 use Rattle.sqlite_sql.specs.declared.ops.CompareOp.TheVariants.{Eq}
 use Rattle.sqlite_sql.specs.Ops.{binary, is_true}
@@ -26,10 +27,10 @@ use Rattle.desk_model.specs.declared.row.AdoptionRow.{AdoptionRow}
 use Rattle.desk_model.specs.declared.row.RuleRow.{RuleRow}
 use Rattle.desk_sql_lookup.specs.Rules.{is_rule_at}
 use Rattle.desk_sql_lookup.proofs.Ties.{is_key}
-use Rattle.desk_sql_lookup.proofs.Keyed.{same_number, same_text}
+use Rattle.desk_sql_lookup.proofs.Keyed.{same_number, same_text, adoptions_sorted}
 use Rattle.desk_sql_lookup.specs.Causes.{IsAsked}
 use Rattle.desk_sql_lookup.proofs.Causes.{Suits, asked}
-use Rattle.desk_sql_lookup.proofs.Selects.{order_by, by_unique, at_one_key, counts, shows}
+use Rattle.desk_sql_lookup.proofs.Selects.{order_by, by_unique, at_one_key, shows}
 
 -- ---- what the office concluded for a package
 
@@ -99,36 +100,36 @@ adoption_read document reference old new rows t shown holds =
     let this = d.adoption_table in
     shows this.name 12 this.columns this.key this.primary this.uniques this.orders 7 refl adoption_cells (rows_of t) t.adoption refl old.now holds.rows adoption_text (codes "licence" ∷ []) (same 1 0 ∷ same 2 1 ∷ []) (col 1 3 ∷ []) (1 ∷ 2 ∷ []) adoption_is adoption_plain (number document ∷ Text reference ∷ []) (adoption_test document reference) (λ (cs : Row). (column cs 0 ∷ column cs 1 ∷ [], column cs 2 ∷ [])) (is_adoption document reference) (λ r. refl) (λ r. refl) (adoption_picks document reference) old new rows shown refl (by_unique this.name 12 this.columns this.key this.primary this.uniques this.orders 7 refl adoption_cells (rows_of t) t.adoption refl old.now holds.rows 0 (1 ∷ 2 ∷ []) refl refl (λ (cs : Row). is_key (column cs 0) && (is_key (column cs 1) && true)) (λ r. refl) (λ x. refl)) (at_one_key this.name 12 this.columns this.key this.primary this.uniques this.orders 7 refl adoption_cells (rows_of t) t.adoption refl old.now holds.rows adoption_text (codes "licence" ∷ []) (same 1 0 ∷ same 2 1 ∷ []) (col 1 3 ∷ []) (1 ∷ 2 ∷ []) adoption_is adoption_plain (number document ∷ Text reference ∷ []) (adoption_test document reference) (λ (cs : Row). (column cs 0 ∷ column cs 1 ∷ [], column cs 2 ∷ [])) (is_adoption document reference) (λ r. refl) (λ r. refl) (adoption_picks document reference) (number document ∷ Text reference ∷ []) (adoption_key document reference))
 
--- ---- how many references of a document are adopted
+-- ---- the references of a document that are adopted
 
-abbrev pub adoption_count_text : List ℕ
-adoption_count_text = codes "SELECT reference FROM adoption WHERE document = ?1"
+abbrev pub references_text : List ℕ
+references_text = codes "SELECT reference FROM adoption WHERE document = ?1 ORDER BY document, reference"
 
-adoption_count_is : (command_of (understood d.desk_schema adoption_count_text) ≡ Select (record { lets = []; body = query_on 12 (same 1 0 ∷ []) (col 1 2 ∷ []) (order_by ([])) }) (codes "reference" ∷ [])) × (reads_listing d.desk_schema adoption_count_text ≡ false)
+references_is : (command_of (understood d.desk_schema references_text) ≡ Select (record { lets = []; body = query_on 12 (same 1 0 ∷ []) (col 1 2 ∷ []) (order_by (1 ∷ 2 ∷ [])) }) (codes "reference" ∷ [])) × (reads_listing d.desk_schema references_text ≡ false)
 unfolding understood everything
-adoption_count_is = (refl, refl)
+references_is = (refl, refl)
 
-pub adoption_count_plain : IsPlain (understood d.desk_schema adoption_count_text)
+pub references_plain : IsPlain (understood d.desk_schema references_text)
 unfolding understood everything
-adoption_count_plain = (refl, refl)
+references_plain = (refl, refl)
 
-pub adoption_count_suits : Suits adoption_count_text 1 (understood d.desk_schema adoption_count_text)
+pub references_suits : Suits references_text 1 (understood d.desk_schema references_text)
 unfolding understood everything
-adoption_count_suits = (refl, refl)
+references_suits = (refl, refl)
 
-pub adoption_count_asked : (document : ℕ) → IsAsked adoption_count_text (number document ∷ [])
-adoption_count_asked document = asked adoption_count_text (number document ∷ []) 12 (same 1 0 ∷ []) (col 1 2 ∷ []) (order_by ([])) (codes "reference" ∷ []) adoption_count_is adoption_count_plain adoption_count_suits refl
+pub references_asked : (document : ℕ) → IsAsked references_text (number document ∷ [])
+references_asked document = asked references_text (number document ∷ []) 12 (same 1 0 ∷ []) (col 1 2 ∷ []) (order_by (1 ∷ 2 ∷ [])) (codes "reference" ∷ []) references_is references_plain references_suits refl
 
-abbrev adoption_count_test : ℕ → Row → Bool
-adoption_count_test document cs = is_true (binary (Compare Eq Binary) (column cs 0) (number document)) && true
+abbrev references_test : ℕ → Row → Bool
+references_test document cs = is_true (binary (Compare Eq Binary) (column cs 0) (number document)) && true
 
-adoption_count_picks : (document : ℕ) (x : AdoptionRow) → adoption_count_test document (adoption_cells x) ≡ (is_adoption_in document) x
-adoption_count_picks document x = rw (int_test x.document document, and_true (x.document == document)) refl
+references_picks : (document : ℕ) (x : AdoptionRow) → references_test document (adoption_cells x) ≡ (is_adoption_in document) x
+references_picks document x = rw (int_test x.document document, and_true (x.document == document)) refl
 
-pub adoption_count_count : (document : ℕ) (old new : State) (rows : List Row) (t : Tables) → Shown adoption_count_text (number document ∷ []) old new rows → Holds t old.now → length rows ≡ length (filter (is_adoption_in document) t.adoption)
-adoption_count_count document old new rows t shown holds =
+pub references_read : (document : ℕ) (old new : State) (rows : List Row) (t : Tables) → Shown references_text (number document ∷ []) old new rows → Holds t old.now → rows ≡ map (λ (x : AdoptionRow). Text x.reference ∷ []) (filter (is_adoption_in document) t.adoption)
+references_read document old new rows t shown holds =
     let this = d.adoption_table in
-    counts this.name 12 this.columns this.key this.primary this.uniques this.orders 7 refl adoption_cells (rows_of t) t.adoption refl old.now holds.rows adoption_count_text (codes "reference" ∷ []) (same 1 0 ∷ []) (col 1 2 ∷ []) ([]) adoption_count_is adoption_count_plain (number document ∷ []) (adoption_count_test document) (λ (cs : Row). ([], column cs 1 ∷ [])) (is_adoption_in document) (λ r. refl) (λ r. refl) (adoption_count_picks document) old new rows shown refl
+    shows this.name 12 this.columns this.key this.primary this.uniques this.orders 7 refl adoption_cells (rows_of t) t.adoption refl old.now holds.rows references_text (codes "reference" ∷ []) (same 1 0 ∷ []) (col 1 2 ∷ []) (1 ∷ 2 ∷ []) references_is references_plain (number document ∷ []) (references_test document) (λ (cs : Row). (column cs 0 ∷ column cs 1 ∷ [], column cs 1 ∷ [])) (is_adoption_in document) (λ r. refl) (λ r. refl) (references_picks document) old new rows shown refl (by_unique this.name 12 this.columns this.key this.primary this.uniques this.orders 7 refl adoption_cells (rows_of t) t.adoption refl old.now holds.rows 0 (1 ∷ 2 ∷ []) refl refl (λ (cs : Row). is_key (column cs 0) && (is_key (column cs 1) && true)) (λ r. refl) (λ x. refl)) (ascending-filter _ (is_adoption_in document) t.adoption (adoptions_sorted t.adoption holds.orderly.sorted.adoption))
 
 -- ---- the rule for a term and a form
 

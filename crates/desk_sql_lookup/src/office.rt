@@ -1,13 +1,12 @@
 //! What the office concluded and adopted.
 
-ghost use Rattle.std.specs.Prelude.{◌≡◌, filter, map, length};
-ghost use Rattle.desk_history.specs.FromTables.{adoption_count};
+ghost use Rattle.std.specs.Prelude.{◌≡◌, filter, map};
 ghost use Rattle.desk_model.specs.Conclusions.{licence_for, office_text};
-ghost use Rattle.desk_model.specs.Keys.{is_adoption, is_conclusion};
+ghost use Rattle.desk_model.specs.Keys.{is_adoption, is_adoption_in, is_conclusion};
 ghost use Rattle.desk_sql_lookup.specs.Shown.{text_cells};
 ghost use Rattle.desk_sql_lookup.specs.LookUps.{LooksUp};
 
-use crate::query::{query, text};
+use crate::query::{query, read_rows, text};
 use crate::read::read_first;
 use desk_base::Text;
 use desk_model::Fault;
@@ -75,25 +74,19 @@ pub fn adoption<S: Alter>(
     read_first(alloc, &rows)
 }
 
-fn select_adoption_count<S: Alter>(
+/// The references of a document that are adopted, by their bytes.
+pub fn adopted_references<S: Alter>(
+    alloc: Global,
     conn: &mut Connection<S>,
     document: u32,
-) -> Result<Vec<Row>, Fault>
-    ensures { LooksUp S.Store conn.old conn.new result (λ rows t.
-        length rows.items ≡ adoption_count t document) }
+) -> Result<Vec<Text>, Fault>
+    ensures { LooksUp S.Store conn.old conn.new result (λ found t.
+        found.items ≡ map (λ row. row.reference) (filter (is_adoption_in document) t.adoption)) }
 {
-    query(
+    read_rows(
+        alloc,
         conn,
-        "SELECT reference FROM adoption WHERE document = ?1",
+        "SELECT reference FROM adoption WHERE document = ?1 ORDER BY document, reference",
         &[number(document)],
     )
-}
-
-/// How many references of a document are adopted.
-pub fn adoption_count<S: Alter>(conn: &mut Connection<S>, document: u32) -> Result<u64, Fault>
-    ensures { LooksUp S.Store conn.old conn.new result (λ found t.
-        found ≡ adoption_count t document) }
-{
-    let rows = select_adoption_count(conn, document)?;
-    Ok(rows.len() as u64)
 }

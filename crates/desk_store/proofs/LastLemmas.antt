@@ -36,9 +36,9 @@ document_stays (change.Withdrew r moved) t known is = is
 document_stays (change.Concluded row) t known is = is
 document_stays (change.Adopted row) t known is = is
 
-pub last_stays : (change : Change) (t : Tables) (document : Option (ℕ × Profile)) → IsDocument document t → AreLast (record { document = document; rule = None; unadopted = None }) (applied change t)
-last_stays change t None is = record { document = tt; rule = tt; unadopted = tt }
-last_stays change t (Some known) is = record { document = document_stays change t known is; rule = tt; unadopted = tt }
+pub last_stays : (change : Change) (t : Tables) (document : Option (ℕ × Profile)) → IsDocument document t → AreLast (record { document = document; rule = None }) (applied change t)
+last_stays change t None is = record { document = tt; rule = tt }
+last_stays change t (Some known) is = record { document = document_stays change t known is; rule = tt }
 
 -- a rule that was found is that for its own term and form
 pub rule_is_own : (rules : List Rule) (term form : List ℕ) (rule : Rule) → rule_for rules term form ≡ Some rule → rule_for rules rule.term rule.form ≡ Some rule

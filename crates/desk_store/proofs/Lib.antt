@@ -1,5 +1,5 @@
 mod Distinct
-mod Adoptions
+mod AdoptionLemmas
 mod LastLemmas
 mod Holding
 mod Counted

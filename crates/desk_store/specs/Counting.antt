@@ -1,18 +1,17 @@
 -- What the store keeps beside its tables: how many rows some of them have, the forms of the catalogue in force, the tallies of the
--- releases, how many references of one document are adopted, the releases that hold a choice, and what was looked up last.
-use Rattle.std.specs.Prelude.{◌≡◌, ◌<◌, ◌^◌, ℕ, ◌+◌, Bool, true, false, List, length, Option, Some, None}
+-- releases, the references of one document that are adopted, the releases that hold a choice, and what was looked up last.
+use Rattle.std.specs.Prelude.{◌≡◌, ◌<◌, ◌^◌, ℕ, ◌+◌, Bool, true, false, List, length, None}
 use Rattle.sqlite_trees.specs.Tree.{Trees}
 use Rattle.desk_model.specs.declared.command.Change.{Change}
 use Rattle.desk_model.specs.declared.command.Change.TheVariants as change
 use Rattle.desk_model.specs.Tables.{Tables}
-use Rattle.desk_history.specs.FromTables.{adoption_count}
 use Rattle.desk_access.specs.Seen.{Seen}
 use Rattle.desk_sql_layout.specs.Held.{Known, known_of}
 use Rattle.desk_tally.specs.Kept.{AreKept}
 use Rattle.desk_tally.specs.declared.tallies.Tallies.{Tallies}
-use Rattle.desk_store.specs.declared.counts.Adoptions.{Adoptions}
 use Rattle.desk_store.specs.declared.counts.Counts.{Counts}
 use Rattle.desk_store.specs.declared.found.Found.{Found}
+use Rattle.desk_store.specs.References.{AreAdopted}
 use Rattle.desk_store.specs.Holding.{AreHeld}
 use Rattle.desk_store.specs.Last.{AreLast, nothing_last}
 
@@ -51,14 +50,9 @@ abbrev pub forms_noted : Bool → Change → List (List ℕ) → List (List ℕ)
 forms_noted true change old = forms_after change old
 forms_noted false change old = old
 
--- as many references of the document are adopted in the tables; where no count is kept, nothing is said
-abbrev pub AreCounted : Option Adoptions → Tables → Type 0
-AreCounted None t = Unit {0}
-AreCounted (Some adoptions) t = adoptions.count ≡ adoption_count t adoptions.document
-
 -- what was found of the rows is so of these
 abbrev pub AreFound : Found → Tables → Type 0
-AreFound found t = AreCounted found.adoptions t × AreHeld found.holders t × AreLast found.last t
+AreFound found t = AreAdopted found.adoptions t × AreHeld found.holders t × AreLast found.last t
 
 abbrev pub nothing_kept : Found
 nothing_kept = record { adoptions = None; holders = None; last = nothing_last }

@@ -2,14 +2,12 @@
 use Rattle.std.specs.Prelude.{◌≡◌, ℕ, Option, Some, None, find}
 use Rattle.std.specs.Option.{option_map}
 use Rattle.desk_base.specs.declared.profile.Profile.{Profile}
-use Rattle.desk_model.specs.Conclusions.{licence_for}
 use Rattle.desk_model.specs.History.{rule_for}
 use Rattle.desk_model.specs.Keys.{is_document}
 use Rattle.desk_model.specs.Tables.{Tables}
 use Rattle.desk_model.specs.declared.reading.Rule.{Rule}
 use Rattle.desk_history.specs.FromTables.{known_document, rules_found}
 use Rattle.desk_store.specs.declared.last.Last.{Last}
-use Rattle.desk_store.specs.declared.last.Unadopted.{Unadopted}
 
 -- a document, by its number and its profile
 abbrev pub IsDocument : Option (ℕ × Profile) → Tables → Type 0
@@ -21,15 +19,9 @@ abbrev pub IsRule : Option Rule → Tables → Type 0
 IsRule None t = Unit {0}
 IsRule (Some rule) t = rule_for (rules_found t) rule.term rule.form ≡ Some rule
 
--- a reference that isn't adopted
-abbrev pub IsUnadopted : Option Unadopted → Tables → Type 0
-IsUnadopted None t = Unit {0}
-IsUnadopted (Some it) t = licence_for t.adoption it.document it.reference ≡ None
-
 pub record AreLast (last : Last) (t : Tables) : Type 0 where
   pub document : IsDocument last.document t
   pub rule : IsRule last.rule t
-  pub unadopted : IsUnadopted last.unadopted t
 
 abbrev pub nothing_last : Last
-nothing_last = record { document = None; rule = None; unadopted = None }
+nothing_last = record { document = None; rule = None }

@@ -1,6 +1,6 @@
 //! How many rows some of the tables have.
 
-ghost use Rattle.std.specs.Prelude.{◌≡◌, ◌+◌, IfNone, IfSome};
+ghost use Rattle.std.specs.Prelude.{◌≡◌, IfNone, IfSome};
 ghost use Rattle.desk_store.specs.Counting.{HasCount, counts_after};
 
 use desk_model::Change;
@@ -31,24 +31,4 @@ pub(crate) fn counts_after(change: &Change, counts: Counts) -> Option<Counts>
         _ => {}
     }
     Some(after)
-}
-
-/// How many references of a document are adopted.
-#[derive(Clone, Copy)]
-pub(crate) struct Adoptions {
-    pub(crate) document: u32,
-    pub(crate) count: u64,
-}
-
-impl Adoptions {
-    /// With one reference more, where the count has room.
-    pub(crate) fn with_one_more(self) -> Option<Adoptions>
-        ensures { IfSome result (λ more. more ≡ record self { count = self.count + 1 }) }
-    {
-        let count = self.count.checked_add(1)?;
-        Some(Adoptions {
-            document: self.document,
-            count,
-        })
-    }
 }

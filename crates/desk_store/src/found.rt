@@ -6,19 +6,19 @@ ghost use Rattle.desk_history.specs.Laws.{Ascends};
 ghost use Rattle.desk_model.specs.Keys.{release_below};
 ghost use Rattle.desk_model.specs.Tables.{applied};
 ghost use Rattle.desk_sql_lookup.specs.LookUps.{LooksUp};
-ghost use Rattle.desk_store.specs.Counting.{AreCounted, AreFound, nothing_kept};
+ghost use Rattle.desk_store.specs.References.{AreAdopted};
+ghost use Rattle.desk_store.specs.Counting.{AreFound, nothing_kept};
 ghost use Rattle.desk_store.specs.Holding.{AreHeld};
-ghost use Rattle.desk_store.specs.Last.{IsUnadopted};
 
-use crate::counts::Adoptions;
+use crate::adoptions::{Adoptions, change_adoptions};
 use crate::holders::{Holders, change_holders};
 use crate::last::Last;
 use desk_model::{Change, Fault};
 use sqlite::{Alter, Connection};
 use std::alloc::Global;
 
-/// The count of adoptions of the document whose count was asked for last, if one was, the releases
-/// that hold a choice, if one was asked for, and what was looked up last.
+/// The adoptions of the document for whose count was asked last, if for one was, the releases that
+/// hold a choice, if one was asked for, and what was looked up last.
 #[derive(Drop)]
 pub(crate) struct Found {
     pub(crate) adoptions: Option<Adoptions>,
@@ -50,34 +50,21 @@ impl Found {
     }
 }
 
-/// The count of adoptions after a change: one more where a reference of its document is adopted
-/// that wasn't adopted before.
+/// The adoptions after a change.
 fn adoptions_after<S: Alter>(
     alloc: Global,
     conn: &mut Connection<S>,
     change: &Change,
     adoptions: Option<Adoptions>,
-    last: &Last,
 ) -> Result<Option<Adoptions>, Fault>
-    ensures { LooksUp S.Store conn.old conn.new result (λ after t. AreCounted adoptions t
-        → IsUnadopted last.now.unadopted t → AreCounted after (applied change.now t)) }
+    ensures { LooksUp S.Store conn.old conn.new result (λ after t. AreAdopted adoptions t
+        → AreAdopted after (applied change.now t)) }
 {
-    let Some(counted) = adoptions else {
+    let Some(mut kept) = adoptions else {
         return Ok(None);
     };
-    let Change::Adopted(row) = change else {
-        return Ok(adoptions);
-    };
-    if row.document != counted.document {
-        return Ok(adoptions);
-    }
-    if last.lacks(row) {
-        return Ok(counted.with_one_more());
-    }
-    match desk_sql_lookup::adoption(alloc, conn, row.document, row.reference.as_str())? {
-        Some(_) => Ok(adoptions),
-        None => Ok(counted.with_one_more()),
-    }
+    change_adoptions(alloc, conn, &mut kept, change)?;
+    Ok(Some(kept))
 }
 
 /// The holders after a change.
@@ -114,10 +101,10 @@ pub(crate) fn found_after<S: Alter>(
         holders,
         last,
     } = found;
-    let counted = adoptions_after(alloc, conn, change, adoptions, &last)?;
+    let adopted = adoptions_after(alloc, conn, change, adoptions)?;
     let held = holders_after(alloc, conn, change, holders)?;
     Ok(Found {
-        adoptions: counted,
+        adoptions: adopted,
         holders: held,
         last: last.after_change(),
     })

@@ -1,33 +1,24 @@
 //! What look-ups found last, for those that ask again: a freeze asks for the same document and the
-//! same rule package by package, and an adoption for its reference twice.
+//! same rule package by package.
 
-ghost use Rattle.std.specs.Prelude.{◌≡◌, true, ℕ, List, None, Some, IfOk, IfSome, OnErr, OnOk, find};
+ghost use Rattle.std.specs.Prelude.{◌≡◌, ℕ, List, Some, IfOk, IfSome, OnErr, OnOk, find};
 ghost use Rattle.std.specs.Option.{option_map};
-ghost use Rattle.desk_model.specs.Conclusions.{licence_for};
 ghost use Rattle.desk_model.specs.History.{rule_for};
 ghost use Rattle.desk_model.specs.Keys.{is_document};
 ghost use Rattle.desk_model.specs.Tables.{Tables, applied};
 ghost use Rattle.desk_model.specs.declared.command.Change.{Change};
 ghost use Rattle.desk_history.specs.FromTables.{known_document, rules_found};
-ghost use Rattle.desk_store.specs.Last.{AreLast, IsDocument, IsRule, IsUnadopted, nothing_last};
+ghost use Rattle.desk_store.specs.Last.{AreLast, IsDocument, IsRule, nothing_last};
 
 use desk_base::{Items, Text};
-use desk_model::{AdoptionRow, Profile, Rule};
+use desk_model::{Profile, Rule};
 use std::alloc::{AllocError, Global};
 
-/// A reference of a document that isn't adopted.
-#[derive(Drop)]
-pub(crate) struct Unadopted {
-    pub(crate) document: u32,
-    pub(crate) reference: Text,
-}
-
-/// A document with its profile, a rule, and a reference that isn't adopted.
+/// A document with its profile, and a rule.
 #[derive(Drop)]
 pub(crate) struct Last {
     pub(crate) document: Option<(u32, Profile)>,
     pub(crate) rule: Option<Rule>,
-    pub(crate) unadopted: Option<Unadopted>,
 }
 
 fn copies(alloc: Global, texts: &Items<Text>) -> Result<Items<Text>, AllocError>
@@ -58,7 +49,6 @@ impl Last {
         Last {
             document: None,
             rule: None,
-            unadopted: None,
         }
     }
 
@@ -70,7 +60,6 @@ impl Last {
         Last {
             document: self.document.take(),
             rule: self.rule.take(),
-            unadopted: self.unadopted.take(),
         }
     }
 
@@ -82,7 +71,6 @@ impl Last {
         Last {
             document: self.document,
             rule: None,
-            unadopted: None,
         }
     }
 
@@ -140,42 +128,6 @@ impl Last {
     {
         if let Some(rule) = found {
             self.rule = Some(copy_of(alloc, rule)?);
-        }
-        Ok(())
-    }
-
-    /// Whether it is known that a reference isn't adopted.
-    pub(crate) fn lacks(&self, row: &AdoptionRow) -> bool
-        ensures { result ≡ true → (t : Tables) → IsUnadopted self.now.unadopted t
-            → licence_for t.adoption row.now.document row.now.reference ≡ None }
-    {
-        match &self.unadopted {
-            Some(it) => {
-                it.document == row.document && it.reference.as_str() == row.reference.as_str()
-            }
-            None => false,
-        }
-    }
-
-    /// Keeps that a reference isn't adopted, if no licence was found for it.
-    pub(crate) fn keep_adoption(
-        &mut self,
-        alloc: Global,
-        document: u32,
-        reference: &str,
-        licence: &Option<Text>,
-    ) -> Result<(), AllocError>
-        ensures ok { OnOk result ((t : Tables)
-            → licence.now ≡ licence_for t.adoption document reference.now
-            → AreLast self.old t → AreLast self.new t) }
-        ensures err { OnErr result (self.new ≡ self.old) }
-    {
-        if licence.is_none() {
-            let reference = Text::of(alloc, reference)?;
-            self.unadopted = Some(Unadopted {
-                document,
-                reference,
-            });
         }
         Ok(())
     }

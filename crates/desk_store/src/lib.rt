@@ -3,9 +3,9 @@
 //! `SqlStore` is a store of rows over a connection: it looks them up by `desk_sql_lookup`, writes a
 //! change by `desk_sql_commit`, and keeps in its own value how many rows some tables have, the
 //! forms of the catalogue in force and the tallies of the releases (`specs/Counting.antt`). What
-//! look-ups ask for again is kept once it was found: how many references of one document are
-//! adopted, the releases that hold a choice (`Found`, `specs/Holding.antt`), and a document, a rule
-//! and a reference of the last look-ups (`Last`).
+//! look-ups ask for again is kept once it was found: the references of one document that are
+//! adopted (`specs/References.antt`), the releases that hold a choice (`specs/Holding.antt`), and a
+//! document and a rule of the last look-ups (`Last`).
 //!
 //! `SqlDesk` is the desk over such a store, with the reader of texts by their standards. `create`
 //! makes the tables of an empty desk in a database where nothing stands; `adopt_connection` takes a
@@ -18,6 +18,7 @@
 #![tactic(auto)]
 
 mod adopt;
+mod adoptions;
 mod audit;
 mod counts;
 mod desk;

@@ -33,8 +33,9 @@ ghost use Rattle.desk_store.specs.Counting.{AreFound, forms_after, forms_noted, 
 ghost use Rattle.desk_store.specs.Holding.{have_releases};
 ghost use Rattle.desk_texts.specs.Right.{AreRight};
 
+use crate::adoptions::read_adoptions;
 use crate::audit::audit_connection;
-use crate::counts::{Adoptions, Counts, counts_after};
+use crate::counts::{Counts, counts_after};
 use crate::found::{Found, found_after};
 use crate::holders::{read_holders, release_place};
 use desk_access::store::Store;
@@ -466,24 +467,26 @@ impl<S: Alter> Store for SqlStore<S> {
         ensures { Finds ⟦<SqlStore<S> as Store>⟧.seen (λ s. state S.Store s.conn) self.old self.new
             result (λ found t. found ≡ licence_for t.adoption document reference.now) }
     {
-        let licence = desk_sql_lookup::adoption(self.alloc, &mut self.conn, document, reference)?;
-        self.found
-            .last
-            .keep_adoption(self.alloc, document, reference, &licence)?;
-        Ok(licence)
+        if let Some(kept) = &self.found.adoptions
+            && kept.lacks(document, reference)
+        {
+            return Ok(None);
+        }
+        desk_sql_lookup::adoption(self.alloc, &mut self.conn, document, reference)
     }
 
     fn adoption_count(&mut self, document: u32) -> Result<u64, Fault>
         ensures { Finds ⟦<SqlStore<S> as Store>⟧.seen (λ s. state S.Store s.conn) self.old self.new
             result (λ n t. n ≡ adoption_count t document) }
     {
-        if let Some(adoptions) = self.found.adoptions
-            && adoptions.document == document
+        if let Some(kept) = &self.found.adoptions
+            && kept.document == document
         {
-            return Ok(adoptions.count);
+            return Ok(kept.count);
         }
-        let count = desk_sql_lookup::adoption_count(&mut self.conn, document)?;
-        self.found.adoptions = Some(Adoptions { document, count });
+        let kept = read_adoptions(self.alloc, &mut self.conn, document)?;
+        let count = kept.count;
+        self.found.adoptions = Some(kept);
         Ok(count)
     }
 

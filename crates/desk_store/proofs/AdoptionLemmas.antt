@@ -1,11 +1,13 @@
 -- How many references of a document are adopted, after a change.
-use Rattle.std.proofs.Common.{◌≡◌, ◌∙◌, ℕ, ◌+◌, Bool, true, false, cond, not, List, [], ◌∷◌, map, filter, length, find, Option, Some, None, refl, sym, ap, subst, arith, true≢false}
-use Rattle.std.specs.Prelude.{IfSome, IsTrue, ◌==◌, ◌&&◌, bytes_eq}
+use Rattle.std.proofs.Common.{◌≡◌, ◌∙◌, ℕ, ◌+◌, Bool, true, false, cond, not, List, [], ◌∷◌, map, filter, length, find, get_or, take, suc, zero, ◌<◌, add-one, Option, Some, None, refl, sym, ap, arith, true≢false}
+use Rattle.std.specs.Prelude.{IsTrue, ◌==◌, ◌&&◌, ◌||◌, bytes_eq, if◌then◌else◌, is_some}
+use Rattle.std.specs.BTreeSet.{contains_text}
 use Rattle.std.specs.Option.{option_map}
-use Rattle.std.specs.List.{AllByRecursion, IsDistinct}
+use Rattle.std.specs.List.{AllByRecursion, IsDistinct, list_any}
 use Rattle.std.proofs.lemmas.Bool.{and_parts}
 use Rattle.std.proofs.lemmas.Bool.Decides.{nat_tests}
 use Rattle.std.proofs.lemmas.Slice.Eq.{bytes_eq-Decides}
+use Rattle.std.proofs.lemmas.List.{length-map}
 use Rattle.std.proofs.lemmas.Map.Keys.{IsDistinct-IsPermutation}
 use Rattle.std.proofs.lemmas.List.Sorted.{IsPermutation-sym}
 use Rattle.sqlite_value.specs.declared.value.Value.TheVariants.{Text}
@@ -26,8 +28,8 @@ use Rattle.desk_sql_layout.specs.Layout.{adoption_table}
 use Rattle.desk_sql_layout.specs.Stored.{cells}
 use Rattle.desk_sql_lookup.proofs.Keyed.{same_number, same_text}
 use Rattle.desk_sql_lookup.proofs.Selects.{by_unique, mine}
-use Rattle.desk_store.specs.Counting.{AreCounted}
-use Rattle.desk_store.specs.declared.counts.Adoptions.{Adoptions}
+use Rattle.desk_store.specs.References.{AreAdopted}
+use Rattle.desk_store.specs.declared.adoptions.Adoptions.{Adoptions}
 use Rattle.desk_store.proofs.Distinct.{distinct_from, distinct_unmapped, tie, tie_flips, tied_alike}
 use Rattle.desk_sql_lookup.proofs.Ties.{is_key}
 
@@ -143,7 +145,7 @@ first_counts : (row : AdoptionRow) (rows : List AdoptionRow) → length (filter 
 first_counts row rows = rw (own_document row.document) (omega arith)
 
 -- a reference that wasn't adopted
-adopted_first : (t : Tables) (row : AdoptionRow) → licence_for t.adoption row.document row.reference ≡ None → adoption_count (applied (Adopted row) t) row.document ≡ adoption_count t row.document + 1
+pub adopted_first : (t : Tables) (row : AdoptionRow) → licence_for t.adoption row.document row.reference ≡ None → adoption_count (applied (Adopted row) t) row.document ≡ adoption_count t row.document + 1
 adopted_first t row none =
     let d = row.document in
     let p = is_adoption_in d in
@@ -193,30 +195,142 @@ shown s d r found t is = go s.is_open refl
         let some : found ≡ Some [] = any (record t { adoption = row ∷ [] }) ∙ rw own refl in
         absurd (let clash : None ≡ Some [] = sym none ∙ some in cc)
 
--- ---- the count that is kept, after an adoption
+-- ---- what is kept, after an adoption
 
-pub counted_elsewhere : (row : AdoptionRow) (kept : Adoptions) (t : Tables) → (row.document ≡ kept.document → ⊥) → AreCounted (Some kept) t → AreCounted (Some kept) (applied (Adopted row) t)
-counted_elsewhere row kept t other are = are ∙ sym (adopted_elsewhere t row kept.document other)
+-- one more text is among those so far
+pub one_more_text : (reference : List ℕ) (texts : List (List ℕ)) (i : ℕ) (text : List ℕ) → text ≡ get_or texts i text → i < length texts
+    → cond (bytes_eq text reference) true (list_any (λ other. bytes_eq other reference) (take i texts)) ≡ list_any (λ other. bytes_eq other reference) (take (i + 1) texts)
+one_more_text r texts i text is low = go texts i is low ∙ ap (λ n. list_any (λ other. bytes_eq other r) (take n texts)) (sym (add-one i))
+  where
+    among : List (List ℕ) → Bool
+    among = list_any (λ other. bytes_eq other r)
 
--- one more, where the reference wasn't adopted
-pub counted_new : (row : AdoptionRow) (kept : Adoptions) (t : Tables) → row.document ≡ kept.document → licence_for t.adoption row.document row.reference ≡ None → AreCounted (Some kept) t
-    → (after : Option Adoptions) → IfSome after (λ more. more ≡ record kept { count = kept.count + 1 }) → AreCounted after (applied (Adopted row) t)
-counted_new row kept t here none are None more = tt
-counted_new row kept t here none are (Some after) more =
-    let first = adopted_first t row none in
-    subst (λ (x : Adoptions). AreCounted (Some x) (applied (Adopted row) t)) (sym more)
-    (ap (λ n. n + 1) (are ∙ ap (adoption_count t) (sym here)) ∙ (sym first ∙ ap (adoption_count (applied (Adopted row) t)) here))
+    or_true : (b : Bool) → (b || true) ≡ true
+    or_true true = refl
+    or_true false = refl
 
--- what was found of the reference tells whether it counts
-module _ (s : State) (row : AdoptionRow) (kept : Adoptions) (reference : List ℕ) (found : Option (List ℕ)) (here : row.document ≡ kept.document) (named : reference ≡ row.reference)
-    (is : (t : Tables) → (seen_of s).holds t → found ≡ licence_for t.adoption row.document reference) (t : Tables) (held : (seen_of s).holds t) (are : AreCounted (Some kept) t) where
+    first : (b : Bool) → cond b true false ≡ (b || false)
+    first true = refl
+    first false = refl
+
+    pass : (b c d e : Bool) → cond b true d ≡ e → cond b true (c || d) ≡ (c || e)
+    pass true c d e is = sym (ap (λ x. c || x) (sym is) ∙ or_true c)
+    pass false c d e is = ap (λ x. c || x) is
+
+    go : (texts : List (List ℕ)) (i : ℕ) → text ≡ get_or texts i text → i < length texts → cond (bytes_eq text r) true (among (take i texts)) ≡ among (take (suc i) texts)
+    go [] i is low = absurd (omega (arith, low))
+    go (x ∷ xs) zero is low = first (bytes_eq text r) ∙ ap (λ t. bytes_eq t r || false) is
+    go (x ∷ xs) (suc i) is low = pass (bytes_eq text r) (bytes_eq x r) (among (take i xs)) (among (take (suc i) xs)) (go xs i is (omega (arith, low)))
+
+-- the references of the document that were read
+pub read_among : (d : ℕ) (reference : List ℕ) (rows : List AdoptionRow) → list_any (λ text. bytes_eq text reference) (map (λ (row : AdoptionRow). row.reference) (filter (is_adoption_in d) rows)) ≡ false → find (is_adoption d reference) rows ≡ None
+read_among d r [] none = refl
+read_among d r (x ∷ xs) none = go (read_among d r xs) (x.document == d) (bytes_eq x.reference r) refl refl none
+  where
+    texts : List AdoptionRow → List (List ℕ)
+    texts = map (λ (row : AdoptionRow). row.reference)
+
+    among : List (List ℕ) → Bool
+    among = list_any (λ text. bytes_eq text r)
+
+    go : (among (texts (filter (is_adoption_in d) xs)) ≡ false → find (is_adoption d r) xs ≡ None) → (b c : Bool) → (x.document == d) ≡ b → bytes_eq x.reference r ≡ c
+        → among (texts (cond b (x ∷ filter (is_adoption_in d) xs) (filter (is_adoption_in d) xs))) ≡ false → cond (b && c) (Some x) (find (is_adoption d r) xs) ≡ None
+    go more true true e f none = absurd (let hit : true ≡ false = rw f at none in cc)
+    go more true false e f none = more (rw f at none)
+    go more false c e f none = more none
+
+-- what is kept of the references that were read
+pub kept_read : (kept : Adoptions) (d : ℕ) (texts : List (List ℕ)) (t : Tables) → kept.document ≡ d → kept.count ≡ length texts → ((reference : List ℕ) → contains_text kept.references reference ≡ list_any (λ text. bytes_eq text reference) texts)
+    → texts ≡ map (λ (row : AdoptionRow). row.reference) (filter (is_adoption_in d) t.adoption) → AreAdopted (Some kept) t
+kept_read kept d texts t here counts has are =
+    rw here (
+      counts ∙ (ap length are ∙ length-map (filter (is_adoption_in d) t.adoption) (λ (row : AdoptionRow). row.reference)),
+      λ reference lacks. ap (option_map (λ (row : AdoptionRow). row.licence)) (read_among d reference t.adoption (ap (list_any (λ text. bytes_eq text reference)) (sym are) ∙ (sym (has reference) ∙ lacks))),
+    )
+
+pub or_is : (b c : Bool) → cond b true c ≡ (b || c)
+or_is true c = refl
+or_is false c = refl
+
+pub not_true : (b : Bool) → not b ≡ true → b ≡ false
+not_true false is = refl
+not_true true is = absurd (cc)
+
+-- what was found of the reference tells
+module _ (s : State) (row : AdoptionRow) (reference : List ℕ) (found : Option (List ℕ)) (named : reference ≡ row.reference)
+    (is : (t : Tables) → (seen_of s).holds t → found ≡ licence_for t.adoption row.document reference) (t : Tables) (held : (seen_of s).holds t) (clean : HasCleanDisk s) where
   found_there : (u : Tables) → (seen_of s).holds u → found ≡ licence_for u.adoption row.document row.reference
   found_there u holds = is u holds ∙ ap (licence_for u.adoption row.document) named
 
-  pub counted_again : (licence : List ℕ) → found ≡ Some licence → HasCleanDisk s → AreCounted (Some kept) (applied (Adopted row) t)
-  counted_again licence some clean =
-      let showing = held clean (shown s row.document row.reference found t found_there) in
-      are ∙ (ap (adoption_count t) (sym here) ∙ (sym (adopted_again t row s.now licence showing.holds (sym (found_there t held) ∙ some)) ∙ ap (adoption_count (applied (Adopted row) t)) here))
+  pub counts_found : (is_new : Bool) → is_new ≡ not (is_some found) → adoption_count (applied (Adopted row) t) row.document ≡ adoption_count t row.document + (if is_new then 1 else 0)
+  counts_found is_new told = go found refl
+    where
+      go : (o : Option (List ℕ)) → found ≡ o → adoption_count (applied (Adopted row) t) row.document ≡ adoption_count t row.document + (if is_new then 1 else 0)
+      go None e = rw (told ∙ ap (λ o. not (is_some o)) e) (adopted_first t row (sym (found_there t held) ∙ e))
+      go (Some licence) e =
+          let showing = held clean (shown s row.document row.reference found t found_there) in
+          rw (told ∙ ap (λ o. not (is_some o)) e) (adopted_again t row s.now licence showing.holds (sym (found_there t held) ∙ e) ∙ omega arith)
 
-  pub counted_first : found ≡ None → (after : Option Adoptions) → IfSome after (λ more. more ≡ record kept { count = kept.count + 1 }) → AreCounted after (applied (Adopted row) t)
-  counted_first none = counted_new row kept t here (sym (found_there t held) ∙ none) are
+-- other rows are found as before
+find_put : {A : Type 0} (below : A → A → Bool) (p : A → Bool) (x : A) (ys : List A) → p x ≡ false → find p (put below x ys) ≡ find p ys
+find_put below p x [] other = rw other refl
+find_put {A} below p x (y ∷ ys) other = go (below x y) (find_put below p x ys other)
+  where
+    go : (b : Bool) → find p (put below x ys) ≡ find p ys → find p (cond b (x ∷ y ∷ ys) (y ∷ put below x ys)) ≡ find p (y ∷ ys)
+    go true more = rw other refl
+    go false more = ap (λ o. cond (p y) (Some y) o) more
+
+find_rest : {A : Type 0} (p at : A → Bool) → ((y : A) → p y ≡ true → at y ≡ false) → (xs : List A) → find p (filter (λ y. not (at y)) xs) ≡ find p xs
+find_rest p at apart [] = refl
+find_rest {A} p at apart (x ∷ xs) = go (at x) (p x) refl refl (find_rest p at apart xs)
+  where
+    go : (b c : Bool) → at x ≡ b → p x ≡ c → find p (filter (λ y. not (at y)) xs) ≡ find p xs → find p (cond (not b) (x ∷ filter (λ y. not (at y)) xs) (filter (λ y. not (at y)) xs)) ≡ cond c (Some x) (find p xs)
+    go true true e f more = absurd (let clash : true ≡ false = sym e ∙ apart x f in cc)
+    go true false e f more = more
+    go false true e f more = rw f refl
+    go false false e f more = rw f more
+
+-- the licence of another reference
+other_licence : (row : AdoptionRow) (t : Tables) (d : ℕ) (r : List ℕ) → ((row.document == d) && bytes_eq row.reference r) ≡ false → licence_for (applied (Adopted row) t).adoption d r ≡ licence_for t.adoption d r
+other_licence row t d r other =
+    let at = is_adoption row.document row.reference in
+    let without = filter (λ y. not (at y)) t.adoption in
+    ap (option_map (λ (row : AdoptionRow). row.licence)) (find_put (below_by adoption_order) (is_adoption d r) row without other ∙ find_rest (is_adoption d r) at apart_from t.adoption)
+  where
+    apart_from : (y : AdoptionRow) → is_adoption d r y ≡ true → is_adoption row.document row.reference y ≡ false
+    apart_from y is = go (is_adoption row.document row.reference y) refl
+      where
+        go : (b : Bool) → is_adoption row.document row.reference y ≡ b → b ≡ false
+        go false e = refl
+        go true e =
+            let own = and_parts (y.document == row.document) (bytes_eq y.reference row.reference) e in
+            let its = and_parts (y.document == d) (bytes_eq y.reference r) is in
+            let here : row.document ≡ d = sym (same_number y.document row.document own.0) ∙ same_number y.document d its.0 in
+            let named : row.reference ≡ r = sym (same_text y.reference row.reference own.1) ∙ same_text y.reference r its.1 in
+            absurd (let clash : true ≡ false = sym (rw (here, named) (rw (own_document d, own_text r) refl)) ∙ other in cc)
+
+-- an adoption in another document
+pub kept_elsewhere : (row : AdoptionRow) (kept : Adoptions) (t : Tables) → (row.document ≡ kept.document → ⊥) → AreAdopted (Some kept) t → AreAdopted (Some kept) (applied (Adopted row) t)
+kept_elsewhere row kept t other are =
+    (are.0 ∙ sym (adopted_elsewhere t row kept.document other), λ r lacks. other_licence row t kept.document r (rw (other_document row.document kept.document other) refl) ∙ are.1 r lacks)
+
+-- and in its own
+pub kept_here : (row : AdoptionRow) (kept after : Adoptions) (t : Tables) (is_new : Bool) → row.document ≡ kept.document → after.document ≡ kept.document → after.count ≡ kept.count + (if is_new then 1 else 0)
+    → ((other : List ℕ) → contains_text after.references other ≡ (bytes_eq row.reference other || contains_text kept.references other))
+    → adoption_count (applied (Adopted row) t) row.document ≡ adoption_count t row.document + (if is_new then 1 else 0)
+    → AreAdopted (Some kept) t → AreAdopted (Some after) (applied (Adopted row) t)
+kept_here row kept after t is_new here same counts has more are =
+    rw same (
+      counts ∙ (ap (λ n. n + (if is_new then 1 else 0)) (are.0 ∙ ap (adoption_count t) (sym here)) ∙ (sym more ∙ ap (adoption_count (applied (Adopted row) t)) here)),
+      λ r lacks.
+          let none = neither (bytes_eq row.reference r) (contains_text kept.references r) (sym (has r) ∙ lacks) in
+          other_licence row t kept.document r (apart (row.document == kept.document) (bytes_eq row.reference r) none.0) ∙ are.1 r none.1,
+    )
+  where
+    neither : (a b : Bool) → (a || b) ≡ false → (a ≡ false) × (b ≡ false)
+    neither false b is = (refl, is)
+    neither true b is = absurd (cc)
+
+    apart : (a b : Bool) → b ≡ false → (a && b) ≡ false
+    apart true b is = is
+    apart false b is = refl
