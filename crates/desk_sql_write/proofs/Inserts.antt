@@ -289,6 +289,47 @@ frozen_added row old new =
     (source_of None (frozen_cells row) ∷ []) (frozen_cells row ∷ []) refl refl tt ((λ stored. rw (cast_null, cast_int (pos row.document)) refl), tt) (λ id. refl, tt)
     (λ trees small. (record { number = tt; right = λ id. record { typed = refl; present = refl; light = (int_light id, all_light (frozen_cells row) small.0); some = omega arith; few = omega arith } }, tt)) old new
 
+-- ---- eight frozen terms
+
+abbrev pub add_eight_frozen_text : List ℕ
+add_eight_frozen_text = codes "INSERT INTO frozen VALUES (?, ?, ?, ?, ?), (?, ?, ?, ?, ?), (?, ?, ?, ?, ?), (?, ?, ?, ?, ?), (?, ?, ?, ?, ?), (?, ?, ?, ?, ?), (?, ?, ?, ?, ?), (?, ?, ?, ?, ?)"
+
+add_eight_frozen_reads : Reads add_eight_frozen_text 40 (Insert 11 (Values (eight_terms None 5) 6))
+unfolding understood everything
+add_eight_frozen_reads = record { is = refl; plain = (refl, refl); fits = (refl, refl) }
+
+abbrev frozen_terms_sources : List FrozenRow → List Row
+frozen_terms_sources = map (λ row. source_of None (frozen_cells row))
+
+frozen_terms_given : (rows : List FrozenRow) → length rows ≡ 8 → value_rows (flat_map frozen_cells rows) 6 (length (eight_terms None 5) / 6) (eight_terms None 5) ≡ frozen_terms_sources rows
+frozen_terms_given = eight (λ rows. value_rows (flat_map frozen_cells rows) 6 (length (eight_terms None 5) / 6) (eight_terms None 5) ≡ frozen_terms_sources rows) (λ a b c d e f g h. refl)
+
+frozen_terms_make : (rows : List FrozenRow) → let this = d.frozen_table in Make this.name 21 this.columns this.key this.primary this.uniques this.orders (frozen_terms_sources rows) (map frozen_cells rows)
+frozen_terms_make [] = tt
+frozen_terms_make (row ∷ rows) = ((λ stored. rw (cast_null, cast_int (pos row.document)) refl), frozen_terms_make rows)
+
+frozen_terms_shown : (rows : List FrozenRow) → let this = d.frozen_table in AreShown this.name 21 this.columns this.key this.primary this.uniques this.orders (map frozen_cells rows)
+frozen_terms_shown [] = tt
+frozen_terms_shown (row ∷ rows) = ((λ id. refl), frozen_terms_shown rows)
+
+frozen_terms_suit : (trees : Trees) (rows : List FrozenRow) → AllByRecursion (AllByRecursion IsSmall) (map frozen_cells rows) → let this = d.frozen_table in AllByRecursion (Suits this.name 21 this.columns this.key this.primary this.uniques this.orders trees) (map frozen_cells rows)
+frozen_terms_suit trees [] small = tt
+frozen_terms_suit trees (row ∷ rows) small = (record { number = tt; right = λ id. record { typed = refl; present = refl; light = (int_light id, all_light (frozen_cells row) small.0); some = omega arith; few = omega arith } }, frozen_terms_suit trees rows small.1)
+
+frozen_terms_accepted : (rows : List FrozenRow) → length rows ≡ 8 → accepts_terms (eight_terms None 5) (flat_map frozen_cells rows) ≡ true
+frozen_terms_accepted = eight (λ rows. accepts_terms (eight_terms None 5) (flat_map frozen_cells rows) ≡ true) (λ a b c d e f g h. refl)
+
+frozen_terms_count : (rows : List FrozenRow) → length rows ≡ 8 → length (flat_map frozen_cells rows) ≡ 40
+frozen_terms_count = eight (λ rows. length (flat_map frozen_cells rows) ≡ 40) (λ a b c d e f g h. refl)
+
+pub frozen_terms_added : (rows : List FrozenRow) → length rows ≡ 8 → AreAdded add_eight_frozen_text (flat_map frozen_cells rows) 21 (map frozen_cells rows) (length rows)
+frozen_terms_added rows is old new r ran into survives =
+    let this = d.frozen_table in
+    let reads = subst (λ n. Reads add_eight_frozen_text n (Insert 11 (Values (eight_terms None 5) 6))) (sym (frozen_terms_count rows is)) add_eight_frozen_reads in
+    let it = inserted_adds this.name 21 this.columns this.key this.primary this.uniques this.orders 11 refl add_eight_frozen_text (flat_map frozen_cells rows) (eight_terms None 5) 6 reads (frozen_terms_accepted rows is)
+    (frozen_terms_sources rows) (map frozen_cells rows) (frozen_terms_given rows is) refl tt (frozen_terms_make rows) (frozen_terms_shown rows) (λ trees small. frozen_terms_suit trees rows small) old new r ran into survives in
+    subst (λ n. Adds (with_rows 21 (map frozen_cells rows)) n old new r) (length-map rows frozen_cells) it
+
 -- ---- duty
 
 abbrev pub add_duty_text : List ℕ

@@ -175,7 +175,7 @@ pub(crate) fn add_terms<S: Alter>(
         (length frozen.now + (length duties.now + (length changes.now + length changes.now)))
         (state S.Store tx.old.conn.now) (state S.Store tx.new.conn.now) result }
 {
-    add_all(alloc, tx, frozen)?;
+    add_in_eights(alloc, tx, frozen)?;
     raise(alloc, tx, duties, changes)
 }
 

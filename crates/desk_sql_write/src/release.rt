@@ -1,6 +1,7 @@
 //! Releases, and what is attached to them and chosen in them.
 
 ghost use Rattle.std.specs.Prelude.{◌≡◌, ◌<◌, ◌^◌, ◌∷◌, [], filter, IfOk, IfErr};
+ghost use Rattle.std.specs.List.{flat_map};
 ghost use Rattle.sqlite.specs.Held.{state};
 ghost use Rattle.sqlite.specs.Values.{bound};
 ghost use Rattle.desk_model.specs.Keys.{is_release};
@@ -12,14 +13,14 @@ ghost use Rattle.desk_sql_layout.specs.Held.{rows_of};
 ghost use Rattle.desk_sql_layout.specs.Layout.{releases_table, attached_table, choice_table, frozen_table};
 ghost use Rattle.desk_sql_write.specs.Turning.{Adds, Turns, with_rows};
 
-use crate::adding::Added;
+use crate::adding::{Added, AddedInEights};
 use crate::statement::execute;
 use desk_base::Text;
 use desk_model::{AttachedRow, ChoiceRow, Fault, FrozenRow, ReleaseRow, ReleaseState, StoreFault};
 use desk_sql_layout::values::{number, release_state, text};
 use sqlite::{Alter, Transaction};
 use sqlite_value::value::ValueRef;
-use std::alloc::Global;
+use std::alloc::{AllocError, Global};
 
 fn attached_values<'a>(row: &'a AttachedRow) -> [ValueRef<'a>; 2]
     ensures { bound result ≡ attached_cells row.now }
@@ -80,16 +81,43 @@ fn frozen_values<'a>(row: &'a FrozenRow) -> [ValueRef<'a>; 5]
     ]
 }
 
-impl Added for FrozenRow {
+/// The values of frozen terms, those of one behind those of another.
+fn values_of_frozen<'a>(
+    alloc: Global,
+    rows: &'a [FrozenRow],
+) -> Result<Vec<ValueRef<'a>>, AllocError>
+    ensures { IfOk result (λ values. bound values.items ≡ flat_map frozen_cells rows.now) }
+{
+    let mut values = Vec::new(alloc);
+    for row in rows {
+        values.extend_from_slice(&frozen_values(row))?;
+    }
+    Ok(values)
+}
+
+impl AddedInEights for FrozenRow {
     ghost tree = { frozen_table.tree };
 
-    ghost rows = { λ row. frozen_cells row ∷ [] };
+    ghost cells = { frozen_cells };
 
-    fn add<S: Alter>(&self, _alloc: Global, tx: &mut Transaction<'_, S>) -> Result<(), Fault> {
+    fn add_one<S: Alter>(&self, tx: &mut Transaction<'_, S>) -> Result<(), Fault> {
         execute(
             tx,
             "INSERT INTO frozen VALUES (?1, ?2, ?3, ?4, ?5)",
             &frozen_values(self),
+        )
+    }
+
+    fn add_eight<S: Alter>(
+        alloc: Global,
+        tx: &mut Transaction<'_, S>,
+        rows: &[FrozenRow],
+    ) -> Result<(), Fault> {
+        let values = values_of_frozen(alloc, rows)?;
+        execute(
+            tx,
+            "INSERT INTO frozen VALUES (?, ?, ?, ?, ?), (?, ?, ?, ?, ?), (?, ?, ?, ?, ?), (?, ?, ?, ?, ?), (?, ?, ?, ?, ?), (?, ?, ?, ?, ?), (?, ?, ?, ?, ?), (?, ?, ?, ?, ?)",
+            values.as_slice(),
         )
     }
 }

@@ -1,6 +1,6 @@
 use Rattle.sqlite.specs.Held.{state}
 use Rattle.desk_sql_write.proofs.Inserts.{frozen_added}
-use Rattle.desk_sql_write.proofs.release.FrozenRowAdded.add.Goals as goal
+use Rattle.desk_sql_write.proofs.release.FrozenRowAddedInEights.add_one.Goals as goal
 
 pub returns-clause-adds : goal.returns-clause-adds
 returns-clause-adds g c =
