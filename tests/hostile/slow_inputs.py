@@ -189,15 +189,24 @@ def many_files(room):
     return ["gather", "tree", *NAMING], None, size
 
 
-def nested_files(room):
-    """Nested folders, each with a REUSE.toml that counts for all below it. A file's path is written by a stranger, too."""
+def nested_files(depth, each):
+    """Nested folders of so many files each, with a REUSE.toml that counts for all below it. A file's path is written by a stranger, too."""
     toml = f'version = 1\n[[annotations]]\npath = "**"\nprecedence = "aggregate"\n{LICENCE} = "l{{}}"\n{NOTICE} = "n{{}}"\n'
-    folder, size = "", 0
-    for depth in range(200):
-        texts = {"REUSE.toml": toml.replace("{}", str(depth)), **{f"f{n}": "x" for n in range(45)}}
-        size += sum(write(room, f"tree/{folder}{name}", text) + len(folder + name) for name, text in texts.items())
-        folder += f"{depth}/"
-    return ["lint", "tree"], None, size
+
+    def made(room):
+        os.makedirs(os.path.join(room, "tree"))
+        here, size = os.open(os.path.join(room, "tree"), os.O_RDONLY), 0
+        for level in range(depth):
+            texts = {"REUSE.toml": toml.replace("{}", str(level)), **{f"f{n}": "x" for n in range(each)}}
+            for name, text in texts.items():
+                with open(os.open(name, os.O_CREAT | os.O_WRONLY, dir_fd=here), "w") as file:
+                    size += file.write(text) + 2 * level + len(name)
+            os.mkdir("a", dir_fd=here)
+            here, before = os.open("a", os.O_RDONLY, dir_fd=here), here
+            os.close(before)
+        os.close(here)
+        return ["lint", "tree"], None, size
+    return made
 
 
 def million_tags(room):
@@ -308,7 +317,8 @@ SLOW = {
     "pattern: `*a` 499 times and `*b`, 1,000 long paths": pattern("*a" * 499 + "*b", 1_000),
     "pattern: `**a` 333 times, 1,000 long paths": pattern("**a" * 332 + "**b", 1_000),
     "tree: 10,000 files with tags": many_files,
-    "tree: 200 folders in one another, 9,000 files": nested_files,
+    "tree: 200 folders in one another, 9,000 files": nested_files(200, 45),
+    "tree: 1,900 folders in one another, 7,600 files": nested_files(1_900, 4),
     "tree: a file of a million tags": million_tags,
     "tree: 100,000 licences in 1,000 files": other_tags,
     "tree: 1,000 annotations, 1,000 files": many_annotations,
