@@ -1,18 +1,18 @@
 -- A request needs no more of an object than what is kept of it.
-use Rattle.std.proofs.Common.{◌≡◌, ℕ, ◌+◌, ◌<◌, ◌≤◌, ◌==◌, ◌∷◌, Bool, true, false, List, Option, Some, None, is_some, option_map, option_and_then, codes, Ordering, Less, Equal, Greater, nat_cmp, IsUtf8, refl, sym, ap, ◌∙◌, add-one, arith}
+use Rattle.std.proofs.Common.{◌≡◌, ℕ, ◌+◌, ◌<◌, ◌≤◌, ◌==◌, ◌∷◌, Bool, true, false, List, Option, Some, None, is_some, option_map, option_and_then, codes, Ordering, Less, Equal, Greater, nat_cmp, refl, sym, ap, ◌∙◌, add-one, arith}
 use Rattle.std.specs.Prelude.{unwrap_or, ◌&&◌, if◌then◌else◌}
 use Rattle.std.specs.Str.{is_utf8}
 use Rattle.std.specs.Ordering.{match_ordering}
 use Rattle.std.specs.Cmp.Lexicographic.{slice_cmp}
 use Rattle.std.proofs.lemmas.Str.{IsUtf8-from_is_utf8}
-use Rattle.serde_json.specs.Data.{Data, Num, null, boolean, number, string, array, object, Items, no_items, item, Members, no_members, member}
+use Rattle.serde_json.specs.Data.{Data, null, boolean, number, string, array, object, Items, no_items, item, Members, no_members, member}
 use Rattle.serde_json.specs.Events.{members_len}
-use Rattle.serde_json.specs.Find.{get, get_member, as_str, as_number, as_u64, as_array}
+use Rattle.serde_json.specs.Find.{get_member, as_str, as_number, as_u64, as_array}
 use Rattle.serde_json.specs.Read.{read}
 use Rattle.desk_json_object.specs.Spared.{are_texts, spared, spared_members, IsObject}
 use Rattle.desk_json.specs.Fields.{count, size, text_in, number_in, if_small, texts, texts_in}
 use Rattle.desk_json.specs.Forms.{form_request, request_by}
-use Rattle.desk_json.specs.Requests.{command_request, query_request, request_of, request_in, with_text}
+use Rattle.desk_json.specs.Requests.{command_request, query_request, request_of, request_in}
 use Rattle.desk_json.specs.declared.forms.Form.{Form}
 use Rattle.desk_json.specs.declared.forms.Form.TheVariants as form
 use Rattle.desk_json.specs.declared.request.Request.{Request}

@@ -1,4 +1,4 @@
-//! Requests and replies of the desk as JSON (RFC 8259), read and written by `serde_json`.
+//! Requests and replies of the desk as JSON (RFC 8259), which is what `serde_json` reads and writes.
 //!
 //! A request is one JSON object with exactly the members of its form: `do` and the name of a
 //! command, or `ask` and the name of a query, and the values that it needs.
