@@ -14,10 +14,11 @@ use Rattle.sqlite_trees.specs.Tree.{IsAscending}
 use Rattle.sqlite_trees.proofs.ListLemmas.{ascending_weaker}
 use Rattle.sqlite_sql.specs.Query.{key_cmp}
 use Rattle.desk_history.specs.Laws.{Ascends, document_below, duty_below}
-use Rattle.desk_model.specs.Keys.{below_by, adoption_order, attached_order, choice_order, frozen_order, change_below, release_below}
+use Rattle.desk_model.specs.Keys.{below_by, adoption_order, attached_order, choice_order, conclusion_order, frozen_order, change_below, release_below}
 use Rattle.desk_model.specs.declared.row.AdoptionRow.{AdoptionRow}
 use Rattle.desk_model.specs.declared.row.AttachedRow.{AttachedRow}
 use Rattle.desk_model.specs.declared.row.ChoiceRow.{ChoiceRow}
+use Rattle.desk_model.specs.declared.row.ConclusionRow.{ConclusionRow}
 use Rattle.desk_model.specs.declared.row.ChangeRow.{ChangeRow}
 use Rattle.desk_model.specs.declared.row.DocumentRow.{DocumentRow}
 use Rattle.desk_model.specs.declared.row.DutyRow.{DutyRow}
@@ -74,6 +75,12 @@ pub packages_sorted : (rows : List PackageRow) → Ascends package_below rows
 packages_sorted rows up =
     in_order package_below (λ a b. key_cmp 0 (keys (1 ∷ 2 ∷ [])) (number a.document ∷ Text a.id ∷ []) (number b.document ∷ Text b.id ∷ [])) rows
     (λ a b. rw (numbers a.document b.document, value_cmp-Text a.id b.id, then-Equal (slice_cmp nat_cmp a.id b.id)) (two_lower a.document b.document (slice_cmp nat_cmp a.id b.id))) up
+
+pub conclusions_sorted : (rows : List ConclusionRow) → Ascends (below_by conclusion_order) rows
+    → IsAscending (λ a b. is_lt (key_cmp 0 (keys (1 ∷ 2 ∷ [])) (number b.document ∷ Text b.package_id ∷ []) (number a.document ∷ Text a.package_id ∷ [])) ≡ false) rows
+conclusions_sorted rows up =
+    in_order (below_by conclusion_order) (λ a b. key_cmp 0 (keys (1 ∷ 2 ∷ [])) (number a.document ∷ Text a.package_id ∷ []) (number b.document ∷ Text b.package_id ∷ [])) rows
+    (λ a b. rw (numbers a.document b.document, value_cmp-Text a.package_id b.package_id, then-Equal (slice_cmp nat_cmp a.package_id b.package_id)) refl) up
 
 pub adoptions_sorted : (rows : List AdoptionRow) → Ascends (below_by adoption_order) rows
     → IsAscending (λ a b. is_lt (key_cmp 0 (keys (1 ∷ 2 ∷ [])) (number b.document ∷ Text b.reference ∷ []) (number a.document ∷ Text a.reference ∷ [])) ≡ false) rows

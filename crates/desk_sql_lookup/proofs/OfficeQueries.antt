@@ -26,8 +26,9 @@ use Rattle.desk_model.specs.declared.row.ConclusionRow.{ConclusionRow}
 use Rattle.desk_model.specs.declared.row.AdoptionRow.{AdoptionRow}
 use Rattle.desk_model.specs.declared.row.RuleRow.{RuleRow}
 use Rattle.desk_sql_lookup.specs.Rules.{is_rule_at}
+use Rattle.desk_sql_lookup.specs.Shown.{is_conclusion_in}
 use Rattle.desk_sql_lookup.proofs.Ties.{is_key}
-use Rattle.desk_sql_lookup.proofs.Keyed.{same_number, same_text, adoptions_sorted}
+use Rattle.desk_sql_lookup.proofs.Keyed.{same_number, same_text, adoptions_sorted, conclusions_sorted}
 use Rattle.desk_sql_lookup.specs.Causes.{IsAsked}
 use Rattle.desk_sql_lookup.proofs.Causes.{Suits, asked}
 use Rattle.desk_sql_lookup.proofs.Selects.{order_by, by_unique, at_one_key, shows}
@@ -99,6 +100,43 @@ pub adoption_read : (document : ℕ) (reference : List ℕ) (old new : State) (r
 adoption_read document reference old new rows t shown holds =
     let this = d.adoption_table in
     shows this.name 12 this.columns this.key this.primary this.uniques this.orders 7 refl adoption_cells (rows_of t) t.adoption refl old.now holds.rows adoption_text (codes "licence" ∷ []) (same 1 0 ∷ same 2 1 ∷ []) (col 1 3 ∷ []) (1 ∷ 2 ∷ []) adoption_is adoption_plain (number document ∷ Text reference ∷ []) (adoption_test document reference) (λ (cs : Row). (column cs 0 ∷ column cs 1 ∷ [], column cs 2 ∷ [])) (is_adoption document reference) (λ r. refl) (λ r. refl) (adoption_picks document reference) old new rows shown refl (by_unique this.name 12 this.columns this.key this.primary this.uniques this.orders 7 refl adoption_cells (rows_of t) t.adoption refl old.now holds.rows 0 (1 ∷ 2 ∷ []) refl refl (λ (cs : Row). is_key (column cs 0) && (is_key (column cs 1) && true)) (λ r. refl) (λ x. refl)) (at_one_key this.name 12 this.columns this.key this.primary this.uniques this.orders 7 refl adoption_cells (rows_of t) t.adoption refl old.now holds.rows adoption_text (codes "licence" ∷ []) (same 1 0 ∷ same 2 1 ∷ []) (col 1 3 ∷ []) (1 ∷ 2 ∷ []) adoption_is adoption_plain (number document ∷ Text reference ∷ []) (adoption_test document reference) (λ (cs : Row). (column cs 0 ∷ column cs 1 ∷ [], column cs 2 ∷ [])) (is_adoption document reference) (λ r. refl) (λ r. refl) (adoption_picks document reference) (number document ∷ Text reference ∷ []) (adoption_key document reference))
+
+-- ---- what the office concluded for the packages of a document
+
+abbrev pub conclusions_text : List ℕ
+conclusions_text = codes "SELECT document, package, expression FROM conclusion WHERE document = ?1 ORDER BY document, package"
+
+conclusions_is : (command_of (understood d.desk_schema conclusions_text) ≡ Select (record { lets = []; body = query_on 10 (same 1 0 ∷ []) (col 1 1 ∷ col 1 2 ∷ col 1 3 ∷ []) (order_by (1 ∷ 2 ∷ [])) }) (codes "document" ∷ codes "package" ∷ codes "expression" ∷ [])) × (reads_listing d.desk_schema conclusions_text ≡ false)
+unfolding understood everything
+conclusions_is = (refl, refl)
+
+pub conclusions_plain : IsPlain (understood d.desk_schema conclusions_text)
+unfolding understood everything
+conclusions_plain = (refl, refl)
+
+conclusions_suits : Suits conclusions_text 1 (understood d.desk_schema conclusions_text)
+unfolding understood everything
+conclusions_suits = (refl, refl)
+
+pub conclusions_asked : (document : ℕ) → IsAsked conclusions_text (number document ∷ [])
+conclusions_asked document =
+    asked conclusions_text (number document ∷ []) 10 (same 1 0 ∷ []) (col 1 1 ∷ col 1 2 ∷ col 1 3 ∷ []) (order_by (1 ∷ 2 ∷ [])) (codes "document" ∷ codes "package" ∷ codes "expression" ∷ [])
+    conclusions_is conclusions_plain conclusions_suits refl
+
+abbrev conclusions_test : ℕ → Row → Bool
+conclusions_test document cs = is_true (binary (Compare Eq Binary) (column cs 0) (number document)) && true
+
+conclusions_picks : (document : ℕ) (x : ConclusionRow) → conclusions_test document (conclusion_cells x) ≡ is_conclusion_in document x
+conclusions_picks document x = rw (int_test x.document document, and_true (x.document == document)) refl
+
+pub conclusions_read : (document : ℕ) (old new : State) (rows : List Row) (t : Tables) → Shown conclusions_text (number document ∷ []) old new rows → Holds t old.now → rows ≡ map conclusion_cells (filter (is_conclusion_in document) t.conclusion)
+conclusions_read document old new rows t shown holds =
+    let this = d.conclusion_table in
+    shows this.name 10 this.columns this.key this.primary this.uniques this.orders 6 refl conclusion_cells (rows_of t) t.conclusion refl old.now holds.rows conclusions_text (codes "document" ∷ codes "package" ∷ codes "expression" ∷ [])
+    (same 1 0 ∷ []) (col 1 1 ∷ col 1 2 ∷ col 1 3 ∷ []) (1 ∷ 2 ∷ []) conclusions_is conclusions_plain (number document ∷ []) (conclusions_test document) (λ (cs : Row). (column cs 0 ∷ column cs 1 ∷ [], column cs 0 ∷ column cs 1 ∷ column cs 2 ∷ []))
+    (is_conclusion_in document) (λ r. refl) (λ r. refl) (conclusions_picks document) old new rows shown refl
+    (by_unique this.name 10 this.columns this.key this.primary this.uniques this.orders 6 refl conclusion_cells (rows_of t) t.conclusion refl old.now holds.rows 0 (1 ∷ 2 ∷ []) refl refl (λ (cs : Row). is_key (column cs 0) && (is_key (column cs 1) && true)) (λ r. refl) (λ x. refl))
+    (ascending-filter _ (is_conclusion_in document) t.conclusion (conclusions_sorted t.conclusion holds.orderly.sorted.conclusion))
 
 -- ---- the references of a document that are adopted
 

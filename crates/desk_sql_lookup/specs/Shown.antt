@@ -1,10 +1,11 @@
 -- What a query shows of a row where it shows some of its columns.
-use Rattle.std.specs.Prelude.{ℕ, List, [], ◌∷◌}
+use Rattle.std.specs.Prelude.{ℕ, ◌==◌, Bool, List, [], ◌∷◌}
 use Rattle.sqlite_value.specs.Order.{Row}
 use Rattle.sqlite_value.specs.declared.value.Value.TheVariants.{Text, Blob}
 use Rattle.desk_base.specs.Profiles.{profile_number}
 use Rattle.desk_base.specs.declared.profile.Profile.{Profile}
 use Rattle.desk_sql_layout.specs.Cells.{number, text_or_null}
+use Rattle.desk_model.specs.declared.row.ConclusionRow.{ConclusionRow}
 use Rattle.desk_model.specs.declared.row.DocumentRow.{DocumentRow}
 use Rattle.desk_model.specs.declared.row.ExtractedRow.{ExtractedRow}
 use Rattle.desk_model.specs.Names.{duty_state_name}
@@ -38,3 +39,7 @@ import_cells row = number row.number ∷ Blob row.bytes ∷ []
 -- the text of a reference, where it has one
 abbrev pub extracted_body_cells : ExtractedRow → Row
 extracted_body_cells row = text_or_null row.body ∷ []
+
+-- what the office concluded for a package of a document
+abbrev pub is_conclusion_in : ℕ → ConclusionRow → Bool
+is_conclusion_in document row = row.document == document

@@ -39,7 +39,7 @@ pub use documents::{document, document_source, import_of, package_row, shipped};
 pub use duties::{duties_of, duty};
 pub use heads::document_heads;
 pub use holding::{choices, choices_in};
-pub use office::{adopted_references, adoption, conclusion};
+pub use office::{adopted_references, adoption, conclusion, conclusions_in};
 pub use releases::{attached, attached_count, chosen, frozen, is_attached, release, release_rows};
 pub use rows::{read_duties, read_releases};
 pub use rules::rule;

@@ -3,13 +3,15 @@
 ghost use Rattle.std.specs.Prelude.{◌≡◌, filter, map};
 ghost use Rattle.desk_model.specs.Conclusions.{licence_for, office_text};
 ghost use Rattle.desk_model.specs.Keys.{is_adoption, is_adoption_in, is_conclusion};
-ghost use Rattle.desk_sql_lookup.specs.Shown.{text_cells};
+ghost use Rattle.desk_sql_layout.specs.Cells.{conclusion_cells};
+ghost use Rattle.desk_sql_lookup.specs.Shown.{is_conclusion_in, text_cells};
 ghost use Rattle.desk_sql_lookup.specs.LookUps.{LooksUp};
 
+use crate::columns::{number_at, text_at};
 use crate::query::{query, read_rows, text};
-use crate::read::read_first;
+use crate::read::{ReadRow, read_first};
 use desk_base::Text;
-use desk_model::Fault;
+use desk_model::{ConclusionRow, Fault};
 use desk_sql_layout::values::number;
 use sqlite::{Alter, Connection, Row};
 use std::alloc::Global;
@@ -42,6 +44,35 @@ pub fn conclusion<S: Alter>(
 {
     let rows = select_conclusion(conn, document, id)?;
     read_first(alloc, &rows)
+}
+
+impl ReadRow for ConclusionRow {
+    ghost cells = { conclusion_cells };
+
+    fn read(alloc: Global, row: &Row) -> Result<ConclusionRow, Fault> {
+        Ok(ConclusionRow {
+            document: number_at(row, 0)?,
+            package_id: text_at(alloc, row, 1)?,
+            expression: text_at(alloc, row, 2)?,
+        })
+    }
+}
+
+/// What the office concluded for the packages of a document, by their ids.
+pub fn conclusions_in<S: Alter>(
+    alloc: Global,
+    conn: &mut Connection<S>,
+    document: u32,
+) -> Result<Vec<ConclusionRow>, Fault>
+    ensures { LooksUp S.Store conn.old conn.new result (λ found t.
+        found.items ≡ filter (is_conclusion_in document) t.conclusion) }
+{
+    read_rows(
+        alloc,
+        conn,
+        "SELECT document, package, expression FROM conclusion WHERE document = ?1 ORDER BY document, package",
+        &[number(document)],
+    )
 }
 
 fn select_adoption<S: Alter>(
