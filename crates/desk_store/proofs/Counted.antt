@@ -30,7 +30,7 @@ beside had has n m k l a b it = record { counts = it.counts; closes = it.closes 
 
 -- nothing that was found is so of any tables
 pub nothing_found : (has : Found) → has ≡ nothing_kept → (t : Tables) → AreFound has t
-nothing_found has none t = subst (λ (f : Found). AreFound f t) (sym none) (tt, tt, record { document = tt; rule = tt })
+nothing_found has none t = subst (λ (f : Found). AreFound f t) (sym none) (tt, tt, record { document = tt; rule = tt; conclusions = tt; choices = tt })
 
 -- ---- look-ups
 

@@ -16,6 +16,7 @@ use Rattle.desk_history.specs.FromTables.{known_document}
 use Rattle.desk_history_laws.proofs.Lists.{found_in}
 use Rattle.desk_sql_lookup.proofs.Keyed.{same_text}
 use Rattle.desk_store.specs.Last.{AreLast, IsDocument}
+use Rattle.desk_store.specs.Repeated.{no_choices, no_conclusions}
 
 -- a document that was found stays, since others are put behind it
 document_stays : (change : Change) (t : Tables) (known : ℕ × Profile) → IsDocument (Some known) t → IsDocument (Some known) (applied change t)
@@ -36,9 +37,9 @@ document_stays (change.Withdrew r moved) t known is = is
 document_stays (change.Concluded row) t known is = is
 document_stays (change.Adopted row) t known is = is
 
-pub last_stays : (change : Change) (t : Tables) (document : Option (ℕ × Profile)) → IsDocument document t → AreLast (record { document = document; rule = None }) (applied change t)
-last_stays change t None is = record { document = tt; rule = tt }
-last_stays change t (Some known) is = record { document = document_stays change t known is; rule = tt }
+pub last_stays : (change : Change) (t : Tables) (document : Option (ℕ × Profile)) → IsDocument document t → AreLast (record { document = document; rule = None; conclusions = no_conclusions; choices = no_choices }) (applied change t)
+last_stays change t None is = record { document = tt; rule = tt; conclusions = tt; choices = tt }
+last_stays change t (Some known) is = record { document = document_stays change t known is; rule = tt; conclusions = tt; choices = tt }
 
 -- a rule that was found is that for its own term and form
 pub rule_is_own : (rules : List Rule) (term form : List ℕ) (rule : Rule) → rule_for rules term form ≡ Some rule → rule_for rules rule.term rule.form ≡ Some rule

@@ -1,5 +1,6 @@
 mod Distinct
 mod AdoptionLemmas
+mod RepeatedLemmas
 mod LastLemmas
 mod Holding
 mod Counted

@@ -8,6 +8,7 @@ use Rattle.desk_model.specs.Tables.{Tables}
 use Rattle.desk_model.specs.declared.reading.Rule.{Rule}
 use Rattle.desk_history.specs.FromTables.{known_document, rules_found}
 use Rattle.desk_store.specs.declared.last.Last.{Last}
+use Rattle.desk_store.specs.Repeated.{AreChoices, AreConclusions, no_choices, no_conclusions}
 
 -- a document, by its number and its profile
 abbrev pub IsDocument : Option (ℕ × Profile) → Tables → Type 0
@@ -22,6 +23,8 @@ IsRule (Some rule) t = rule_for (rules_found t) rule.term rule.form ≡ Some rul
 pub record AreLast (last : Last) (t : Tables) : Type 0 where
   pub document : IsDocument last.document t
   pub rule : IsRule last.rule t
+  pub conclusions : AreConclusions last.conclusions t
+  pub choices : AreChoices last.choices t
 
 abbrev pub nothing_last : Last
-nothing_last = record { document = None; rule = None }
+nothing_last = record { document = None; rule = None; conclusions = no_conclusions; choices = no_choices }

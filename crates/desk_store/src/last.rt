@@ -1,5 +1,5 @@
-//! What look-ups found last, for those that ask again: a freeze asks for the same document and the
-//! same rule package by package.
+//! What look-ups found last, for those that ask again: a freeze asks package by package for the
+//! same document, the same rule, and for what was concluded and chosen there.
 
 ghost use Rattle.std.specs.Prelude.{◌≡◌, ℕ, List, Some, IfOk, IfSome, OnErr, OnOk, find};
 ghost use Rattle.std.specs.Option.{option_map};
@@ -10,15 +10,18 @@ ghost use Rattle.desk_model.specs.declared.command.Change.{Change};
 ghost use Rattle.desk_history.specs.FromTables.{known_document, rules_found};
 ghost use Rattle.desk_store.specs.Last.{AreLast, IsDocument, IsRule, nothing_last};
 
+use crate::repeated::{Choices, Conclusions};
 use desk_base::{Items, Text};
 use desk_model::{Profile, Rule};
 use std::alloc::{AllocError, Global};
 
-/// A document with its profile, and a rule.
+/// A document with its profile, a rule, and what was asked for in a row with no change between.
 #[derive(Drop)]
 pub(crate) struct Last {
     pub(crate) document: Option<(u32, Profile)>,
     pub(crate) rule: Option<Rule>,
+    pub(crate) conclusions: Conclusions,
+    pub(crate) choices: Choices,
 }
 
 fn copies(alloc: Global, texts: &Items<Text>) -> Result<Items<Text>, AllocError>
@@ -49,6 +52,8 @@ impl Last {
         Last {
             document: None,
             rule: None,
+            conclusions: Conclusions::nothing(),
+            choices: Choices::nothing(),
         }
     }
 
@@ -60,6 +65,8 @@ impl Last {
         Last {
             document: self.document.take(),
             rule: self.rule.take(),
+            conclusions: std::mem::replace(&mut self.conclusions, Conclusions::nothing()),
+            choices: std::mem::replace(&mut self.choices, Choices::nothing()),
         }
     }
 
@@ -71,6 +78,8 @@ impl Last {
         Last {
             document: self.document,
             rule: None,
+            conclusions: Conclusions::nothing(),
+            choices: Choices::nothing(),
         }
     }
 

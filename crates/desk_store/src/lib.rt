@@ -4,8 +4,9 @@
 //! change by `desk_sql_commit`, and keeps in its own value how many rows some tables have, the
 //! forms of the catalogue in force and the tallies of the releases (`specs/Counting.antt`). What
 //! look-ups ask for again is kept once it was found: the references of one document that are
-//! adopted (`specs/References.antt`), the releases that hold a choice (`specs/Holding.antt`), and a
-//! document and a rule of the last look-ups (`Last`).
+//! adopted (`specs/References.antt`), the releases that hold a choice (`specs/Holding.antt`), a
+//! document and a rule of the last look-ups (`Last`), and the conclusions of a document and the
+//! choices of a release that are asked for in a row (`specs/Repeated.antt`).
 //!
 //! `SqlDesk` is the desk over such a store, with the reader of texts by their standards. `create`
 //! makes the tables of an empty desk in a database where nothing stands; `adopt_connection` takes a
@@ -28,6 +29,7 @@ mod holders;
 mod last;
 mod looking;
 mod migrate;
+mod repeated;
 mod store;
 
 pub use audit::audit_connection;

@@ -38,8 +38,10 @@ use crate::audit::audit_connection;
 use crate::counts::{Counts, counts_after};
 use crate::found::{Found, found_after};
 use crate::holders::{read_holders, release_place};
+use crate::repeated::{Choices, Conclusions, expression_in, listed, terms_in};
 use desk_access::store::Store;
 use desk_base::{Day, Items, Text};
+use desk_memory_rows::ByPackage;
 use desk_model::{
     AttachedRow, Change, ChangeRow, DocumentHead, DutyRow, Fault, FrozenRow, PackageRow, Profile,
     ReleaseRow, Rule, Standing, StoreFault, Totals,
@@ -261,6 +263,34 @@ impl<S: Alter> SqlStore<S> {
     }
 }
 
+impl<S: Alter> SqlStore<S> {
+    /// Reads all conclusions of a document, and finds that for a package.
+    fn read_conclusion(&mut self, document: u32, id: &str) -> Result<Option<Text>, Fault>
+        ensures { Finds ⟦<SqlStore<S> as Store>⟧.seen (λ s. state S.Store s.conn) self.old self.new
+            result (λ found t. found ≡ office_text t.conclusion document id.now) }
+    {
+        let read = desk_sql_lookup::conclusions_in(self.alloc, &mut self.conn, document)?;
+        let rows = listed(self.alloc, read)?;
+        let expression = expression_in(&rows, document, id)?;
+        self.found.last.conclusions = Conclusions::of(document, rows);
+        Ok(expression)
+    }
+
+    /// Reads all choices of a release, and finds those for a package.
+    fn read_chosen(&mut self, key: &ByPackage<'_>) -> Result<Vec<Text>, Fault>
+        ensures { Finds ⟦<SqlStore<S> as Store>⟧.seen (λ s. state S.Store s.conn) self.old self.new
+            result (λ found t. found.items ≡ map (λ row. row.term) (filter (is_choice_of
+            key.now.release.now key.now.document key.now.id.now) t.choice)) }
+    {
+        let release = Text::of(self.alloc, key.release)?;
+        let read = desk_sql_lookup::choices_in(self.alloc, &mut self.conn, key.release)?;
+        let rows = listed(self.alloc, read)?;
+        let terms = terms_in(self.alloc, &rows, key)?;
+        self.found.last.choices = Choices::of(release, rows);
+        Ok(terms)
+    }
+}
+
 fn has_form(forms: &[Text], form: &str) -> bool
     ensures { result ≡ list_any (bytes_eq form.now) forms.now }
 {
@@ -429,7 +459,18 @@ impl<S: Alter> Store for SqlStore<S> {
             result (λ found t. found.items ≡ map (λ row. row.term) (filter (is_choice_of release.now
             document id.now) t.choice)) }
     {
-        desk_sql_lookup::chosen(self.alloc, &mut self.conn, release, document, id)
+        let key = ByPackage {
+            release,
+            document,
+            id,
+        };
+        if self.found.last.choices.ask(self.alloc, release)? {
+            return self.read_chosen(&key);
+        }
+        match self.found.last.choices.rows_of(release) {
+            Some(rows) => Ok(terms_in(self.alloc, rows, &key)?),
+            None => desk_sql_lookup::chosen(self.alloc, &mut self.conn, release, document, id),
+        }
     }
 
     fn frozen(&mut self, release: &str) -> Result<Vec<FrozenRow>, Fault>
@@ -444,7 +485,13 @@ impl<S: Alter> Store for SqlStore<S> {
         ensures { Finds ⟦<SqlStore<S> as Store>⟧.seen (λ s. state S.Store s.conn) self.old self.new
             result (λ found t. found ≡ office_text t.conclusion document id.now) }
     {
-        desk_sql_lookup::conclusion(self.alloc, &mut self.conn, document, id)
+        if self.found.last.conclusions.ask(document) {
+            return self.read_conclusion(document, id);
+        }
+        match self.found.last.conclusions.rows_of(document) {
+            Some(rows) => Ok(expression_in(rows, document, id)?),
+            None => desk_sql_lookup::conclusion(self.alloc, &mut self.conn, document, id),
+        }
     }
 
     fn holder(&mut self, document: u32, id: &str) -> Result<Option<Text>, Fault>
