@@ -78,22 +78,21 @@ fn take_list(value: &mut Value, key: &str) -> Option<Vec<Value>>
     }
 }
 
-/// Copies of the texts of a list, where it holds nothing else. Each text goes once it is copied, so
-/// that there is little more than one of each.
+/// The texts of a list, where it holds nothing else.
 fn texts_of(alloc: Global, list: Vec<Value>) -> Result<Option<Items<Text>>, AllocError>
     ensures { IfOk result (λ r. r ≡ texts (items_view list.items)) }
 {
-    let mut found = Items::new(alloc);
+    let mut found = Vec::with_capacity(alloc, list.len())?;
     for item in list {
         match item {
-            Value::String(text) => found.push(Text::of(alloc, text.as_str())?)?,
+            Value::String(text) => found.push(Text::from(text))?,
             _ => return Ok(None),
         }
     }
-    Ok(Some(found))
+    Ok(Some(Items::from_vec(found)))
 }
 
-/// Copies of the texts of a member that is a list of texts, which is taken out of it.
+/// The texts of a member that is a list of texts, which is taken out of it.
 fn take_texts(
     alloc: Global,
     value: &mut Value,
@@ -158,7 +157,7 @@ pub(crate) fn wanted_number(value: &Value, key: &str) -> Result<u64, Unread>
     number_at(value, key).ok_or(Unread::BadCommand)
 }
 
-/// Copies of the texts of a member that is a list of texts, which is taken out of it.
+/// The texts of a member that is a list of texts, which is taken out of it.
 pub(crate) fn wanted_texts(
     alloc: Global,
     value: &mut Value,
