@@ -12,6 +12,7 @@ import statistics
 import subprocess
 import sys
 import tempfile
+import threading
 import time
 
 HERE = os.path.dirname(os.path.abspath(__file__))
@@ -31,18 +32,45 @@ RELEASES = (409, 4_096)
 
 
 class Desk:
-    """The program over a file, sent requests in turn."""
+    """The program over a file, sent requests in turn. Its replies go into a file, since a reader that each of them wakes costs it time."""
 
     def __init__(self, program, path):
-        self.process = subprocess.Popen([program, "script", "--db", path], stdin=subprocess.PIPE, stdout=subprocess.PIPE)
+        self.replies = open(path + ".replies", "w+b")
+        self.process = subprocess.Popen([program, "script", "--db", path], stdin=subprocess.PIPE, stdout=self.replies)
+        self.read = 0
+
+    def come(self):
+        """The replies that came since the last ones, and what came of the next."""
+        return os.pread(self.replies.fileno(), 1 << 26, self.read)
 
     def step(self, name, requests):
-        return rows.sent(self.process, name, requests)
+        """The seconds until the last reply to requests that are sent together: none may be refused, or each by the choice that is held."""
+        wanted = b'"name":"Chosen"' if name == rows.UNDER_A_CHOICE else b""
+        sender = threading.Thread(target=self.send, args=("".join(requests).encode(),))
+        begun = time.perf_counter()
+        sender.start()
+        while (found := self.come()).count(b"\n") < len(requests):
+            if self.process.poll() is not None:
+                sys.exit(f"{name}: the desk ended")
+            time.sleep(0.0002)
+        seconds = time.perf_counter() - begun
+        sender.join()
+        self.read += len(found)
+        for reply in found.splitlines():
+            is_refused = b'"refused"' in reply or b'"fault"' in reply
+            if is_refused != bool(wanted) or wanted not in reply:
+                sys.exit(f"{name}: {reply!r}")
+        return seconds
+
+    def send(self, text):
+        self.process.stdin.write(text)
+        self.process.stdin.flush()
 
     def end(self):
         begun = time.perf_counter()
         self.process.stdin.close()
         self.process.wait()
+        self.replies.close()
         return time.perf_counter() - begun
 
 
@@ -131,6 +159,7 @@ def timed(program, beside, alone, room, duties):
         note("commands", "library", other)
         copied(kept, path)
         desk = Desk(program, path)
+        desk.step("totals", totals[:1])
         note("freeze", "desk", desk.step("freeze", freeze))
         note("totals", "desk", desk.step("totals", totals))
         note("close", "desk", desk.end())
