@@ -7,6 +7,7 @@ pub mod PlacedLemmas
 pub mod TomlLemmas
 pub mod StatedLemmas
 pub mod RestLemmas
+pub mod WayLemmas
 pub mod SetLemmas
 pub mod GatheredLemmas
 pub mod SurveyLaws

@@ -1,9 +1,6 @@
 -- The rests of a path behind its slashes.
-use Rattle.std.proofs.Common.{◌≡◌, ◌≢◌, ◌∙◌, ℕ, suc, ◌<◌, false, cond, eqb, List, [], ◌∷◌, ◌++◌, length, get_or, ap, refl, append_assoc, arith, Option, Some, None}
-use Rattle.std.specs.Prelude.{option_to_list}
-use Rattle.std.specs.List.{cons_option}
+use Rattle.std.proofs.Common.{◌≡◌, ◌≢◌, ◌∙◌, ℕ, suc, ◌<◌, false, cond, eqb, List, [], ◌∷◌, ◌++◌, length, get_or, ap, refl, arith}
 use Rattle.std.proofs.lemmas.Bool.Decides.{nat_tests}
-use Rattle.std.proofs.lemmas.List.{append-nil}
 use Rattle.desk_tree_gather.specs.Information.{rests}
 
 abbrev NoSlash : List ℕ → Type 0
@@ -24,7 +21,3 @@ rests-cut [] after none = refl
 rests-cut (b ∷ bs) after none =
     ap (λ t. cond t ((bs ++ (47 ∷ after)) ∷ rests (bs ++ (47 ∷ after))) (rests (bs ++ (47 ∷ after)))) (no_slash b bs none)
     ∙ rests-cut bs after (tail_no_slash b bs none)
-
-pub onto_one : {A : Type 0} (done : List A) (o : Option A) (more : List A) → (done ++ option_to_list o) ++ more ≡ done ++ cons_option o more
-onto_one done None more = ap (λ l. l ++ more) (append-nil done)
-onto_one done (Some x) more = append_assoc done (x ∷ []) more

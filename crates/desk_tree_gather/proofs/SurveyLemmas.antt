@@ -1,20 +1,23 @@
 -- A survey's steps.
-use Rattle.std.proofs.Common.{◌≡◌, ◌∙◌, inl, inr, ℕ, true, false, cond, List, [], ◌∷◌, ◌++◌, map, None, sym, ap, append_assoc}
+use Rattle.std.proofs.Common.{◌≡◌, ◌∙◌, inl, inr, ℕ, ◌+◌, ◌<◌, true, false, cond, List, [], ◌∷◌, ◌++◌, length, get_or, take, map, None, sym, ap, append_assoc}
 use Rattle.std.specs.List.{flat_map}
 use Rattle.std.specs.Str.{IsUtf8, is_utf8}
 use Rattle.std.proofs.lemmas.Bool.{cases_Bool}
-use Rattle.std.proofs.lemmas.List.{append-nil}
+use Rattle.std.proofs.lemmas.List.{append-nil, flat_map_more, map-append, map_more}
 use Rattle.std.proofs.lemmas.Str.{IsUtf8-from_is_utf8, is_utf8-from_IsUtf8}
 use Rattle.desk_tree_annotations.specs.Tags.{TagText}
 use Rattle.desk_tree_annotations.specs.declared.annotation.Annotation.{Annotation}
 use Rattle.desk_tree_annotations.specs.declared.fault.AnnotationsFault.{AnnotationsFault}
 use Rattle.desk_tree_annotations.specs.Sifting.{good_annotations, annotation_faults}
+use Rattle.desk_tree_gather.specs.declared.files.File.{File}
 use Rattle.desk_tree_gather.specs.declared.files.SourceFile.{SourceFile}
 use Rattle.desk_tree_gather.specs.declared.flaw.Flaw.{Flaw}
 use Rattle.desk_tree_gather.specs.declared.flaw.Flaw.TheVariants.{BadToml, BadExpression}
+use Rattle.desk_tree_gather.specs.declared.gathering.FileInfo.{FileInfo}
 use Rattle.desk_tree_gather.specs.Readers.{Reader, Stated}
 use Rattle.desk_tree_gather.specs.Paths.{folder_of}
 use Rattle.desk_tree_gather.specs.Trees.{put_file}
+use Rattle.desk_tree_gather.specs.Shown.{file_of, files_of}
 use Rattle.desk_tree_gather.specs.Survey.{path_flaw, unless_flawed, with_file, flaw_of, toml_flaws, toml_sifted, tag_flaws, stated_flaws}
 
 -- ---- tags
@@ -66,3 +69,23 @@ flaws_text r f faults text k =
 
 pub joined : (flaws middle new x y x' y' : List Flaw) → new ≡ middle ++ y → middle ≡ flaws ++ x → x ≡ x' → y ≡ y' → new ≡ flaws ++ (x' ++ y')
 joined flaws middle new x y x' y' is so_far e k = is ∙ ap (λ m. m ++ y) so_far ∙ append_assoc flaws x y ∙ (λ i. flaws ++ (e i ++ k i))
+
+-- ---- one file more
+
+module _ (files : List File) (i : ℕ) (d : File) where
+  files_more : i < length files → files_of (take (i + 1) files) ≡ files_of (take i files) ++ file_of (get_or files i d) ∷ []
+  files_more within = map_more file_of files i d within
+
+  pub infos_more : (read : SourceFile → FileInfo) (infos : List FileInfo) (info : FileInfo) → i < length files → infos ≡ map read (files_of (take i files)) → info ≡ read (file_of (get_or files i d))
+      → infos ++ info ∷ [] ≡ map read (files_of (take (i + 1) files))
+  infos_more read infos info within so_far is =
+      (λ j. so_far j ++ is j ∷ [])
+      ∙ sym (ap (map read) (files_more within) ∙ map-append read (files_of (take i files)) (file_of (get_or files i d) ∷ []))
+
+  pub flaws_more : (flaws : SourceFile → List Flaw) (before old new : List Flaw) → i < length files → old ≡ before ++ flat_map flaws (files_of (take i files)) → new ≡ old ++ flaws (file_of (get_or files i d))
+      → new ≡ before ++ flat_map flaws (files_of (take (i + 1) files))
+  flaws_more flaws before old new within so_far is =
+      is
+      ∙ ap (λ l. l ++ flaws (file_of (get_or files i d))) so_far
+      ∙ flat_map_more flaws before (files_of (take i files)) (file_of (get_or files i d))
+      ∙ ap (λ fs. before ++ flat_map flaws fs) (sym (files_more within))

@@ -1,5 +1,5 @@
 -- What is told of a tree's files, the first of which leaves after the other.
-use Rattle.std.proofs.Common.{◌≡◌, ◌∙◌, ℕ, Bool, true, false, cond, List, [], ◌∷◌, ◌++◌, map, Some, codes, sym, ap, refl, Ordering, Less, Equal, Greater, nat_cmp, is_eq}
+use Rattle.std.proofs.Common.{◌≡◌, ◌∙◌, ◌<◌, ℕ, Bool, true, false, cond, List, [], ◌∷◌, ◌++◌, length, map, arith, Some, codes, sym, ap, refl, Ordering, Less, Equal, Greater, nat_cmp, is_eq}
 use Rattle.std.specs.Prelude.{All, Ok, Err, filter}
 use Rattle.std.specs.Ordering.{ordering_then, ordering_reverse}
 use Rattle.std.specs.Str.{bytes_eq}
@@ -173,3 +173,8 @@ kept_test test read f false fs rest is more = more
 pub each-filter : {A : Type 0} (test : SourceFile → Bool) (read : SourceFile → Read A) (fs : List SourceFile) → each test read (filter test fs) ≡ each test read fs
 each-filter test read [] = refl
 each-filter test read (f ∷ fs) = kept_test test read f (test f) (filter test fs) (each test read fs) refl (each-filter test read fs)
+
+-- where no file is left
+pub none_left : (es : List (List ℕ × List ℕ)) → (0 < length es → ⊥) → es ≡ []
+none_left [] none = refl
+none_left (e ∷ es) none = absurd (none (omega arith))

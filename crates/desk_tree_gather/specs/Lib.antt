@@ -4,6 +4,7 @@ pub mod Trees
 pub mod Tomls
 pub mod Folders
 pub mod Information
+pub mod Ways
 pub mod Gathering
 pub mod Telling
 pub mod Survey

@@ -1,16 +1,16 @@
 //! The annotations that count for a file.
 
-ghost use Rattle.std.specs.Prelude.{◌≡◌, ◌≤◌, ◌<◌, ◌++◌, ◌∷◌, [], List, length, option_map, option_to_list, IfOk, OnOk, IfSome, IfNone, IsUtf8};
+ghost use Rattle.std.specs.Prelude.{◌≡◌, ◌++◌, List, map, option_map, option_to_list, IfOk, OnOk, IsUtf8};
 ghost use Rattle.desk_tree_gather.specs.Readers.{Reader, IsRightReader};
-ghost use Rattle.desk_tree_gather.specs.Tomls.{TomlText};
-ghost use Rattle.desk_tree_gather.specs.Information.{rests, covers, last_covering, counting_in, counting};
+ghost use Rattle.desk_tree_gather.specs.Tomls.{TomlText, annotations_in};
+ghost use Rattle.desk_tree_gather.specs.Information.{covers, last_covering, counting};
 ghost use Rattle.desk_tree_gather.specs.Folders.{Holds};
 ghost use Rattle.desk_tree_gather.specs.Shown.{annotations_of};
+ghost use Rattle.desk_tree_gather.specs.Ways.{behind_slash, ways, lists_of};
 
-use crate::tomls::annotations_in;
-use desk_tree_annotations::{Annotation, Annotations};
+use crate::trail::Trail;
+use desk_tree_annotations::Annotation;
 use std::alloc::{AllocError, Global};
-use std::collections::BTreeMap;
 
 // Whether some pattern of an annotation matches a path.
 fn covers(annotation: &Annotation, path: &str) -> bool
@@ -38,20 +38,6 @@ fn last_covering<'m>(annotations: &'m [Annotation], path: &str) -> Option<&'m An
     last
 }
 
-// The annotation that counts in the folder from which the rest of a path is seen.
-fn counting_in<'m>(
-    folders: &'m BTreeMap<Vec<u8>, Annotations>,
-    path: &str,
-    rest: &str,
-) -> Option<&'m Annotation>
-    requires { length rest.now ≤ length path.now }
-    ensures { (r : Reader) → IsRightReader r → (tomls : List TomlText) → Holds tomls folders.now
-        → option_map (λ a. a.now) result ≡ counting_in r tomls path.now rest.now }
-{
-    let (folder, _) = path.as_bytes().split_at(path.len() - rest.len());
-    last_covering(annotations_in(folders, folder), rest)
-}
-
 // Adds the annotation that counts in a folder, if there is one.
 fn add<'m>(list: &mut Vec<&'m Annotation>, found: Option<&'m Annotation>) -> Result<(), AllocError>
     ensures { OnOk result (annotations_of list.new.items
@@ -63,34 +49,48 @@ fn add<'m>(list: &mut Vec<&'m Annotation>, found: Option<&'m Annotation>) -> Res
     Ok(())
 }
 
-// What stands behind the first slash.
-fn behind_slash(path: &str) -> Option<&str>
-    ensures none { IfNone result (rests path.now ≡ []) }
-    ensures some { IfSome result (λ r. rests path.now ≡ r.now ∷ rests r.now) }
-    ensures less { IfSome result (λ r. length r.now < length path.now) }
-    ensures utf8 { IfSome result (λ r. IsUtf8 r.now) }
+// What stands behind the first slash, or all where there is none.
+fn behind_slash(path: &str) -> &str
+    ensures value { result.now ≡ behind_slash path.now }
+    ensures utf8 { IsUtf8 result.now }
 {
-    let Some((_, after)) = path.split_once('/') else {
-        return None;
-    };
-    Some(after)
+    match path.split_once('/') {
+        Some((_, after)) => after,
+        None => path,
+    }
 }
 
-/// The annotations that count for a path, from the root to its folder.
-pub(crate) fn counting<'m>(
+// The annotations that count for a path, by those of the folders on the way to it.
+fn counting_along<'m>(
     alloc: Global,
-    folders: &'m BTreeMap<Vec<u8>, Annotations>,
+    lists: &[&'m [Annotation]],
     path: &str,
 ) -> Result<Vec<&'m Annotation>, AllocError>
-    ensures { (r : Reader) → IsRightReader r → (tomls : List TomlText) → Holds tomls folders.now
+    ensures { (r : Reader) → IsRightReader r → (tomls : List TomlText)
+        → lists_of lists.now ≡ map (annotations_in tomls) (ways path.now)
         → IfOk result (λ v. annotations_of v.items ≡ counting r tomls path.now) }
 {
     let mut list = Vec::new(alloc);
-    add(&mut list, counting_in(folders, path, path))?;
     let mut rest = path;
-    while let Some(after) = behind_slash(rest) {
-        add(&mut list, counting_in(folders, path, after))?;
-        rest = after;
+    for annotations in lists {
+        add(&mut list, last_covering(annotations, rest))?;
+        rest = behind_slash(rest);
     }
     Ok(list)
+}
+
+/// The annotations that count for a path, from the root to its folder, by the way to the path
+/// before.
+pub(crate) fn counting<'m>(
+    alloc: Global,
+    trail: &mut Trail<'m>,
+    path: &str,
+) -> Result<Vec<&'m Annotation>, AllocError>
+    ensures same { OnOk result (trail.new.folders.now ≡ trail.old.folders.now) }
+    ensures counting { (r : Reader) → IsRightReader r → (tomls : List TomlText)
+        → Holds tomls trail.old.folders.now
+        → IfOk result (λ v. annotations_of v.items ≡ counting r tomls path.now) }
+{
+    *trail = trail.to(alloc, path)?;
+    counting_along(alloc, trail.lists(), path)
 }

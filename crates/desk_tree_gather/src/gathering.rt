@@ -1,6 +1,6 @@
 //! What is gathered of a tree.
 
-ghost use Rattle.std.specs.Prelude.{◌≡◌, ◌⊎◌, List, IfOk, IfErr, Ok, Err, alloc_error, option_map, map};
+ghost use Rattle.std.specs.Prelude.{◌≡◌, ◌⊎◌, List, IfOk, IfErr, OnOk, Ok, Err, alloc_error, option_map, map};
 ghost use Rattle.desk_tree_annotations.specs.Tags.{tag_text};
 ghost use Rattle.desk_tree_gather.specs.Readers.{Reader, IsRightReader, Stated};
 ghost use Rattle.desk_tree_gather.specs.Tomls.{TomlText};
@@ -16,8 +16,9 @@ use crate::counting::counting;
 use crate::fault::GatherFault;
 use crate::files::{File, SourceFile, bytes_at, files_of, is_covered, tree_of};
 use crate::information::{Subject, given};
-use crate::sets::shared_set;
+use crate::sets::{LastSet, LastSets};
 use crate::tomls::{by_folder, tomls_of};
+use crate::trail::Trail;
 use desk_base::{Items, Text};
 use desk_tree_annotations::{
     Annotation, Annotations, Info, SharedText, Tagged, header, is_expression_beside,
@@ -43,11 +44,33 @@ pub(crate) struct Known<'a> {
     pub(crate) folders: BTreeMap<Vec<u8>, Annotations>,
 }
 
+/// What is kept of the file before, since most of it is that of the next one by path, too.
+#[derive(Drop)]
+pub(crate) struct Before<'m> {
+    pub(crate) trail: Trail<'m>,
+    pub(crate) sets: LastSets,
+}
+
 /// The file that holds what is stated of another, or of itself.
 #[derive(Drop)]
 pub(crate) struct Held<'a> {
     pub(crate) path: String,
     pub(crate) bytes: &'a [u8],
+}
+
+impl<'m> Before<'m> {
+    /// What is kept before the first file.
+    pub(crate) fn of(
+        alloc: Global,
+        folders: &'m BTreeMap<Vec<u8>, Annotations>,
+    ) -> Result<Before<'m>, AllocError>
+        ensures { IfOk result (λ b. b.trail.folders.now ≡ folders.now) }
+    {
+        Ok(Before {
+            trail: Trail::of(alloc, folders)?,
+            sets: LastSets::new(alloc),
+        })
+    }
 }
 
 // The line of the first licence that is no expression.
@@ -130,6 +153,7 @@ fn values(alloc: Global, tags: &[Tagged<'_>]) -> Result<Vec<SharedText>, AllocEr
 // The distinct texts of a file in byte order, from its own and the annotations that count.
 fn set_of(
     alloc: Global,
+    last: &mut LastSet,
     of: Subject,
     own: &[Tagged<'_>],
     counting: &[&Annotation],
@@ -139,7 +163,7 @@ fn set_of(
 {
     let own = values(alloc, own)?;
     let texts = given(alloc, of, own.as_slice(), counting)?;
-    shared_set(alloc, texts)
+    last.next(alloc, texts)
 }
 
 /// The information of a file, from its own and the annotations that count.
@@ -148,34 +172,80 @@ pub(crate) fn info_with(
     path: &str,
     counting: &[&Annotation],
     own: &Info<'_>,
+    last: &mut LastSets,
 ) -> Result<FileInfo, AllocError>
     ensures { IfOk result (λ i. i
         ≡ info_with path.now (annotations_of counting.now) (stated_of own.now)) }
 {
     Ok(FileInfo {
         path: Text::of(alloc, path)?,
-        notices: set_of(alloc, Subject::Notices, own.notices.as_slice(), counting)?,
-        licences: set_of(alloc, Subject::Licences, own.licences.as_slice(), counting)?,
+        notices: set_of(
+            alloc,
+            &mut last.notices,
+            Subject::Notices,
+            own.notices.as_slice(),
+            counting,
+        )?,
+        licences: set_of(
+            alloc,
+            &mut last.licences,
+            Subject::Licences,
+            own.licences.as_slice(),
+            counting,
+        )?,
     })
 }
 
-// The information of a file.
+// The information of a file, by what is kept of the one before.
 fn info_of<'a>(
     alloc: Global,
-    known: &Known<'a>,
+    tree: &BTreeMap<&'a str, &'a [u8]>,
+    before: &mut Before<'_>,
     file: File<'a>,
 ) -> Result<Result<FileInfo, GatherFault>, AllocError>
-    ensures { (r : Reader) → IsRightReader r → (tomls : List TomlText)
-        → Holds tomls known.now.folders
-        → IfOk result (λ i. i ≡ info_of r tomls (tree_in known.now.tree) (file_of file.entry)) }
+    ensures same { OnOk result (before.new.trail.folders.now ≡ before.old.trail.folders.now) }
+    ensures info { (r : Reader) → IsRightReader r → (tomls : List TomlText)
+        → Holds tomls before.old.trail.folders.now
+        → IfOk result (λ i. i ≡ info_of r tomls (tree_in tree.now) (file_of file.entry)) }
 {
-    let own = match own_of(alloc, &known.tree, file)? {
+    let own = match own_of(alloc, tree, file)? {
         Ok(own) => own,
         Err(fault) => return Ok(Err(fault)),
     };
-    let counting = counting(alloc, &known.folders, file.path)?;
-    let info = info_with(alloc, file.path, counting.as_slice(), &own)?;
+    let counting = counting(alloc, &mut before.trail, file.path)?;
+    let info = info_with(
+        alloc,
+        file.path,
+        counting.as_slice(),
+        &own,
+        &mut before.sets,
+    )?;
     Ok(Ok(info))
+}
+
+// The information of the covered files, in their order, by what is kept of the one before.
+fn each_info<'a>(
+    alloc: Global,
+    tree: &BTreeMap<&'a str, &'a [u8]>,
+    before: &mut Before<'_>,
+    files: &[File<'a>],
+) -> Result<Result<Vec<FileInfo>, GatherFault>, AllocError>
+    ensures { (r : Reader) → IsRightReader r → (tomls : List TomlText)
+        → Holds tomls before.old.trail.folders.now
+        → IfOk result (Gives (each is_covered (info_of r tomls (tree_in tree.now))
+        (files_of files.now)) (λ v. v.items)) }
+{
+    let mut infos = Vec::new(alloc);
+    for file in files {
+        if !is_covered(*file) {
+            continue;
+        }
+        match info_of(alloc, tree, before, *file)? {
+            Ok(info) => infos.push(info)?,
+            Err(fault) => return Ok(Err(fault)),
+        }
+    }
+    Ok(Ok(infos))
 }
 
 // The information of the covered files, in their order.
@@ -189,17 +259,8 @@ fn infos_of<'a>(
         → IfOk result (Gives (each is_covered (info_of r tomls (tree_in known.now.tree))
         (files_of files.now)) (λ v. v.items)) }
 {
-    let mut infos = Vec::new(alloc);
-    for file in files {
-        if !is_covered(*file) {
-            continue;
-        }
-        match info_of(alloc, known, *file)? {
-            Ok(info) => infos.push(info)?,
-            Err(fault) => return Ok(Err(fault)),
-        }
-    }
-    Ok(Ok(infos))
+    let mut before = Before::of(alloc, &known.folders)?;
+    each_info(alloc, &known.tree, &mut before, files)
 }
 
 /// As `gather`, with want of memory told apart from the faults of the tree.

@@ -9,6 +9,8 @@
 //! - A file's information is given by cases: an override, or what the file states itself with the
 //!   aggregates and the nearest `closest` annotation. The code goes down the folders once.
 //! - Files share the texts of the annotations that count for them; `shared_set` sorts them.
+//! - Files come by path, and what is looked up and sorted for one serves the next: `Trail` keeps the
+//!   annotations of the folders on its way, and `LastSet` the texts that were sorted last.
 //! - `survey` goes on past faults: it gives all that is wrong in a tree, and the information of the
 //!   files by what can be read (`specs/Survey.antt`). `gathered` stops at the first of these flaws
 //!   (`gathered_is_surveyed`).
@@ -32,6 +34,7 @@ mod sets;
 mod surveying;
 mod telling;
 mod tomls;
+mod trail;
 
 pub use fault::GatherFault;
 pub use files::{SourceFile, bytes_at, tree_of};

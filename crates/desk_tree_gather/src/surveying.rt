@@ -15,7 +15,7 @@ ghost use Rattle.desk_tree_gather.specs.Shown.{file_of, files_of, tree_in, toml_
 use crate::counting::counting;
 use crate::files::{File, SourceFile, bytes_at, files_of, is_covered, is_toml};
 use crate::flaw::Flaw;
-use crate::gathering::{FileInfo, Known, holder, info_with};
+use crate::gathering::{Before, FileInfo, Known, holder, info_with};
 use crate::paths::{folder_of, is_path};
 use crate::tomls::{Toml, by_folder};
 use desk_base::{Items, Text, limits};
@@ -260,27 +260,59 @@ fn own_sifted<'a>(
     Ok(info)
 }
 
-// The information of a covered file, whatever is wrong in it or elsewhere.
+// The information of a covered file, whatever is wrong in it or elsewhere, by what is kept of the
+// one before.
 fn info_sifted<'a>(
     alloc: Global,
-    known: &Known<'a>,
+    tree: &BTreeMap<&'a str, &'a [u8]>,
+    before: &mut Before<'_>,
     file: File<'a>,
     flaws: &mut Items<Flaw>,
 ) -> Result<FileInfo, AllocError>
+    ensures same { OnOk result (before.new.trail.folders.now ≡ before.old.trail.folders.now) }
     ensures info { (r : Reader) → IsRightReader r → (tomls : List TomlText)
-        → Holds tomls known.now.folders → IfOk result (λ i.
-        i ≡ info_sifted r tomls (tree_in known.now.tree) (file_of file.entry)) }
+        → Holds tomls before.old.trail.folders.now → IfOk result (λ i.
+        i ≡ info_sifted r tomls (tree_in tree.now) (file_of file.entry)) }
     ensures flaws { (r : Reader) → IsRightReader r
         → OnOk result (flaws.new ≡ flaws.old ++ stated_flaws r
-        (holder (tree_in known.now.tree) (file_of file.entry))) }
+        (holder (tree_in tree.now) (file_of file.entry))) }
 {
-    let own = own_sifted(alloc, &known.tree, file, flaws)?;
-    let counting = counting(alloc, &known.folders, file.path)?;
-    info_with(alloc, file.path, counting.as_slice(), &own)
+    let own = own_sifted(alloc, tree, file, flaws)?;
+    let counting = counting(alloc, &mut before.trail, file.path)?;
+    info_with(
+        alloc,
+        file.path,
+        counting.as_slice(),
+        &own,
+        &mut before.sets,
+    )
+}
+
+// The information of covered files, in their order, by what is kept of the one before.
+fn each_sifted<'a>(
+    alloc: Global,
+    tree: &BTreeMap<&'a str, &'a [u8]>,
+    before: &mut Before<'_>,
+    files: &[File<'a>],
+    flaws: &mut Items<Flaw>,
+) -> Result<Vec<FileInfo>, AllocError>
+    ensures infos { (r : Reader) → IsRightReader r → (tomls : List TomlText)
+        → Holds tomls before.old.trail.folders.now → IfOk result (λ v.
+        v.items ≡ map (info_sifted r tomls (tree_in tree.now)) (files_of files.now)) }
+    ensures flaws { (r : Reader) → IsRightReader r
+        → OnOk result (flaws.new ≡ flaws.old ++ flat_map (λ f.
+        stated_flaws r (holder (tree_in tree.now) f)) (files_of files.now)) }
+{
+    let mut infos = Vec::new(alloc);
+    for file in files {
+        let info = info_sifted(alloc, tree, before, *file, flaws)?;
+        infos.push(info)?;
+    }
+    Ok(infos)
 }
 
 // The information of covered files, in their order.
-fn each_sifted<'a>(
+fn all_sifted<'a>(
     alloc: Global,
     known: &Known<'a>,
     files: &[File<'a>],
@@ -293,12 +325,8 @@ fn each_sifted<'a>(
         → OnOk result (flaws.new ≡ flaws.old ++ flat_map (λ f.
         stated_flaws r (holder (tree_in known.now.tree) f)) (files_of files.now)) }
 {
-    let mut infos = Vec::new(alloc);
-    for file in files {
-        let info = info_sifted(alloc, known, *file, flaws)?;
-        infos.push(info)?;
-    }
-    Ok(infos)
+    let mut before = Before::of(alloc, &known.folders)?;
+    each_sifted(alloc, &known.tree, &mut before, files, flaws)
 }
 
 // All that is wrong in a tree of right paths, and what is gathered of the rest.
@@ -320,7 +348,7 @@ fn survey_of<'a>(
     let folders = by_folder(alloc, tomls)?;
     let covered = covered_files(alloc, files.as_slice())?;
     let known = Known { tree, folders };
-    let infos = each_sifted(alloc, &known, covered.as_slice(), &mut flaws)?;
+    let infos = all_sifted(alloc, &known, covered.as_slice(), &mut flaws)?;
     let Known { tree, .. } = known;
     Ok(Surveyed { tree, flaws, infos })
 }

@@ -1,6 +1,6 @@
 //! What is told of the files of a tree. The bytes of a file are let go once it is told of.
 
-ghost use Rattle.std.specs.Prelude.{◌≡◌, [], List, IfOk, IfErr, Ok, Err, option_map, filter};
+ghost use Rattle.std.specs.Prelude.{◌≡◌, [], List, IfOk, IfErr, OnOk, Ok, Err, option_map, filter};
 ghost use Rattle.desk_tree_gather.specs.Readers.{Reader, IsRightReader};
 ghost use Rattle.desk_tree_gather.specs.Folders.{Holds};
 ghost use Rattle.desk_tree_gather.specs.Gathering.{holder};
@@ -13,7 +13,7 @@ ghost use Rattle.desk_tree_gather.specs.Trees.{bytes_at, placed, tree_of};
 use crate::counting::counting;
 use crate::fault::GatherFault;
 use crate::files::{File, SourceFile, is_covered, is_toml};
-use crate::gathering::{FileInfo, Held, info_with, stated_in};
+use crate::gathering::{Before, FileInfo, Held, info_with, stated_in};
 use crate::paths::is_path;
 use crate::tomls::{by_folder, tomls_of};
 use desk_base::{Items, Key, limits};
@@ -141,14 +141,16 @@ fn holder<'a>(
     }
 }
 
-// What is told of a file, by itself and by those that are left.
+// What is told of a file, by itself and by those that are left, and what is kept of the one before.
 fn told_beside(
     alloc: Global,
     left: &BTreeMap<Key, Items<u8>>,
-    folders: &BTreeMap<Vec<u8>, Annotations>,
+    before: &mut Before<'_>,
     file: File<'_>,
 ) -> Result<Result<ToldFile, GatherFault>, AllocError>
-    ensures { (r : Reader) → IsRightReader r → (tomls : List TomlText) → Holds tomls folders.now
+    ensures same { OnOk result (before.new.trail.folders.now ≡ before.old.trail.folders.now) }
+    ensures told { (r : Reader) → IsRightReader r → (tomls : List TomlText)
+        → Holds tomls before.old.trail.folders.now
         → IfOk result (λ t. t ≡ told_beside r tomls (left_in left.now) (file_of file.entry)) }
 {
     let held = holder(alloc, left, file)?;
@@ -156,20 +158,27 @@ fn told_beside(
         Ok(own) => own,
         Err(fault) => return Ok(Err(fault)),
     };
-    let counting = counting(alloc, folders, file.path)?;
-    let info = info_with(alloc, file.path, counting.as_slice(), &own)?;
+    let counting = counting(alloc, &mut before.trail, file.path)?;
+    let info = info_with(
+        alloc,
+        file.path,
+        counting.as_slice(),
+        &own,
+        &mut before.sets,
+    )?;
     let digest = Sha1::digest(file.bytes);
     Ok(Ok(ToldFile { info, digest }))
 }
 
-// What is told of the covered files of a tree. A file beside another stands behind it, and so among
-// those that are left.
-fn told_in(
+// What is told of the covered files of a tree, by what is kept of the one before. A file beside
+// another stands behind it, and so among those that are left.
+fn each_told(
     alloc: Global,
     tree: BTreeMap<Key, Items<u8>>,
-    folders: &BTreeMap<Vec<u8>, Annotations>,
+    before: &mut Before<'_>,
 ) -> Result<Result<Vec<ToldFile>, GatherFault>, AllocError>
-    ensures { (r : Reader) → IsRightReader r → (tomls : List TomlText) → Holds tomls folders.now
+    ensures { (r : Reader) → IsRightReader r → (tomls : List TomlText)
+        → Holds tomls before.old.trail.folders.now
         → IfOk result (Gives (told_in r tomls (left_in tree)) (λ v. v.items)) }
 {
     let mut left = tree;
@@ -182,12 +191,25 @@ fn told_in(
         if !is_covered(file) {
             continue;
         }
-        match told_beside(alloc, &left, folders, file)? {
+        match told_beside(alloc, &left, before, file)? {
             Ok(told) => list.push(told)?,
             Err(fault) => return Ok(Err(fault)),
         }
     }
     Ok(Ok(list))
+}
+
+// What is told of the covered files of a tree.
+fn told_in(
+    alloc: Global,
+    tree: BTreeMap<Key, Items<u8>>,
+    folders: &BTreeMap<Vec<u8>, Annotations>,
+) -> Result<Result<Vec<ToldFile>, GatherFault>, AllocError>
+    ensures { (r : Reader) → IsRightReader r → (tomls : List TomlText) → Holds tomls folders.now
+        → IfOk result (Gives (told_in r tomls (left_in tree)) (λ v. v.items)) }
+{
+    let mut before = Before::of(alloc, folders)?;
+    each_told(alloc, tree, &mut before)
 }
 
 /// What is told of each covered file by path, or the first fault, as `gathered` has it. The bytes

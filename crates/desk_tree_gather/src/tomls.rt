@@ -1,10 +1,10 @@
 //! The REUSE.toml files of a tree.
 
-ghost use Rattle.std.specs.Prelude.{◌≡◌, ◌≢◌, IfOk, OnOk, ℕ, List, alloc_error};
+ghost use Rattle.std.specs.Prelude.{◌≡◌, ◌≢◌, IfOk, OnOk, ℕ, alloc_error};
 ghost use Rattle.desk_tree_annotations.specs.declared.fault.AnnotationsFault.{AnnotationsFault};
 ghost use Rattle.desk_tree_gather.specs.Readers.{Reader, IsRightReader};
-ghost use Rattle.desk_tree_gather.specs.Tomls.{TomlText, told_of, toml_of, tomls_of, annotations_in};
-ghost use Rattle.desk_tree_gather.specs.Folders.{Holds};
+ghost use Rattle.desk_tree_gather.specs.Tomls.{told_of, toml_of, tomls_of};
+ghost use Rattle.desk_tree_gather.specs.Folders.{kept_for, Holds};
 ghost use Rattle.desk_tree_gather.specs.Shown.{Gives, file_of, files_of, toml_in, tomls_in};
 
 use crate::fault::GatherFault;
@@ -101,8 +101,7 @@ pub(crate) fn annotations_in<'m>(
     folders: &'m BTreeMap<Vec<u8>, Annotations>,
     folder: &[u8],
 ) -> &'m [Annotation]
-    ensures { (tomls : List TomlText) → Holds tomls folders.now
-        → result.now ≡ annotations_in tomls folder.now }
+    ensures { result.now ≡ kept_for folders.now folder.now }
 {
     match folders.get(folder) {
         Some(annotations) => annotations.list.as_slice(),

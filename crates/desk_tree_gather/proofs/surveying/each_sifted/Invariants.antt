@@ -10,8 +10,9 @@ use Rattle.desk_tree_gather.proofs.surveying.each_sifted.Given as goal
 
 abbrev pub invariant-loop-file : goal.invariant-loop-file
 invariant-loop-file l = record {
-  infos : (r : Reader) → IsRightReader r → (tomls : List TomlText) → Holds tomls l.known.folders
-      → l.infos.items ≡ map (info_sifted r tomls (tree_in l.known.tree)) (files_of (take l.file-index l.files));
+  same : l.before.trail.folders.now ≡ l.initial.before.trail.folders.now;
+  infos : (r : Reader) → IsRightReader r → (tomls : List TomlText) → Holds tomls l.initial.before.trail.folders.now
+      → l.infos.items ≡ map (info_sifted r tomls (tree_in l.tree)) (files_of (take l.file-index l.files));
   flaws : (r : Reader) → IsRightReader r
-      → l.flaws ≡ l.initial.flaws ++ flat_map (λ f. stated_flaws r (holder (tree_in l.known.tree) f)) (files_of (take l.file-index l.files));
+      → l.flaws ≡ l.initial.flaws ++ flat_map (λ f. stated_flaws r (holder (tree_in l.tree) f)) (files_of (take l.file-index l.files));
 }

@@ -5,13 +5,16 @@ use Rattle.desk_tree_gather.specs.Tomls.{TomlText}
 use Rattle.desk_tree_gather.specs.Folders.{Holds}
 use Rattle.desk_tree_gather.specs.Telling.{told_in}
 use Rattle.desk_tree_gather.specs.Shown.{left_in}
-use Rattle.desk_tree_gather.proofs.telling.told_in.Given as goal
+use Rattle.desk_tree_gather.proofs.telling.each_told.Given as goal
 use Rattle.desk_base.proofs.Results.{onto}
 
--- what is told so far, and what is told of those that are left, is that of all
+-- what is kept of the file before is by the same annotations; what is told so far, and what is told of those that are left, is that of all
 abbrev pub invariant-loop-path : goal.invariant-loop-path
-invariant-loop-path l = (r : Reader) → IsRightReader r → (tomls : List TomlText) → Holds tomls l.folders
-    → onto l.list.items (told_in r tomls (left_in l.left)) ≡ told_in r tomls (left_in l.fn.tree)
+invariant-loop-path l = record {
+  same : l.before.trail.folders.now ≡ l.initial.before.trail.folders.now;
+  told : (r : Reader) → IsRightReader r → (tomls : List TomlText) → Holds tomls l.initial.before.trail.folders.now
+      → onto l.list.items (told_in r tomls (left_in l.left)) ≡ told_in r tomls (left_in l.fn.tree);
+}
 
 abbrev pub decreases-loop-path : goal.decreases-loop-path
 decreases-loop-path l = btree_map_len l.left

@@ -1,0 +1,51 @@
+use Rattle.std.proofs.Common.{◌∙◌, ap, sym, subst}
+use Rattle.desk_tree_gather.specs.declared.files.SourceFile.{SourceFile}
+use Rattle.std.specs.Prelude.{Ok}
+use Rattle.std.proofs.lemmas.Bool.{false≢true}
+use Rattle.std.proofs.lemmas.List.{append-nil}
+use Rattle.desk_tree_gather.specs.Folders.{Holds}
+use Rattle.desk_tree_gather.specs.Paths.{is_covered}
+use Rattle.desk_tree_gather.specs.Shown.{left_in}
+use Rattle.desk_tree_gather.specs.Telling.{told_in, told_beside}
+use Rattle.desk_tree_gather.proofs.OwnedLemmas.{files_in}
+use Rattle.desk_tree_gather.proofs.TellingLemmas.{none_left, told_skip, told_item, told_fault}
+use Rattle.desk_tree_gather.proofs.telling.each_told.Goals as goal
+use Rattle.desk_base.proofs.Results.{onto}
+
+pub loop-path-preserved-then-not-is_covered : goal.loop-path-preserved-then-not-is_covered
+loop-path-preserved-then-not-is_covered c = record {
+  same = c.loop-path.invariant.same;
+  told = λ r right tomls holds.
+      let file : SourceFile = record { path = c.in-Some.path; bytes = c.in-Some.bytes } in
+      sym (told_skip r tomls file (left_in c.loop-path.left) c.pop_first.new.self.entries c.loop-path.list.items (ap files_in c.in-Some.ensures.removal) c.in-Some.ensures.all_above
+      ((λ i. is_covered (record { path = sym c.as_str.ensures i; bytes = sym c.as_slice.ensures i })) ∙ sym c.is_covered.ensures ∙ c.if-not-is_covered.true))
+      ∙ c.loop-path.invariant.told r right tomls holds;
+}
+
+pub returns-in-Err : goal.returns-in-Err
+returns-in-Err c = λ r right tomls holds.
+    let file : SourceFile = record { path = c.in-Some.path; bytes = c.in-Some.bytes } in
+    let left = left_in c.pop_first.new.self in
+    sym (c.loop-path.invariant.told r right tomls holds)
+    ∙ told_fault r tomls file (left_in c.loop-path.left) c.pop_first.new.self.entries c.loop-path.list.items (ap files_in c.in-Some.ensures.removal) c.in-Some.ensures.all_above c.in-Err.fault
+    ((λ i. is_covered (record { path = sym c.as_str.ensures i; bytes = sym c.as_slice.ensures i })) ∙ sym c.is_covered.ensures ∙ c.if-not-is_covered.false)
+    ((λ i. told_beside r tomls left (record { path = sym c.as_str.ensures i; bytes = sym c.as_slice.ensures i })) ∙ sym (c.in_ok-told.ensures.told r right tomls (subst (Holds tomls) (sym c.loop-path.invariant.same) holds)) ∙ c.in-Err.is)
+
+pub loop-path-preserved : goal.loop-path-preserved
+loop-path-preserved c = record {
+  same = c.in_ok-told.ensures.same ∙ c.loop-path.invariant.same;
+  told = λ r right tomls holds.
+      let file : SourceFile = record { path = c.in-Some.path; bytes = c.in-Some.bytes } in
+      let left = left_in c.pop_first.new.self in
+      ap (λ done. onto done (told_in r tomls left)) c.in_ok-push-in-Ok.ensures.items
+      ∙ sym (told_item r tomls file (left_in c.loop-path.left) c.pop_first.new.self.entries c.loop-path.list.items (ap files_in c.in-Some.ensures.removal) c.in-Some.ensures.all_above c.in-Ok.told
+      ((λ i. is_covered (record { path = sym c.as_str.ensures i; bytes = sym c.as_slice.ensures i })) ∙ sym c.is_covered.ensures ∙ c.if-not-is_covered.false)
+      ((λ i. told_beside r tomls left (record { path = sym c.as_str.ensures i; bytes = sym c.as_slice.ensures i })) ∙ sym (c.in_ok-told.ensures.told r right tomls (subst (Holds tomls) (sym c.loop-path.invariant.same) holds)) ∙ c.in-Ok.is))
+      ∙ c.loop-path.invariant.told r right tomls holds;
+}
+
+pub returns : goal.returns
+returns c = λ r right tomls holds.
+    sym (c.loop-path.invariant.told r right tomls holds)
+    ∙ ap (λ es. onto c.loop-path.list.items (told_in r tomls (files_in es))) (none_left c.loop-path.left.entries (λ some. false≢true (c.in_default.ensures.variant.1 some)))
+    ∙ ap Ok (append-nil c.loop-path.list.items)
