@@ -1,6 +1,6 @@
 pub mod UsedLemmas
 pub mod ListLemmas
-mod SetLemmas
+pub mod SetLemmas
 pub mod StemLemmas
-mod FirstLemmas
+pub mod FirstLemmas
 mod PlusLemmas

@@ -15,7 +15,7 @@ either true c = refl
 either false c = refl
 
 -- one text more
-one_more : (v : Bor (List ℕ)) (old new : BTreeSet (Bor (List ℕ))) → UpdatesBy borrowed_cmp (borrowed_cmp v) old new true → (q : List ℕ) → has_text new q ≡ (bytes_eq v.now q || has_text old q)
+pub one_more : (v : Bor (List ℕ)) (old new : BTreeSet (Bor (List ℕ))) → UpdatesBy borrowed_cmp (borrowed_cmp v) old new true → (q : List ℕ) → has_text new q ≡ (bytes_eq v.now q || has_text old q)
 one_more v old new h q =
     h.0 (record v { now = q }) ∙ ap (λ b. cond b true (has_text old q)) (is_eq-slice_cmp v.now q) ∙ either (bytes_eq v.now q) (has_text old q)
 

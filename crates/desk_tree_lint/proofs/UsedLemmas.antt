@@ -186,3 +186,10 @@ lint_once r files a b h k =
 pub added_by : {T E : Type 0} {P Q : Type 0} (result : Result T E) → OnOk result P → (P → Q) → OnOk result Q
 added_by (Ok x) holds next = next holds
 added_by (Err e) holds next = tt
+
+-- what is used is known already
+pub known_again : (N P : Type 0) → (P → N) → N ↔ (N ⊎ P)
+known_again N P known = (
+  (λ n. inl n),
+  (λ h. elim h [ inl n ↦ n | inr p ↦ known p ]),
+)

@@ -3,15 +3,15 @@
 ghost use Rattle.std.specs.Prelude.{◌≡◌, ◌++◌, ◌∷◌, [], ◌<◌, ◌==◌, List, IfOk, OnOk, map, option_map};
 ghost use Rattle.std.specs.List.{flat_map, slice_split};
 ghost use Rattle.desk_base.specs.Borrowed.{texts, texts_in};
-ghost use Rattle.desk_tree_lint.specs.Naming.{cut_at, runs, is_operator, without_plus, ids_in, mention, MentionText, mentions_by, mentions_in, mentions, first_with, name_by, name_of};
-ghost use Rattle.desk_tree_lint.specs.Firsts.{mention_in, mentions_shown, Holds};
+ghost use Rattle.desk_tree_lint.specs.Naming.{cut_at, runs, is_operator, without_plus, ids_in, mention, MentionText, mentions_by, mentions, first_with, name_by, name_of};
+ghost use Rattle.desk_tree_lint.specs.Firsts.{mention_in, mentions_shown, Holds, Keeps};
 
 use crate::texts::key_of;
 use desk_base::{Items, Text};
 use desk_tree_annotations::SharedText;
 use desk_tree_gather::FileInfo;
 use std::alloc::{AllocError, Global};
-use std::collections::BTreeMap;
+use std::collections::{BTreeMap, BTreeSet};
 
 /// How a licence, an exception or a reference is shown.
 #[derive(Drop)]
@@ -95,47 +95,17 @@ fn add_runs<'a>(
     Ok(())
 }
 
-// Adds the identifiers of a licence.
-fn add_ids<'a>(
+// The identifiers of a licence of a file.
+fn mentions_by<'a>(
     alloc: Global,
-    found: &mut Vec<Mention<'a>>,
     path: &'a str,
     licence: &'a str,
-) -> Result<(), AllocError>
-    ensures { OnOk result (mentions_shown found.new.items
-        ≡ mentions_shown found.old.items ++ mentions_by path.now licence.now) }
+) -> Result<Vec<Mention<'a>>, AllocError>
+    ensures { IfOk result (λ v. mentions_shown v.items ≡ mentions_by path.now licence.now) }
 {
     let runs = runs(alloc, licence)?;
-    add_runs(found, path, runs.as_slice())
-}
-
-// Adds the identifiers of a file's licences.
-fn add_each<'a>(
-    alloc: Global,
-    found: &mut Vec<Mention<'a>>,
-    path: &'a str,
-    licences: &'a [SharedText],
-) -> Result<(), AllocError>
-    ensures { OnOk result (mentions_shown found.new.items
-        ≡ mentions_shown found.old.items ++ flat_map (mentions_by path.now) licences.now) }
-{
-    for licence in licences {
-        add_ids(alloc, found, path, licence.as_str())?;
-    }
-    Ok(())
-}
-
-// The identifiers in the licences of a file.
-fn mentions_in<'a>(alloc: Global, info: &'a FileInfo) -> Result<Vec<Mention<'a>>, AllocError>
-    ensures { IfOk result (λ v. mentions_shown v.items ≡ mentions_in info.now) }
-{
     let mut found = Vec::new(alloc);
-    add_each(
-        alloc,
-        &mut found,
-        info.path.as_str(),
-        info.licences.as_slice(),
-    )?;
+    add_runs(&mut found, path, runs.as_slice())?;
     Ok(found)
 }
 
@@ -173,7 +143,45 @@ fn keep_each<'a>(
     Ok(())
 }
 
-// The first mention of each key in the licences of files. Those of one file at a time are listed.
+// Keeps the mentions of a licence of a file behind others. Those of a known one bring no first.
+fn keep_licence<'a>(
+    alloc: Global,
+    firsts: &mut BTreeMap<Vec<u8>, Mention<'a>>,
+    known: &mut BTreeSet<&'a str>,
+    path: &'a str,
+    licence: &'a str,
+) -> Result<(), AllocError>
+    ensures { OnOk result ((ms : List MentionText) → Keeps ms firsts.old known.old
+        → Keeps (ms ++ mentions_by path.now licence.now) firsts.new known.new) }
+{
+    if known.contains(licence) {
+        return Ok(());
+    }
+    let found = mentions_by(alloc, path, licence)?;
+    keep_each(alloc, firsts, found.as_slice())?;
+    known.insert(licence)?;
+    Ok(())
+}
+
+// Keeps the mentions of a file's licences behind others.
+fn keep_licences<'a>(
+    alloc: Global,
+    firsts: &mut BTreeMap<Vec<u8>, Mention<'a>>,
+    known: &mut BTreeSet<&'a str>,
+    path: &'a str,
+    licences: &'a [SharedText],
+) -> Result<(), AllocError>
+    ensures { OnOk result ((ms : List MentionText) → Keeps ms firsts.old known.old
+        → Keeps (ms ++ flat_map (mentions_by path.now) licences.now) firsts.new known.new) }
+{
+    for licence in licences {
+        keep_licence(alloc, firsts, known, path, licence.as_str())?;
+    }
+    Ok(())
+}
+
+// The first mention of each key in the licences of files. Many files have the same licences as the
+// one before, which bring no first.
 fn firsts_in<'a>(
     alloc: Global,
     infos: &'a [FileInfo],
@@ -181,9 +189,15 @@ fn firsts_in<'a>(
     ensures { IfOk result (Holds (mentions infos.now)) }
 {
     let mut firsts = BTreeMap::new(alloc);
+    let mut known = BTreeSet::new(alloc);
+    let mut before: &[SharedText] = &[];
     for info in infos {
-        let found = mentions_in(alloc, info)?;
-        keep_each(alloc, &mut firsts, found.as_slice())?;
+        let licences = info.licences.as_slice();
+        if licences == before {
+            continue;
+        }
+        keep_licences(alloc, &mut firsts, &mut known, info.path.as_str(), licences)?;
+        before = licences;
     }
     Ok(firsts)
 }

@@ -58,14 +58,20 @@ fn put_each<'a>(known: &mut BTreeSet<&'a str>, licences: &'a [SharedText]) -> Re
     Ok(())
 }
 
-// The licences of files, each once: many files have the same.
+// The licences of files, each once. Many files have the same as the one before.
 fn licences_of<'a>(alloc: Global, infos: &'a [FileInfo]) -> Result<BTreeSet<&'a str>, AllocError>
     ensures { IfOk result (λ known. (key : List ℕ)
         → IsUsedIn (texts known.keys) key ↔ IsUsed infos.now key) }
 {
     let mut known = BTreeSet::new(alloc);
+    let mut before: &[SharedText] = &[];
     for info in infos {
-        put_each(&mut known, info.licences.as_slice())?;
+        let licences = info.licences.as_slice();
+        if licences == before {
+            continue;
+        }
+        put_each(&mut known, licences)?;
+        before = licences;
     }
     Ok(known)
 }
