@@ -1,8 +1,9 @@
 pub mod Turns
 pub mod Asking
-mod Selecting
+pub mod Selecting
 pub mod Spared
 pub mod Causes
+mod Finding
 pub mod Texts
 pub mod Contents
 mod Listing

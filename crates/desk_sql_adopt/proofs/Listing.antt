@@ -13,7 +13,6 @@ use Rattle.desk_sql_layout.specs.Layout as d
 use Rattle.desk_sql_layout.specs.Cells.{release_cells, duty_cells}
 use Rattle.desk_sql_layout.specs.Held.{Holds, rows_of}
 use Rattle.desk_sql_lookup.specs.Causes.{IsAsked}
-use Rattle.desk_sql_lookup.proofs.Causes.{asked}
 use Rattle.desk_sql_lookup.proofs.HolderLemmas.{all_pass}
 use Rattle.desk_sql_lookup.proofs.Keyed.{duties_sorted}
 use Rattle.desk_sql_lookup.proofs.ReleaseQueries.{releases_text, releases_read}
@@ -22,7 +21,7 @@ use Rattle.desk_model.specs.Tables.{Tables}
 use Rattle.desk_model.specs.declared.row.DutyRow.{DutyRow}
 use Rattle.desk_sql_adopt.specs.Reading.{Asks}
 use Rattle.desk_sql_adopt.proofs.Asking.{asks}
-use Rattle.desk_sql_adopt.proofs.Selecting.{IsSelect, select_asks}
+use Rattle.desk_sql_adopt.proofs.Selecting.{IsSelect, select_asked, select_asks}
 
 -- ---- all releases
 
@@ -41,7 +40,7 @@ all_releases old new rows t shown holds = releases_read old new rows t shown hol
 abbrev pub duties_text : List ℕ
 duties_text = codes "SELECT number, release, document, package, term, code, rule, state FROM duty ORDER BY number"
 
-duties_are : IsSelect duties_text 0 23 [] (col 1 0 ∷ col 1 2 ∷ col 1 3 ∷ col 1 4 ∷ col 1 5 ∷ col 1 6 ∷ col 1 7 ∷ col 1 8 ∷ []) (0 ∷ []) (codes "number" ∷ codes "release" ∷ codes "document" ∷ codes "package" ∷ codes "term" ∷ codes "code" ∷ codes "rule" ∷ codes "state" ∷ [])
+duties_are : IsSelect duties_text 0 23 [] (col 1 0 ∷ col 1 2 ∷ col 1 3 ∷ col 1 4 ∷ col 1 5 ∷ col 1 6 ∷ col 1 7 ∷ col 1 8 ∷ []) (order_by (0 ∷ [])) (codes "number" ∷ codes "release" ∷ codes "document" ∷ codes "package" ∷ codes "term" ∷ codes "code" ∷ codes "rule" ∷ codes "state" ∷ [])
 unfolding first returning understood everything
 duties_are = record { bare = λ schema base. refl; is = (refl, refl); plain = (refl, refl); suits = (refl, refl) }
 
@@ -49,8 +48,7 @@ pub duties_ask : Asks duties_text
 duties_ask = select_asks duties_are
 
 pub duties_asked : IsAsked duties_text []
-duties_asked = asked duties_text [] 23 ([]) (col 1 0 ∷ col 1 2 ∷ col 1 3 ∷ col 1 4 ∷ col 1 5 ∷ col 1 6 ∷ col 1 7 ∷ col 1 8 ∷ []) (order_by (0 ∷ []))
-    (codes "number" ∷ codes "release" ∷ codes "document" ∷ codes "package" ∷ codes "term" ∷ codes "code" ∷ codes "rule" ∷ codes "state" ∷ []) duties_are.is duties_are.plain duties_are.suits refl
+duties_asked = select_asked duties_are [] refl refl
 
 abbrev every : DutyRow → Bool
 every x = true

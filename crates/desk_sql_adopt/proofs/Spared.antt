@@ -1,5 +1,5 @@
 -- What is seen of a connection that was only read.
-use Rattle.std.proofs.Common.{◌≡◌, ◌⊎◌, inl, inr, ℕ, List, [], length, IfOk, Ok, Err, Result, sym, subst, ◌∙◌, arith}
+use Rattle.std.proofs.Common.{◌⊎◌, inl, inr, ℕ, List, Ok, Err, Result, sym, subst, ◌∙◌, arith}
 use Rattle.std.specs.Result.{IsErr}
 use Rattle.sqlite_trees.specs.Tree.{Trees}
 use Rattle.sqlite_value.specs.Order.{Row}
@@ -10,7 +10,6 @@ use Rattle.desk_model.specs.Tables.{Tables}
 use Rattle.desk_access.specs.Seen.{Kept, Looked, OfRows}
 use Rattle.desk_sql_layout.specs.Held.{Holds, seen_of}
 use Rattle.desk_sql_adopt.specs.Reading.{Asks, IsSpared, HasRead}
-use Rattle.desk_sql_adopt.specs.Revisions.{ShowsCount}
 use Rattle.desk_sql_adopt.proofs.Asking.{shown_unchanged}
 
 pub clean_before : (a b : State) (P : Trees → Type 0) → Survives a b P → HasCleanDisk b → HasCleanDisk a
@@ -51,27 +50,8 @@ spared_then a b c p q =
       committed = λ clean is. q.committed clean is ∙ p.committed (before clean) (q.was_open clean is);
     }
 
--- one call after another
-pub read_then : {A B : Type 0} (a b c : State) (x : A) (r : Result B Fault) → HasRead a b (Ok x) → HasRead b c r → HasRead a c r
-read_then a b c x (Ok y) p q = (spared_then a b c p.0 q.0, λ clean is. q.1 clean (p.1 (clean_before b c (λ _. ⊥) q.0.survives clean) is))
-read_then a b c x (Err e) p q = spared_then a b c p.0 q
-
 -- what a query showed is so of the tables that were held
 pub of_shown : (sql : List ℕ) (params : Row) (old new : State) → Asks sql → (rows : List Row) (Is : Tables → Type 0) → IsSpared old new → (HasCleanDisk new → Shown sql params old new rows)
     → ((t : Tables) → Shown sql params old new rows → Holds t old.now → Is t) → OfRows Is (seen_of old) (seen_of new)
 of_shown sql params old new bare rows Is spared shown right = λ clean t holds.
     right t (shown clean) (holds (clean_before old new (λ _. ⊥) spared.survives clean) (shown_unchanged sql params old new bare rows (shown clean)).0.was_open).holds
-
--- what is told from what was read, or not
-pub read_so : {A B : Type 0} (old new : State) (x : A) (r : Result B Fault) → HasRead old new (Ok x) → HasRead old new r
-read_so old new x (Ok y) it = it
-read_so old new x (Err e) it = it.0
-
--- how many rows a query showed
-pub counted : (sql : List ℕ) (old new : State) → Asks sql → (r : Result ℕ Fault) (count : Tables → ℕ) → ((rows : List Row) (t : Tables) → Shown sql [] old new rows → Holds t old.now → count t ≡ length rows)
-    → HasRead old new r → (HasCleanDisk new → IfOk r (λ n. ShowsCount sql n old new)) → IfOk r (λ n. OfRows (λ t. count t ≡ n) (seen_of old) (seen_of new))
-counted sql old new bare (Ok n) count right read shown = λ clean t holds.
-    let it = shown clean in
-    let was = (shown_unchanged sql [] old new bare it.0 it.1).0.was_open in
-    right it.0 t it.1 (holds (clean_before old new (λ _. ⊥) read.0.survives clean) was).holds ∙ it.2
-counted sql old new bare (Err e) count right read shown = tt

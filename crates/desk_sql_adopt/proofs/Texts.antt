@@ -1,5 +1,5 @@
 -- What the database answers where it is asked for its version, for how many rows there are, and for a body.
-use Rattle.std.proofs.Common.{◌≡◌, ℕ, Bool, true, List, [], ◌∷◌, map, filter, codes, length, refl, sym, ap, ◌∙◌}
+use Rattle.std.proofs.Common.{◌≡◌, ℕ, Bool, true, List, [], ◌∷◌, map, filter, codes, length, refl}
 use Rattle.std.specs.Prelude.{◌==◌, ◌&&◌}
 use Rattle.sqlite_value.specs.declared.keys.Collation.TheVariants.{Binary}
 use Rattle.sqlite_value.specs.declared.value.Value.TheVariants.{Text}
@@ -18,16 +18,15 @@ use Rattle.desk_sql_layout.specs.Cells.{number, meta_cells, catalogue_cells, doc
 use Rattle.desk_sql_layout.specs.Held.{Holds, rows_of}
 use Rattle.desk_sql_layout.proofs.Casts.{same, int_test, and_true}
 use Rattle.desk_sql_lookup.specs.Causes.{IsAsked}
-use Rattle.desk_sql_lookup.proofs.Causes.{asked}
-use Rattle.desk_sql_lookup.proofs.HolderLemmas.{all_pass}
 use Rattle.desk_sql_lookup.proofs.Keyed.{same_number}
-use Rattle.desk_sql_lookup.proofs.Selects.{order_by, by_rowid, at_one_key, counts, shows, shows_some}
+use Rattle.desk_sql_lookup.proofs.Selects.{order_by, by_rowid, at_one_key, shows, shows_some}
 use Rattle.desk_model.specs.Tables.{Tables}
 use Rattle.desk_model.specs.declared.row.CatalogueRow.{CatalogueRow}
 use Rattle.desk_sql_adopt.specs.Reading.{Asks}
 use Rattle.desk_sql_adopt.specs.Revisions.{is_revision}
 use Rattle.desk_sql_adopt.specs.Version.{version_text}
-use Rattle.desk_sql_adopt.proofs.Selecting.{IsSelect, select_asks}
+use Rattle.desk_sql_adopt.proofs.Finding.{ShowsEach, shows_each}
+use Rattle.desk_sql_adopt.proofs.Selecting.{IsSelect, select_asked, select_asks}
 
 -- ---- the version
 
@@ -39,7 +38,7 @@ pub version_asks : Asks version_text
 version_asks = select_asks version_are
 
 pub version_asked : IsAsked version_text []
-version_asked = asked version_text [] 0 [] (col 1 0 ∷ []) (order_by ([])) (codes "version" ∷ []) version_are.is version_are.plain version_are.suits refl
+version_asked = select_asked version_are [] refl refl
 
 pub version_read : (old new : State) (rows : List Row) (t : Tables) → Shown version_text [] old new rows → Holds t old.now → rows ≡ meta_cells ∷ []
 version_read old new rows t shown holds =
@@ -50,92 +49,28 @@ version_read old new rows t shown holds =
 
 -- ---- how many rows there are
 
-abbrev pub revisions_text : List ℕ
-revisions_text = codes "SELECT revision FROM catalogue"
-
-revisions_are : IsSelect revisions_text 0 1 [] (col 1 0 ∷ []) [] (codes "revision" ∷ [])
+pub revisions : ShowsEach (codes "SELECT revision FROM catalogue") (λ t. length t.catalogue)
 unfolding first returning understood everything
-revisions_are = record { bare = λ schema base. refl; is = (refl, refl); plain = (refl, refl); suits = (refl, refl) }
+revisions = shows_each d.catalogue_table 1 refl catalogue_cells (λ t. t.catalogue) (λ t. refl) _ (codes "revision" ∷ []) (col 1 0 ∷ []) (record { bare = λ schema base. refl; is = (refl, refl); plain = (refl, refl); suits = (refl, refl) }) refl (λ r. refl)
 
-pub revisions_asks : Asks revisions_text
-revisions_asks = select_asks revisions_are
-
-pub revisions_asked : IsAsked revisions_text []
-revisions_asked = asked revisions_text [] 1 [] (col 1 0 ∷ []) (order_by ([])) (codes "revision" ∷ []) revisions_are.is revisions_are.plain revisions_are.suits refl
-
-pub revisions_count : (old new : State) (rows : List Row) (t : Tables) → Shown revisions_text [] old new rows → Holds t old.now → length t.catalogue ≡ length rows
-revisions_count old new rows t shown holds =
-    let this = d.catalogue_table in
-    sym
-    (counts this.name 1 this.columns this.key this.primary this.uniques this.orders 1 refl catalogue_cells (rows_of t) t.catalogue refl old.now holds.rows revisions_text (codes "revision" ∷ []) [] (col 1 0 ∷ []) ([]) revisions_are.is revisions_are.plain []
-    (λ (cs : Row). true) (λ (cs : Row). ([], column cs 0 ∷ [])) (λ x. true) (λ r. refl) (λ r. refl) (λ x. refl) old new rows shown refl ∙ ap length (all_pass t.catalogue))
-
-abbrev pub documents_text : List ℕ
-documents_text = codes "SELECT number FROM document"
-
-documents_are : IsSelect documents_text 0 4 [] (col 1 0 ∷ []) [] (codes "number" ∷ [])
+pub documents : ShowsEach (codes "SELECT number FROM document") (λ t. length t.document)
 unfolding first returning understood everything
-documents_are = record { bare = λ schema base. refl; is = (refl, refl); plain = (refl, refl); suits = (refl, refl) }
+documents = shows_each d.document_table 3 refl document_cells (λ t. t.document) (λ t. refl) _ (codes "number" ∷ []) (col 1 0 ∷ []) (record { bare = λ schema base. refl; is = (refl, refl); plain = (refl, refl); suits = (refl, refl) }) refl (λ r. refl)
 
-pub documents_asks : Asks documents_text
-documents_asks = select_asks documents_are
-
-pub documents_asked : IsAsked documents_text []
-documents_asked = asked documents_text [] 4 [] (col 1 0 ∷ []) (order_by ([])) (codes "number" ∷ []) documents_are.is documents_are.plain documents_are.suits refl
-
-pub documents_count : (old new : State) (rows : List Row) (t : Tables) → Shown documents_text [] old new rows → Holds t old.now → length t.document ≡ length rows
-documents_count old new rows t shown holds =
-    let this = d.document_table in
-    sym
-    (counts this.name 4 this.columns this.key this.primary this.uniques this.orders 3 refl document_cells (rows_of t) t.document refl old.now holds.rows documents_text (codes "number" ∷ []) [] (col 1 0 ∷ []) ([]) documents_are.is documents_are.plain []
-    (λ (cs : Row). true) (λ (cs : Row). ([], column cs 0 ∷ [])) (λ x. true) (λ r. refl) (λ r. refl) (λ x. refl) old new rows shown refl ∙ ap length (all_pass t.document))
-
-abbrev pub releases_text : List ℕ
-releases_text = codes "SELECT name FROM releases"
-
-releases_are : IsSelect releases_text 0 14 [] (col 1 1 ∷ []) [] (codes "name" ∷ [])
+pub releases : ShowsEach (codes "SELECT name FROM releases") (λ t. length t.releases)
 unfolding first returning understood everything
-releases_are = record { bare = λ schema base. refl; is = (refl, refl); plain = (refl, refl); suits = (refl, refl) }
+releases = shows_each d.releases_table 8 refl release_cells (λ t. t.releases) (λ t. refl) _ (codes "name" ∷ []) (col 1 1 ∷ []) (record { bare = λ schema base. refl; is = (refl, refl); plain = (refl, refl); suits = (refl, refl) }) refl (λ r. refl)
 
-pub releases_asks : Asks releases_text
-releases_asks = select_asks releases_are
-
-pub releases_asked : IsAsked releases_text []
-releases_asked = asked releases_text [] 14 [] (col 1 1 ∷ []) (order_by ([])) (codes "name" ∷ []) releases_are.is releases_are.plain releases_are.suits refl
-
-pub releases_count : (old new : State) (rows : List Row) (t : Tables) → Shown releases_text [] old new rows → Holds t old.now → length t.releases ≡ length rows
-releases_count old new rows t shown holds =
-    let this = d.releases_table in
-    sym
-    (counts this.name 14 this.columns this.key this.primary this.uniques this.orders 8 refl release_cells (rows_of t) t.releases refl old.now holds.rows releases_text (codes "name" ∷ []) [] (col 1 1 ∷ []) ([]) releases_are.is releases_are.plain []
-    (λ (cs : Row). true) (λ (cs : Row). ([], column cs 0 ∷ [])) (λ x. true) (λ r. refl) (λ r. refl) (λ x. refl) old new rows shown refl ∙ ap length (all_pass t.releases))
-
-abbrev pub duties_text : List ℕ
-duties_text = codes "SELECT number FROM duty"
-
-duties_are : IsSelect duties_text 0 23 [] (col 1 0 ∷ []) [] (codes "number" ∷ [])
+pub duties : ShowsEach (codes "SELECT number FROM duty") (λ t. length t.duty)
 unfolding first returning understood everything
-duties_are = record { bare = λ schema base. refl; is = (refl, refl); plain = (refl, refl); suits = (refl, refl) }
-
-pub duties_asks : Asks duties_text
-duties_asks = select_asks duties_are
-
-pub duties_asked : IsAsked duties_text []
-duties_asked = asked duties_text [] 23 [] (col 1 0 ∷ []) (order_by ([])) (codes "number" ∷ []) duties_are.is duties_are.plain duties_are.suits refl
-
-pub duties_count : (old new : State) (rows : List Row) (t : Tables) → Shown duties_text [] old new rows → Holds t old.now → length t.duty ≡ length rows
-duties_count old new rows t shown holds =
-    let this = d.duty_table in
-    sym
-    (counts this.name 23 this.columns this.key this.primary this.uniques this.orders 12 refl duty_cells (rows_of t) t.duty refl old.now holds.rows duties_text (codes "number" ∷ []) [] (col 1 0 ∷ []) ([]) duties_are.is duties_are.plain []
-    (λ (cs : Row). true) (λ (cs : Row). ([], column cs 0 ∷ [])) (λ x. true) (λ r. refl) (λ r. refl) (λ x. refl) old new rows shown refl ∙ ap length (all_pass t.duty))
+duties = shows_each d.duty_table 12 refl duty_cells (λ t. t.duty) (λ t. refl) _ (codes "number" ∷ []) (col 1 0 ∷ []) (record { bare = λ schema base. refl; is = (refl, refl); plain = (refl, refl); suits = (refl, refl) }) refl (λ r. refl)
 
 -- ---- the body of a revision
 
 abbrev pub body_text : List ℕ
 body_text = codes "SELECT body FROM catalogue WHERE revision = ?1 ORDER BY revision"
 
-body_are : IsSelect body_text 1 1 (same 0 0 ∷ []) (col 1 2 ∷ []) (0 ∷ []) (codes "body" ∷ [])
+body_are : IsSelect body_text 1 1 (same 0 0 ∷ []) (col 1 2 ∷ []) (order_by (0 ∷ [])) (codes "body" ∷ [])
 unfolding first returning understood everything
 body_are = record { bare = λ schema base. refl; is = (refl, refl); plain = (refl, refl); suits = (refl, refl) }
 
@@ -143,7 +78,7 @@ pub body_asks : Asks body_text
 body_asks = select_asks body_are
 
 pub body_asked : (n : ℕ) → IsAsked body_text (number n ∷ [])
-body_asked n = asked body_text (number n ∷ []) 1 (same 0 0 ∷ []) (col 1 2 ∷ []) (order_by (0 ∷ [])) (codes "body" ∷ []) body_are.is body_are.plain body_are.suits refl
+body_asked n = select_asked body_are (number n ∷ []) refl refl
 
 abbrev body_test : ℕ → Row → Bool
 body_test n cs = is_true (binary (Compare Eq Binary) (column cs 0) (number n)) && true

@@ -2,14 +2,11 @@
 
 ghost use Rattle.std.specs.Prelude.{◌≡◌, ℕ, List, map, false, slice_get, IfErr, IfNone, IfOk, IfSome, IsUtf8};
 ghost use Rattle.std.specs.List.{AllByRecursion};
-ghost use Rattle.sqlite.specs.Held.{state};
 ghost use Rattle.sqlite_value.specs.Order.{column};
 ghost use Rattle.sqlite_value.specs.declared.value.Value.TheVariants.{Text as Words};
-ghost use Rattle.desk_access.specs.Seen.{OfRows};
-ghost use Rattle.desk_sql_layout.specs.Held.{seen_of};
-ghost use Rattle.desk_sql_lookup.specs.Causes.{HasCause, IsRow};
+ghost use Rattle.desk_sql_lookup.specs.Causes.{IsRow};
 ghost use Rattle.desk_sql_lookup.specs.Shown.{text_cells};
-ghost use Rattle.desk_sql_adopt.specs.Reading.{HasRead};
+ghost use Rattle.desk_sql_adopt.specs.Finding.{Finds};
 ghost use Rattle.desk_sql_adopt.specs.Revisions.{body_of};
 
 use crate::query::query;
@@ -55,12 +52,7 @@ pub fn body_of<S: Alter>(
     revision: u32,
 ) -> Result<Option<Text>, Fault>
     requires { conn.old.in_transaction ≡ false }
-    ensures found { IfOk result (λ body. OfRows (λ t.
-        body ≡ body_of t revision) (seen_of (state S.Store conn.old))
-        (seen_of (state S.Store conn.new))) }
-    ensures read { HasRead (state S.Store conn.old) (state S.Store conn.new) result }
-    ensures cause { IfErr result (HasCause (state S.Store conn.old) (state S.Store conn.new)) }
-    ensures mode { conn.new.in_transaction ≡ false }
+    ensures { Finds S.Store conn.old conn.new result (λ body t. body ≡ body_of t revision) }
 {
     let rows = query(
         conn,

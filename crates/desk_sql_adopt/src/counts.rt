@@ -4,9 +4,8 @@ ghost use Rattle.std.specs.Prelude.{◌≡◌, ◌<◌, ◌^◌, false, List, []
 ghost use Rattle.sqlite.specs.Held.{state};
 ghost use Rattle.sqlite.specs.State.{HasCleanDisk, Shown};
 ghost use Rattle.sqlite_value.specs.Order.{Row as Cells};
-ghost use Rattle.desk_access.specs.Seen.{OfRows};
-ghost use Rattle.desk_sql_layout.specs.Held.{seen_of};
 ghost use Rattle.desk_sql_lookup.specs.Causes.{HasCauseIf, IsAsked};
+ghost use Rattle.desk_sql_adopt.specs.Finding.{Counts};
 ghost use Rattle.desk_sql_adopt.specs.Reading.{Asks, HasRead};
 ghost use Rattle.desk_sql_adopt.specs.Revisions.{ShowsCount};
 
@@ -37,13 +36,7 @@ fn row_count<S: Alter>(conn: &mut Connection<S>, sql: &str) -> Result<u32, Fault
 /// How many revisions of the catalogue there are.
 pub fn revision_count<S: Alter>(conn: &mut Connection<S>) -> Result<u32, Fault>
     requires { conn.old.in_transaction ≡ false }
-    ensures found { IfOk result (λ count. OfRows (λ t.
-        length t.catalogue ≡ count) (seen_of (state S.Store conn.old))
-        (seen_of (state S.Store conn.new))) }
-    ensures read { HasRead (state S.Store conn.old) (state S.Store conn.new) result }
-    ensures cause { IfErr result (HasCauseIf (λ t. length t.catalogue < 2 ^ 32)
-        (state S.Store conn.old) (state S.Store conn.new)) }
-    ensures mode { conn.new.in_transaction ≡ false }
+    ensures { Counts S.Store conn.old conn.new result (λ t. length t.catalogue) }
 {
     row_count(conn, "SELECT revision FROM catalogue")
 }
@@ -51,13 +44,7 @@ pub fn revision_count<S: Alter>(conn: &mut Connection<S>) -> Result<u32, Fault>
 /// How many documents there are.
 pub fn document_count<S: Alter>(conn: &mut Connection<S>) -> Result<u32, Fault>
     requires { conn.old.in_transaction ≡ false }
-    ensures found { IfOk result (λ count. OfRows (λ t.
-        length t.document ≡ count) (seen_of (state S.Store conn.old))
-        (seen_of (state S.Store conn.new))) }
-    ensures read { HasRead (state S.Store conn.old) (state S.Store conn.new) result }
-    ensures cause { IfErr result (HasCauseIf (λ t. length t.document < 2 ^ 32)
-        (state S.Store conn.old) (state S.Store conn.new)) }
-    ensures mode { conn.new.in_transaction ≡ false }
+    ensures { Counts S.Store conn.old conn.new result (λ t. length t.document) }
 {
     row_count(conn, "SELECT number FROM document")
 }
@@ -65,13 +52,7 @@ pub fn document_count<S: Alter>(conn: &mut Connection<S>) -> Result<u32, Fault>
 /// How many releases there are.
 pub fn release_count<S: Alter>(conn: &mut Connection<S>) -> Result<u32, Fault>
     requires { conn.old.in_transaction ≡ false }
-    ensures found { IfOk result (λ count. OfRows (λ t.
-        length t.releases ≡ count) (seen_of (state S.Store conn.old))
-        (seen_of (state S.Store conn.new))) }
-    ensures read { HasRead (state S.Store conn.old) (state S.Store conn.new) result }
-    ensures cause { IfErr result (HasCauseIf (λ t. length t.releases < 2 ^ 32)
-        (state S.Store conn.old) (state S.Store conn.new)) }
-    ensures mode { conn.new.in_transaction ≡ false }
+    ensures { Counts S.Store conn.old conn.new result (λ t. length t.releases) }
 {
     row_count(conn, "SELECT name FROM releases")
 }
@@ -79,13 +60,7 @@ pub fn release_count<S: Alter>(conn: &mut Connection<S>) -> Result<u32, Fault>
 /// How many duties there are.
 pub fn duty_count<S: Alter>(conn: &mut Connection<S>) -> Result<u32, Fault>
     requires { conn.old.in_transaction ≡ false }
-    ensures found { IfOk result (λ count. OfRows (λ t.
-        length t.duty ≡ count) (seen_of (state S.Store conn.old))
-        (seen_of (state S.Store conn.new))) }
-    ensures read { HasRead (state S.Store conn.old) (state S.Store conn.new) result }
-    ensures cause { IfErr result (HasCauseIf (λ t. length t.duty < 2 ^ 32)
-        (state S.Store conn.old) (state S.Store conn.new)) }
-    ensures mode { conn.new.in_transaction ≡ false }
+    ensures { Counts S.Store conn.old conn.new result (λ t. length t.duty) }
 {
     row_count(conn, "SELECT number FROM duty")
 }

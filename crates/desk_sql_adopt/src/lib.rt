@@ -12,7 +12,7 @@
 //!
 //! The rest is asked of a desk's tables: how many revisions, documents, releases and duties there
 //! are, the body of a revision, and the releases and duties themselves. What is told is so of each
-//! tables that the database holds (`found`).
+//! tables that the database holds (`found`, `specs/Finding.antt`).
 //!
 //! Each statement only asks, whatever the schema of the database is (`Asks`): the connection shows
 //! what it showed as far as it still shows anything, a stop leaves nothing that it couldn't leave

@@ -1,11 +1,7 @@
 //! The releases and duties of a desk.
 
-ghost use Rattle.std.specs.Prelude.{◌≡◌, false, IfErr, IfOk};
-ghost use Rattle.sqlite.specs.Held.{state};
-ghost use Rattle.desk_access.specs.Seen.{OfRows};
-ghost use Rattle.desk_sql_layout.specs.Held.{seen_of};
-ghost use Rattle.desk_sql_lookup.specs.Causes.{HasCause};
-ghost use Rattle.desk_sql_adopt.specs.Reading.{HasRead};
+ghost use Rattle.std.specs.Prelude.{◌≡◌, false};
+ghost use Rattle.desk_sql_adopt.specs.Finding.{Finds};
 
 use crate::query::query;
 use desk_model::{DutyRow, Fault, ReleaseRow};
@@ -16,12 +12,7 @@ use std::alloc::Global;
 /// All releases, by name.
 pub fn releases<S: Alter>(alloc: Global, conn: &mut Connection<S>) -> Result<Vec<ReleaseRow>, Fault>
     requires { conn.old.in_transaction ≡ false }
-    ensures found { IfOk result (λ found. OfRows (λ t.
-        found.items ≡ t.releases) (seen_of (state S.Store conn.old))
-        (seen_of (state S.Store conn.new))) }
-    ensures read { HasRead (state S.Store conn.old) (state S.Store conn.new) result }
-    ensures cause { IfErr result (HasCause (state S.Store conn.old) (state S.Store conn.new)) }
-    ensures mode { conn.new.in_transaction ≡ false }
+    ensures { Finds S.Store conn.old conn.new result (λ found t. found.items ≡ t.releases) }
 {
     let rows = query(
         conn,
@@ -34,12 +25,7 @@ pub fn releases<S: Alter>(alloc: Global, conn: &mut Connection<S>) -> Result<Vec
 /// All duties, by number.
 pub fn duties<S: Alter>(alloc: Global, conn: &mut Connection<S>) -> Result<Vec<DutyRow>, Fault>
     requires { conn.old.in_transaction ≡ false }
-    ensures found { IfOk result (λ found. OfRows (λ t.
-        found.items ≡ t.duty) (seen_of (state S.Store conn.old))
-        (seen_of (state S.Store conn.new))) }
-    ensures read { HasRead (state S.Store conn.old) (state S.Store conn.new) result }
-    ensures cause { IfErr result (HasCause (state S.Store conn.old) (state S.Store conn.new)) }
-    ensures mode { conn.new.in_transaction ≡ false }
+    ensures { Finds S.Store conn.old conn.new result (λ found t. found.items ≡ t.duty) }
 {
     let rows = query(
         conn,

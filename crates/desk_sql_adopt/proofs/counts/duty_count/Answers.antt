@@ -1,21 +1,6 @@
-use Rattle.std.proofs.Common.{length}
-use Rattle.sqlite.specs.Held.{state}
-use Rattle.desk_sql_adopt.proofs.Spared.{counted}
-use Rattle.desk_sql_adopt.proofs.Texts.{duties_text, duties_asked, duties_asks, duties_count}
-use Rattle.desk_sql_adopt.proofs.Causes.{count_cause}
+use Rattle.desk_sql_adopt.proofs.Finding.{counted}
+use Rattle.desk_sql_adopt.proofs.Texts.{duties}
 use Rattle.desk_sql_adopt.proofs.counts.duty_count.Goals as goal
 
-pub returns-clause-found : goal.returns-clause-found
-returns-clause-found g c =
-    let old = state g.S.Store c.args.conn.now in
-    let new = state g.S.Store c.row_count.new.conn in
-    counted duties_text old new duties_asks c.row_count.result (λ t. length t.duty) (duties_count old new) (c.row_count.ensures.read duties_asks) c.row_count.ensures.shown
-
-pub returns-clause-read : goal.returns-clause-read
-returns-clause-read g c = c.row_count.ensures.read duties_asks
-
-pub returns-clause-cause : goal.returns-clause-cause
-returns-clause-cause g c =
-    let old = state g.S.Store c.args.conn.now in
-    let new = state g.S.Store c.row_count.new.conn in
-    count_cause duties_text old new duties_asks c.row_count.result (λ t. length t.duty) (duties_count old new) (c.row_count.ensures.read duties_asks) (c.row_count.ensures.cause duties_asked)
+pub returns : goal.returns
+returns g c = counted duties g.S.Store c.args.conn.now c.row_count.new.conn c.row_count.result c.row_count.ensures.shown c.row_count.ensures.read c.row_count.ensures.cause c.row_count.ensures.mode
