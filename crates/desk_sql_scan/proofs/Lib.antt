@@ -2,6 +2,7 @@ mod Asked
 pub mod Holding
 mod Telling
 mod Scanning
+mod Queries
 mod Values
 mod Rising
 mod Waivers

@@ -1,11 +1,10 @@
 -- What a query for all rows of a table shows, in the order of its key.
-use Rattle.std.proofs.Common.{◌≡◌, ℕ, true, false, List, [], ◌∷◌, map, Option, refl, sym, ap, ap₂, subst, subst₂, ◌∙◌, IsPermutation, Ordering, is_lt, is_eq}
+use Rattle.std.proofs.Common.{◌≡◌, ℕ, true, false, List, [], ◌∷◌, map, refl, sym, ap, ap₂, subst, subst₂, ◌∙◌, IsPermutation, Ordering, is_lt, is_eq}
 use Rattle.std.specs.Cmp.{IsTotalOrder}
 use Rattle.std.specs.List.{AllByRecursion}
 use Rattle.std.proofs.lemmas.Cmp.{on_total}
 use Rattle.std.proofs.lemmas.List.Sorted.{IsPermutation-map, IsPermutation-sym}
 use Rattle.sqlite_value.specs.declared.keys.Key.{Key}
-use Rattle.sqlite_value.specs.declared.keys.Order.{Order}
 use Rattle.sqlite_value.specs.declared.value.Value.{Value}
 use Rattle.sqlite_value.specs.declared.value.Value.TheVariants.{Null, Int, Real, Text, Blob}
 use Rattle.sqlite_value.specs.declared.keys.Collation.TheVariants.{Binary}
@@ -19,7 +18,6 @@ use Rattle.sqlite_sql.specs.declared.ops.BinaryOp.TheVariants.{Coalesce}
 use Rattle.sqlite_sql.specs.Ops.{binary}
 use Rattle.sqlite_sql.specs.Query.{Query, Output, output, output_cmp, key_cmp}
 use Rattle.sqlite_sql.proofs.QueryLemmas.{output_cmp_total}
-use Rattle.sqlite_schema.specs.declared.schema.Column.{Column}
 use Rattle.sqlite_schema.specs.declared.schema.Table.{Table}
 use Rattle.sqlite_schema.specs.declared.command.Command.TheVariants.{Select}
 use Rattle.sqlite_rules.proofs.ListLemmas.{all_from, all_has}
@@ -27,7 +25,7 @@ use Rattle.sqlite_rules.proofs.ProbeLemmas.{has_mapped}
 use Rattle.sqlite.specs.Effect.{Database, Reads}
 use Rattle.sqlite.specs.Listing.{understood}
 use Rattle.sqlite.proofs.Callers.{command_of}
-use Rattle.desk_sql_layout.specs.Layout.{desk_schema, table_of}
+use Rattle.desk_sql_layout.specs.Layout.{desk_schema}
 use Rattle.desk_sql_layout.specs.Stored.{cells}
 use Rattle.desk_sql_layout.proofs.Edits.{has_permuted}
 use Rattle.desk_sql_layout.proofs.Orders.{from_sorted}
@@ -35,6 +33,7 @@ use Rattle.desk_sql_layout.proofs.Queries.{query_on, env, selected, Selected}
 use Rattle.desk_sql_lookup.proofs.Selects.{order_by, AreApart}
 use Rattle.desk_sql_lookup.proofs.Ties.{keys, picked, sorted_from}
 use Rattle.desk_sql_lookup.specs.Causes.{IsRow}
+use Rattle.desk_sql_adopt.proofs.Selecting.{as_declared}
 use Rattle.desk_sql_scan.specs.Causes.{AreCells}
 use Rattle.desk_sql_scan.specs.Cells.{columns_of}
 use Rattle.desk_sql_scan.specs.Scans.{IsScan}
@@ -64,17 +63,17 @@ itself (Real x) = refl
 itself (Text t) = refl
 itself (Blob b) = refl
 
-module _ (name : List ℕ) (tree : ℕ) (columns : List Column) (key : Option ℕ) (primary : List ℕ) (uniques : List (List ℕ)) (orders : List Order) where
+module _ (table : Table) where
   abbrev this : Table
-  this = table_of name tree columns key primary uniques orders
+  this = as_declared table
 
   -- a query that shows the cells of each row, and sorts by some of them
   module _ (sql : List ℕ) (names : List (List ℕ)) (project : List Term) (ps : List ℕ) (by : List (Term × Key)) (keyed : map (λ (k : Term × Key). k.1) by ≡ keys ps) (pick : Row → Row) (width : ℕ)
-      (is : command_of (understood desk_schema sql) ≡ Select (record { lets = []; body = query_on tree [] project by }) names)
-      (acts : (r : Row) → output (query_on tree [] project by) (env [] r) ≡ (pick (cells this r), cells this r))
+      (is : command_of (understood desk_schema sql) ≡ Select (record { lets = []; body = query_on table.tree [] project by }) names)
+      (acts : (r : Row) → output (query_on table.tree [] project by) (env [] r) ≡ (pick (cells this r), cells this r))
       (wide : (r : Row) → columns_of width (cells this r) ≡ cells this r) (db : Database) (shown : List Row) (reads : Reads (command_of (understood desk_schema sql)) db [] shown) where
     abbrev asked : Query
-    asked = query_on tree [] project by
+    asked = query_on table.tree [] project by
 
     abbrev out : Row → Output
     out r = output asked (env [] r)
@@ -86,13 +85,13 @@ module _ (name : List ℕ) (tree : ℕ) (columns : List Column) (key : Option �
     abbrev by_key : Row → Row → Ordering
     by_key a b = output_cmp asked (of_cells a) (of_cells b)
 
-    answer : Selected asked [] (db.trees tree) shown
+    answer : Selected asked [] (db.trees table.tree) shown
     answer =
         let it : Reads (Select (record { lets = []; body = asked }) names) db [] shown = subst (λ c. Reads c db [] shown) is reads in
-        selected tree [] project by db.trees [] shown (it.answer Null)
+        selected table.tree [] project by db.trees [] shown (it.answer Null)
 
-    outs_are : IsPermutation (map out (db.trees tree)) answer.ordered
-    outs_are = subst (λ l. IsPermutation (map out l) answer.ordered) (filter_all (λ (r : Row). true) (db.trees tree) (each (db.trees tree))) answer.same
+    outs_are : IsPermutation (map out (db.trees table.tree)) answer.ordered
+    outs_are = subst (λ l. IsPermutation (map out l) answer.ordered) (filter_all (λ (r : Row). true) (db.trees table.tree) (each (db.trees table.tree))) answer.same
 
     -- the rows, each cut to its columns, which are all that it has
     abbrev rows : List Row
@@ -103,15 +102,15 @@ module _ (name : List ℕ) (tree : ℕ) (columns : List Column) (key : Option �
         let f = λ (o : Output). of_cells (columns_of width o.1) in
         let one : (r : Row) → f (out r) ≡ out r = λ r. let e : out r ≡ of_cells (cells this r) = acts r in ap f e ∙ ap of_cells (wide r) ∙ sym e in
         let all : AllByRecursion (λ o. f o ≡ o) answer.ordered = all_from (λ o. f o ≡ o) answer.ordered (λ o there.
-        let x = has_mapped out (db.trees tree) o (has_permuted (map out (db.trees tree)) answer.ordered o outs_are there) in
+        let x = has_mapped out (db.trees table.tree) o (has_permuted (map out (db.trees table.tree)) answer.ordered o outs_are there) in
         subst (λ o. f o ≡ o) (sym x.2) (one x.0)) in
         ap (λ l. map of_cells (map (columns_of width) l)) answer.shown ∙ ap (map of_cells) (map-map (columns_of width) (λ (o : Output). o.1) answer.ordered)
         ∙ map-map of_cells (λ (o : Output). columns_of width o.1) answer.ordered ∙ fixed f answer.ordered all
 
-    pub rows_are : IsPermutation rows (map (cells this) (db.trees tree))
+    pub rows_are : IsPermutation rows (map (cells this) (db.trees table.tree))
     rows_are =
         let second = λ (o : Output). o.1 in
-        let left : map second (map out (db.trees tree)) ≡ map (cells this) (db.trees tree) = map-map second out (db.trees tree) ∙ same_map (λ r. second (out r)) (cells this) (λ r. ap second (acts r)) (db.trees tree) in
+        let left : map second (map out (db.trees table.tree)) ≡ map (cells this) (db.trees table.tree) = map-map second out (db.trees table.tree) ∙ same_map (λ r. second (out r)) (cells this) (λ r. ap second (acts r)) (db.trees table.tree) in
         let right : map second answer.ordered ≡ rows = sym (ap (map second) ordered_are) ∙ map-map second of_cells rows ∙ fixed (λ r. r) rows (all_from (λ r. r ≡ r) rows (λ r there. refl)) in
         IsPermutation-sym _ _ (subst₂ (λ a b. IsPermutation a b) left right (IsPermutation-map second _ _ outs_are))
 
@@ -121,17 +120,17 @@ module _ (name : List ℕ) (tree : ℕ) (columns : List Column) (key : Option �
         ascending_from_map (λ a b. is_lt (output_cmp asked b a) ≡ false) of_cells rows (subst (IsAscending (λ a b. is_lt (output_cmp asked b a) ≡ false)) (sym ordered_are) up)
 
     -- what is shown stands in the table
-    shown_are : IsPermutation (map (cells this) (db.trees tree)) shown
+    shown_are : IsPermutation (map (cells this) (db.trees table.tree)) shown
     shown_are =
         let second = λ (o : Output). o.1 in
-        let left : map second (map out (db.trees tree)) ≡ map (cells this) (db.trees tree) = map-map second out (db.trees tree) ∙ same_map (λ r. second (out r)) (cells this) (λ r. ap second (acts r)) (db.trees tree) in
+        let left : map second (map out (db.trees table.tree)) ≡ map (cells this) (db.trees table.tree) = map-map second out (db.trees table.tree) ∙ same_map (λ r. second (out r)) (cells this) (λ r. ap second (acts r)) (db.trees table.tree) in
         subst₂ (λ a b. IsPermutation a b) left (sym answer.shown) (IsPermutation-map second _ _ outs_are)
 
     -- it can be read, where the rows that are held are such as a desk writes them
-    pub all_written : {A X : Type 0} (cells_of : A → Row) (stored_of : X → A) (xs : List X) → IsPermutation (map (λ x. cells_of (stored_of x)) xs) (map (cells this) (db.trees tree))
+    pub all_written : {A X : Type 0} (cells_of : A → Row) (stored_of : X → A) (xs : List X) → IsPermutation (map (λ x. cells_of (stored_of x)) xs) (map (cells this) (db.trees table.tree))
         → AllByRecursion IsRow (map (λ x. cells_of (stored_of x)) xs) → AllByRecursion (AreCells cells_of) shown
     all_written {A} {X} cells_of stored_of xs same written =
-        let base = map (cells this) (db.trees tree) in
+        let base = map (cells this) (db.trees table.tree) in
         let f = λ (x : X). cells_of (stored_of x) in
         all_from (AreCells cells_of) shown (λ row there.
         let held = has_permuted (map f xs) base row same (has_permuted base shown row shown_are there) in
@@ -141,21 +140,21 @@ module _ (name : List ℕ) (tree : ℕ) (columns : List Column) (key : Option �
     module _ {A : Type 0} (cells_of : A → Row) (order : A → A → Ordering) (agrees : (a b : A) → by_key (cells_of a) (cells_of b) ≡ order a b) (found : List A) (are : rows ≡ map cells_of found) where
       pub scanned : IsScan this cells_of order found db
       scanned = record {
-        shown = subst (λ l. IsPermutation l (map (cells this) (db.trees tree))) are rows_are;
+        shown = subst (λ l. IsPermutation l (map (cells this) (db.trees table.tree))) are rows_are;
         ordered =
             let up = ascending_from_map (λ a b. is_lt (by_key b a) ≡ false) cells_of found (subst (IsAscending (λ a b. is_lt (by_key b a) ≡ false)) are rows_rise) in
             ascending_weaker (λ a b. is_lt (by_key (cells_of b) (cells_of a)) ≡ false) (λ a b. is_lt (order b a) ≡ false) (λ a b h. ap is_lt (sym (agrees b a)) ∙ h) found up;
       }
 
       -- they are the rows that are held, where these stand in order
-      module _ (apart : AreApart ps (db.trees tree)) (picks : (r : Row) → pick (cells this r) ≡ picked ps r) {X : Type 0} (stored_of : X → A) (xs : List X)
-          (same : IsPermutation (map (λ x. cells_of (stored_of x)) xs) (map (cells this) (db.trees tree))) (sorted : IsAscending (λ a b. is_lt (order (stored_of b) (stored_of a)) ≡ false) xs)
+      module _ (apart : AreApart ps (db.trees table.tree)) (picks : (r : Row) → pick (cells this r) ≡ picked ps r) {X : Type 0} (stored_of : X → A) (xs : List X)
+          (same : IsPermutation (map (λ x. cells_of (stored_of x)) xs) (map (cells this) (db.trees table.tree))) (sorted : IsAscending (λ a b. is_lt (order (stored_of b) (stored_of a)) ≡ false) xs)
           (back : Row → A) (inverse : (a : A) → back (cells_of a) ≡ a) where
-        no_ties : IsAscending (λ a b. is_eq (by_key a b) ≡ false) (map (cells this) (db.trees tree))
+        no_ties : IsAscending (λ a b. is_eq (by_key a b) ≡ false) (map (cells this) (db.trees table.tree))
         no_ties =
-            ascending-map (λ a b. is_eq (by_key a b) ≡ false) (cells this) (db.trees tree)
+            ascending-map (λ a b. is_eq (by_key a b) ≡ false) (cells this) (db.trees table.tree)
             (ascending_weaker (λ a b. is_eq (key_cmp 0 (keys ps) (picked ps a) (picked ps b)) ≡ false) (λ a b. is_eq (by_key (cells this a) (cells this b)) ≡ false)
-            (λ a b h. rw (keyed, picks a, picks b) h) (db.trees tree) apart)
+            (λ a b h. rw (keyed, picks a, picks b) h) (db.trees table.tree) apart)
 
         abbrev wanted : List Row
         wanted = map (λ x. cells_of (stored_of x)) xs
@@ -171,7 +170,7 @@ module _ (name : List ℕ) (tree : ℕ) (columns : List Column) (key : Option �
 
         pub is_held : found ≡ map stored_of xs
         is_held =
-            let base = map (cells this) (db.trees tree) in
+            let base = map (cells this) (db.trees table.tree) in
             let mine = sorted_is-sort_by by_key total base rows no_ties (IsPermutation-sym _ _ rows_are) (sorted_from by_key rows rows_rise) in
             let theirs = sorted_is-sort_by by_key total base wanted no_ties (IsPermutation-sym _ _ same) (sorted_from by_key wanted wanted_rise) in
             let shown : map cells_of found ≡ map cells_of (map stored_of xs) = sym are ∙ mine ∙ sym theirs ∙ sym (map-map cells_of stored_of xs) in
