@@ -19,6 +19,7 @@ use Rattle.desk_snapshot.specs.declared.fault.AuditReport.{AuditReport}
 use Rattle.desk_snapshot.specs.declared.fault.AuditReport.TheVariants.{Sound, Unsound}
 use Rattle.desk_sql_migrate.specs.Migrating.{Ends, IsLeft, IsReason, IsReportOn, IsUndone, Leaves, LeavesMigrated, LeavesSome, Migrated, Prepared, outcome_of}
 use Rattle.desk_sql_migrate.specs.Steps.{Becomes}
+use Rattle.desk_sql_migrate.specs.declared.fault.MigrateFault.{MigrateFault}
 
 weaker : (P : Trees → Type 0) (a b : State) → Survives a b (λ _. ⊥) → Survives a b P
 weaker P a b it = record {
@@ -42,7 +43,7 @@ pub err_leaves : (version : OlderVersion) (a b : State) (r : Result AuditReport 
 err_leaves version a b (Ok x) is it = absurd (cc)
 err_leaves version a b (Err e) is it = undone_by (LeavesMigrated version a) a b it
 
-pub clean_first : (version : OlderVersion) (b c : State) (r : Result AuditReport Fault) → Leaves version b c r → HasCleanDisk c → HasCleanDisk b
+clean_first : (version : OlderVersion) (b c : State) (r : Result AuditReport Fault) → Leaves version b c r → HasCleanDisk c → HasCleanDisk b
 clean_first version b c (Ok Sound) it clean = clean_before b c (LeavesMigrated version b) it clean
 clean_first version b c (Ok (Unsound f)) it clean = clean_before b c (λ _. ⊥) it.survives clean
 clean_first version b c (Err f) it clean = clean_before b c (LeavesMigrated version b) it.survives clean
@@ -151,24 +152,44 @@ module _ (a b c : State) (stayed : HasStayed a b) (version : OlderVersion) where
   }
   ended (Unsound f) clean is it = (it.0, subst (λ (d : Database). Becomes version d it.0) (same_now clean is) it.1, it.2)
 
-  -- a refusal, or a fault
-  pub left_first : (r : Result AuditReport Fault) → Leaves version b c r → IfErr (outcome_of version r) (IsLeft a c)
-  left_first (Ok Sound) it = tt
-  left_first (Ok (Unsound f)) it = spared_then a b c stayed.0 it
-  left_first (Err f) it = undone_first it
+  left_by : (r : Result AuditReport Fault) → Leaves version b c r → IfErr (outcome_of version r) (IsLeft a c)
+  left_by (Ok Sound) it = tt
+  left_by (Ok (Unsound f)) it = spared_then a b c stayed.0 it
+  left_by (Err f) it = undone_first it
 
-  pub survives_first : (r : Result AuditReport Fault) → Leaves version b c r → OnOk (outcome_of version r) (Survives a c (LeavesSome a))
-  survives_first (Ok Sound) it = some_survives it
-  survives_first (Ok (Unsound f)) it = tt
-  survives_first (Err f) it = tt
+  survives_by : (r : Result AuditReport Fault) → Leaves version b c r → OnOk (outcome_of version r) (Survives a c (LeavesSome a))
+  survives_by (Ok Sound) it = some_survives it
+  survives_by (Ok (Unsound f)) it = tt
+  survives_by (Err f) it = tt
 
-  pub reason_first : (r : Result AuditReport Fault) → IsOlderContent a (content.Older version) → HasCleanDisk b → IfOk r (Ends version b c) → IfErr (outcome_of version r) (IsReason a)
-  reason_first (Ok Sound) older clean it = tt
-  reason_first (Ok (Unsound f)) older clean it = inr (version, older, λ is. ended (Unsound f) clean (stayed.1 clean is) it)
-  reason_first (Err f) older clean it = tt
+  reason_by : (r : Result AuditReport Fault) → IsOlderContent a (content.Older version) → HasCleanDisk b → IfOk r (Ends version b c) → IfErr (outcome_of version r) (IsReason a)
+  reason_by (Ok Sound) older clean it = tt
+  reason_by (Ok (Unsound f)) older clean it = inr (version, older, λ is. ended (Unsound f) clean (stayed.1 clean is) it)
+  reason_by (Err f) older clean it = tt
 
-  pub migrated_first : (r : Result AuditReport Fault) → IsOlderContent a (content.Older version) → HasCleanDisk b → IfOk r (Ends version b c)
+  migrated_by : (r : Result AuditReport Fault) → IsOlderContent a (content.Older version) → HasCleanDisk b → IfOk r (Ends version b c)
       → IfOk (outcome_of version r) (λ v. IsOlderContent a (content.Older v) × Migrated v a c)
-  migrated_first (Ok Sound) older clean it = (older, ended Sound clean it.was_open it)
-  migrated_first (Ok (Unsound f)) older clean it = tt
-  migrated_first (Err f) older clean it = tt
+  migrated_by (Ok Sound) older clean it = (older, ended Sound clean it.was_open it)
+  migrated_by (Ok (Unsound f)) older clean it = tt
+  migrated_by (Err f) older clean it = tt
+
+  -- what comes of it, after a refusal or a fault, and where it was migrated
+  module _ (r : Result AuditReport Fault) (left : Leaves version b c r) (o : Result OlderVersion MigrateFault) (is : o ≡ outcome_of version r) where
+    pub left_first : IfErr o (IsLeft a c)
+    left_first = subst (λ o. IfErr o (IsLeft a c)) (sym is) (left_by r left)
+
+    pub survives_first : OnOk o (Survives a c (LeavesSome a))
+    survives_first = subst (λ o. OnOk o (Survives a c (LeavesSome a))) (sym is) (survives_by r left)
+
+    module _ (found : HasCleanDisk b → IsOlderContent a (content.Older version)) (ends : HasCleanDisk c → (IsTrue b.is_open → b.now.schema ≡ older_schema version) → IfOk r (Ends version b c)) (clean : HasCleanDisk c) where
+      before_it : HasCleanDisk b
+      before_it = clean_first version b c r left clean
+
+      so_ended : IfOk r (Ends version b c)
+      so_ended = ends clean (λ is. ap (λ (d : Database). d.schema) (same_now before_it is) ∙ (found before_it).1)
+
+      pub reason_first : IfErr o (IsReason a)
+      reason_first = subst (λ o. IfErr o (IsReason a)) (sym is) (reason_by r (found before_it) before_it so_ended)
+
+      pub migrated_first : IfOk o (λ v. IsOlderContent a (content.Older v) × Migrated v a c)
+      migrated_first = subst (λ o. IfOk o (λ v. IsOlderContent a (content.Older v) × Migrated v a c)) (sym is) (migrated_by r (found before_it) before_it so_ended)

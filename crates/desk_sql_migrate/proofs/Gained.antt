@@ -1,10 +1,10 @@
 -- A table more is declared, and the rows of the others stay.
-use Rattle.std.proofs.Common.{◌≡◌, ◌∙◌, ℕ, false, true, List, [], ◌∷◌, ◌++◌, IsTrue, Ok, Err, Result, refl, sym, ap, subst, arith}
-use Rattle.std.specs.Prelude.{◌==◌, if◌then◌else◌}
+use Rattle.std.proofs.Common.{◌≡◌, ◌∙◌, ℕ, false, true, List, [], ◌∷◌, ◌++◌, IsTrue, Ok, Err, Result, refl, sym, subst, arith}
+use Rattle.std.specs.Prelude.{◌==◌}
 use Rattle.std.specs.List.{AllByRecursion}
 use Rattle.std.proofs.lemmas.List.Sorted.{IsPermutation-refl}
 use Rattle.std.proofs.lemmas.Bool.Decides.{nat_tests}
-use Rattle.std.specs.Fmt.{digits}
+use Rattle.std.specs.Result.{IsErr}
 use Rattle.sqlite_value.specs.Order.{Row}
 use Rattle.sqlite_tied.specs.Compute.{everything}
 use Rattle.sqlite_trees.specs.Tree.{Trees}
@@ -20,11 +20,10 @@ use Rattle.desk_sql_layout.specs.Stored.{AllStored, AreStored}
 use Rattle.desk_sql_write.specs.Declaring.{Declares}
 use Rattle.desk_sql_write.specs.Written.{Ran}
 use Rattle.desk_sql_write.proofs.Declared.{creates}
-use Rattle.desk_sql_write.proofs.Inside.{clean_before}
-use Rattle.sqlite.specs.State.{Survives}
+use Rattle.desk_sql_write.proofs.Inside.{clean_before, survives_both}
 use Rattle.desk_sql_adopt.specs.Older.{older_schema}
 use Rattle.desk_sql_adopt.specs.declared.older.OlderVersion.TheVariants.{One, Two}
-use Rattle.desk_sql_migrate.specs.Steps.{Gained, HasGained, HasTables, with_none, with_no_readings, with_no_waivers}
+use Rattle.desk_sql_migrate.specs.Steps.{Gained, Gains, IfDone, IsStep, with_none, with_no_readings, with_no_waivers}
 
 none_is : (last : Table) → AreStored last [] []
 none_is last = record { rising = tt; keyed = tt; same = IsPermutation-refl [] }
@@ -43,7 +42,7 @@ stored_more (t ∷ ts) rows old new last fresh kept stored none = (rw (fresh.0, 
 
 module _ (text : List ℕ) (table : Table) (before after : Schema) (declares : Declares text table before) (is : created before table ≡ after) (fresh : IsFresh (next_tree before) before.tables)
     (whole : (created before table).tables ≡ before.tables ++ record table { tree = next_tree before } ∷ []) where
-  pub gained : (old new : State) (r : Result (Unit {0}) Fault) → Ran text [] old new r → HasGained before after (with_none (next_tree before)) old new r
+  pub gained : (old new : State) (r : Result (Unit {0}) Fault) → Ran text [] old new r → IfDone (Gained before after (with_none (next_tree before))) old new r
   gained old new (Err fault) ran = ran
   gained old new (Ok done) ran = λ clean inside.
       let it = ran clean inside in
@@ -76,23 +75,36 @@ waivers_declared : Declares d.waiver_text (bare d.waiver_table) (older_schema Tw
 unfolding understood everything
 waivers_declared = record { is_create = refl; whole = refl; plain = (refl, refl); defines = refl; counts = refl }
 
-pub readings_gained : (old new : State) (r : Result (Unit {0}) Fault) → Ran d.reading_text [] old new r → HasGained (older_schema One) (older_schema Two) with_no_readings old new r
+pub readings_gained : (old new : State) (r : Result (Unit {0}) Fault) → Ran d.reading_text [] old new r → IfDone (Gained (older_schema One) (older_schema Two) with_no_readings) old new r
 readings_gained =
     gained d.reading_text (bare d.reading_table) (older_schema One) (older_schema Two) readings_declared refl
     (refl, (refl, (refl, (refl, (refl, (refl, (refl, (refl, (refl, (refl, (refl, (refl, (refl, (refl, tt)))))))))))))) refl
 
-pub waivers_gained : (old new : State) (r : Result (Unit {0}) Fault) → Ran d.waiver_text [] old new r → HasGained (older_schema Two) d.desk_schema with_no_waivers old new r
+pub waivers_gained : (old new : State) (r : Result (Unit {0}) Fault) → Ran d.waiver_text [] old new r → IfDone (Gained (older_schema Two) d.desk_schema with_no_waivers) old new r
 waivers_gained =
     gained d.waiver_text (bare d.waiver_table) (older_schema Two) d.desk_schema waivers_declared refl
     (refl, (refl, (refl, (refl, (refl, (refl, (refl, (refl, (refl, (refl, (refl, (refl, (refl, (refl, (refl, tt))))))))))))))) refl
 
--- one table, and then another
-pub gained_then : (a b c : Schema) (f g : (ℕ → List Row) → ℕ → List Row) (x y z : State) (r : Result (Unit {0}) Fault) → (HasCleanDisk y → IsTrue x.in_transaction → Gained a b f x y) → Survives y z (λ _. ⊥)
-    → HasGained b c g y z r → HasGained a c (λ rows. g (f rows)) x z r
-gained_then a b c f g x y z (Ok done) first survives next = λ clean inside.
-    let one = first (clean_before y z _ survives clean) inside in
-    let two = next clean one.inside in
-    record { was_open = one.was_open; inside = two.inside; kept = keeps_then x y z one.kept two.kept; declared = λ has. two.declared (one.declared has); rows = λ rows has. two.rows (f rows) (one.rows rows has) }
-gained_then a b c f g x y z (Err fault) first survives next = λ clean inside.
-    let one = first (clean_before y z _ survives clean) inside in
-    keeps_then x y z one.kept (next clean one.inside)
+-- one step, and then another
+pub then_gains : {a b c : Schema} (f g : (ℕ → List Row) → ℕ → List Row) {x y z : State} (r : Result (Unit {0}) Fault) → Gains a b f x y (Ok tt) → Gains b c g y z r → Gains a c (λ rows. g (f rows)) x z r
+then_gains {a} {b} {c} f g {x} {y} {z} r first next = record {
+  done = both r next.done;
+  survives = survives_both x y z first.survives next.survives;
+}
+  where
+    one : HasCleanDisk z → IsTrue x.in_transaction → Gained a b f x y
+    one clean inside = first.done (clean_before y z _ next.survives clean) inside
+
+    both : (r : Result (Unit {0}) Fault) → IfDone (Gained b c g) y z r → IfDone (Gained a c (λ rows. g (f rows))) x z r
+    both (Ok done) next = λ clean inside.
+        let it = one clean inside in
+        let two = next clean it.inside in
+        record { was_open = it.was_open; inside = two.inside; kept = keeps_then x y z it.kept two.kept; declared = λ has. two.declared (it.declared has); rows = λ rows has. two.rows (f rows) (it.rows rows has) }
+    both (Err fault) next = λ clean inside.
+        let it = one clean inside in
+        keeps_then x y z it.kept (next clean it.inside)
+
+-- the first failed, and `?` hands its fault on
+pub step_fails : {D E : State → State → Type 0} {x y : State} {fault : Fault} (r : Result (Unit {0}) Fault) → IsErr r → IsStep D x y (Err fault) → IsStep E x y r
+step_fails (Ok done) is it = absurd (cc)
+step_fails (Err e) is it = record { done = it.done; survives = it.survives }

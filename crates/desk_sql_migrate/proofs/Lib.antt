@@ -4,3 +4,4 @@ mod Whole
 pub mod Ends
 mod Preparing
 mod Ending
+mod Transacting

@@ -1,12 +1,12 @@
 -- The rows that a migration writes.
-use Rattle.std.proofs.Common.{◌≡◌, ◌≢◌, ◌∙◌, ℕ, ℤ, pos, Bool, true, not, List, [], ◌∷◌, ◌++◌, map, filter, length, codes, slice_get, Option, Some, None, Ok, Err, Result, inl, inr, refl, sym, ap, subst, subst₂, IsPermutation}
-use Rattle.std.specs.List.{AllByRecursion, AllZip}
+use Rattle.std.proofs.Common.{◌≡◌, ◌∙◌, ℕ, ℤ, pos, true, not, List, [], ◌∷◌, ◌++◌, map, filter, codes, slice_get, Option, Some, None, Ok, Err, Result, inl, inr, refl, sym, ap, subst, subst₂, IsPermutation}
+use Rattle.std.specs.List.{AllByRecursion}
 use Rattle.std.proofs.lemmas.List.Sorted.{IsPermutation-refl, IsPermutation-map, IsPermutation-trans, IsPermutation-append}
 use Rattle.sqlite_value.specs.declared.value.Value.{Value}
 use Rattle.sqlite_value.specs.declared.value.Value.TheVariants.{Int, Null}
 use Rattle.sqlite_value.specs.declared.keys.Order.{Order}
 use Rattle.sqlite_value.specs.Order.{Row, column}
-use Rattle.sqlite_trees.specs.Tree.{Trees, rowid}
+use Rattle.sqlite_trees.specs.Tree.{rowid}
 use Rattle.sqlite_trees.specs.View.{is_int}
 use Rattle.sqlite_trees.proofs.ListLemmas.{filter_all, map-map, IsPermutation-same}
 use Rattle.sqlite_sql.specs.Term.{Term, lit, col}
@@ -16,15 +16,13 @@ use Rattle.sqlite_sql.specs.Program.{overlay}
 use Rattle.sqlite_value.specs.declared.keys.Collation.TheVariants.{Binary}
 use Rattle.sqlite_schema.specs.declared.schema.Column.{Column}
 use Rattle.sqlite_schema.specs.declared.schema.Table.{Table}
-use Rattle.sqlite_schema.specs.declared.schema.Schema.{Schema}
 use Rattle.sqlite_schema.specs.declared.schema.Keys.TheVariants.{Enforced}
 use Rattle.sqlite_schema.specs.declared.program.Program.{Program}
 use Rattle.sqlite_schema.specs.declared.command.Command.TheVariants.{Insert, Delete}
 use Rattle.sqlite_schema.specs.declared.command.Source.TheVariants.{Values, Query}
 use Rattle.sqlite_rules.specs.Lists.{Has}
 use Rattle.sqlite_rules.specs.declared.error.Rowids.TheVariants.{Chosen}
-use Rattle.sqlite_rules.specs.Cast.{cast_row}
-use Rattle.sqlite_rules.specs.Edit.{edit_of, with_rowid, Applies}
+use Rattle.sqlite_rules.specs.Edit.{edit_of, Applies}
 use Rattle.sqlite_rules.proofs.ActionLemmas.{no_works}
 use Rattle.sqlite_rules.proofs.ListLemmas.{all_has}
 use Rattle.sqlite_rules.proofs.ProbeLemmas.{has_mapped}
@@ -49,13 +47,13 @@ use Rattle.desk_sql_layout.proofs.Steps.{Stepped, at, same_value, went, inserts,
 use Rattle.desk_sql_layout.proofs.Writes.{Shows, after_insert}
 use Rattle.desk_sql_write.specs.Written.{Ran}
 use Rattle.desk_sql_adopt.specs.Older.{first_readings}
-use Rattle.desk_sql_migrate.specs.Steps.{HasGained, with_readings, with_version, without_version}
+use Rattle.desk_sql_migrate.specs.Steps.{Gained, IfDone, with_readings, with_version, without_version}
 
 -- what a statement on the tables of a desk has made
 gained_by : (sql : List ℕ) (params : Row) (made : (ℕ → List Row) → ℕ → List Row)
     → ((old new : State) (count : ℕ) → Executes sql params old new (Ok count) → old.now.schema ≡ desk_schema → new.now.schema ≡ desk_schema)
     → ((old new : State) (count : ℕ) (rows : ℕ → List Row) → Executes sql params old new (Ok count) → HasRows rows old.now → HasRows (made rows) new.now)
-    → (old new : State) (r : Result (Unit {0}) Fault) → Ran sql params old new r → HasGained desk_schema desk_schema made old new r
+    → (old new : State) (r : Result (Unit {0}) Fault) → Ran sql params old new r → IfDone (Gained desk_schema desk_schema made) old new r
 gained_by sql params made schema rows old new (Err fault) ran = ran
 gained_by sql params made schema rows old new (Ok done) ran = λ clean inside.
     let it = ran clean inside in
@@ -98,7 +96,7 @@ version_noted_schema old new count ran has =
     let w = runs_as note_text [] old new desk_schema has (Insert 0 (Values note_terms 2)) note_is note_plain count ran in
     (inserts this.name 0 this.columns this.key this.primary this.uniques this.orders desk_schema 0 refl alone old has [] (statement_of note_text (understood desk_schema note_text)) new.now w.tally note_terms 2 ((number 3 ∷ Null ∷ []) ∷ []) refl w.changed).schema_is
 
-pub version_noted : (old new : State) (r : Result (Unit {0}) Fault) → Ran note_text [] old new r → HasGained desk_schema desk_schema with_version old new r
+pub version_noted : (old new : State) (r : Result (Unit {0}) Fault) → Ran note_text [] old new r → IfDone (Gained desk_schema desk_schema with_version) old new r
 version_noted = gained_by note_text [] with_version version_noted_schema version_noted_in
 
 abbrev drop_text : List ℕ
@@ -131,7 +129,7 @@ version_dropped_schema old new count ran has =
     let step = deletes this.name 0 this.columns this.key this.primary this.uniques this.orders desk_schema 0 refl alone old has [] (statement_of drop_text (understood desk_schema drop_text)) new.now w.tally program w.changed in
     step.2.schema_is
 
-pub version_dropped : (old new : State) (r : Result (Unit {0}) Fault) → Ran drop_text [] old new r → HasGained desk_schema desk_schema without_version old new r
+pub version_dropped : (old new : State) (r : Result (Unit {0}) Fault) → Ran drop_text [] old new r → IfDone (Gained desk_schema desk_schema without_version) old new r
 version_dropped = gained_by drop_text [] without_version version_dropped_schema version_dropped_in
 
 -- ---- the profiles
@@ -255,5 +253,5 @@ readings_noted_in old new count rows ran has =
       sound = step.3;
     }
 
-pub readings_noted : (old new : State) (r : Result (Unit {0}) Fault) → Ran readings_text [] old new r → HasGained desk_schema desk_schema with_readings old new r
+pub readings_noted : (old new : State) (r : Result (Unit {0}) Fault) → Ran readings_text [] old new r → IfDone (Gained desk_schema desk_schema with_readings) old new r
 readings_noted = gained_by readings_text [] with_readings readings_noted_schema readings_noted_in

@@ -3,7 +3,7 @@ use Rattle.std.specs.Prelude.{◌≡◌, ◌==◌, ℕ, if◌then◌else◌, Lis
 use Rattle.sqlite_value.specs.Order.{Row}
 use Rattle.sqlite_schema.specs.declared.schema.Schema.{Schema}
 use Rattle.sqlite.specs.Effect.{Database, IsDatabase}
-use Rattle.sqlite.specs.State.{State, HasCleanDisk, KeepsCommit}
+use Rattle.sqlite.specs.State.{State, HasCleanDisk, KeepsCommit, Survives}
 use Rattle.desk_model.specs.declared.command.Fault.{Fault}
 use Rattle.desk_sql_layout.specs.Cells.{number}
 use Rattle.desk_sql_layout.specs.Held.{HasRows}
@@ -30,9 +30,18 @@ pub record Gained (before after : Schema) (made : (ℕ → List Row) → ℕ →
   pub declared : old.now.schema ≡ before → new.now.schema ≡ after
   pub rows : (rows : ℕ → List Row) → HasTables before rows old.now → HasTables after (made rows) new.now
 
-abbrev pub HasGained : Schema → Schema → ((ℕ → List Row) → ℕ → List Row) → State → State → Result (Unit {0}) Fault → Type 0
-HasGained before after made old new (Ok done) = HasCleanDisk new → IsTrue old.in_transaction → Gained before after made old new
-HasGained before after made old new (Err fault) = HasCleanDisk new → IsTrue old.in_transaction → KeepsCommit old new
+-- after a fault nothing was committed
+abbrev pub IfDone : (State → State → Type 0) → State → State → Result (Unit {0}) Fault → Type 0
+IfDone Done old new (Ok done) = HasCleanDisk new → IsTrue old.in_transaction → Done old new
+IfDone Done old new (Err fault) = HasCleanDisk new → IsTrue old.in_transaction → KeepsCommit old new
+
+-- a step inside a transaction: a stop leaves nothing that it couldn't leave before
+pub record IsStep (Done : State → State → Type 0) (old new : State) (result : Result (Unit {0}) Fault) : Type 0 where
+  pub done : IfDone Done old new result
+  pub survives : Survives old new (λ _. ⊥)
+
+abbrev pub Gains : Schema → Schema → ((ℕ → List Row) → ℕ → List Row) → State → State → Result (Unit {0}) Fault → Type 0
+Gains before after made = IsStep (Gained before after made)
 
 abbrev pub with_no_readings : (ℕ → List Row) → ℕ → List Row
 with_no_readings = with_none reading_table.tree
@@ -67,5 +76,4 @@ pub record Upgraded (version : OlderVersion) (old new : State) : Type 0 where
   pub rows : Becomes version old.now new.now
 
 abbrev pub Upgrades : OlderVersion → State → State → Result (Unit {0}) Fault → Type 0
-Upgrades version old new (Ok done) = HasCleanDisk new → IsTrue old.in_transaction → Upgraded version old new
-Upgrades version old new (Err fault) = HasCleanDisk new → IsTrue old.in_transaction → KeepsCommit old new
+Upgrades version = IsStep (Upgraded version)

@@ -2,10 +2,9 @@
 
 ghost use Rattle.std.specs.Prelude.{◌≡◌};
 ghost use Rattle.sqlite.specs.Held.{state};
-ghost use Rattle.sqlite.specs.State.{Survives};
 ghost use Rattle.desk_sql_layout.specs.Layout.{desk_schema};
 ghost use Rattle.desk_sql_adopt.specs.Older.{older_schema};
-ghost use Rattle.desk_sql_migrate.specs.Steps.{HasGained, Upgrades, with_no_readings, with_no_waivers, with_readings, with_version, without_version};
+ghost use Rattle.desk_sql_migrate.specs.Steps.{Gains, Upgrades, with_no_readings, with_no_waivers, with_readings, with_version, without_version};
 
 use desk_model::Fault;
 use desk_sql_adopt::OlderVersion;
@@ -15,11 +14,9 @@ use sqlite::{Alter, Transaction};
 /// Declares the table of profiles beside the tables of version 1.
 fn declare_readings<S: Alter>(tx: &mut Transaction<'_, S>) -> Result<(), Fault>
     ensures same_reference { tx.new.conn.ghost_name ≡ tx.old.conn.ghost_name }
-    ensures gained { HasGained (older_schema OlderVersion.One) (older_schema OlderVersion.Two)
+    ensures gained { Gains (older_schema OlderVersion.One) (older_schema OlderVersion.Two)
         with_no_readings
         (state S.Store tx.old.conn.now) (state S.Store tx.new.conn.now) result }
-    ensures survives { Survives (state S.Store tx.old.conn.now) (state S.Store tx.new.conn.now)
-        (λ _. ⊥) }
 {
     execute(tx, READING_TABLE, &[])
 }
@@ -27,10 +24,8 @@ fn declare_readings<S: Alter>(tx: &mut Transaction<'_, S>) -> Result<(), Fault>
 /// Declares the table of last days beside the tables of version 2.
 fn declare_waivers<S: Alter>(tx: &mut Transaction<'_, S>) -> Result<(), Fault>
     ensures same_reference { tx.new.conn.ghost_name ≡ tx.old.conn.ghost_name }
-    ensures gained { HasGained (older_schema OlderVersion.Two) desk_schema with_no_waivers
+    ensures gained { Gains (older_schema OlderVersion.Two) desk_schema with_no_waivers
         (state S.Store tx.old.conn.now) (state S.Store tx.new.conn.now) result }
-    ensures survives { Survives (state S.Store tx.old.conn.now) (state S.Store tx.new.conn.now)
-        (λ _. ⊥) }
 {
     execute(tx, WAIVER_TABLE, &[])
 }
@@ -38,10 +33,8 @@ fn declare_waivers<S: Alter>(tx: &mut Transaction<'_, S>) -> Result<(), Fault>
 /// Notes profile 1 for each document.
 fn note_readings<S: Alter>(tx: &mut Transaction<'_, S>) -> Result<(), Fault>
     ensures same_reference { tx.new.conn.ghost_name ≡ tx.old.conn.ghost_name }
-    ensures gained { HasGained desk_schema desk_schema with_readings (state S.Store tx.old.conn.now)
-        (state S.Store tx.new.conn.now) result }
-    ensures survives { Survives (state S.Store tx.old.conn.now) (state S.Store tx.new.conn.now)
-        (λ _. ⊥) }
+    ensures gained { Gains desk_schema desk_schema with_readings
+        (state S.Store tx.old.conn.now) (state S.Store tx.new.conn.now) result }
 {
     execute(
         tx,
@@ -53,11 +46,8 @@ fn note_readings<S: Alter>(tx: &mut Transaction<'_, S>) -> Result<(), Fault>
 /// Takes the version away.
 fn drop_version<S: Alter>(tx: &mut Transaction<'_, S>) -> Result<(), Fault>
     ensures same_reference { tx.new.conn.ghost_name ≡ tx.old.conn.ghost_name }
-    ensures gained { HasGained desk_schema desk_schema without_version
-        (state S.Store tx.old.conn.now)
-        (state S.Store tx.new.conn.now) result }
-    ensures survives { Survives (state S.Store tx.old.conn.now) (state S.Store tx.new.conn.now)
-        (λ _. ⊥) }
+    ensures gained { Gains desk_schema desk_schema without_version
+        (state S.Store tx.old.conn.now) (state S.Store tx.new.conn.now) result }
 {
     execute(tx, "DELETE FROM meta", &[])
 }
@@ -65,10 +55,8 @@ fn drop_version<S: Alter>(tx: &mut Transaction<'_, S>) -> Result<(), Fault>
 /// Notes version 3.
 fn note_version<S: Alter>(tx: &mut Transaction<'_, S>) -> Result<(), Fault>
     ensures same_reference { tx.new.conn.ghost_name ≡ tx.old.conn.ghost_name }
-    ensures gained { HasGained desk_schema desk_schema with_version (state S.Store tx.old.conn.now)
-        (state S.Store tx.new.conn.now) result }
-    ensures survives { Survives (state S.Store tx.old.conn.now) (state S.Store tx.new.conn.now)
-        (λ _. ⊥) }
+    ensures gained { Gains desk_schema desk_schema with_version
+        (state S.Store tx.old.conn.now) (state S.Store tx.new.conn.now) result }
 {
     execute(tx, "INSERT INTO meta VALUES (3)", &[])
 }
@@ -76,10 +64,8 @@ fn note_version<S: Alter>(tx: &mut Transaction<'_, S>) -> Result<(), Fault>
 /// Replaces the version by 3.
 fn renew_version<S: Alter>(tx: &mut Transaction<'_, S>) -> Result<(), Fault>
     ensures same_reference { tx.new.conn.ghost_name ≡ tx.old.conn.ghost_name }
-    ensures gained { HasGained desk_schema desk_schema (λ rows. with_version (without_version rows))
+    ensures gained { Gains desk_schema desk_schema (λ rows. with_version (without_version rows))
         (state S.Store tx.old.conn.now) (state S.Store tx.new.conn.now) result }
-    ensures survives { Survives (state S.Store tx.old.conn.now) (state S.Store tx.new.conn.now)
-        (λ _. ⊥) }
 {
     drop_version(tx)?;
     note_version(tx)
@@ -88,10 +74,8 @@ fn renew_version<S: Alter>(tx: &mut Transaction<'_, S>) -> Result<(), Fault>
 /// Writes what version 2 lacks.
 fn upgrade_second<S: Alter>(tx: &mut Transaction<'_, S>) -> Result<(), Fault>
     ensures same_reference { tx.new.conn.ghost_name ≡ tx.old.conn.ghost_name }
-    ensures upgraded { Upgrades OlderVersion.Two (state S.Store tx.old.conn.now)
-        (state S.Store tx.new.conn.now) result }
-    ensures survives { Survives (state S.Store tx.old.conn.now) (state S.Store tx.new.conn.now)
-        (λ _. ⊥) }
+    ensures upgraded { Upgrades OlderVersion.Two
+        (state S.Store tx.old.conn.now) (state S.Store tx.new.conn.now) result }
 {
     declare_waivers(tx)?;
     renew_version(tx)
@@ -100,11 +84,9 @@ fn upgrade_second<S: Alter>(tx: &mut Transaction<'_, S>) -> Result<(), Fault>
 /// Declares what version 1 lacks.
 fn declare_both<S: Alter>(tx: &mut Transaction<'_, S>) -> Result<(), Fault>
     ensures same_reference { tx.new.conn.ghost_name ≡ tx.old.conn.ghost_name }
-    ensures gained { HasGained (older_schema OlderVersion.One) desk_schema
+    ensures gained { Gains (older_schema OlderVersion.One) desk_schema
         (λ rows. with_no_waivers (with_no_readings rows))
         (state S.Store tx.old.conn.now) (state S.Store tx.new.conn.now) result }
-    ensures survives { Survives (state S.Store tx.old.conn.now) (state S.Store tx.new.conn.now)
-        (λ _. ⊥) }
 {
     declare_readings(tx)?;
     declare_waivers(tx)
@@ -113,11 +95,9 @@ fn declare_both<S: Alter>(tx: &mut Transaction<'_, S>) -> Result<(), Fault>
 /// Writes the rows that version 1 lacks.
 fn note_both<S: Alter>(tx: &mut Transaction<'_, S>) -> Result<(), Fault>
     ensures same_reference { tx.new.conn.ghost_name ≡ tx.old.conn.ghost_name }
-    ensures gained { HasGained desk_schema desk_schema
+    ensures gained { Gains desk_schema desk_schema
         (λ rows. with_version (without_version (with_readings rows)))
         (state S.Store tx.old.conn.now) (state S.Store tx.new.conn.now) result }
-    ensures survives { Survives (state S.Store tx.old.conn.now) (state S.Store tx.new.conn.now)
-        (λ _. ⊥) }
 {
     note_readings(tx)?;
     renew_version(tx)
@@ -126,10 +106,8 @@ fn note_both<S: Alter>(tx: &mut Transaction<'_, S>) -> Result<(), Fault>
 /// Writes what version 1 lacks.
 fn upgrade_first<S: Alter>(tx: &mut Transaction<'_, S>) -> Result<(), Fault>
     ensures same_reference { tx.new.conn.ghost_name ≡ tx.old.conn.ghost_name }
-    ensures upgraded { Upgrades OlderVersion.One (state S.Store tx.old.conn.now)
-        (state S.Store tx.new.conn.now) result }
-    ensures survives { Survives (state S.Store tx.old.conn.now) (state S.Store tx.new.conn.now)
-        (λ _. ⊥) }
+    ensures upgraded { Upgrades OlderVersion.One
+        (state S.Store tx.old.conn.now) (state S.Store tx.new.conn.now) result }
 {
     declare_both(tx)?;
     note_both(tx)
@@ -141,10 +119,8 @@ pub(crate) fn upgrade<S: Alter>(
     version: OlderVersion,
 ) -> Result<(), Fault>
     ensures same_reference { tx.new.conn.ghost_name ≡ tx.old.conn.ghost_name }
-    ensures upgraded { Upgrades version (state S.Store tx.old.conn.now)
-        (state S.Store tx.new.conn.now) result }
-    ensures survives { Survives (state S.Store tx.old.conn.now) (state S.Store tx.new.conn.now)
-        (λ _. ⊥) }
+    ensures upgraded { Upgrades version
+        (state S.Store tx.old.conn.now) (state S.Store tx.new.conn.now) result }
 {
     match version {
         OlderVersion::One => upgrade_first(tx),

@@ -1,19 +1,9 @@
-use Rattle.sqlite.specs.Held.{state}
-use Rattle.desk_sql_layout.specs.Layout.{desk_schema}
-use Rattle.desk_sql_write.proofs.Inside.{survives_both}
-use Rattle.desk_sql_adopt.specs.Older.{older_schema}
-use Rattle.desk_sql_adopt.specs.declared.older.OlderVersion.TheVariants.{One, Two}
-use Rattle.desk_sql_migrate.specs.Steps.{with_no_readings, with_no_waivers, with_readings, with_version, without_version}
-use Rattle.desk_sql_migrate.proofs.Gained.{gained_then}
+use Rattle.desk_sql_migrate.specs.Steps.{with_no_readings, with_no_waivers}
+use Rattle.desk_sql_migrate.proofs.Gained.{step_fails, then_gains}
 use Rattle.desk_sql_migrate.proofs.upgrade.declare_both.Goals as goal
 
-pub returns-clause-gained : goal.returns-clause-gained
-returns-clause-gained g c =
-    let s0 = state g.S.Store c.args.tx.now.conn.now in
-    let s1 = state g.S.Store c.declare_readings.new.tx.conn.now in
-    let s2 = state g.S.Store c.declare_waivers.new.tx.conn.now in
-    (gained_then (older_schema One) (older_schema Two) desk_schema (with_no_readings) (with_no_waivers) s0 s1 s2 c.declare_waivers.result c.in_ok-declare_readings.ensures.gained c.declare_waivers.ensures.survives c.declare_waivers.ensures.gained)
+pub returns-in_err-declare_readings-clause-gained : goal.returns-in_err-declare_readings-clause-gained
+returns-in_err-declare_readings-clause-gained g c = step_fails c.from_residual.result c.from_residual.ensures.0 c.in_err-declare_readings.ensures.gained
 
-pub returns-clause-survives : goal.returns-clause-survives
-returns-clause-survives g c =
-    survives_both (state g.S.Store c.args.tx.now.conn.now) (state g.S.Store c.declare_readings.new.tx.conn.now) (state g.S.Store c.declare_waivers.new.tx.conn.now) c.declare_readings.ensures.survives c.declare_waivers.ensures.survives
+pub returns-clause-gained : goal.returns-clause-gained
+returns-clause-gained g c = then_gains with_no_readings with_no_waivers c.declare_waivers.result c.in_ok-declare_readings.ensures.gained c.declare_waivers.ensures.gained

@@ -1,19 +1,9 @@
-use Rattle.sqlite.specs.Held.{state}
-use Rattle.desk_sql_layout.specs.Layout.{desk_schema}
-use Rattle.desk_sql_write.proofs.Inside.{survives_both}
-use Rattle.desk_sql_adopt.specs.Older.{older_schema}
-use Rattle.desk_sql_adopt.specs.declared.older.OlderVersion.TheVariants.{One, Two}
-use Rattle.desk_sql_migrate.specs.Steps.{with_no_readings, with_no_waivers, with_readings, with_version, without_version}
-use Rattle.desk_sql_migrate.proofs.Gained.{gained_then}
+use Rattle.desk_sql_migrate.specs.Steps.{with_version, without_version}
+use Rattle.desk_sql_migrate.proofs.Gained.{step_fails, then_gains}
 use Rattle.desk_sql_migrate.proofs.upgrade.renew_version.Goals as goal
 
-pub returns-clause-gained : goal.returns-clause-gained
-returns-clause-gained g c =
-    let s0 = state g.S.Store c.args.tx.now.conn.now in
-    let s1 = state g.S.Store c.drop_version.new.tx.conn.now in
-    let s2 = state g.S.Store c.note_version.new.tx.conn.now in
-    (gained_then desk_schema desk_schema desk_schema (without_version) (with_version) s0 s1 s2 c.note_version.result c.in_ok-drop_version.ensures.gained c.note_version.ensures.survives c.note_version.ensures.gained)
+pub returns-in_err-drop_version-clause-gained : goal.returns-in_err-drop_version-clause-gained
+returns-in_err-drop_version-clause-gained g c = step_fails c.from_residual.result c.from_residual.ensures.0 c.in_err-drop_version.ensures.gained
 
-pub returns-clause-survives : goal.returns-clause-survives
-returns-clause-survives g c =
-    survives_both (state g.S.Store c.args.tx.now.conn.now) (state g.S.Store c.drop_version.new.tx.conn.now) (state g.S.Store c.note_version.new.tx.conn.now) c.drop_version.ensures.survives c.note_version.ensures.survives
+pub returns-clause-gained : goal.returns-clause-gained
+returns-clause-gained g c = then_gains without_version with_version c.note_version.result c.in_ok-drop_version.ensures.gained c.note_version.ensures.gained

@@ -1,20 +1,10 @@
-use Rattle.sqlite.specs.Held.{state}
-use Rattle.desk_sql_layout.specs.Layout.{desk_schema}
-use Rattle.desk_sql_write.proofs.Inside.{survives_both}
-use Rattle.desk_sql_adopt.specs.Older.{older_schema}
-use Rattle.desk_sql_adopt.specs.declared.older.OlderVersion.TheVariants.{One, Two}
-use Rattle.desk_sql_migrate.specs.Steps.{with_no_readings, with_no_waivers, with_readings, with_version, without_version}
-use Rattle.desk_sql_migrate.proofs.Gained.{gained_then}
+use Rattle.desk_sql_migrate.specs.Steps.{with_no_waivers, with_version, without_version}
+use Rattle.desk_sql_migrate.proofs.Gained.{step_fails, then_gains}
 use Rattle.desk_sql_migrate.proofs.Whole.{second_upgraded}
 use Rattle.desk_sql_migrate.proofs.upgrade.upgrade_second.Goals as goal
 
-pub returns-clause-upgraded : goal.returns-clause-upgraded
-returns-clause-upgraded g c =
-    let s0 = state g.S.Store c.args.tx.now.conn.now in
-    let s1 = state g.S.Store c.declare_waivers.new.tx.conn.now in
-    let s2 = state g.S.Store c.renew_version.new.tx.conn.now in
-    second_upgraded s0 s2 c.renew_version.result (gained_then (older_schema Two) desk_schema desk_schema (with_no_waivers) (λ rows. with_version (without_version rows)) s0 s1 s2 c.renew_version.result c.in_ok-declare_waivers.ensures.gained c.renew_version.ensures.survives c.renew_version.ensures.gained)
+pub returns-in_err-declare_waivers-clause-upgraded : goal.returns-in_err-declare_waivers-clause-upgraded
+returns-in_err-declare_waivers-clause-upgraded g c = step_fails c.from_residual.result c.from_residual.ensures.0 c.in_err-declare_waivers.ensures.gained
 
-pub returns-clause-survives : goal.returns-clause-survives
-returns-clause-survives g c =
-    survives_both (state g.S.Store c.args.tx.now.conn.now) (state g.S.Store c.declare_waivers.new.tx.conn.now) (state g.S.Store c.renew_version.new.tx.conn.now) c.declare_waivers.ensures.survives c.renew_version.ensures.survives
+pub returns-clause-upgraded : goal.returns-clause-upgraded
+returns-clause-upgraded g c = second_upgraded c.renew_version.result (then_gains with_no_waivers (λ rows. with_version (without_version rows)) c.renew_version.result c.in_ok-declare_waivers.ensures.gained c.renew_version.ensures.gained)
