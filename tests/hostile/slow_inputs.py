@@ -209,6 +209,13 @@ def nested_files(depth, each):
     return made
 
 
+def many_licences(room):
+    toml = f'version = 1\n[[annotations]]\npath = "**"\nprecedence = "aggregate"\n{LICENCE} = [' + ", ".join(f'"l{n}"' for n in range(5_000)) + "]\n"
+    size = write(room, "tree/REUSE.toml", toml)
+    size += sum(write(room, f"tree/f{n}", f"{LICENCE}: m{n}\n") + len(f"f{n}") for n in range(MOST - 1))
+    return ["lint", "tree"], None, size
+
+
 def million_tags(room):
     return ["lint", "tree"], None, write(room, "tree/f", f"{LICENCE}: MIT\n" * 1_000_000)
 
@@ -319,6 +326,7 @@ SLOW = {
     "tree: 10,000 files with tags": many_files,
     "tree: 200 folders in one another, 9,000 files": nested_files(200, 45),
     "tree: 1,900 folders in one another, 7,600 files": nested_files(1_900, 4),
+    "tree: 5,000 licences of a REUSE.toml, 9,999 files": many_licences,
     "tree: a file of a million tags": million_tags,
     "tree: 100,000 licences in 1,000 files": other_tags,
     "tree: 1,000 annotations, 1,000 files": many_annotations,
