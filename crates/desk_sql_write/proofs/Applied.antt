@@ -1,5 +1,6 @@
 -- What a change writes is what it makes of the tables, in some order of their rows, and it fails as what it writes does.
-use Rattle.std.proofs.Common.{ℕ, Bool, true, false, not, cond, List, [], ◌∷◌, ◌++◌, filter, map, length, ◌+◌, ◌∙◌, Ok, Err, Result, sym, ap, subst}
+use Rattle.std.proofs.Common.{◌≡◌, ℕ, Bool, true, false, not, cond, find, List, [], ◌∷◌, ◌++◌, filter, map, length, ◌+◌, ◌∙◌, Option, Some, None, Ok, Err, Result, refl, sym, ap, subst}
+use Rattle.std.specs.Option.{option_map}
 use Rattle.std.specs.List.{AllByRecursion}
 use Rattle.std.specs.List.Sorted.{IsPermutation}
 use Rattle.std.proofs.lemmas.List.Sorted.{IsPermutation-refl, IsPermutation-sym, IsPermutation-cons, IsPermutation-middle, IsPermutation-trans, IsPermutation-map}
@@ -34,9 +35,11 @@ use Rattle.desk_sql_layout.specs.Stored.{AreStored}
 use Rattle.desk_sql_layout.specs.Cells.{catalogue_cells, rule_cells, document_cells, reading_cells, package_cells, extracted_cells, duty_cells, release_cells, attached_cells, choice_cells, frozen_cells, change_cells, conclusion_cells, adoption_cells, is_waiver, waiver_cells}
 use Rattle.desk_sql_layout.specs.Held.{HasRows, rows_of}
 use Rattle.desk_sql_layout.proofs.Writes.{stored_as}
-use Rattle.desk_sql_write.specs.Taking.{IsSmall, StandsOnce, CanStand, FailsOnlyFor}
-use Rattle.desk_sql_write.specs.Turning.{Turns, with_rows, with_steps, with_raised, with_document, with_parts}
-use Rattle.desk_sql_write.specs.Written.{Writes}
+use Rattle.desk_sql_write.specs.Replacing.{Taking, rows_before, rows_after}
+use Rattle.desk_sql_write.specs.Taking.{IsSmall, StandsOnce, CanStand, FailsOnlyAs, FailsOnlyFor}
+use Rattle.desk_sql_write.specs.Turning.{Adds, Turns, with_rows, with_steps, with_raised, with_document, with_parts}
+use Rattle.desk_sql_write.specs.Written.{Writes, WritesAs}
+use Rattle.desk_sql_write.proofs.Going.{along}
 use Rattle.desk_sql_write.proofs.Lists.{append_nil, filter_both}
 use Rattle.desk_sql_write.proofs.Puts.{once_permuted}
 
@@ -71,15 +74,34 @@ permuted_stand rows other same can = record { small = small desk_schema.tables s
 abbrev IsWritten : (Tables → ℕ → List Row) → ℕ → Change → Type 1
 IsWritten after many change = (old new : State) (r : Result (Unit {0}) Fault) → Turns rows_of after many old new r → Writes rows_of (applied change) old new r × FailsOnlyFor rows_of (applied change) many old new r
 
-written : (after : Tables → ℕ → List Row) (many : ℕ) (change : Change) → ((t : Tables) → AreSame (rows_of (applied change t)) (after t)) → IsWritten after many change
-written after many change same old new (Ok done) turns = (
-  λ clean inside. let it = turns.wrote clean inside in record { inside = it.inside; kept = it.kept; change = λ t has. permuted (rows_of (applied change t)) (after t) new.now (same t) (it.change t has) },
+-- what makes the same of the tables that something shows writes the change of them
+pub written_from : {A : Type 0} (show : A → Tables) (after : A → ℕ → List Row) (many : ℕ) (change : Change)
+    → ((a : A) → AreSame (rows_of (applied change (show a))) (after a))
+    → (old new : State) (r : Result (Unit {0}) Fault) → Turns (λ a. rows_of (show a)) after many old new r
+    → WritesAs (λ a. rows_of (show a)) (λ a. rows_of (applied change (show a))) old new r
+    × FailsOnlyAs (λ a. rows_of (show a)) (λ a. rows_of (applied change (show a))) many old new r
+written_from show after many change same old new (Ok done) turns = (
+  λ clean inside.
+      let it = turns.wrote clean inside in
+      record {
+        inside = it.inside;
+        kept = it.kept;
+        change = λ a has.
+            permuted (rows_of (applied change (show a))) (after a) new.now (same a) (it.change a has);
+      },
   turns.cause,
 )
-written after many change same old new (Err fault) turns = (
+written_from show after many change same old new (Err fault) turns = (
   turns.wrote,
-  record { cause = λ clean inside opened unlimited t has before last room. turns.cause.cause clean inside opened unlimited t has before (permuted_stand (rows_of (applied change t)) (after t) (same t) last) room },
+  record {
+    cause = λ clean inside opened unlimited a has before last room.
+        turns.cause.cause clean inside opened unlimited a has before
+        (permuted_stand (rows_of (applied change (show a))) (after a) (same a) last) room;
+  },
 )
+
+written : (after : Tables → ℕ → List Row) (many : ℕ) (change : Change) → ((t : Tables) → AreSame (rows_of (applied change t)) (after t)) → IsWritten after many change
+written = written_from (λ t. t)
 
 -- ---- a row in its place is a row behind the others, in another order
 
@@ -153,6 +175,56 @@ pub concluded : (row : ConclusionRow) → IsWritten (λ t. with_rows conclusion_
 concluded row = written (λ t. with_rows conclusion_table.tree (conclusion_cells row ∷ []) (rows_of (record t { conclusion = filter (λ other. not (is_conclusion row.document row.package_id other)) t.conclusion }))) (1) (Concluded row)
     (λ t. (IsPermutation-refl _, (IsPermutation-refl _, (IsPermutation-refl _, (IsPermutation-refl _, (IsPermutation-refl _, (IsPermutation-refl _, (placed conclusion_cells (below_by conclusion_order) row (filter (λ other. not (is_conclusion row.document row.package_id other)) t.conclusion), (IsPermutation-refl _, (IsPermutation-refl _, (IsPermutation-refl _, (IsPermutation-refl _, (IsPermutation-refl _, (IsPermutation-refl _, (IsPermutation-refl _, (IsPermutation-refl _, (IsPermutation-refl _, tt)))))))))))))))))
 
+-- an adoption behind the others
+adoption_placed : (row : AdoptionRow) (t : Tables)
+    → AreSame (rows_of (record t { adoption = put (below_by adoption_order) row t.adoption }))
+    (with_rows adoption_table.tree (adoption_cells row ∷ []) (rows_of t))
+adoption_placed row t =
+    (IsPermutation-refl _, (IsPermutation-refl _, (IsPermutation-refl _, (IsPermutation-refl _,
+    (IsPermutation-refl _, (IsPermutation-refl _, (IsPermutation-refl _,
+    (placed adoption_cells (below_by adoption_order) row t.adoption,
+    (IsPermutation-refl _, (IsPermutation-refl _, (IsPermutation-refl _, (IsPermutation-refl _,
+    (IsPermutation-refl _, (IsPermutation-refl _, (IsPermutation-refl _, (IsPermutation-refl _, tt))))))))))))))))
+
 pub adopted : (row : AdoptionRow) → IsWritten (λ t. with_rows adoption_table.tree (adoption_cells row ∷ []) (rows_of (record t { adoption = filter (λ other. not (is_adoption row.document row.reference other)) t.adoption }))) (1) (Adopted row)
-adopted row = written (λ t. with_rows adoption_table.tree (adoption_cells row ∷ []) (rows_of (record t { adoption = filter (λ other. not (is_adoption row.document row.reference other)) t.adoption }))) (1) (Adopted row)
-    (λ t. (IsPermutation-refl _, (IsPermutation-refl _, (IsPermutation-refl _, (IsPermutation-refl _, (IsPermutation-refl _, (IsPermutation-refl _, (IsPermutation-refl _, (placed adoption_cells (below_by adoption_order) row (filter (λ other. not (is_adoption row.document row.reference other)) t.adoption), (IsPermutation-refl _, (IsPermutation-refl _, (IsPermutation-refl _, (IsPermutation-refl _, (IsPermutation-refl _, (IsPermutation-refl _, (IsPermutation-refl _, (IsPermutation-refl _, tt)))))))))))))))))
+adopted row =
+    let dropped = λ (t : Tables). record t { adoption = filter (λ other. not (is_adoption row.document row.reference other)) t.adoption } in
+    written (λ t. with_rows adoption_table.tree (adoption_cells row ∷ []) (rows_of (dropped t))) (1) (Adopted row) (λ t. adoption_placed row (dropped t))
+
+-- ---- an adoption of a reference that wasn't adopted
+
+none_found : (o : Option AdoptionRow) → option_map (λ (row : AdoptionRow). row.licence) o ≡ None → o ≡ None
+none_found None is = refl
+none_found (Some row) is = absurd (cc)
+
+-- none is left out where none is found
+pub none_out : {A : Type 0} (at : A → Bool) (xs : List A) → find at xs ≡ None → filter (λ y. not (at y)) xs ≡ xs
+none_out at [] none = refl
+none_out {A} at (x ∷ xs) none = go (none_out at xs) (at x) none
+  where
+    go : (find at xs ≡ None → filter (λ y. not (at y)) xs ≡ xs) → (b : Bool)
+        → cond b (Some x) (find at xs) ≡ None
+        → cond (not b) (x ∷ filter (λ y. not (at y)) xs) (filter (λ y. not (at y)) xs) ≡ x ∷ xs
+    go more true is = absurd (cc)
+    go more false is = ap (λ l. x ∷ l) (more is)
+
+-- it adds a row and drops none
+module _ (row : AdoptionRow) (is_new : Bool) (new : is_new ≡ true) where
+  same_rows : (a : Taking is_new (Adopted row)) → AreSame (rows_of (applied (Adopted row) a.tables))
+      (with_rows adoption_table.tree (adoption_cells row ∷ []) (rows_of a.tables))
+  same_rows a =
+      let t = a.tables in
+      let none = none_found (find (is_adoption row.document row.reference) t.adoption) (a.takes new) in
+      subst (λ l. AreSame (rows_of (record t { adoption = put (below_by adoption_order) row l }))
+      (with_rows adoption_table.tree (adoption_cells row ∷ []) (rows_of t)))
+      (sym (none_out (is_adoption row.document row.reference) t.adoption none)) (adoption_placed row t)
+
+  pub adopted_first : (old now : State) (r : Result (Unit {0}) Fault)
+      → Adds (with_rows adoption_table.tree (adoption_cells row ∷ [])) 1 old now r
+      → WritesAs (rows_before is_new (Adopted row)) (rows_after is_new (Adopted row)) old now r
+      × FailsOnlyAs (rows_before is_new (Adopted row)) (rows_after is_new (Adopted row)) 1 old now r
+  adopted_first old now r adds =
+      let before = rows_before is_new (Adopted row) in
+      let more = with_rows adoption_table.tree (adoption_cells row ∷ []) in
+      written_from (λ (a : Taking is_new (Adopted row)). a.tables) (λ a. more (before a)) 1 (Adopted row) same_rows
+      old now r (along before (λ rows. rows) more 1 old now r adds)

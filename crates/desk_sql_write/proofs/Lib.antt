@@ -21,3 +21,4 @@ mod Deleting
 mod Updating
 mod Stands
 pub mod Causes
+mod Known

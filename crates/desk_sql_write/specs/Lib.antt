@@ -4,3 +4,4 @@ pub mod Declaring
 pub mod Creating
 pub mod Taking
 pub mod Runs
+pub mod Replacing

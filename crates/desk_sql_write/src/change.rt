@@ -10,9 +10,10 @@ ghost use Rattle.desk_model.specs.declared.state.ReleaseState.TheVariants.{Froze
 ghost use Rattle.desk_sql_layout.specs.Cells.{catalogue_cells, rule_cells, choice_cells, conclusion_cells, adoption_cells, frozen_cells};
 ghost use Rattle.desk_sql_layout.specs.Held.{rows_of};
 ghost use Rattle.desk_sql_layout.specs.Layout.{catalogue_table, rule_table, choice_table, conclusion_table, adoption_table, frozen_table};
-ghost use Rattle.desk_sql_write.specs.Taking.{FailsOnlyFor, HasSmallRevision, rows_in};
+ghost use Rattle.desk_sql_write.specs.Replacing.{rows_before, rows_after};
+ghost use Rattle.desk_sql_write.specs.Taking.{FailsOnlyAs, FailsOnlyFor, HasSmallRevision, rows_in};
 ghost use Rattle.desk_sql_write.specs.Turning.{Adds, Turns, with_rows, with_steps, with_raised, with_document, with_parts};
-ghost use Rattle.desk_sql_write.specs.Written.{Writes};
+ghost use Rattle.desk_sql_write.specs.Written.{Writes, WritesAs};
 
 use crate::adding::{add_all, add_in_eights};
 use crate::catalogue::add_revision;
@@ -254,8 +255,8 @@ pub(crate) fn withdraw<S: Alter>(
     clear(alloc, tx, release, changes)
 }
 
-/// Writes a change.
-pub fn make<S: Alter>(
+/// Writes a change, after what it replaces is dropped.
+pub(crate) fn make<S: Alter>(
     alloc: Global,
     tx: &mut Transaction<'_, S>,
     change: &Change,
@@ -313,5 +314,27 @@ pub fn make<S: Alter>(
         Change::Withdrew { release, changes } => withdraw(alloc, tx, release, changes.as_slice()),
         Change::Concluded(row) => conclude(tx, row),
         Change::Adopted(row) => adopt(tx, row),
+    }
+}
+
+/// Writes a change. If it is known to replace no row (`is_new`), none is dropped before it.
+pub fn write_change<S: Alter>(
+    alloc: Global,
+    tx: &mut Transaction<'_, S>,
+    change: &Change,
+    is_new: bool,
+) -> Result<(), Fault>
+    ensures same_reference { tx.new.conn.ghost_name ≡ tx.old.conn.ghost_name }
+    ensures wrote { WritesAs (rows_before is_new change.now) (rows_after is_new change.now)
+        (state S.Store tx.old.conn.now) (state S.Store tx.new.conn.now) result }
+    ensures cause { HasSmallRevision change.now → FailsOnlyAs (rows_before is_new change.now)
+        (rows_after is_new change.now) (rows_in change.now) (state S.Store tx.old.conn.now)
+        (state S.Store tx.new.conn.now) result }
+    ensures survives { Survives (state S.Store tx.old.conn.now) (state S.Store tx.new.conn.now)
+        (λ _. ⊥) }
+{
+    match change {
+        Change::Adopted(row) if is_new => add_adoption(tx, row),
+        _ => make(alloc, tx, change),
     }
 }

@@ -1,7 +1,7 @@
 //! What is written to the desk's tables in a SQL database.
 //!
-//! `make` writes a change of rows inside a transaction. `desk_sql_commit` has the transaction, and
-//! asks first whether the tables can hold the change (`is_writable`). Below it stand a function for
+//! `write_change` writes a change of rows inside a transaction. `desk_sql_commit` has the transaction,
+//! and asks first whether the tables can hold the change (`is_writable`). Below it stand a function for
 //! each change, and one for each statement, whose clause says what it makes of the rows of each
 //! table (`Turns`); rows of which there may be many are added by `add_all` and `add_in_eights`, and
 //! duties are set by runs (`set_duties`).
@@ -19,7 +19,7 @@ mod release;
 mod statement;
 mod writable;
 
-pub use change::make;
+pub use change::write_change;
 pub use create::{READING_TABLE, Refused, WAIVER_TABLE, create_tables};
 pub use statement::execute;
 pub use writable::is_writable;
