@@ -40,7 +40,7 @@ use Rattle.desk_sql_write.specs.Taking.{IsSmall, StandsOnce, CanStand, FailsOnly
 use Rattle.desk_sql_write.specs.Turning.{Adds, Turns, with_rows, with_steps, with_raised, with_document, with_parts}
 use Rattle.desk_sql_write.specs.Written.{Writes, WritesAs}
 use Rattle.desk_sql_write.proofs.Going.{along}
-use Rattle.desk_sql_write.proofs.Lists.{append_nil, filter_both}
+use Rattle.desk_sql_write.proofs.Lists.{append_nil, filter_both, none_out}
 use Rattle.desk_sql_write.proofs.Puts.{once_permuted}
 
 -- each table has the same rows, in some order
@@ -179,12 +179,43 @@ concluded row = written (λ t. with_rows conclusion_table.tree (conclusion_cells
 adoption_placed : (row : AdoptionRow) (t : Tables)
     → AreSame (rows_of (record t { adoption = put (below_by adoption_order) row t.adoption }))
     (with_rows adoption_table.tree (adoption_cells row ∷ []) (rows_of t))
-adoption_placed row t =
-    (IsPermutation-refl _, (IsPermutation-refl _, (IsPermutation-refl _, (IsPermutation-refl _,
-    (IsPermutation-refl _, (IsPermutation-refl _, (IsPermutation-refl _,
-    (placed adoption_cells (below_by adoption_order) row t.adoption,
-    (IsPermutation-refl _, (IsPermutation-refl _, (IsPermutation-refl _, (IsPermutation-refl _,
-    (IsPermutation-refl _, (IsPermutation-refl _, (IsPermutation-refl _, (IsPermutation-refl _, tt))))))))))))))))
+adoption_placed row t = (
+  IsPermutation-refl _,
+  (
+    IsPermutation-refl _,
+    (
+      IsPermutation-refl _,
+      (
+        IsPermutation-refl _,
+        (
+          IsPermutation-refl _,
+          (
+            IsPermutation-refl _,
+            (
+              IsPermutation-refl _,
+              (
+                placed adoption_cells (below_by adoption_order) row t.adoption,
+                (
+                  IsPermutation-refl _,
+                  (
+                    IsPermutation-refl _,
+                    (
+                      IsPermutation-refl _,
+                      (
+                        IsPermutation-refl _,
+                        (IsPermutation-refl _, (IsPermutation-refl _, (IsPermutation-refl _, (IsPermutation-refl _, tt)))),
+                      ),
+                    ),
+                  ),
+                ),
+              ),
+            ),
+          ),
+        ),
+      ),
+    ),
+  ),
+)
 
 pub adopted : (row : AdoptionRow) → IsWritten (λ t. with_rows adoption_table.tree (adoption_cells row ∷ []) (rows_of (record t { adoption = filter (λ other. not (is_adoption row.document row.reference other)) t.adoption }))) (1) (Adopted row)
 adopted row =
@@ -196,17 +227,6 @@ adopted row =
 none_found : (o : Option AdoptionRow) → option_map (λ (row : AdoptionRow). row.licence) o ≡ None → o ≡ None
 none_found None is = refl
 none_found (Some row) is = absurd (cc)
-
--- none is left out where none is found
-pub none_out : {A : Type 0} (at : A → Bool) (xs : List A) → find at xs ≡ None → filter (λ y. not (at y)) xs ≡ xs
-none_out at [] none = refl
-none_out {A} at (x ∷ xs) none = go (none_out at xs) (at x) none
-  where
-    go : (find at xs ≡ None → filter (λ y. not (at y)) xs ≡ xs) → (b : Bool)
-        → cond b (Some x) (find at xs) ≡ None
-        → cond (not b) (x ∷ filter (λ y. not (at y)) xs) (filter (λ y. not (at y)) xs) ≡ x ∷ xs
-    go more true is = absurd (cc)
-    go more false is = ap (λ l. x ∷ l) (more is)
 
 -- it adds a row and drops none
 module _ (row : AdoptionRow) (is_new : Bool) (new : is_new ≡ true) where

@@ -4,7 +4,7 @@ mod Inserts
 mod Deletes
 mod Updates
 mod RunLemmas
-mod Lists
+pub mod Lists
 mod Applied
 pub mod Declared
 pub mod Declarations

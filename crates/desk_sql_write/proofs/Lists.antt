@@ -1,6 +1,6 @@
 -- The front of a list grows by one, and what is left of it behind.
 use Rattle.std.specs.List.{join_with_byte}
-use Rattle.std.specs.Prelude.{Some}
+use Rattle.std.specs.Prelude.{Some, None, find, not}
 use Rattle.std.proofs.lemmas.Grind.{flat_map-append}
 use Rattle.desk_model.specs.declared.row.ChangeRow.{ChangeRow}
 use Rattle.desk_sql_layout.specs.Cells.{is_waiver}
@@ -109,3 +109,14 @@ cut_at rows n d x is low = take_and_drop n rows ∙ ap (λ l. take n rows ++ l) 
 pub none_left : {X : Type 0} (xs : List X) → length xs ≡ 0 → xs ≡ []
 none_left [] is = refl
 none_left (x ∷ xs) is = absurd (omega (arith, is))
+
+-- none is left out where none is found
+pub none_out : {A : Type 0} (at : A → Bool) (xs : List A) → find at xs ≡ None → filter (λ y. not (at y)) xs ≡ xs
+none_out at [] none = refl
+none_out {A} at (x ∷ xs) none = go (none_out at xs) (at x) none
+  where
+    go : (find at xs ≡ None → filter (λ y. not (at y)) xs ≡ xs) → (b : Bool)
+        → cond b (Some x) (find at xs) ≡ None
+        → cond (not b) (x ∷ filter (λ y. not (at y)) xs) (filter (λ y. not (at y)) xs) ≡ x ∷ xs
+    go more true is = absurd (cc)
+    go more false is = ap (λ l. x ∷ l) (more is)

@@ -28,6 +28,7 @@ use Rattle.desk_sql_layout.specs.Layout.{adoption_table}
 use Rattle.desk_sql_layout.specs.Stored.{cells}
 use Rattle.desk_sql_lookup.proofs.Keyed.{same_number, same_text}
 use Rattle.desk_sql_lookup.proofs.Selects.{by_unique, mine}
+use Rattle.desk_sql_write.proofs.Lists.{none_out}
 use Rattle.desk_store.specs.References.{AreAdopted}
 use Rattle.desk_store.specs.declared.adoptions.Adoptions.{Adoptions}
 use Rattle.desk_store.proofs.Distinct.{distinct_from, distinct_unmapped, tie, tie_flips, tied_alike}
@@ -74,15 +75,6 @@ count_put {A} below p x (y ∷ ys) = go (below x y) (p x) (p y) refl refl (count
     go false true false e f more = rw (e, f) (rw e at more)
     go false false true e f more = rw (e, f) (let m = rw e at more in omega (arith, m))
     go false false false e f more = rw (e, f) (rw e at more)
-
--- none is left out where none is found
-none_out : {A : Type 0} (at : A → Bool) (xs : List A) → find at xs ≡ None → filter (λ y. not (at y)) xs ≡ xs
-none_out at [] none = refl
-none_out {A} at (x ∷ xs) none = go (none_out at xs) (at x) none
-  where
-    go : (find at xs ≡ None → filter (λ y. not (at y)) xs ≡ xs) → (b : Bool) → cond b (Some x) (find at xs) ≡ None → cond (not b) (x ∷ filter (λ y. not (at y)) xs) (filter (λ y. not (at y)) xs) ≡ x ∷ xs
-    go more true is = absurd (cc)
-    go more false is = ap (λ l. x ∷ l) (more is)
 
 -- no other is left out
 rest_stays : (d : ℕ) (r : List ℕ) (x : AdoptionRow) (ys : List AdoptionRow) → is_adoption d r x ≡ true → AllByRecursion (λ y. at_one_key x y ≡ false) ys → filter (λ y. not (is_adoption d r y)) ys ≡ ys

@@ -23,6 +23,8 @@ use Rattle.desk_access.specs.Seen.{Seen, Outlasts, Kept, Same, Looked, OfRows, M
 use Rattle.desk_access.proofs.Chains.{outlasts_then}
 use Rattle.desk_sql_layout.specs.Held.{Known, Stands, known_of, known_after, seen_of}
 use Rattle.desk_sql_layout.proofs.Counting.{known_kept}
+use Rattle.desk_sql_commit.specs.Committing.{taking}
+use Rattle.desk_sql_write.specs.Replacing.{Takes}
 
 -- what is kept beside its rows says nothing of its disk
 beside : (had has : Found) (n m : Tallies) (k l : Known) (a b : Seen Trees) → Outlasts a b → Outlasts (tallied had n k a) (tallied has m l b)
@@ -91,39 +93,56 @@ known_is (change.Adopted row) counts forms = refl
 ascend : (s : State) (t : Tables) → HasCleanDisk s → IsTrue s.is_open → (seen_of s).holds t → Ascends release_below t.releases
 ascend s t clean is holds = (holds clean is).holds.orderly.sorted.releases
 
+-- tables that a store holds are such as its change asks for
+taken : (c : Change) (had : Found) (n : Tallies) (k : Known) (is_new : Bool) → ((t : Tables) → AreFound had t → Takes is_new c t)
+    → (a b : Seen Trees) → Same a b → (t : Tables) → (tallied had n k a).holds t → (taking is_new c b).holds t
+taken c had n k is_new takes a b still t holds =
+    (λ honest. takes t (holds.3 (still.kept.spared.honest honest)), still.kept.spared.holds t holds.2)
+
 -- after look-ups that were made for it, a change is written
-pub wrote : (c : Change) (had has : Found) (counts after : Counts) (forms : List (List ℕ)) (n m : Tallies) (a b d : State) → after ≡ counts_after c counts → Same (seen_of a) (seen_of b) → Made Stands c (seen_of b) (seen_of d)
+pub wrote : (c : Change) (had has : Found) (counts after : Counts) (forms : List (List ℕ)) (n m : Tallies) (a b d : State) → after ≡ counts_after c counts → Same (seen_of a) (seen_of b)
+    → (is_new : Bool) → ((t : Tables) → AreFound had t → Takes is_new c t) → Made Stands c (taking is_new c (seen_of b)) (seen_of d)
     → (HasCleanDisk d → (t : Tables) → (seen_of a).holds t → Ascends release_below (applied c t).releases → AreKept n t → AreKept m (applied c t))
     → (HasCleanDisk d → (t : Tables) → (seen_of a).holds t → Ascends release_below (applied c t).releases → Follows c t → AreFound had t → AreFound has (applied c t))
     → Made Stands c (tallied had n (known_by counts forms) (seen_of a)) (tallied has m (known_by after (forms_after c forms)) (seen_of d))
-wrote c had has counts after forms n m a b d are still it leads more = record {
+wrote c had has counts after forms n m a b d are still is_new takes it leads more = record {
   honest = λ clean. still.kept.spared.honest (it.honest clean);
   outlasts = beside had has n m (known_by counts forms) (known_by after (forms_after c forms)) (seen_of a) (seen_of d)
-      (outlasts_then (seen_of a) (seen_of b) (seen_of d) it.honest still.kept.spared.outlasts it.outlasts);
+      (outlasts_then (seen_of a) (seen_of b) (seen_of d) it.honest still.kept.spared.outlasts
+      (record { counts = it.outlasts.counts; closes = it.outlasts.closes }));
   stays = it.stays;
   holds = λ clean t holds follows.
-      let shown = it.holds clean t (still.kept.spared.holds t holds.2) follows in
+      let shown = it.holds clean t (mid t holds) follows in
       let up = ascend d (applied c t) clean (it.stays clean) shown in (
         known_kept c t ∙ (ap (known_after c) holds.0 ∙ (known_is c counts forms ∙ ap (λ (n : Counts). known_by n (forms_after c forms)) (sym are))),
         leads clean t holds.2 up holds.1,
         shown,
         λ honest. more clean t holds.2 up follows (holds.3 (still.kept.spared.honest (it.honest clean))),
       );
-  leaves = λ clean t holds follows x left. it.leaves clean t (still.kept.spared.holds t holds.2) follows x left;
+  leaves = λ clean t holds follows x left. it.leaves clean t (mid t holds) follows x left;
 }
+  where
+    mid : (t : Tables) → (tallied had n (known_by counts forms) (seen_of a)).holds t → (taking is_new c (seen_of b)).holds t
+    mid t holds = taken c had n (known_by counts forms) is_new takes (seen_of a) (seen_of b) still t holds
 
-pub failed : (c : Change) (had has : Found) (k : Known) (n m : Tallies) (a b d : Seen Trees) → ((t : Tables) → AreFound has t) → ((t : Tables) → AreKept n t → AreKept m t) → Same a b → Failed Stands c b d → Failed Stands c (tallied had n k a) (tallied has m k d)
-failed c had has k n m a b d none kept still it = record {
+pub failed : (c : Change) (had has : Found) (k : Known) (n m : Tallies) (a b d : Seen Trees) → ((t : Tables) → AreFound has t) → ((t : Tables) → AreKept n t → AreKept m t) → Same a b
+    → (is_new : Bool) → ((t : Tables) → AreFound had t → Takes is_new c t) → Failed Stands c (taking is_new c b) d
+    → Failed Stands c (tallied had n k a) (tallied has m k d)
+failed c had has k n m a b d none kept still is_new takes it = record {
   spared = record {
     honest = λ honest. still.kept.spared.honest (it.spared.honest honest);
-    holds = λ t holds. (holds.0, kept t holds.1, it.spared.holds t (still.kept.spared.holds t holds.2), λ honest. none t);
-    outlasts = beside had has n m k k a d (outlasts_then a b d it.spared.honest still.kept.spared.outlasts it.spared.outlasts);
+    holds = λ t holds. (holds.0, kept t holds.1, it.spared.holds t (mid t holds), λ honest. none t);
+    outlasts = beside had has n m k k a d (outlasts_then a b d it.spared.honest still.kept.spared.outlasts
+        (record { counts = it.spared.outlasts.counts; closes = it.spared.outlasts.closes }));
   };
   leaves = λ honest is t holds follows x left.
       let before = it.spared.honest honest in
-      either x (λ was. still.kept.leaves before is t holds.2 x was) (it.leaves honest (still.stays before is) t (still.kept.spared.holds t holds.2) follows x left);
+      either x (λ was. still.kept.leaves before is t holds.2 x was) (it.leaves honest (still.stays before is) t (mid t holds) follows x left);
 }
   where
+    mid : (t : Tables) → (tallied had n k a).holds t → (taking is_new c b).holds t
+    mid t holds = taken c had n k is_new takes a b still t holds
+
     either : {P Q R : Type 0} (x : Trees) → (P → Q) → P ⊎ R → Q ⊎ R
     either x f (inl p) = inl (f p)
     either x f (inr r) = inr r

@@ -29,7 +29,8 @@ use Rattle.desk_sql_write.specs.Taking.{CanStand, HasRoom, IsSmall, rows_in}
 use Rattle.desk_tally.specs.Kept.{AreKept}
 use Rattle.desk_tally.specs.declared.tallies.Tallies.{Tallies}
 use Rattle.desk_store.specs.Causes.{CommitFailsFor}
-use Rattle.desk_store.specs.Counting.{HasCount, known_by, tallied}
+use Rattle.desk_sql_write.specs.Replacing.{Takes}
+use Rattle.desk_store.specs.Counting.{AreFound, HasCount, known_by, tallied}
 use Rattle.desk_store.specs.declared.counts.Counts.{Counts}
 use Rattle.desk_store.specs.declared.found.Found.{Found}
 
@@ -95,17 +96,19 @@ module _ (c : Change) (had : Found) (n : Tallies) (counts : Counts) (forms : Lis
   }
 
   -- its transaction failed, after look-ups for it
-  pub unwritten : {S A : Type 0} (g : Ghosts S) (a b d : Held S) {Given : Tables → Type 0} {Is : A → Tables → Type 0} {x : A} → LooksUpGiven g Given a b (Ok x) Is → (HasCleanDisk (state g d) → HasCleanDisk (state g b)) → (fault : Fault) → CommitFails c (state g b) (state g d) fault
+  pub unwritten : {S A : Type 0} (g : Ghosts S) (a b d : Held S) {Given : Tables → Type 0} {Is : A → Tables → Type 0} {x : A} → LooksUpGiven g Given a b (Ok x) Is → (HasCleanDisk (state g d) → HasCleanDisk (state g b))
+      → (is_new : Bool) → ((t : Tables) → AreFound had t → Takes is_new c t) → (fault : Fault) → CommitFails is_new c (state g b) (state g d) fault
       → CommitFailsFor c (seen_in (state g a)) (state g a) (state g d) fault
-  unwritten g a b d first honest fault fails = record {
+  unwritten g a b d first honest is_new takes fault fails = record {
     cause = λ clean opened unlimited t holds written follows before after room.
         let mid = honest clean in
-        let shows = holds.2 (first.kept.kept.spared.honest mid) opened in
+        let clean_first = first.kept.kept.spared.honest mid in
+        let shows = holds.2 clean_first opened in
         let same = first.unchanged mid opened shows.holds.rows.declared in
         let now = sym same.0.now_is in
         let has : HasRows (rows_of t) (state g b).now = subst (HasRows (rows_of t)) now shows.holds.rows in
         let more : HasRoom (rows_in c) (state g b).now.trees = subst (λ (db : Database). HasRoom (rows_in c) db.trees) now room in
-        elim (fails.cause clean same.0.is_open (first.limit ∙ unlimited) t has before after more) [
+        elim (fails.cause clean same.0.is_open (first.limit ∙ unlimited) t (takes t (holds.3 clean_first)) has before after more) [
           | inl memory ↦ inl memory
           | inr failed ↦ inr (failed.0, omega (arith, first.kept.kept.spared.outlasts.counts, failed.1))
         ];

@@ -1,11 +1,12 @@
 //! What a store found of its rows, and keeps beside them.
 
-ghost use Rattle.std.specs.Prelude.{◌≡◌};
+ghost use Rattle.std.specs.Prelude.{◌≡◌, true};
 ghost use Rattle.desk_access.specs.Follows.{Follows};
 ghost use Rattle.desk_history.specs.Laws.{Ascends};
 ghost use Rattle.desk_model.specs.Keys.{release_below};
-ghost use Rattle.desk_model.specs.Tables.{applied};
+ghost use Rattle.desk_model.specs.Tables.{Tables, applied};
 ghost use Rattle.desk_sql_lookup.specs.LookUps.{LooksUp};
+ghost use Rattle.desk_sql_write.specs.Replacing.{ReplacesNone};
 ghost use Rattle.desk_store.specs.References.{AreAdopted};
 ghost use Rattle.desk_store.specs.Counting.{AreFound, nothing_kept};
 ghost use Rattle.desk_store.specs.Holding.{AreHeld};
@@ -46,6 +47,19 @@ impl Found {
             adoptions: self.adoptions.take(),
             holders: self.holders.take(),
             last: self.last.take(),
+        }
+    }
+
+    /// Whether it is known that a change replaces no row: it adopts a reference that isn't adopted.
+    pub(crate) fn replaces_none(&self, change: &Change) -> bool
+        ensures { result ≡ true → (t : Tables) → AreFound self.now t → ReplacesNone change.now t }
+    {
+        let Change::Adopted(row) = change else {
+            return false;
+        };
+        match &self.adoptions {
+            Some(kept) => kept.lacks(row.document, row.reference.as_str()),
+            None => false,
         }
     }
 }

@@ -256,8 +256,16 @@ impl<S: Alter> SqlStore<S> {
         let Some(counts) = counts_after(change, self.counts) else {
             return Err(Fault::Store(StoreFault::Rows));
         };
+        let is_new = self.found.replaces_none(change);
         let Prepared { found, step } = self.prepare(change)?;
-        commit_counted(self.alloc, &mut self.conn, change, &mut self.tallies, step)?;
+        commit_counted(
+            self.alloc,
+            &mut self.conn,
+            change,
+            is_new,
+            &mut self.tallies,
+            step,
+        )?;
         self.keep(counts, found);
         Ok(())
     }
