@@ -1,4 +1,4 @@
--- Which changes go on from the rows of some tables. A store owes nothing to any other change.
+-- Which changes continue the rows of some tables. A store promises nothing for any other change.
 use Rattle.std.specs.Prelude.{◌≡◌, ℕ, ◌+◌, ◌≤◌, Bool, true, false, ◌==◌, ◌&&◌, nat_lt, List, [], ◌∷◌, length, map, is_some}
 use Rattle.std.specs.List.{list_all}
 use Rattle.desk_model.specs.Tables.{Tables}
@@ -11,17 +11,17 @@ use Rattle.desk_model.specs.Keys.{is_choice_of, is_duty_of}
 use Rattle.desk_model.specs.States.{is_open}
 use Rattle.desk_history.specs.FromTables.{steps_found, duty_found, release_found}
 
--- the duties are numbered on from n
+-- the duties have the numbers n, n + 1 and so on
 abbrev pub are_numbered : ℕ → List DutyRow → Bool
 are_numbered n [] = true
 are_numbered n (row ∷ rows) = (row.number == n) && are_numbered (n + 1) rows
 
--- each change is the first of its duty, the duties being numbered on from n
+-- each change is the first of its duty, and the duties have the numbers n, n + 1 and so on
 abbrev pub are_first : ℕ → List ChangeRow → Bool
 are_first n [] = true
 are_first n (row ∷ rows) = (row.duty == n) && (row.step == 1) && are_first (n + 1) rows
 
--- the numbers of duties rise
+-- each number is less than all that follow it
 abbrev pub rise : List ℕ → Bool
 rise [] = true
 rise (n ∷ ns) = list_all (nat_lt n) ns && rise ns
@@ -30,28 +30,29 @@ rise (n ∷ ns) = list_all (nat_lt n) ns && rise ns
 abbrev pub are_next : Tables → List ChangeRow → Bool
 are_next t rows = list_all (λ row. row.step == steps_found t row.duty + 1) rows
 
--- each change is one of a duty that stands
+-- each change is of a duty that exists
 abbrev pub are_of_duties : Tables → List ChangeRow → Bool
 are_of_duties t rows = list_all (λ row. is_some (duty_found t row.duty)) rows
 
--- Changes of duties that stand, each with the next step of its own; where the duties of the tables stand by rising numbers, so do the
--- changes.
+-- Changes of duties that exist, each the next step of its duty. If the numbers of the duties in the tables
+-- increase, so do the numbers of the duties changed.
 abbrev pub AreNext : Tables → List ChangeRow → Type 0
 AreNext t rows =
     (are_next t rows ≡ true) × (rise (map (λ row. row.number) t.duty) ≡ true → rise (map (λ row. row.duty) rows) ≡ true)
     × (are_of_duties t rows ≡ true)
 
--- each duty is of the release, and open
+-- each duty is a duty of the release, and open
 abbrev pub are_open_of : List ℕ → List DutyRow → Bool
 are_open_of release rows = list_all (λ row. is_duty_of release row && is_open row.state) rows
 
--- there is a release with the name
+-- a release has the name
 abbrev pub has_release : Tables → List ℕ → Bool
 has_release t name = is_some (release_found t name)
 
--- A new revision, document or release has the next number, and a release a name that no other has. Choices are those for one package
--- in a release that stands. The new duties of a release that stands have the next numbers, and with them there are at most as many as
--- may be; a change of a duty that stands has its next step.
+-- A new revision, document or release has the next number, and a new release a name that no other has.
+-- Choices are for one package in a release that exists. New duties are open duties of a release that exists,
+-- have the next numbers, each with its first change, and with them there are at most as many duties as the
+-- limit allows. A change of a duty that exists is its next step.
 abbrev pub Follows : Change → Tables → Type 0
 Follows (change.Loaded row rules forms) t = row.revision ≡ length t.catalogue + 1
 Follows (change.Imported row packages references) t = row.number ≡ length t.document + 1

@@ -1,4 +1,4 @@
--- What a command comes to over the rows of some tables, before anything is written, and the writing of it.
+-- What a command comes to over the rows of some tables before anything is written, and how that is written.
 use Rattle.std.specs.Prelude.{◌≡◌, Bool, true, false, Result, Ok, Err}
 use Rattle.desk_model.specs.Readings.{Readings}
 use Rattle.desk_model.specs.Tables.{Tables}
@@ -13,7 +13,7 @@ use Rattle.desk_model.specs.declared.command.Plan.TheVariants.{Leave, Make}
 use Rattle.desk_history.specs.FromTables.{answer_from, change_for}
 use Rattle.desk_access.specs.Seen.{Seen, Same, Kept, Made, Failed}
 
--- the plan has this answer, and where it makes a change, this one
+-- the plan has this answer and, if it makes a change, this change
 abbrev pub IsPlan : Answer → Change → Plan → Type 0
 IsPlan answer change (Leave a) = a ≡ answer
 IsPlan answer change (Make a made) = (a ≡ answer) × (made ≡ change)
@@ -22,12 +22,12 @@ IsPlan answer change (Make a made) = (a ≡ answer) × (made ≡ change)
 abbrev pub IsPlanOf : Readings → Command → Plan → Tables → Type 0
 IsPlanOf w c plan t = IsPlan (answer_from w t c) (change_for w t c) plan
 
--- a change is made exactly where the answer is recorded
+-- a change is made exactly if the answer is recorded
 abbrev pub IsSound : Plan → Type 0
 IsSound (Leave a) = is_recorded a ≡ false
 IsSound (Make a change) = is_recorded a ≡ true
 
--- where the refusal is decided from the command alone, no fault of the store is told and nothing is written
+-- if the refusal is decided from the command alone, no fault of the store is returned and nothing is written
 abbrev pub SparesStore : Bool → Result Plan Fault → Type 0
 SparesStore alone (Ok (Leave a)) = Unit {0}
 SparesStore alone (Ok (Make a change)) = alone ≡ false

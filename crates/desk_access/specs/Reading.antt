@@ -1,4 +1,4 @@
--- What a reader tells of the text of an expression.
+-- What a reader says of the text of an expression.
 use Rattle.std.specs.Prelude.{◌≡◌, ℕ, true, false, List, [], Option, Some, None, Ok}
 use Rattle.desk_base.specs.declared.profile.Profile.{Profile}
 use Rattle.desk_model.specs.Readings.{Readings}
@@ -12,7 +12,7 @@ pub record IsNone (w : Readings) (profile : Profile) (text : List ℕ) : Type 0 
   pub cheapest : (cost : List ℕ → Option ℕ) → w.cheapest profile text cost ≡ Ok None
 
 module _ {E : Type 0} (is_of : Profile → List ℕ → E → Type 0) where
-  -- the expression that the text is, or none where it is none
+  -- the expression that the text is, or none if it is none
   abbrev pub TellsExpression : Readings → Profile → List ℕ → Option E → Type 0
   TellsExpression w profile text (Some e) = (w.is_expression profile text ≡ true) × is_of profile text e
   TellsExpression w profile text None = IsNone w profile text

@@ -1,4 +1,4 @@
--- What is seen of a store, and what a call may do to it.
+-- What contracts see of a store, and what a call may do to it.
 use Rattle.std.specs.Prelude.{◌≡◌, ◌⊎◌, ℕ, ◌+◌, ◌-◌, ◌^◌, ◌≤◌, min, true, false, Result, Ok, Err}
 use Rattle.desk_model.specs.Tables.{Tables, applied}
 use Rattle.desk_model.specs.Answers.{is_recorded}
@@ -7,7 +7,7 @@ use Rattle.desk_model.specs.declared.command.Answer.{Answer}
 use Rattle.desk_model.specs.declared.command.Fault.{Fault}
 use Rattle.desk_access.specs.Follows.{Follows}
 
--- What is seen of a store. `Left` is what a stop of the program may leave of it.
+-- What contracts see of a store. `Left` is what a stop of the program may leave of it.
 pub record Seen (Left : Type 0) : Type 1 where
   -- these are its rows, as far as it still shows any
   pub holds : Tables → Type 0
@@ -20,12 +20,12 @@ pub record Seen (Left : Type 0) : Type 1 where
   -- a stop may leave this
   pub leaves : Left → Type 0
 
--- a disk failed once more, by a count that stays at its greatest, that of 64 bits
+-- the disk failed at least once more; the count stops at the greatest number of 64 bits
 abbrev pub MoreFaults : ℕ → ℕ → Type 0
 MoreFaults old new = min (old + 1) (2 ^ 64 - 1) ≤ new
 
 module _ {Left : Type 0} where
-  -- no fault of the disk is forgotten, and nothing but such a fault shuts the store
+  -- no fault of the disk is forgotten, and only a fault of the disk closes the store
   pub record Outlasts (old new : Seen Left) : Type 0 where
     pub counts : old.faults ≤ new.faults
     pub closes : new.is_honest → old.is_open → new.is_open ⊎ MoreFaults old.faults new.faults
@@ -36,17 +36,18 @@ module _ {Left : Type 0} where
     pub holds : (t : Tables) → old.holds t → new.holds t
     pub outlasts : Outlasts old new
 
-  -- and a stop leaves nothing that it couldn't leave before
+  -- in addition, a stop leaves nothing that it couldn't leave before
   pub record Kept (old new : Seen Left) : Type 0 where
     pub spared : Spared old new
     pub leaves : new.is_honest → old.is_open → (t : Tables) → old.holds t → (x : Left) → new.leaves x → old.leaves x
 
-  -- and the store shows what it showed
+  -- in addition, the store still shows its rows if it did before
   pub record Same (old new : Seen Left) : Type 0 where
     pub kept : Kept old new
     pub stays : new.is_honest → old.is_open → new.is_open
 
-  -- what a look-up does to a store: nothing, though after a fault of the disk it may show no rows any more
+  -- what a look-up does to a store: nothing, although after a fault of the disk it may no longer show its
+  -- rows
   abbrev pub Looked : {A : Type 0} → Seen Left → Seen Left → Result A Fault → Type 0
   Looked old new (Ok x) = Same old new
   Looked old new (Err fault) = Kept old new
@@ -56,7 +57,7 @@ module _ {Left : Type 0} where
   OfRows Is old new = new.is_honest → (t : Tables) → old.holds t → Is t
 
   module _ (stands : Left → Tables → Type 0) where
-    -- a change that goes on from the rows is made, and a stop leaves the rows after it and no others
+    -- a change that continues the rows is made, and a stop leaves the rows after it and no others
     pub record Made (change : Change) (old new : Seen Left) : Type 0 where
       pub honest : new.is_honest → old.is_honest
       pub outlasts : Outlasts old new
@@ -74,13 +75,14 @@ module _ {Left : Type 0} where
     Wrote change old new (Ok done) = Made change old new
     Wrote change old new (Err fault) = Failed change old new
 
-  -- What a command does to a store, whatever texts say: where it isn't recorded, the rows are as they were, and only a fault of the disk
-  -- shuts it.
+  -- What a command does to a store, whatever the texts say: if it isn't recorded, the rows are as they were,
+  -- and only a fault of the disk closes the store.
   abbrev pub Minds : Seen Left → Seen Left → Result Answer Fault → Type 0
   Minds old new (Ok a) = (new.is_honest → old.is_honest) × (is_recorded a ≡ false → Same old new) × Outlasts old new
   Minds old new (Err fault) = Spared old new
 
-  -- What a command does to a store for each i whose tables may be its rows: its answer, and the tables after it.
+  -- What a command does to a store for each i whose tables may be its rows: its answer, and the tables after
+  -- it.
   module _ (stands : Left → Tables → Type 0) {I : Type 0} (Is : I → Type 0) (before after : I → Tables) (answer : I → Answer) where
     pub record Answered (old new : Seen Left) (a : Answer) : Type 0 where
       pub right : new.is_honest → (i : I) → Is i → old.holds (before i) → a ≡ answer i

@@ -22,26 +22,26 @@ use desk_model::{
     ReleaseRow, Rule, Standing, Totals,
 };
 
-/// Tables of rows, in memory or in a database. Look-ups leave the rows; `commit` alone writes, all
-/// of a change or nothing.
+/// Tables of rows, in memory or in a database. Look-ups leave the rows as they are; only `commit`
+/// writes, all of a change or nothing.
 ///
-/// What is seen of a store is whether tables are its rows, whether its disk has been honest and
-/// still shows them, and what a stop could leave. In memory the rows are always shown, and nothing
-/// outlives a stop.
+/// What contracts see of a store is whether tables are its rows, whether its disk has been honest,
+/// whether it still shows its rows, and what a stop could leave. In memory the rows are always
+/// shown, and nothing outlives a stop.
 pub trait Store {
     /// What a stop of the program may leave of a store.
     ghost Left: { Type 0 };
 
-    /// What is left holds these rows.
+    /// What is left after a stop holds these rows.
     ghost stands: { Left → Tables → Type 0 };
 
-    /// What is seen of the store.
+    /// What contracts see of the store.
     ghost seen: { Self → Seen Left };
 
-    /// The faults of its own that the store may tell.
+    /// The faults of its own that the store may return.
     ghost tells: { StoreFault → Type 0 };
 
-    /// Whether a look-up that takes no memory may fail.
+    /// Whether a look-up that needs no memory may fail.
     ghost may_miss: { Type 0 };
 
     fn revision_count(&mut self) -> Result<u64, Fault>
@@ -80,7 +80,7 @@ pub trait Store {
         ensures misses { OnErr result may_miss }
         ensures fault { IfErr result (MayFail tells) };
 
-    /// The document with a namespace: its number, and whether its bytes are these.
+    /// The document with this namespace: its number, and whether its bytes are these.
     fn import_of(&mut self, namespace: &str, bytes: &[u8]) -> Result<Option<(u32, bool)>, Fault>
         ensures found { IfOk result (λ found. OfRows (λ t.
             found ≡ option_map (known_import bytes.now)
@@ -204,7 +204,7 @@ pub trait Store {
         ensures kept { Looked (seen self.old) (seen self.new) result }
         ensures fault { IfErr result (MayFail tells) };
 
-    /// The first opened release that holds a choice for a package of a document.
+    /// The first release opened that holds a choice for a package of a document.
     fn holder(&mut self, document: u32, id: &str) -> Result<Option<Text>, Fault>
         ensures found { IfOk result (λ found. OfRows (λ t.
             found ≡ holder_found t document id.now) (seen self.old) (seen self.new)) }
@@ -248,7 +248,8 @@ pub trait Store {
         ensures kept { Looked (seen self.old) (seen self.new) result }
         ensures fault { IfErr result (MayFail tells) };
 
-    /// How many duties of a release were raised and stand where, if there is such a release.
+    /// How many duties of a release were raised and how many are in each state, or `None` if there
+    /// is no such release.
     fn tally(&mut self, release: &str) -> Result<Option<Totals>, Fault>
         ensures found { IfOk result (λ found. OfRows (λ t.
             found ≡ option_map (λ row. totals_of (filter (is_duty_of release.now) t.duty))
@@ -257,14 +258,14 @@ pub trait Store {
         ensures misses { OnErr result may_miss }
         ensures fault { IfErr result (MayFail tells) };
 
-    /// Where the duties of a release stand, by number.
+    /// The standings of the duties of a release, by number.
     fn standings_of(&mut self, release: &str) -> Result<Vec<Standing>, Fault>
         ensures found { IfOk result (λ found. OfRows (λ t.
             found.items ≡ standings_found t release.now) (seen self.old) (seen self.new)) }
         ensures kept { Looked (seen self.old) (seen self.new) result }
         ensures fault { IfErr result (MayFail tells) };
 
-    /// Where the duties stand that are waived up to a day before this one, by number.
+    /// The standings of the duties whose waivers have a last day before this one, by number.
     fn ended(&mut self, day: Day) -> Result<Vec<Standing>, Fault>
         ensures found { IfOk result (λ found. OfRows (λ t.
             found.items ≡ ended_found t day) (seen self.old) (seen self.new)) }
@@ -295,7 +296,7 @@ pub trait Store {
         ensures misses { OnErr result may_miss }
         ensures fault { IfErr result (MayFail tells) };
 
-    /// Writes a change whole, or nothing.
+    /// Writes all of a change, or nothing.
     fn commit(&mut self, change: Change) -> Result<(), Fault>
         ensures wrote { Wrote stands change (seen self.old) (seen self.new) result }
         ensures fault { IfErr result (MayFail tells) };

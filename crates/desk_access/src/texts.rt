@@ -13,16 +13,16 @@ use desk_model::{
 };
 use std::alloc::{AllocError, Global};
 
-/// A reader of texts. It tells which readings are right by its own definitions, and answers as each
-/// of these does. A licence expression is read once, and then asked about.
+/// A reader of texts. It says by its own definitions which readings are right, and returns what
+/// each of these gives. A licence expression is read once and then asked about.
 pub trait Texts {
     /// A licence expression that was read.
     type Expression: Drop;
 
-    /// The readings that give each text what it says.
+    /// The readings that say of each text what it says.
     ghost are_right: { Readings → Type 0 };
 
-    /// An expression is the one that a text is by a profile of operators.
+    /// The expression is what the text says, with operators written by the profile.
     ghost is_of: { Profile → List ℕ → Self.Expression → Type 0 };
 
     /// The catalogue that a text is, or its fault.
@@ -61,8 +61,8 @@ pub trait Texts {
         ensures { (w : Readings) → are_right w → IfOk result (λ adopted.
             adopted ≡ w.adopted_as licence.now term.now) };
 
-    /// The id of the licence that a printed term names, without its plus and exception, where it
-    /// names no reference.
+    /// The id of the licence that a printed term names, without its plus and exception, if it names
+    /// no reference.
     fn licence_id(&self, alloc: Global, term: &str) -> Result<Text, AllocError>
         ensures { (w : Readings) → are_right w → IfOk result (λ id. id ≡ w.licence_id term.now) };
 
@@ -71,8 +71,8 @@ pub trait Texts {
         ensures { (w : Readings) → are_right w
             → IfOk result (λ exception. exception ≡ w.exception term.now) };
 
-    /// The texts of licences and exceptions in the catalogue that a text is, by their ids: a place
-    /// for each id, and none where the text is no catalogue.
+    /// The texts of licences and exceptions in the catalogue that a text is: an entry for each id,
+    /// `None` if the catalogue has no text for it or the text is no catalogue.
     fn licence_texts(
         &self,
         alloc: Global,
@@ -102,7 +102,7 @@ pub trait Texts {
         ensures { (w : Readings) → are_right w → IfOk result (λ fault.
             fault ≡ w.expression_fault profile text.now) };
 
-    /// What printed terms are to an expression.
+    /// How the terms, as printed, relate to an expression.
     fn verdict(
         &self,
         alloc: Global,
@@ -113,7 +113,7 @@ pub trait Texts {
             → is_of profile text expression.now
             → IfOk result (λ verdict. verdict ≡ w.verdict profile text terms.now) };
 
-    /// The minimal sets of terms that an expression is true under, printed, or why they aren't
+    /// The minimal sets of terms, as printed, under which an expression is true, or why they aren't
     /// listed.
     fn alternatives(
         &self,
@@ -130,8 +130,8 @@ pub trait Texts {
             → is_of profile text expression.now
             → IfOk result (λ terms. terms ≡ w.terms profile text) };
 
-    /// The cheapest set of terms that an expression is true under, printed, where each of its
-    /// distinct terms in order costs what stands at its place, at most 1,000,000.
+    /// The cheapest set of terms, as printed, under which an expression is true. The costs are
+    /// those of its distinct terms in order, each at most 1,000,000.
     fn cheapest(
         &self,
         alloc: Global,

@@ -1,4 +1,4 @@
--- What a store does over tables, a desk does over the histories whose tables they are.
+-- What a store does over tables, a desk does over the histories that have these tables.
 use Rattle.std.proofs.Common.{◌≡◌, inl, inr, true, Result, Ok, Err, sym, ap, subst, ◌∙◌}
 use Rattle.std.specs.Prelude.{IfOk}
 use Rattle.desk_model.specs.Readings.{Readings}

@@ -1,4 +1,4 @@
--- One call after another, and what a plan comes to when it is carried out.
+-- One call after another, and what becomes of a plan when it is carried out.
 use Rattle.std.proofs.Common.{◌≡◌, Bool, true, false, inl, inr, sym, ap, subst, ◌∙◌, Result, Ok, Err}
 use Rattle.desk_model.specs.Readings.{Readings}
 use Rattle.desk_model.specs.Tables.{Tables, applied}

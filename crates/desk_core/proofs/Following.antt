@@ -1,4 +1,4 @@
--- The change of each command goes on from the rows that it was made for.
+-- The change of each command continues the rows for which it was made.
 use Rattle.std.proofs.Common.{◌≡◌, ◌∙◌, ℕ, ◌+◌, ◌≤◌, Bool, true, false, cond, List, [], ◌∷◌, length, map, refl, sym, ap, subst, arith}
 use Rattle.std.specs.Prelude.{◌==◌, ◌&&◌, nat_lt, nat_le, not, filter, find, Option, Some, None, is_some}
 use Rattle.std.specs.Option.{option_map, option_map_or, option_and_then}
@@ -54,7 +54,7 @@ length-map : {A B : Type 0} (f : A → B) (xs : List A) → length (map f xs) �
 length-map f [] = refl
 length-map f (x ∷ xs) = omega (arith, length-map f xs)
 
--- a recorded answer is behind no refusal: of those of a move, the fourth is that its duty doesn't stand
+-- a recorded answer comes after no refusal; the fourth refusal of a move is that its duty doesn't exist
 fourth : (a b c : Option Refusal) (so : Bool) (refusal : Refusal) (rest : List (Option Refusal)) (answer : Answer) → is_recorded (refused_first (a ∷ b ∷ c ∷ unless so refusal ∷ rest) answer) ≡ true → so ≡ true
 fourth None None None true refusal rest answer recorded = refl
 fourth None None None false refusal rest answer recorded = absurd (cc)
@@ -66,7 +66,7 @@ some_row : (duty : Option DutyRow) → is_some (option_map (λ row. row.state) d
 some_row None some = some
 some_row (Some row) some = refl
 
--- a duty that is moved stands
+-- a duty that is moved exists
 stands : (t : Tables) (word : Word) (q : ℕ) (day text : List ℕ) (until : Option (List ℕ)) → is_recorded (moved_found t word q day text until) ≡ true → is_some (duty_found t q) ≡ true
 stands t word q day text until recorded =
     let place = option_map (λ row. row.state) (duty_found t q) in
@@ -133,7 +133,7 @@ weaker p q h (x ∷ xs) e = both (q x) (list_all q xs) (h x (and_left (p x) (lis
 found_behind : (x : DutyRow) (rows : List DutyRow) (n : ℕ) → is_some (find (is_duty n) rows) ≡ true → is_some (find (is_duty n) (x ∷ rows)) ≡ true
 found_behind x rows n e = elim (x.number == n) as (λ b. is_some (cond b (Some x) (find (is_duty n) rows)) ≡ true) [ false ↦ e | true ↦ refl ]
 
--- a duty of a list is found there by its number
+-- a duty of a list is found in it by its number
 each_found : (rows : List DutyRow) → list_all (λ row. is_some (find (is_duty row.number) rows)) rows ≡ true
 each_found [] = refl
 each_found (x ∷ rows) =
@@ -165,13 +165,13 @@ filter_true (x ∷ xs) = ap (λ ys. x ∷ ys) (filter_true xs)
 next_ended : (t : Tables) (m : Move) (test : DutyRow → Bool) → AreNext t (map (next_row m) (map (standing_found t) (filter test t.duty)))
 next_ended t m test = subst (AreNext t) (ap (map (next_row m)) (filter_true (map (standing_found t) (filter test t.duty)))) (next_many t m (λ s. true) test)
 
--- Releases that stand
+-- Releases that exist
 
 some_release : (found : Option ReleaseRow) → is_some (option_map (λ row. row.state) found) ≡ true → is_some found ≡ true
 some_release None some = some
 some_release (Some row) some = refl
 
--- a name that is opened is no other's
+-- the name of a release that is opened is no other release's
 unnamed : (named formed taken fits : Bool)
     → is_recorded (refused_first (unless named why.BadName ∷ unless formed why.UnknownForm ∷ unless (not taken) why.NameTaken ∷ unless fits (why.Full limit.Releases) ∷ []) answered.Done) ≡ true
     → taken ≡ false
@@ -180,7 +180,7 @@ unnamed true true true fits recorded = absurd (cc)
 unnamed true false taken fits recorded = absurd (cc)
 unnamed false formed taken fits recorded = absurd (cc)
 
--- of the refusals of an Unchoose the first is that there is no such release, of those of a Choose the second
+-- that there is no such release is the first refusal of an Unchoose and the second of a Choose
 first : (so : Bool) (refusal : Refusal) (rest : List (Option Refusal)) (answer : Answer) → is_recorded (refused_first (unless so refusal ∷ rest) answer) ≡ true → so ≡ true
 first true refusal rest answer recorded = refl
 first false refusal rest answer recorded = absurd (cc)
@@ -190,7 +190,7 @@ second : (bad : Option Refusal) (so : Bool) (refusal : Refusal) (rest : List (Op
 second None so refusal rest answer recorded = first so refusal rest answer recorded
 second (Some why) so refusal rest answer recorded = absurd (cc)
 
--- a release that is frozen stands, and there is room for its duties
+-- a release that is frozen exists, and there is room for its duties
 frozen_in : (dated known : Bool) (ready : Option Refusal) (some : Bool) (fault : Option Refusal) (fits : Bool) (answer : Answer)
     → is_recorded (refused_first (unless dated why.BadDay ∷ unless known why.UnknownRelease ∷ ready ∷ unless some why.EmptyRelease ∷ fault ∷ unless fits (why.Full limit.Duties) ∷ []) answer) ≡ true
     → (known ≡ true) × (fits ≡ true)
@@ -211,7 +211,7 @@ pub choices_of : (r : List ℕ) (d : ℕ) (p : List ℕ) (terms : List (List ℕ
 choices_of r d p [] = refl
 choices_of r d p (term ∷ terms) = rw (same_text r, same_number d, same_text p) (choices_of r d p terms)
 
--- what is owed by a release
+-- whether a duty is owed by a release
 abbrev pub is_owed_by : List ℕ → Owed → Bool
 is_owed_by r owed = bytes_eq owed.release r
 

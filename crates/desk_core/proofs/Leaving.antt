@@ -1,4 +1,4 @@
--- What a stop leaves of a desk after a command, and after one more of a run.
+-- What a stop leaves of a desk after a command, and after one more command of a run.
 use Rattle.std.proofs.Common.{◌≡◌, ◌<◌, arith, Bool, true, false, List, [], ◌∷◌, ◌++◌, length, get_or, refl, sym, ap, subst, ◌∙◌, Result, Ok, Err}
 use Rattle.std.specs.Prelude.{◌&&◌, ◌||◌, if◌then◌else◌, MatchBool}
 use Rattle.std.specs.List.{list_all, list_any}
@@ -25,7 +25,7 @@ AllSpareStore-push w [] os c o lt at are one = absurd (omega arith)
 AllSpareStore-push w (x ∷ cs) [] c o lt at are one = (subst (λ d. MayBecome (λ fault. refused_alone w d ≡ false) o) at one, tt)
 AllSpareStore-push w (x ∷ cs) (p ∷ os) c o lt at are one = (are.0, AllSpareStore-push w cs os c o (omega arith) at are.1 one)
 
--- none of more is none of the ones before and not the last
+-- if no item of a list passes, neither does any before the last, nor the last
 pub none_pushed : {X : Type 0} (p : X → Bool) (xs : List X) (x : X) → list_any p (xs ++ x ∷ []) ≡ false → (list_any p xs ≡ false) × (p x ≡ false)
 none_pushed p [] x e = (refl, last (p x) e)
   where
@@ -76,7 +76,8 @@ module _ {Left : Type 0} where
     left_by h true x m s = m
     left_by h false x m s = s.leaves x (m s.is_open)
 
-    -- after an answer a stop leaves the tables of the history past it alone, if it did so before
+    -- after an answer a stop leaves the tables of the history with its command and no others, if it left only
+    -- those of the history before
     pub secures_after : (h : List Command) (o : Outcome) → is_answered o ≡ true → (old.is_open → new.is_open) → ((x : Left) → new.leaves x → IsLeft stands w h old c o x)
         → Secures stands (tables w h) old → Secures stands (tables w (history_with h c o)) new
     secures_after h (Answered a) is stays left s = record { is_open = stays s.is_open; leaves = λ x l. left_by h (is_recorded a) x (left x l) s }

@@ -1,4 +1,4 @@
-//! A command is carried out over a store: it is decided, and then written.
+//! Carrying out a command over a store: it is decided, and then written.
 
 ghost use Rattle.std.specs.Prelude.{◌≡◌, IfOk, IfErr, false};
 ghost use Rattle.desk_model.specs.Readings.{Readings};
@@ -77,7 +77,7 @@ pub fn plan<T: Texts, S: Store>(
     }
 }
 
-/// Carries out a plan: writes its change, if it has one, and gives its answer.
+/// Carries out a plan: writes its change, if it has one, and returns its answer.
 fn carry_plan<S: Store>(store: &mut S, plan: Plan) -> Result<Answer, Fault>
     ensures carries { Carries S.stands plan (S.seen store.old) (S.seen store.new) result }
     ensures fault { IfErr result (MayFail S.tells) }
@@ -109,7 +109,7 @@ pub fn carry_out<T: Texts, S: Store>(
     carry_plan(store, decided)
 }
 
-/// Carries out the import of these bytes, and keeps the bytes themselves.
+/// Carries out the import of these bytes, which are themselves kept rather than a copy.
 pub fn carry_import<T: Texts, S: Store>(
     alloc: Global,
     texts: &T,

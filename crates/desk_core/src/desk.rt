@@ -23,7 +23,8 @@ use desk_model::{Answer, Command, Fault, Outcome, Profile, Query};
 use desk_questions::ask::answer_to;
 use std::alloc::{AllocError, Global};
 
-/// A desk, seen as its store is: which tables are its rows, and what a stop could leave of them.
+/// A desk. What contracts see of it is what they see of its store: which tables are its rows, and
+/// what a stop could leave of them.
 ///
 /// For each right reading of texts and each recorded history whose tables are the rows, a command
 /// is answered as the definitions of the history say, and leaves the tables of the history with it.
@@ -32,16 +33,16 @@ pub trait Desk {
     /// What a stop of the program may leave of a desk.
     ghost Left: { Type 0 };
 
-    /// What is left holds these rows.
+    /// What is left after a stop holds these rows.
     ghost stands: { Left → Tables → Type 0 };
 
-    /// What is seen of the desk.
+    /// What contracts see of the desk.
     ghost seen: { Self → Seen Left };
 
-    /// The readings that give each text what it says.
+    /// The readings that say of each text what it says.
     ghost are_right: { Readings → Type 0 };
 
-    /// The faults of its own that the desk's store may tell.
+    /// The faults of its own that the desk's store may return.
     ghost tells: { StoreFault → Type 0 };
 
     /// Carries out a command, or refuses it.
@@ -54,7 +55,7 @@ pub trait Desk {
         ensures fault { IfErr result (MayFail tells) };
 
     /// Carries out the import of these bytes as `apply` does; a desk may keep the bytes themselves,
-    /// where `apply` keeps a copy.
+    /// while `apply` keeps a copy.
     fn import(&mut self, bytes: Items<u8>, profile: Profile) -> Result<Answer, Fault>
         ensures minds { Minds (seen self.old) (seen self.new) result }
         ensures carries { (w : Readings) → are_right w
@@ -99,7 +100,7 @@ impl<T, S> TableDesk<T, S> {
 }
 
 impl<T: Drop, S> TableDesk<T, S> {
-    /// Hands the store back.
+    /// Returns the store.
     pub fn into_store(self) -> S
         ensures { result ≡ self.store }
     {
@@ -172,17 +173,17 @@ fn apply_one<D: Desk>(desk: &mut D, command: &Command) -> Outcome
     Outcome::from(desk.apply(command))
 }
 
-/// Applies commands in order, and goes on past refusals and faults.
+/// Applies commands in order, and goes on after refusals and faults.
 ///
-/// The room of the list of outcomes is taken first: where that fails, nothing is applied. Otherwise
-/// there is one outcome for each command. Whatever recorded history `h` the rows stood for before,
-/// each outcome that is no fault is the answer at its place, after `h` and the commands recorded
-/// before it; and at the end the rows are the tables of all recorded commands, which are a recorded
-/// history again. Where none was recorded, the rows are as they were, whatever they are. Where no
-/// outcome is a fault and a stop left the rows before and no others, it leaves those at the end and
-/// no others. A desk that showed its rows still does, unless its disk failed. An outcome is a fault
-/// only where `apply` had it: it is one that the desk may tell, and none of the store where the
-/// command alone decides.
+/// Room for the list of outcomes is reserved first: if that fails, nothing is applied. Otherwise
+/// there is one outcome for each command. Whatever recorded history `h` has the rows as its tables
+/// before, each outcome that is no fault is the answer at its place, after `h` and the commands
+/// recorded before it; and at the end the rows are the tables of all recorded commands, which are
+/// again a recorded history. If none was recorded, the rows are as they were, whatever they are. If
+/// no outcome is a fault and a stop left the rows before and no others, it leaves those at the end
+/// and no others. A desk that showed its rows still does, unless its disk failed. An outcome is a
+/// fault only if `apply` returned it: it is one that the desk may return, and none of the store if
+/// the command alone decides.
 pub fn run<D: Desk>(
     alloc: Global,
     desk: &mut D,
@@ -223,7 +224,7 @@ pub fn run<D: Desk>(
 /// A desk in memory.
 pub type MemDesk<T> = TableDesk<T, MemStore>;
 
-/// Applies commands to an empty desk in memory, whose only fault is want of memory.
+/// Applies commands to an empty desk in memory, whose only fault is that no memory is left.
 pub fn run_in_memory<T: Texts + Drop>(
     alloc: Global,
     texts: T,

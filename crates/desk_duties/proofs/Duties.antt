@@ -31,7 +31,7 @@ here_known t word q n row e number =
     ap (λ (k : ℕ). move_here word (unwrap_or (state_found t row.release) IsOpen) (steps_found t k) row.state) number
     ∙ sym (rw e refl)
 
--- days and a text that refuse nothing
+-- days and a text for which nothing is refused
 split : (a b c d : Bool) → not (a && b && c && d) ≡ false → (a && b ≡ true) × (c ≡ true) × (d ≡ true)
 split true true true true e = (refl, refl, refl)
 split true true true false e = cc

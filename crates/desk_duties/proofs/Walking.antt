@@ -27,7 +27,7 @@ pub more_of : {A : Type 0} (old new here before rest total : List A) → new ≡
 more_of old new here before rest total grown split sofar =
     ap (λ xs. xs ++ rest) grown ∙ (append_assoc old here rest ∙ (ap (λ ys. old ++ ys) (sym split) ∙ sofar))
 
--- the terms of a package, of which the first fails
+-- the terms of a package, the first of which fails
 pub terms_fail : (w : Readings) (licences : List AdoptionRow) (rules : List Rule) (form r : List ℕ) (p : PackageRow) (terms rest : List (List ℕ)) (term : List ℕ) (old new : Gathered) (o : Option Refusal) (refusal : Refusal)
     → terms ≡ term ∷ rest → GathersTerm w licences rules form r p term old new o → o ≡ Some refusal → first_unruled w licences rules form p terms ≡ Some refusal
 terms_fail w licences rules form r p terms rest term old new o refusal split g e =
@@ -67,7 +67,7 @@ duties_push first xs x n rows rows' e f g =
 
 -- Packages
 
--- a list of four, in the order in which they are met
+-- a list of four, in the order in which they are tested
 in_turn : (a b c d : Option Refusal) → or_else (or_else a (or_else b c)) d ≡ or_else a (or_else b (or_else c (or_else d None)))
 in_turn None None None None = refl
 in_turn None None None (Some x) = refl
@@ -80,7 +80,7 @@ unfit_is_fault : (w : Readings) (licences : List AdoptionRow) (rules : List Rule
 unfit_is_fault w licences rules form conclusion terms p =
     in_turn (unconcluded conclusion p) (unchosen p terms) (first_unadopted w licences p.document terms) (first_unruled w licences rules form p terms)
 
--- the walk over packages, of which the first fails
+-- the walk over packages, the first of which fails
 pub walk_fails : (w : Readings) (t : Tables) (form r : List ℕ) (ps rest : List PackageRow) (p : PackageRow) (old new : Gathered) (o : Option Refusal) (refusal : Refusal) → ps ≡ p ∷ rest → GathersPackage w t form r p old new o → o ≡ Some refusal → walk w t.adoption (rules_found t) form (conclusion_found w t) (choice_found t r) ps ≡ Some refusal
 walk_fails w t form r ps rest p old new o refusal split g e =
     let g1 : package_fault w t.adoption (rules_found t) form (conclusion_found w t p) (choice_found t r p) p ≡ Some refusal =

@@ -22,7 +22,7 @@ use Rattle.desk_model.specs.declared.row.PackageRow.{PackageRow}
 use Rattle.desk_model.specs.declared.row.FrozenRow.{FrozenRow}
 use Rattle.desk_model.specs.declared.row.Owed.{Owed}
 
--- a step of a freeze: the refusal that is due, or none and these rows and duties more
+-- a step of a freeze: it returns the refusal that is due, or none after it has added these rows and duties
 abbrev pub Gathers : Option Refusal → List FrozenRow → List Owed → Gathered → Gathered → Option Refusal → Type 0
 Gathers due rows owed old new None = (due ≡ None) × (new.frozen.items ≡ old.frozen.items ++ rows) × (new.owed.items ≡ old.owed.items ++ owed)
 Gathers due rows owed old new (Some refusal) = due ≡ Some refusal
@@ -33,17 +33,18 @@ GathersTerm w licences rules form r p term old new fault =
     let rule = rule_adopted w licences rules form p.document term in
     Gathers (unruled w licences rules form p term) (frozen_under r p term rule) (owed_under r p term rule) old new fault
 
--- for some terms
+-- the step for some terms of a package
 abbrev pub GathersTerms : Readings → List AdoptionRow → List Rule → List ℕ → List ℕ → PackageRow → List (List ℕ) → Gathered → Gathered → Option Refusal → Type 0
 GathersTerms w licences rules form r p terms old new fault =
     Gathers (first_unruled w licences rules form p terms) (frozen_for_terms w licences rules form r p terms) (owed_for_terms w licences rules form r p terms) old new fault
 
--- what stands against a package before its rules are looked for: no conclusion, no choice, a term without adoption
+-- why a package can't be frozen, apart from rules: it has no conclusion, no choice, or a term that isn't
+-- adopted
 abbrev pub unready_package : Readings → List AdoptionRow → Option Conclusion → List (List ℕ) → PackageRow → Option Refusal
 unready_package w licences conclusion terms p =
     or_else (unconcluded conclusion p) (or_else (unchosen p terms) (first_unadopted w licences p.document terms))
 
--- and with them
+-- the same, including rules
 abbrev pub unfit_package : Readings → List AdoptionRow → List Rule → List ℕ → Option Conclusion → List (List ℕ) → PackageRow → Option Refusal
 unfit_package w licences rules form conclusion terms p =
     or_else (unready_package w licences conclusion terms p) (first_unruled w licences rules form p terms)
@@ -60,11 +61,12 @@ GathersAll w t form r ps old new fault =
     Gathers (walk w t.adoption (rules_found t) form (conclusion_found w t) (choice_found t r) ps)
     (frozen_for w t.adoption (rules_found t) form r (choice_found t r) ps) (owed_for w t.adoption (rules_found t) form r (choice_found t r) ps) old new fault
 
--- The answer to a freeze, from one step on: of so many new duties beside the old ones
+-- The answer to a freeze, from one of its tests on: here, with this many new duties in addition to the old
+-- ones
 abbrev pub freeze_fits : ℕ → ℕ → Answer
 freeze_fits old new = refused_first (unless (nat_le (old + new) most.duties) (why.Full limit.Duties) ∷ []) (answered.Frozen (old + 1) new)
 
--- of an open release with this form
+-- here, for an open release that ships in this form
 abbrev pub freeze_open_found : Readings → Tables → List ℕ → List ℕ → Answer
 freeze_open_found w t r form =
     let new = length (owed_for w t.adoption (rules_found t) form r (choice_found t r) (shipped_found t r)) in

@@ -1,4 +1,4 @@
-//! Duties are met, waived and reopened.
+//! Meets, waives and reopens duties.
 
 ghost use Rattle.std.specs.Prelude.{◌≡◌, ◌≤◌, ◌<◌, ◌+◌, ◌∷◌, [], IfOk, IfErr, MatchOption, Option, unwrap_or, true, false};
 ghost use Rattle.desk_base.specs.Day.{is_day};
@@ -22,7 +22,7 @@ use desk_model::{
 use desk_packages::{done, refused};
 use std::alloc::{AllocError, Global};
 
-/// Whether the text may stand at a change: 1 to 1,024 bytes without control bytes.
+/// Whether the text may go with a change: 1 to 1,024 bytes without control bytes.
 pub fn is_note(text: &str) -> bool
     ensures { result ≡ is_note text.now }
 {
@@ -35,7 +35,7 @@ pub fn is_note(text: &str) -> bool
     are_shown(text.as_bytes())
 }
 
-/// The day that a text writes.
+/// The day that a text is, if it is one.
 pub(crate) fn read_day(text: &Text) -> Option<Day>
     ensures { MatchOption result
         (is_day text.now ≡ false) (λ day. (is_day text.now ≡ true) × (day ≡ text.now)) }
@@ -78,7 +78,7 @@ fn is_before(day: Day, other: Day) -> bool
     day.as_bytes().cmp(other.as_bytes()).is_lt()
 }
 
-/// A move that was read, or why it is none.
+/// A move that was read, or why there is none.
 #[derive(Drop)]
 enum Read {
     Move(Move),
@@ -140,7 +140,7 @@ fn read_move(word: Word, day: &Text, text: &Text, until: &Option<Text>) -> Resul
     }))
 }
 
-/// The state of a release, open where there is none.
+/// The state of a release, or open if there is no such release.
 fn release_state<S: Store>(store: &mut S, name: &Text) -> Result<ReleaseState, Fault>
     ensures found { IfOk result (λ state.
         OfRows (λ t. state ≡ unwrap_or (state_found t name.now) ReleaseState.IsOpen)
@@ -154,7 +154,7 @@ fn release_state<S: Store>(store: &mut S, name: &Text) -> Result<ReleaseState, F
     }
 }
 
-/// The one change that a duty's next move is.
+/// The change that consists of a duty's next move.
 fn one_change(alloc: Global, duty: u32, step: u32, made: Move) -> Result<Change, AllocError>
     ensures { IfOk result (λ change. change ≡ Change.Moved (change_row duty step made ∷ [])) }
 {
@@ -170,7 +170,7 @@ fn one_change(alloc: Global, duty: u32, step: u32, made: Move) -> Result<Change,
     Ok(Change::Moved { changes })
 }
 
-/// The step of a duty's next move, or why it isn't moved.
+/// The step of a duty's next move, or why it can't be moved.
 fn next_step<S: Store>(
     store: &mut S,
     word: Word,
@@ -214,7 +214,7 @@ fn move_found<S: Store>(
     }
 }
 
-/// Moves the duty with a number.
+/// Moves the duty with this number.
 fn move_numbered<S: Store>(
     alloc: Global,
     store: &mut S,
@@ -276,7 +276,7 @@ pub fn meet<S: Store>(
     move_duty(alloc, store, Word::Met, duty, day, text, &None)
 }
 
-/// Waives a duty, up to a last day where one is given.
+/// Waives a duty, up to a last day if one is given.
 pub fn waive<S: Store>(
     alloc: Global,
     store: &mut S,

@@ -1,4 +1,4 @@
-//! Releases are frozen, and their duties raised.
+//! Freezes releases, and raises their duties.
 
 ghost use Rattle.std.specs.Prelude.{◌≡◌, ◌≤◌, ◌<◌, ◌+◌, ◌^◌, IfOk, IfErr, map, length};
 ghost use Rattle.std.specs.List.{enumerate_from};
@@ -88,7 +88,7 @@ fn froze(
     })
 }
 
-/// Freezes a release with what was gathered, if its duties fit.
+/// Freezes a release with what was gathered, if there is room for its duties.
 fn freeze_gathered<S: Store>(
     alloc: Global,
     store: &mut S,
@@ -120,7 +120,7 @@ fn freeze_gathered<S: Store>(
     })
 }
 
-/// Freezes an open release with this form.
+/// Freezes an open release that ships in this form.
 fn freeze_open<T: Texts, S: Store>(
     alloc: Global,
     texts: &T,

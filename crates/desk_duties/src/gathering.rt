@@ -1,4 +1,4 @@
-//! What the packages of a release owe, gathered for its freeze.
+//! Gathers what the packages of a release owe, for its freeze.
 
 ghost use Rattle.std.specs.Prelude.{◌≡◌, ◌++◌, ◌∷◌, [], IfOk, IfErr, OnOk, Option, is_some, map};
 ghost use Rattle.desk_model.specs.Readings.{Readings};
@@ -103,7 +103,7 @@ fn add_term(
     Ok(())
 }
 
-/// The first term of a package without adoption.
+/// The refusal for the first term of a package that isn't adopted, if there is one.
 fn first_unadopted<T: Texts, S: Store>(
     alloc: Global,
     texts: &T,
@@ -125,7 +125,7 @@ fn first_unadopted<T: Texts, S: Store>(
     Ok(None)
 }
 
-/// Gathers what a term of a package owes, or tells that it has no rule.
+/// Gathers what a term of a package owes, or returns that it has no rule.
 fn freeze_term<T: Texts, S: Store>(
     alloc: Global,
     texts: &T,
@@ -149,7 +149,7 @@ fn freeze_term<T: Texts, S: Store>(
     Ok(None)
 }
 
-/// Gathers what the terms of a package owe, or tells the first without a rule.
+/// Gathers what the terms of a package owe, or returns which is the first without a rule.
 fn freeze_terms<T: Texts, S: Store>(
     alloc: Global,
     texts: &T,
@@ -210,7 +210,7 @@ fn is_concluded<T: Texts, S: Store>(
     Ok(conclusion.is_some())
 }
 
-/// What stands against a package with a conclusion or none, and these terms, apart from rules.
+/// Why a package with this conclusion, or none, and these terms can't be frozen, apart from rules.
 fn unready_package<T: Texts, S: Store>(
     alloc: Global,
     texts: &T,
@@ -235,7 +235,7 @@ fn unready_package<T: Texts, S: Store>(
     first_unadopted(alloc, texts, store, row.document, terms)
 }
 
-/// Gathers what a package owes, or tells what stands against it.
+/// Gathers what a package owes, or returns why it can't be frozen.
 fn freeze_package<T: Texts, S: Store>(
     alloc: Global,
     texts: &T,
@@ -274,7 +274,7 @@ fn freeze_package<T: Texts, S: Store>(
     )
 }
 
-/// Gathers what packages owe, or tells what stands against the first that fails.
+/// Gathers what packages owe, or returns the refusal for the first that can't be frozen.
 pub(crate) fn freeze_packages<T: Texts, S: Store>(
     alloc: Global,
     texts: &T,

@@ -1,4 +1,4 @@
-//! Releases are withdrawn, and waivers end.
+//! Withdraws releases, and ends waivers.
 
 ghost use Rattle.std.specs.Prelude.{◌≡◌, ◌+◌, IfOk, IfErr, length, filter, map, false};
 ghost use Rattle.desk_model.specs.Readings.{Readings};
@@ -18,9 +18,9 @@ use desk_model::{
 use desk_packages::{done, refused};
 use std::alloc::{AllocError, Global};
 
-/// The number of the step after so many. A duty of a recorded history has at most 1,001 changes
-/// (`desk_history_laws::changes_are_few`); where rows that no command made have as many as a step's
-/// number can tell, want of memory is answered.
+/// The number of the step after this many. A duty of a recorded history has at most 1,001 changes
+/// (`desk_history_laws::changes_are_few`); if rows that no command made have more than a step's
+/// number can count, the error is that no memory is left.
 fn step_after(steps: u64) -> Result<u32, AllocError>
     ensures { IfOk result (λ step. step ≡ steps + 1) }
 {
@@ -50,7 +50,7 @@ fn is_unmet(standing: &Standing) -> bool
     standing.state != DutyState::Met
 }
 
-/// Those that are not met.
+/// Those of the standings whose duties are not met.
 fn unmet_of(mut standings: Vec<Standing>) -> Vec<Standing>
     ensures { result.items ≡ filter is_unmet standings.items }
 {
@@ -73,7 +73,7 @@ fn next_rows(
     Ok(rows)
 }
 
-/// Withdraws a release with those of its duties that are not met.
+/// Withdraws a release, and with it those of its duties that are not met.
 fn withdrew(
     alloc: Global,
     release: &Text,
@@ -114,8 +114,8 @@ fn ended_rows(
     next_rows(alloc, &made, standings)
 }
 
-/// Withdraws a release: its duties that are not met are withdrawn with it, and it holds no choice
-/// any more.
+/// Withdraws a release: its duties that are not met are withdrawn with it, and it no longer holds
+/// any choice.
 pub fn withdraw<S: Store>(
     alloc: Global,
     store: &mut S,

@@ -9,13 +9,13 @@ use Rattle.desk_packages.specs.declared.conclusion.InForce.{InForce}
 use Rattle.desk_packages.specs.declared.conclusion.InForce.TheVariants as read
 use Rattle.desk_access.specs.Reading.{IsNone}
 
--- the conclusion that it is: the package's own field only where that is an expression
+-- the conclusion that this is; the package's own field is one only if it is an expression
 abbrev pub read_claim : Readings → Claim → Option Conclusion
 read_claim w (Office c) = Some c
 read_claim w (Field c) = if w.is_expression c.profile c.text then Some c else None
 read_claim w Nothing = None
 
--- what is read of the conclusion that it is
+-- what was read of this conclusion
 module _ {E : Type 0} (is_of : Profile → List ℕ → E → Type 0) where
   abbrev pub InForceOf : Readings → Option Conclusion → InForce E → Type 0
   InForceOf w conclusion (read.Expression e) = (c : Conclusion) × (conclusion ≡ Some c) × is_of c.profile c.text e

@@ -18,9 +18,9 @@ use std::alloc::{AllocError, Global};
 pub enum Claim {
     /// The office's, which was read when it was recorded.
     Office(Conclusion),
-    /// The package's own field, which is a conclusion where it is an expression.
+    /// The package's own field, which is a conclusion if it is an expression.
     Field(Conclusion),
-    /// Neither stands.
+    /// There is neither.
     Nothing,
 }
 
@@ -73,7 +73,7 @@ pub fn claim_of<S: Store>(store: &mut S, row: &PackageRow) -> Result<Claim, Faul
     }
 }
 
-/// The conclusion in force, read of what may be it.
+/// The conclusion in force, read from what may be it.
 pub fn read_claim<T: Texts>(
     alloc: Global,
     texts: &T,
@@ -116,8 +116,8 @@ pub fn in_force<T: Texts, S: Store>(
     Ok(read_claim(alloc, texts, &claim)?)
 }
 
-/// The conclusion in force for a package: the office's, else its own field, where that is an
-/// expression.
+/// The conclusion in force for a package: the office's or, if there is none, its own field if that
+/// is an expression.
 pub fn conclusion_of<T: Texts, S: Store>(
     alloc: Global,
     texts: &T,

@@ -1,7 +1,7 @@
 //! What is in force for the packages of documents: the office's conclusion or the document's own,
-//! the rule for the adopted form of a term or what stands against it, and which packages a release
-//! ships; and the plans that commands make alike. Commands (`desk_preparing`, `desk_duties`) and
-//! questions (`desk_questions`) look it up here.
+//! the rule for the adopted form of a term or why there is none, and which packages a release
+//! ships; and the plans that commands have in common. Commands (`desk_preparing`, `desk_duties`)
+//! and questions (`desk_questions`) look all this up here.
 #![tactic(auto)]
 
 mod conclusion;

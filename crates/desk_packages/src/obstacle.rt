@@ -12,7 +12,7 @@ use desk_base::Text;
 use desk_model::{Fault, PackageRow, Refusal};
 use std::alloc::{AllocError, Global};
 
-/// What stands against a term of a document: it is a reference without adoption.
+/// Why a term of a document can't be frozen, if it is a reference that isn't adopted.
 pub fn unadopted<T: Texts, S: Store>(
     alloc: Global,
     texts: &T,

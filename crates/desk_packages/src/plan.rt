@@ -1,4 +1,5 @@
-//! What commands come to alike: a refusal, a change, and what stands against work on a release.
+//! Plans that commands have in common, a refusal and a change, and why a release can't be worked
+//! on.
 
 ghost use Rattle.std.specs.Prelude.{◌≡◌};
 ghost use Rattle.desk_model.specs.Answers.{unready};
@@ -12,7 +13,7 @@ pub fn refused(refusal: Refusal) -> Plan
     Plan::Leave(Answer::Refused(refusal))
 }
 
-/// The command is done by a change.
+/// The command makes this change, and is then done.
 pub fn done(change: Change) -> Plan
     ensures { result ≡ Plan.Make Answer.Done change }
 {
@@ -22,7 +23,7 @@ pub fn done(change: Change) -> Plan
     }
 }
 
-/// What stands against work on a release in this state.
+/// Why a release in this state can't be worked on, if it can't.
 pub fn unready(state: ReleaseState) -> Option<Refusal>
     ensures { result ≡ unready state }
 {

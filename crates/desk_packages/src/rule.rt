@@ -14,8 +14,8 @@ use desk_base::Text;
 use desk_model::{Fault, Rule};
 use std::alloc::Global;
 
-/// The form in which a term of a document is looked up: a reference as the licence that it is
-/// adopted as, if it is.
+/// The term for which a rule is looked up: a reference of a document that is adopted is replaced by
+/// the licence as which it is adopted.
 fn adopted<T: Texts, S: Store>(
     alloc: Global,
     texts: &T,

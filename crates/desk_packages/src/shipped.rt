@@ -10,7 +10,7 @@ use desk_model::{AttachedRow, Fault, PackageRow};
 use std::alloc::Global;
 
 #[tactic(auto, using(desk_access::proofs::Chains::same_then_kept, desk_access::proofs::Chains::same_then_same))]
-/// The shipped packages of documents that are attached.
+/// The packages that attached documents ship.
 pub fn shipped_packages<S: Store>(
     alloc: Global,
     store: &mut S,
