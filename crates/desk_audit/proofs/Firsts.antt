@@ -1,4 +1,4 @@
--- The first condition that isn't met: of two lists of conditions one after the other, and of all ten.
+-- The first condition that isn't met: for two lists of conditions one after another, and for all ten.
 use Rattle.std.proofs.Common.{◌≡◌, ◌⊎◌, ℕ, zero, suc, ◌+◌, ◌<◌, ◌≤◌, List, [], ◌∷◌, ◌++◌, Option, Some, None, Result, Ok, Err, IfOk, inl, inr, refl, sym, ap, subst, ◌∙◌, arith}
 use Rattle.std.specs.Prelude.{◌==◌, if◌then◌else◌}
 use Rattle.desk_model.specs.Readings.{Readings}
@@ -8,12 +8,12 @@ use Rattle.desk_snapshot.specs.declared.fault.AuditFault.TheVariants.{BadMeta, B
 use Rattle.desk_snapshot.specs.declared.fault.AuditReport.TheVariants.{Sound, Unsound}
 use Rattle.desk_snapshot.specs.declared.snapshot.Snapshot.{Snapshot}
 
--- what is so of what is found by each reading
+-- what is true of what was found, for each reading
 pub by_each : {A E : Type 0} (P : Readings → A → Type 0) (r : Result A E) → IfOk r (λ found. (w : Readings) → P w found) → (w : Readings) → IfOk r (P w)
 by_each P (Ok found) all w = all w
 by_each P (Err e) all w = tt
 
--- the fault with a number
+-- the fault with this number
 abbrev named : ℕ → AuditFault
 named n =
     if n == 1 then BadMeta else if n == 2 then BadRevision else if n == 3 then BadRule else if n == 4 then BadDocument else if n == 5 then BadPackage
@@ -38,7 +38,7 @@ same f g e = sym (named_back f) ∙ ap named e ∙ named_back g
 abbrev pub all_ten : List AuditFault
 all_ten = BadMeta ∷ BadRevision ∷ BadRule ∷ BadDocument ∷ BadPackage ∷ BadChoice ∷ BadNumber ∷ BadDuty ∷ BadChange ∷ BadState ∷ []
 
--- these are numbered from n on
+-- these have the numbers n, n + 1 and so on
 abbrev Follow : ℕ → List AuditFault → Type 0
 Follow n [] = n ≡ 11
 Follow n (g ∷ gs) = (audit_number g ≡ n) × Follow (n + 1) gs
@@ -80,22 +80,22 @@ in_turn : Follow 1 all_ten
 in_turn = (refl, (refl, (refl, (refl, (refl, (refl, (refl, (refl, (refl, (refl, refl))))))))))
 
 module _ (w : Readings) (s : Snapshot) where
-  -- all are met of some, so it is the first of the others
+  -- the first conditions are all met, so it is the first of the others
   pub onward : (gs hs : List AuditFault) (found : Option AuditFault) → IsFirst w s gs None → IsFirst w s hs found → IsFirst w s (gs ++ hs) found
   onward [] hs found met first = first
   onward (g ∷ gs) hs found met first = elim met [ inl clash ↦ cc | inr more ↦ inr (more.0, onward gs hs found more.1 first) ]
 
-  -- the first of some is the first of these and others behind them
+  -- the first of some conditions is also the first of these and others after them
   pub before : (gs hs : List AuditFault) (f : AuditFault) → IsFirst w s gs (Some f) → IsFirst w s (gs ++ hs) (Some f)
   before [] hs f clash = absurd clash
   before (g ∷ gs) hs f first = elim first [ inl it ↦ inl it | inr more ↦ inr (more.0, before gs hs f more.1) ]
 
-  -- the same of a call
+  -- the same for a call
   pub onward_ok : {E : Type 0} (gs hs : List AuditFault) (r : Result (Option AuditFault) E) → IsFirst w s gs None → IfOk r (IsFirst w s hs) → IfOk r (IsFirst w s (gs ++ hs))
   onward_ok gs hs (Ok found) met first = onward gs hs found met first
   onward_ok gs hs (Err e) met first = tt
 
-  -- none is the first, so all are met
+  -- there is no first one, so all are met
   none : (n : ℕ) (gs : List AuditFault) → Follow n gs → IsFirst w s gs None → (f : AuditFault) → n ≤ audit_number f → Meets w s f
   none n [] last met f from = absurd (let top = most f in omega arith)
   none n (g ∷ gs) each met f from =
@@ -107,7 +107,7 @@ module _ (w : Readings) (s : Snapshot) where
         ]
       ]
 
-  -- those before the first are met
+  -- the conditions before the first one are met
   some : (n : ℕ) (gs : List AuditFault) (f : AuditFault) → Follow n gs → IsFirst w s gs (Some f) → (Meets w s f → ⊥) × ((g : AuditFault) → n ≤ audit_number g → audit_number g < audit_number f → Meets w s g)
   some n [] f last clash = absurd clash
   some n (h ∷ gs) f each first =
@@ -125,7 +125,7 @@ module _ (w : Readings) (s : Snapshot) where
       is_some : (h f : AuditFault) → Some f ≡ Some h → h ≡ f
       is_some h f e = cc
 
-  -- the report by the first of all ten
+  -- the report, from the first of all ten
   pub sound : IsFirst w s all_ten None → IsReport w s Sound
   sound met f = none 1 all_ten in_turn met f (least f)
 

@@ -1,4 +1,4 @@
--- Changes as they may be written.
+-- Changes that have the right form.
 use Rattle.std.proofs.Common.{◌≡◌, true, Some, refl, ap, ◌∙◌}
 use Rattle.std.specs.Prelude.{◌&&◌, false}
 use Rattle.std.specs.Option.{option_map_or}

@@ -1,4 +1,4 @@
--- Rows one by one against the conditions of an audit.
+-- Judges rows one by one by the conditions of an audit.
 use Rattle.std.proofs.Common.{◌≡◌, ℕ, ◌+◌, Bool, true, false, List, [], ◌∷◌, map, filter, Some, None, refl, sym}
 use Rattle.std.specs.Prelude.{ℤ, pos, ◌&&◌}
 use Rattle.std.specs.List.{list_all, AllByRecursion}
@@ -33,7 +33,7 @@ to_count n (row ∷ rows) h =
     both (int_eq row.number (pos n)) (count_from (n + 1) rows) (number_same row.number (pos n) h.0) (to_count (n + 1) rows h.1)
 
 module _ (s : Snapshot) (state : List ℕ) where
-  -- what a run of changes is behind one of them
+  -- what a run of changes is after one of them
   record Leads (before : StoredChange) (n : ℕ) (rows : List StoredChange) : Type 0 where
     steps : AreFrom n (map (λ row. row.step) rows)
     formed : list_all is_formed rows ≡ true

@@ -1,4 +1,4 @@
--- What duties are owed for: in one order, and as often.
+-- What duties are owed for: in one order, and equally often.
 use Rattle.std.proofs.Common.{◌≡◌, ℕ, suc, ◌<◌, Bool, true, false, List, [], ◌∷◌, map, length, refl, sym, ap, ◌∙◌, arith, subst, Ordering, Less, Equal, Greater}
 use Rattle.std.specs.Prelude.{ℤ, not, ◌&&◌, IsPermutation, MatchBool}
 use Rattle.std.specs.Cmp.{signed_Decides}
@@ -17,7 +17,7 @@ use Rattle.desk_audit.specs.Owing.{are_alike, owed_in, owed_order, owed_total}
 use Rattle.desk_audit.specs.declared.owed.OwedFor.{OwedFor}
 use Rattle.desk_sorted.proofs.Sorting.{ascends-sorted, sorted_once}
 
--- what ties is the same
+-- items that tie are the same
 
 then_left : (o p : Ordering) → ordering_then o p ≡ Equal → o ≡ Equal
 then_left Less p e = cc
@@ -56,7 +56,7 @@ same_owed x y e =
     let rule = same_text x.rule y.rule e5 in
     λ i. record { release = release i; document = document i; package_id = package_id i; term = term i; code = code i; rule = rule i }
 
--- alike one by one, and the same
+-- items that are equal at each place are the same
 
 pub alike_same : (xs ys : List OwedFor) → are_alike xs ys ≡ true → map owed_in xs ≡ map owed_in ys
 alike_same [] [] e = refl
@@ -89,7 +89,7 @@ no_more : (b : Bool) → (b && false) ≡ false
 no_more true = refl
 no_more false = refl
 
--- lists of two lengths
+-- lists of different lengths
 pub uneven : (xs ys : List OwedFor) → (length xs ≡ length ys → ⊥) → are_alike xs ys ≡ false
 uneven [] [] h = absurd (h refl)
 uneven [] (y ∷ ys) h = refl
@@ -98,7 +98,7 @@ uneven (x ∷ xs) (y ∷ ys) h =
     ap (λ b. is_eq (owed_order (owed_in x) (owed_in y)) && b) (uneven xs ys (λ e. h (ap suc e)))
     ∙ no_more (is_eq (owed_order (owed_in x) (owed_in y)))
 
--- a sorted list of what is owed ascends
+-- a sorted list of what is owed is in order
 
 over-mapped : (x : OwedFor) (xs : List OwedFor)
     → over (λ x y. is_lt (owed_order (owed_in x) (owed_in y))) x xs ≡ over (below_by owed_order) (owed_in x) (map owed_in xs)
@@ -138,6 +138,6 @@ module _ (owed told : List Owed) (xs xs′ ys ys′ : List OwedFor)
       (owed_ascends xs′ up) (owed_ascends ys′ down) between))
       (sym e)
 
--- more are owed than there are duties
+-- more is owed than there are duties
 pub too_many : {A : Type 0} (owed told : List A) (n : ℕ) → n < length owed → n ≡ length told → IsPermutation owed told → ⊥
 too_many owed told n more is same = omega (arith, length_permutation owed told same)

@@ -1,4 +1,4 @@
--- Rules in the order of their spellings, of which the first is the first that came.
+-- Rules in the order of their spellings; the first of each is the first in the table.
 use Rattle.std.proofs.Common.{◌≡◌, ℕ, Bool, true, false, cond, List, [], ◌∷◌, map, filter, slice_get, Option, Some, None, refl, sym, ap, ◌∙◌, Ordering, Less, Equal, Greater}
 use Rattle.std.specs.Prelude.{ℤ, find, not, ◌&&◌, ◌||◌, IsPermutation}
 use Rattle.std.specs.List.{list_any}

@@ -1,4 +1,4 @@
--- What duties are owed for, in an order.
+-- What duties are owed for, in order.
 use Rattle.std.specs.Prelude.{ℕ, ◌&&◌, Bool, true, false, List, [], ◌∷◌, map}
 use Rattle.std.specs.Borrow.{Bor}
 use Rattle.std.specs.Ordering.{nat_cmp, int_cmp, is_eq, on, then_cmp}
@@ -16,7 +16,7 @@ abbrev pub owed_in : OwedFor → Owed
 owed_in (Code row code) = owed_for row.now code.now
 owed_in (Duty row) = owed_of row.now
 
--- and by texts that are borrowed
+-- the same from borrowed texts
 abbrev pub reason_in : Reason → Owed
 reason_in x = record {
   release = x.release.now;
@@ -39,7 +39,7 @@ owed_order =
     then_cmp (by_text (λ x. x.release)) (then_cmp (on (λ x. x.document) int_cmp) (then_cmp (by_text (λ x. x.package_id))
     (then_cmp (by_text (λ x. x.term)) (then_cmp (by_text (λ x. x.code)) (by_text (λ x. x.rule))))))
 
--- two lists are alike one by one
+-- two lists have equal items at each place
 abbrev pub are_alike : List OwedFor → List OwedFor → Bool
 are_alike [] [] = true
 are_alike (x ∷ xs) (y ∷ ys) = is_eq (owed_order (owed_in x) (owed_in y)) && are_alike xs ys

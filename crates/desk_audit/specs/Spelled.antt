@@ -32,7 +32,7 @@ spelled_order = on spelling spelling_cmp
 pub spelled_total : IsTotalOrder spelled_order
 spelled_total = on_total spelling spelling_total
 
--- on which side of a revision, a form and a spelling a rule stands
+-- on which side of a revision, a form and a spelling a rule is
 abbrev pub spelled_side : ℤ → List ℕ → List ℕ → RuleAt → Ordering
 spelled_side revision form spelled at =
     ordering_then (int_cmp at.rule.now.revision revision) (ordering_then (slice_cmp nat_cmp at.rule.now.form form) (slice_cmp nat_cmp at.rule.now.spelled spelled))
@@ -40,7 +40,7 @@ spelled_side revision form spelled at =
 abbrev pub is_spelled : ℤ → List ℕ → List ℕ → RuleAt → Bool
 is_spelled revision form spelled at = is_rule_spelled revision form spelled at.rule.now
 
--- of each spelling the first rule among some is the first of a table
+-- the first rule of each spelling among some is the first of a table
 abbrev pub FindsAs : List RuleAt → List StoredRule → Type 0
 FindsAs sorted rules =
     (revision : ℤ) (form spelled : List ℕ)

@@ -8,7 +8,7 @@ use Rattle.desk_snapshot.specs.declared.rows.StoredChange.{StoredChange}
 use Rattle.desk_snapshot.specs.declared.rows.StoredDuty.{StoredDuty}
 use Rattle.desk_snapshot.specs.declared.snapshot.Snapshot.{Snapshot}
 
--- the duties have the numbers from n on
+-- the duties have the numbers n, n + 1 and so on
 abbrev pub count_from : ℕ → List StoredDuty → Bool
 count_from n [] = true
 count_from n (row ∷ rows) = int_eq row.number (pos n) && count_from (n + 1) rows
@@ -18,11 +18,11 @@ abbrev pub follows : Snapshot → Option StoredChange → StoredChange → Bool
 follows s None row = is_raising row
 follows s (Some before) row = goes_on s before row
 
--- a change as it may stand at a step, behind another
+-- a change that may be at a step, after another
 abbrev pub is_next : Snapshot → Option StoredChange → ℕ → StoredChange → Bool
 is_next s before step row = int_eq row.step (pos step) && (is_formed row && follows s before row)
 
--- changes from a step on, behind another, the last of which leaves the duty in a state
+-- changes from a step on, after another; the last of all leaves the duty in this state
 abbrev pub lead : Snapshot → List ℕ → Option StoredChange → ℕ → List StoredChange → Bool
 lead s state before step [] = option_map_or (leaves state) before false
 lead s state before step (row ∷ rows) = is_next s before step row && lead s state (Some row) (step + 1) rows

@@ -17,7 +17,7 @@ use crate::numbers::is_number;
 use crate::words::word_named;
 use desk_snapshot::{AuditFault, ByDuty, ByStep, Snapshot, StoredChange, StoredDuty, StoredWaiver};
 
-/// The last day of a change, if that is a waiver that ends.
+/// The last day of a change, if it is a waiver that ends.
 fn last_day_at<'a>(snapshot: &'a Snapshot, row: &StoredChange) -> Option<&'a str>
     ensures { option_copied result ≡ last_day_at snapshot.now row.now }
 {
@@ -55,7 +55,7 @@ fn follows(snapshot: &Snapshot, before: Option<&StoredChange>, row: &StoredChang
     }
 }
 
-/// Whether a change may stand at a step, behind the one before it.
+/// Whether a change may be at a step, after the one before it.
 fn is_next(
     snapshot: &Snapshot,
     before: Option<&StoredChange>,
@@ -169,8 +169,8 @@ fn are_changes(snapshot: &Snapshot) -> bool
     are_waived(snapshot)
 }
 
-/// Tells `BadChange`, unless each duty's changes are moves that go on from each other and lead to
-/// its state, there are no others, and waivers that end stand at waived steps alone.
+/// Returns `BadChange`, unless each duty's changes are moves that go on from each other and lead to
+/// its state, there are no others, and waivers that end are only at waived steps.
 pub fn change_fault(snapshot: &Snapshot) -> Option<AuditFault>
     ensures { (w : Readings) → IsFirst w snapshot.now (BadChange ∷ []) result }
 {

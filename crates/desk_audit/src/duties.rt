@@ -1,4 +1,4 @@
-//! The duties against what the frozen terms owe.
+//! Compares the duties with what the frozen terms owe.
 
 ghost use Rattle.std.specs.Prelude.{◌≡◌, ◌∷◌, [], MatchBool, IfOk, IsPermutation, map, flat_map};
 ghost use Rattle.std.specs.List.{list_all};
@@ -48,11 +48,11 @@ fn are_duties(alloc: Global, snapshot: &Snapshot) -> Result<bool, AllocError>
     are_owed(alloc, &ruling)
 }
 
-/// Tells `BadDuty`, unless the duties of each release are exactly those that its frozen terms owe,
-/// each by the rule of the release's revision and form. A frozen term is of a release that was
-/// frozen, and its rule is there.
+/// Returns `BadDuty`, unless the duties of each release are exactly those that its frozen terms
+/// owe, each by the rule of the release's revision and form, each frozen term is of a release that
+/// was frozen, and its rule exists.
 ///
-/// Fails where memory is refused.
+/// The only error is that no memory is left.
 pub fn duty_fault(alloc: Global, snapshot: &Snapshot) -> Result<Option<AuditFault>, AllocError>
     ensures { IfOk result (λ found. (w : Readings) → IsFirst w snapshot.now (BadDuty ∷ []) found) }
 {

@@ -1,9 +1,9 @@
-//! The audit of a desk's tables: which of ten conditions (`desk_snapshot`) their rows don't meet
-//! first.
+//! The audit of a desk's tables: the first of ten conditions (`desk_snapshot`) that their rows
+//! don't meet.
 //!
-//! The conditions for which texts are read are judged by `desk_audit_texts`. Those of duties are
-//! judged here: their numbers, what they are owed for, their changes and their states. All are put in
-//! their order.
+//! `desk_audit_texts` judges the conditions for which texts are read. Those of duties are judged
+//! here: their numbers, what they are owed for, their changes and their states. All ten are put in
+//! order here.
 #![tactic(auto)]
 
 mod changes;
@@ -140,7 +140,7 @@ fn report_on(alloc: Global, snapshot: &Snapshot) -> Result<AuditReport, AllocErr
     }
 }
 
-/// The report on a snapshot: sound where the ten conditions are met, else the first that isn't.
+/// The report on a snapshot: sound if the ten conditions are met, or else the first that isn't.
 /// Texts are read by their standards.
 pub fn judge(alloc: Global, snapshot: Snapshot) -> Result<AuditReport, AllocError>
     ensures { (w : Readings) → AreRight w → IfOk result (IsReport w snapshot) }

@@ -23,7 +23,7 @@ pub(crate) fn is_before(day: &str, other: &str) -> bool
     day.cmp(other).is_lt()
 }
 
-/// Whether the text may stand at a move: 1 to 1,024 bytes without control bytes.
+/// Whether the text may go with a move: 1 to 1,024 bytes without control bytes.
 fn is_note(text: &str) -> bool
     ensures { result ≡ is_note text.now }
 {
@@ -36,8 +36,8 @@ fn is_note(text: &str) -> bool
     are_shown(text.as_bytes())
 }
 
-/// Whether a move goes from a state: the end of a waiver where the waiver's last day is before the
-/// day of the end.
+/// Whether a move is possible from a state. A waiver can be ended if its last day is before the day
+/// of the end.
 pub(crate) fn may_move(from: DutyState, end: Option<&str>, day: &str, word: Word) -> bool
     ensures { result ≡ may_move from (option_copied end.entry) day.now word }
 {
@@ -72,7 +72,7 @@ fn has_room(word: Word, row: &StoredChange) -> bool
     }
 }
 
-/// Whether a change may be written so: a day that exists, a word, its text, and a step within the
+/// Whether a change has the right form: a day that exists, a word, its text, and a step within the
 /// limit.
 pub(crate) fn is_formed(row: &StoredChange) -> bool
     ensures { result ≡ is_formed row.now }
@@ -102,7 +102,7 @@ pub(crate) fn leaves(state: &str, row: &StoredChange) -> bool
     word_named(row.word.as_str()).is_some_and(|word| word.state_after().name() == state)
 }
 
-/// Whether a waiver with a last day may stand at a change.
+/// Whether a waiver with a last day may be at a change.
 pub(crate) fn is_waiver_of(row: &StoredChange, last_day: &str) -> bool
     ensures { result ≡ is_waiver_of row.now last_day.now }
 {

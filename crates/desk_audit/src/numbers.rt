@@ -22,7 +22,7 @@ pub(crate) fn is_number(number: i64, count: usize) -> bool
     }
 }
 
-/// Whether the duties are numbered from 1 on.
+/// Whether the duties have the numbers 1, 2 and so on.
 fn count_from_one(duties: &[StoredDuty]) -> bool
     ensures { result ≡ count_from 1 duties.now }
 {
@@ -34,7 +34,7 @@ fn count_from_one(duties: &[StoredDuty]) -> bool
     true
 }
 
-/// Whether the release with a name was frozen.
+/// Whether the release with this name was frozen.
 pub(crate) fn was_frozen(snapshot: &Snapshot, name: &str) -> bool
     ensures { result ≡ was_frozen snapshot.now name.now }
 {
@@ -66,8 +66,8 @@ fn are_numbered(snapshot: &Snapshot) -> bool
     were_frozen(snapshot)
 }
 
-/// Tells `BadNumber`, unless the duties are numbered from 1 on, at most 100,000, and each is of a
-/// release that was frozen.
+/// Returns `BadNumber`, unless the duties have the numbers 1, 2 and so on, there are at most
+/// 100,000, and each is of a release that was frozen.
 pub fn number_fault(snapshot: &Snapshot) -> Option<AuditFault>
     ensures { (w : Readings) → IsFirst w snapshot.now (BadNumber ∷ []) result }
 {

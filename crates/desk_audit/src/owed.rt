@@ -19,7 +19,7 @@ pub(crate) enum OwedFor<'a> {
     Duty(&'a StoredDuty),
 }
 
-/// The same, in full.
+/// The same, spelled out.
 #[derive(Clone, Copy)]
 struct Reason<'a> {
     release: &'a str,
@@ -96,7 +96,7 @@ fn parts_of(alloc: Global, text: &str) -> Result<Vec<&str>, AllocError>
     text.split(' ').collect(alloc)
 }
 
-/// Appends what a frozen term owes by some codes. Those without a byte are none.
+/// Appends what a frozen term owes by some codes, leaving out empty ones.
 fn push_codes<'a>(
     owed: &mut Vec<OwedFor<'a>>,
     row: &'a StoredFrozen,
@@ -130,7 +130,7 @@ fn push_owed<'a>(
     push_codes(owed, row, &codes)
 }
 
-/// What the frozen terms owe, or nothing where that is more than so many.
+/// What the frozen terms owe, or `None` if that is more than `most`.
 pub(crate) fn owed_by_all<'a>(
     alloc: Global,
     ruling: &Ruling<'a>,
@@ -174,7 +174,7 @@ pub(crate) fn sorted(mut owed: Vec<OwedFor<'_>>) -> Vec<OwedFor<'_>>
     owed
 }
 
-/// Whether two lists are alike one by one.
+/// Whether two lists have equal items at each place.
 pub(crate) fn are_alike(owed: &[OwedFor<'_>], duties: &[OwedFor<'_>]) -> bool
     ensures { result ≡ are_alike owed.now duties.now }
 {

@@ -31,7 +31,7 @@ impl Keyed for RuleAt<'_> {
     }
 }
 
-/// The rules of a revision and a form that are spelled so.
+/// The rules of a revision and a form with this spelling.
 #[derive(Clone, Copy)]
 struct BySpelling<'a> {
     revision: i64,
@@ -69,8 +69,8 @@ fn rules_at(alloc: Global, rules: &[StoredRule]) -> Result<Vec<RuleAt<'_>>, Allo
     Ok(places)
 }
 
-/// The rules in the order of revisions, forms and spellings. Of rules that are alike in these the
-/// first stays the first.
+/// The rules in the order of revisions, forms and spellings. Among rules that are equal in these,
+/// the first stays the first.
 fn sorted_rules(alloc: Global, rules: &[StoredRule]) -> Result<Sorted<RuleAt<'_>>, AllocError>
     ensures { IfOk result (λ sorted. FindsAs sorted.rows.items rules.now) }
 {
@@ -110,8 +110,8 @@ impl<'a> Ruling<'a> {
         }
     }
 
-    /// The rule of a frozen term: of its release's revision and form, and spelled as the term's
-    /// rule.
+    /// The rule for a frozen term: the one of its release's revision and form that is spelled like
+    /// the term's rule.
     pub(crate) fn rule_for(&self, row: &StoredFrozen) -> Option<&'a StoredRule>
         ensures { option_copied result ≡ rule_for self.now.snapshot.now row.now }
     {
@@ -122,7 +122,7 @@ impl<'a> Ruling<'a> {
         }
     }
 
-    /// Whether a frozen term is of a release that was frozen, and its rule is there.
+    /// Whether a frozen term is of a release that was frozen, and its rule exists.
     pub(crate) fn is_ruled(&self, row: &StoredFrozen) -> bool
         ensures { result ≡ is_ruled self.now.snapshot.now row.now }
     {

@@ -13,7 +13,7 @@ use crate::words::{is_in_state, is_stated, is_withdrawn};
 use desk_model::DutyState;
 use desk_snapshot::{AuditFault, ByName, Snapshot, StoredDuty, StoredRelease};
 
-/// Whether a duty may stand so under its release.
+/// Whether a duty may be in its state, given its release.
 fn stands_as(release: &StoredRelease, duty: &StoredDuty) -> bool
     ensures { result ≡ stands_as release.now duty.now }
 {
@@ -24,7 +24,7 @@ fn stands_as(release: &StoredRelease, duty: &StoredDuty) -> bool
     }
 }
 
-/// Whether a duty may stand so under its release, if the release is there.
+/// Whether a duty may be in its state, given its release, if that exists.
 fn stands(snapshot: &Snapshot, duty: &StoredDuty) -> bool
     ensures { result ≡ option_map_or (λ release. stands_as release duty.now)
         (find (is_release duty.now.release) snapshot.now.releases) true }
@@ -57,7 +57,7 @@ fn are_states(snapshot: &Snapshot) -> bool
     are_stated(snapshot) && all_stand(snapshot)
 }
 
-/// Tells `BadState`, unless each release is open, frozen or withdrawn, a withdrawn release has no
+/// Returns `BadState`, unless each release is open, frozen or withdrawn, a withdrawn release has no
 /// open or waived duty, and any other release no withdrawn one.
 pub fn state_fault(snapshot: &Snapshot) -> Option<AuditFault>
     ensures { (w : Readings) → IsFirst w snapshot.now (BadState ∷ []) result }

@@ -7,7 +7,7 @@ ghost use Rattle.desk_snapshot.specs.Rows.{release_state_named, word_named};
 use desk_model::{DutyState, ReleaseState, Word};
 use desk_snapshot::{StoredDuty, StoredRelease};
 
-/// The word that is printed so.
+/// The word with this name, if there is one.
 pub(crate) fn word_named(text: &str) -> Option<Word>
     ensures { result ≡ word_named text.now }
 {
@@ -22,7 +22,7 @@ pub(crate) fn word_named(text: &str) -> Option<Word>
     }
 }
 
-/// The state that is printed so.
+/// The state with this name, if there is one.
 fn release_state_named(text: &str) -> Option<ReleaseState>
     ensures { result ≡ release_state_named text.now }
 {
@@ -34,7 +34,7 @@ fn release_state_named(text: &str) -> Option<ReleaseState>
     }
 }
 
-/// Whether a release stands in one of the three states.
+/// Whether a release is in one of the three states.
 pub(crate) fn is_stated(release: &StoredRelease) -> bool
     ensures { result ≡ is_some (release_state_named release.now.state) }
 {

@@ -1,4 +1,4 @@
--- Tests that hold together, and texts that are the same.
+-- Tests that pass together, and texts that are the same.
 use Rattle.std.proofs.Common.{◌≡◌, ℕ, ◌≤◌, true, arith}
 use Rattle.std.specs.Prelude.{nat_le}
 use Rattle.std.proofs.lemmas.Bool.Decides.{nat_tests}

@@ -1,5 +1,5 @@
--- The rows of each recorded history can be counted: its releases stand at the places from 1 to their number, and its duties are numbered
--- from 1 on, at most 100,000, each of a release that stands.
+-- The rows of each recorded history can be counted: its releases have the places from 1 to their number, and
+-- its duties the numbers 1, 2 and so on; there are at most 100,000, each of a release that exists.
 use Rattle.std.proofs.Common.{◌≡◌, ℕ, suc, ◌+◌, ◌≤◌, Bool, true, false, List, [], ◌∷◌, length, map, Option, Some, None, refl, sym, ap, ◌∙◌, arith, inl, inr, subst, length-append}
 use Rattle.std.specs.Prelude.{if◌then◌else◌, ◌&&◌, ◌==◌, nat_le, nat_lt, is_some, unwrap_or, IsTrue}
 use Rattle.std.specs.List.{enumerate_from}
@@ -38,7 +38,7 @@ use Rattle.desk_tally.proofs.Once.{releases-once}
 use Rattle.desk_base.proofs.Texts.{text_tells}
 use Rattle.desk_base.proofs.Bools.{both}
 
--- A freeze is recorded only of a release that was opened, and where all duties are few enough.
+-- A freeze is recorded only for a release that was opened, and if there is room for all duties.
 record IsFit (form : Option (List ℕ)) (old new : ℕ) : Type 0 where
   opened : is_some form ≡ true
   few : old + new ≤ most.duties
@@ -88,7 +88,7 @@ of_opened w (Freeze r day ∷ h) ok d m =
 of_opened w (OpenRelease r f ∷ h) ok d m = still (form_given d.release (OpenRelease r f)) (form_of h d.release) (of_opened w h ok.1 d m)
 of_opened w (_ ∷ h) ok d m = of_opened w h ok.1 d m
 
--- one that was opened is at a place from 1 to their number
+-- a release that was opened has a place from 1 to their number
 at_place : (h : List Command) (r : List ℕ) → is_some (form_of h r) ≡ true → is_within (length (opened h)) (place_in (opened h) r) ≡ true
 at_place [] r e = cc
 at_place (OpenRelease n f ∷ h) r e =

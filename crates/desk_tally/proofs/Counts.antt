@@ -23,7 +23,7 @@ count-cons test x xs = sum_by-cons (λ y. cond (test y) 1 0) x xs
 pub same_totals : (x y : Totals) → x.raised ≡ y.raised → x.still_open ≡ y.still_open → x.met ≡ y.met → x.waived ≡ y.waived → x.withdrawn ≡ y.withdrawn → x ≡ y
 same_totals x y a b c d e = λ i. record { raised = a i; still_open = b i; met = c i; waived = d i; withdrawn = e i }
 
--- one duty goes to a state
+-- one duty is put into a state
 count-state : (test : Stand → Bool) (i : ℕ) (state : DutyState) (all : List Stand) (stand : Stand) → slice_get all i ≡ Some stand
     → count_by test (at_state i state all) + one_if (test stand) ≡ count_by test all + one_if (test (record stand { state = state }))
 count-state test i state [] stand at = cc
@@ -36,7 +36,7 @@ count-state test zero state (x ∷ xs) stand at =
 count-state test (suc i) state (x ∷ xs) stand at =
     omega (arith, count-cons test x (at_state i state xs), count-cons test x xs, count-state test i state xs stand at)
 
--- a duty that stands there is counted
+-- a duty with this place and state is counted
 counted_one : (test : Stand → Bool) (i : ℕ) (all : List Stand) (stand : Stand) → slice_get all i ≡ Some stand → test stand ≡ true → 1 ≤ count_by test all
 counted_one test i [] stand at passes = cc
 counted_one test zero (x ∷ xs) stand at passes =
@@ -62,7 +62,7 @@ in_same place test stand e = ap (λ b. b && test stand.state) e
 abbrev none : Totals
 none = record { raised = 0; still_open = 0; met = 0; waived = 0; withdrawn = 0 }
 
--- no duty is of a release beyond the last
+-- no duty is of a release after the last
 totals-beyond : (n place : ℕ) (all : List Stand) → are_placed n all ≡ true → n < place → totals_at place all ≡ none
 totals-beyond n place all placed over =
     same_totals (totals_at place all) none
@@ -72,13 +72,13 @@ totals-beyond n place all placed over =
     (none-of n place (is_in place is_waived) all (in_other place is_waived) placed over)
     (none-of n place (is_in place is_withdrawn) all (in_other place is_withdrawn) placed over)
 
--- duties more
+-- more duties
 count-more : (test : Stand → Bool) (all : List Stand) (n : ℕ) (stand : Stand) → count_by test (all ++ replicate n stand) ≡ count_by test all + n * one_if (test stand)
 count-more test all n stand =
     sum_by-append (λ y. cond (test y) 1 0) all (replicate n stand)
     ∙ ap (λ k. count_by test all + k) (sum_by-replicate (λ y. cond (test y) 1 0) n stand)
 
--- at an index of a list that was changed at another
+-- what is at an index of a list that was changed at another index
 pub set_cases : {A : Type 0} (xs : List A) (i j : ℕ) (y z : A) → slice_get (slice_set xs i y) j ≡ Some z → ((i ≡ j) × (y ≡ z)) ⊎ ((i ≢ j) × (slice_get xs j ≡ Some z))
 set_cases [] i j y z e = cc
 set_cases (x ∷ xs) zero zero y z e = inl (refl, cc)
@@ -90,7 +90,7 @@ set_cases (x ∷ xs) (suc i) (suc j) y z e =
       | inr other ↦ inr (let differ : suc i ≢ suc j = λ f. other.0 (let g : i ≡ j = omega (arith, f) in g) in (differ, other.1))
     ]
 
--- at an index of a list that was made longer
+-- what is at an index of a list to which an item was added
 pub push_cases : {A : Type 0} (xs : List A) (i : ℕ) (y z : A) → slice_get (xs ++ y ∷ []) i ≡ Some z → (slice_get xs i ≡ Some z) ⊎ ((i ≡ length xs) × (y ≡ z))
 push_cases [] zero y z e = inr (refl, cc)
 push_cases [] (suc i) y z e = cc
@@ -183,7 +183,7 @@ placed-raised count n place all within placed =
     each zero = refl
     each (suc k) = both (is_within count place) (are_placed count (replicate k (open_at place))) within (each k)
 
--- a release has no more duties than there are
+-- a release has no more duties than there are in all
 pub raised-room : (all : List Stand) (tallies : List Tally) (i : ℕ) (tally : Tally) → AreTallied all tallies → slice_get tallies i ≡ Some tally → tally.raised ≤ length all
 raised-room all tallies i tally tallied at =
     let is : tally.raised ≡ count_by (is_of (i + 1)) all = ap (λ (t : Totals). t.raised) (tallied i tally at) in
@@ -254,7 +254,7 @@ length-state i state [] = refl
 length-state zero state (x ∷ xs) = refl
 length-state (suc i) state (x ∷ xs) = ap suc (length-state i state xs)
 
--- where a duty stands, one at least is counted
+-- the count for a duty's release and state is at least one
 pub stands_some : (all : List Stand) (tallies : List Tally) (i k : ℕ) (stand : Stand) (tally : Tally) → AreTallied all tallies → slice_get all i ≡ Some stand → stand.place ≡ k + 1 → slice_get tallies k ≡ Some tally
     → 1 ≤ number_of stand.state (totals_in tally)
 stands_some all tallies i k stand tally tallied at of had = some stand.state refl
@@ -274,7 +274,7 @@ stands_some all tallies i k stand tally tallied at of had = some stand.state ref
     some Waived e = let c = one is_waived (ap is_waived e) in let n = ap (λ (t : Totals). t.waived) numbers in omega (arith, c, n)
     some Withdrawn e = let c = one is_withdrawn (ap is_withdrawn e) in let n = ap (λ (t : Totals). t.withdrawn) numbers in omega (arith, c, n)
 
--- the item at an index, as it was read
+-- the item at an index, as it is read
 pub get_some : {A : Type 0} (xs : List A) (i : ℕ) (x : A) → i < length xs → x ≡ get_or xs i x → slice_get xs i ≡ Some x
 get_some [] i x lt e = absurd (omega (arith, lt))
 get_some (y ∷ ys) zero x lt e = ap Some (sym e)
@@ -301,7 +301,7 @@ duty_at count [] k d within lt = absurd (omega (arith, lt))
 duty_at count (shift ∷ shifts) zero d within lt = and_left (is_within count shift.duty) (are_duties count shifts) within
 duty_at count (shift ∷ shifts) (suc k) d within lt = duty_at count shifts k d (and_right (is_within count shift.duty) (are_duties count shifts) within) (omega (arith, lt))
 
--- one shift more, before those that were made
+-- one more shift, before those that were made
 pub shifted_next : (shifts : List Shift) (k left : ℕ) (d : Shift) (old before after : List Stand) → k < length shifts → left ≡ suc k → before ≡ shifted (drop left shifts) old
     → after ≡ at_state ((get_or shifts k d).duty - 1) (get_or shifts k d).state before → after ≡ shifted (drop k shifts) old
 shifted_next shifts k left d old before after lt next was is =
@@ -318,7 +318,7 @@ pub placed-shifted : (n : ℕ) (shifts : List Shift) (all : List Stand) → are_
 placed-shifted n [] all = refl
 placed-shifted n (shift ∷ shifts) all = placed-state n (shift.duty - 1) shift.state (shifted shifts all) ∙ placed-shifted n shifts all
 
--- one duty more, which stands in any state
+-- one more duty, in any state
 pub at_last : (all : List Stand) (stand : Stand) → at_state (length all) stand.state (all ++ replicate 1 (open_at stand.place)) ≡ all ++ stand ∷ []
 at_last [] stand = refl
 at_last (x ∷ xs) stand = ap (λ (ss : List Stand). x ∷ ss) (at_last xs stand)
@@ -327,7 +327,7 @@ pub get_last : (all : List Stand) (stand : Stand) → slice_get (all ++ replicat
 get_last [] stand = refl
 get_last (x ∷ xs) stand = get_last xs stand
 
--- an item that is there is read alike, whatever stands for one that isn't
+-- an item that exists is read in the same way, whatever default is given
 pub read : {A : Type 0} (xs : List A) (i : ℕ) (d : A) → i < length xs → get_or xs i d ≡ get_or xs i (get_or xs i d)
 read [] i d lt = absurd (omega (arith, lt))
 read (x ∷ xs) zero d lt = refl

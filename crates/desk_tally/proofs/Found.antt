@@ -1,4 +1,4 @@
--- What is counted at the place of a release is its duties.
+-- What is counted at the place of a release are its duties.
 use Rattle.std.proofs.Common.{◌≡◌, ◌≢◌, ℕ, ◌+◌, Bool, true, false, cond, List, [], ◌∷◌, length, map, Option, Some, None, refl, sym, ap, ◌∙◌, arith, inl, inr}
 use Rattle.std.specs.Prelude.{count_by, filter, ◌&&◌, ◌==◌, unwrap_or}
 use Rattle.std.specs.Str.{bytes_eq}
@@ -17,7 +17,7 @@ use Rattle.desk_tally.specs.declared.stand.Stand.{Stand}
 use Rattle.desk_tally.proofs.Counts.{count-cons, same_totals}
 use Rattle.desk_base.proofs.Texts.{text_tells}
 
--- a duty stands at the place of a release where it is that release's
+-- a duty has the place of a release exactly if it is a duty of that release
 same_place : (releases : List ReleaseRow) → ArePlaces releases → (name other : List ℕ) (place : ℕ) → place_found releases name ≡ Some place → (unwrap_or (place_found releases other) 0 == place) ≡ bytes_eq other name
 same_place releases places name other place found =
     elim (text_tells other name) [
@@ -35,7 +35,7 @@ same_place releases places name other place found =
     elsewhere None at fails differ = not_same 0 (λ e. absurd (omega (arith, e, (places.within name place found).0))) ∙ sym fails
     elsewhere (Some q) at fails differ = not_same q (λ e. differ (places.apart other name place (at ∙ ap Some e) found)) ∙ sym fails
 
--- counted where they stand, or among the release's duties
+-- the count by place and state, and the count among the release's duties
 count-found : (releases : List ReleaseRow) (name : List ℕ) (place : ℕ) → ((other : List ℕ) → (unwrap_or (place_found releases other) 0 == place) ≡ bytes_eq other name) → (test : DutyState → Bool) (rows : List DutyRow)
     → count_by (is_in place test) (map (stand_of releases) rows) ≡ count_by (λ row. test row.state) (filter (is_duty_of name) rows)
 count-found releases name place same test [] = refl

@@ -20,7 +20,7 @@ use Rattle.desk_tally.specs.declared.stand.Step.TheVariants as step
 use Rattle.desk_tally.proofs.Names.{found-updated, length-updated, places-updated, length-put, ascends_before, places-put, kept-put, stands-kept}
 use Rattle.desk_tally.proofs.Moves.{numbered-moved, stands-moved, numbered-append, raised_numbered, stands-raised}
 
--- another release, which has no duties
+-- one more release, which has no duties
 opened : (row : ReleaseRow) (count : ℕ) (all : List Stand) (t : Tables) → are_placed count all ≡ true → Ascends release_below t.releases → row.place ≡ count + 1 → IsKept count all t → IsKept (count + 1) all (applied (change.Opened row) t)
 opened row count all t placed up next kept = record {
   opened = omega (arith, kept.opened, length-put row t.releases);
@@ -29,7 +29,7 @@ opened row count all t placed up next kept = record {
   numbered = kept.numbered;
 }
 
--- the duties stand where they stood, and new ones stand open
+-- the duties keep their places and states, and new ones are open
 froze : (release : List ℕ) (revision : ℕ) (duties : List DutyRow) (place : ℕ) (count : ℕ) (all : List Stand) (t later : Tables)
     → later.releases ≡ updated (is_release release) (with_release_state Frozen revision) t.releases → later.duty ≡ t.duty ++ duties
     → are_placed count all ≡ true → place_found t.releases release ≡ Some place → (n : ℕ) → n ≡ length all + 1 → are_numbered n duties ≡ true
@@ -54,7 +54,7 @@ froze release revision duties place count all t later is more placed found n fir
     next : n ≡ 1 + length t.duty
     next = omega (arith, first, ap length kept.stands, length-map t.duty (stand_of t.releases))
 
--- duties that move, of releases that stay or are withdrawn
+-- duties that are moved, of releases that are kept or withdrawn
 moved : (changes : List ChangeRow) (count : ℕ) (all : List Stand) (t later : Tables) → ((name : List ℕ) → place_found later.releases name ≡ place_found t.releases name) → length later.releases ≡ length t.releases → later.duty ≡ moved_by changes t.duty
     → are_placed count all ≡ true → are_duties (length all) (map shift_of changes) ≡ true → IsKept count all t → IsKept count (shifted (map shift_of changes) all) later
 moved changes count all t later same number more placed within kept = record {
@@ -69,7 +69,7 @@ moved changes count all t later same number more placed within kept = record {
     before : map (stand_of later.releases) t.duty ≡ map (stand_of t.releases) t.duty
     before = stands-kept count t.releases later.releases t.duty (ap (are_placed count) (sym kept.stands) ∙ placed) (λ name place e. same name ∙ e)
 
--- rows of releases and duties that stay
+-- rows of releases and duties that are kept
 stayed : (count : ℕ) (all : List Stand) (t later : Tables) → later.releases ≡ t.releases → later.duty ≡ t.duty → IsKept count all t → IsKept count all later
 stayed count all t later same number kept = record {
   opened = kept.opened ∙ ap length (sym same);

@@ -1,4 +1,4 @@
--- Duties that are moved and raised, and where they stand.
+-- Duties that are moved and raised, and their places and states.
 use Rattle.std.proofs.Common.{◌≡◌, ℕ, zero, suc, ◌+◌, ◌-◌, ◌<◌, ◌≤◌, true, false, List, [], ◌∷◌, ◌++◌, length, map, replicate, Some, refl, ap, ◌∙◌, arith, subst}
 use Rattle.std.specs.Prelude.{if◌then◌else◌, ◌&&◌, ◌==◌, unwrap_or}
 use Rattle.std.specs.Str.{bytes_eq}
@@ -21,7 +21,7 @@ use Rattle.desk_base.proofs.Numbers.{numbers_equal}
 use Rattle.desk_base.proofs.Bools.{and_left, and_right, both}
 use Rattle.desk_base.proofs.Texts.{texts_equal}
 
--- no duty before the first has its number
+-- no duty has a number below the first
 updated_none : (change : DutyRow → DutyRow) (q n : ℕ) (rows : List DutyRow) → are_numbered n rows ≡ true → q < n → updated (is_duty q) change rows ≡ rows
 updated_none change q n [] e below = refl
 updated_none change q n (row ∷ rows) e below =
@@ -29,7 +29,7 @@ updated_none change q n (row ∷ rows) e below =
     let differ : (row.number == q) ≡ false = grind (arith, nat_tests) in
     rw (differ, updated_none change q (n + 1) rows (and_right (row.number == n) (are_numbered (n + 1) rows) e) (omega arith)) refl
 
--- the duty at an index goes to a state
+-- the duty at an index is put into a state
 state_at : (releases : List ReleaseRow) (state : DutyState) (n i : ℕ) (rows : List DutyRow) → are_numbered n rows ≡ true
     → map (stand_of releases) (updated (is_duty (n + i)) (with_duty_state state) rows) ≡ at_state i state (map (stand_of releases) rows)
 state_at releases state n i [] e = refl
@@ -58,7 +58,7 @@ pub numbered-moved : (changes : List ChangeRow) (n : ℕ) (rows : List DutyRow) 
 numbered-moved [] n rows e = e
 numbered-moved (change ∷ changes) n rows e = numbered-updated (state_after change.word) change.duty n (moved_by changes rows) (numbered-moved changes n rows e)
 
--- the duties that changes move stand where the shifts put them
+-- the duties that changes move have the states that the shifts give them
 pub stands-moved : (releases : List ReleaseRow) (count : ℕ) (changes : List ChangeRow) (rows : List DutyRow) → are_numbered 1 rows ≡ true → are_duties count (map shift_of changes) ≡ true
     → map (stand_of releases) (moved_by changes rows) ≡ shifted (map shift_of changes) (map (stand_of releases) rows)
 stands-moved releases count [] rows e within = refl

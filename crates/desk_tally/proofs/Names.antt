@@ -23,7 +23,7 @@ use Rattle.desk_base.proofs.Texts.{texts_equal}
 abbrev place_of : Option ReleaseRow → Option ℕ
 place_of found = option_map (λ row. row.place) found
 
--- rows that are changed, but for their names and places
+-- rows that are changed, but keep their names and places
 alike : (b : Bool) (x y : ReleaseRow) (o p : Option ReleaseRow) → x.place ≡ y.place → place_of o ≡ place_of p → place_of (cond b (Some x) o) ≡ place_of (cond b (Some y) p)
 alike true x y o p e f = ap Some e
 alike false x y o p e f = f
@@ -49,7 +49,7 @@ places-updated rows later same count old = record {
   apart = λ name other place e f. old.apart name other place (sym (same name) ∙ e) (sym (same other) ∙ f);
 }
 
--- a row that is put in its place
+-- a row that is put in its place by name
 
 pub length-put : (x : ReleaseRow) (rows : List ReleaseRow) → length (put release_below x rows) ≡ length rows + 1
 length-put x [] = refl
@@ -59,7 +59,7 @@ length-put x (y ∷ ys) = either (length-put x ys) (release_below x y)
     either more true = omega arith
     either more false = omega (arith, more)
 
--- rows ascend among which one more does
+-- rows stay in order when one more is put among them
 in_put : (x z : ReleaseRow) (rows : List ReleaseRow) → IsIn z rows → IsIn z (put release_below x rows)
 in_put x z [] is = absurd is
 in_put x z (y ∷ ys) is = either (λ later. in_put x z ys later) is (release_below x y)
@@ -77,7 +77,7 @@ ascends_before x (y ∷ ys) up = either (ascends_before x ys) (release_below x y
     either before true above = above.1
     either before false above = (λ z is. above.0 z (in_put x z ys is), before above.1)
 
--- the row that is put, where no other has its name
+-- the row that is put, if no other has its name
 abbrev own_place : ReleaseRow → List ℕ → Option ℕ
 own_place x name = if bytes_eq x.name name then Some x.place else None
 
@@ -91,7 +91,7 @@ unlike Less e = cc
 unlike Equal e = refl
 unlike Greater e = refl
 
--- no row behind one that x goes before has the name of x
+-- no row after one that x precedes has the name of x
 none_behind : (x y : ReleaseRow) (ys : List ReleaseRow) (name : List ℕ) → x.name ≡ name → release_below x y ≡ true → ((z : ReleaseRow) → IsIn z ys → release_below z y ≡ false) → find (is_release name) ys ≡ None
 none_behind x y [] name e below over = refl
 none_behind x y (z ∷ zs) name e below over = either (none_behind x y zs name e below (λ w w_in. over w (inr w_in))) (bytes_eq z.name name) refl
@@ -135,7 +135,7 @@ found-put x (y ∷ ys) up name = before (found-put x ys up.1 name) (release_belo
     before rest true e = first (bytes_eq x.name name) refl e
     before rest false e = later rest (bytes_eq y.name name)
 
--- the places that stand are kept, and another has one place more
+-- existing places are kept, and one more name has a place
 or_cases : (o q : Option ℕ) (place : ℕ) → or_else o q ≡ Some place → (o ≡ Some place) ⊎ (q ≡ Some place)
 or_cases None q place e = inr e
 or_cases (Some p) q place e = inl e
@@ -144,7 +144,7 @@ own_cases : (b : Bool) (p place : ℕ) → (if b then Some p else None) ≡ Some
 own_cases true p place e = (refl, cc)
 own_cases false p place e = cc
 
--- a name's place after a release was put: that of before, or that of its own
+-- a name's place after a release was put: the one it had before, or that of the new release
 after-put : (x : ReleaseRow) (rows : List ReleaseRow) → Ascends release_below rows → (name : List ℕ) (place : ℕ) → place_found (put release_below x rows) name ≡ Some place → (place_found rows name ≡ Some place) ⊎ ((x.name ≡ name) × (x.place ≡ place))
 after-put x rows up name place e =
     elim (or_cases (place_found rows name) (own_place x name) place (sym (found-put x rows up name) ∙ e)) [
@@ -173,7 +173,7 @@ places-put x rows up next old = record {
 pub kept-put : (x : ReleaseRow) (rows : List ReleaseRow) → Ascends release_below rows → (name : List ℕ) (place : ℕ) → place_found rows name ≡ Some place → place_found (put release_below x rows) name ≡ Some place
 kept-put x rows up name place e = found-put x rows up name ∙ ap (λ o. or_else o (own_place x name)) e
 
--- duties stand where they stood, where the places of their releases are kept
+-- duties keep their places if those of their releases are kept
 stays : (count : ℕ) (o p : Option ℕ) → is_within count (unwrap_or o 0) ≡ true → ((place : ℕ) → o ≡ Some place → p ≡ Some place) → unwrap_or p 0 ≡ unwrap_or o 0
 stays count None p within same = let no_place : nat_le 1 0 ≡ true = and_left (nat_le 1 0) (nat_le 0 count) within in cc
 stays count (Some place) p within same = ap (λ o. unwrap_or o 0) (same place refl)

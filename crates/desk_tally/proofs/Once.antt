@@ -1,4 +1,4 @@
--- The releases of a recorded history stand at the places from 1 to their number, each at its own.
+-- The releases of a recorded history have the places from 1 to their number, each a different one.
 use Rattle.std.proofs.Common.{◌≡◌, ℕ, ◌+◌, ◌≤◌, Bool, true, false, List, [], ◌∷◌, length, map, refl, sym, ap, ◌∙◌, arith}
 use Rattle.std.specs.Prelude.{if◌then◌else◌, ◌&&◌, ◌||◌, ◌==◌, not}
 use Rattle.std.proofs.lemmas.Bool.Decides.{nat_tests}
@@ -49,7 +49,7 @@ swap-places count taken a b places =
     ∙ (swapped (is_within count a) (is_within count b) (taken a) (taken b) (b == a) later
     ∙ ap (λ same. is_within count b && (not (taken b) && (is_within count a && (not (same || taken a) && later)))) (turned b a))
 
--- a release that is put in its place by name takes its place among them
+-- a release that is put in its place by name takes its own place among the places
 places-put : (count : ℕ) (taken : ℕ → Bool) (x : ReleaseRow) (rows : List ReleaseRow)
     → are_places count taken (map (λ row. row.place) (put release_below x rows)) ≡ are_places count taken (x.place ∷ map (λ row. row.place) rows)
 places-put count taken x [] = refl
@@ -62,7 +62,7 @@ places-put count taken x (y ∷ ys) = either (places-put count (λ other. (other
         ap (λ all. is_within count y.place && (not (taken y.place) && all)) rest
         ∙ swap-places count taken y.place x.place (map (λ (row : ReleaseRow). row.place) ys)
 
--- places that are taken once are so where there is one place more, which is none of them
+-- places that are taken once are still so if there is one more place, which is none of them
 one_more : (count : ℕ) (taken more : ℕ → Bool) → ((n : ℕ) → n ≤ count → more n ≡ taken n) → (places : List ℕ) → are_places count taken places ≡ true → are_places (count + 1) more places ≡ true
 one_more count taken more same [] all = refl
 one_more count taken more same (p ∷ ps) all =

@@ -1,4 +1,4 @@
--- Places that are all taken once.
+-- Places, each of which is taken once.
 use Rattle.std.proofs.Common.{◌≡◌, ℕ, zero, suc, ◌+◌, ◌<◌, ◌≤◌, Bool, true, false, cond, List, [], ◌∷◌, length, map, drop, get_or, Option, Some, refl, sym, ap, ◌∙◌, arith, subst}
 use Rattle.std.specs.Prelude.{find, ◌&&◌, ◌||◌, ◌==◌, not, slice_set}
 use Rattle.std.specs.Option.{option_map}
@@ -15,7 +15,7 @@ use Rattle.desk_tally.proofs.Bools.{within_low, within_high}
 use Rattle.desk_base.proofs.Bools.{and_left, and_right, or_left, or_right}
 use Rattle.desk_base.proofs.Texts.{texts_equal}
 
--- one place more is taken
+-- one more place is taken
 taken_at : (marks : List Bool) (place other : ℕ) → place < length marks → get_or (slice_set marks place true) other false ≡ ((other == place) || get_or marks other false)
 taken_at [] place other lt = absurd (omega (arith, lt))
 taken_at (m ∷ ms) zero zero lt = refl
@@ -67,7 +67,7 @@ is_free count taken (x ∷ xs) name place all found =
         })
     either later false e at = let free = later at in record { within = free.within; free = or_right (place == x.place) (taken place) free.free }
 
--- two names with one place are the same
+-- two names with the same place are the same
 apart_in : (count : ℕ) (taken : ℕ → Bool) (rows : List ReleaseRow) (name other : List ℕ) (place : ℕ) → are_places count taken (map (λ row. row.place) rows) ≡ true → place_found rows name ≡ Some place → place_found rows other ≡ Some place → name ≡ other
 apart_in count taken [] name other place all found too = cc
 apart_in count taken (x ∷ xs) name other place all found too =
@@ -82,7 +82,7 @@ apart_in count taken (x ∷ xs) name other place all found too =
     place_of : Bool → List ℕ → Option ℕ
     place_of b n = option_map (λ (row : ReleaseRow). row.place) (cond b (Some x) (find (is_release n) xs))
 
-    -- the place of the first row isn't found behind it
+    -- the place of the first row isn't found after it
     not_behind : (n : List ℕ) → x.place ≡ place → place_found xs n ≡ Some place → ⊥
     not_behind n is at =
         let free : later_taken place ≡ false = (is_free count later_taken xs n place later at).free in

@@ -1,4 +1,4 @@
--- A change that goes on from the rows has a step.
+-- A change that continues the rows has a step.
 use Rattle.std.proofs.Common.{◌≡◌, ℕ, suc, ◌+◌, ◌<◌, ◌≤◌, true, false, cond, List, [], ◌∷◌, length, map, Option, Some, None, refl, ap, ◌∙◌, arith}
 use Rattle.std.specs.Prelude.{◌==◌, ◌&&◌, find, is_some, Result, Ok, Err, IfNone, IfOk}
 use Rattle.std.specs.Option.{option_map}
@@ -23,7 +23,7 @@ use Rattle.desk_tally.specs.declared.stand.Step.{Step}
 use Rattle.desk_tally.specs.declared.tallies.Tallies.{Tallies}
 use Rattle.desk_tally.proofs.Bools.{within_from}
 
--- duties that are numbered on, of one release, and open
+-- duties with consecutive numbers, of one release, and open
 raised_from : (n : ℕ) (release : List ℕ) (rows : List DutyRow) → are_numbered n rows ≡ true → are_open_of release rows ≡ true → are_raised n release rows ≡ true
 raised_from n release [] numbered fresh = refl
 raised_from n release (row ∷ rows) numbered fresh =
@@ -32,7 +32,7 @@ raised_from n release (row ∷ rows) numbered fresh =
     (and_left (row.number == n) (are_numbered (n + 1) rows) numbered) (and_left (is_duty_of release row && is_open row.state) (are_open_of release rows) fresh))
     (raised_from (n + 1) release rows (and_right (row.number == n) (are_numbered (n + 1) rows) numbered) (and_right (is_duty_of release row && is_open row.state) (are_open_of release rows) fresh))
 
--- a duty that is found among duties numbered from n on has one of their numbers
+-- a duty found among duties with the numbers n, n + 1 and so on has one of their numbers
 found_within : (n q : ℕ) (rows : List DutyRow) → are_numbered n rows ≡ true → is_some (find (is_duty q) rows) ≡ true → (n ≤ q) × (q < n + length rows)
 found_within n q [] numbered some = absurd (cc)
 found_within n q (row ∷ rows) numbered some =
@@ -43,7 +43,7 @@ found_within n q (row ∷ rows) numbered some =
       | false ↦ λ e f. let later = found_within (n + 1) q rows rest f in (omega (arith, later.0), omega (arith, later.1))
     ] refl some
 
--- changes of duties that stand
+-- changes of duties that exist
 of_duties : (t : Tables) (rows : List ChangeRow) → are_numbered 1 t.duty ≡ true → are_of_duties t rows ≡ true → are_duties (length t.duty) (map shift_of rows) ≡ true
 of_duties t [] numbered all = refl
 of_duties t (row ∷ rows) numbered all =
@@ -52,7 +52,7 @@ of_duties t (row ∷ rows) numbered all =
     (within_from (length t.duty) row.duty at.0 (omega (arith, at.1)))
     (of_duties t rows numbered (and_right (is_some (duty_found t row.duty)) (are_of_duties t rows) all))
 
--- the place of a release that stands
+-- the place of a release that exists
 placed : (found : Option ReleaseRow) → is_some found ≡ true → (at : ℕ) × (option_map (λ (row : ReleaseRow). row.place) found ≡ Some at)
 placed None some = absurd (cc)
 placed (Some row) some = (row.place, refl)

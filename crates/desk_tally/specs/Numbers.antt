@@ -7,7 +7,7 @@ use Rattle.desk_model.specs.declared.command.Totals.{Totals}
 abbrev pub one_if : Bool → ℕ
 one_if so = if so then 1 else 0
 
--- how many stand there
+-- how many are in this state
 abbrev pub number_of : DutyState → Totals → ℕ
 number_of stands.IsOpen totals = totals.still_open
 number_of stands.Met totals = totals.met

@@ -1,4 +1,4 @@
--- Where duties stand, by number: what is counted of them, and what each step does to them.
+-- The place and state of each duty, by number: what is counted of them, and what each step does to them.
 use Rattle.std.specs.Prelude.{◌≡◌, ℕ, zero, suc, ◌+◌, ◌-◌, ◌==◌, ◌&&◌, ◌||◌, not, nat_le, Bool, true, List, [], ◌∷◌, ◌++◌, replicate, count_by, Some, slice_get}
 use Rattle.std.specs.List.{list_all}
 use Rattle.desk_model.specs.States.{is_open, is_met, is_waived, is_withdrawn, state_after}
@@ -16,11 +16,11 @@ use Rattle.desk_tally.specs.declared.tally.Tally.{Tally}
 abbrev pub is_of : ℕ → Stand → Bool
 is_of place stand = stand.place == place
 
--- of the release at a place, and in a state that passes
+-- whether a duty is of the release at a place, and its state passes a test
 abbrev pub is_in : ℕ → (DutyState → Bool) → Stand → Bool
 is_in place test stand = is_of place stand && test stand.state
 
--- how many duties the release at a place has, and how many of them stand where
+-- how many duties the release at a place has, and how many of them are in each state
 abbrev pub totals_at : ℕ → List Stand → Totals
 totals_at place all = record {
   raised = count_by (is_of place) all;
@@ -30,19 +30,19 @@ totals_at place all = record {
   withdrawn = count_by (is_in place is_withdrawn) all;
 }
 
--- each tally has the numbers of its place, from 1
+-- each tally has the counts of its place; places start at 1
 abbrev pub AreTallied : List Stand → List Tally → Type 0
 AreTallied all tallies = (i : ℕ) (tally : Tally) → slice_get tallies i ≡ Some tally → totals_in tally ≡ totals_at (i + 1) all
 
--- a number from 1 on
+-- a number from 1 to a count
 abbrev pub is_within : ℕ → ℕ → Bool
 is_within count n = nat_le 1 n && nat_le n count
 
--- each duty is of a release at one of so many places
+-- the place of each duty's release is from 1 to the count
 abbrev pub are_placed : ℕ → List Stand → Bool
 are_placed count all = list_all (λ stand. is_within count stand.place) all
 
--- places from 1 to a count, none of which was taken before
+-- different places from 1 to a count, none of which was taken before
 abbrev pub are_places : ℕ → (ℕ → Bool) → List ℕ → Bool
 are_places count taken [] = true
 are_places count taken (place ∷ places) = is_within count place && (not (taken place) && are_places count (λ other. (other == place) || taken other) places)
@@ -56,7 +56,7 @@ at_state i state [] = []
 at_state zero state (stand ∷ all) = (record stand { state = state }) ∷ all
 at_state (suc i) state (stand ∷ all) = stand ∷ at_state i state all
 
--- each of these duties is in its state, the last one first
+-- each of these duties is put into its state, the last one first
 abbrev pub shifted : List Shift → List Stand → List Stand
 shifted [] all = all
 shifted (shift ∷ shifts) all = at_state (shift.duty - 1) shift.state (shifted shifts all)
@@ -64,7 +64,7 @@ shifted (shift ∷ shifts) all = at_state (shift.duty - 1) shift.state (shifted 
 abbrev pub are_duties : ℕ → List Shift → Bool
 are_duties count shifts = list_all (λ shift. is_within count shift.duty) shifts
 
--- where a change leaves its duty
+-- the duty of a change, and the state in which the change leaves it
 abbrev pub shift_of : ChangeRow → Shift
 shift_of row = record { duty = row.duty; state = state_after row.word }
 
@@ -73,7 +73,7 @@ stands_after (step.Raise place count) all = all ++ replicate count (open_at plac
 stands_after (step.Move shifts) all = shifted shifts all
 stands_after _ all = all
 
--- how many releases there are
+-- how many releases there are after a step
 abbrev pub count_after : Step → ℕ → ℕ
 count_after step.Open count = count + 1
 count_after _ count = count

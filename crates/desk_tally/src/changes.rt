@@ -1,4 +1,4 @@
-//! What changes of the rows say of duties.
+//! What changes of the rows mean for duties.
 
 ghost use Rattle.std.specs.Prelude.{◌≡◌, true, IfNone, IfOk, IfSome, map};
 ghost use Rattle.desk_model.specs.States.{state_after};
@@ -10,7 +10,7 @@ use desk_base::Items;
 use desk_model::{ChangeRow, DutyRow, DutyState, Word};
 use std::alloc::{AllocError, Global};
 
-/// Where a change with this word leaves a duty.
+/// The state in which a change with this word leaves a duty.
 pub fn state_after(word: Word) -> DutyState
     ensures { result ≡ state_after word }
 {
@@ -22,7 +22,7 @@ pub fn state_after(word: Word) -> DutyState
     }
 }
 
-/// Whether these are new duties of a release, open and numbered on from the first.
+/// Whether these are new duties of a release, open and with the numbers from `first` on.
 pub(crate) fn are_raised(first: u64, release: &str, duties: &[DutyRow]) -> bool
     ensures { result ≡ are_raised first release.now duties.now }
 {
@@ -39,7 +39,8 @@ pub(crate) fn are_raised(first: u64, release: &str, duties: &[DutyRow]) -> bool
     true
 }
 
-/// Where changes put their duties, if each is one of so many.
+/// The states into which changes put their duties, or `None` if one of these isn't from 1 to
+/// `count`.
 pub(crate) fn shifts_of(
     alloc: Global,
     count: usize,

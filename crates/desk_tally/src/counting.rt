@@ -1,4 +1,4 @@
-//! Tallies of duties that stand already.
+//! Tallies of duties that exist already.
 
 ghost use Rattle.std.specs.Prelude.{◌≡◌, ℕ, true, false, ◌≤◌, [], length, vec_len, IfOk};
 ghost use Rattle.std.specs.Prelude.{map, unwrap_or};
@@ -29,7 +29,7 @@ pub(crate) fn are_places(alloc: Global, places: &[u32]) -> Result<bool, AllocErr
     Ok(true)
 }
 
-/// Whether each duty is of a release at one of so many places.
+/// Whether the place of each duty's release is from 1 to `releases`.
 pub(crate) fn are_placed(releases: usize, stands: &[Stand]) -> bool
     ensures { result ≡ are_placed releases stands.now }
 {
@@ -41,7 +41,7 @@ pub(crate) fn are_placed(releases: usize, stands: &[Stand]) -> bool
     true
 }
 
-/// The tallies of so many releases that have no duties.
+/// The tallies of this many releases that have no duties.
 fn empty(alloc: Global, releases: usize) -> Result<Vec<Tally>, AllocError>
     ensures len { IfOk result (λ tallies. vec_len tallies ≡ releases) }
     ensures tallied { IfOk result (λ tallies. AreTallied [] tallies.items) }
@@ -53,7 +53,7 @@ fn empty(alloc: Global, releases: usize) -> Result<Vec<Tally>, AllocError>
     Ok(tallies)
 }
 
-/// The tallies of so many releases, whose duties stand there.
+/// The tallies of this many releases with these duties.
 pub(crate) fn tallies_of(
     alloc: Global,
     releases: usize,
@@ -73,7 +73,7 @@ pub(crate) fn tallies_of(
     Ok(tallies)
 }
 
-/// Whether duties are numbered from 1 on.
+/// Whether duties have the numbers 1, 2 and so on.
 pub(crate) fn are_numbered(duties: &[DutyRow]) -> bool
     ensures { result ≡ are_numbered 1 duties.now }
 {
@@ -98,7 +98,7 @@ pub(crate) fn places_of(alloc: Global, releases: &[ReleaseRow]) -> Result<Vec<u3
     Ok(places)
 }
 
-/// The place of the release with a name, 0 where there is none.
+/// The place of the release with this name, 0 if there is none.
 fn place_of(releases: &[ReleaseRow], name: &str) -> u32
     ensures { result ≡ unwrap_or (place_found releases.now name.now) 0 }
 {
@@ -110,7 +110,7 @@ fn place_of(releases: &[ReleaseRow], name: &str) -> u32
     0
 }
 
-/// The place of a release, where that of the last one asked for is known.
+/// The place of a release, given that of the last release asked for.
 fn place_after(releases: &[ReleaseRow], last: &str, place: u32, name: &str) -> u32
     requires { place ≡ unwrap_or (place_found releases.now last.now) 0 }
     ensures { result ≡ unwrap_or (place_found releases.now name.now) 0 }
@@ -122,8 +122,8 @@ fn place_after(releases: &[ReleaseRow], last: &str, place: u32, name: &str) -> u
     }
 }
 
-/// Where duties stand. Those that one freeze raised stand side by side, so the place of their
-/// release is looked up once.
+/// The place and state of each duty. Duties that one freeze raised are next to each other, so the
+/// place of their release is looked up once.
 pub(crate) fn stands_of(
     alloc: Global,
     releases: &[ReleaseRow],

@@ -1,4 +1,4 @@
-//! The tallies and where duties stand, side by side.
+//! The tallies, and the places and states of duties, changed together.
 
 ghost use Rattle.std.specs.Prelude.{◌≡◌, ℕ, true, ◌+◌, ◌-◌, ◌<◌, ◌≤◌, ◌++◌, List, length, replicate, vec_len, Some, slice_get};
 ghost use Rattle.std.specs.Option.{option_copied};
@@ -18,7 +18,7 @@ pub(crate) fn tally_at(tallies: &[Tally], index: usize) -> Option<&Tally>
     tallies.get(index)
 }
 
-/// Duties of the release at an index are raised.
+/// Raises duties of the release at an index.
 pub(crate) fn raise_at(tallies: &mut Vec<Tally>, index: usize, count: usize)
     requires within { index < vec_len tallies.old }
     requires room { (tally : Tally) → slice_get tallies.old.items index ≡ Some tally
@@ -30,7 +30,7 @@ pub(crate) fn raise_at(tallies: &mut Vec<Tally>, index: usize, count: usize)
     tallies[index].raise(count as u64);
 }
 
-/// A duty of the release at an index goes from one state to another.
+/// Moves a duty of the release at an index from one state to another.
 pub(crate) fn move_at(tallies: &mut Vec<Tally>, index: usize, from: DutyState, to: DutyState)
     requires within { index < vec_len tallies.old }
     requires some { (tally : Tally) → slice_get tallies.old.items index ≡ Some tally
@@ -43,7 +43,7 @@ pub(crate) fn move_at(tallies: &mut Vec<Tally>, index: usize, from: DutyState, t
     tallies[index].move_one(from, to);
 }
 
-/// Open duties of the release at a place are added.
+/// Adds open duties of the release at a place.
 pub(crate) fn push_open(stands: &mut Vec<Stand>, place: u32, count: usize)
     requires { vec_len stands.old + count ≤ vec_capacity stands.old }
     ensures { stands.new.items ≡ stands.old.items ++ replicate count (open_at place) }
@@ -56,7 +56,7 @@ pub(crate) fn push_open(stands: &mut Vec<Stand>, place: u32, count: usize)
     }
 }
 
-/// The duty at an index goes to a state.
+/// Puts the duty at an index into a state.
 fn shift_one(stands: &mut Vec<Stand>, tallies: &mut Vec<Tally>, index: usize, to: DutyState)
     requires within { index < vec_len stands.old }
     requires placed { are_placed (vec_len tallies.old) stands.old.items ≡ true }
@@ -74,7 +74,7 @@ fn shift_one(stands: &mut Vec<Stand>, tallies: &mut Vec<Tally>, index: usize, to
     };
 }
 
-/// Each of these duties goes to a state, the last one first.
+/// Puts each of these duties into its state, the last one first.
 pub(crate) fn shift_all(stands: &mut Vec<Stand>, tallies: &mut Vec<Tally>, shifts: &[Shift])
     requires within { are_duties (vec_len stands.old) shifts.now ≡ true }
     requires placed { are_placed (vec_len tallies.old) stands.old.items ≡ true }

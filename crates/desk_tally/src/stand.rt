@@ -1,16 +1,16 @@
-//! Where duties stand, and where they go.
+//! The place and state of duties, and where they move.
 
 use desk_base::Items;
 use desk_model::DutyState;
 
-/// Where a duty stands: the place of its release, from 1, and its state.
+/// The release of a duty, by its place, from 1, and the duty's state.
 #[derive(Clone, Copy, PartialEq, Eq)]
 pub struct Stand {
     pub place: u32,
     pub state: DutyState,
 }
 
-/// A duty, by its number, goes to a state.
+/// A duty, by its number, is put into a state.
 #[derive(Clone, Copy, PartialEq, Eq)]
 pub struct Shift {
     pub duty: u32,
@@ -22,10 +22,10 @@ pub struct Shift {
 pub enum Step {
     /// Nothing.
     Stay,
-    /// A release is opened, which has no duties.
+    /// A release with no duties is opened.
     Open,
-    /// So many duties are raised for the release at a place.
+    /// This many duties are raised for the release at a place.
     Raise { place: u32, count: usize },
-    /// Each of these duties goes to a state, the last one first.
+    /// Each of these duties is put into its state, the last one first.
     Move(Items<Shift>),
 }

@@ -12,8 +12,8 @@ use desk_base::limits;
 use desk_model::{Change, ChangeRow, DutyRow, ReleaseRow, Totals};
 use std::alloc::{AllocError, Global};
 
-/// The tallies of all releases by their places, and where each duty stands by its number, both from
-/// 1. There are at most 100,000 duties.
+/// The tallies of all releases by their places, and the place and state of each duty by its number,
+/// both counted from 1. There are at most 100,000 duties.
 #[derive(Drop)]
 pub struct Tallies {
     alloc: Global,
@@ -31,7 +31,7 @@ impl Tallies {
     ghost use Rattle.desk_model.specs.Tables.{Tables};
     ghost use Rattle.desk_tally.specs.Kept.{place_found, AreKept, AreCounted, are_countable, can_count};
 
-    /// Those of no releases.
+    /// The tallies of no releases.
     pub fn new(alloc: Global) -> Tallies
         ensures { (t : Tables) → t.releases ≡ [] → t.duty ≡ [] → AreKept result t }
     {
@@ -42,7 +42,7 @@ impl Tallies {
         }
     }
 
-    /// Those of releases at these places, and of duties that stand there, if they can be counted.
+    /// The tallies of releases at these places and of these duties, if they can be counted.
     fn standing(
         alloc: Global,
         places: &[u32],
@@ -68,9 +68,9 @@ impl Tallies {
         }))
     }
 
-    /// Those of the rows of releases and duties, counted once. There are none where the releases'
-    /// places aren't those from 1 to their number, the duties aren't numbered from 1 on, one is of
-    /// no such release, or they are more than 100,000.
+    /// The tallies of the rows of releases and duties, counted once. `None` if the releases' places
+    /// are not those from 1 to their number, the duties are not numbered 1, 2 and so on, one is of
+    /// a release that isn't there, or there are more than 100,000.
     pub fn counted(
         alloc: Global,
         releases: &[ReleaseRow],
@@ -89,7 +89,7 @@ impl Tallies {
         Tallies::standing(alloc, places.as_slice(), stands)
     }
 
-    /// How many duties of the release at a place stand where, if there is one.
+    /// How many duties of the release at a place are in each state, if there is such a release.
     pub fn totals(&self, place: u32) -> Option<Totals>
         ensures kept { (t : Tables) (name : List ℕ) → AreKept self.now t
             → place_found t.releases name ≡ Some place
@@ -116,7 +116,7 @@ impl Tallies {
     ghost use Rattle.desk_tally.specs.Stands.{are_duties, count_after, open_at, shift_of, shifted, stands_after};
     ghost use Rattle.desk_tally.specs.Kept.{AreKept, CanRaise, Fits, HasStep, IsAstray, IsPlaceFor, IsStep, IsRaise, IsMove, LeadsTo};
 
-    /// The step of a release that is opened next.
+    /// The step of opening the next release.
     fn plan_open(&mut self, row: &ReleaseRow) -> Result<Option<Step>, AllocError>
         ensures stands { self.new.stands.items ≡ self.old.stands.items }
         ensures tallies { self.new.tallies.items ≡ self.old.tallies.items }
@@ -134,7 +134,7 @@ impl Tallies {
         Ok(Some(Step::Open))
     }
 
-    /// The step of new duties of the release at a place.
+    /// The step of raising new duties for the release at a place.
     fn plan_raise(
         &mut self,
         release: &str,
@@ -169,7 +169,7 @@ impl Tallies {
         }))
     }
 
-    /// The step of duties that move.
+    /// The step of moving duties.
     fn plan_move(&self, changes: &[ChangeRow]) -> Result<Option<Step>, AllocError>
         ensures fits { IfOk result (λ found. IfSome found (λ step. Fits step self.now)) }
         ensures step { IfOk result (λ found. IfSome found (λ step.
@@ -206,12 +206,12 @@ impl Tallies {
         }
     }
 
-    /// What a change of the rows comes to. Room is made for it, and nothing is done yet. Of a
-    /// freeze, `place` is that of its release.
+    /// The step that a change of the rows comes to. Room is made for it, and nothing is done yet.
+    /// For a freeze, `place` is that of its release.
     ///
-    /// There is a step for each change that goes on from the rows, and none for what no command
-    /// does: releases that aren't opened one after the other, duties that aren't numbered on or are
-    /// more than 100,000, and changes of duties that don't stand.
+    /// Each change that continues the rows has a step. There is none for what no command does:
+    /// releases that aren't opened one after another, duties that don't have the next numbers or
+    /// are more than 100,000, and changes of duties that don't exist.
     pub fn plan(&mut self, change: &Change, place: Option<u32>) -> Result<Option<Step>, AllocError>
         ensures kept { (t : Tables) → AreKept self.old t → AreKept self.new t }
         ensures fits { IfOk result (λ found. IfSome found (λ step. Fits step self.new)) }
@@ -224,7 +224,7 @@ impl Tallies {
         self.step_of(change, place)
     }
 
-    /// A release is opened.
+    /// Opens a release.
     fn open(&mut self)
         requires { Fits Step.Open self.old }
         ensures stands { self.new.stands.items ≡ self.old.stands.items }
@@ -233,7 +233,7 @@ impl Tallies {
         self.tallies.push_reserved(Tally::new());
     }
 
-    /// Duties of the release at a place are raised.
+    /// Raises duties for the release at a place.
     fn raise(&mut self, place: u32, count: usize)
         requires { Fits (Step.Raise place count) self.old }
         ensures stands { self.new.stands.items
@@ -244,7 +244,7 @@ impl Tallies {
         push_open(&mut self.stands, place, count);
     }
 
-    /// Duties move.
+    /// Moves duties.
     fn move_all(&mut self, shifts: &[Shift])
         requires { Fits (Step.Move shifts.now) self.old }
         ensures stands { self.new.stands.items ≡ shifted shifts.now self.old.stands.items }

@@ -1,4 +1,4 @@
-//! How many duties of one release stand where.
+//! How many duties of one release are in each state.
 
 ghost use Rattle.std.specs.Prelude.{◌≡◌, ℕ, ◌+◌, ◌≤◌};
 ghost use Rattle.desk_model.specs.States.{is_open, is_met, is_waived, is_withdrawn};
@@ -6,7 +6,7 @@ ghost use Rattle.desk_tally.specs.Numbers.{number_of, one_if};
 
 use desk_model::{DutyState, Totals};
 
-/// How many duties of a release were raised, and how many of these stand where.
+/// How many duties of a release were raised, and how many of these are in each state.
 #[derive(Clone, Copy, PartialEq, Eq)]
 pub struct Tally {
     pub raised: u64,
@@ -21,7 +21,7 @@ pub struct Tally {
 impl Tally {
     ghost use Rattle.desk_tally.specs.Totals.{totals_in};
 
-    /// That of a release with no duties.
+    /// The tally of a release with no duties.
     pub fn new() -> Tally
         ensures { totals_in result
             ≡ record { raised = 0; still_open = 0; met = 0; waived = 0; withdrawn = 0 } }
@@ -35,7 +35,7 @@ impl Tally {
         }
     }
 
-    /// So many duties more are raised, and open. With them there are at most 100,000.
+    /// Counts this many more duties as raised and open. With them there are at most 100,000.
     pub fn raise(&mut self, n: u64)
         requires { self.old.raised + n ≤ 100000 }
         ensures raised { self.new.raised ≡ self.old.raised + n }
@@ -48,7 +48,7 @@ impl Tally {
         self.still_open += n;
     }
 
-    /// One duty goes from a state, where one is, to another.
+    /// Moves one duty from a state, which some duty must have, to another.
     pub fn move_one(&mut self, from: DutyState, to: DutyState)
         requires { 1 ≤ number_of from (totals_in self.old) }
         ensures raised { self.new.raised ≡ self.old.raised }
@@ -74,7 +74,7 @@ impl Tally {
         }
     }
 
-    /// The numbers, as a question is answered.
+    /// The numbers, in the form of an answer.
     pub fn totals(&self) -> Totals
         ensures { result ≡ totals_in self.now }
     {

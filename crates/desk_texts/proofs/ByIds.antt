@@ -1,4 +1,4 @@
--- Texts of licences by their ids: of those with the same id, in any case, the first.
+-- Texts of licences by their ids. Among those with the same id, in any case, the first is kept.
 use Rattle.std.proofs.Common.{◌≡◌, ◌∙◌, ℕ, Bool, true, false, cond, List, [], ◌∷◌, ◌++◌, Option, None, Some, sym, ap, refl}
 use Rattle.std.specs.Prelude.{find}
 use Rattle.std.specs.BTreeMap.{BTreeMap, IsEmpty, UpdatesBy}
@@ -15,7 +15,7 @@ use Rattle.desk_catalogue.specs.declared.catalogue.LicenceText.{LicenceText as W
 use Rattle.desk_model.specs.declared.reading.LicenceText.{LicenceText}
 use Rattle.desk_texts.specs.Catalogues.{kept_text, text_in}
 
--- the text that some have of an id, and else that of a map
+-- the text that some have for an id or, if they have none, the one of a map
 abbrev pub text_among : List WholeText → BTreeMap (List ℕ) LicenceText → List ℕ → Option LicenceText
 text_among texts map id = option_or (option_map kept_text (find (is_text_of id) texts)) (text_in map id)
 
@@ -41,7 +41,7 @@ or_none : (a : Option LicenceText) → option_or a None ≡ a
 or_none None = refl
 or_none (Some x) = refl
 
--- nothing is in an empty map
+-- an empty map has no text
 pub none_put : (texts : List WholeText) (map : BTreeMap (List ℕ) LicenceText) → IsEmpty map → (id : List ℕ) → text_among texts map id ≡ option_map kept_text (find (is_text_of id) texts)
 none_put texts map empty id =
     ap (λ entries. option_or (option_map kept_text (find (is_text_of id) texts)) (lookup (λ k. is_eq (slice_cmp nat_cmp (folded id) k)) entries)) empty

@@ -1,4 +1,5 @@
--- What the terms of an expression cost by their places is what they cost by their printed texts, and the cheapest set is the same.
+-- What the terms of an expression cost by their places is what they cost as printed texts, and the cheapest
+-- set is the same.
 use Rattle.std.proofs.Common.{◌≡◌, ◌∙◌, ◌⊎◌, inl, inr, ◌↔◌, ℕ, zero, suc, ◌+◌, ◌<◌, ◌≤◌, Bool, true, false, List, [], ◌∷◌, length, get_or, map, sym, ap, subst, refl, arith, Option, Some, None}
 use Rattle.std.specs.Prelude.{Contains, IsSome, IfSome, IfNone, All, sum_by, slice_get, nat_lt, if◌then◌else◌, Ok}
 use Rattle.std.specs.Option.{unwrap_or, option_and_then, option_map}
@@ -29,7 +30,7 @@ use Rattle.desk_base.specs.declared.profile.Profile.{Profile}
 use Rattle.desk_texts.specs.Expressions.{IsExpression}
 use Rattle.desk_texts.specs.Listings.{cost_at, cost_of, cost_within, AreTermTexts, IsPriced}
 
--- ---- the part of a set that stands in a list
+-- ---- the part of a set that is in a list
 
 record Part (ts s : List Term) : Type 0 where
   few : List Term
@@ -225,7 +226,7 @@ entry_past costs k past =
     let le : length costs ≤ k = grind (arith, nat_tests) in
     ap (option_and_then (λ c. c)) (slice_get_past costs k le)
 
--- ---- what is told of an expression
+-- ---- what is said of an expression
 
 pub at_some : {A : Type 0} (P : A → Type 0) (o : Option A) (x : A) → o ≡ Some x → IfSome o P → P x
 at_some P None x is h = absurd (cc)

@@ -1,4 +1,4 @@
--- A fault that isn't want of memory.
+-- A fault that is not for lack of memory.
 use Rattle.std.proofs.Common.{◌≡◌, ◌<◌, ◌⊎◌, inl, inr, ap, arith}
 use Rattle.std.specs.Prelude.{alloc_error}
 use Rattle.desk_expr.specs.Faults.{fault_number}

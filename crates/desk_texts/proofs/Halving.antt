@@ -1,4 +1,4 @@
--- Parts put in their places by halving.
+-- Parts put in their places by binary search.
 use Rattle.std.proofs.Common.{◌≡◌, ℕ, zero, suc, ◌+◌, ◌<◌, Bool, true, false, List, [], ◌∷◌, ◌++◌, length, map, take, drop, get_or, Bor, sym, refl, ap, subst, ◌∙◌, arith}
 use Rattle.std.specs.Prelude.{if◌then◌else◌}
 use Rattle.std.specs.Str.{bytes_eq}
@@ -15,7 +15,7 @@ each_at P [] i d within each = absurd (omega (arith, within))
 each_at P (x ∷ xs) zero d within each = each.0
 each_at P (x ∷ xs) (suc i) d within each = each_at P xs i d (omega (arith, within)) each.1
 
--- all up to one that is below are below
+-- if one is below, so are all before it
 pub below_up_to : (ids : List (List ℕ)) (id : List ℕ) (m : ℕ) (d : List ℕ) → Rises ids → m < length ids → text_below (get_or ids m d) id ≡ true → Each (λ x. text_below x id ≡ true) (take (suc m) ids)
 below_up_to [] id m d up within e = absurd (omega (arith, within))
 below_up_to (x ∷ xs) id zero d up within e = (e, tt)
@@ -31,7 +31,7 @@ none_below : (x id : List ℕ) (ys : List (List ℕ)) → text_below x id ≡ fa
 none_below x id [] e each = tt
 none_below x id (y ∷ ys) e each = (not_below x y id (text_below y id) refl each.0 e, none_below x id ys e each.1)
 
--- none from one that isn't below on is below
+-- if one isn't below, neither is any after it
 pub none_below_from : (ids : List (List ℕ)) (id : List ℕ) (m : ℕ) (d : List ℕ) → Rises ids → m < length ids → text_below (get_or ids m d) id ≡ false → Each (λ x. text_below x id ≡ false) (drop m ids)
 none_below_from [] id m d up within e = absurd (omega (arith, within))
 none_below_from (x ∷ xs) id zero d up within e = (e, none_below x id xs e up.0)
@@ -41,14 +41,14 @@ untrue : (b : Bool) → (b ≡ true → ⊥) → b ≡ false
 untrue true never = absurd (never refl)
 untrue false _ = refl
 
--- one that is below another is another
+-- a text that is below another is a different one
 pub other_text : (a b : List ℕ) → text_below b a ≡ true → bytes_eq a b ≡ false
 other_text a b e = untrue (bytes_eq a b) (λ same. let is : a ≡ b = (bytes_eq-Decides a b).0 same in true_false (sym e ∙ below_self a (text_below b a) (ap (λ c. text_below c a) is)))
   where
     true_false : true ≡ false → ⊥
     true_false e = cc
 
--- behind those that are below it
+-- x goes after those that are below it
 put_behind : {A : Type 0} (id : A → List ℕ) (x : A) (xs : List A) (n : ℕ) → Each (λ y. text_below y (id x) ≡ true) (take n (map id xs)) → put_by id x xs ≡ take n xs ++ put_by id x (drop n xs)
 put_behind id x [] zero each = refl
 put_behind id x [] (suc n) each = refl
@@ -59,7 +59,7 @@ put_behind id x (y ∷ ys) (suc n) each =
     ap (λ b. if b then x ∷ y ∷ ys else (if bytes_eq (id x) (id y) then y ∷ ys else y ∷ put_by id x ys)) above
     ∙ (ap (λ b. if b then y ∷ ys else y ∷ put_by id x ys) other ∙ ap (λ l. y ∷ l) (put_behind id x ys n each.1))
 
--- at the first of those that aren't below it
+-- x goes before the first that isn't below it
 put_first : {A : Type 0} (id : A → List ℕ) (x : A) (ys : List A) → is_below_first (id x) (map id ys) ≡ true → put_by id x ys ≡ x ∷ ys
 put_first id x [] e = refl
 put_first id x (y ∷ ys) e = ap (λ b. if b then x ∷ y ∷ ys else (if bytes_eq (id x) (id y) then y ∷ ys else y ∷ put_by id x ys)) e
@@ -83,7 +83,7 @@ pub put_new : {A : Type 0} (id : A → List ℕ) (x : A) (xs : List A) (n : ℕ)
 put_new id x xs n at new =
     put_behind id x xs n at.before ∙ ap (λ l. take n xs ++ l) (put_first id x (drop n xs) (ap (is_below_first (id x)) (sym (drop-map id n xs)) ∙ new))
 
--- and one whose id is there leaves the others
+-- and if its id is there, the others stay as they are
 pub put_old : {A : Type 0} (id : A → List ℕ) (x : A) (xs : List A) (n : ℕ) → IsLower (map id xs) (id x) n → is_below_first (id x) (drop n (map id xs)) ≡ false → put_by id x xs ≡ xs
 put_old id x xs n at old =
     put_behind id x xs n at.before
@@ -115,7 +115,7 @@ rises_step id x y ys false true e f up rest = up
 rises_step id x y ys false false e f up rest =
     (each_put (λ z. text_below (id y) z ≡ true) id x ys (above_other (id x) (id y) (text_below (id y) (id x)) refl e f) up.0, rest)
 
--- parts that rise still do with one more
+-- parts that are in order still are with one more
 pub rises_put : {A : Type 0} (id : A → List ℕ) (x : A) (xs : List A) → Rises (map id xs) → Rises (map id (put_by id x xs))
 rises_put id x [] up = (tt, tt)
 rises_put id x (y ∷ ys) up = rises_step id x y ys (text_below (id x) (id y)) (bytes_eq (id x) (id y)) refl refl up (rises_put id x ys up.1)
@@ -124,7 +124,7 @@ abbrev pub put_all_by : {A : Type 0} → (A → List ℕ) → List A → List A 
 put_all_by id [] ys = ys
 put_all_by id (x ∷ xs) ys = put_by id x (put_all_by id xs ys)
 
--- the last of some is put first
+-- the last of some is put in first
 pub put_last : {A : Type 0} (id : A → List ℕ) (xs : List A) (x : A) (ys : List A) → put_all_by id (xs ++ x ∷ []) ys ≡ put_all_by id xs (put_by id x ys)
 put_last id [] x ys = refl
 put_last id (y ∷ xs) x ys = ap (put_by id y) (put_last id xs x ys)
@@ -139,7 +139,7 @@ first_from id x [] n d within = absurd (omega (arith, within))
 first_from id x (y ∷ ys) zero d within = refl
 first_from id x (y ∷ ys) (suc n) d within = first_from id x ys n d (omega (arith, within))
 
--- nothing is there from the end on
+-- there is nothing from the end on
 pub first_at_end : {A : Type 0} (id : A → List ℕ) (x : List ℕ) (xs : List A) (n : ℕ) → n ≡ length xs → is_below_first x (drop n (map id xs)) ≡ true
 first_at_end id x [] zero e = refl
 first_at_end id x [] (suc n) e = refl
@@ -156,11 +156,11 @@ take-map f zero (x ∷ xs) = refl
 take-map f (suc n) [] = refl
 take-map f (suc n) (x ∷ xs) = ap (λ l. f x ∷ l) (take-map f n xs)
 
--- a list that one is put into, seen through a map
+-- an item inserted into a list, seen through a map
 pub map_insert : {A B : Type 0} (f : A → B) (xs : List A) (n : ℕ) (x : A) → map f (take n xs ++ x ∷ drop n xs) ≡ take n (map f xs) ++ f x ∷ drop n (map f xs)
 map_insert f xs n x = map-append f (take n xs) (x ∷ drop n xs) ∙ (ap (λ l. l ++ f x ∷ map f (drop n xs)) (sym (take-map f n xs)) ∙ ap (λ l. take n (map f xs) ++ f x ∷ l) (sym (drop-map f n xs)))
 
--- lent parts put in their places
+-- borrowed parts put in their places
 
 module _ {P : Type 0} (id : P → List ℕ) where
   abbrev pub lent_ids : List (Bor P) → List (List ℕ)
@@ -190,7 +190,7 @@ module _ {P : Type 0} (id : P → List ℕ) where
   lent_rises x xs ys up same =
       subst Rises (sym (ids_of_lent ys)) (subst (λ l. Rises (map id l)) (sym same) (rises_put id x (lent xs) (subst Rises (ids_of_lent xs) up)))
 
-  -- where a middle part is below an id, and where it isn't
+  -- if a middle part is below an id, and if it isn't
   pub lent_up_to : (xs : List (Bor P)) (x : List ℕ) (m : ℕ) → Rises (lent_ids xs) → m < length xs → ((d : Bor P) → text_below (id (get_or xs m d).now) x ≡ true) → Each (λ y. text_below y x ≡ true) (take (m + 1) (lent_ids xs))
   lent_up_to [] x m up within e = absurd (omega (arith, within))
   lent_up_to (y ∷ ys) x m up within e =
@@ -222,7 +222,7 @@ pub sorted-map : {A B : Type 0} (f : A → B) (id : B → List ℕ) (xs : List A
 sorted-map f id [] = refl
 sorted-map f id (x ∷ xs) = put-map f id x (sorted_by (λ a. id (f a)) xs) ∙ ap (put_by id (f x)) (sorted-map f id xs)
 
--- lent parts, sorted, as what is made of them
+-- borrowed parts, sorted, and what is made of them
 pub lent_sorted : {A B C : Type 0} (f : A → B) (g : B → C) (id : B → List ℕ) (xs : List A) (ys : List (Bor A)) → map (λ p. p.now) ys ≡ sorted_by (λ a. id (f a)) xs → map (λ p. g (f p.now)) ys ≡ map g (sorted_by id (map f xs))
 lent_sorted f g id xs ys e =
     sym (map_map (λ a. g (f a)) (λ p. p.now) ys)

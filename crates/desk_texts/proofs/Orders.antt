@@ -25,7 +25,7 @@ equal_by Less p e f g = cc
 equal_by Equal p e f g = refl
 equal_by Greater p e f g = let less : is_lt p ≡ true = ap is_lt e in cc
 
--- what is neither below nor above is the same
+-- texts neither of which is below the other are the same
 pub same_text : (x y : List ℕ) → text_below x y ≡ false → text_below y x ≡ false → x ≡ y
 same_text x y e f = exact_bytes x y (equal_by (slice_cmp nat_cmp x y) (slice_cmp nat_cmp y x) (nat_list_cmp_total.antisymm y x) e f)
 

@@ -1,4 +1,4 @@
--- Texts that are taken by their ids, each where it is first asked for.
+-- Texts that are taken by their ids, each when it is first asked for.
 use Rattle.std.proofs.Common.{◌≡◌, ◌∙◌, ℕ, zero, suc, Bool, true, false, cond, List, [], ◌∷◌, ◌++◌, ◌+◌, ◌<◌, length, get_or, take, map, Option, None, Some, sym, ap, refl, subst}
 use Rattle.std.specs.Prelude.{slice_get, unwrap_or}
 use Rattle.std.specs.BTreeMap.{IsEmpty, UpdatesBy, get_by}
@@ -23,14 +23,14 @@ pub map_borrowed : {B : Type 0} (f : List ℕ → B) (ids : List (Bor (List ℕ)
 map_borrowed f [] = refl
 map_borrowed f (id ∷ ids) = λ i. f id.now ∷ map_borrowed f ids i
 
--- one id more
+-- one more id
 pub next_id : (ids : List (Bor (List ℕ))) (n : ℕ) (id d : Bor (List ℕ)) → n < length ids → id ≡ get_or ids n d
     → map (λ id. id.now) (take n ids) ++ id.now ∷ [] ≡ map (λ id. id.now) (take (n + 1) ids)
 next_id ids n id d within is =
     sym (map-append (λ (x : Bor (List ℕ)). x.now) (take n ids) (id ∷ []))
     ∙ ap (map (λ (x : Bor (List ℕ)). x.now)) (ap (λ (x : Bor (List ℕ)). take n ids ++ x ∷ []) is ∙ sym (take_more ids n d within))
 
--- before any was asked for
+-- before any id was asked for
 pub none_asked : (texts : List ℕ → Option LicenceText) (taken : Taken) → taken.found ≡ [] → IsEmpty taken.places → ((id : List ℕ) → text_in taken.left id ≡ texts id) → AreTaken texts [] taken
 none_asked texts taken found places left = record {
   found = found;
@@ -66,7 +66,7 @@ module _ (texts : List ℕ → Option LicenceText) (ids : List (List ℕ)) (id :
     left = λ other e. ap (λ m. text_in m other) left ∙ are.left other (ap (λ m. place_in m other) (sym places) ∙ e);
   }
 
-  -- one that wasn't
+  -- an id that was not
   module _ (key : List ℕ) (is : key ≡ folded id) (none : get_by (slice_cmp nat_cmp key) old.places ≡ None) (taken : x ≡ get_by (slice_cmp nat_cmp key) old.left)
       (left : UpdatesBy (slice_cmp nat_cmp) (slice_cmp nat_cmp key) old.left new.left None)
       (places : UpdatesBy (slice_cmp nat_cmp) (slice_cmp nat_cmp key) old.places new.places (Some (length old.found))) where

@@ -36,7 +36,7 @@ bad_term texts i d within bad ts are =
     let parts : texts ≡ take i texts ++ get_or texts i d ∷ drop (suc i) texts = sym (take-append-drop i texts) ∙ ap (λ (l : List (List ℕ)). take i texts ++ l) (drop-cons texts i d within) in
     bad_among (take i texts) (get_or texts i d) (drop (suc i) texts) ts bad (subst (λ (xs : List (List ℕ)). AreTerms xs ts) parts are)
 
--- a word, of which a plus at its end was cut off
+-- a word whose last plus was cut off
 pub plus_off : (word : Bor (List ℕ)) (r : Option (Bor (List ℕ)))
     → MatchOption r (FindsTextSuffix (codes "+") word.now None) (λ x. StripsSuffix (FindsTextSuffix (codes "+")) word.now x.now)
     → (unwrap_or r word).now ≡ without_plus word.now
@@ -45,7 +45,7 @@ plus_off word (Some x) (n, (one, ends, cut), is, counts) =
     let plus = ends_text true (codes "+") word.now (n, (one, ends, cut), omega (arith, counts), subst (λ k. IsCharBoundary word.now (length word.now - k)) (sym one) cut) in
     rw (sym plus) (is ∙ ap (λ k. take (length word.now - k) word.now) one)
 
--- what follows WITH, where that is cut off in front
+-- what follows WITH, which was cut off at the start
 pub with_off : (rest : List ℕ) (r : Option (Bor (List ℕ))) → IfNone r (starts_with eqb rest (codes " WITH ") ≡ false)
     → IfSome r (λ x. starts_with eqb rest (codes " WITH ") ≡ true) → IfSome r (λ x. x.now ≡ drop 6 rest) → option_map (λ x. x.now) r ≡ behind_with rest
 with_off rest None none some is = rw none refl

@@ -1,4 +1,5 @@
--- What the desk keeps of a catalogue: the forms and the rules, of which it makes its rows. The texts of licences are for reports.
+-- What the desk keeps of a catalogue: the forms and the rules, from which it makes its rows. The texts of
+-- licences are for reports.
 use Rattle.std.specs.Prelude.{◌≡◌, ℕ, List, Option, Some, None, Result, Ok, Err, map, slice_get}
 use Rattle.std.specs.Option.{option_map, option_and_then}
 use Rattle.std.specs.Result.{result_ok}
@@ -23,23 +24,24 @@ kept_catalogue (Err fault) = Err fault
 abbrev pub kept_text : WholeText → LicenceText
 kept_text text = record { title = text.licence; body = text.body }
 
--- the text that a catalogue has of a licence or an exception, by its id in any case (SPDX 2.3, Annex D.2)
+-- the text that a catalogue has for a licence or an exception, by its id in any case (SPDX 2.3, Annex D.2)
 abbrev pub found_text : List ℕ → WholeCatalogue → Option LicenceText
 found_text id catalogue = option_map kept_text (text_for catalogue id)
 
--- the same where there is a catalogue
+-- the same, if there is a catalogue
 abbrev pub licence_text_in : Result WholeCatalogue CatalogueFault → List ℕ → Option LicenceText
 licence_text_in read id = option_and_then (found_text id) (result_ok read)
 
--- the text of an id in any case, by ids in small letters
+-- the text that a map has for an id in any case; the map's ids are in lower case
 abbrev pub text_in : BTreeMap (List ℕ) LicenceText → List ℕ → Option LicenceText
 text_in texts id = get_by (slice_cmp nat_cmp (folded id)) texts
 
--- the place that a map has for an id in any case, by ids in small letters
+-- the place that a map has for an id in any case; the map's ids are in lower case
 abbrev pub place_in : BTreeMap (List ℕ) ℕ → List ℕ → Option ℕ
 place_in places id = get_by (slice_cmp nat_cmp (folded id)) places
 
--- These texts were taken for these ids: each that has a place stands there, and each other is left.
+-- These texts were taken for these ids: the text of an id that has a place is there, and the texts of all
+-- other ids are left.
 pub record AreTaken (texts : List ℕ → Option LicenceText) (ids : List (List ℕ)) (taken : Taken) : Type 0 where
   pub found : taken.found ≡ map texts ids
   pub here : (id : List ℕ) (place : ℕ) → place_in taken.places id ≡ Some place → slice_get taken.found place ≡ Some (texts id)

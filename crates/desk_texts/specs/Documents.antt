@@ -13,17 +13,18 @@ use Rattle.desk_model.specs.declared.refusal.DocumentFault.{DocumentFault}
 use Rattle.desk_model.specs.declared.refusal.DocumentFault.TheVariants as fault
 use Rattle.desk_tagvalue.specs.Parts.{DocumentText, PackageText, ExtractedText}
 
--- x among others that rise by their ids, where its id isn't there
+-- x put among others in the order of their ids, if none of them has its id
 abbrev pub put_by : {A : Type 0} → (A → List ℕ) → A → List A → List A
 put_by id x [] = x ∷ []
 put_by id x (y ∷ ys) = if text_below (id x) (id y) then x ∷ y ∷ ys else (if bytes_eq (id x) (id y) then y ∷ ys else y ∷ put_by id x ys)
 
--- all of some by their ids, each id once; the ids of a document's packages are different, and so are those of its extracted licences
+-- all of some in the order of their ids, each id once; the packages of a document have different ids, and so
+-- do its extracted licences
 abbrev pub sorted_by : {A : Type 0} → (A → List ℕ) → List A → List A
 sorted_by id [] = []
 sorted_by id (x ∷ xs) = put_by id x (sorted_by id xs)
 
--- each package of a list with its mark, which tells whether it ships
+-- each package of a list with its mark, which says whether it ships
 abbrev pub marked : List PackageText → List Bool → List (PackageText × Bool)
 marked [] marks = []
 marked (p ∷ ps) marks = (p, slice_index_or marks 0 false) ∷ marked ps (drop 1 marks)
@@ -48,7 +49,7 @@ document_of marks d = record {
   references = map reference_of (sorted_by (λ x. x.id) d.extracted);
 }
 
--- a document's fault; want of memory is none
+-- a document's fault; `Memory` is none, so its value here doesn't matter
 abbrev pub fault_of : DocFault → DocumentFault
 fault_of doc.Memory = fault.NotUtf8
 fault_of doc.NotUtf8 = fault.NotUtf8
@@ -64,8 +65,8 @@ fault_of (doc.BadRelationship line) = fault.BadRelationship line
 fault_of doc.TooLarge = fault.TooLarge
 fault_of (doc.TooManyElements line) = fault.TooManyElements line
 
--- what the desk keeps of bytes that are read so: the document, with the packages that ship by the least set of elements
--- (`desk_bom`), or the fault
+-- what the desk keeps of bytes that are read as this: the document, with the packages that ship by the least
+-- set of elements (`desk_bom`), or the fault
 abbrev pub Keeps : Result DocumentText DocFault → Result Document DocumentFault → Type 0
 Keeps (Ok d) kept = (marks : List Bool) × AreShippingMarks d marks × (kept ≡ Ok (document_of marks d))
 Keeps (Err f) kept = kept ≡ Err (fault_of f)

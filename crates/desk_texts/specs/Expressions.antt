@@ -35,7 +35,7 @@ abbrev pub Tells : Profile → List ℕ → Bool → Type 0
 Tells profile text true = (e : Tree) × IsExpression profile text e
 Tells profile text false = IsNoExpression profile text
 
--- the fault of a text that stops; want of memory is none
+-- the fault of a text that stops; `Memory` is none, so its value here doesn't matter
 abbrev pub fault_of : ParseFault → ExpressionFault
 fault_of (parse.Memory error) = fault.Empty 0
 fault_of (parse.Empty place) = fault.Empty place
@@ -50,11 +50,11 @@ fault_of (parse.TooManyTerms place) = fault.TooManyTerms place
 abbrev pub word_place : List ℕ → ℕ
 word_place text = length text - length (skip_blanks text)
 
--- the value stops here, for a reason other than want of memory
+-- the value stops here, for a reason other than lack of memory
 abbrev pub StopsBy : Profile → List ℕ → ExpressionFault → Type 0
 StopsBy profile text f = (stop : ParseFault) × IsStopBy SpellsTree profile text stop × (0 < fault_number stop) × (f ≡ fault_of stop)
 
--- it spells a tree, and is yet NONE or NOASSERTION alone: that word is unexpected
+-- it spells a tree, but is only NONE or NOASSERTION: that word is unexpected
 abbrev pub NamesNone : Profile → List ℕ → ExpressionFault → Type 0
 NamesNone profile text f = ((e : Tree) × SpellsWithinBy profile text e) × (is_no_licence text ≡ true) × (f ≡ fault.Unexpected (word_place text))
 
@@ -63,18 +63,18 @@ abbrev pub IsFault : Profile → List ℕ → Option ExpressionFault → Type 0
 IsFault profile text None = (e : Tree) × IsExpression profile text e
 IsFault profile text (Some f) = StopsBy profile text f ⊎ NamesNone profile text f
 
--- what a list of terms is to an expression
+-- how a list of terms satisfies an expression
 abbrev pub IsVerdict : Tree → List Term → Verdict → Type 0
 IsVerdict e ts NotEnough = ¬ Holds (Contains ts) e
 IsVerdict e ts (Superfluous i) = IsFirst (CanGo ts e) i
 IsVerdict e ts Minimal = IsMinimal ts e
 
--- what texts that spell terms are to an expression: not enough where a text spells no term
+-- how texts that spell terms satisfy an expression: they are not enough if a text spells no term
 abbrev pub JudgesTerms : Tree → List (List ℕ) → Verdict → Type 0
 JudgesTerms e words verdict =
     ((ts : List Term) × AreTerms words ts × IsVerdict e ts verdict) ⊎ (((ts : List Term) → AreTerms words ts → ⊥) × (verdict ≡ NotEnough))
 
--- what they are to the expression of a value: not enough where it has none, or where a text spells no term
+-- how they satisfy the expression of a value: they are not enough if it has none, or if a text spells no term
 abbrev pub Judges : Profile → List ℕ → List (List ℕ) → Verdict → Type 0
 Judges profile text words verdict =
     ((e : Tree) × (ts : List Term) × IsExpression profile text e × AreTerms words ts × IsVerdict e ts verdict)

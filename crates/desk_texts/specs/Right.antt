@@ -1,4 +1,4 @@
--- Which readings are right: they tell of each text what it spells.
+-- Which readings are right: those that say of each text what it spells.
 use Rattle.std.specs.Prelude.{◌≡◌, ℕ, Bool, List, Option, Result}
 use Rattle.desk_fields.specs.declared.fault.DocFault.{DocFault}
 use Rattle.desk_model.specs.Readings.{Readings}
@@ -22,7 +22,7 @@ use Rattle.desk_texts.specs.Listings.{Lists, HasTerms, Prices}
 use Rattle.desk_texts.specs.Terms.{reference_in, is_licence, adopted_as, licence_id_in, exception_in}
 
 pub record AreRight (w : Readings) : Type 0 where
-  -- the licence term that a text spells, printed
+  -- the licence term that a text spells, as printed
   pub term : ReadsTerms w.term
   -- the catalogue that a text is, of which the forms and the rules are kept, or its fault
   pub catalogue : (text : List ℕ) → w.catalogue text ≡ kept_catalogue (catalogue_of w.term text)
@@ -44,13 +44,13 @@ pub record AreRight (w : Readings) : Type 0 where
   pub expression : (profile : Profile) (text : List ℕ) (tells : Bool) → Tells profile text tells → w.is_expression profile text ≡ tells
   -- why a value is no licence expression, if it is none
   pub fault : (profile : Profile) (text : List ℕ) (f : Option ExpressionFault) → IsFault profile text f → w.expression_fault profile text ≡ f
-  -- what terms are to the expression of a value
+  -- how terms satisfy the expression of a value
   pub verdict : (profile : Profile) (text : List ℕ) (words : List (List ℕ)) (verdict : Verdict) → Judges profile text words verdict → w.verdict profile text words ≡ verdict
-  -- the minimal sets of the expression of a value, printed
+  -- the minimal sets of the expression of a value, as printed
   pub alternatives : (profile : Profile) (text : List ℕ) (listing : Result (List (List (List ℕ))) ListFault) → Lists profile text listing → w.alternatives profile text ≡ listing
-  -- the distinct terms of the expression of a value, printed
+  -- the distinct terms of the expression of a value, as printed
   pub terms : (profile : Profile) (text : List ℕ) (terms : List (List ℕ)) → HasTerms profile text terms → w.terms profile text ≡ terms
-  -- the cheapest set of the expression of a value, by what printed terms cost
+  -- the cheapest set of the expression of a value, by the costs of printed terms
   pub cheapest : (profile : Profile) (text : List ℕ) (cost : List ℕ → Option ℕ) (priced : Result (Option Cheapest) ListFault) → Prices profile text cost priced → w.cheapest profile text cost ≡ priced
   -- the findings of the document that bytes spell, by a profile of operators
   pub findings : (profile : Profile) (bytes : List ℕ) (read : Result DocumentText DocFault) (found : List Finding) → Spells bytes read → Finds profile read found → w.findings profile bytes ≡ found

@@ -1,4 +1,4 @@
--- A package and whether it ships, without where it lies in memory.
+-- A package and whether it ships, regardless of where it is in memory.
 use Rattle.std.specs.Prelude.{Bool}
 use Rattle.desk_tagvalue.specs.Parts.{PackageText}
 use Rattle.desk_tagvalue.specs.Views.{package_text}

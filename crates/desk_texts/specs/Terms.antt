@@ -27,15 +27,17 @@ abbrev pub AreAllTerms : List (List ℕ) → Option (List Term) → Type 0
 AreAllTerms texts None = (ts : List Term) → AreTerms texts ts → ⊥
 AreAllTerms texts (Some ts) = AreTerms texts ts
 
--- the reference that a printed term names: its first word, where that is a reference
+-- the reference that a printed term names: its first word, if that is a reference
 abbrev pub reference_in : List ℕ → Option (List ℕ)
 reference_in term = if is_reference (first_word term) then Some (first_word term) else None
 
--- a printed term is a licence alone: an idstring (Annex D.2), so without plus and exception, and no reference
+-- a printed term is a licence alone: an idstring (Annex D.2), so without plus and exception, and not a
+-- reference
 abbrev pub is_licence : List ℕ → Bool
 is_licence term = is_idstring term && not (is_reference term)
 
--- the licence in place of a printed term's word, and what follows the word: its exception, if it has one
+-- the licence in place of a printed term's first word, with what follows that word: its exception, if it has
+-- one
 abbrev pub adopted_as : List ℕ → List ℕ → List ℕ
 adopted_as licence term = licence ++ after_word term
 
@@ -51,6 +53,6 @@ licence_id_in term = without_plus (first_word term)
 abbrev pub behind_with : List ℕ → Option (List ℕ)
 behind_with rest = if starts_with nat_eq rest (codes " WITH ") then Some (drop 6 rest) else None
 
--- the exception of a printed term: what follows WITH behind the first word, if that is there (Annex D.4)
+-- the exception of a printed term: what follows WITH after the first word, if WITH is there (Annex D.4)
 abbrev pub exception_in : List ℕ → Option (List ℕ)
 exception_in term = behind_with (after_word term)

@@ -89,7 +89,7 @@ fn package_copies(
     Ok(Items::from_vec(kept))
 }
 
-/// The first of some marks, and those behind it.
+/// The first of some marks, and those after it.
 fn first_of(marks: &[bool]) -> (bool, &[bool])
     ensures first { result.0 ≡ slice_index_or marks.now 0 false }
     ensures behind { result.1.now ≡ drop 1 marks.now }
@@ -173,7 +173,7 @@ fn named(alloc: Global, tag: Tag) -> Result<Text, AllocError>
     Text::of(alloc, tag.name())
 }
 
-/// A document's fault, or want of memory.
+/// A document's fault, or an error if it is that no memory was left.
 fn fault_of(alloc: Global, fault: DocFault) -> Result<DocumentFault, AllocError>
     ensures fault { IfOk result (λ kept. kept ≡ fault_of fault) }
     ensures told { OnOk result (fault ≡ DocFault.Memory → ⊥) }
@@ -201,8 +201,8 @@ fn fault_of(alloc: Global, fault: DocFault) -> Result<DocumentFault, AllocError>
     }
 }
 
-/// The document that bytes spell, as the desk keeps it, with which of its packages ship, or their
-/// fault.
+/// The document that bytes spell, as the desk keeps it, with which of its packages ship, or the
+/// fault of the bytes.
 pub(crate) fn read_document(
     alloc: Global,
     bytes: &[u8],

@@ -40,7 +40,7 @@ fn word_place(text: &str) -> usize
     text.len() - skip_blanks(text).len()
 }
 
-/// The fault of a text that stops, or want of memory.
+/// The fault of a text that stops, or an error if it is that no memory was left.
 fn fault_of(fault: ParseFault) -> Result<ExpressionFault, AllocError>
     ensures fault { IfOk result (λ told. told ≡ fault_of fault) }
     ensures stop { OnOk result (0 < fault_number fault) }
@@ -57,8 +57,8 @@ fn fault_of(fault: ParseFault) -> Result<ExpressionFault, AllocError>
     }
 }
 
-/// Why a value is no licence expression by a profile of operators, if it is none. A text that stops
-/// is told by its stop, also where it is too long.
+/// Why a value is no licence expression by a profile of operators, if it is none. If reading stops,
+/// the fault is the one that stops it, even if the text is too long.
 pub(crate) fn expression_fault(
     alloc: Global,
     text: &str,
@@ -73,7 +73,7 @@ pub(crate) fn expression_fault(
     }
 }
 
-/// What terms are to an expression.
+/// How terms satisfy an expression.
 fn judged(expr: &Expr, terms: &[Term]) -> Verdict
     ensures { IsVerdict expr.now terms.now result }
 {
@@ -84,7 +84,7 @@ fn judged(expr: &Expr, terms: &[Term]) -> Verdict
     }
 }
 
-/// What texts that spell terms are to an expression.
+/// How texts that spell terms satisfy an expression.
 pub(crate) fn verdict(alloc: Global, expr: &Expr, words: &[Text]) -> Result<Verdict, AllocError>
     ensures { IfOk result (JudgesTerms expr.now words.now) }
 {

@@ -12,7 +12,7 @@ use desk_model::Finding;
 use desk_tagvalue::{DocFault, read};
 use std::alloc::{AllocError, Global};
 
-/// The findings of the document that bytes spell. Bytes that spell none have none.
+/// The findings of the document that bytes spell. Bytes that spell no document have none.
 pub(crate) fn read_findings(
     alloc: Global,
     bytes: &[u8],

@@ -1,9 +1,9 @@
-//! What the texts that a desk is given say: documents (SPDX 2.3, tag-value), licence expressions
-//! and terms (SPDX 2.3, Annex D), and catalogues of duties.
+//! What the texts given to a desk say: documents (SPDX 2.3, tag-value), licence expressions and
+//! terms (SPDX 2.3, Annex D), and catalogues of duties.
 //!
-//! `Standard` is the desk's reader of texts (`desk_access::texts::Texts`). Which readings are right
-//! is said by `AreRight` of `specs/Right.antt`, in the words of the readers below: of each text
-//! they tell what it spells.
+//! `Standard` is the desk's reader of texts (`desk_access::texts::Texts`). `AreRight` of
+//! `specs/Right.antt` says which readings are right, in the words of the readers below: those that
+//! say of each text what it spells.
 #![tactic(auto)]
 
 mod catalogue;

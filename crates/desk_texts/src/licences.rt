@@ -14,7 +14,7 @@ use desk_model::LicenceText;
 use std::alloc::{AllocError, Global};
 use std::collections::BTreeMap;
 
-/// Texts by their ids: of those with the same id the first.
+/// Texts by their ids. Among texts with the same id, the first is kept.
 fn by_id(
     alloc: Global,
     texts: Vec<desk_catalogue::LicenceText>,
@@ -35,7 +35,7 @@ fn by_id(
     Ok(map)
 }
 
-/// The texts of the catalogue that a text is, by their ids; none where it is no catalogue.
+/// The texts of the catalogue that a text is, by their ids, or none if it is no catalogue.
 fn licences_of(alloc: Global, text: &str) -> Result<BTreeMap<Key, LicenceText>, AllocError>
     ensures { (terms : List ℕ → Option (List ℕ)) → ReadsTerms terms → IfOk result (λ texts.
         (id : List ℕ) → text_in texts id ≡ licence_text_in (catalogue_of terms text.now) id) }
@@ -50,7 +50,7 @@ fn licences_of(alloc: Global, text: &str) -> Result<BTreeMap<Key, LicenceText>, 
     }
 }
 
-/// A copy of what stands at a place.
+/// A copy of the text at a place.
 fn copy_at(found: &[Option<LicenceText>], place: usize) -> Result<Option<LicenceText>, AllocError>
     ensures { IfOk result (λ copy. (x : Option LicenceText) → slice_get found.now place ≡ Some x
         → copy ≡ x) }
@@ -64,8 +64,8 @@ fn copy_at(found: &[Option<LicenceText>], place: usize) -> Result<Option<Licence
     }
 }
 
-/// The texts that were found, and those that are left: each is taken where it is first asked for,
-/// since a body may be large, and copied from there where it is asked for again.
+/// The texts that were found, and those that are left. Since a body may be large, each is moved out
+/// when it is first asked for, and copied from there when it is asked for again.
 #[derive(Drop)]
 pub(crate) struct Taken {
     pub(crate) left: BTreeMap<Key, LicenceText>,
@@ -74,7 +74,7 @@ pub(crate) struct Taken {
 }
 
 impl Taken {
-    /// Adds the text of an id that was asked for before, from its place.
+    /// Adds the text of an id that was asked for before, by its place.
     fn copy(&mut self, place: usize) -> Result<(), AllocError>
         ensures { (texts : List ℕ → Option LicenceText) (ids : List (List ℕ)) (id : List ℕ)
             → AreTaken texts ids self.old → place_in self.old.places id ≡ Some place
@@ -84,7 +84,7 @@ impl Taken {
         self.found.push(text)
     }
 
-    /// Adds the text of an id that wasn't.
+    /// Adds the text of an id that was not.
     fn take(&mut self, key: Key) -> Result<(), AllocError>
         ensures { (texts : List ℕ → Option LicenceText) (ids : List (List ℕ)) (id : List ℕ)
             → AreTaken texts ids self.old → key ≡ folded id → place_in self.old.places id ≡ None

@@ -1,4 +1,4 @@
-//! The sets of terms that an expression is true under, printed.
+//! The sets of terms under which an expression is true, as printed.
 
 ghost use Rattle.std.specs.Prelude.{◌≡◌, ℕ, List, Option, IfOk, map};
 ghost use Rattle.desk_expr.specs.Tree.{Tree};
@@ -16,7 +16,7 @@ use desk_expr::{Expr, Term, TermTable, print_term};
 use desk_model::{Cheapest, ListFault};
 use std::alloc::{AllocError, Global};
 
-/// Why an expression isn't listed, or want of memory.
+/// Why an expression isn't listed, or an error if it is that no memory was left.
 fn list_fault(fault: AltFault) -> Result<ListFault, AllocError>
     ensures { IfOk result (λ told. (e : Tree) → IsFaultOf e fault → IsListFault e told) }
 {
@@ -107,8 +107,8 @@ impl Cost for Costs<'_> {
     }
 }
 
-/// The cheapest set of terms of an expression, where each of its distinct terms costs what stands
-/// at its place, at most 1,000,000.
+/// The cheapest set of terms of an expression. The costs are those of its distinct terms in order,
+/// each at most 1,000,000.
 pub(crate) fn cheapest(
     alloc: Global,
     expr: &Expr,

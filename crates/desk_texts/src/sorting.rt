@@ -27,7 +27,7 @@ fn is_below<P: Identified>(sorted: &VecDeque<&P>, place: usize, id: &str) -> boo
     sorted[place].id() < id
 }
 
-/// How many of the ids are below one, by halving.
+/// How many of the ids are below another, by binary search.
 fn lower<P: Identified>(sorted: &VecDeque<&P>, id: &str) -> usize
     requires { Rises (map (λ p. P.id_of p.now) sorted.now.items) }
     ensures { IsLower (map (λ p. P.id_of p.now) sorted.now.items) id.now result }
@@ -45,7 +45,7 @@ fn lower<P: Identified>(sorted: &VecDeque<&P>, id: &str) -> usize
     low
 }
 
-/// Whether a part goes in at a place: there is none with its id.
+/// Whether a part goes in at a place, because there is none with its id.
 fn is_new<P: Identified>(sorted: &VecDeque<&P>, place: usize, id: &str) -> bool
     requires { place ≤ length sorted.now.items }
     ensures { result ≡ is_below_first id.now
@@ -72,8 +72,8 @@ fn put_by<'s, P: Identified>(sorted: &mut VecDeque<&'s P>, part: &'s P) -> Resul
     Ok(())
 }
 
-/// The parts by their ids, each id once. They are taken from the last, so those of a document that
-/// numbers them go in near the front, where a `VecDeque` moves few.
+/// The parts by their ids, each id once. They are inserted from the last to the first, so those of
+/// a document that numbers them go in near the front, where a `VecDeque` moves few.
 pub(crate) fn sorted_by<'s, P: Identified>(
     alloc: Global,
     parts: &'s [P],

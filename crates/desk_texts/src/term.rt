@@ -24,7 +24,7 @@ fn read_term(alloc: Global, text: &str) -> Result<Option<Term>, AllocError>
     }
 }
 
-/// The term that a text spells, printed.
+/// The term that a text spells, as printed.
 pub(crate) fn printed_term(alloc: Global, text: &str) -> Result<Option<Text>, AllocError>
     ensures { IfOk result (IsTermOf text.now) }
 {
@@ -63,7 +63,7 @@ fn reference_in(term: &str) -> Option<&str>
     }
 }
 
-/// The same as a text of its own.
+/// The same as an owned text.
 pub(crate) fn reference_of(alloc: Global, term: &str) -> Result<Option<Text>, AllocError>
     ensures { IfOk result (λ reference. reference ≡ reference_in term.now) }
 {
@@ -113,7 +113,7 @@ fn exception_in(term: &str) -> Option<&str>
     behind(rest, " WITH ")
 }
 
-/// The same as a text of its own.
+/// The same as an owned text.
 pub(crate) fn exception_of(alloc: Global, term: &str) -> Result<Option<Text>, AllocError>
     ensures { IfOk result (λ exception. exception ≡ exception_in term.now) }
 {
