@@ -1,4 +1,4 @@
--- What follows of the call that words hold, from what `clap` answers to them.
+-- What the answers of `clap` say about the call that words hold.
 use Rattle.std.proofs.Common.{◌≡◌, true, [], ◌∷◌, List, Option, None, Some, inl, inr, refl, sym, ◌∙◌, subst}
 use Rattle.std.specs.Prelude.{Result, Ok, Err, IfOk, IfErr}
 use Rattle.clap.specs.Words.{App, HasKind, IsAmong, Kinds, Row, Text, fault_of, is_simple, is_simple_and_free, kind_of, subcommand_of}
@@ -11,7 +11,7 @@ use Rattle.desk_line.specs.declared.call.Call.{Call}
 use Rattle.desk_line.specs.declared.call.LineFault.{LineFault}
 use Rattle.desk_line.specs.declared.call.LineFault.TheVariants.{Memory, Usage}
 
--- where nothing is refused, what is found stands
+-- if nothing is refused, what was found is the call
 found_where_none : (kinds : Kinds) (found : Option Call) → kinds ≡ [] → unless kinds found ≡ found
 found_where_none kinds found none = subst (λ (ks : Kinds). unless ks found ≡ found) (sym none) refl
 
@@ -20,7 +20,7 @@ none_where_refused : (kinds lacked : Kinds) (found : Option Call) (kind : ErrorK
 none_where_refused [] lacked found kind among = absurd among
 none_where_refused (first ∷ rest) lacked found kind among = (refl, among)
 
--- words that `clap` takes hold the call of the subcommand that it met
+-- words that `clap` accepts hold the call of the subcommand that it found
 pub taken : (app : App) (words : List Text) (met : Option (Text × List Row)) → app ≡ desk_app
     → (is_simple_and_free app ≡ true → fault_of app words ≡ []) → (is_simple app ≡ true → met ≡ subcommand_of app words)
     → (fault_of desk_app words ≡ []) × (call_of words ≡ call_at met)
@@ -34,7 +34,7 @@ taken app words met same none found =
           ∙ sym (subst (λ m. call_at met ≡ call_at m) found_whole refl),
     )
 
--- what `clap` met is the subcommand of the words
+-- what `clap` found is the subcommand of the words
 pub found_of_app : (app : App) (words : List Text) (met : Option (Text × List Row)) → app ≡ desk_app
     → (is_simple app ≡ true → met ≡ subcommand_of app words) → met ≡ subcommand_of desk_app words
 found_of_app app words met same found = subst (λ (a : App). is_simple a ≡ true → met ≡ subcommand_of a words) same found refl
@@ -51,7 +51,7 @@ refused app words error fault same kinds of =
         (none_where_refused (fault_of desk_app words) (lacking (subcommand_of desk_app words)) (call_at (subcommand_of desk_app words)) (kind_of error) among)
     go (Memory refused) kinds of = tt
 
--- an error of one of these kinds tells of it
+-- an error of one of these kinds is reported as one
 pub lack_told : (kinds : Kinds) (kind : ErrorKind) (error : Error) (fault : LineFault) → IsAmong kind kinds → kind_of error ≡ kind → IsFaultOf error fault
     → IsLack kinds fault
 lack_told kinds kind error (Memory refused) among is of = tt
@@ -62,7 +62,7 @@ pub lack_of : (met : Option (Text × List Row)) (fault : LineFault) → call_at 
 lack_of met (Memory refused) none lack = tt
 lack_of met (Usage error) none lack = (none, lack)
 
--- words that `clap` takes, and of which the subcommand that was met is no call, hold none
+-- words that `clap` accepts hold no call if the subcommand that it found is none
 pub lacked : (words : List Text) (met : Option (Text × List Row)) (fault : LineFault) → (fault_of desk_app words ≡ []) × (call_of words ≡ call_at met)
     → met ≡ subcommand_of desk_app words → IsLackOf met fault → IsFault words fault
 lacked words met (Memory refused) whole found lack = tt
@@ -72,7 +72,7 @@ lacked words met (Usage told) whole found lack =
     (subst (λ m. lacking m ≡ lacking met) found refl) in
     (whole.1 ∙ lack.0, subst (λ (ks : Kinds). IsAmong (kind_of told) ks) (sym kinds) lack.1)
 
--- what comes of what `clap` met comes of the words
+-- what is made of what `clap` found is made of the words
 pub call_told : (words : List Text) (met : Option (Text × List Row)) (found : Result Call LineFault) → call_of words ≡ call_at met
     → IfOk found (λ call. call_at met ≡ Some call) → IfOk found (λ call. call_of words ≡ Some call)
 call_told words met (Ok call) whole is = whole ∙ is

@@ -1,4 +1,4 @@
--- What `clap` reads as a number is the one that the digits of the value write.
+-- What `clap` reads as a number is the number that the digits of the value write.
 use Rattle.std.proofs.Common.{◌≡◌, ◌<◌, ◌^◌, ℕ, Bool, true, false, List, [], ◌∷◌, length, Option, Some, None, Ok, Err, refl, sym, ap, ◌∙◌}
 use Rattle.std.specs.Prelude.{nat_lt, option_and_then, ◌&&◌, Result}
 use Rattle.std.specs.List.{list_all}

@@ -25,7 +25,7 @@ use Rattle.desk_line.specs.declared.reports.Release.{Release}
 use Rattle.desk_line.specs.declared.call.LineFault.{LineFault}
 use Rattle.desk_line.specs.declared.call.LineFault.TheVariants.{Memory, Usage}
 
--- the profile that a word writes: its number, a digit
+-- the profile whose number a word is, one digit
 abbrev pub profile_written : Text → Option Profile
 profile_written (digit ∷ []) = profile_numbered (digit - 48)
 profile_written _ = None
@@ -42,7 +42,7 @@ check_in rows = option_and_then (λ expression. option_and_then (λ terms. optio
 abbrev pub alternatives_in : List Row → Option Call
 alternatives_in rows = option_and_then (λ expression. option_map (λ profile. Alternatives expression profile) (profile_in rows)) (first_of (codes "EXPR") rows)
 
--- whether a flag is used, which `clap` writes as a value
+-- whether a flag is used; `clap` writes this as a value
 abbrev pub is_true : Option Text → Bool
 is_true None = false
 is_true (Some value) = bytes_eq value (codes "true")
@@ -60,7 +60,7 @@ import_in rows = option_and_then (λ database. option_and_then (λ document. opt
 abbrev pub catalogue_in : List Row → Option Call
 catalogue_in rows = option_and_then (λ database. option_map (λ catalogue. File database (Catalogue catalogue)) (first_of (codes "TOML") rows)) (first_of (codes "FILE") rows)
 
--- a value that can stand in a field
+-- a value that can be written in a field
 abbrev pub field_in : Text → List Row → Option Text
 field_in id rows = option_and_then if_stands (first_of id rows)
 
@@ -73,7 +73,7 @@ gather_in rows = option_and_then (λ folder. option_and_then (λ name. option_an
 abbrev pub lint_in : List Row → Option Call
 lint_in rows = option_map (λ folder. Lint folder (is_true (first_of (codes "JSON") rows))) (first_of (codes "DIR") rows)
 
--- the number that a value is, as `clap` reads it, where it has so many bits
+-- the number that a value is, as `clap` reads it, if it has at most this many bits
 abbrev pub number_in : ℕ → Text → List Row → Option ℕ
 number_in bits id rows = option_and_then (number_written bits) (one_of id rows)
 
@@ -87,7 +87,7 @@ abbrev pub release_in : List Row → Option Release
 release_in rows = option_and_then (λ database. option_map (λ release. let found : Release = record { database = database; release = release } in found)
     (first_of (codes "RELEASE") rows)) (first_of (codes "FILE") rows)
 
--- the calls of those that hand out a text about a release
+-- the calls of the subcommands that write a text about a release
 abbrev pub notices_in : List Row → Option Call
 notices_in rows = option_map (λ found. File found.database (Notices found.release)) (release_in rows)
 
@@ -114,17 +114,17 @@ migrate_in rows = option_map (λ database. File database Migrate) (first_of (cod
 abbrev pub explain_in : List Row → Option Call
 explain_in rows = option_map Explain (first_of (codes "NAME") rows)
 
--- the profile that a word writes, capitals where there is none
+-- the profile whose number a word is, or capitals if there is no word
 abbrev pub profile_if_given : Option Text → Option Profile
 profile_if_given None = Some Capitals
 profile_if_given (Some value) = profile_written value
 
--- the proposals for a document in a file
+-- the proposals for a document in a file of its own
 abbrev pub filed_proposals_in : List Row → Option Call
 filed_proposals_in rows = option_and_then (λ document. option_and_then (λ number. option_map (λ profile. Propose document number profile)
     (profile_if_given (first_of (codes "PROFILE") rows))) (number_in 32 (codes "N") rows)) (first_of (codes "DOC") rows)
 
--- a number or a profile goes with the file of a document
+-- a number or a profile is given; only a document in a file of its own needs them
 abbrev pub has_reading : List Row → Bool
 has_reading rows = is_some (number_in 32 (codes "N") rows) || is_some (first_of (codes "PROFILE") rows)
 
@@ -142,7 +142,7 @@ proposals_by (Some database) rows = held_proposals_in database rows
 abbrev pub propose_in : List Row → Option Call
 propose_in rows = proposals_by (first_of (codes "FILE") rows) rows
 
--- the calls of those that prepare a freeze
+-- the calls of the subcommands that prepare a freeze
 abbrev pub choices_in : List Row → Option Call
 choices_in rows = option_map (λ found. File found.database (Choices found.release)) (release_in rows)
 
@@ -161,12 +161,12 @@ filter_in rows = record {
 abbrev pub has_filter : Filter → Bool
 has_filter filter = is_some filter.release || (is_some filter.code || (filter.is_open || is_some filter.past))
 
--- a day, if there is one
+-- a day, if anything is given
 abbrev pub is_day_if_given : Option Text → Bool
 is_day_if_given None = true
 is_day_if_given (Some value) = is_day value
 
--- what a word says is listed: a filter goes with duties alone
+-- what a word says is to be listed; filters are for duties alone
 abbrev pub listed_as : Text → Filter → Option Listed
 listed_as what filter =
     if bytes_eq what (codes "duties") then Some (listed.Duties filter.release filter.code filter.is_open filter.past)
@@ -245,44 +245,45 @@ call_by kind.Convert rows = convert_in rows
 abbrev pub call_in : Text → List Row → Option Call
 call_in name rows = option_and_then (λ kind. call_by kind rows) (kind_at name)
 
--- the call of the subcommand that was met, if any
+-- the call of the subcommand that was found, if any
 abbrev pub call_at : Option (Text × List Row) → Option Call
 call_at met = option_and_then (λ found. call_in found.0 found.1) met
 
--- the call, where nothing is refused
+-- the call, if nothing is refused
 abbrev pub unless : Kinds → Option Call → Option Call
 unless [] call = call
 unless (kind ∷ more) call = None
 
--- the call of the subcommand and the values that `clap` finds in the words, where it takes them
+-- the call of the subcommand and values that `clap` finds in the words, if it accepts them
 abbrev pub call_of : List Text → Option Call
 call_of words = unless (fault_of desk_app words) (call_at (subcommand_of desk_app words))
 
--- why a subcommand with its values, which `clap` took, is no call: there is none, or one of its values is none that it may have
+-- why a subcommand with its values, which `clap` accepted, is no call: there is none, or one of its values
+-- isn't allowed
 abbrev pub lacking : Option (Text × List Row) → Kinds
 lacking None = MissingSubcommand ∷ []
 lacking (Some met) = InvalidValue ∷ []
 
--- why words hold no call: what `clap` refuses in them, or else what the subcommand lacks
+-- why words hold no call: what `clap` refuses in them or, if nothing, what the subcommand lacks
 abbrev pub usage_of : List Text → Kinds
 usage_of words = or_else (fault_of desk_app words) (lacking (subcommand_of desk_app words))
 
--- the words hold no call, and the error is of a kind that `clap` gives for them; or there was no memory
+-- the words hold no call, and the error is of a kind that `clap` gives for them; or no memory was left
 abbrev pub IsFault : List Text → LineFault → Type 0
 IsFault words (Usage error) = (call_of words ≡ None) × IsAmong (kind_of error) (usage_of words)
 IsFault words (Memory error) = Unit {0}
 
--- the fault tells of the error: memory where that is its kind
+-- the fault reports the error: as out of memory if that is its kind
 abbrev pub IsFaultOf : Error → LineFault → Type 0
 IsFaultOf error (Usage told) = (told ≡ error) × (kind_of error ≢ OutOfMemory)
 IsFaultOf error (Memory refused) = kind_of error ≡ OutOfMemory
 
--- the error is of one of these kinds, or there was no memory
+-- the error is of one of these kinds, or no memory was left
 abbrev pub IsLack : Kinds → LineFault → Type 0
 IsLack kinds (Usage error) = IsAmong (kind_of error) kinds
 IsLack kinds (Memory error) = Unit {0}
 
--- the subcommand that was met is no call, and the error is of a kind that says why; or there was no memory
+-- the subcommand that was found is no call, and the error is of a kind that says why; or no memory was left
 abbrev pub IsLackOf : Option (Text × List Row) → LineFault → Type 0
 IsLackOf met (Usage error) = (call_at met ≡ None) × IsAmong (kind_of error) (lacking met)
 IsLackOf met (Memory error) = Unit {0}

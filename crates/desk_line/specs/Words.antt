@@ -6,7 +6,7 @@ use Rattle.clap.specs.Simple.{on_top}
 use Rattle.clap.specs.declared.builder.action.ArgAction.TheVariants.{SetTrue}
 use Rattle.clap.specs.declared.builder.value_parser.ValueParser.TheVariants.{Signed}
 
--- a word that must stand in its place
+-- a required word at its position
 abbrev pub word : Text → Rule
 word name = record (new_rule name) { required = true }
 
@@ -14,11 +14,11 @@ word name = record (new_rule name) { required = true }
 abbrev pub words : Text → Rule
 words name = record (word name) { range = Some (record { start_inclusive = 1; end_inclusive = usize_max }) }
 
--- `--LONG NAME`, which has a value where it isn't used
+-- `--LONG NAME`, which has this value if it isn't used
 abbrev pub option : Text → Text → Text → Rule
 option name long value = record (new_rule name) { long = Some long; defaults = value ∷ [] }
 
--- `--profile PROFILE`, 1 where it isn't used
+-- `--profile PROFILE`, 1 if it isn't used
 abbrev pub profile_option : Rule
 profile_option = option (codes "PROFILE") (codes "profile") (codes "1")
 
@@ -30,7 +30,7 @@ check_app = with_rule (with_rule (with_rule (new_app (codes "check")) profile_op
 abbrev pub alternatives_app : App
 alternatives_app = with_rule (with_rule (new_app (codes "alternatives")) profile_option) (word (codes "EXPR"))
 
--- `--LONG NAME`, which may be left out
+-- `--LONG NAME`, optional
 abbrev pub optional : Text → Text → Rule
 optional name long = record (new_rule name) { long = Some long }
 
@@ -45,7 +45,7 @@ kept_script_app = with_rule (new_app (codes "script")) (optional (codes "FILE") 
 abbrev pub script_app : App
 script_app = with_rule (with_rule kept_script_app (flag (codes "EXPLAIN") (codes "explain"))) (flag (codes "STOP") (codes "stop"))
 
--- `--LONG NAME`, which must be used
+-- `--LONG NAME`, required
 abbrev pub wanted : Text → Text → Rule
 wanted name long = record (new_rule name) { long = Some long; required = true }
 
@@ -72,15 +72,15 @@ gather_app = with_rule (with_rule named_tree_app (wanted (codes "NAMESPACE") (co
 abbrev pub lint_app : App
 lint_app = with_rule (with_rule (new_app (codes "lint")) (word (codes "DIR"))) (flag (codes "JSON") (codes "json"))
 
--- `--LONG NAME`, a whole number from 0 to this one, which must be used
+-- `--LONG NAME`, a whole number from 0 to this one, required
 abbrev pub number_option : Text → Text → ℕ → Rule
 number_option name long most = record (wanted name long) { parser = Some (Signed (pos 0) (pos most)) }
 
--- the same, which may be left out
+-- the same, but optional
 abbrev pub optional_number : Text → Text → ℕ → Rule
 optional_number name long most = record (optional name long) { parser = Some (Signed (pos 0) (pos most)) }
 
--- a whole number from 0 to this one, which must stand in its place
+-- a whole number from 0 to this one, required at its position
 abbrev pub count : Text → ℕ → Rule
 count name most = record (word name) { parser = Some (Signed (pos 0) (pos most)) }
 
@@ -88,16 +88,17 @@ count name most = record (word name) { parser = Some (Signed (pos 0) (pos most))
 abbrev pub release_app : Text → App
 release_app name = with_rule (with_rule (new_app name) database_option) (word (codes "RELEASE"))
 
--- `changes --db FILE DUTY`, by the numbers that a duty may have
+-- `changes --db FILE DUTY`, limited to the numbers that a duty may have
 abbrev pub changes_app : App
 changes_app = with_rule (with_rule (new_app (codes "changes")) database_option) (count (codes "DUTY") 4294967295)
 
--- `serve --db FILE --port PORT --limit N`, by the numbers that a port may have, and a million connections
+-- `serve --db FILE --port PORT --limit N`, limited to the numbers that a port may have, and to a million
+-- connections
 abbrev pub serve_app : App
 serve_app = with_rule (with_rule (with_rule (new_app (codes "serve")) database_option)
     (number_option (codes "PORT") (codes "port") 65535)) (number_option (codes "N") (codes "limit") 1000000)
 
--- `desk`, which has a version, asks for a subcommand, and shows its help where there are no words
+-- `desk`, which has a version, requires a subcommand, and shows its help if there are no words
 abbrev pub desk_alone : App
 desk_alone = on_top (λ s. record s { has_version = true; subcommand_required = true; arg_required_else_help = true })
     (new_app (codes "desk"))
@@ -106,11 +107,11 @@ desk_alone = on_top (λ s. record s { has_version = true; subcommand_required = 
 abbrev pub judging_app : App
 judging_app = with_subcommand (with_subcommand desk_alone check_app.top) alternatives_app.top
 
--- and with those that hand a desk its requests
+-- and with those that make requests of a desk
 abbrev pub requesting_app : App
 requesting_app = with_subcommand (with_subcommand (with_subcommand judging_app script_app.top) import_app.top) catalogue_app.top
 
--- and with those that hand out texts
+-- and with those that write texts
 abbrev pub counting_app : App
 counting_app = with_subcommand (with_subcommand requesting_app (release_app (codes "notices")).top) (release_app (codes "duties")).top
 
@@ -145,7 +146,8 @@ explain_app = with_rule (new_app (codes "explain")) (word (codes "NAME"))
 abbrev pub explaining_app : App
 explaining_app = with_subcommand serving_app explain_app.top
 
--- `propose [--db FILE] [--profile PROFILE] [--document N] DOC`, by the numbers that a document may have
+-- `propose [--db FILE] [--profile PROFILE] [--document N] DOC`, limited to the numbers that a document may
+-- have
 abbrev pub kept_proposals_app : App
 kept_proposals_app = with_rule (new_app (codes "propose")) (optional (codes "FILE") (codes "db"))
 

@@ -14,7 +14,7 @@ use std::alloc::{AllocError, Global};
 /// Its arguments.
 pub(crate) const ARGUMENTS: [Argument; 2] = [PROFILE, EXPRESSION];
 
-/// The call with the values of these matches, or `None` where they lack one.
+/// The call with the values of these matches, or `None` if they lack one.
 pub fn alternatives_from(
     alloc: Global,
     matches: &ArgMatches<'_>,

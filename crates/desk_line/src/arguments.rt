@@ -10,23 +10,23 @@ use clap::builder::ValueParser;
 use clap::{Arg, ArgAction};
 use std::alloc::{AllocError, Global};
 
-/// How an argument stands among the words.
+/// How an argument is written among the words.
 #[derive(Clone, Copy)]
 pub(crate) enum Form {
-    /// A word that must stand in its place.
+    /// A required word at its position.
     Word,
     /// One word or more, up to the end of the line.
     Words,
-    /// A named value, which has another one where it isn't used.
+    /// A named value with a default.
     Preset {
         long: &'static str,
         value: &'static str,
     },
-    /// A named value that must be there.
+    /// A named value that is required.
     Wanted {
         long: &'static str,
     },
-    /// A named value that may be left out.
+    /// A named value that is optional.
     Optional {
         long: &'static str,
     },
@@ -34,16 +34,16 @@ pub(crate) enum Form {
     Flag {
         long: &'static str,
     },
-    /// A whole number, from 0 to this one, that must stand in its place.
+    /// A whole number from 0 to this one, required at its position.
     Count {
         most: u32,
     },
-    /// A named whole number, from 0 to this one, that must be there.
+    /// A named whole number from 0 to this one, required.
     Number {
         long: &'static str,
         most: u32,
     },
-    /// A named whole number, from 0 to this one, that may be left out.
+    /// A named whole number from 0 to this one, optional.
     OptionalNumber {
         long: &'static str,
         most: u32,
@@ -75,7 +75,7 @@ pub(crate) const EXPRESSION: Argument = Argument {
     help: "The licence expression, one word: quote it",
 };
 
-/// The file that keeps a desk, which must be named.
+/// The file that keeps a desk, which is required.
 pub(crate) const DATABASE: Argument = Argument {
     name: "FILE",
     form: Form::Wanted { long: "db" },

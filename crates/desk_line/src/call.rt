@@ -20,9 +20,9 @@ pub enum Call {
         expression: Text,
         profile: Profile,
     },
-    /// Replies to the requests of standard input, a line each, over the desk that is kept in a
-    /// file, or over one in memory. What isn't done is explained or not, and ends the script or
-    /// not.
+    /// Replies to the requests of standard input, one on each line, over the desk that is kept in a
+    /// file, or over one in memory. A request that isn't carried out is explained or not, and ends
+    /// the script or not.
     Script {
         database: Option<Text>,
         explain: bool,
@@ -34,7 +34,7 @@ pub enum Call {
         call: FileCall,
     },
     /// The document of the tree of files in a folder, with its name, its namespace and when it was
-    /// made.
+    /// created.
     Gather {
         folder: Text,
         name: Text,
@@ -46,8 +46,7 @@ pub enum Call {
         folder: Text,
         json: bool,
     },
-    /// The tag-value document that says what an SPDX document in JSON says, the file of which has
-    /// this path.
+    /// The SPDX document in JSON at this path, as a tag-value document that says the same.
     Convert {
         document: Text,
     },
@@ -55,8 +54,8 @@ pub enum Call {
     Explain {
         name: Text,
     },
-    /// The conclusions that are proposed for the document with a number, the file of which has this
-    /// path. Operators of its licence expressions are written by the profile.
+    /// The conclusions that are proposed for the document at this path, which has this number. The
+    /// operators of its licence expressions are written by the profile.
     Propose {
         document: Text,
         number: u32,
@@ -67,24 +66,24 @@ pub enum Call {
 /// A subcommand for the file that keeps a desk, with its other values.
 #[derive(Drop)]
 pub enum FileCall {
-    /// The import of a document, the file of which has this path. Operators of its licence
-    /// expressions are written by the profile.
+    /// The import of the document at this path. The operators of its licence expressions are
+    /// written by the profile.
     Import { document: Text, profile: Profile },
-    /// The loading of a catalogue, the file of which has this path.
+    /// The loading of the catalogue at this path.
     Catalogue { catalogue: Text },
     /// The notices of a release.
     Notices { release: Text },
     /// The table of the duties of a release.
     Duties { release: Text },
-    /// How many duties of a release are in which state.
+    /// How many duties of a release are in each state.
     Totals { release: Text },
     /// The changes of a duty.
     Changes { duty: u32 },
     /// A page on a release, its duties and its notices.
     Page { release: Text },
-    /// All that stands in the way of a freeze of a release.
+    /// Everything that keeps a release from being frozen.
     Wanting { release: Text },
-    /// The choices of a release where there is only one.
+    /// The choices of a release for the packages that have only one.
     Choices { release: Text },
     /// The conclusions and the choices that are proposed for a document.
     Proposals { document: u32 },
@@ -92,20 +91,20 @@ pub enum FileCall {
     List { list: Listed },
     /// The audit of its tables.
     Audit,
-    /// The migration of a file of an older version to this one's tables.
+    /// The migration of a file of an older version to the tables of this one.
     Migrate,
-    /// Replies over HTTP, at a port of this machine's own address, to so many connections. Port 0
-    /// is one that is free.
+    /// Replies over HTTP, at a port of this machine's own address, to at most `limit` connections.
+    /// Port 0 means any free port.
     Serve { port: u16, limit: u32 },
 }
 
-/// What of a desk is listed.
+/// What is listed of a desk.
 #[derive(Drop)]
 pub enum Listed {
     Releases,
     Documents,
-    /// The duties, or those of a release, with a code, that are open, or whose waivers' last days
-    /// lie before a day.
+    /// The duties, or only those of a release, with a code, that are open, or whose waivers have a
+    /// last day before this one.
     Duties {
         release: Option<Text>,
         code: Option<Text>,
@@ -114,7 +113,7 @@ pub enum Listed {
     },
 }
 
-/// Why a command line gave no call.
+/// Why a command line is no call.
 #[derive(Drop)]
 pub enum LineFault {
     Memory(AllocError),

@@ -21,7 +21,7 @@ pub(crate) const ARGUMENTS: [Argument; 2] = [
     },
 ];
 
-/// The call with the values of these matches, or `None` where they lack one.
+/// The call with the values of these matches, or `None` if they lack one.
 pub(crate) fn catalogue_from(
     alloc: Global,
     matches: &ArgMatches<'_>,

@@ -18,7 +18,7 @@ pub(crate) const ARGUMENTS: [Argument; 1] = [Argument {
     help: "The file of the document",
 }];
 
-/// The call with the value of these matches, or `None` where they lack it.
+/// The call with the value of these matches, or `None` if they lack it.
 pub(crate) fn convert_from(
     alloc: Global,
     matches: &ArgMatches<'_>,

@@ -27,14 +27,14 @@ fn ends_otherwise(value: &[u8]) -> bool
     value.ends_with(b" ") || value.ends_with(b"\t") || value.ends_with(b"\r")
 }
 
-// Whether a value can stand in a field of one line.
+// Whether a value can be written in a field of one line.
 fn can_stand(value: &[u8]) -> bool
     ensures { result ≡ can_stand value.now }
 {
     !has_feed(value) && !begins_otherwise(value) && !ends_otherwise(value)
 }
 
-/// A value that can stand in a field, or `None` where it can't, or isn't there.
+/// A value that can be written in a field, or `None` if it can't or isn't given.
 pub(crate) fn field_in<'a>(matches: &ArgMatches<'a>, id: &str) -> Option<&'a str>
     ensures { option_map (λ s. s.now) result ≡ field_in id.now (rows_of (found_of matches.now)) }
 {

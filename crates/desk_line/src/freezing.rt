@@ -1,5 +1,5 @@
-//! The subcommands that prepare a freeze: what stands in its way, and the choices that leave
-//! nothing to choose.
+//! The subcommands that prepare a freeze: what keeps a release from it, and the choices for
+//! packages that have only one.
 
 ghost use Rattle.std.specs.Prelude.{◌≡◌, IfOk};
 ghost use Rattle.clap.specs.Words.{found_of, rows_of};
@@ -10,7 +10,7 @@ use crate::reports::{Release, release_in};
 use clap::ArgMatches;
 use std::alloc::{AllocError, Global};
 
-/// The call of `wanting` with the values of these matches, or `None` where they lack one.
+/// The call of `wanting` with the values of these matches, or `None` if they lack one.
 pub(crate) fn wanting_from(
     alloc: Global,
     matches: &ArgMatches<'_>,
@@ -26,7 +26,7 @@ pub(crate) fn wanting_from(
     }
 }
 
-/// The call of `choices` with the values of these matches, or `None` where they lack one.
+/// The call of `choices` with the values of these matches, or `None` if they lack one.
 pub(crate) fn choices_from(
     alloc: Global,
     matches: &ArgMatches<'_>,

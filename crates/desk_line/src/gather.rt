@@ -32,7 +32,7 @@ pub(crate) const ARGUMENTS: [Argument; 4] = [
     },
 ];
 
-/// The call with the values of these matches, or `None` where they lack one, or one can't stand in
+/// The call with the values of these matches, or `None` if they lack one or one can't be written in
 /// its field.
 pub(crate) fn gather_from(
     alloc: Global,

@@ -22,8 +22,8 @@ pub(crate) const ARGUMENTS: [Argument; 3] = [
     },
 ];
 
-/// The call with the values of these matches, or `None` where they lack one, or the profile is
-/// none.
+/// The call with the values of these matches, or `None` if they lack one or there is no such
+/// profile.
 pub(crate) fn import_from(
     alloc: Global,
     matches: &ArgMatches<'_>,

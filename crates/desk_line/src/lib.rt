@@ -1,11 +1,11 @@
 //! The command line of the desk: which subcommand its words name, with which values.
 //!
-//! The words are read by `clap`. The command that it reads them by is a constant, `desk_app` of
-//! `specs/Words.antt`, and each function here that builds a part of it states that part, so the
-//! contract of `line` speaks of `clap`'s own reading of the words: the call is the one that they
-//! hold, and a refusal comes exactly where they hold none.
+//! `clap` reads the words, by a command that is a constant: `desk_app` of `specs/Words.antt`. Each
+//! function here that builds a part of it states that part, so the contract of `line` is about
+//! `clap`'s own reading of the words: the result is the call that they hold, and an error comes
+//! exactly if they hold none.
 //!
-//! The texts of help and usage are claimed by no contract.
+//! No contract covers the texts of help and usage.
 #![tactic(auto)]
 
 mod alternatives;

@@ -1,4 +1,4 @@
-//! The subcommand that tells the problems of a tree of files.
+//! The subcommand that reports the problems of a tree of files.
 
 ghost use Rattle.std.specs.Prelude.{◌≡◌, IfOk};
 ghost use Rattle.clap.specs.Words.{found_of, rows_of};
@@ -21,7 +21,7 @@ pub(crate) const ARGUMENTS: [Argument; 2] = [
     },
 ];
 
-/// The call with the values of these matches, or `None` where they lack one.
+/// The call with the values of these matches, or `None` if they lack one.
 pub(crate) fn lint_from(alloc: Global, matches: &ArgMatches<'_>) -> Result<Option<Call>, AllocError>
     ensures { IfOk result (λ r. r ≡ lint_in (rows_of (found_of matches.now))) }
 {

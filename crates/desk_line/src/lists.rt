@@ -84,7 +84,7 @@ fn is_day_if_given(value: Option<&str>) -> bool
     }
 }
 
-/// What a word says is listed: a filter goes with duties alone.
+/// What a word says is to be listed, or `None`; filters are for duties alone.
 fn listed_as(what: &str, filter: Filter) -> Option<Listed>
     ensures { result ≡ listed_as what.now filter }
 {
@@ -127,8 +127,7 @@ fn listed_in(alloc: Global, matches: &ArgMatches<'_>) -> Result<Option<Listed>, 
     }
 }
 
-/// The call with the values of these matches, or `None` where they lack one, or one is none that it
-/// may have.
+/// The call with the values of these matches, or `None` if they lack one or one isn't allowed.
 pub(crate) fn list_from(alloc: Global, matches: &ArgMatches<'_>) -> Result<Option<Call>, AllocError>
     ensures { IfOk result (λ r. r ≡ list_in (rows_of (found_of matches.now))) }
 {

@@ -14,7 +14,7 @@ use std::alloc::{AllocError, Global};
 /// Its arguments.
 pub(crate) const ARGUMENTS: [Argument; 1] = [DATABASE];
 
-/// The call with the value of these matches, or `None` where they lack it.
+/// The call with the value of these matches, or `None` if they lack it.
 pub(crate) fn migrate_from(
     alloc: Global,
     matches: &ArgMatches<'_>,

@@ -45,14 +45,14 @@ fn document_in(matches: &ArgMatches<'_>) -> Option<u32>
     matches.get_one("N")
 }
 
-/// The number that a text writes.
+/// The number that a text is.
 fn number_written(text: &str) -> Option<u32>
     ensures { result ≡ number_written 32 text.now }
 {
     text.parse::<u32>().ok()
 }
 
-/// The profile that a value writes, capitals where there is none.
+/// The profile whose number a value is, or capitals if there is no value.
 fn profile_if_given(value: Option<&str>) -> Option<Profile>
     ensures { result ≡ profile_if_given (option_map (λ s. s.now) value.entry) }
 {
@@ -62,14 +62,14 @@ fn profile_if_given(value: Option<&str>) -> Option<Profile>
     }
 }
 
-/// Whether there is a value that goes with the file of a document.
+/// Whether a value is given that only the file of a document needs.
 fn has_reading(matches: &ArgMatches<'_>) -> bool
     ensures { result ≡ has_reading (rows_of (found_of matches.now)) }
 {
     document_in(matches).is_some() || text_in(matches, "PROFILE").is_some()
 }
 
-/// The proposals for a document that the desk in a file holds.
+/// The proposals for a document held by the desk in a file.
 fn held_proposals_from(
     alloc: Global,
     database: &str,
@@ -94,7 +94,7 @@ fn held_proposals_from(
     }))
 }
 
-/// The proposals for a document in a file.
+/// The proposals for a document in a file of its own.
 fn filed_proposals_from(alloc: Global, matches: &ArgMatches<'_>) -> Result<Option<Call>, AllocError>
     ensures { IfOk result (λ r. r ≡ filed_proposals_in (rows_of (found_of matches.now))) }
 {
@@ -115,8 +115,8 @@ fn filed_proposals_from(alloc: Global, matches: &ArgMatches<'_>) -> Result<Optio
     }))
 }
 
-/// The call with the values of these matches, or `None` where they lack one, or one is no such
-/// number or profile, or doesn't go with the others.
+/// The call with the values of these matches, or `None` if they lack one, one is not a number or
+/// profile that it may be, or one doesn't go with the others.
 pub(crate) fn propose_from(
     alloc: Global,
     matches: &ArgMatches<'_>,

@@ -1,4 +1,4 @@
-//! The words of the command line, read.
+//! Reads the words of the command line.
 
 ghost use Rattle.std.specs.Prelude.{◌≡◌, Some, IfOk, IfErr, map};
 ghost use Rattle.clap.specs.Words.{IsAmong, subcommand_rows_of};
@@ -36,7 +36,7 @@ impl From<AllocError> for LineFault {
     }
 }
 
-/// The call of the subcommand that was met.
+/// The call of the subcommand that was found.
 fn call_found(alloc: Global, matches: &ArgMatches<'_>) -> Result<Option<Call>, AllocError>
     ensures { IfOk result (λ call. call ≡ call_at (subcommand_rows_of matches.now)) }
 {
@@ -46,7 +46,7 @@ fn call_found(alloc: Global, matches: &ArgMatches<'_>) -> Result<Option<Call>, A
     }
 }
 
-/// Why a subcommand that was met is no call, with the words for the user.
+/// Why the subcommand that was found is no call, with the words for the user.
 fn lacking(matches: &ArgMatches<'_>) -> (ErrorKind, &'static str)
     ensures { IsAmong result.0 (lacking (subcommand_rows_of matches.now)) }
 {
@@ -59,7 +59,7 @@ fn lacking(matches: &ArgMatches<'_>) -> (ErrorKind, &'static str)
     }
 }
 
-/// Why `clap` took the words for no call.
+/// Why `clap` did not accept the words.
 fn refusal(error: Error) -> LineFault
     ensures { IsFaultOf error result }
 {
@@ -69,7 +69,7 @@ fn refusal(error: Error) -> LineFault
     }
 }
 
-/// Why a subcommand that was met is no call, told by the command that met it.
+/// Why the subcommand that was found is no call, as an error of the command that found it.
 fn lack(command: &mut Command<'_>, matches: &ArgMatches<'_>) -> LineFault
     ensures { IsLack (lacking (subcommand_rows_of matches.now)) result }
 {
@@ -80,7 +80,7 @@ fn lack(command: &mut Command<'_>, matches: &ArgMatches<'_>) -> LineFault
     }
 }
 
-/// The call of what a command met, or why that is none.
+/// The call of what a command found, or why that is none.
 fn call_or_lack(
     alloc: Global,
     command: &mut Command<'_>,
@@ -95,7 +95,7 @@ fn call_or_lack(
     }
 }
 
-/// What the words ask for, the first of them being the program's name.
+/// What the words ask for; the first of them is the program's name.
 pub fn line<'a>(alloc: Global, words: &'a [&'a str]) -> Result<Call, LineFault>
     ensures call { IfOk result (λ call. call_of (map (λ w. w.now) words.entry.now) ≡ Some call) }
     ensures fault { IfErr result (IsFault (map (λ w. w.now) words.entry.now)) }

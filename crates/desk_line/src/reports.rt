@@ -1,4 +1,4 @@
-//! The subcommands that hand out texts: the notices of a release, the table of its duties, their
+//! The subcommands that write texts: the notices of a release, the table of its duties, their
 //! totals, and the changes of a duty.
 
 ghost use Rattle.std.specs.Prelude.{◌≡◌, IfOk, codes, option_map};
@@ -12,7 +12,7 @@ use clap::ArgMatches;
 use desk_base::Text;
 use std::alloc::{AllocError, Global};
 
-/// The arguments of those that are about a release.
+/// The arguments of the subcommands about a release.
 pub(crate) const RELEASE_ARGUMENTS: [Argument; 2] = [
     DATABASE,
     Argument {
@@ -39,7 +39,7 @@ pub(crate) struct Release {
     pub(crate) release: Text,
 }
 
-/// The file and the release of these matches, or `None` where they lack one.
+/// The file and the release of these matches, or `None` if they lack one.
 pub(crate) fn release_in(
     alloc: Global,
     matches: &ArgMatches<'_>,
@@ -64,7 +64,7 @@ fn duty_in(matches: &ArgMatches<'_>) -> Option<u32>
     matches.get_one("DUTY")
 }
 
-/// The call of `notices` with the values of these matches, or `None` where they lack one.
+/// The call of `notices` with the values of these matches, or `None` if they lack one.
 pub(crate) fn notices_from(
     alloc: Global,
     matches: &ArgMatches<'_>,
@@ -80,7 +80,7 @@ pub(crate) fn notices_from(
     }
 }
 
-/// The call of `duties` with the values of these matches, or `None` where they lack one.
+/// The call of `duties` with the values of these matches, or `None` if they lack one.
 pub(crate) fn duties_from(
     alloc: Global,
     matches: &ArgMatches<'_>,
@@ -96,7 +96,7 @@ pub(crate) fn duties_from(
     }
 }
 
-/// The call of `totals` with the values of these matches, or `None` where they lack one.
+/// The call of `totals` with the values of these matches, or `None` if they lack one.
 pub(crate) fn totals_from(
     alloc: Global,
     matches: &ArgMatches<'_>,
@@ -112,7 +112,7 @@ pub(crate) fn totals_from(
     }
 }
 
-/// The call of `page` with the values of these matches, or `None` where they lack one.
+/// The call of `page` with the values of these matches, or `None` if they lack one.
 pub(crate) fn page_from(alloc: Global, matches: &ArgMatches<'_>) -> Result<Option<Call>, AllocError>
     ensures { IfOk result (λ r. r ≡ page_in (rows_of (found_of matches.now))) }
 {
@@ -125,8 +125,8 @@ pub(crate) fn page_from(alloc: Global, matches: &ArgMatches<'_>) -> Result<Optio
     }
 }
 
-/// The call of `changes` with the values of these matches, or `None` where they lack one, or one is
-/// no such number.
+/// The call of `changes` with the values of these matches, or `None` if they lack one or the duty's
+/// number isn't allowed.
 pub(crate) fn changes_from(
     alloc: Global,
     matches: &ArgMatches<'_>,

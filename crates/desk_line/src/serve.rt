@@ -44,8 +44,7 @@ fn limit_in(matches: &ArgMatches<'_>) -> Option<u32>
     matches.get_one("N")
 }
 
-/// The call with the values of these matches, or `None` where they lack one, or one is no such
-/// number.
+/// The call with the values of these matches, or `None` if they lack one or a number isn't allowed.
 pub(crate) fn serve_from(
     alloc: Global,
     matches: &ArgMatches<'_>,

@@ -197,7 +197,7 @@ fn help_of(kind: Kind) -> Help {
     }
 }
 
-/// The kind of the row with a name, if there is one.
+/// The kind of the row with this name, if there is one.
 fn kind_named(name: &str, rows: &[Subcommand]) -> Option<Kind>
     ensures { result ≡ kind_named name.now rows.now }
 {
@@ -209,7 +209,7 @@ fn kind_named(name: &str, rows: &[Subcommand]) -> Option<Kind>
     None
 }
 
-/// The subcommand with a name, if there is one.
+/// The subcommand with this name, if there is one.
 pub(crate) fn kind_at(name: &str) -> Option<Kind>
     ensures { result ≡ kind_at name.now }
 {

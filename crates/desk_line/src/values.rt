@@ -66,7 +66,7 @@ pub(crate) fn is_true(value: Option<&str>) -> bool
     }
 }
 
-/// The profile that a text writes.
+/// The profile whose number a text is.
 pub(crate) fn profile_written(text: &str) -> Option<Profile>
     ensures { result ≡ profile_written text.now }
 {
@@ -82,8 +82,8 @@ pub(crate) fn profile_in(matches: &ArgMatches<'_>) -> Option<Profile>
     profile_written(text_in(matches, "PROFILE")?)
 }
 
-/// The call of a subcommand with these matches, or `None` where they lack a value, a value is none
-/// that it may have, or no subcommand has the name.
+/// The call of a subcommand with these matches, or `None` if they lack a value, a value isn't
+/// allowed, or no subcommand has the name.
 pub fn call_from(
     alloc: Global,
     name: &str,

@@ -39,13 +39,13 @@ enum Task<'a> {
     List { list: &'a Listed },
     /// It writes a page on a release.
     Page { release: &'a Text },
-    /// It writes the choices that leave nothing to choose.
+    /// It writes the choices for packages that have only one.
     Choices { release: &'a Text },
     /// It writes what is proposed for a document.
     Proposals { document: u32 },
-    /// It writes what stands in the way of a freeze.
+    /// It writes what keeps a release from being frozen.
     Wanting { release: &'a Text },
-    /// It serves so many connections over HTTP.
+    /// It serves this many connections over HTTP.
     Serve { port: u16, limit: u32 },
 }
 
@@ -68,7 +68,7 @@ fn unusable(alloc: Global, path: &str, trouble: Trouble) -> Failure {
     }
 }
 
-/// Why a file keeps no desk, and of one that is none how its tables differ from a desk's.
+/// Why a file keeps no desk and, if its tables are not a desk's, how they differ from them.
 #[derive(Drop)]
 struct Refused {
     reason: NoDesk,
@@ -92,7 +92,7 @@ fn no_desk<S: Alter + Drop>(alloc: Global, conn: &Connection<S>) -> Result<Refus
     })
 }
 
-// Tells why a file keeps no desk, and returns the program's status.
+// Reports why a file keeps no desk, and returns the program's status.
 fn refuse<W: Write>(
     rt: &HostRuntime,
     refused: Refused,
@@ -101,13 +101,13 @@ fn refuse<W: Write>(
 ) -> Result<u8, Failure> {
     let status = refuse_database(rt.alloc(), refused.reason, writer)?;
     if let Some(difference) = refused.difference {
-        // Where standard error fails, the line on standard output still says it.
+        // If writing to standard error fails, the line on standard output still says it.
         let _told = eprintln!(rt; "{path:?}: {difference}");
     }
     Ok(status)
 }
 
-// The desk that stands behind a connection, or why there is none.
+// The desk behind a connection, or why there is none.
 fn adopted<S: Alter + Drop>(
     alloc: Global,
     conn: Connection<S>,
@@ -124,7 +124,7 @@ fn adopted<S: Alter + Drop>(
     }
 }
 
-// Says that a file keeps a new desk, where standard error is watched: a name may have been
+// Says that a file keeps a new desk, if standard error is a terminal: a name may have been
 // mistyped.
 fn tell_new(rt: &HostRuntime, path: &str) {
     if rt.stderr().is_terminal() {
@@ -132,7 +132,7 @@ fn tell_new(rt: &HostRuntime, path: &str) {
     }
 }
 
-// The desk behind a connection to a file, or why it keeps none. Where there is no table `meta`, an
+// The desk behind a connection to a file, or why it keeps none. If there is no table `meta`, an
 // empty desk is created.
 fn desk_of<S: Alter + Drop>(
     rt: &HostRuntime,
@@ -164,14 +164,14 @@ fn close<D: Disk + Drop>(
     }
 }
 
-// One who tells on standard error why a request is refused, where that is watched.
+// Explains on standard error why a request is refused, if that is a terminal.
 fn teller(rt: &HostRuntime) -> Teller<Stderr> {
     let stderr = rt.stderr();
     let is_told = stderr.is_terminal();
     Teller::new(rt.alloc(), stderr, is_told)
 }
 
-// Has a desk do a task, and returns the program's status.
+// Lets a desk do a task, and returns the program's status.
 fn done<S: Alter + Drop, W: Write>(
     rt: &HostRuntime,
     desk: &mut SqlDesk<S>,
@@ -207,8 +207,8 @@ fn done<S: Alter + Drop, W: Write>(
     }
 }
 
-// What a piece of work came to whose file was then closed: why it failed goes before why the file
-// wasn't closed.
+// The result of a piece of work after which the file was closed: the reason why it failed goes
+// before the reason why the file wasn't closed.
 fn ended(told: Result<u8, Failure>, closed: Result<(), Failure>) -> Result<u8, Failure> {
     let status = match told {
         Ok(status) => status,
@@ -221,7 +221,7 @@ fn ended(told: Result<u8, Failure>, closed: Result<(), Failure>) -> Result<u8, F
     Ok(status)
 }
 
-// Has the desk behind a connection do a task. The desk is closed whatever became of that.
+// Lets the desk behind a connection do a task. The desk is closed whatever comes of that.
 fn do_over<D: Disk + Drop, W: Write>(
     rt: &HostRuntime,
     conn: Connection<FileStore<D>>,
@@ -242,7 +242,7 @@ fn do_over<D: Disk + Drop, W: Write>(
     ended(told, closed)
 }
 
-// The connection to a file whose tables are to be audited. Where there is no table `meta`, an empty
+// The connection to a file whose tables are to be audited. If there is no table `meta`, an empty
 // desk is created.
 fn tables_of<S: Alter + Drop>(
     rt: &HostRuntime,
@@ -280,7 +280,7 @@ fn audited<S: Alter, W: Write>(
     }
 }
 
-// Audits the tables behind a connection. The file is closed whatever became of that.
+// Audits the tables behind a connection. The file is closed whatever comes of that.
 fn audit_over<D: Disk + Drop, W: Write>(
     rt: &HostRuntime,
     conn: Connection<FileStore<D>>,
@@ -295,7 +295,7 @@ fn audit_over<D: Disk + Drop, W: Write>(
     ended(told, closed)
 }
 
-// Migrates the tables behind a connection. The file is closed whatever became of that.
+// Migrates the tables behind a connection. The file is closed whatever comes of that.
 fn migrate_over<D: Disk + Drop, W: Write>(
     rt: &HostRuntime,
     conn: Connection<FileStore<D>>,
@@ -340,9 +340,9 @@ fn work_over<D: Disk + Drop, W: Write>(
     }
 }
 
-// Does what is to be done with a file. Of the disk it is supposed that a sector whose write has
-// begun is finished, so each commit is synced once. No other function names the connection to a
-// file: each that does costs the gate a minute.
+// Does what is to be done with a file. The disk is assumed to finish a sector whose write has
+// begun, so each commit is synced once. No other function names the connection to a file, since
+// each that does costs the gate a minute.
 fn work_in(rt: &HostRuntime, path: &str, work: Work<'_>) -> Result<u8, Failure> {
     let mut writer = BufWriter::new(rt.alloc(), io::writer(rt))?;
     progress::tell(rt, path, Step::Pages);
@@ -358,13 +358,13 @@ fn work_in(rt: &HostRuntime, path: &str, work: Work<'_>) -> Result<u8, Failure> 
     }
 }
 
-// Has the desk in a file do a task.
+// Lets the desk in a file do a task.
 fn do_in(rt: &HostRuntime, path: &str, task: Task<'_>) -> Result<u8, Failure> {
     blocks::keep_large(rt.alloc());
     work_in(rt, path, Work::Do(task))
 }
 
-/// Gives a file of an older version the tables of this one. No file is made where there is none.
+/// Gives a file of an older version the tables of this one. No file is made if there is none.
 fn migrate(rt: &HostRuntime, path: &str) -> Result<u8, Failure> {
     require_file(rt, path)?;
     work_in(rt, path, Work::Migrate)
@@ -375,7 +375,7 @@ pub fn script(rt: &HostRuntime, path: &str, course: Course) -> Result<u8, Failur
     do_in(rt, path, Task::Script { course })
 }
 
-/// Has the desk that a file keeps import the document of another file.
+/// Lets the desk that a file keeps import the document of another file.
 fn import(rt: &HostRuntime, path: &str, document: &str, profile: Profile) -> Result<u8, Failure> {
     let alloc = rt.alloc();
     let bytes = match document_of(alloc, bytes_at(rt, document)?) {
@@ -391,7 +391,7 @@ fn import(rt: &HostRuntime, path: &str, document: &str, profile: Profile) -> Res
     Ok(status)
 }
 
-/// Has the desk that a file keeps load the catalogue of another file.
+/// Lets the desk that a file keeps load the catalogue of another file.
 fn load(rt: &HostRuntime, path: &str, catalogue: &str) -> Result<u8, Failure> {
     let alloc = rt.alloc();
     let bytes = bytes_at(rt, catalogue)?;
@@ -443,7 +443,7 @@ fn task_of<'a>(call: &'a FileCall) -> Result<Option<Task<'a>>, AllocError> {
     Ok(Some(task))
 }
 
-/// Does what is asked of the desk that a file keeps.
+/// Does what is asked of the desk that a file keeps, or of the file.
 pub fn answer(rt: &HostRuntime, path: &str, call: &FileCall) -> Result<u8, Failure> {
     if let Some(task) = task_of(call)? {
         return do_in(rt, path, task);

@@ -25,7 +25,7 @@ const NAMES: [&str; 16] = [
     "waiver",
 ];
 
-/// What the names of SQLite's own indexes begin with.
+/// How the names of SQLite's own indexes begin.
 const OWN: &[u8] = b"sqlite_autoindex_";
 
 /// How the tables of a file differ from those of a desk.
@@ -70,7 +70,8 @@ fn further(schema: &Schema) -> Option<&Table> {
     None
 }
 
-// The indexes of keys, which SQLite names, go with their tables.
+// The first index that doesn't belong to a key. SQLite names the indexes of keys itself, and they
+// go with their tables.
 fn index(schema: &Schema) -> Option<&Index> {
     for index in schema.indexes.as_slice() {
         if !index.name.as_slice().starts_with(OWN) {
@@ -84,7 +85,7 @@ fn name_of(alloc: Global, name: &[u8]) -> Result<String, AllocError> {
     String::from_str(alloc, str::from_utf8(name).unwrap_or("?"))
 }
 
-/// The first difference of a schema that isn't a desk's.
+/// The first difference between a schema and a desk's.
 pub fn first_difference(alloc: Global, schema: &Schema) -> Result<Difference, AllocError> {
     if let Some(name) = missing(schema) {
         return Ok(Difference::Missing(name));

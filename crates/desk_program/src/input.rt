@@ -1,4 +1,4 @@
-//! The files that are read: documents and catalogues, and databases that must be there.
+//! The files that are read: documents and catalogues, and databases that must exist.
 
 use desk_base::limits::INPUT_BYTES;
 use desk_subcommands::Failure;
@@ -7,7 +7,7 @@ use std::fs::{self, File};
 use std::io::{self, Read};
 use std::rt::Files;
 
-// Takes the last character of some bytes away, which may have been cut.
+// Removes the last character of some bytes, which may have been cut.
 fn drop_last_character(bytes: &mut Vec<u8>) {
     for _ in 0..4 {
         match bytes.pop() {
@@ -36,7 +36,7 @@ fn unreadable(alloc: Global, path: &str, error: io::Error) -> Failure {
     }
 }
 
-/// The bytes of the file at a path; of one that is longer than 64 MiB, so many of them.
+/// The bytes of the file at a path, or the first 64 MiB if it is longer.
 pub fn bytes_at<R: Files + AllocGlobal + Clone + Drop>(
     rt: &R,
     path: &str,
@@ -47,7 +47,7 @@ pub fn bytes_at<R: Files + AllocGlobal + Clone + Drop>(
     }
 }
 
-/// Fails where no file stands at a path, which an opening would make.
+/// Fails if there is no file at a path, since opening it would create one.
 pub fn require_file(rt: &HostRuntime, path: &str) -> Result<(), Failure> {
     match fs::metadata(rt, path) {
         Ok(_) => Ok(()),

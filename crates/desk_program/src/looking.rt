@@ -1,5 +1,5 @@
-//! What is looked at in the desk of a file: lists of what it holds, what stands in the way of a
-//! freeze, what is proposed for a document, and choices that leave nothing to choose.
+//! What is looked at in the desk of a file: lists of what it holds, what keeps a release from being
+//! frozen, what is proposed for a document, and the choices for packages that have only one.
 
 use desk_base::Text;
 use desk_line::Listed;
@@ -71,7 +71,7 @@ pub fn list<S: Alter, W: Write>(
     }
 }
 
-// Replies that it is refused, and tells why.
+// Replies that the request is refused, and reports why.
 fn refused<W: Write, E: Write>(
     alloc: Global,
     refusal: Refusal,
@@ -85,7 +85,7 @@ fn refused<W: Write, E: Write>(
     told
 }
 
-/// Writes the choices of a release that leave nothing to choose.
+/// Writes the choices of a release for packages that have only one.
 pub fn choices<S: Alter, W: Write, E: Write>(
     rt: &HostRuntime,
     desk: &mut SqlDesk<S>,
@@ -101,8 +101,7 @@ pub fn choices<S: Alter, W: Write, E: Write>(
     }
 }
 
-// Writes the choices of these releases that leave nothing to choose and are for packages of a
-// document.
+// Writes the choices of these releases for those packages of a document that have only one.
 fn choices_for<S: Alter, W: Write, E: Write>(
     alloc: Global,
     desk: &mut SqlDesk<S>,
@@ -123,8 +122,8 @@ fn choices_for<S: Alter, W: Write, E: Write>(
     Ok(0)
 }
 
-// Writes the conclusions that are proposed for a document, and returns the open releases to which it
-// is attached; or, where it is refused, the program's status.
+// Writes the conclusions that are proposed for a document, and returns the open releases to which
+// it is attached or, if this is refused, the program's status.
 fn propose_conclusions<W: Write, E: Write>(
     rt: &HostRuntime,
     snapshot: &Snapshot,
@@ -152,8 +151,8 @@ fn propose_conclusions<W: Write, E: Write>(
     Ok(Ok(open_releases(alloc, snapshot, document)?))
 }
 
-/// Writes what is proposed for a document that a desk holds: conclusions, and then, of each open
-/// release to which it is attached, the choices for its packages that leave nothing to choose.
+/// Writes what is proposed for a document that a desk holds: conclusions and then, for each open
+/// release to which it is attached, the choices for its packages that have only one.
 pub fn proposals<S: Alter, W: Write, E: Write>(
     rt: &HostRuntime,
     desk: &mut SqlDesk<S>,
@@ -174,15 +173,15 @@ pub fn proposals<S: Alter, W: Write, E: Write>(
     }
 }
 
-// Tells which documents ship no package.
+// Reports which documents ship no package.
 fn tell_idle(rt: &HostRuntime, numbers: &[u32]) {
     for number in numbers {
-        // Where standard error fails, the refusals are written all the same.
+        // If writing to standard error fails, the refusals are still written.
         let _told = eprintln!(rt; "document {number} ships no package, and raises no duty");
     }
 }
 
-/// Writes all that stands in the way of a freeze of a release, and tells on standard error which of
+/// Writes everything that keeps a release from being frozen, and reports on standard error which of
 /// its documents ship no package.
 pub fn wanting<S: Alter, W: Write, E: Write>(
     rt: &HostRuntime,

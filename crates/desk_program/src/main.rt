@@ -1,8 +1,8 @@
 //! The licence obligation desk as a program.
 //!
 //! `line` of `desk_line` reads the words, a function of `desk_subcommands` does what they ask for,
-//! and what it answers is the program's status: 0 done, 1 refused. Words that are no command line
-//! give 2, and want of memory or a failing file or stream gives 3.
+//! and its result is the program's status: 0 done, 1 refused. Words that are no command line give
+//! 2; 3 means that no memory was left, or that a file or stream failed.
 #![tactic(auto)]
 
 mod blocks;
@@ -33,8 +33,8 @@ use std::{env, io};
 
 const USAGE: u8 = 2;
 
-/// Does what the words ask for, and answers the status. What takes long is told on standard error
-/// where that is watched.
+/// Does what the words ask for, and returns the status. If standard error is a terminal, progress
+/// is reported there.
 fn run(rt: &HostRuntime, is_watched: bool) -> Result<u8, Failure> {
     let alloc = rt.alloc();
     let owned = match env::args(rt) {
@@ -56,7 +56,7 @@ fn run(rt: &HostRuntime, is_watched: bool) -> Result<u8, Failure> {
     }
 }
 
-/// The status where the words of the command line could not be had.
+/// The status if the words of the command line could not be read.
 fn untold(rt: &impl Eprint, error: io::Error) -> Result<u8, Failure> {
     match error.kind() {
         io::ErrorKind::OutOfMemory => Err(Failure::from(AllocError)),
@@ -88,7 +88,8 @@ fn check<R: Print>(
 /// Replies to the requests of standard input on a desk in memory.
 fn script_in_memory(rt: &HostRuntime, alloc: Global, course: Course) -> Result<u8, Failure> {
     blocks::keep_large(alloc);
-    // The process ends with the script, so the desk is left to the system and not freed row by row.
+    // The process ends with the script, so the desk is left to the system instead of being freed
+    // row by row.
     let mut desk = ManuallyDrop::new(MemDesk::new(alloc, Standard));
     let mut writer = BufWriter::new(alloc, io::writer(rt))?;
     scripts::script(rt, &mut *desk, &mut writer, course)
@@ -108,7 +109,7 @@ fn script(
 }
 
 /// Says which licences the document of a source tree can't hold. They are looked for in the tree as
-/// it is by now.
+/// it is now.
 fn tell_blanks_in(rt: &HostRuntime, folder: &str) -> Result<(), Failure> {
     let files = files_of(rt, folder, false)?;
     tell_blanks(rt.alloc(), files.as_slice(), &mut rt.stderr())
@@ -134,7 +135,7 @@ fn gather(
         &mut rt.stderr(),
     );
     if let Err(Failure::BadValue) = &gathered {
-        // Where they can't be named, the failure still says what is wrong.
+        // If they can't be named, the failure still says what is wrong.
         let _told = tell_blanks_in(rt, folder.as_str());
     }
     gathered
@@ -152,7 +153,7 @@ fn lint(
     desk_subcommands::lint(alloc, files.as_slice(), json, &mut io::writer(rt))
 }
 
-/// Writes the tag-value document that says what an SPDX document in JSON says.
+/// Writes the tag-value document that says the same as an SPDX document in JSON.
 fn convert(rt: &HostRuntime, path: &str) -> Result<u8, Failure> {
     let bytes = bytes_at(rt, path)?;
     desk_subcommands::convert(
@@ -168,7 +169,7 @@ fn explain<R: Print>(rt: &R, alloc: Global, name: &str) -> Result<u8, Failure> {
     desk_subcommands::explain(alloc, &TABLES, name, &mut io::writer(rt))
 }
 
-/// Writes the conclusions that are proposed for a document, which the desk knows by a number.
+/// Writes the conclusions that are proposed for a document, which the desk knows by this number.
 fn propose(rt: &HostRuntime, path: &str, number: u32, profile: Profile) -> Result<u8, Failure> {
     let bytes = bytes_at(rt, path)?;
     desk_subcommands::propose(
@@ -222,7 +223,7 @@ fn answer(rt: &HostRuntime, alloc: Global, call: &Call, is_watched: bool) -> Res
     }
 }
 
-/// Whether nobody reads on what is written, as behind `| head`.
+/// Whether nobody reads the output any more, as with `| head`.
 fn is_unread(failure: &Failure) -> bool {
     match failure {
         Failure::Write(error) => error.kind() == io::ErrorKind::BrokenPipe,
@@ -236,7 +237,7 @@ fn main(rt: HostRuntime) -> ExitCode {
         Ok(status) => ExitCode::from(status),
         Err(failure) => {
             if !is_unread(&failure) {
-                // Where standard error fails too, there is nobody left to tell.
+                // If writing to standard error fails too, there is nobody left to tell.
                 let _told = eprintln!(rt; "error: {failure}");
             }
             ExitCode::from(failure.status())

@@ -1,9 +1,10 @@
-//! How far the opening of a large file is: it is told on standard error where that is a terminal.
+//! How far the opening of a large file is, which is reported on standard error if that is a
+//! terminal.
 
 use std::fs;
 use std::io::IsTerminal;
 
-/// From how many bytes on a file takes about a second to open.
+/// The size in bytes from which a file takes about a second to open.
 const LARGE_FILE: u64 = 16_777_216;
 
 /// What is done with a file before its desk does anything.
@@ -16,7 +17,7 @@ pub enum Step {
 }
 
 impl Step {
-    // What is told of it. The later words cover the earlier ones.
+    // What is reported of it. Later words cover earlier ones.
     fn words(self) -> &'static str {
         match self {
             Step::Pages => "step 1 of 2: checking pages",
@@ -25,7 +26,7 @@ impl Step {
     }
 }
 
-// Whether anybody watches, and the file at a path takes long.
+// Whether anybody watches, and opening the file at a path takes long.
 fn is_told(rt: &HostRuntime, path: &str) -> bool {
     if !rt.stderr().is_terminal() {
         return false;
@@ -36,16 +37,16 @@ fn is_told(rt: &HostRuntime, path: &str) -> bool {
     }
 }
 
-/// Tells which step is begun with the file at a path, on the line of the step before.
+/// Reports which step is begun with the file at a path, on the line of the step before.
 pub fn tell(rt: &HostRuntime, path: &str, step: Step) {
     if is_told(rt, path) {
         let words = step.words();
-        // Where it can't be told, the file is opened all the same.
+        // If it can't be reported, the file is still opened.
         let _told = eprint!(rt; "\r{words}");
     }
 }
 
-/// Takes off the line what was told.
+/// Clears the line on which this was reported.
 pub fn clear(rt: &HostRuntime, path: &str) {
     if is_told(rt, path) {
         let _told = eprint!(rt; "\r                           \r");

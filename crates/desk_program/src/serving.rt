@@ -1,5 +1,5 @@
-//! The desk over HTTP on 127.0.0.1: connections are served one after the other, and a peer that is
-//! slow doesn't keep the next one waiting for ever.
+//! The desk over HTTP on 127.0.0.1: connections are served one after another, and a slow peer
+//! doesn't keep the next one waiting for ever.
 
 use desk_core::Desk;
 use desk_http::{RouteTable, ServeFault, serve_with};
@@ -9,10 +9,10 @@ use std::io::{self, Read, Write};
 use std::net::{Ipv4Addr, TcpListener, TcpStream};
 use std::time::{Duration, Instant};
 
-/// How many seconds a peer has to send its request; and again, to take the reply.
+/// How many seconds a peer has to send its request, and again to take the reply.
 const PATIENCE: u64 = 10;
 
-/// One direction of a connection, which fails when its time is over.
+/// One direction of a connection, which fails when its time is up.
 #[derive(Drop)]
 struct Timed<'a> {
     rt: &'a HostRuntime,
@@ -29,7 +29,7 @@ impl<'a> Timed<'a> {
         }
     }
 
-    // What is left of the time, which begins with the first call.
+    // What is left of the time, which starts with the first call.
     fn left(&mut self) -> io::Result<Duration> {
         let patience = Duration::from_secs(PATIENCE);
         match self.since {
@@ -45,7 +45,7 @@ impl<'a> Timed<'a> {
 impl Read for Timed<'_> {
     fn read(&mut self, buf: &mut [u8]) -> io::Result<usize> {
         let left = self.left()?;
-        // (a time of nothing is refused)
+        // (a time of zero is refused)
         self.stream.set_read_timeout(Some(left))?;
         let mut stream = self.stream;
         stream.read(buf)
@@ -74,7 +74,7 @@ fn port_trouble(error: &io::Error) -> PortTrouble {
     }
 }
 
-// Listens on a port of 127.0.0.1, on a free one for 0, and says on which.
+// Listens on a port of 127.0.0.1, or on a free one if it is 0, and says on which.
 fn listening(rt: &HostRuntime, port: u16) -> Result<TcpListener, Failure> {
     let listener = match TcpListener::bind(rt, (Ipv4Addr::LOCALHOST, port)) {
         Ok(listener) => listener,
@@ -86,7 +86,7 @@ fn listening(rt: &HostRuntime, port: u16) -> Result<TcpListener, Failure> {
     Ok(listener)
 }
 
-// Serves the request of one connection. Whether that was done.
+// Serves the request of one connection, and returns whether that was done.
 fn serve_stream<D: Desk>(
     rt: &HostRuntime,
     alloc: Global,
@@ -99,7 +99,7 @@ fn serve_stream<D: Desk>(
     Ok(())
 }
 
-/// Serves so many connections, past those that fail, and returns the program's status.
+/// Serves this many connections, going on after those that fail, and returns the program's status.
 pub fn serve<D: Desk>(
     rt: &HostRuntime,
     alloc: Global,
@@ -116,7 +116,7 @@ pub fn serve<D: Desk>(
             Err(_) => Err(ServeFault::Read),
         };
         if let Err(fault) = done {
-            // Where standard error fails, the count still says it at the end.
+            // If writing to standard error fails, the count at the end still says it.
             let _told = eprintln!(rt; "a connection failed: {fault}");
             failed = failed.saturating_add(1);
         }

@@ -1,4 +1,4 @@
-//! Why a file can't keep a desk, by the error that its database told.
+//! Why a file can't keep a desk, by the error of its database.
 
 ghost use Rattle.std.specs.Prelude.{◌≡◌};
 ghost use Rattle.desk_program.specs.Troubles.{trouble_of_error};
@@ -32,7 +32,7 @@ fn may(rt: &HostRuntime, path: &str, is_written: bool) -> bool {
     options.open(rt, path).is_ok()
 }
 
-// Why a file that stands at a path can't be opened.
+// Why a file that exists at a path can't be opened.
 fn closed(rt: &HostRuntime, path: &str, found: &Metadata) -> Trouble {
     if found.is_dir() {
         return Trouble::Folder;
@@ -44,7 +44,7 @@ fn closed(rt: &HostRuntime, path: &str, found: &Metadata) -> Trouble {
     }
 }
 
-// Why a file that isn't there can't be made.
+// Why a file that doesn't exist can't be created.
 fn absent(rt: &HostRuntime, path: &str) -> Trouble {
     match Path::new(path).parent() {
         Some(folder) if is_missing(rt, folder) => Trouble::NoFolder,
@@ -52,14 +52,12 @@ fn absent(rt: &HostRuntime, path: &str) -> Trouble {
     }
 }
 
-// Whether no folder stands at a path. The path of no words is that of the folder where the program
-// runs.
+// Whether there is no folder at a path. An empty path is that of the folder where the program runs.
 fn is_missing(rt: &HostRuntime, folder: Path) -> bool {
     !folder.to_string_lossy().is_empty() && fs::metadata(rt, folder).is_err()
 }
 
-/// Why the database of the file at a path can't be used, by the error that its database told and by
-/// what stands there.
+/// Why the database of the file at a path can't be used, by its error and by what is at the path.
 pub fn trouble_at(rt: &HostRuntime, path: &str, error: Error) -> Trouble {
     match trouble_of(error) {
         Trouble::CannotOpen => match fs::metadata(rt, path) {

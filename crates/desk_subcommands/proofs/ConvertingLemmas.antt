@@ -1,4 +1,4 @@
--- Whether bytes begin an object, from a place on; and what a refused conversion comes to.
+-- Whether bytes begin an object, from some place on; and what a refused conversion comes to.
 use Rattle.std.proofs.Common.{◌≡◌, ◌<◌, ◌+◌, ◌⊎◌, ℕ, nat_eq, true, false, List, Option, Result, Ok, Err, length, drop, get_or, add-one, drop-cons, refl, inl, inr}
 use Rattle.std.specs.Prelude.{IfOk}
 use Rattle.std.specs.Io.KnownBytes.{Appends}

@@ -1,4 +1,4 @@
--- What the outcome of a command or a question and the telling of it come to together.
+-- What the outcome of a command or a question and the writing of its reply come to together.
 use Rattle.std.proofs.Common.{◌≡◌, ℕ, List, Option, Ok, Err, subst}
 use Rattle.std.specs.Prelude.{Result, IfOk, IfErr}
 use Rattle.std.specs.Io.KnownBytes.{Appends}

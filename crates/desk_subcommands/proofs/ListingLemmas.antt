@@ -1,4 +1,4 @@
--- The lines of a listing, one by one, and that there is one listing.
+-- The lines of a listing, one by one, and that there is only one listing.
 use Rattle.std.proofs.Common.{◌≡◌, ◌∙◌, ℕ, suc, ◌+◌, ◌<◌, List, [], ◌∷◌, ◌++◌, length, get_or, take, codes, sym, ap, subst, refl, append_assoc, arith}
 use Rattle.std.specs.Prelude.{IfOk}
 use Rattle.std.proofs.Common.{Result, Ok, Err}
@@ -25,7 +25,7 @@ use Rattle.desk_subcommands.proofs.OneAnswer.{one_tree}
 
 -- ---- the lines
 
--- what stands between the terms so far and the next one
+-- what is between the terms so far and the next one
 abbrev pub between : List Term → List ℕ
 between [] = []
 between (t ∷ ts) = codes ", "

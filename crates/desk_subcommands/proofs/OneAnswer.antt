@@ -1,4 +1,4 @@
--- An expression and words have one answer.
+-- There is only one answer to an expression and words.
 use Rattle.std.proofs.Common.{◌≡◌, ◌∙◌, inl, inr, ℕ, List, [], ◌∷◌, ◌++◌, unwrap_or, codes, Bor, sym, subst, ap, refl}
 use Rattle.std.proofs.Math.Nat.{eq-or-lt_of_le}
 use Rattle.std.proofs.lemmas.Bool.{cases_lt}
@@ -96,7 +96,7 @@ module _ (words : List (List ℕ)) (terms : List Term) (tree : Tree) where
 -- ---- the answer
 
 module _ (profile : Profile) (expression : List ℕ) (words : List (List ℕ)) where
-  -- a verdict on what the texts spell
+  -- a verdict for what the texts spell
   abbrev Judged : Report → Type 0
   Judged report = (tree : Tree) × (terms : List Term) × SpellsWithinBy profile expression tree × SpellTerms words terms × IsVerdict words terms tree report
 
@@ -144,7 +144,7 @@ module _ (profile : Profile) (expression : List ℕ) (words : List (List ℕ)) w
   one_report (BadTerm w) b h k = from_bad w b h k
   one_report (Fault f) b h k = from_fault f b h k
 
--- there is one line and one status
+-- there is only one line and one status
 pub one_answer : (profile : Profile) (expression : List ℕ) (words : List (List ℕ)) → TellsOnce profile expression words
 one_answer profile expression words line other status another (a, is, text, number) (b, is', text', number') =
     let same = one_report profile expression words a b is is' in

@@ -1,4 +1,4 @@
--- The reading of words into terms, word by word.
+-- Reading words as terms, one word at a time.
 use Rattle.std.proofs.Common.{◌≡◌, ℕ, suc, ◌+◌, ◌<◌, List, [], ◌∷◌, ◌++◌, ◌⊎◌, inl, inr, length, map, take, drop, get_or, Some, option_map, Bor, refl, sym, ap, subst, ◌∙◌, arith}
 use Rattle.std.specs.Prelude.{slice_get, alloc_error}
 use Rattle.std.proofs.Math.Seq.{take-suc, drop-cons}
@@ -27,7 +27,7 @@ spell_one_more [] (t ∷ ts) word term spell one = absurd spell
 spell_one_more (w ∷ ws) [] word term spell one = absurd spell
 spell_one_more (w ∷ ws) (t ∷ ts) word term spell one = (spell.0, spell_one_more ws ts word term spell.1 one)
 
--- as many words as terms
+-- there are as many words as terms
 spell_same_length : (words : List (List ℕ)) (terms : List Term) → SpellTerms words terms → length words ≡ length terms
 spell_same_length [] [] spell = refl
 spell_same_length [] (t ∷ ts) spell = absurd spell
@@ -45,7 +45,7 @@ spell_next words i d terms term within spell one =
     subst (λ (ws : List (List ℕ)). SpellTerms ws (terms ++ term ∷ [])) (sym more)
     (spell_one_more (texts (take i words)) terms (get_or words i d).now term spell one)
 
--- a bad word behind words that spell terms is the first bad one
+-- a bad word after words that spell terms is the first bad word
 pub first_bad : (words : List (Bor (List ℕ))) (i : ℕ) (d : Bor (List ℕ)) (terms : List Term) → i < length words
     → SpellTerms (texts (take i words)) terms → IsBad (get_or words i d).now → IsFirstBad (texts words) (get_or words i d).now
 first_bad words i d terms within spell bad =
@@ -58,7 +58,7 @@ first_bad words i d terms within spell bad =
       bad,
     )
 
--- the place of a term is that of a word
+-- the place of a term is also that of its word
 pub word_at : (words : List (Bor (List ℕ))) (terms : List Term) (i : ℕ) (t : Term) → SpellTerms (texts words) terms → slice_get terms i ≡ Some t
     → i < length words
 word_at words terms i t spell at =
@@ -71,18 +71,18 @@ pub text_at : (words : List (Bor (List ℕ))) (i : ℕ) (d : Bor (List ℕ)) →
     → slice_get (texts words) i ≡ Some (get_or words i d).now
 text_at words i d within = slice_get-map (λ w. w.now) words i ∙ ap (option_map (λ w. w.now)) (slice_get-get_or words i d within)
 
--- a fault that isn't want of memory
+-- a fault that is not for lack of memory
 pub not_memory : {P : Type 0} (fault : ParseFault) → 0 < fault_number fault → (fault ≡ Memory alloc_error) ⊎ P → P
 not_memory fault told (inl e) = let none : 0 < fault_number (Memory alloc_error) = subst (λ f. 0 < fault_number f) e told in absurd (omega arith)
 not_memory fault told (inr p) = p
 
--- a fault that was told
+-- a fault that is reported
 pub stops_with : (profile : Profile) (expression : List ℕ) (fault told : ParseFault) → told ≡ fault → 0 < fault_number fault → IsStopBy SpellsTree profile expression fault
     → (fault ≡ Memory alloc_error) ⊎ ((tree : Tree) → SpellsWithinBy profile expression tree → ⊥) → StopsWith profile expression told
 stops_with profile expression fault told same is_told stop complete =
     subst (λ f. StopsWith profile expression f) (sym same) (not_memory fault is_told complete, is_told, stop)
 
--- a verdict on what the texts spell is their answer
+-- a verdict for what the texts spell is the answer to them
 pub verdict_reported : (profile : Profile) (expression : List ℕ) (words : List (List ℕ)) (terms : List Term) (tree : Tree) (report : Report) → SpellsWithinBy profile expression tree
     → SpellTerms words terms → IsVerdict words terms tree report → IsReport profile expression words report
 verdict_reported profile expression words terms tree Minimal spells spell is = (tree, terms, spells, spell, is)

@@ -1,4 +1,4 @@
--- What `convert` writes, and what `import` takes for a document.
+-- What `convert` writes, and what `import` takes as a document.
 use Rattle.std.specs.Prelude.{◌≡◌, ◌⊎◌, ◌==◌, ◌||◌, ◌++◌, ◌∷◌, [], ℕ, Bool, false, List, if◌then◌else◌, codes}
 use Rattle.std.specs.String.{string_bytes}
 use Rattle.desk_import.specs.Results.{IsConverted, IsRefused}
@@ -14,7 +14,7 @@ fault_words (Missing at) = codes "Missing at " ++ at
 fault_words (BadType at) = codes "BadType at " ++ at
 fault_words (BadValue at) = codes "BadValue at " ++ at
 
--- the line that tells it
+-- the line that reports it
 abbrev pub convert_fault_line : ConvertFault → List ℕ
 convert_fault_line fault = (codes "fault: " ++ fault_words fault) ++ 10 ∷ []
 
@@ -28,7 +28,7 @@ Converts bytes text status =
 abbrev pub is_json_blank : ℕ → Bool
 is_json_blank byte = (byte == 32) || ((byte == 9) || ((byte == 10) || (byte == 13)))
 
--- the first byte that is no blank opens a JSON object
+-- the first byte that isn't blank opens a JSON object
 abbrev pub begins_object : List ℕ → Bool
 begins_object [] = false
 begins_object (byte ∷ bytes) = if is_json_blank byte then begins_object bytes else byte == 123

@@ -6,55 +6,57 @@ use Rattle.desk_script.specs.declared.serving.ScriptFault.{ScriptFault}
 use Rattle.desk_subcommands.specs.declared.failure.Failure.{Failure}
 use Rattle.desk_subcommands.specs.declared.failure.Failure.TheVariants.{Memory, Write, Script, Failed, Request, BadValue, UnknownName}
 
--- the fact holds where memory was wanting
+-- the fact holds if no memory was left
 abbrev pub IfMemory : Type 0 → Failure → Type 0
 IfMemory fact (Memory error) = fact
 IfMemory fact _ = Unit {0}
 
--- where some value can't stand in its field
+-- the fact holds if some value can't be written in its field
 abbrev pub IfBadValue : Type 0 → Failure → Type 0
 IfBadValue fact BadValue = fact
 IfBadValue fact _ = Unit {0}
 
--- where there was nothing to tell for one of these
+-- the fact holds after a failure for which nothing is written
 abbrev pub IfUntold : Type 0 → Failure → Type 0
 IfUntold fact (Memory error) = fact
 IfUntold fact BadValue = fact
 IfUntold fact (UnknownName name) = fact
 IfUntold fact _ = Unit {0}
 
--- the program's status: the command line is wrong, where a value can't stand or is no name; or a fault
+-- the program's status: 2, a wrong command line, if a value can't be written in its field or a name is
+-- unknown, and else 3, a fault
 abbrev pub failure_status : Failure → ℕ
 failure_status BadValue = 2
 failure_status (UnknownName name) = 2
 failure_status _ = 3
 
--- what holds where a script stopped by a fault, which the failure tells, and where so many of its requests failed; it has no other
--- failure
+-- what holds if a script stopped by a fault, which the failure reports, and what if this many of its requests
+-- failed; it has no other failure
 abbrev pub OfScript : (ScriptFault → Type 0) → (ℕ → Type 0) → Failure → Type 0
 OfScript stopped failed (Script fault) = stopped fault
 OfScript stopped failed (Failed count) = failed count
 OfScript stopped failed _ = ⊥
 
--- what holds where the desk failed at a command by a fault, and where no reply to it could be written; it has no other failure
+-- what holds if the desk failed at a command by a fault, and what if the reply couldn't be written; it has no
+-- other failure
 abbrev pub OfRequest : (Fault → Type 0) → Type 0 → Failure → Type 0
 OfRequest failed untold (Request fault) = failed fault
 OfRequest failed untold (Memory error) = untold
 OfRequest failed untold (Write error) = untold
 OfRequest failed untold _ = ⊥
 
--- a text couldn't be written, or there was no memory for it
+-- a text couldn't be written, or no memory was left for it
 abbrev pub IsOfOutput : Failure → Type 0
 IsOfOutput (Memory error) = Unit {0}
 IsOfOutput (Write error) = Unit {0}
 IsOfOutput _ = ⊥
 
--- and of a document: some value of it can't stand in its field
+-- the same for a document, or some value of it can't be written in its field
 abbrev pub IsOfDocument : Failure → Type 0
 IsOfDocument BadValue = Unit {0}
 IsOfDocument failure = IsOfOutput failure
 
--- and of a name: nothing has it
+-- the same for a name, or nothing has the name
 abbrev pub IsOfName : List ℕ → Type 0 → Failure → Type 0
 IsOfName name nothing (UnknownName told) = (string_bytes told ≡ name) × nothing
 IsOfName name nothing failure = IsOfOutput failure

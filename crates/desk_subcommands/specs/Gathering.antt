@@ -1,4 +1,4 @@
--- What `gather` writes, and the status that it answers.
+-- What `gather` writes, and the status that it returns.
 use Rattle.std.specs.Prelude.{◌≡◌, ℕ, List, if◌then◌else◌}
 use Rattle.desk_tree_gather.specs.declared.files.SourceFile.{SourceFile}
 use Rattle.desk_tree_gather.specs.Readers.{Reader}
@@ -6,11 +6,11 @@ use Rattle.desk_tree_document.specs.Drafts.{Named}
 use Rattle.desk_tree_document.specs.declared.document.Gathering.{Gathering}
 use Rattle.desk_tree_document.specs.Gathering.{IsGathering, gathering_text, is_document}
 
--- the program's status: done where there is a document, or refused
+-- the program's status: done if there is a document, and else refused
 abbrev pub gathering_status : Gathering → ℕ
 gathering_status answer = if is_document answer then 0 else 1
 
--- the text and the status that tell the document of a tree
+-- the text and the status for the document of a tree
 abbrev pub Gathers : Reader → List SourceFile → Named → List ℕ → ℕ → Type 0
 Gathers r files title text status =
     (answer : Gathering) × IsGathering r files title answer × (text ≡ gathering_text answer) × (status ≡ gathering_status answer)

@@ -1,4 +1,4 @@
--- The lines that `alternatives` writes, and the status that it answers.
+-- The lines that `alternatives` writes, and the status that it returns.
 use Rattle.std.specs.Prelude.{◌≡◌, ℕ, List, [], ◌∷◌, ◌++◌, codes}
 use Rattle.desk_expr.specs.declared.term.Term.{Term}
 use Rattle.desk_expr.specs.Tree.{Tree}
@@ -14,7 +14,7 @@ use Rattle.desk_subcommands.specs.Report.{StopsWith, text_of}
 
 -- ---- the answer
 
--- what is listed of a tree: its minimal sets, or the limit that it breaks
+-- what is listed for a tree: its minimal sets, or the limit that it exceeds
 abbrev pub IsListingOf : Tree → Listing → Type 0
 IsListingOf tree (Sets sets) = IsListable tree × AreAlternatives tree sets.items
 IsListingOf tree TooManyTerms = HasMoreTerms 128 tree
@@ -51,11 +51,11 @@ abbrev pub listing_status : Listing → ℕ
 listing_status (Sets sets) = 0
 listing_status _ = 1
 
--- the lines and the status that list the minimal sets of the expression
+-- the lines and the status for the minimal sets of the expression
 abbrev pub Lists : Profile → List ℕ → List ℕ → ℕ → Type 0
 Lists profile expression text status = (listing : Listing) × IsListing profile expression listing × (text ≡ listing_text listing) × (status ≡ listing_status listing)
 
--- only one text and one status do
+-- there is only one such text and one such status
 abbrev pub ListsOnce : Profile → List ℕ → Type 0
 ListsOnce profile expression =
     (text other : List ℕ) (status another : ℕ) → Lists profile expression text status → Lists profile expression other another → (text ≡ other) × (status ≡ another)

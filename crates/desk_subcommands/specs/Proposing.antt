@@ -1,4 +1,4 @@
--- What `propose` writes, and the status that it answers.
+-- What `propose` writes, and the status that it returns.
 use Rattle.std.specs.Prelude.{◌≡◌, ◌⊎◌, ℕ, List, Option, Ok, Err}
 use Rattle.std.specs.String.{string_bytes}
 use Rattle.desk_expr.specs.Tree.{Tree}
@@ -23,7 +23,7 @@ abbrev pub IsRefused : Readings → List ℕ → List ℕ → ℕ → Type 0
 IsRefused w bytes text status =
     (fault : DocumentFault) × (w.document bytes ≡ Err fault) × (text ≡ outcome_line (Answered (Refused (BadDocument fault)))) × (status ≡ 1)
 
--- the text and the status that tell the proposals for the document that bytes spell, or that they spell none
+-- the text and the status for the proposals for the document that bytes spell, or for bytes that spell none
 abbrev pub Proposes : Readings → (List ℕ → Option Tree) → ℕ → List ℕ → List ℕ → ℕ → Type 0
 Proposes w reads number bytes text status =
     ((d : DocumentText) × Spells bytes (Ok d) × HasLines reads number d text status) ⊎ IsRefused w bytes text status

@@ -1,4 +1,4 @@
--- The one line that `check` writes, and the status that it answers.
+-- The one line that `check` writes, and the status that it returns.
 use Rattle.std.specs.Prelude.{◌≡◌, ℕ, ◌<◌, List, [], ◌∷◌, ◌++◌, codes, slice_get, Some, Contains, decimal}
 use Rattle.desk_base.specs.declared.profile.Profile.{Profile}
 use Rattle.desk_expr.specs.declared.fault.ParseFault.{ParseFault}
@@ -26,7 +26,7 @@ SpellTerms (word ∷ words) (term ∷ more) = SpellsTermWithin word term × Spel
 abbrev pub IsBad : List ℕ → Type 0
 IsBad word = (term : Term) → SpellsTermWithin word term → ⊥
 
--- the first word that spells no term: each one before it does
+-- the first word that spells no term; each word before it spells one
 abbrev pub IsFirstBad : List (List ℕ) → List ℕ → Type 0
 IsFirstBad words bad =
     (front : List (List ℕ)) × (behind : List (List ℕ)) × (words ≡ front ++ bad ∷ behind)
@@ -34,14 +34,15 @@ IsFirstBad words bad =
 
 -- ---- the answer
 
--- what the terms of the words are worth for the tree
+-- how the terms of the words satisfy the tree
 abbrev pub IsVerdict : List (List ℕ) → List Term → Tree → Report → Type 0
 IsVerdict words terms tree Minimal = IsMinimal terms tree
 IsVerdict words terms tree NotEnough = Holds (Contains terms) tree → ⊥
 IsVerdict words terms tree (Superfluous word) = (i : ℕ) × (slice_get words i ≡ Some word.now) × IsFirst (CanGo terms tree) i
 IsVerdict words terms tree _ = ⊥
 
--- read by the profile, the expression spells no tree, and stops with the fault, which isn't want of memory
+-- read by the profile, the expression spells no tree, and reading stops with this fault, which is not for
+-- lack of memory
 abbrev pub StopsWith : Profile → List ℕ → ParseFault → Type 0
 StopsWith profile expression fault =
     ((tree : Tree) → SpellsWithinBy profile expression tree → ⊥) × (0 < fault_number fault) × IsStopBy SpellsTree profile expression fault
@@ -68,12 +69,12 @@ abbrev pub status_of : Report → ℕ
 status_of Minimal = 0
 status_of _ = 1
 
--- the line and the status that tell whether the words are a minimal choice for the expression
+-- the line and the status that say whether the words are a minimal choice for the expression
 abbrev pub Tells : Profile → List ℕ → List (List ℕ) → List ℕ → ℕ → Type 0
 Tells profile expression words line status =
     (report : Report) × IsReport profile expression words report × (line ≡ text_of report) × (status ≡ status_of report)
 
--- only one line and one status do
+-- there is only one such line and one such status
 abbrev pub TellsOnce : Profile → List ℕ → List (List ℕ) → Type 0
 TellsOnce profile expression words =
     (line other : List ℕ) (status another : ℕ) → Tells profile expression words line status → Tells profile expression words other another

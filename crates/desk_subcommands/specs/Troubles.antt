@@ -1,11 +1,11 @@
--- Why the database of a file can't be used, by what the desk tells.
+-- Why the database of a file can't be used, by what the desk reports.
 use Rattle.desk_model.specs.declared.command.Fault.{Fault}
 use Rattle.desk_model.specs.declared.command.Fault.TheVariants as fault
 use Rattle.desk_model.specs.declared.command.StoreFault.TheVariants as store
 use Rattle.desk_subcommands.specs.declared.trouble.Trouble.{Trouble}
 use Rattle.desk_subcommands.specs.declared.trouble.Trouble.TheVariants as trouble
 
--- of a fault of the desk
+-- the trouble for a fault of the desk
 abbrev pub trouble_of_fault : Fault → Trouble
 trouble_of_fault fault.Memory = trouble.Memory
 trouble_of_fault (fault.Store store.Database) = trouble.Refused

@@ -28,8 +28,8 @@ fn report_status(report: AuditReport) -> u8
     }
 }
 
-/// Writes what an audit reports, as a line, `sound` or the name of the first condition that isn't
-/// met, and answers the program's status.
+/// Writes what an audit reports as a line, `sound` or the name of the first condition that isn't
+/// met, and returns the program's status.
 pub fn tell_report<W: Write>(report: AuditReport, writer: &mut W) -> Result<u8, Failure>
     ensures told { IfOk result (λ status. (status ≡ report_status report)
         × Appends (W.contents writer.old) (W.contents writer.new) (report_name report ++ 10 ∷ [])) }

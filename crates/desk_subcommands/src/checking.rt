@@ -1,4 +1,4 @@
-//! Whether a choice of terms is enough for an expression, and none of them too many.
+//! Whether a choice of terms satisfies an expression, and whether it does without one of them.
 
 ghost use Rattle.std.specs.Prelude.{◌≡◌, ◌++◌, ◌∷◌, [], ℕ, ◌<◌, IfOk, IfErr, OnErr, List, map};
 ghost use Rattle.std.specs.Io.KnownBytes.{Appends, Keeps};
@@ -15,13 +15,13 @@ use std::io::Write;
 /// What a list of words spells.
 #[derive(Drop)]
 enum Terms<'a> {
-    /// A term each.
+    /// A term for each word.
     All(Vec<Term>),
-    /// The first word that spells none.
+    /// The first word that spells no term.
     Bad(&'a str),
 }
 
-/// The fault, unless it is want of memory, which is handed on.
+/// The fault itself, or an error if it is that no memory was left.
 pub(crate) fn told(fault: ParseFault) -> Result<ParseFault, AllocError>
     ensures told { IfOk result (λ told. (told ≡ fault) × (0 < fault_number fault)) }
     ensures memory { OnErr result (fault_number fault ≡ 0) }
@@ -48,7 +48,7 @@ fn read_terms<'a>(alloc: Global, words: &'a [&'a str]) -> Result<Terms<'a>, Allo
     Ok(Terms::All(terms))
 }
 
-/// What the terms of the words are worth.
+/// How the terms of the words satisfy the expression.
 fn verdict<'a>(tree: &Expr, terms: &[Term], words: &'a [&'a str]) -> Report<'a>
     requires { SpellTerms (map (λ w. w.now) words.now) terms.now }
     ensures { IsVerdict (map (λ w. w.now) words.entry.now) terms.now tree.now result }
@@ -83,8 +83,8 @@ fn judge<'a>(
 }
 
 /// Writes whether the words spell a minimal choice of terms for the licence expression, whose
-/// operators are written by the profile, as one line, and answers the program's status. Where
-/// memory is wanting, nothing is written.
+/// operators are written by the profile, as one line, and returns the program's status. If no
+/// memory is left, nothing is written.
 pub fn check<W: Write>(
     alloc: Global,
     expression: &str,

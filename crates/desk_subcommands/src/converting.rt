@@ -1,4 +1,4 @@
-//! SPDX documents in JSON, taken for the tag-value documents that say the same.
+//! SPDX documents in JSON, taken as the tag-value documents that say the same.
 
 ghost use Rattle.std.specs.Prelude.{◌≡◌, ◌⊎◌, ◌++◌, true, false, ℕ, List, IfOk, IfErr, OnOk, codes};
 ghost use Rattle.std.specs.String.{string_bytes};
@@ -21,8 +21,8 @@ fn is_json_blank(byte: u8) -> bool
     matches!(byte, b' ' | b'\t' | b'\n' | b'\r')
 }
 
-/// Whether bytes are an object of JSON, and no tag-value document: their first byte that is no
-/// blank opens one.
+/// Whether bytes are a JSON object rather than a tag-value document: their first byte that isn't
+/// blank opens an object.
 fn begins_object(bytes: &[u8]) -> bool
     ensures { result ≡ begins_object bytes.now }
 {
@@ -34,7 +34,8 @@ fn begins_object(bytes: &[u8]) -> bool
     false
 }
 
-/// The tag-value document that bytes are, or that says what they say as an SPDX document in JSON.
+/// The tag-value document that the bytes are or, if they are an SPDX document in JSON, the one that
+/// says the same.
 pub fn document_of(alloc: Global, bytes: Vec<u8>) -> Result<Vec<u8>, ConvertFault>
     ensures same { begins_object bytes.items ≡ false
         → IfOk result (λ text. text.items ≡ bytes.items) }
@@ -74,7 +75,7 @@ fn fault_text(alloc: Global, fault: &ConvertFault) -> Result<String, AllocError>
     Ok(line)
 }
 
-/// Writes why a document isn't converted, as a line, and answers the program's status.
+/// Writes why a document isn't converted, as a line, and returns the program's status.
 pub fn refuse_conversion<W: Write>(
     alloc: Global,
     fault: ConvertFault,
@@ -97,7 +98,7 @@ pub fn refuse_conversion<W: Write>(
     Ok(1)
 }
 
-// Tells how much of a document the desk doesn't read, beside the text, which may go into a file.
+// Reports how much of a document the desk doesn't read. The text itself may go into a file.
 fn tell_skipped<T: Write>(alloc: Global, skipped: Skipped, teller: &mut T) -> Result<(), Failure> {
     let Skipped {
         external_documents,
@@ -113,8 +114,8 @@ fn tell_skipped<T: Write>(alloc: Global, skipped: Skipped, teller: &mut T) -> Re
     Ok(())
 }
 
-/// Writes the tag-value document that says what an SPDX document in JSON says, or as a line why
-/// there is none, and answers the program's status. What is left out is told to another writer.
+/// Writes the tag-value document that says the same as an SPDX document in JSON or, as a line, why
+/// there is none, and returns the program's status. What is left out is reported to another writer.
 pub fn convert<W: Write, T: Write>(
     alloc: Global,
     bytes: &[u8],
@@ -130,7 +131,7 @@ pub fn convert<W: Write, T: Write>(
     match desk_import::convert(alloc, bytes) {
         Ok(converted) => {
             write_text(writer, converted.text.as_bytes())?;
-            // Where that can't be told, the document is written all the same.
+            // If that can't be reported, the document is still written.
             let _told = tell_skipped(alloc, converted.skipped, teller);
             Ok(0)
         }

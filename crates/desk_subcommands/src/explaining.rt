@@ -1,4 +1,4 @@
-//! The lines of a script that aren't done, told in words.
+//! Explains in words which lines of a script aren't done.
 
 ghost use Rattle.std.specs.Prelude.{◌≡◌};
 
@@ -10,7 +10,7 @@ use desk_words::{RequestTrouble, request_trouble};
 use std::alloc::{AllocError, Global};
 use std::io::Write;
 
-// How many lines there were, but for blank ones.
+// How many lines there were, not counting blank ones.
 #[derive(Clone, Copy)]
 struct Counts {
     done: u64,
@@ -43,25 +43,25 @@ impl Counts {
     }
 }
 
-/// One who watches a script, and tells of each line that isn't done which it is and why, and at the
-/// end how many there were.
+/// Watches a script and reports, for each line that isn't done, which it is and why, and at the end
+/// how many there were.
 #[derive(Drop)]
 pub struct Explainer<E: Write> {
     alloc: Global,
     writer: E,
-    /// Whether anything is told.
+    /// Whether anything is reported.
     is_told: bool,
-    /// Whether the script ends with the first line that isn't done.
+    /// Whether the script ends at the first line that isn't done.
     is_stopped: bool,
-    /// The number of the line that came.
+    /// The number of the current line.
     line: u64,
-    /// Why it is no request.
+    /// Why it is no request, if it is none.
     trouble: Option<RequestTrouble>,
     counts: Counts,
 }
 
 impl<E: Write> Explainer<E> {
-    /// One who tells what isn't done or keeps silent, and has the script end there or go on.
+    /// Reports what isn't done or keeps silent, and ends the script there or lets it go on.
     pub fn new(alloc: Global, writer: E, is_told: bool, is_stopped: bool) -> Explainer<E>
         ensures { result.is_stopped ≡ is_stopped }
     {
@@ -82,7 +82,7 @@ impl<E: Write> Explainer<E> {
         }
     }
 
-    // The words for the line that came, where it isn't done.
+    // The words for the current line, if it isn't done.
     fn words(&self, reply: &Reply) -> Result<Option<String>, AllocError> {
         let (alloc, line) = (self.alloc, self.line);
         match reply {
@@ -108,7 +108,7 @@ impl<E: Write> Explainer<E> {
         Ok(())
     }
 
-    /// Tells how many lines were done and how many not.
+    /// Reports how many lines were done and how many were not.
     pub fn tell_counts(&mut self) -> Result<(), Failure> {
         if self.is_told {
             let line = self.counts.line(self.alloc)?;
@@ -134,7 +134,7 @@ impl<E: Write> Watch for Explainer<E> {
             return;
         }
         self.trouble = match text {
-            // Where memory is wanting, the line is told without its cause.
+            // If no memory is left, the line is reported without its cause.
             Some(text) => request_trouble(self.alloc, text).unwrap_or(None),
             None => Some(RequestTrouble::TooLong),
         };
@@ -143,7 +143,7 @@ impl<E: Write> Watch for Explainer<E> {
     fn replied(&mut self, reply: &Reply) {
         self.counts.add(reply);
         if self.is_told {
-            // Where it can't be told, there is nobody left to tell.
+            // If it can't be reported, there is nobody left to report to.
             let _told = self.tell(reply);
         }
     }

@@ -8,7 +8,7 @@ use std::alloc::AllocError;
 use std::io;
 use thiserror::Error;
 
-/// A fault of the program's surroundings: what the words asked for was fine.
+/// A fault of the program's surroundings, not of what the words asked for.
 #[derive(Debug, Drop, Error)]
 pub enum Failure {
     #[error("no memory is left")]
@@ -18,13 +18,14 @@ pub enum Failure {
     /// A script stopped before its end.
     #[error("the script stopped: {0}")]
     Script(ScriptFault),
-    /// So many requests of a script failed.
+    /// This many requests of a script failed.
     #[error("requests that failed: {0}")]
     Failed(u64),
-    /// A desk failed at a command. While the run goes on its rows are as they were; what the file keeps may be the rows after it.
+    /// A desk failed at a command. During the run its rows are as they were; the file may have the
+    /// rows after the command.
     #[error("the request failed: {0}; it was done whole or not at all, so look before you send it again")]
     Request(Fault),
-    /// A file that is to be read can't be: its path, and why.
+    /// A file can't be read: its path, and why.
     #[error("cannot read {0:?}: {1}")]
     Read(String, io::Error),
     /// A file can't keep a desk: its path, and why.
@@ -36,10 +37,10 @@ pub enum Failure {
     /// A port of 127.0.0.1 can't be listened on: which, and why.
     #[error("cannot listen on port {0} of 127.0.0.1: {1}")]
     Listen(u16, PortTrouble),
-    /// So many connections failed.
+    /// This many connections failed.
     #[error("connections that failed: {0}")]
     Connections(u64),
-    /// The files of a tree can't be had.
+    /// The files of a tree can't be read.
     #[error("{0}")]
     Tree(TreeFault),
     /// Nothing that the desk prints has this name.
@@ -54,7 +55,8 @@ impl Failure {
     ghost use Rattle.std.specs.Prelude.{◌≡◌};
     ghost use Rattle.desk_subcommands.specs.Failures.{failure_status};
 
-    /// The program's status: 2 where a value can't stand in its field or is no name, and else 3.
+    /// The program's status: 2 if a value can't be written in its field or a name is unknown, and
+    /// else 3.
     pub fn status(&self) -> u8
         ensures { result ≡ failure_status self.now }
     {

@@ -1,5 +1,4 @@
-//! The commands whose texts stand in files: the import of a document, and the loading of a
-//! catalogue.
+//! The commands whose texts are in files: importing a document, and loading a catalogue.
 
 ghost use Rattle.std.specs.Prelude.{◌≡◌, ◌++◌, ◌∷◌, [], IfOk, IfErr, OnOk, MatchOption, codes};
 ghost use Rattle.std.specs.String.{string_bytes};
@@ -21,10 +20,10 @@ use desk_snapshot::AuditFault;
 use std::alloc::{AllocError, Global};
 use std::io::Write;
 
-/// Why a file keeps no desk that this program goes on with.
+/// Why a file keeps no desk that this program can use.
 #[derive(Clone, Copy, Drop, PartialEq, Eq)]
 pub enum NoDesk {
-    /// It has a table `meta`, and not all tables of a desk and no others.
+    /// It has a table `meta`, but not exactly the tables of a desk.
     NotADesk,
     /// Its tables are of another version.
     BadVersion,
@@ -32,7 +31,7 @@ pub enum NoDesk {
     Unsound(AuditFault),
 }
 
-// The name of why a file keeps no desk.
+// The name of the reason why a file keeps no desk.
 fn no_desk_name(reason: NoDesk) -> &'static str
     ensures { result.now ≡ no_desk_name reason }
 {
@@ -65,7 +64,7 @@ pub(crate) fn write_line<W: Write>(writer: &mut W, text: &str) -> Result<(), Fai
     Ok(())
 }
 
-/// Writes a text whole.
+/// Writes all of a text.
 pub fn write_text<W: Write>(writer: &mut W, text: &[u8]) -> Result<(), Failure>
     ensures ok { OnOk result (Appends (W.contents writer.old) (W.contents writer.new) text.now) }
     ensures err { IfErr result IsOfOutput }
@@ -77,7 +76,7 @@ pub fn write_text<W: Write>(writer: &mut W, text: &[u8]) -> Result<(), Failure>
     Ok(())
 }
 
-// Writes the reply to an outcome as a line. That memory was wanting is told without taking memory.
+// Writes the reply to an outcome as a line. Reporting that no memory was left takes no memory.
 fn write_reply<W: Write>(alloc: Global, outcome: &Outcome, writer: &mut W) -> Result<(), Failure>
     ensures ok { OnOk result (Appends (W.contents writer.old) (W.contents writer.new)
         (outcome_line outcome.now)) }
@@ -94,8 +93,8 @@ fn write_reply<W: Write>(alloc: Global, outcome: &Outcome, writer: &mut W) -> Re
     }
 }
 
-/// Writes the reply to an outcome as a line, and answers the program's status. If the desk failed,
-/// the reply says so and so does the failure.
+/// Writes the reply to an outcome as a line, and returns the program's status. If the desk failed,
+/// both the reply and the failure say so.
 pub fn tell<W: Write>(alloc: Global, outcome: &Outcome, writer: &mut W) -> Result<u8, Failure>
     ensures done { IfOk result (λ status. (answer : Answer) × (outcome.now ≡ Answered answer)
         × Appends (W.contents writer.old) (W.contents writer.new) (outcome_line (Answered answer))
@@ -133,7 +132,7 @@ fn loaded<D: Desk>(desk: &mut D, text: Text) -> Outcome
     Outcome::from(became)
 }
 
-// Writes the reply to an outcome as `tell` does, and tells why it isn't done.
+// Writes the reply to an outcome as `tell` does, and reports why it isn't done.
 fn answer<W: Write, E: Write>(
     alloc: Global,
     outcome: Outcome,
@@ -156,9 +155,9 @@ fn answer<W: Write, E: Write>(
     told
 }
 
-/// Has a desk import a document, as the request `import` does, writes the reply as a line, and
-/// answers the program's status. Where the desk fails, the reply tells it and so does the failure.
-/// Where the reply can't be written, what the desk did stands.
+/// Lets a desk import a document, as the request `import` does, writes the reply as a line, and
+/// returns the program's status. If the desk fails, both the reply and the failure say so. If the
+/// reply can't be written, what the desk did is not undone.
 pub fn import<D: Desk, W: Write, E: Write>(
     alloc: Global,
     desk: &mut D,
@@ -183,9 +182,9 @@ pub fn import<D: Desk, W: Write, E: Write>(
     answer(alloc, outcome, writer, teller)
 }
 
-/// Has a desk load a catalogue, as the request `catalogue` does, writes the reply as a line, and
-/// answers the program's status. Where the desk fails, the reply tells it and so does the failure.
-/// Where the reply can't be written, what the desk did stands.
+/// Lets a desk load a catalogue, as the request `catalogue` does, writes the reply as a line, and
+/// returns the program's status. If the desk fails, both the reply and the failure say so. If the
+/// reply can't be written, what the desk did is not undone.
 pub fn catalogue<D: Desk, W: Write, E: Write>(
     alloc: Global,
     desk: &mut D,
@@ -209,7 +208,7 @@ pub fn catalogue<D: Desk, W: Write, E: Write>(
     answer(alloc, outcome, writer, teller)
 }
 
-/// The text that bytes are, or none where they are no UTF-8.
+/// The text that bytes are, or `None` if they are not UTF-8.
 pub fn text_of(alloc: Global, bytes: &[u8]) -> Result<Option<Text>, AllocError>
     ensures { IfOk result (λ found. MatchOption found (¬ (IsUtf8 bytes.now)) (λ text.
         (text ≡ bytes.now) × IsUtf8 bytes.now)) }
@@ -220,8 +219,8 @@ pub fn text_of(alloc: Global, bytes: &[u8]) -> Result<Option<Text>, AllocError>
     }
 }
 
-/// Writes the reply to the loading of a catalogue that is no text: it is refused as no TOML
-/// document. It answers the program's status.
+/// Writes the reply to the loading of a catalogue that is no text, which is refused as not being a
+/// TOML document, and returns the program's status.
 pub fn refuse_catalogue<W: Write, E: Write>(
     alloc: Global,
     writer: &mut W,
@@ -239,7 +238,7 @@ pub fn refuse_catalogue<W: Write, E: Write>(
     answer(alloc, outcome, writer, teller)
 }
 
-// The line that tells why a file keeps no desk, without its end.
+// The line that says why a file keeps no desk, without its end.
 fn no_desk_text(alloc: Global, reason: NoDesk) -> Result<String, AllocError>
     ensures { IfOk result (λ text. string_bytes text ≡ codes "fault: " ++ no_desk_name reason) }
 {
@@ -248,7 +247,7 @@ fn no_desk_text(alloc: Global, reason: NoDesk) -> Result<String, AllocError>
     Ok(text)
 }
 
-/// Writes why a file keeps no desk, as a line, and answers the program's status.
+/// Writes why a file keeps no desk, as a line, and returns the program's status.
 pub fn refuse_database<W: Write>(
     alloc: Global,
     reason: NoDesk,

@@ -46,7 +46,8 @@ fn line_count(text: &str, line: &str) -> usize {
     text.lines().filter(|one| *one == line).count()
 }
 
-// What is told beside the document of a tree: how many of its files state no licence or no notice.
+// What is reported besides the document of a tree: how many of its files state no licence or no
+// notice.
 fn gaps(alloc: Global, text: &str) -> Result<Option<String>, AllocError> {
     let licences = line_count(text, "LicenseConcluded: NOASSERTION");
     let notices = line_count(text, "FileCopyrightText: NOASSERTION");
@@ -59,7 +60,7 @@ fn gaps(alloc: Global, text: &str) -> Result<Option<String>, AllocError> {
     Ok(Some(told))
 }
 
-// Tells what was gathered beside what is written, which may go into a file: a fault, or what the
+// Reports what was gathered besides what is written, which may go into a file: a fault, or what the
 // document lacks.
 fn tell<T: Write>(alloc: Global, status: u8, text: &str, teller: &mut T) -> Result<(), Failure> {
     if status != 0 {
@@ -70,10 +71,10 @@ fn tell<T: Write>(alloc: Global, status: u8, text: &str, teller: &mut T) -> Resu
     Ok(())
 }
 
-/// Writes the document of a tree of files, or one line with the fault for which it has none, and
-/// answers the program's status. Where memory is wanting, or some value can't stand in its field,
-/// nothing is written. A fault, and how many files state no licence or no notice, is told a second
-/// time to another writer.
+/// Writes the document of a tree of files, or one line with the fault for which there is none, and
+/// returns the program's status. If no memory is left, or some value can't be written in its field,
+/// nothing is written. A fault is also reported to another writer, as is how many files state no
+/// licence or no notice.
 pub fn gather<W: Write, T: Write>(
     alloc: Global,
     files: Vec<SourceFile>,
@@ -98,7 +99,7 @@ pub fn gather<W: Write, T: Write>(
     let text = answer.text(alloc)?;
     writer.write_all(text.as_bytes())?;
     writer.flush()?;
-    // Where that can't be told, what is written still says it.
+    // If that can't be reported, what is written still says it.
     let _told = tell(alloc, status, text.as_str(), teller);
     Ok(status)
 }

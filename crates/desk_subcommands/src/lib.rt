@@ -1,21 +1,21 @@
 //! The subcommands of the desk, each a function over what it reads and writes.
 //!
-//! A subcommand is handed its values, a desk where it works on one, and a writer. It writes what
-//! its definition says and answers the program's status: 0 done, 1 refused. A failure tells why it
-//! could not do its work, and has a status of its own. Over any desk, reader and writer the
-//! contracts are the same, so they speak of the desk in memory as of the one in a file.
+//! A subcommand is given its values, a desk if it works on one, and a writer. It writes what its
+//! definition says and returns the program's status: 0 done, 1 refused. A failure says why the
+//! subcommand could not do its work, and has a status of its own. The contracts are the same over
+//! any desk, reader and writer, so they hold for the desk in memory and for the one in a file.
 //!
-//! - `check` judges a choice of terms (`specs/Report.antt`), `alternatives` lists the choices that
-//!   there are (`specs/Listing.antt`).
+//! - `check` judges a choice of terms (`specs/Report.antt`), and `alternatives` lists the choices
+//!   that there are (`specs/Listing.antt`).
 //! - `script` replies to requests, and `Explainer` says in words which lines aren't done. `import`
-//!   and `catalogue` do one each (`specs/Filing.antt`).
-//! - `tell_report` writes what an audit reports (`specs/Auditing.antt`), `tell_migration` which
-//!   versions a migration went from and to (`specs/Migrating.antt`).
-//! - `gather` writes the document of a tree of files (`specs/Gathering.antt`), `lint` what is wrong
-//!   in it (`specs/Linting.antt`).
+//!   and `catalogue` do one request each (`specs/Filing.antt`).
+//! - `tell_report` writes what an audit reports (`specs/Auditing.antt`), and `tell_migration` from
+//!   which version to which a file was migrated (`specs/Migrating.antt`).
+//! - `gather` writes the document of a tree of files (`specs/Gathering.antt`), and `lint` what is
+//!   wrong in it (`specs/Linting.antt`).
 //! - `propose` writes the conclusions that are proposed for a document (`specs/Proposing.antt`),
-//!   `write_proposals` those for one that was read.
-//! - `convert` writes the tag-value document that says what one in JSON says, and `document_of`
+//!   and `write_proposals` those for one that was read already.
+//! - `convert` writes the tag-value document that says the same as one in JSON, and `document_of`
 //!   takes either (`specs/Converting.antt`).
 //! - `explain` writes what a name means (`specs/Meaning.antt`).
 //! - `tell` writes the reply to a request, and a `Teller` says in words why it was refused.

@@ -19,8 +19,8 @@ fn status_of(report: &Report) -> u8
     if report.is_clean { 0 } else { 1 }
 }
 
-/// Writes the problems of a tree of files, as one JSON object or a line each, and answers the
-/// program's status. Where memory is wanting, nothing is written.
+/// Writes the problems of a tree of files, as one JSON object or one on each line, and returns the
+/// program's status. If no memory is left, nothing is written.
 pub fn lint<W: Write>(
     alloc: Global,
     files: &[SourceFile],
@@ -40,8 +40,8 @@ pub fn lint<W: Write>(
     Ok(status_of(&report))
 }
 
-/// Tells which licences in REUSE.toml files have a blank at an end, a line each, where a tree's
-/// document can't hold them.
+/// Reports, one on each line, the licences in REUSE.toml files that have a blank at an end, which
+/// the document of a tree can't hold.
 pub fn tell_blanks<T: Write>(
     alloc: Global,
     files: &[SourceFile],

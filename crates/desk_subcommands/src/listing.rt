@@ -19,9 +19,9 @@ use std::io::Write;
 pub enum Listing {
     /// The minimal sets of the expression.
     Sets(Vec<TermSet>),
-    /// The expression has more distinct terms than are listed.
+    /// The expression has more distinct terms than can be listed.
     TooManyTerms,
-    /// Some front of a node has more minimal sets than are listed.
+    /// At some node there are more minimal sets than can be listed.
     TooMany,
     /// Why the expression cannot be read.
     Unread(ParseFault),
@@ -54,7 +54,7 @@ fn lines_of(alloc: Global, sets: &[TermSet]) -> Result<String, AllocError>
 }
 
 impl Listing {
-    /// The program's status: 0 for sets, and 1 for any other answer.
+    /// The program's status: 0 for sets, and 1 for anything else.
     fn status(&self) -> u8
         ensures { result ≡ listing_status self.now }
     {
@@ -100,8 +100,8 @@ fn list(alloc: Global, expression: &str, profile: Profile) -> Result<Listing, Al
 }
 
 /// Writes the minimal sets of terms that satisfy the licence expression, whose operators are
-/// written by the profile, a line each, or why they aren't listed, and answers the program's
-/// status. Where memory is wanting, nothing is written.
+/// written by the profile, one on each line, or why they aren't listed, and returns the program's
+/// status. If no memory is left, nothing is written.
 pub fn alternatives<W: Write>(
     alloc: Global,
     expression: &str,

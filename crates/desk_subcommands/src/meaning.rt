@@ -12,7 +12,7 @@ use std::alloc::Global;
 use std::io::Write;
 
 /// Writes what the tables say of a name, a block for each entry that has it, and returns the
-/// program's status. Where none has it, or memory is wanting, nothing is written.
+/// program's status. If none has it, or no memory is left, nothing is written.
 pub fn explain<W: Write>(
     alloc: Global,
     tables: &[&[Entry]],

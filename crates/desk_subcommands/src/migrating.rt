@@ -10,7 +10,7 @@ use crate::filing::write_line;
 use std::alloc::Global;
 use std::io::Write;
 
-/// Writes that a file was migrated from a version to this one, as a line.
+/// Writes, as a line, that a file was migrated from this version to the current one.
 pub fn tell_migration<W: Write>(alloc: Global, version: u32, writer: &mut W) -> Result<(), Failure>
     ensures told { OnOk result (Appends (W.contents writer.old) (W.contents writer.new)
         (migration_text version ++ 10 ∷ [])) }

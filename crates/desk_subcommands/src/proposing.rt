@@ -19,7 +19,7 @@ use desk_tagvalue::{Document, read};
 use std::alloc::{AllocError, Global};
 use std::io::Write;
 
-// Tells how many conclusions are proposed beside the lines, which may go into a file.
+// Reports how many conclusions are proposed. The lines themselves may go into a file.
 fn tell_counts<T: Write>(
     alloc: Global,
     profile: Profile,
@@ -32,8 +32,8 @@ fn tell_counts<T: Write>(
     Ok(())
 }
 
-/// Writes the requests that conclude, for each package of a document that ships without a
-/// conclusion, its declared licence, as `propose` does for the bytes of one.
+/// Writes the requests that conclude the declared licence of each package of a document that ships
+/// without a conclusion, as `propose` does for the bytes of one.
 pub fn write_proposals<W: Write, T: Write>(
     alloc: Global,
     number: u32,
@@ -53,7 +53,7 @@ pub fn write_proposals<W: Write, T: Write>(
     let proposals = proposals_of(alloc, number, document, profile)?;
     writer.write_all(proposals.lines.as_bytes())?;
     writer.flush()?;
-    // Where that can't be told, the lines are written all the same.
+    // If that can't be reported, the lines are still written.
     let _told = tell_counts(alloc, profile, &proposals, teller);
     Ok(0)
 }
@@ -79,7 +79,7 @@ pub fn refuse_document<X: Texts, W: Write>(
             drop(outcome);
             told
         }
-        // It is a document, and there was no memory to read it.
+        // It is a document, so there was no memory to read it before.
         Ok(document) => {
             drop(document);
             Err(Failure::Memory(AllocError))
@@ -87,11 +87,11 @@ pub fn refuse_document<X: Texts, W: Write>(
     }
 }
 
-/// Writes the requests that conclude, for each package of a document that ships without a
-/// conclusion, its declared licence, and returns the program's status. The desk knows the document
-/// by a number, and its licence expressions are read by the profile. Bytes that are no document get
-/// the reply that an import of them has. How many conclusions are proposed, and how many packages
-/// are left out, is told to another writer.
+/// Writes the requests that conclude the declared licence of each package of a document that ships
+/// without a conclusion, and returns the program's status. The desk knows the document by this
+/// number, and its licence expressions are read by the profile. For bytes that are no document, the
+/// reply is that to an import of them. How many conclusions are proposed, and how many packages are
+/// left out, is reported to another writer.
 pub fn propose<X: Texts, W: Write, T: Write>(
     alloc: Global,
     texts: &X,

@@ -1,4 +1,4 @@
-//! What `check` tells of a choice of terms.
+//! What `check` says of a choice of terms.
 
 use desk_expr::ParseFault;
 use std::fmt;
@@ -10,7 +10,7 @@ pub enum Report<'a> {
     Minimal,
     /// They don't satisfy it.
     NotEnough,
-    /// They do also without the term that this word spells, the first such.
+    /// They still do without the term that this word spells, the first such term.
     Superfluous(&'a str),
     /// The first word that spells no term.
     BadTerm(&'a str),

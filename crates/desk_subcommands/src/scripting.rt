@@ -1,4 +1,4 @@
-//! Requests replied to, one after the other.
+//! Replies to requests, one after another.
 
 ghost use Rattle.std.specs.Prelude.{◌≡◌, ◌==◌, true, if◌then◌else◌, ℕ, ◌<◌, IfOk, IfErr, List, length, ◌⊎◌};
 ghost use Rattle.std.specs.Io.KnownBytes.{Consumes};
@@ -14,8 +14,8 @@ use desk_script::{ScriptFault, Watch};
 use std::alloc::Global;
 use std::io::{Read, Write};
 
-/// Replies to the requests that the reader gives, a line each, and answers the program's status.
-/// Where the one who watches says so, it ends with the first line that isn't done.
+/// Replies to the requests that the reader gives, one on each line, and returns the program's
+/// status. If the watcher says so, it ends at the first line that isn't done.
 pub fn script<D: Desk, R: Read, W: Write, V: Watch>(
     alloc: Global,
     desk: &mut D,

@@ -1,4 +1,4 @@
-//! Why a request isn't done, told in words where somebody reads them.
+//! Explains in words why a request isn't done, if somebody reads them.
 
 ghost use Rattle.std.specs.Prelude.{◌≡◌};
 
@@ -8,7 +8,7 @@ use desk_words::RefusalWords;
 use std::alloc::{AllocError, Global};
 use std::io::Write;
 
-/// The words for an outcome that isn't done.
+/// The words for an outcome, if it is one of a request that isn't done.
 pub(crate) fn words_of(alloc: Global, outcome: &Outcome) -> Result<Option<String>, AllocError> {
     match outcome {
         Outcome::Failed(fault) => Ok(Some(format!(in alloc; "the request failed: {fault}")?)),
@@ -20,8 +20,8 @@ pub(crate) fn words_of(alloc: Global, outcome: &Outcome) -> Result<Option<String
     }
 }
 
-/// One who tells in words why a request isn't done, beside its reply, or keeps silent where nobody
-/// reads them.
+/// Explains in words why a request isn't done, besides its reply, or keeps silent if nobody reads
+/// them.
 #[derive(Drop)]
 pub struct Teller<E: Write> {
     alloc: Global,
@@ -30,7 +30,7 @@ pub struct Teller<E: Write> {
 }
 
 impl<E: Write> Teller<E> {
-    /// One who tells, or keeps silent.
+    /// A teller that explains or keeps silent.
     pub fn new(alloc: Global, writer: E, is_told: bool) -> Teller<E>
         ensures { result.is_told ≡ is_told }
     {
@@ -49,10 +49,10 @@ impl<E: Write> Teller<E> {
         Ok(())
     }
 
-    /// Tells why an outcome isn't done.
+    /// Explains why a request isn't done, by its outcome.
     pub fn explain(&mut self, outcome: &Outcome) {
         if self.is_told {
-            // Where it can't be told, there is nobody left to tell.
+            // If it can't be written, there is nobody left to tell.
             let _told = self.tell(outcome);
         }
     }

@@ -1,4 +1,4 @@
--- What a page comes to where a question for it is answered by something else, and where the desk fails.
+-- What a page comes to if a question for it gets another answer, and if the desk fails.
 use Rattle.std.proofs.Common.{◌≡◌, ◌∙◌, ℕ, ◌+◌, ◌<◌, List, [], ◌∷◌, ◌++◌, Option, Ok, Err, length, get_or, map, take, ap, ap₂, inl, inr, refl, subst, sym}
 use Rattle.std.proofs.lemmas.List.{map-append, map_more}
 use Rattle.std.specs.Prelude.{Result, IfOk, IfErr, Vec}
@@ -41,11 +41,11 @@ module _ {Left : Type 0} (a b : Seen Left) where
   asked_same answer asked kept is = subst (λ r. Looked a b r) is kept
 
 module _ {Left : Type 0} (is_right : Readings → Type 0) (a b : Seen Left) where
-  -- what is found after a look-up that went well was so before it
+  -- what is true after a successful look-up was true before it
   pub found_after : (Is : Readings → List Command → Type 0) (c : Seen Left) → Same a b → InHistory is_right Is b c → InHistory is_right Is a c
   found_after Is c same found w right honest h ok held = found w right honest h ok (same.kept.spared.holds (tables w h) held)
 
-  -- a question was answered by this, or came to this
+  -- a question got this answer, or came to this outcome
   pub asked_other : (q : Query) (Is : Readings → List Command → Outcome → Type 0) (asked : Result Answer Fault) (outcome : Outcome)
       → IfOk asked (λ answer. InHistory is_right (λ w h. answer ≡ queried w h q) a b) → outcome ≡ outcome_of asked
       → ((w : Readings) (h : List Command) (other : Answer) → queried w h q ≡ other → Is w h (outcome_is.Answered other))
@@ -55,27 +55,27 @@ module _ {Left : Type 0} (is_right : Readings → Type 0) (a b : Seen Left) wher
       subst (Is w h) (sym is) (other w h answer (sym (told w right honest h ok held)))
   asked_other q Is (Err fault) outcome told is other failed w right honest h ok held = subst (Is w h) (sym is) (failed w h fault)
 
-  -- which is told as it is
+  -- and this outcome is returned as it is
   pub gathers_other : (r : List ℕ) (gathered : Result Contents Outcome) (outcome : Outcome) → IsErrAnd gathered (λ o. o ≡ outcome)
       → InHistory is_right (λ w h. IsOther w h r outcome) a b → InHistory is_right (λ w h. Gathers w h r gathered) a b
   gathers_other r (Ok contents) outcome is found w right honest h ok held = absurd is
   gathers_other r (Err other) outcome is found w right honest h ok held = subst (IsOther w h r) (sym is) (found w right honest h ok held)
 
-  -- what a question for the changes of a duty came to is told in place of all changes
+  -- the outcome of a question for the changes of a duty is returned in place of all changes
   pub changes_other : (lines : List DutyLine) (changes : Result (Vec (List ChangeRow) Global) Outcome) (outcome : Outcome)
       → IsErrAnd changes (λ o. o ≡ outcome) → InHistory is_right (λ w h. IsOtherChange w h outcome) a b
       → InHistory is_right (λ w h. AreChanges w h lines (rows_in changes)) a b
   changes_other lines (Ok changes) outcome is found w right honest h ok held = absurd is
   changes_other lines (Err other) outcome is found w right honest h ok held = subst (IsOtherChange w h) (sym is) (found w right honest h ok held)
 
-  -- as what a question for the changes of a duty came to is
+  -- so it is an outcome of a question for the page
   pub gathers_change : (r : List ℕ) (outcome : Outcome) → InHistory is_right (λ w h. IsOtherChange w h outcome) a b
       → InHistory is_right (λ w h. IsOther w h r outcome) a b
   gathers_change r (outcome_is.Answered other) found w right honest h ok held =
       let it = found w right honest h ok held in (query.Changes it.0, inr (inr (inr (it.0, refl))), it.1)
   gathers_change r (outcome_is.Failed fault) found w right honest h ok held = tt
 
--- the changes of one duty more
+-- the changes of one more duty
 pub changes_more : (w : Readings) (h : List Command) (lines : List DutyLine) (i : ℕ) (line : DutyLine) (changes after : List (List ChangeRow))
     (rows : List ChangeRow) → i < length lines → line ≡ get_or lines i line
     → map (λ line. queried w h (query.Changes line.number)) (take i lines) ≡ map answered.Changes changes
@@ -117,7 +117,7 @@ failed_told old new outcome (Err (failure.Tree fault)) told = absurd told
 failed_told old new outcome (Err (failure.UnknownName name)) told = absurd told
 failed_told old new outcome (Err failure.BadValue) told = absurd told
 
--- the page was written of what the desk answered
+-- the page was written from the desk's answers
 pub page_written : {Left : Type 0} (is_right : Readings → Type 0) (r : List ℕ) (a b : Seen Left) (old new : Option (List ℕ)) (contents : Contents)
     (result : Result ℕ Failure) → InHistory is_right (λ w h. AreContents w h r contents) a b
     → IfOk result (λ status. (status ≡ 0) × Appends old new (contents_text contents))
@@ -126,7 +126,7 @@ page_written is_right r a b old new contents (Ok status) found (zero, written) =
     (contents_text contents, (λ w right honest h ok held. inl (contents, found w right honest h ok held, refl, zero)), written)
 page_written is_right r a b old new contents (Err why) found told = tt
 
--- a page has no failure of a request
+-- writing a page has no failure of a request
 pub page_told : (told : Fault → Type 0) (result : Result ℕ Failure) → IfErr result IsOfOutput → IfErr result (OfRequest told (Unit {0}))
 page_told told (Ok status) fails = tt
 page_told told (Err (failure.Memory error)) fails = tt

@@ -24,7 +24,7 @@ AreReleases s lines = IsPermutation (map (release_line s.duty) s.releases) lines
 abbrev pub AreDocuments : (Profile → List ℕ → Option Tree) → Snapshot → List DocumentLine → Type 0
 AreDocuments reads s lines = AllZip (IsDocumentLine reads s) s.document lines
 
--- the duties that a filter asks for, the one that was raised first before the others
+-- the duties that a filter asks for, in the order in which they were raised
 abbrev pub AreDuties : DutyFilter → Snapshot → List DutyLine → Type 0
 AreDuties wanted s lines = IsPermutation (lines_wanted s wanted) lines × IsSorted raising_order lines
 

@@ -19,17 +19,18 @@ use Rattle.desk_page.specs.Page.{page_text}
 use Rattle.desk_subcommands.specs.Filing.{answer_status, outcome_line}
 use Rattle.desk_views.specs.declared.paging.Contents.{Contents}
 
--- what a question came to is this kind of answer, or is told as it is
+-- a question gets this kind of answer, or its outcome is returned as it is
 abbrev pub IsToldBy : {T : Type 0} → (T → Answer) → Result Answer Fault → Result T Outcome → Type 0
 IsToldBy kind asked (Ok told) = asked ≡ Ok (kind told)
 IsToldBy kind asked (Err outcome) = outcome ≡ outcome_of asked
 
--- an answer is another one to a question for the changes of some duty; nothing is said of a fault
+-- the outcome of a question for the changes of some duty, reported instead of these; nothing is said of a
+-- fault
 abbrev pub IsOtherChange : Readings → List Command → Outcome → Type 0
 IsOtherChange w h (Answered other) = (number : ℕ) × (queried w h (query.Changes number) ≡ other)
 IsOtherChange w h (Failed fault) = Unit {0}
 
--- each duty's changes, or what a question for the changes of one came to that has none
+-- the changes of each duty, or the outcome of a question for those of some duty
 abbrev pub AreChanges : Readings → List Command → List DutyLine → Result (List (List ChangeRow)) Outcome → Type 0
 AreChanges w h lines (Ok changes) = map (λ line. queried w h (query.Changes line.number)) lines ≡ map answered.Changes changes
 AreChanges w h lines (Err outcome) = IsOtherChange w h outcome
@@ -39,28 +40,29 @@ abbrev pub rows_in : Result (Vec (List ChangeRow) Global) Outcome → Result (Li
 rows_in (Ok changes) = Ok changes.items
 rows_in (Err outcome) = Err outcome
 
--- what looking for something does to a desk: nothing, though after a fault of the disk it may show no rows any more
+-- what looking something up does to a desk: nothing, although after a fault of the disk it may no longer show
+-- its rows
 abbrev pub LookedUp : {Left A : Type 0} → Seen Left → Seen Left → Result A Outcome → Type 0
 LookedUp old new (Ok found) = Same old new
 LookedUp old new (Err outcome) = Kept old new
 
--- what a page on a release is written of
+-- what a page on a release is written from
 pub record AreContents (w : Readings) (h : List Command) (release : List ℕ) (c : Contents) : Type 0 where
   pub bill : queried w h (query.Bill release) ≡ answered.Bill c.bill
   pub totals : queried w h (query.Totals release) ≡ answered.Totals c.totals
   pub duties : queried w h (query.Duties release) ≡ answered.Duties c.duties
   pub changes : map (λ line. queried w h (query.Changes line.number)) c.duties ≡ map answered.Changes c.changes.items
 
--- a question for them
+-- a question that is asked for a page on a release
 abbrev pub IsFor : List ℕ → Query → Type 0
 IsFor release q = (q ≡ query.Bill release) ⊎ ((q ≡ query.Totals release) ⊎ ((q ≡ query.Duties release) ⊎ ((number : ℕ) × (q ≡ query.Changes number))))
 
--- an answer is another one to a question for them, as a refusal is; nothing is said of a fault
+-- the outcome of such a question, such as a refusal, reported instead of a page; nothing is said of a fault
 abbrev pub IsOther : Readings → List Command → List ℕ → Outcome → Type 0
 IsOther w h release (Answered other) = (q : Query) × IsFor release q × (queried w h q ≡ other)
 IsOther w h release (Failed fault) = Unit {0}
 
--- what is asked for a page, or what a question came to instead
+-- what a page is written from, or the outcome of a question instead
 abbrev pub Gathers : Readings → List Command → List ℕ → Result Contents Outcome → Type 0
 Gathers w h release (Ok c) = AreContents w h release c
 Gathers w h release (Err outcome) = IsOther w h release outcome
@@ -68,7 +70,7 @@ Gathers w h release (Err outcome) = IsOther w h release outcome
 abbrev pub contents_text : Contents → List ℕ
 contents_text c = page_text c.bill c.totals c.duties c.changes.items
 
--- the page, or the line of that answer, and the program's status
+-- the page, or the line of the other answer, and the program's status
 abbrev pub IsPaged : Readings → List Command → List ℕ → List ℕ → ℕ → Type 0
 IsPaged w h release text status =
     ((c : Contents) × AreContents w h release c × (text ≡ contents_text c) × (status ≡ 0))

@@ -1,4 +1,5 @@
--- What is proposed for a document that a desk holds: its declared licences as conclusions, and choices that leave nothing to choose.
+-- What is proposed for a document that a desk holds: its declared licences as conclusions, and the choices
+-- for packages that have only one.
 use Rattle.std.specs.Prelude.{◌⊎◌, ◌==◌, ◌&&◌, ℕ, ℤ, pos, Bool, List, Option, Some, Ok, is_some, filter, find, map}
 use Rattle.std.specs.Option.{option_map_or}
 use Rattle.std.specs.Ordering.{int_eq}
@@ -19,7 +20,7 @@ use Rattle.desk_tagvalue.specs.Parts.{DocumentText, PackageText}
 abbrev pub is_document : ℕ → StoredDocument → Bool
 is_document number row = int_eq row.number (pos number)
 
--- a package with the office's conclusion in place of its own, where there is one
+-- a package with the office's conclusion in place of its own, if there is one
 abbrev pub with_conclusion : Snapshot → ℤ → PackageText → PackageText
 with_conclusion s document p =
     option_map_or (λ row. record p { concluded = Some row.expression }) (find (is_conclusion document p.id) s.conclusion) p
@@ -28,7 +29,8 @@ with_conclusion s document p =
 abbrev pub document_held : Snapshot → ℤ → DocumentText → DocumentText
 document_held s document d = record d { packages = map (with_conclusion s document) d.packages }
 
--- the text and the status that tell the proposals for the document that bytes spell, as the desk concluded it, or that they spell none
+-- the text and the status for the proposals for the document that bytes spell, as the desk concluded it, or
+-- for bytes that spell none
 abbrev pub ProposesHeld : Readings → (List ℕ → Option Tree) → Snapshot → ℕ → List ℕ → List ℕ → ℕ → Type 0
 ProposesHeld w reads s number bytes text status =
     ((d : DocumentText) × Spells bytes (Ok d) × HasLines reads number (document_held s (pos number) d) text status)
@@ -39,7 +41,7 @@ abbrev pub is_open_with : Snapshot → ℤ → StoredRelease → Bool
 is_open_with s document row =
     bytes_eq row.state (release_state_name release.IsOpen) && is_some (find (is_attachment row.name document) s.attached)
 
--- the names of these releases, in the order of the table, which is theirs
+-- the names of these releases, in the order of the table
 abbrev pub open_releases_with : Snapshot → ℤ → List (List ℕ)
 open_releases_with s document = map (λ row. row.name) (filter (is_open_with s document) s.releases)
 

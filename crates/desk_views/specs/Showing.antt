@@ -1,4 +1,4 @@
--- What is handed out of a desk: the text of an answer, or the line of its reply.
+-- How an answer of a desk is shown: as its text, or as the line of its reply.
 use Rattle.std.specs.Prelude.{◌≡◌, ℕ, Bool, List, Option, Some, None, unwrap_or, if◌then◌else◌}
 use Rattle.std.specs.List.{flat_map}
 use Rattle.std.specs.Io.KnownBytes.{Appends}
@@ -21,7 +21,7 @@ use Rattle.desk_script.specs.Replies.{Replies}
 use Rattle.desk_script.specs.declared.answer.Reply.TheVariants.{Became}
 use Rattle.desk_subcommands.specs.Filing.{answer_status, outcome_line}
 
--- the text of an answer, if it has one: duties are a table of comma-separated values, or one in columns
+-- the text of an answer, if it has one; duties are a table of comma-separated values, or one in columns
 abbrev pub answer_text : Bool → Answer → Option (List ℕ)
 answer_text in_columns (Bill bill) = Some (notices_text bill)
 answer_text in_columns (Duties lines) = Some (if in_columns then columns_text lines else table_text lines)
@@ -33,12 +33,12 @@ abbrev pub outcome_text : Bool → Outcome → Option (List ℕ)
 outcome_text in_columns (Answered answer) = answer_text in_columns answer
 outcome_text in_columns (Failed fault) = None
 
--- an answer is written as its text, or else as the line of its reply
+-- an answer is written as its text or, if it has none, as the line of its reply
 abbrev pub shown : Bool → Answer → List ℕ
 shown in_columns answer = unwrap_or (answer_text in_columns answer) (outcome_line (Answered answer))
 
 module _ (is_right : Readings → Type 0) (tells : StoreFault → Type 0) {Left : Type 0} (stands : Left → Tables → Type 0) (query : Query) (before after : Seen Left) where
-  -- the question comes to this on a desk, as a script's request does
+  -- the question comes to this outcome on a desk, as a script's request does
   abbrev pub Asks : Outcome → Type 0
   Asks outcome = Replies is_right tells stands before (Ask query) (Became outcome) after
 
@@ -47,10 +47,10 @@ module _ (is_right : Readings → Type 0) (tells : StoreFault → Type 0) {Left 
   IsShown in_columns old new status =
       (answer : Answer) × Asks (Answered answer) × Appends old new (shown in_columns answer) × (status ≡ answer_status answer)
 
-  -- the desk fails by a fault, which the reply says
+  -- the desk fails by a fault, and the reply says so
   abbrev pub HasFailed : Option (List ℕ) → Option (List ℕ) → Fault → Type 0
   HasFailed old new fault = Asks (Failed fault) × Appends old new (outcome_line (Failed fault))
 
-  -- the question came to something that couldn't be written
+  -- the question came to some outcome that couldn't be written
   abbrev pub IsUntold : Type 0
   IsUntold = (outcome : Outcome) × Asks outcome

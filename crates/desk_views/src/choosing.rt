@@ -1,4 +1,4 @@
-//! The choices that leave nothing to choose.
+//! The choices for packages that have only one.
 
 ghost use Rattle.std.specs.Prelude.{◌≡◌, filter, IfOk, IfErr};
 ghost use Rattle.std.specs.Io.KnownBytes.{Appends, Keeps};
@@ -12,7 +12,7 @@ use desk_wanting::{SoleChoice, choice_lines};
 use std::alloc::Global;
 use std::io::Write;
 
-/// Writes choices for packages of a release as requests, a line of JSON each, and answers the
+/// Writes choices for packages of a release as requests, each a line of JSON, and returns the
 /// program's status.
 pub fn write_choices<W: Write>(
     alloc: Global,
@@ -32,7 +32,7 @@ pub fn write_choices<W: Write>(
     Ok(0)
 }
 
-// The choices that are for packages of a document.
+// The choices that are for packages of this document.
 fn choices_for(mut choices: Vec<SoleChoice>, document: u32) -> Vec<SoleChoice>
     ensures { result.items ≡ filter (is_choice_for document) choices.items }
 {
@@ -40,8 +40,8 @@ fn choices_for(mut choices: Vec<SoleChoice>, document: u32) -> Vec<SoleChoice>
     choices
 }
 
-/// Writes those of some choices for packages of a release that are for packages of a document, as
-/// `write_choices` does.
+/// Writes only those of some choices for packages of a release that are for packages of this
+/// document, as `write_choices` does.
 pub fn write_choices_for<W: Write>(
     alloc: Global,
     release: &Text,

@@ -1,7 +1,7 @@
 //! What an office looks at in a desk, written out: the texts of its answers, lists of what it
-//! holds, what stands in the way of a freeze.
+//! holds, what keeps a release from being frozen.
 //!
-//! Each function is handed what it writes of and a writer, and answers the program's status, as
+//! Each function is given what it writes about and a writer, and returns the program's status, as
 //! those of `desk_subcommands` do.
 //!
 //! - `show` writes the text of an answer: notices, the table of duties, totals, changes
@@ -9,12 +9,12 @@
 //! - `write_releases`, `write_documents` and `write_duties` write lists of `desk_lists` as
 //!   comma-separated values or in columns (`specs/Listing.antt`).
 //! - `page` writes a page on a release (`specs/Paging.antt`).
-//! - `write_choices` writes choices as the requests that make them, `write_choices_for` those for a
-//!   document.
+//! - `write_choices` writes choices as the requests that make them, and `write_choices_for` those
+//!   for a document.
 //! - `propose_held` writes the conclusions that are proposed for a document that a desk holds
-//!   (`specs/Proposing.antt`); `document_row` finds it, and `open_releases` the releases that
-//!   choices of its packages are for.
-//! - `tell_wanting` writes the refusals that stand in the way of a freeze, a line each
+//!   (`specs/Proposing.antt`); `document_row` finds the document, and `open_releases` the releases
+//!   for which choices of its packages are made.
+//! - `tell_wanting` writes the refusals that keep a release from being frozen, one on each line
 //!   (`specs/Wanting.antt`).
 #![tactic(auto)]
 

@@ -59,8 +59,8 @@ fn duties_text(alloc: Global, lines: &[DutyLine], in_columns: bool) -> Result<Ve
     }
 }
 
-/// Writes the list of the releases that these rows hold, in the order of their opening, as
-/// comma-separated values or in columns. It answers the program's status.
+/// Writes the list of the releases in these rows, in the order in which they were opened, as
+/// comma-separated values or in columns, and returns the program's status.
 pub fn write_releases<W: Write>(
     alloc: Global,
     snapshot: &Snapshot,
@@ -81,7 +81,7 @@ pub fn write_releases<W: Write>(
     Ok(0)
 }
 
-/// Writes the list of the documents that these rows hold, by number, as `write_releases` does.
+/// Writes the list of the documents in these rows, by number, as `write_releases` does.
 pub fn write_documents<W: Write>(
     alloc: Global,
     snapshot: &Snapshot,
@@ -103,8 +103,8 @@ pub fn write_documents<W: Write>(
     Ok(0)
 }
 
-/// Writes the list of the duties that these rows hold and a filter asks for, the one that was
-/// raised first before the others, as `write_releases` does.
+/// Writes the list of the duties in these rows that a filter asks for, in the order in which they
+/// were raised, as `write_releases` does.
 pub fn write_duties<W: Write>(
     alloc: Global,
     snapshot: &Snapshot,

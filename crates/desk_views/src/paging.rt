@@ -22,13 +22,13 @@ use desk_subcommands::{Failure, Teller, tell, write_text};
 use std::alloc::Global;
 use std::io::Write;
 
-/// What a page is written of.
+/// What a page is written from.
 #[derive(Drop)]
 pub(crate) struct Contents {
     bill: Bill,
     totals: Totals,
     duties: Items<DutyLine>,
-    /// The changes of each duty, in its place.
+    /// The changes of each duty, at the duty's own index.
     changes: Vec<Items<ChangeRow>>,
 }
 
@@ -147,7 +147,7 @@ fn all_changes<D: Desk>(
     Ok(changes)
 }
 
-/// Asks a desk for what a page on a release is written of.
+/// Asks a desk for what a page on a release is written from.
 fn contents_of<D: Desk>(alloc: Global, desk: &mut D, release: &Text) -> Result<Contents, Outcome>
     ensures found { InHistory D.are_right (λ w h. Gathers w h release.now result)
         (D.seen desk.old) (D.seen desk.new) }
@@ -184,7 +184,7 @@ fn contents_of<D: Desk>(alloc: Global, desk: &mut D, release: &Text) -> Result<C
     })
 }
 
-/// Writes the page, and answers the program's status.
+/// Writes the page, and returns the program's status.
 fn write_contents<W: Write>(
     alloc: Global,
     contents: &Contents,
@@ -207,7 +207,7 @@ fn write_contents<W: Write>(
     Ok(0)
 }
 
-/// The same, once for what was gathered.
+/// The same for contents passed by value, which are freed once the page is written.
 fn write_page<W: Write>(alloc: Global, contents: Contents, writer: &mut W) -> Result<u8, Failure>
     ensures told { IfOk result (λ status. (status ≡ 0)
         × Appends (W.contents writer.old) (W.contents writer.new) (contents_text contents)) }
@@ -220,7 +220,7 @@ fn write_page<W: Write>(alloc: Global, contents: Contents, writer: &mut W) -> Re
     status
 }
 
-/// Writes what a question came to in place of what a page is written of, and what it means.
+/// Writes the outcome of a question, in place of a page, and explains it.
 fn tell_instead<W: Write, E: Write>(
     alloc: Global,
     outcome: Outcome,
@@ -247,9 +247,9 @@ fn tell_instead<W: Write, E: Write>(
 }
 
 /// Writes a page on a frozen release of a desk, as HTML: what it ships, its duties with their
-/// changes, and the notices. If one of the questions that the desk is asked for it is answered by
-/// something else, as a refusal, the line of that reply is written. It answers the program's
-/// status. If the desk fails, the reply says so and so does the failure. The desk is as it was.
+/// changes, and the notices. If the desk answers one of the questions for it in another way, such
+/// as by a refusal, the line of that reply is written. Returns the program's status. If the desk
+/// fails, both the reply and the failure say so. The desk is as it was.
 pub fn page<D: Desk, W: Write, E: Write>(
     alloc: Global,
     desk: &mut D,

@@ -22,7 +22,7 @@ use desk_tagvalue::{Document, Package, read};
 use std::alloc::{AllocError, Global};
 use std::io::Write;
 
-/// The row of the document with a number, if the desk holds one.
+/// The row of the document with this number, if the desk holds one.
 pub fn document_row(snapshot: &Snapshot, number: u32) -> Option<&StoredDocument>
     ensures { option_copied result ≡ find (is_document number) snapshot.now.document }
 {
@@ -34,7 +34,7 @@ pub fn document_row(snapshot: &Snapshot, number: u32) -> Option<&StoredDocument>
         .find(|row| row.number == number)
 }
 
-// A package with the office's conclusion, where there is one.
+// A package with the office's conclusion in place of its own, if there is one.
 fn with_conclusion<'a>(snapshot: &'a Snapshot, document: i64, text: &Package<'a>) -> Package<'a>
     ensures { package_text result ≡ with_conclusion snapshot.now document (package_text text.now) }
 {
@@ -90,10 +90,11 @@ fn document_held<'a>(
     })
 }
 
-/// Writes the requests that conclude, for each package of a document that ships without a
-/// conclusion, its declared licence, and returns the program's status. The desk holds the document
-/// under a number, with these bytes. What the office concluded is a conclusion too, read by the
-/// document's profile as those of the document are. The rest is as of `desk_subcommands::propose`.
+/// Writes the requests that conclude the declared licence of each package of a document that ships
+/// without a conclusion, and returns the program's status. The desk holds the document under this
+/// number, with these bytes. What the office concluded counts as a conclusion too, and is read by
+/// the document's profile, like those of the document. All else is as for
+/// `desk_subcommands::propose`.
 pub fn propose_held<X: Texts, W: Write, T: Write>(
     alloc: Global,
     texts: &X,
@@ -138,7 +139,8 @@ fn is_open_with(snapshot: &Snapshot, document: i64, release: &StoredRelease) -> 
     release.state.as_str() == ReleaseState::IsOpen.name() && snapshot.attached.find(&key).is_some()
 }
 
-/// The names of the open releases to which the document with a number is attached, in their order.
+/// The names of the open releases to which the document with this number is attached, in the order
+/// of the table.
 pub fn open_releases(
     alloc: Global,
     snapshot: &Snapshot,

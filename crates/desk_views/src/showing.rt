@@ -1,4 +1,4 @@
-//! The texts that an office hands out: the notices of a release, the table of its duties, their
+//! The texts that an office asks for: the notices of a release, the table of its duties, their
 //! totals, and the changes of a duty.
 
 ghost use Rattle.std.specs.Prelude.{◌≡◌, IfOk, IfErr, option_map, if◌then◌else◌};
@@ -69,7 +69,7 @@ fn outcome_text(
     }
 }
 
-// Writes what an outcome is shown as, and returns the status.
+// Writes an outcome as it is shown, and returns the status.
 fn write_outcome<W: Write>(
     alloc: Global,
     outcome: &Outcome,
@@ -104,9 +104,9 @@ fn asked<D: Desk>(desk: &mut D, query: &Query) -> Outcome
 }
 
 /// Asks a desk a question and writes the text of its answer: the notices of a bill, the table of
-/// duties, in columns if that is wanted, the line of totals, the lines of changes; any other
-/// answer, a refusal among them, is written as the line of its reply. It returns the program's
-/// status. If the desk fails, the reply says so and so does the failure. The desk is as it was.
+/// duties, in columns if these are asked for, the line of totals, or the lines of changes. Any
+/// other answer, such as a refusal, is written as the line of its reply. Returns the program's
+/// status. If the desk fails, both the reply and the failure say so. The desk is as it was.
 pub fn show<D: Desk, W: Write, E: Write>(
     alloc: Global,
     desk: &mut D,

@@ -1,4 +1,4 @@
-//! What stands in the way of a freeze.
+//! What keeps a release from being frozen.
 
 ghost use Rattle.std.specs.Prelude.{◌≡◌, ◌++◌, IfOk, IfErr, OnOk, map};
 ghost use Rattle.std.specs.List.{flat_map};
@@ -15,7 +15,7 @@ use desk_subcommands::{Failure, Teller, write_text};
 use std::alloc::{AllocError, Global};
 use std::io::Write;
 
-/// Refusals as what requests come to.
+/// Refusals as the outcomes of requests.
 fn outcomes_of(alloc: Global, refusals: Vec<Refusal>) -> Result<Vec<Outcome>, AllocError>
     ensures { IfOk result (λ outcomes. outcomes.items
         ≡ map (λ refusal. Answered (Refused refusal)) refusals.items) }
@@ -55,15 +55,16 @@ fn status_of(refusals: &[Refusal]) -> u8
     if refusals.is_empty() { 0 } else { 1 }
 }
 
-/// Tells what each outcome means.
+/// Explains what each outcome means.
 fn explain_all<E: Write>(outcomes: &[Outcome], teller: &mut Teller<E>) {
     for outcome in outcomes {
         teller.explain(outcome);
     }
 }
 
-/// Writes the refusals that stand in the way of a freeze, each as the line of a reply, and answers
-/// the program's status: 0 if there are none, and else 1. What each means is told beside the lines.
+/// Writes the refusals that keep a release from being frozen, each as the line of a reply, and
+/// returns the program's status: 0 if there are none, and else 1. What each means is explained
+/// besides the lines.
 pub fn tell_wanting<W: Write, E: Write>(
     alloc: Global,
     refusals: Vec<Refusal>,
