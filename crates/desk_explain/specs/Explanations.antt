@@ -13,7 +13,7 @@ use denote.Ref.{Bor}
 abbrev pub is_named : List ℕ → Entry → Bool
 is_named name entry = bytes_eq name entry.name.now
 
--- what each table has of a name, one table after the other
+-- what each table says of a name, one table after another
 abbrev pub entries_named : List ℕ → List (Bor (List Entry)) → List Entry
 entries_named name tables = flat_map (λ (table : Bor (List Entry)). filter (is_named name) table.now) tables
 
@@ -23,7 +23,7 @@ entries_named name tables = flat_map (λ (table : Bor (List Entry)). filter (is_
 abbrev pub numbered : List ℕ → ℕ → List ℕ → List ℕ
 numbered before number after = before ++ (decimal number ++ after)
 
--- what a name is the name of
+-- what a name stands for
 abbrev pub kind_text : Kind → List ℕ
 kind_text (Refusal number requests) = numbered (codes "refusal ") number (codes " (" ++ (requests.now ++ codes ")"))
 kind_text (DocumentFault number) = numbered (codes "fault ") number (codes " of a document (BadDocument)")
@@ -57,7 +57,7 @@ page _ = codes "docs/REFUSALS.md"
 abbrev pub label_line : List ℕ → List ℕ → List ℕ
 label_line label words = codes "  " ++ label ++ codes ": " ++ words ++ 10 ∷ []
 
--- which is left out where the page says nothing
+-- the same, left out if the page says nothing
 abbrev pub line : List ℕ → Option (Bor (List ℕ)) → List ℕ
 line label None = []
 line label (Some words) = label_line label words.now

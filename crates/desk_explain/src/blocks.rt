@@ -25,7 +25,7 @@ fn cause_label(kind: &Kind) -> &'static str
     }
 }
 
-/// The page that has the words, with what else it says.
+/// The page that has the words, and what else it says.
 fn page(kind: &Kind) -> &'static str
     ensures { result.now ≡ page kind.now }
 {
@@ -70,8 +70,8 @@ fn add_block(alloc: Global, text: &mut String, entry: &Entry) -> Result<(), Allo
     add_line(text, "Page", Some(page(&entry.kind)))
 }
 
-/// The text of entries: a block for each, with its name and what it is, what is wrong, the usual
-/// cause, and the page that has them.
+/// The text of entries: a block for each, with its name and what it stands for, what is wrong, the
+/// usual cause, and the page that has these words.
 pub fn explanation(alloc: Global, entries: &[Entry]) -> Result<String, AllocError>
     ensures { IfOk result (λ text. string_bytes text ≡ flat_map block entries.now) }
 {

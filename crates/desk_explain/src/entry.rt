@@ -2,7 +2,7 @@
 
 use std::fmt;
 
-/// What a name is the name of. Numbers are those of the pages.
+/// What a name stands for. Numbers are those of the pages.
 #[derive(Clone, Copy)]
 pub enum Kind {
     /// A refusal, with the requests that have it.
@@ -11,12 +11,13 @@ pub enum Kind {
     ExpressionFault { number: u8 },
     /// A fault of a file or a tree, with what prints it.
     OtherFault { place: &'static str },
-    /// What in a document isn't as the standard has it, with the clauses of the standard.
+    /// A finding, which says what in a document isn't as the standard has it, with the clauses of
+    /// the standard.
     Finding { number: u8, clauses: &'static str },
     CatalogueFault { number: u8 },
     /// A condition that an audit tests.
     Condition { number: u8 },
-    /// What is wrong in a source tree.
+    /// A problem of a source tree.
     Problem,
 }
 
@@ -25,7 +26,7 @@ pub enum Kind {
 pub struct Entry {
     pub name: &'static str,
     pub kind: Kind,
-    /// What is wrong, or for a condition what must hold.
+    /// What is wrong or, for a condition, what must hold.
     pub meaning: Option<&'static str>,
     pub cause: Option<&'static str>,
 }

@@ -1,5 +1,5 @@
-//! The faults, with the words of docs/REFUSALS.md, and of docs/CATALOGUE.md for those of
-//! catalogues.
+//! The faults, with the words of docs/REFUSALS.md and, for those of catalogues, of
+//! docs/CATALOGUE.md.
 
 use crate::entry::{Entry, Kind};
 
@@ -137,7 +137,7 @@ pub(crate) const EXPRESSION_FAULTS: [Entry; 7] = [
     },
 ];
 
-/// The faults of files and trees beside those.
+/// The other faults, of files and trees.
 pub(crate) const OTHER_FAULTS: [Entry; 3] = [
     Entry {
         name: "BadVersion",

@@ -1,11 +1,11 @@
-//! What the names mean that the desk prints, and what to do about each.
+//! What the names that the desk prints mean, and what to do about each.
 //!
-//! A table for each page of `docs/`, with its words: refusals, faults, findings, conditions of an
-//! audit, problems of source trees. Several tables may have a name, as `BadTerm` is a refusal and a
-//! fault of catalogues.
+//! There is a table for each page of `docs/`, with its words: refusals, faults, findings,
+//! conditions of an audit, problems of source trees. A name may be in several tables: `BadTerm` is
+//! both a refusal and a fault of catalogues.
 //!
-//! - `TABLES` is what the pages say, and `entries` what tables have of a name.
-//! - `explanation` is their text, a block for each (`specs/Explanations.antt`).
+//! - `TABLES` is what the pages say, and `entries` what tables say of a name.
+//! - `explanation` is the text of such entries, a block for each (`specs/Explanations.antt`).
 //!
 //! No contract says what the pages say; tests/explain.py compares the words.
 #![tactic(auto)]

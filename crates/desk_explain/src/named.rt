@@ -11,7 +11,7 @@ use crate::problems::PROBLEMS;
 use crate::refusals::REFUSALS;
 use std::alloc::{AllocError, Global};
 
-/// What the pages say, a table for each of theirs, in their order.
+/// What the pages say: their tables, in their order.
 pub const TABLES: [&[Entry]; 8] = [
     &REFUSALS,
     &DOCUMENT_FAULTS,
@@ -36,8 +36,8 @@ fn add_named(found: &mut Vec<Entry>, table: &[Entry], name: &str) -> Result<(), 
     Ok(())
 }
 
-/// What the tables have of a name, as it is written, in their order: nothing where the desk prints
-/// no such name.
+/// What the tables say of a name, spelled exactly so, in their order; empty if the desk prints no
+/// such name.
 pub fn entries(alloc: Global, tables: &[&[Entry]], name: &str) -> Result<Vec<Entry>, AllocError>
     ensures { IfOk result (λ found. found.items ≡ entries_named name.now tables.now) }
 {

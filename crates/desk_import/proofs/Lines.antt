@@ -30,13 +30,13 @@ declared_by reads false (Some value) s is e none =
     let known = unread (not (is_no_licence value)) (reads value) none in
     let neither : s ≡ Neither = e ∙ ap (λ (b : Bool). if b then Declared else Neither) known in absurd (cc (other s Neither is neither))
 
--- the declared licence of a package that stands by it is an expression
+-- if only a declared licence is given for a package, it is an expression
 pub declared_reads : (reads : List ℕ → Option Tree) (p : PackageText) (ships : Bool) (s : Standing) → same_standing s Declared ≡ true
     → s ≡ standing_of reads p ships → None ≡ declared_tree reads p → ⊥
 declared_reads reads p true s is e none = declared_by reads (is_licence reads p.concluded) p.declared s is e none
 declared_reads reads p false s is e none = absurd (cc (other s _ is e))
 
--- a package that stands otherwise has no line
+-- a package with any other standing has no line
 pub no_line : (reads : List ℕ → Option Tree) (document : ℕ) (p : PackageText) (s : Standing) (line : List ℕ) → same_standing s Declared ≡ false
     → line ≡ [] → IsLine reads document p s line
 no_line reads document p Declared line is e = absurd (cc)
@@ -44,7 +44,7 @@ no_line reads document p Aside line is e = e
 no_line reads document p Concluded line is e = e
 no_line reads document p Neither line is e = e
 
--- and one that stands by its declared licence this one
+-- and a package with only a declared licence has this one
 pub proposed : (reads : List ℕ → Option Tree) (document : ℕ) (p : PackageText) (s : Standing) (tree : Tree) (result : Result (String Global) AllocError)
     → same_standing s Declared ≡ true → Some tree ≡ declared_tree reads p
     → IfOk result (λ line. string_bytes line ≡ request_line document p.id (printed tree)) → OnOk result (Spells (printed tree) tree)
@@ -75,7 +75,7 @@ one_line f reads document packages i p mark marks behind s line done more ps ss 
     subst (λ qs. AreLines reads document (map f qs) (standings_of reads (map f qs) marks) (line ++ rest)) (sym cut) here in
     subst (λ (t : List ℕ). AreLines reads document ps ss t) (sym (append_assoc done line rest) ∙ ap (λ l. l ++ rest) (sym is_more)) (before (line ++ rest) there)
 
--- at the end no package is left, and the lines are whole
+-- at the end no package is left, and these are all lines
 pub no_more : {P : Type 0} (f : P → PackageText) (reads : List ℕ → Option Tree) (document : ℕ) (packages : List P) (i : ℕ) (rest : List Bool) (lines : List ℕ) (ps : List PackageText) (ss : List Standing)
     → length packages ≤ i
     → ((behind : List ℕ) → AreLines reads document (map f (drop i packages)) (standings_of reads (map f (drop i packages)) rest) behind → AreLines reads document ps ss (lines ++ behind))

@@ -31,7 +31,7 @@ by_test bytes false is none = refl
 pub json_of-other : (bytes : List ℕ) → (IsUtf8 bytes → read bytes ≡ None) → json_of bytes ≡ None
 json_of-other bytes none = by_test bytes (is_utf8 bytes) refl none
 
--- ---- a fault of a step tells its place
+-- ---- a fault of a step gives its place
 
 not_json : (at : List ℕ) (w : WhatText) → FailsAt at w faults.NotJson → ⊥
 not_json at (put line) h = absurd (let e = h.0 in cc)

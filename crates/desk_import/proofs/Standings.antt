@@ -1,4 +1,4 @@
--- How one more package of a list stands.
+-- The standing of one more package of a list.
 use Rattle.std.proofs.Common.{◌≡◌, ◌∙◌, ◌+◌, ◌<◌, ℕ, Bool, false, List, [], ◌∷◌, ◌++◌, Option, length, drop, drop-cons, get_or, add-one, append_assoc, sym, ap}
 use Rattle.std.specs.Prelude.{map, slice_index_or}
 use Rattle.desk_expr.specs.Tree.{Tree}

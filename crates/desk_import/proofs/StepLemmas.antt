@@ -1,4 +1,4 @@
--- Steps that were written, and the first that fails.
+-- Steps that were written, and the first one that fails.
 use Rattle.std.proofs.Common.{◌≡◌, ◌∙◌, ℕ, ◌+◌, ◌<◌, ◌⊎◌, inl, inr, List, [], ◌∷◌, ◌++◌, length, get_or, take, drop, sym, subst, ap, map, append_assoc, append-nil}
 use Rattle.std.specs.Prelude.{All}
 use Rattle.std.proofs.lemmas.Grind.{flat_map-append}
@@ -29,7 +29,7 @@ stopped_at steps i d fault lt pass (inr f) = inr (record {
 lines_more : (steps : List StepText) (s : StepText) → lines_of steps ++ lines_in s ≡ lines_of (steps ++ s ∷ [])
 lines_more steps s = sym (ap (λ l. lines_of steps ++ l) (append-nil (lines_in s))) ∙ sym (flat_map-append lines_in steps (s ∷ []))
 
--- a step more
+-- one more step
 one_more : (old mid new : List ℕ) (steps : List StepText) (s : StepText) → IsPut old steps mid → new ≡ mid ++ text_of_lines (lines_in s) → Passes s → IsPut old (steps ++ s ∷ []) new
 one_more old mid new steps s put grown passes = record {
   text =

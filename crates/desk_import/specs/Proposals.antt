@@ -13,7 +13,7 @@ use Rattle.desk_import.specs.declared.proposals.Proposals.{Proposals}
 use Rattle.desk_import.specs.declared.summary.Standing.{Standing}
 use Rattle.desk_import.specs.declared.summary.Standing.TheVariants.{Declared}
 
--- the request to conclude the licence of a package of the document with a number
+-- the request to conclude the licence of a package, in the document with this number
 abbrev pub request : ℕ → List ℕ → List ℕ → Data
 request document id expression = object
     (member (codes "do") (string (codes "conclude"))
@@ -36,23 +36,24 @@ pub record Proposes (reads : List ℕ → Option Tree) (document : ℕ) (p : Pac
   pub spells : Spells (printed tree) tree
   pub is_line : line ≡ request_line document p.id (printed tree)
 
--- the line of a package that stands so: of one that ships with a declared licence alone, and of no other
+-- the line of a package by its standing: one for a package that ships with only a declared licence, and none
+-- for any other
 abbrev pub IsLine : (List ℕ → Option Tree) → ℕ → PackageText → Standing → List ℕ → Type 0
 IsLine reads document p Declared line = Proposes reads document p line
 IsLine reads document p _ line = line ≡ []
 
--- the lines of packages that stand so, in their order
+-- the lines of packages by their standings, in order
 abbrev pub AreLines : (List ℕ → Option Tree) → ℕ → List PackageText → List Standing → List ℕ → Type 0
 AreLines reads document (p ∷ ps) (s ∷ ss) text =
     (line rest : List ℕ) × IsLine reads document p s line × AreLines reads document ps ss rest × (text ≡ line ++ rest)
 AreLines reads document _ _ text = text ≡ []
 
--- proposals tell how each package of a document stands, and have the lines of these packages
+-- proposals have the standing of each package of a document, and the lines of these packages
 abbrev pub AreProposals : (List ℕ → Option Tree) → ℕ → DocumentText → Proposals → Type 0
 AreProposals reads document d p =
     ((marks : List Bool) × AreShippingMarks d marks × (p.standings.items ≡ standings_of reads d.packages marks))
     × AreLines reads document d.packages p.standings.items (string_bytes p.lines)
 
--- how many packages stand so
+-- how many packages have this standing
 abbrev pub count_of : Standing → Proposals → ℕ
 count_of standing p = count_by (same_standing standing) p.standings.items

@@ -1,4 +1,4 @@
--- The text that steps give, and what is said of them.
+-- The text that steps give, and how they pass or fail.
 use Rattle.std.specs.Prelude.{◌≡◌, ◌⊎◌, ◌==◌, ℕ, Bool, false, List, [], ◌∷◌, ◌++◌, All, Option, Some, None, Ok, count_by, if◌then◌else◌}
 use Rattle.std.specs.List.{flat_map}
 use Rattle.std.specs.Str.{is_utf8}
@@ -17,7 +17,7 @@ use Rattle.desk_import.specs.declared.converting.Converted.{Converted}
 use Rattle.desk_spdx_json.specs.Steps.{StepText, WhatText, put, left_out, missing, bad_type, bad_value}
 use Rattle.desk_spdx_json.specs.Documents.{document_steps}
 
--- the lines of the steps
+-- the lines of a step
 abbrev pub line_in : WhatText → List LineText
 line_in (put line) = line ∷ []
 line_in _ = []
@@ -57,12 +57,12 @@ pub record FailsFirst (steps : List StepText) (fault : ConvertFault) : Type 0 wh
   pub pass : All Passes front
   pub fails : Fails failing fault
 
--- the lines of some steps, each of which passes, were added to a text
+-- each of some steps passes, and their lines were added to a text
 pub record IsPut (old : List ℕ) (steps : List StepText) (new : List ℕ) : Type 0 where
   pub text : new ≡ old ++ text_of_lines (lines_of steps)
   pub pass : All Passes steps
 
--- they weren't: memory ran out, or some step fails
+-- they weren't: no memory was left, or some step fails
 abbrev pub IsStopped : List StepText → ConvertFault → Type 0
 IsStopped steps fault = (fault ≡ faults.Memory) ⊎ FailsFirst steps fault
 
@@ -96,7 +96,7 @@ skipped_of steps = record {
 
 -- ---- the whole
 
--- the value that bytes are the JSON text of (RFC 8259)
+-- the value whose JSON text the bytes are (RFC 8259)
 abbrev pub json_of : List ℕ → Option Data
 json_of bytes = if is_utf8 bytes then read bytes else None
 
@@ -108,7 +108,7 @@ pub record IsOf (steps : List StepText) (c : Converted) : Type 0 where
 abbrev pub IsConverted : List ℕ → Converted → Type 0
 IsConverted bytes c = (d : Data) × (json_of bytes ≡ Some d) × IsOf (document_steps d) c
 
--- the text is read as the fields of the lines, in order, and no others
+-- the text is read as the fields of the lines, in order, and as no others
 abbrev pub AreFields : List ℕ → List ℕ → Type 0
 AreFields bytes text = (d : Data) × (json_of bytes ≡ Some d) × Reads 1 (behind_mark text) (Ok (fields_of_lines 1 (lines_of (document_steps d))))
 

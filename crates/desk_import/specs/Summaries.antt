@@ -1,4 +1,4 @@
--- What a document comes to for a desk that takes it in.
+-- What a desk finds in a document that it takes in.
 use Rattle.std.specs.Prelude.{◌≡◌, ◌&&◌, ◌==◌, ℕ, List, [], ◌∷◌, Bool, true, false, not, Option, None, Some, is_some, drop, count_by, slice_index_or, if◌then◌else◌}
 use Rattle.desk_expr.specs.Tree.{Tree}
 use Rattle.desk_tagvalue.specs.Parts.{DocumentText, PackageText}
@@ -15,7 +15,7 @@ abbrev pub is_licence : (List ℕ → Option Tree) → Option (List ℕ) → Boo
 is_licence reads None = false
 is_licence reads (Some value) = not (is_no_licence value) && is_some (reads value)
 
--- how a package stands that ships, or doesn't
+-- the standing of a package, by whether it ships
 abbrev pub standing_of : (List ℕ → Option Tree) → PackageText → Bool → Standing
 standing_of reads p false = Aside
 standing_of reads p true =
@@ -25,7 +25,7 @@ abbrev pub standings_of : (List ℕ → Option Tree) → List PackageText → Li
 standings_of reads [] marks = []
 standings_of reads (p ∷ ps) marks = standing_of reads p (slice_index_or marks 0 false) ∷ standings_of reads ps (drop 1 marks)
 
--- a summary tells how each package of a document stands, and all findings
+-- a summary has the standing of each package of a document, and all findings
 abbrev pub IsSummary : (List ℕ → Option Tree) → DocumentText → Summary → Type 0
 IsSummary reads d s =
     ((marks : List Bool) × AreShippingMarks d marks × (s.standings.items ≡ standings_of reads d.packages marks)) × AreFindings reads d s.findings.items
@@ -37,10 +37,10 @@ same_standing Declared Declared = true
 same_standing Neither Neither = true
 same_standing _ _ = false
 
--- how many packages stand so
+-- how many packages have this standing
 abbrev pub standing_count : Standing → Summary → ℕ
 standing_count standing s = count_by (same_standing standing) s.standings.items
 
--- how many findings are of the kind with a number
+-- how many findings are of the kind with this number
 abbrev pub kind_count : ℕ → Summary → ℕ
 kind_count number s = count_by (λ f. kind_number f.kind == number) s.findings.items

@@ -13,7 +13,7 @@ use desk_spdx_json::{Kind, Step, What};
 use serde_json::Value;
 use std::alloc::Global;
 
-/// How much was left out.
+/// How many things were left out.
 #[derive(Clone, Copy)]
 pub struct Skipped {
     /// References to other documents (`externalDocumentRefs`).
@@ -24,7 +24,7 @@ pub struct Skipped {
     pub annotations: usize,
     /// References of packages to something outside (`externalRefs`).
     pub external_references: usize,
-    /// All other members of the document's objects, as suppliers, home pages and comments.
+    /// All other members of the document's objects, such as suppliers, home pages and comments.
     pub fields: usize,
 }
 
@@ -33,7 +33,7 @@ pub struct Skipped {
 pub struct Converted {
     /// The document in tag-value form.
     pub text: String,
-    /// What it doesn't say of the document in JSON.
+    /// What it leaves out of the document in JSON.
     pub skipped: Skipped,
 }
 
@@ -59,14 +59,14 @@ fn is_left(kind: Kind, step: &Step) -> bool
     }
 }
 
-// How much of a kind is left out.
+// How many things of a kind are left out.
 fn count_left(kind: Kind, steps: &[Step]) -> usize
     ensures { result ≡ count_left kind (map step_text steps.now) }
 {
     steps.iter().filter(|step| is_left(kind, step)).count()
 }
 
-// What is left out.
+// How many things of each kind are left out.
 fn skipped_of(steps: &[Step]) -> Skipped
     ensures { result ≡ skipped_of (map step_text steps.now) }
 {
@@ -98,14 +98,14 @@ fn conversion_of(alloc: Global, value: &Value) -> Result<Converted, ConvertFault
     }
 }
 
-/// The tag-value document that says what the desk reads of an SPDX document in JSON.
+/// The tag-value document that says what the desk reads in an SPDX document in JSON.
 pub fn convert(alloc: Global, bytes: &[u8]) -> Result<Converted, ConvertFault>
-    // The text is that of the lines of the document's steps, each of which passes, and what is left
+    // The text consists of the lines of the document's steps, all of which pass, and what is left
     // out is counted.
     ensures ok { IfOk result (λ c. IsConverted bytes.now c) }
-    // The text has the fields of these lines, and no others.
+    // The text has the fields of these lines and no others.
     ensures fields { IfOk result (λ c. AreFields bytes.now (string_bytes c.text)) }
-    // Memory ran out, the bytes are no JSON, or this is the first step that doesn't pass.
+    // No memory was left, the bytes are no JSON, or this is the first step that doesn't pass.
     ensures err { IfErr result (λ e. (e ≡ ConvertFault.Memory) ⊎ IsRefused bytes.now e) }
 {
     match Value::from_slice(alloc, bytes) {

@@ -2,17 +2,18 @@
 
 use desk_base::Text;
 
-/// Why a document isn't converted. A place is a JSON pointer (RFC 6901); that of the whole value is empty.
+/// Why a document isn't converted. A place is a JSON pointer (RFC 6901), which is empty for the
+/// whole value.
 #[derive(Drop)]
 pub enum ConvertFault {
-    /// Memory ran out.
+    /// No memory was left.
     Memory,
     /// The bytes are no JSON text in UTF-8.
     NotJson,
-    /// A member that must be there isn't.
+    /// A required member is missing.
     Missing(Text),
-    /// A value of another type than its member has.
+    /// A value is not of its member's type.
     BadType(Text),
-    /// A value that its field can't hold.
+    /// A value that can't be written in its field.
     BadValue(Text),
 }

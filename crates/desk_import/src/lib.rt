@@ -1,19 +1,20 @@
-//! What a desk takes in as a document, in either form, and what it comes to.
+//! What a desk takes in as a document, in either form, and what it finds in it.
 //!
-//! `convert` gives the tag-value document that says what the desk reads of an SPDX document in JSON
-//! (SPDX 2.2 and 2.3, JSON schema). `desk_spdx_json` says what that is, as the steps of its value: the
-//! lines, what is left out, which is counted, and the faults. `specs/Results.antt` says what becomes
-//! of the steps. If each passes, the text is that of their lines, and it is read as the fields of
-//! these lines and no others. If not, the fault is that of the first that fails. A line passes if it
-//! is read back as its one field: a text with `</text>` in it, or a line end in a field on one line,
-//! is a fault. Whether the document is one that the desk takes in (its version, its identifiers) is
-//! for `desk_tagvalue::read` to say. The time is linear in the bytes. Objects and arrays nest at most
-//! 127 deep, the limit of `serde_json`.
+//! `convert` returns an SPDX document in JSON (SPDX 2.2 and 2.3, JSON schema) as the tag-value
+//! document that says what the desk reads in it. `desk_spdx_json` says what that is, as the steps
+//! of its value: the lines, what is left out, which is counted, and the faults.
+//! `specs/Results.antt` says what becomes of the steps. If all pass, the text consists of their
+//! lines, and it is read as the fields of these lines and no others. If not, the fault is that of
+//! the first step that fails. A line passes if it is read back as its one field: a text with
+//! `</text>` in it, or a line end in a field on one line, is a fault. Whether the desk takes the
+//! document in (its version, its identifiers) is for `desk_tagvalue::read` to say. The time is
+//! linear in the number of bytes. Objects and arrays nest at most 127 deep, the limit of
+//! `serde_json`.
 //!
-//! `summary_of` says of a document that was read how many packages it has and ships, which of these
-//! have a conclusion of their own, and what in it isn't as the standard has it
-//! (`specs/Summaries.antt`). A `Summary` prints as two lines. `proposals_of` proposes the declared
-//! licence of each package that has no conclusion of its own (`specs/Proposals.antt`).
+//! `summary_of` says how many packages a document has and ships, which of these have a conclusion
+//! of their own, and what in the document isn't as the standard has it (`specs/Summaries.antt`). A
+//! `Summary` prints as two lines. `proposals_of` proposes the declared licence of each package that
+//! has no conclusion of its own (`specs/Proposals.antt`).
 #![tactic(auto)]
 
 mod converting;

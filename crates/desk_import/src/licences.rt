@@ -1,4 +1,4 @@
-//! Whether a field tells of a licence.
+//! Whether a field has a licence.
 
 ghost use Rattle.std.specs.Prelude.{◌≡◌, ℕ, List, IfOk, OnOk, Option, alloc_error, is_some};
 ghost use Rattle.desk_expr.specs.Tree.{Tree};
@@ -11,7 +11,7 @@ use desk_expr::{Expr, ParseFault, parse_in};
 use desk_findings::is_no_licence;
 use std::alloc::{AllocError, Global};
 
-// Want of memory is told as such; any other fault says that there is no expression.
+// A fault for lack of memory is returned as one; any other means that there is no expression.
 fn told(fault: ParseFault) -> Result<(), AllocError>
     ensures { OnOk result (fault ≡ ParseFault.Memory alloc_error → ⊥) }
 {
@@ -50,7 +50,7 @@ fn is_read(alloc: Global, text: &str, profile: Profile) -> Result<bool, AllocErr
     Ok(is)
 }
 
-/// Whether a field tells of a licence: it is an expression by the profile of operators, and neither
+/// Whether a field has a licence: it is an expression by the profile of operators, and neither
 /// `NONE` nor `NOASSERTION`.
 pub(crate) fn is_licence(
     alloc: Global,

@@ -23,8 +23,8 @@ use serde_json::{Value, json};
 use std::alloc::{AllocError, Global};
 use std::fmt;
 
-/// The conclusions that are proposed for a document: how each of its packages stands, and a line
-/// for each that ships with a declared licence alone, the request `conclude`.
+/// The conclusions that are proposed for a document: the standing of each of its packages, and a
+/// line for each that ships with only a declared licence, with the request `conclude`.
 #[derive(Drop)]
 pub struct Proposals {
     pub standings: Vec<Standing>,
@@ -39,8 +39,8 @@ impl Proposals {
         summary::count_of(self.standings.as_slice(), Standing::Declared)
     }
 
-    /// How many packages that ship without a conclusion are left out, since no declared licence is
-    /// an expression.
+    /// How many packages that ship without a conclusion are left out, since they have no declared
+    /// licence that is an expression.
     pub fn left_out(&self) -> usize
         ensures { result ≡ count_of Neither self.now }
     {
@@ -70,7 +70,7 @@ fn line_of(alloc: Global, document: u32, id: &str, expression: &Expr) -> Result<
     Ok(line)
 }
 
-// The expression that the declared licence of a package is.
+// The declared licence of a package as an expression, if it is one.
 fn declared_in(
     alloc: Global,
     text: &Package<'_>,
@@ -85,7 +85,7 @@ fn declared_in(
     }
 }
 
-// The line of a package that stands so, or no bytes where nothing is proposed for it.
+// The line of a package by its standing, or no bytes if nothing is proposed for it.
 fn proposal_of(
     alloc: Global,
     document: u32,
@@ -137,7 +137,7 @@ fn proposals_for(
     Ok(Proposals { standings, lines })
 }
 
-/// The conclusions that are proposed for the packages of a document, which the desk knows by a
+/// The conclusions that are proposed for the packages of a document, which the desk knows by this
 /// number. Its licence expressions are read by the profile of operators.
 pub fn proposals_of(
     alloc: Global,

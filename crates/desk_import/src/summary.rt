@@ -1,4 +1,4 @@
-//! How the packages of a document stand, and its findings.
+//! The standings of a document's packages, and its findings.
 
 ghost use Rattle.std.specs.Prelude.{◌≡◌, ℕ, List, IfOk, Option, Bool, false, count_by, drop, map, slice_index_or};
 ghost use Rattle.desk_expr.specs.Tree.{Tree};
@@ -15,28 +15,28 @@ use desk_tagvalue::{Document, Package};
 use std::alloc::{AllocError, Global};
 use std::fmt;
 
-/// How a package of a document stands.
+/// The standing of a package of a document.
 #[derive(Clone, Copy)]
 pub enum Standing {
     /// It doesn't ship.
     Aside,
     /// It ships, and the document concludes its licence.
     Concluded,
-    /// It ships, and the document has a declared licence alone.
+    /// It ships, and the document has only a declared licence for it.
     Declared,
-    /// It ships, and the document has neither.
+    /// It ships, and the document has neither for it.
     Neither,
 }
 
-/// What a document comes to: how each of its packages stands, and what in it isn't as the standard
-/// has it.
+/// What a desk finds in a document: the standing of each of its packages, and what in it isn't as
+/// the standard has it.
 #[derive(Drop)]
 pub struct Summary {
     pub standings: Vec<Standing>,
     pub findings: Vec<Finding>,
 }
 
-/// The kinds of findings. A field that is missing is of one kind, whichever it is.
+/// The kinds of findings. All missing fields are of one kind.
 const KINDS: [FindingKind; 11] = [
     FindingKind::UnknownTag,
     FindingKind::Misplaced,
@@ -65,7 +65,7 @@ impl Standing {
     }
 }
 
-/// How many of some packages stand so.
+/// How many of some packages have this standing.
 pub(crate) fn count_of(standings: &[Standing], standing: Standing) -> usize
     ensures { result ≡ count_by (same_standing standing) standings.now }
 {
@@ -73,14 +73,14 @@ pub(crate) fn count_of(standings: &[Standing], standing: Standing) -> usize
 }
 
 impl Summary {
-    /// How many packages stand so.
+    /// How many packages have this standing.
     pub fn standing_count(&self, standing: Standing) -> usize
         ensures { result ≡ standing_count standing self.now }
     {
         count_of(self.standings.as_slice(), standing)
     }
 
-    /// How many findings are of the kind with a number.
+    /// How many findings are of the kind with this number.
     pub fn kind_count(&self, number: u8) -> usize
         ensures { result ≡ kind_count number self.now }
     {
@@ -91,7 +91,7 @@ impl Summary {
     }
 }
 
-// The first of some marks, and those behind it.
+// The first of some marks, and those after it.
 pub(crate) fn first_of(marks: &[bool]) -> (bool, &[bool])
     ensures first { result.0 ≡ slice_index_or marks.now 0 false }
     ensures behind { result.1.now ≡ drop 1 marks.now }
@@ -102,7 +102,7 @@ pub(crate) fn first_of(marks: &[bool]) -> (bool, &[bool])
     }
 }
 
-// How a package stands.
+// The standing of a package.
 pub(crate) fn standing_of(
     alloc: Global,
     text: &Package<'_>,
@@ -144,7 +144,7 @@ fn standings_of(
     Ok(found)
 }
 
-/// What a document comes to, its licence expressions read by the profile of operators.
+/// What a desk finds in a document. Its licence expressions are read by the profile of operators.
 pub fn summary_of(
     alloc: Global,
     document: &Document<'_>,

@@ -24,7 +24,7 @@ fn place(alloc: Global, at: &str) -> Result<Text, ConvertFault>
     }
 }
 
-// Adds the text of a line, if its field is read back.
+// Adds the text of a line, if it is read back as its one field.
 fn put(alloc: Global, out: &mut String, at: &str, line: DraftLine) -> Result<(), ConvertFault>
     ensures ok { OnOk result
         (string_bytes out.new ≡ string_bytes out.old ++ spelled (line_text line.entry)) }
@@ -59,7 +59,7 @@ fn put_step(alloc: Global, out: &mut String, step: &Step) -> Result<(), ConvertF
     }
 }
 
-/// Adds the text of some steps, if they pass.
+/// Adds the text of some steps, if all pass.
 pub(crate) fn put_steps(alloc: Global, out: &mut String, steps: &[Step]) -> Result<(), ConvertFault>
     ensures ok { OnOk result
         (IsPut (string_bytes out.old) (map step_text steps.now) (string_bytes out.new)) }

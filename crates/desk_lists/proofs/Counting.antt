@@ -1,4 +1,4 @@
--- Counts of rows, among those that a filter keeps, and in another order.
+-- Counts of rows among those that a filter keeps, and in another order.
 use Rattle.std.proofs.Common.{◌≡◌, ℕ, ◌+◌, Bool, true, false, cond, List, [], ◌∷◌, length, refl, sym, ap, ◌∙◌, arith}
 use Rattle.std.specs.Prelude.{◌&&◌, map, filter, count_by}
 use Rattle.std.specs.List.Sorted.{IsPermutation}
@@ -17,7 +17,7 @@ module _ {A B : Type 0} (f : A → B) (p q : B → Bool) where
   step x xs true = sum_by-cons (λ y. cond (q (f y)) 1 0) x xs
   step x xs false = omega arith
 
-  -- those that pass one test, among those that pass another
+  -- how many of those that pass one test pass another
   pub count_by-filter : (xs : List A) → count_by (λ x. q (f x)) (filter (λ x. p (f x)) xs) ≡ count_by (λ y. p y && q y) (map f xs)
   count_by-filter [] = refl
   count_by-filter (x ∷ xs) =
@@ -32,7 +32,7 @@ module _ {A B : Type 0} (f : A → B) (p q : B → Bool) where
         sum_by-cons (λ y. cond (p (f y)) 1 0) x xs ∙ ap (λ n. cond (p (f x)) 1 0 + n) (count_by-map xs)
         ∙ sym (sum_by-cons (λ y. cond (p y) 1 0) (f x) (map f xs))
 
--- among rows that a test tells from the others, as many pass
+-- if a test keeps the same rows of two lists, it counts the same in both
 pub count_by-among : {A : Type 0} (p : A → Bool) (rows all : List A) → filter p rows ≡ filter p all → count_by p rows ≡ count_by p all
 count_by-among p rows all e = sym (length-filter p rows) ∙ ap length e ∙ length-filter p all
 

@@ -1,4 +1,5 @@
--- The cells of the lists: a row of the columns' names, and one for each line. A cell is empty if its line has nothing there.
+-- The cells of the lists: a row of the columns' names, and one for each line. A cell is empty if its line has
+-- nothing for it.
 use Rattle.std.specs.Prelude.{ℕ, ℤ, List, [], ◌∷◌, ◌++◌, Option, codes, decimal, map, unwrap_or}
 use Rattle.std.specs.Fmt.{signed_decimal}
 use Rattle.std.specs.Option.{option_map_or}
@@ -58,7 +59,7 @@ duty_subject line =
     signed_decimal line.number ∷ line.release ∷ signed_decimal line.document ∷ line.package_id ∷ line.package_name ∷ line.rule ∷ line.code
     ∷ line.title ∷ []
 
--- in which state it is, and since when
+-- its state, and since when it has it
 abbrev pub duty_standing : DutyLine → List (List ℕ)
 duty_standing line = line.state ∷ line.raised ∷ line.changed ∷ unwrap_or line.last_day [] ∷ []
 

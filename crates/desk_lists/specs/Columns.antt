@@ -3,17 +3,17 @@ use Rattle.std.specs.Prelude.{ℕ, ◌-◌, List, [], ◌∷◌, ◌++◌, lengt
 use Rattle.std.specs.List.{flat_map}
 use Rattle.desk_report.specs.Columns.{filled, shown, widened, width}
 
--- the widths of columns that have the cells of these rows besides
+-- the widths of columns, widened for the cells of these rows
 abbrev pub widths_with : List ℕ → List (List (List ℕ)) → List ℕ
 widths_with ws [] = ws
 widths_with ws (row ∷ rows) = widths_with (widened ws row) rows
 
--- each column is as wide as its widest text; the last one is not filled up
+-- each column but the last is as wide as its widest text
 abbrev pub widths : List (List (List ℕ)) → List ℕ
 widths [] = []
 widths (names ∷ rows) = widths_with (map width (take (length names - 1) names)) rows
 
--- a row: the cells of the columns that have a width are filled up, and what is left is the last cell
+-- a row: the cells of the columns that have a width are padded, and what is left is the last cell
 abbrev pub row_line : List ℕ → List (List ℕ) → List ℕ
 row_line [] cells = flat_map shown cells ++ 10 ∷ []
 row_line (w ∷ ws) [] = 10 ∷ []

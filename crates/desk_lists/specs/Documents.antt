@@ -1,4 +1,5 @@
--- The line of a document: what the table has of it, how many packages it has and ships, its profile, and what its bytes say.
+-- The line of a document: its row in the table, how many packages it has and ships, its profile, and what its
+-- bytes say.
 use Rattle.std.specs.Prelude.{◌≡◌, ℕ, ℤ, pos, ◌&&◌, Bool, List, [], Option, Some, None, Result, Ok, Err, find, count_by, length, option_map}
 use Rattle.std.specs.Ordering.{int_cmp, int_eq}
 use Rattle.std.specs.declared.cmp.Ordering.{Ordering}
@@ -22,11 +23,11 @@ use Rattle.desk_tagvalue.specs.Parts.{DocumentText}
 use Rattle.desk_lists.specs.declared.lines.DocumentLine.{DocumentLine}
 use Rattle.desk_lists.specs.declared.said.Said.{Said}
 
--- a reading of values as expressions by each profile of operators
+-- readings of values as expressions, one for each profile of operators
 abbrev pub AreReadings : (Profile → List ℕ → Option Tree) → Type 0
 AreReadings reads = (profile : Profile) → IsReading profile (reads profile)
 
--- so many findings a document has
+-- how many findings a document has
 abbrev pub CountsFindings : (Profile → List ℕ → Option Tree) → Profile → DocumentText → ℕ → Type 0
 CountsFindings reads profile d count = (found : List Finding) × AreFindings (reads profile) d found × (count ≡ length found)
 
@@ -34,7 +35,7 @@ CountsFindings reads profile d count = (found : List Finding) × AreFindings (re
 abbrev pub SaysOf : (Profile → List ℕ → Option Tree) → Profile → DocumentText → Said → Type 0
 SaysOf reads profile d said = (said.name ≡ d.name) × ((count : ℕ) × CountsFindings reads profile d count × (said.findings ≡ Some count))
 
--- what bytes spell says so; what is no document says nothing
+-- the same of what bytes spell; bytes that are no document say nothing
 abbrev pub Says : (Profile → List ℕ → Option Tree) → Profile → Result DocumentText DocFault → Said → Type 0
 Says reads profile (Ok d) said = SaysOf reads profile d said
 Says reads profile (Err fault) said = (said.name ≡ []) × (said.findings ≡ None)
@@ -63,7 +64,7 @@ abbrev pub IsDocumentLine : (Profile → List ℕ → Option Tree) → Snapshot 
 IsDocumentLine reads snapshot row line =
     (said : Said) × IsSaid reads (profile_at snapshot row.number) row.bytes said × (line ≡ document_line snapshot row said)
 
--- the packages of a document stand side by side
+-- the packages of each document are next to each other
 
 abbrev pub package_of_side : ℤ → StoredPackage → Ordering
 package_of_side document row = int_cmp row.document document

@@ -1,4 +1,5 @@
--- The duties that are asked for, and the line of each: what the table has of it, its package's name, its title and its days.
+-- The duties that are asked for, and the line of each: its row in the table, its package's name, its title
+-- and its days.
 use Rattle.std.specs.Prelude.{ℕ, ℤ, pos, ◌&&◌, ◌||◌, not, Bool, true, false, List, [], ◌∷◌, Option, find, filter, map, reverse, option_and_then}
 use Rattle.std.specs.Cmp.{IsTotalOrder}
 use Rattle.std.specs.Cmp.Lexicographic.{slice_cmp}
@@ -20,7 +21,7 @@ use Rattle.desk_lists.specs.declared.lines.DutyFilter.{DutyFilter}
 use Rattle.desk_lists.specs.declared.lines.DutyLine.{DutyLine}
 use Rattle.desk_lists.specs.declared.titles.Title.{Title}
 
--- a text is what is asked for, if anything is
+-- a text is the one asked for, if any is
 abbrev pub is_asked : Option (List ℕ) → List ℕ → Bool
 is_asked asked text = option_map_or (λ wanted. bytes_eq text wanted) asked true
 
@@ -31,7 +32,7 @@ package_name snapshot document id = option_map_or (λ row. row.name) (find (is_p
 abbrev pub raising_day : Snapshot → ℤ → List ℕ
 raising_day snapshot number = option_map_or (λ row. row.day) (find (is_change_at number (pos 1)) snapshot.changes) []
 
--- of the changes of a duty, the last one in the table, whose order is that of the steps
+-- the last of a duty's changes in the table, which is in the order of steps
 abbrev pub last_change : Snapshot → ℤ → Option StoredChange
 last_change snapshot number = find (is_change_of number) (reverse snapshot.changes)
 
@@ -42,15 +43,15 @@ changing_day snapshot number = option_map_or (λ row. row.day) (last_change snap
 abbrev pub waiver_end : Snapshot → ℤ → Option (List ℕ)
 waiver_end snapshot number = option_and_then (last_day_at snapshot) (last_change snapshot number)
 
--- a last day before another day, if there is one
+-- there is a last day, and it is before another day
 abbrev pub is_end_before : List ℕ → Option (List ℕ) → Bool
 is_end_before day end = option_map_or (λ last. is_before last day) end false
 
--- a waived duty whose waiver's last day lies before a day
+-- a waived duty whose waiver has a last day before a day
 abbrev pub is_past : Snapshot → List ℕ → StoredDuty → Bool
 is_past snapshot day row = bytes_eq row.state (duty_state_name duty.Waived) && is_end_before day (waiver_end snapshot row.number)
 
--- what is past by the day that is asked for, if one is
+-- past by the day that is asked for, if one is
 abbrev pub is_past_if_asked : Snapshot → Option (List ℕ) → StoredDuty → Bool
 is_past_if_asked snapshot asked row = option_map_or (λ day. is_past snapshot day row) asked true
 
@@ -86,7 +87,7 @@ duty_line snapshot titles row = record {
 abbrev pub lines_wanted : Snapshot → DutyFilter → List DutyLine
 lines_wanted snapshot wanted = map (duty_line snapshot (titles_in_force snapshot)) (filter (is_wanted snapshot wanted) snapshot.duty)
 
--- by the day of raising, and by the number among duties of one day
+-- by the day of raising, and by number if two were raised on the same day
 abbrev pub raising_order : DutyLine → DutyLine → Ordering
 raising_order = then_cmp (on (λ line. line.raised) (slice_cmp nat_cmp)) (on (λ line. line.number) int_cmp)
 

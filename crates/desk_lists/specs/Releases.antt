@@ -1,4 +1,4 @@
--- The line of a release: what the table has of it, and how many of its duties are in which state.
+-- The line of a release: its row in the table, and how many of its duties are in each state.
 use Rattle.std.specs.Prelude.{ℕ, ◌&&◌, Bool, List, count_by}
 use Rattle.std.specs.Str.{bytes_eq}
 use Rattle.desk_model.specs.Names.{duty_state_name}
@@ -15,7 +15,7 @@ is_duty_of release row = bytes_eq row.release release
 abbrev pub is_duty_in : List ℕ → DutyState → StoredDuty → Bool
 is_duty_in release state row = bytes_eq row.release release && bytes_eq row.state (duty_state_name state)
 
--- how many duties are a release's, and how many of these are in which state
+-- how many duties a release has, and how many of these are in each state
 abbrev pub totals_among : List StoredDuty → List ℕ → Totals
 totals_among duties release = record {
   raised = count_by (is_duty_of release) duties;

@@ -1,4 +1,5 @@
--- The titles of duties, as the catalogue in force has them: the last of its table, whose order is that of the revisions.
+-- The titles of duties in the catalogue in force. This is the last one of its table, which is in the order of
+-- revisions.
 use Rattle.std.specs.Prelude.{ℕ, ◌-◌, Bool, List, [], Option, codes, find, length, option_map, option_and_then, slice_get}
 use Rattle.std.specs.List.{cons_option}
 use Rattle.std.specs.Option.{option_map_or}
@@ -39,6 +40,6 @@ titles_in_force snapshot = option_map_or (λ row. catalogue_titles row.body) (sl
 abbrev pub is_title_of : List ℕ → Title → Bool
 is_title_of code row = bytes_eq row.code code
 
--- the title of a code among some, or nothing
+-- the title of a code among some titles, or an empty text
 abbrev pub title_among : List ℕ → List Title → List ℕ
 title_among code titles = option_map_or (λ row. row.title) (find (is_title_of code) titles) []

@@ -99,7 +99,7 @@ fn count_cell(count: Option<u64>) -> Cell<'static>
     }
 }
 
-// The last day of a waiver that ends, else an empty text.
+// The last day of a waiver that ends, or an empty text.
 fn last_day_cell(last_day: &Option<Text>) -> &str
     ensures { result.now ≡ unwrap_or last_day.now [] }
 {
@@ -109,7 +109,7 @@ fn last_day_cell(last_day: &Option<Text>) -> &str
     }
 }
 
-/// What a table has a row for.
+/// What has a row in a table.
 pub(crate) trait Line {
     ghost cells: { Self → List (List ℕ) };
 

@@ -20,7 +20,7 @@ fn widths_of(alloc: Global, cells: &[Text]) -> Result<Vec<usize>, AllocError>
     Ok(widths)
 }
 
-// Adds the widths of columns that have these cells besides.
+// Adds the widths of columns, widened for these cells.
 fn add_widened(found: &mut Vec<usize>, widths: &[usize], cells: &[Text]) -> Result<(), AllocError>
     ensures { OnOk result (found.new.items ≡ found.old.items ++ widened widths.now cells.now) }
 {
@@ -36,7 +36,7 @@ fn add_widened(found: &mut Vec<usize>, widths: &[usize], cells: &[Text]) -> Resu
     }
 }
 
-// The widths of columns that have the cells of a row besides.
+// The widths of columns, widened for the cells of a row.
 fn widened(alloc: Global, widths: &[usize], cells: &[Text]) -> Result<Vec<usize>, AllocError>
     ensures { IfOk result (λ found. found.items ≡ widened widths.now cells.now) }
 {
@@ -45,7 +45,7 @@ fn widened(alloc: Global, widths: &[usize], cells: &[Text]) -> Result<Vec<usize>
     Ok(found)
 }
 
-// The width of each column before the last, by the columns' names.
+// The width of each column's name, before the last column.
 fn widths_of_front(alloc: Global, names: &[Text]) -> Result<Vec<usize>, AllocError>
     ensures { IfOk result (λ found. found.items
         ≡ map width (take (length names.now - 1) names.now)) }
@@ -70,7 +70,7 @@ fn widths(alloc: Global, table: &[Items<Text>]) -> Result<Vec<usize>, AllocError
     }
 }
 
-// Adds cells that are not filled up.
+// Adds cells without padding.
 fn add_each_shown(text: &mut Vec<u8>, cells: &[Text]) -> Result<(), AllocError>
     ensures { OnOk result (text.new.items ≡ text.old.items ++ flat_map shown cells.now) }
 {
@@ -80,7 +80,7 @@ fn add_each_shown(text: &mut Vec<u8>, cells: &[Text]) -> Result<(), AllocError>
     Ok(())
 }
 
-// Adds the last cells of a row, and its end.
+// Adds the last cells of a row, and the line's end.
 fn add_end(text: &mut Vec<u8>, cells: &[Text]) -> Result<(), AllocError>
     ensures { OnOk result (text.new.items ≡ text.old.items ++ row_line [] cells.now) }
 {
@@ -104,8 +104,8 @@ fn add_row(text: &mut Vec<u8>, widths: &[usize], cells: &[Text]) -> Result<(), A
     }
 }
 
-/// A line for each row. Each column but the last is as wide as its widest text, and two blanks
-/// stand before the next.
+/// A line for each row. Each column but the last is as wide as its widest text, with two blanks
+/// before the next one.
 #[tactic(auto, unfolding(crate::specs::Columns::columns_text))]
 pub(crate) fn columns_text(alloc: Global, rows: &[Items<Text>]) -> Result<Vec<u8>, AllocError>
     ensures { IfOk result (λ text. text.items ≡ columns_text rows.now) }

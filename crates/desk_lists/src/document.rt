@@ -108,7 +108,7 @@ fn document_line(
     })
 }
 
-/// The documents by number. What a document says is read again from its bytes, of one document at a
+/// The documents by number. What a document says is read again from its bytes, one document at a
 /// time.
 pub fn documents(alloc: Global, snapshot: &Snapshot) -> Result<Vec<DocumentLine>, AllocError>
     ensures { (reads : Profile → List ℕ → Option Tree) → AreReadings reads

@@ -18,7 +18,7 @@ use desk_snapshot::{ByDuty, ById, ByStep, Snapshot, StoredChange, StoredDuty};
 use std::alloc::{AllocError, Global};
 use std::cmp::Ordering;
 
-// Whether a text is what is asked for, if anything is.
+// Whether a text is the one asked for, if any is.
 fn is_asked(asked: Option<&str>, text: &str) -> bool
     ensures { result ≡ is_asked (option_copied asked.entry) text.now }
 {
@@ -38,7 +38,7 @@ fn package_name<'a>(snapshot: &'a Snapshot, document: i64, id: &str) -> &'a str
     }
 }
 
-// The day a duty was raised.
+// The day on which a duty was raised.
 fn raising_day(snapshot: &Snapshot, duty: i64) -> &str
     ensures { result.now ≡ raising_day snapshot.now duty }
 {
@@ -48,7 +48,7 @@ fn raising_day(snapshot: &Snapshot, duty: i64) -> &str
     }
 }
 
-// The last of these changes that is a duty's.
+// The last of these changes that is of a duty.
 fn last_within(rows: &[StoredChange], duty: i64) -> Option<&StoredChange>
     ensures { option_copied result ≡ find (is_change_of duty) (reverse rows.now) }
 {
@@ -96,7 +96,7 @@ fn waiver_end(snapshot: &Snapshot, duty: i64) -> Option<&str>
     }
 }
 
-// Whether a last day is before another day, if there is one.
+// Whether there is a last day, and it is before another day.
 fn is_end_before(day: &str, end: Option<&str>) -> bool
     ensures { result ≡ is_end_before day.now (option_copied end.entry) }
 {
@@ -106,7 +106,7 @@ fn is_end_before(day: &str, end: Option<&str>) -> bool
     }
 }
 
-// Whether a duty is waived, and the waiver's last day lies before a day.
+// Whether a duty is waived, and the waiver has a last day before a day.
 fn is_past(snapshot: &Snapshot, day: &str, row: &StoredDuty) -> bool
     ensures { result ≡ is_past snapshot.now day.now row.now }
 {
@@ -237,7 +237,8 @@ fn lines_in_turn(
     Ok(lines)
 }
 
-// Which of two duties was raised first; of those raised on one day, which has the lower number.
+// Which of two duties was raised first or, if they were raised on the same day, has the lower
+// number.
 fn compare_raising(line: &DutyLine, other: &DutyLine) -> Ordering
     ensures { result ≡ raising_order line.now other.now }
 {
@@ -245,7 +246,7 @@ fn compare_raising(line: &DutyLine, other: &DutyLine) -> Ordering
     day.then(line.number.cmp(&other.number))
 }
 
-/// The duties that are asked for, by the day they were raised, those of one day by number.
+/// The duties that are asked for, by the day on which they were raised and then by number.
 pub fn duties(
     alloc: Global,
     snapshot: &Snapshot,

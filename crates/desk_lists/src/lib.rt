@@ -1,19 +1,19 @@
 //! What a desk holds, as lists: its releases, its documents and its duties.
 //!
-//! The lists are functions of the tables as an audit reads them (`desk_snapshot`), and are given
-//! for any tables, sound or not.
+//! The lists are functions of the tables as an audit reads them (`desk_snapshot`), and can be made
+//! from any tables, sound or not.
 //!
 //! - `releases` has the releases in the order in which they were opened, with how many of their
-//!   duties are in which state (`specs/Releases.antt`).
+//!   duties are in each state (`specs/Releases.antt`).
 //! - `documents` has the documents by number, with how many packages each has and ships, and the
-//!   name and the findings that its bytes come to (`specs/Documents.antt`).
-//! - `duties` has the duties that a filter asks for, those that were raised first before the others
+//!   name and the findings that its bytes give (`specs/Documents.antt`).
+//! - `duties` has the duties that a filter asks for, in the order in which they were raised
 //!   (`specs/Duties.antt`), with their titles in the catalogue in force (`specs/Titles.antt`).
 //!
 //! Each list is written as comma-separated values (`specs/CsvTable.antt`) or laid out in columns
 //! for a terminal (`specs/Columns.antt`). The cells of a line are the same in both
-//! (`specs/Cells.antt`). No memory left is the only error. `profile_at` is the profile that a
-//! document is read by.
+//! (`specs/Cells.antt`). The only error is that no memory is left. `profile_at` is the profile by
+//! which a document is read.
 #![tactic(auto)]
 
 mod cells;

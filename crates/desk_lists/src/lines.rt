@@ -3,7 +3,7 @@
 use desk_base::Text;
 use desk_model::Totals;
 
-/// A release, and how many of its duties are in which state.
+/// A release, and how many of its duties are in each state.
 #[derive(Drop)]
 pub struct ReleaseLine {
     /// Its name.
@@ -16,7 +16,7 @@ pub struct ReleaseLine {
     pub state: Text,
     /// The revision of the catalogue that it was frozen with, 0 if it wasn't frozen.
     pub revision: i64,
-    /// How many duties it raised, and how many of these are in which state.
+    /// How many duties it raised, and how many of these are in each state.
     pub duties: Totals,
 }
 
@@ -33,7 +33,7 @@ pub struct DocumentLine {
     pub packages: u64,
     /// How many of these it ships.
     pub shipped: u64,
-    /// How many findings it has, its licence fields read by its profile. None if its bytes are no
+    /// How many findings it has, its licence fields read by its profile. `None` if its bytes are no
     /// document, which no desk has.
     pub findings: Option<u64>,
     /// The number of the profile that its expressions are read by. Each document of a desk has one.
@@ -78,6 +78,6 @@ pub struct DutyFilter<'a> {
     pub code: Option<&'a str>,
     /// Those that are open.
     pub still_open: bool,
-    /// Those that are waived up to a day before this one, `YYYY-MM-DD`.
+    /// Those whose waivers have a last day before this one, `YYYY-MM-DD`.
     pub past: Option<&'a str>,
 }

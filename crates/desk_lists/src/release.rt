@@ -26,7 +26,7 @@ fn count_in(rows: &[Held<'_>], state: DutyState) -> u64
         .count() as u64
 }
 
-// How many of the duties are a release's, and in which state.
+// How many duties a release has, and how many of these are in each state.
 fn totals_of(held: &Sorted<Held<'_>>, release: &str) -> Totals
     ensures { result ≡ totals_among (duties_held held.now.rows.items) release.now }
 {

@@ -1,4 +1,4 @@
-//! What the bytes of a document say of it.
+//! What the bytes of a document say about it.
 
 ghost use Rattle.std.specs.Prelude.{◌≡◌, ℕ, List, Option, IfOk, length};
 ghost use Rattle.desk_base.specs.declared.profile.Profile.{Profile};

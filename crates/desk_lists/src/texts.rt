@@ -44,8 +44,8 @@ pub fn releases_csv(alloc: Global, lines: &[ReleaseLine]) -> Result<Vec<u8>, All
 }
 
 /// The list of releases as a terminal shows it: the same rows, each ended by LF. A column is as
-/// wide as its widest text, and two blanks are before the next. A question mark is shown for a
-/// control byte.
+/// wide as its widest text, with two blanks before the next one. A control byte is shown as a
+/// question mark.
 pub fn releases_columns(alloc: Global, lines: &[ReleaseLine]) -> Result<Vec<u8>, AllocError>
     ensures { IfOk result (λ text. text.items ≡ columns_text (release_table lines.now)) }
 {

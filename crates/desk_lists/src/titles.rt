@@ -1,4 +1,4 @@
-//! The titles of duties, as the catalogue in force has them.
+//! The titles of duties in the catalogue in force.
 
 ghost use Rattle.std.specs.Prelude.{◌≡◌, ◌++◌, [], find, option_map, IfOk, OnOk};
 ghost use Rattle.std.specs.List.{cons_option};
@@ -81,7 +81,7 @@ fn titles_of(alloc: Global, values: &[Value]) -> Result<Vec<Title>, AllocError>
     Ok(titles)
 }
 
-// The entries of the duties.
+// The entries of the duties in a catalogue.
 fn entries_in(table: &Table) -> &[Value]
     ensures { titles_of (items_view result.now) ≡ titles_in (table_view table.now) }
 {
@@ -94,7 +94,7 @@ fn entries_in(table: &Table) -> &[Value]
     }
 }
 
-// The titles of the duties in a catalogue. A text that is none has none.
+// The titles of the duties in a catalogue, none if the text is no catalogue.
 fn catalogue_titles(alloc: Global, text: &str) -> Result<Vec<Title>, AllocError>
     ensures { IfOk result (λ titles. titles.items ≡ catalogue_titles text.now) }
 {
@@ -119,14 +119,14 @@ pub(crate) fn titles_in_force(alloc: Global, snapshot: &Snapshot) -> Result<Vec<
     }
 }
 
-// The first of some titles that is of a code.
+// The first of some titles that is for a code.
 fn first_of<'a>(code: &str, titles: &'a [Title]) -> Option<&'a Title>
     ensures { option_copied result ≡ find (is_title_of code.now) titles.now }
 {
     titles.iter().find(|row| row.code.as_str() == code)
 }
 
-/// The title of a code, or nothing.
+/// The title of a code, or an empty text.
 pub(crate) fn title_among<'a>(code: &str, titles: &'a [Title]) -> &'a str
     ensures { result.now ≡ title_among code.now titles.now }
 {

@@ -1,4 +1,4 @@
--- An escaped text holds no markup.
+-- An escaped text contains no markup.
 use Rattle.std.proofs.Common.{◌≡◌, ◌∙◌, ℕ, suc, ◌<◌, inl, inr, Bool, true, false, List, [], ◌∷◌, ◌++◌, length, get_or, refl, sym, ap, arith}
 use Rattle.std.specs.Prelude.{◌==◌, ◌||◌, codes, if◌then◌else◌}
 use Rattle.std.specs.Char.{encode_utf8}
@@ -13,7 +13,7 @@ use Rattle.desk_page.specs.Escapes.{escaped, is_barred, is_markup, shown_char, I
 markup_is_ascii : (b : ℕ) → is_markup b ≡ true → b < 128
 markup_is_ascii b is = grind (arith, nat_tests)
 
--- a byte of a character that is no markup is none
+-- if a character is no markup, none of its bytes is
 byte_of_plain : (c k : ℕ) → is_markup c ≡ false → k < length (encode_utf8 c) → is_markup (get_or (encode_utf8 c) k 0) ≡ false
 byte_of_plain c k other within =
     elim (cases_Bool (is_markup (get_or (encode_utf8 c) k 0))) [
@@ -29,7 +29,7 @@ plain_bytes [] rest are inert = inert
 plain_bytes (b ∷ bs) rest are inert =
     plain b (bs ++ rest) (are 0 (omega arith)) (plain_bytes bs rest (λ k within. are (suc k) (omega arith)) inert)
 
--- which of its forms a character is shown in
+-- how a character is shown, case by case
 by_case : (c : ℕ) (rest : List ℕ) → IsInert rest → (a l g q s barred : Bool)
     → ((((a || l) || g) || q) || s ≡ false → IsInert (encode_utf8 c ++ rest))
     → IsInert ((if a then codes "&amp;" else if l then codes "&lt;" else if g then codes "&gt;" else if q then codes "&quot;"

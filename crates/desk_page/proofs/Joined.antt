@@ -1,17 +1,17 @@
--- Rows put one behind the other.
+-- Rows one after another.
 use Rattle.std.proofs.Common.{◌≡◌, ◌∙◌, ℕ, ◌+◌, ◌<◌, List, ◌++◌, Ok, Err, length, get_or, map, take, ap, ap₂, sym}
 use Rattle.std.specs.Prelude.{OnOk, Result, is_ok, if◌then◌else◌}
 use Rattle.std.specs.List.{flat_map}
 use Rattle.std.proofs.lemmas.List.{flat_map_more, map_more, take_more}
 
--- the row of one more, behind others
+-- one more row, after others
 pub joined_more : {X : Type 0} (f : X → List ℕ) (xs : List X) (i : ℕ) (x : X) (start before after : List ℕ) → i < length xs → x ≡ get_or xs i x
     → before ≡ start ++ flat_map f (take i xs) → after ≡ before ++ f x → after ≡ start ++ flat_map f (take (i + 1) xs)
 joined_more f xs i x start before after inside at so_far added =
     added ∙ ap₂ (λ a b. a ++ b) so_far (ap f at) ∙ flat_map_more f start (take i xs) (get_or xs i x)
     ∙ ap (λ ys. start ++ flat_map f ys) (sym (take_more xs i x inside))
 
--- the row of one more, by what it stands for
+-- one more row, by what it shows
 pub mapped_more : {X Y : Type 0} (f : Y → List ℕ) (g : X → Y) (xs : List X) (i : ℕ) (d : X) (start before after : List ℕ) → i < length xs
     → before ≡ start ++ flat_map f (map g (take i xs)) → after ≡ before ++ f (g (get_or xs i d))
     → after ≡ start ++ flat_map f (map g (take (i + 1) xs))
@@ -20,7 +20,7 @@ mapped_more {X} {Y} f g xs i d start before after inside so_far added =
     added ∙ ap (λ l. l ++ f y) so_far ∙ flat_map_more f start (map g (take i xs)) y
     ∙ ap (λ (ys : List Y). start ++ flat_map f ys) (sym (map_more g xs i d inside))
 
--- what was added where there was memory
+-- what was added, if there was memory for it
 pub added : {A E : Type 0} (result : Result A E) (new grown old : List ℕ) → new ≡ (if is_ok result then grown else old) → OnOk result (new ≡ grown)
 added (Ok x) new grown old is = is
 added (Err e) new grown old is = tt

@@ -1,4 +1,4 @@
--- Texts in the order of first use: one text more is at the end, if it isn't among them.
+-- Texts in the order of first use: one more text goes to the end, if it isn't among them.
 use Rattle.std.proofs.Common.{◌≡◌, ◌∙◌, inl, inr, ℕ, Bool, true, false, cond, List, [], ◌∷◌, ◌++◌, sym, ap, refl, subst}
 use Rattle.std.specs.Prelude.{◌||◌, not, filter, if◌then◌else◌}
 use Rattle.std.specs.List.{list_any}
@@ -45,7 +45,7 @@ first_uses-append (y ∷ xs) x =
     ap (λ l. y ∷ filter (λ other. not (bytes_eq y other)) l) (first_uses-append xs x)
     ∙ added x xs y (list_any (bytes_eq x) xs)
 
--- x is among texts where it is among those that aren't y, if it isn't y
+-- if x isn't y, it is among texts exactly if it is among those of them that aren't y
 other_same : (x y z : List ℕ) → bytes_eq x y ≡ false → bytes_eq y z ≡ true → bytes_eq x z ≡ false
 other_same x y z other same = ap (bytes_eq x) (sym ((bytes_eq-Decides y z).0 same)) ∙ other
 
@@ -79,14 +79,14 @@ left : (b : Bool) (xs : List (List ℕ)) (x : List ℕ) → b ≡ true → (if b
 left true xs x e = refl
 left false xs x e = absurd (false≢true e)
 
--- a text that isn't among those found is found
+-- a text that isn't among those found is added to them
 pub uses_more : (xs found next : List (List ℕ)) (x : List ℕ) → found ≡ first_uses xs → list_any (bytes_eq x) found ≡ false
     → next ≡ found ++ x ∷ [] → next ≡ first_uses (xs ++ x ∷ [])
 uses_more xs found next x is new put =
     put ∙ ap (λ l. l ++ x ∷ []) is
     ∙ sym (first_uses-append xs x ∙ chosen (list_any (bytes_eq x) xs) xs x (sym (any-first_uses x xs) ∙ sym (ap (list_any (bytes_eq x)) is) ∙ new))
 
--- a text that is among those found is found already
+-- a text that is among those found is not added again
 pub uses_same : (xs found : List (List ℕ)) (x : List ℕ) → found ≡ first_uses xs → list_any (bytes_eq x) found ≡ true
     → found ≡ first_uses (xs ++ x ∷ [])
 uses_same xs found x is known =

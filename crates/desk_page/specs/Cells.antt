@@ -5,8 +5,8 @@ use Rattle.desk_page.specs.Pieces.{anchor_cell, bar_cell, last_cell, link_cell, 
 use Rattle.desk_page.specs.declared.cell.Cell.{Cell}
 use Rattle.desk_page.specs.declared.cell.Cell.TheVariants as cells
 
--- what names a row, or its duty, to which others lead or which leads to the duty's own; a text, a count, licences; what ends a row: a text
--- that keeps its lines, or a bar as long as a part of a whole
+-- What names a row: a text, a duty that others link to, or a duty with a link to its own row. Then a text, a
+-- count, or licences. What ends a row: a text that keeps its lines, or a bar as long as a part of a whole.
 pub data CellText : Type 0 where
   name : List ℕ → CellText
   anchor : ℕ → CellText

@@ -4,15 +4,15 @@ use Rattle.std.specs.Char.{encode_utf8, is_ascii_whitespace, is_control}
 use Rattle.std.specs.List.{flat_map}
 use Rattle.std.specs.Str.{chars}
 
--- one of U+FDD0 to U+FDEF, or one of the last two of 65,536
+-- one of U+FDD0 to U+FDEF, or one of the last two in each 65,536
 abbrev pub is_noncharacter : ℕ → Bool
 is_noncharacter c = (nat_le 64976 c && nat_le c 65007) || nat_le 65534 (c % 65536)
 
--- what no text of a page may hold: control characters other than white space, and noncharacters
+-- what a text of a page may not contain: control characters other than white space, and noncharacters
 abbrev pub is_barred : ℕ → Bool
 is_barred c = (is_control c && not (is_ascii_whitespace c)) || is_noncharacter c
 
--- U+FFFD stands for a character that is barred, and a reference for one that has a meaning in HTML
+-- U+FFFD replaces a character that is barred, and a reference one that has a meaning in HTML
 abbrev pub shown_char : ℕ → List ℕ
 shown_char c =
     if c == 38 then codes "&amp;"
@@ -30,7 +30,7 @@ escaped text = flat_map shown_char (chars text)
 abbrev pub is_markup : ℕ → Bool
 is_markup b = b == 38 || b == 60 || b == 62 || b == 34 || b == 39
 
--- bytes that hold no markup: references, and bytes that have no meaning in HTML
+-- bytes that contain no markup: references, and bytes that have no meaning in HTML
 pub data IsInert : List ℕ → Type 0 where
   nothing : IsInert []
   plain : (b : ℕ) (bs : List ℕ) → is_markup b ≡ false → IsInert bs → IsInert (b ∷ bs)

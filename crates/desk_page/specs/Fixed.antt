@@ -35,7 +35,7 @@ style =
     ++ codes "tr,h1,h2,h3{break-inside:avoid}\nh1,h2,h3,h2+p{break-after:avoid}\n#notices{break-before:page}}\n</style>\n</head>\n<body>\n"
     ++ codes "<main>\n"
 
--- behind the form: the contents
+-- after the form: the contents
 unfoldable pub contents : List ℕ
 contents =
     codes ".</p>\n<nav aria-label=\"Contents\">\n<ul>\n<li><a href=\"#totals\">Totals</a></li>\n"
@@ -55,7 +55,7 @@ unfoldable pub section_end : List ℕ
 section_end =
     codes "</section>\n"
 
--- behind the notices
+-- after the notices
 unfoldable pub page_end : List ℕ
 page_end =
     codes "</section>\n</main>\n</body>\n</html>\n"

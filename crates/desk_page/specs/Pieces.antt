@@ -7,11 +7,11 @@ use Rattle.desk_page.specs.Escapes.{escaped}
 unfoldable pub framed : List ℕ → List ℕ → List ℕ → List ℕ
 framed before text after = before ++ escaped text ++ after
 
--- a number between them
+-- a number between fixed texts
 unfoldable pub counted : List ℕ → ℕ → List ℕ → List ℕ
 counted before number after = before ++ decimal number ++ after
 
--- two numbers between them
+-- two numbers between fixed texts
 unfoldable pub paired : List ℕ → ℕ → List ℕ → ℕ → List ℕ → List ℕ
 paired before number between other after = before ++ decimal number ++ between ++ decimal other ++ after
 
@@ -19,11 +19,11 @@ paired before number between other after = before ++ decimal number ++ between +
 unfoldable pub name_cell : List ℕ → List ℕ
 name_cell text = framed (codes "<tr><th scope=\"row\">") text (codes "</th>")
 
--- the cell that names the row of a duty, to which others lead
+-- the cell that names the row of a duty, and that others link to
 unfoldable pub anchor_cell : ℕ → List ℕ
 anchor_cell duty = paired (codes "<tr><th scope=\"row\" id=\"duty-") duty (codes "\">") duty (codes "</th>")
 
--- the cell that names a row by a duty, and leads to it
+-- the cell that names a row by a duty, and links to it
 unfoldable pub link_cell : ℕ → List ℕ
 link_cell duty = paired (codes "<tr><th scope=\"row\"><a href=\"#duty-") duty (codes "\">") duty (codes "</a></th>")
 

@@ -10,7 +10,7 @@ use Rattle.desk_model.specs.declared.command.Totals.{Totals}
 use Rattle.desk_model.specs.declared.row.ChangeRow.{ChangeRow}
 use Rattle.desk_page.specs.Cells.{CellText, name, anchor, link, plain, count, rules, last, bar, row_text}
 
--- ---- how many duties are in which state
+-- ---- how many duties are in each state
 
 -- a name, a count, and a bar for its share of all duties
 abbrev pub total_cells : List ℕ → ℕ → ℕ → List CellText
@@ -40,11 +40,11 @@ first_uses (text ∷ texts) = text ∷ filter (λ other. not (bytes_eq text othe
 unfoldable pub licences : List DutyLine → List (List ℕ)
 licences duties = first_uses (map (λ duty. duty.rule) duties)
 
--- a duty of a licence
+-- whether a duty is of a licence
 abbrev pub is_of : List ℕ → DutyLine → Bool
 is_of licence duty = bytes_eq licence duty.rule
 
--- a duty of a licence in a state
+-- whether a duty is of a licence and in a state
 abbrev pub is_in : List ℕ → List ℕ → DutyLine → Bool
 is_in licence state duty = is_of licence duty && bytes_eq state (duty_state_name duty.state)
 
@@ -54,7 +54,7 @@ raised_for licence duties = count_by (is_of licence) duties
 unfoldable pub standing : List ℕ → List ℕ → List DutyLine → ℕ
 standing licence state duties = count_by (is_in licence state) duties
 
--- how many duties a licence has and how many are in which state, with a bar for those that are open
+-- how many duties a licence has and how many are in each state, with a bar for those that are open
 unfoldable pub licence_row : List DutyLine → List ℕ → List ℕ
 licence_row duties licence =
     row_text (name licence ∷ count (raised_for licence duties) ∷ count (standing licence (codes "met") duties)
@@ -63,8 +63,8 @@ licence_row duties licence =
 
 -- ---- duties
 
--- A day as it is written: empty if there is none, which no recorded history gives for a duty, or if its bytes are no text, which no
--- written day has.
+-- A day as it is written. Empty if there is none, which no recorded history gives for a duty, or if its bytes
+-- are not UTF-8, as those of a written day are.
 abbrev pub day_text : Option (List ℕ) → List ℕ
 day_text None = []
 day_text (Some day) = if is_utf8 day then day else []
@@ -88,11 +88,11 @@ ending_row duty day reason =
 abbrev pub waiver_row : DutyLine → ChangeRow → List ℕ
 waiver_row duty change = option_map_or (λ day. ending_row duty day change.body) change.last_day []
 
--- a row for a duty whose last change is a waiver that ends
+-- a row for a duty if its last change is a waiver that ends
 unfoldable pub last_waiver : DutyLine → List ChangeRow → List ℕ
 last_waiver duty changes = option_map_or (waiver_row duty) (last_change changes) []
 
--- for each duty with its changes
+-- the same for each duty with its changes
 abbrev pub waiver_rows : List DutyLine → List (List ChangeRow) → List ℕ
 waiver_rows [] changes = []
 waiver_rows (duty ∷ duties) [] = []

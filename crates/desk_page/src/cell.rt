@@ -15,13 +15,13 @@ use std::alloc::{AllocError, Global};
 pub(crate) enum Cell<'a> {
     /// A name of the row.
     Name(&'a str),
-    /// A duty that names the row, to which others lead.
+    /// A duty that names the row, and that others link to.
     Anchor(u32),
-    /// A duty that names the row, and leads to the duty's own.
+    /// A duty that names the row, with a link to the duty's own row.
     Link(u32),
     Text(&'a str),
     Count(u64),
-    /// Licences, a line each.
+    /// Licences, one on each line.
     Rules(&'a [Text]),
     /// The end of the row: a text that keeps its lines.
     Last(&'a str),

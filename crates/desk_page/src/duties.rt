@@ -31,7 +31,7 @@ fn day_text(day: &Option<Day>) -> &str
     }
 }
 
-/// A day that is written as days are is shown as it is written.
+/// A day in the form of days is shown as it is written.
 pub fn written_days_are_shown()
     ensures { (day : List ℕ) → IsTrue (is_day day) → day_text (Some day) ≡ day }
 {}
@@ -103,7 +103,7 @@ fn add_waiver(
     }
 }
 
-// Adds the row of a duty whose last change is a waiver that ends.
+// Adds a row for a duty if its last change is a waiver that ends.
 #[tactic(auto, unfolding(crate::specs::Rows::last_waiver))]
 fn add_last_waiver(
     alloc: Global,
@@ -121,7 +121,7 @@ fn add_last_waiver(
 }
 
 /// Adds a row for each duty whose last change is a waiver that ends. The changes of each duty are
-/// given in its place.
+/// at the duty's own index.
 pub(crate) fn add_waivers(
     alloc: Global,
     text: &mut String,

@@ -13,7 +13,7 @@ fn is_noncharacter(ch: char) -> bool
     (0xFDD0 <= code && code <= 0xFDEF) || 0xFFFE <= code % 0x1_0000
 }
 
-// Whether no text of a page may hold the character.
+// Whether a text of a page may not contain the character.
 fn is_barred(ch: char) -> bool
     ensures { result ≡ is_barred ch }
 {
@@ -44,8 +44,8 @@ pub(crate) fn add_escaped(text: &mut String, value: &str) -> Result<(), AllocErr
     Ok(())
 }
 
-/// An escaped text holds no markup: none of `<`, `>`, `"` and `'`, and each `&` begins one of the
-/// five references.
+/// An escaped text contains no markup: none of `<`, `>`, `"` and `'`, and each `&` begins one of
+/// the five references.
 pub fn escaped_texts_are_inert()
     ensures { (text : List ℕ) → IsInert (escaped text) }
 {}

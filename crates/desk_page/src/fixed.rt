@@ -64,7 +64,7 @@ pub(crate) fn style() -> &'static str
      #notices{break-before:page}}\n</style>\n</head>\n<body>\n<main>\n"
 }
 
-/// The contents, behind the form.
+/// The contents, after the form.
 #[tactic(auto, unfolding(crate::specs::Fixed::contents))]
 pub(crate) fn contents() -> &'static str
     ensures { result.now ≡ contents }
@@ -102,7 +102,7 @@ pub(crate) fn section_end() -> &'static str
     "</section>\n"
 }
 
-/// The end of a page, behind the notices.
+/// The end of a page, after the notices.
 #[tactic(auto, unfolding(crate::specs::Fixed::page_end))]
 pub(crate) fn page_end() -> &'static str
     ensures { result.now ≡ page_end }

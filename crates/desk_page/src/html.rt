@@ -27,7 +27,7 @@ fn add_heading(text: &mut String, bill: &Bill) -> Result<(), AllocError>
     add_framed(text, "<p>It ships as ", bill.form.as_str(), contents())
 }
 
-// Adds rows below the names of their columns, or a word that there are none.
+// Adds rows below the names of their columns, or a note that there are none.
 fn add_listing(text: &mut String, names: &str, rows: &str) -> Result<(), AllocError>
     ensures { OnOk result (string_bytes text.new
         ≡ string_bytes text.old ++ listing names.now rows.now) }
@@ -88,7 +88,7 @@ fn add_licence_section(
     add_section(text, Table::Licences, rows.as_str())
 }
 
-// Adds how many duties are in which state, what ships, and the duties of each licence.
+// Adds how many duties are in each state, what ships, and the duties of each licence.
 #[tactic(auto, unfolding(crate::specs::Page::overview))]
 fn add_overview(
     alloc: Global,
@@ -195,10 +195,10 @@ fn add_notices(text: &mut String, texts: &[BillText]) -> Result<(), AllocError>
     text.push_str(page_end())
 }
 
-/// The page of a frozen release, as HTML in UTF-8: its name and form; how many duties are in which
+/// The page of a frozen release, as HTML in UTF-8: its name and form; how many duties are in each
 /// state; its packages with their version, licences and copyright; the duties of each licence, and
 /// one by one; the waivers that end; the changes; and the notices. `changes` has the changes of
-/// each duty, by step, in the place of the duty in `duties`.
+/// each duty, by step, at the index that the duty has in `duties`.
 #[tactic(auto, unfolding(crate::specs::Page::page_text))]
 pub fn page(
     alloc: Global,

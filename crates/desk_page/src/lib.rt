@@ -1,15 +1,15 @@
-//! The page of a frozen release, to be read and printed: one HTML file with no script, which asks
-//! for nothing from elsewhere.
+//! The page of a frozen release, to be read and printed: one HTML file with no script, which loads
+//! nothing from elsewhere.
 //!
-//! - `page` writes it of what the desk answers: the notices' bill, the totals, the duties and the
+//! - `page` writes it from the desk's answers: the notices' bill, the totals, the duties and the
 //!   changes of each. Its bytes are a function of these (`specs/Page.antt`), made of rows
-//!   (`specs/Rows.antt`), cells (`specs/Cells.antt`, `specs/Pieces.antt`) and fixed texts (`specs/Fixed.antt`).
-//! - Each text is escaped (`specs/Escapes.antt`), and U+FFFD stands for a character that HTML
-//!   doesn't allow. `escaped_texts_are_inert` says that no text of the desk's can bring markup into
-//!   the page.
+//!   (`specs/Rows.antt`), cells (`specs/Cells.antt`, `specs/Pieces.antt`) and fixed texts
+//!   (`specs/Fixed.antt`).
+//! - Each text is escaped (`specs/Escapes.antt`), and U+FFFD replaces a character that HTML doesn't
+//!   allow. `escaped_texts_are_inert` says that no text of the desk can bring markup into the page.
 //!
-//! The lengths of bars are drawn by the numbers themselves (SVG), so that nothing is rounded. No
-//! memory left is the only error.
+//! The numbers themselves give the lengths of bars (SVG), so nothing is rounded. The only error is
+//! that no memory is left.
 #![tactic(auto)]
 
 mod cell;

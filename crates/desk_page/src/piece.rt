@@ -24,7 +24,7 @@ pub(crate) fn add_framed(
     text.push_str(after)
 }
 
-// Adds a number behind a fixed text.
+// Adds a number after a fixed text.
 fn add_number(alloc: Global, text: &mut String, before: &str, number: u64) -> Result<(), AllocError>
     ensures { OnOk result (string_bytes text.new
         ≡ string_bytes text.old ++ before.now ++ decimal number) }
@@ -50,7 +50,7 @@ pub(crate) fn add_counted(
     text.push_str(after)
 }
 
-/// Fixed texts round two numbers.
+/// The fixed texts around two numbers.
 #[derive(Clone, Copy)]
 pub(crate) struct Frame<'a> {
     pub before: &'a str,

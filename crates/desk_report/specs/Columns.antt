@@ -5,7 +5,7 @@ use Rattle.unicode_width.specs.Width.{str_width}
 use Rattle.desk_model.specs.Names.{duty_state_name}
 use Rattle.desk_model.specs.declared.command.DutyLine.{DutyLine}
 
--- a question mark stands for a control byte
+-- a control byte is shown as a question mark
 abbrev pub shown_byte : ℕ → ℕ
 shown_byte b = if nat_lt b 32 || b == 127 then 63 else b
 
@@ -20,17 +20,17 @@ width text = str_width false (chars text)
 abbrev pub front_names : List (List ℕ)
 front_names = codes "number" ∷ codes "document" ∷ codes "package" ∷ codes "term" ∷ codes "rule" ∷ codes "code" ∷ codes "state" ∷ []
 
--- what stands in these of a duty
+-- the cells of a duty in these columns
 abbrev pub front_cells : DutyLine → List (List ℕ)
 front_cells line = decimal line.number ∷ decimal line.document ∷ line.package_id ∷ line.term ∷ line.rule ∷ line.code ∷ duty_state_name line.state ∷ []
 
--- the widths of columns that have these cells besides
+-- the widths of columns, widened for these cells
 abbrev pub widened : List ℕ → List (List ℕ) → List ℕ
 widened [] cells = []
 widened (w ∷ ws) [] = []
 widened (w ∷ ws) (cell ∷ cells) = max w (width cell) ∷ widened ws cells
 
--- the widths of columns that have the cells of these duties besides
+-- the widths of columns, widened for the cells of these duties
 abbrev pub widths_with : List ℕ → List DutyLine → List ℕ
 widths_with ws [] = ws
 widths_with ws (line ∷ lines) = widths_with (widened ws (front_cells line)) lines
@@ -39,7 +39,7 @@ widths_with ws (line ∷ lines) = widths_with (widened ws (front_cells line)) li
 abbrev pub widths : List DutyLine → List ℕ
 widths lines = widths_with (map width front_names) lines
 
--- a cell, filled up to the width of its column, and two blanks
+-- a cell, padded to the width of its column, and two blanks
 abbrev pub filled : ℕ → List ℕ → List ℕ
 filled w cell = shown cell ++ replicate (w - width cell + 2) 32
 
@@ -48,7 +48,7 @@ front_text [] cells = []
 front_text (w ∷ ws) [] = []
 front_text (w ∷ ws) (cell ∷ cells) = filled w cell ++ front_text ws cells
 
--- a row: the last column needs no blanks
+-- a row: the last cell is not padded
 abbrev pub row_line : List ℕ → List (List ℕ) → List ℕ → List ℕ
 row_line ws cells last = front_text ws cells ++ last ++ 10 ∷ []
 

@@ -13,7 +13,8 @@ record_text fields = row_text default_writer fields
 abbrev pub column_names : List (List ℕ)
 column_names = codes "number" ∷ codes "document" ∷ codes "package" ∷ codes "term" ∷ codes "rule" ∷ codes "code" ∷ codes "state" ∷ codes "since" ∷ []
 
--- the fields of a duty behind its numbers; that of the day is empty where there is none, which no recorded history gives
+-- the fields of a duty after its numbers; the day's is empty if there is none, which no recorded history
+-- gives
 abbrev pub cells_behind : DutyLine → List (List ℕ)
 cells_behind line = line.package_id ∷ line.term ∷ line.rule ∷ line.code ∷ duty_state_name line.state ∷ unwrap_or line.day [] ∷ []
 

@@ -8,21 +8,21 @@ use Rattle.desk_model.specs.declared.row.ChangeRow.{ChangeRow}
 abbrev pub counted : List ℕ → ℕ → List ℕ
 counted word count = word ++ codes " " ++ decimal count
 
--- how many duties were raised, and how many of these stand where
+-- how many duties were raised, and how many of these are in each state
 abbrev pub totals_line : Totals → List ℕ
 totals_line t = counted (codes "raised") t.raised ++ counted (codes " open") t.still_open ++ counted (codes " met") t.met
     ++ counted (codes " waived") t.waived ++ counted (codes " withdrawn") t.withdrawn ++ codes "\n"
 
--- a word behind a blank
+-- a word after a blank
 abbrev pub spaced : List ℕ → List ℕ
 spaced word = 32 ∷ word
 
--- the last day of a waiver that ends
+-- `until` and the last day of a waiver that ends, each after a blank
 abbrev pub until : Option (List ℕ) → List ℕ
 until None = []
 until (Some day) = spaced (codes "until") ++ spaced day
 
--- the text of a change, if it isn't empty
+-- the text of a change after a blank, or nothing if the text is empty
 abbrev pub behind : List ℕ → List ℕ
 behind [] = []
 behind (b ∷ more) = spaced (b ∷ more)

@@ -19,27 +19,27 @@ heading bill = framed (codes "Notices for ") bill.release (codes " ") ++ framed 
 unfoldable pub name_line : BillLine → List ℕ
 name_line line = line.name ++ option_map_or spaced line.version [] ++ codes "\n"
 
--- a rule of its terms
+-- the line of a rule of its terms
 abbrev pub rule_line : List ℕ → List ℕ
 rule_line rule = framed (codes "Licence: ") rule (codes "\n")
 
--- its copyright, if the document gives one
+-- the line of its copyright, or `none given` if the document gives none
 unfoldable pub copyright_line : Option (List ℕ) → List ℕ
 copyright_line copyright = framed (codes "Copyright: ") (unwrap_or copyright (codes "none given")) (codes "\n")
 
--- what is said of a package, behind an empty line
+-- the notice of a package, after an empty line
 unfoldable pub package_notice : BillLine → List ℕ
 package_notice line = codes "\n" ++ name_line line ++ flat_map rule_line line.rules ++ copyright_line line.copyright
 
--- a body with a line feed at its end, which is added if it has none
+-- a body that ends with a line feed, which is added if it has none
 abbrev pub ended : List ℕ → List ℕ
 ended body = if ends_with nat_eq body (codes "\n") then body else body ++ codes "\n"
 
--- the body of a text, if one is recorded
+-- the body of a text, or a line that none is recorded
 abbrev pub body_text : Option (List ℕ) → List ℕ
 body_text body = option_map_or ended body (codes "No text recorded.\n")
 
--- a text behind its title and an empty line
+-- a text after an empty line and its title
 abbrev pub text_notice : BillText → List ℕ
 text_notice text = framed (codes "\n---- ") text.title (codes " ----\n") ++ body_text text.body
 

@@ -17,7 +17,7 @@ fn add_word(text: &mut Vec<u8>, word: &[u8]) -> Result<(), AllocError>
     text.extend_from_slice(word)
 }
 
-// Adds the last day of a waiver that ends.
+// Adds `until` and the last day of a waiver that ends.
 fn add_until(text: &mut Vec<u8>, last_day: &Option<Day>) -> Result<(), AllocError>
     ensures { OnOk result (text.new.items ≡ text.old.items ++ until last_day.now) }
 {
@@ -30,7 +30,7 @@ fn add_until(text: &mut Vec<u8>, last_day: &Option<Day>) -> Result<(), AllocErro
     }
 }
 
-// Adds the text of a change that has one.
+// Adds the text of a change after a blank, if it isn't empty.
 fn add_body(text: &mut Vec<u8>, body: &Text) -> Result<(), AllocError>
     ensures { OnOk result (text.new.items ≡ text.old.items ++ behind body.now) }
 {
@@ -63,7 +63,7 @@ fn add_change(alloc: Global, text: &mut Vec<u8>, change: &ChangeRow) -> Result<(
 }
 
 /// A line for each change, ended by LF: its step, its day and its word, `until` and the last day of
-/// a waiver that ends, and the change's text where it is not empty, one blank apart.
+/// a waiver that ends, and the change's text if it isn't empty, with one blank between them.
 pub fn changes_text(alloc: Global, changes: &[ChangeRow]) -> Result<Vec<u8>, AllocError>
     ensures { IfOk result (λ text. text.items ≡ flat_map change_text changes.now) }
 {

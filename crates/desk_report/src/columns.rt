@@ -8,7 +8,7 @@ use desk_model::DutyLine;
 use std::alloc::{AllocError, Global};
 use unicode_width::UnicodeWidthStr;
 
-/// How many blanks stand between two columns.
+/// How many blanks there are between two columns.
 const GAP: usize = 2;
 
 /// The names of the columns before the last.
@@ -16,7 +16,7 @@ const FRONT_NAMES: [&str; 7] = [
     "number", "document", "package", "term", "rule", "code", "state",
 ];
 
-// A byte as a terminal is to show it.
+// A byte as a terminal shows it.
 fn shown_byte(byte: u8) -> u8
     ensures { result ≡ shown_byte byte }
 {
@@ -30,7 +30,7 @@ pub fn width(text: &str) -> usize
     text.width()
 }
 
-// What stands before the last column of a duty, whose numbers are written already.
+// The cells of a duty before the last column; its numbers are written already.
 fn front_cells<'a>(number: &'a str, document: &'a str, line: &'a DutyLine) -> [&'a str; 7]
     ensures { number.now ≡ decimal line.now.number → document.now ≡ decimal line.now.document
         → map (λ cell. cell.now) result ≡ front_cells line.now }
@@ -58,7 +58,7 @@ fn widths_of(alloc: Global, texts: &[&str]) -> Result<Vec<usize>, AllocError>
     Ok(widths)
 }
 
-// Adds the widths of columns that have these cells besides.
+// Adds the widths of columns, widened for these cells.
 fn add_widened(found: &mut Vec<usize>, widths: &[usize], cells: &[&str]) -> Result<(), AllocError>
     ensures { OnOk result (found.new.items
         ≡ found.old.items ++ widened widths.now (map (λ cell. cell.now) cells.now)) }
@@ -75,7 +75,7 @@ fn add_widened(found: &mut Vec<usize>, widths: &[usize], cells: &[&str]) -> Resu
     }
 }
 
-// The widths of columns that have the cells of a duty besides.
+// The widths of columns, widened for the cells of a duty.
 fn widened(alloc: Global, widths: &[usize], line: &DutyLine) -> Result<Vec<usize>, AllocError>
     ensures { IfOk result (λ found. found.items ≡ widened widths.now (front_cells line.now)) }
 {
@@ -100,7 +100,7 @@ fn widths(alloc: Global, lines: &[DutyLine]) -> Result<Vec<usize>, AllocError>
     Ok(found)
 }
 
-/// Adds a text as a terminal is to show it.
+/// Adds a text as a terminal shows it.
 pub fn add_shown(text: &mut Vec<u8>, cell: &str) -> Result<(), AllocError>
     ensures { OnOk result (text.new.items ≡ text.old.items ++ shown cell.now) }
 {
@@ -110,7 +110,7 @@ pub fn add_shown(text: &mut Vec<u8>, cell: &str) -> Result<(), AllocError>
     Ok(())
 }
 
-// Adds so many blanks.
+// Adds this many blanks.
 fn add_blanks(text: &mut Vec<u8>, count: usize) -> Result<(), AllocError>
     ensures { OnOk result (text.new.items ≡ text.old.items ++ replicate count 32) }
 {
@@ -120,7 +120,7 @@ fn add_blanks(text: &mut Vec<u8>, count: usize) -> Result<(), AllocError>
     Ok(())
 }
 
-/// Adds a cell that is filled up to the width of its column, and two blanks.
+/// Adds a cell padded to the width of its column, and two blanks.
 pub fn add_filled(text: &mut Vec<u8>, wide: usize, cell: &str) -> Result<(), AllocError>
     ensures { OnOk result (text.new.items ≡ text.old.items ++ filled wide cell.now) }
 {
@@ -129,7 +129,7 @@ pub fn add_filled(text: &mut Vec<u8>, wide: usize, cell: &str) -> Result<(), All
     add_blanks(text, GAP)
 }
 
-// Adds cells, each filled up to the width of its column.
+// Adds cells, each padded to the width of its column.
 fn add_front(text: &mut Vec<u8>, widths: &[usize], cells: &[&str]) -> Result<(), AllocError>
     ensures { OnOk result (text.new.items
         ≡ text.old.items ++ front_text widths.now (map (λ cell. cell.now) cells.now)) }
@@ -179,8 +179,8 @@ fn add_duty(
 }
 
 /// The table of duties as a terminal shows it: the names of the columns, as in `duties_csv`, and a
-/// row for each duty, each ended by LF. A column is as wide as its widest text, and two blanks
-/// stand before the next. A question mark stands for a control byte.
+/// row for each duty, each ended by LF. A column is as wide as its widest text, with two blanks
+/// before the next one. A control byte is shown as a question mark.
 #[tactic(auto, unfolding(crate::specs::Columns::columns_text))]
 pub fn duties_columns(alloc: Global, lines: &[DutyLine]) -> Result<Vec<u8>, AllocError>
     ensures { IfOk result (λ text. text.items ≡ columns_text lines.now) }

@@ -1,4 +1,4 @@
-//! The texts that an office hands out of the rows of an answer.
+//! The texts that an office makes from the rows of an answer.
 //!
 //! - `notices` is the text that goes with a frozen release: its packages with the licences and the
 //!   copyright of each, then the texts of these licences (`specs/Notices.antt`).
@@ -6,10 +6,10 @@
 //!   by `csv`: a row of names and one for each duty, each ended by LF (`specs/CsvTable.antt`).
 //!   `duties_columns` is the same table laid out for a terminal (`specs/Columns.antt`).
 //! - `add_shown`, `add_filled` and `add_record` add cells and records to tables of other rows.
-//! - `totals_text` counts the duties by where they are, in one line, and `changes_text` has a line
-//!   for each change of a duty (`specs/Lines.antt`).
+//! - `totals_text` counts the duties in each state, in one line, and `changes_text` has a line for
+//!   each change of a duty (`specs/Lines.antt`).
 //!
-//! No memory left is the only error.
+//! The only error is that no memory is left.
 #![tactic(auto)]
 
 mod changes;

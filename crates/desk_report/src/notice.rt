@@ -24,7 +24,7 @@ fn add_framed(
     text.extend_from_slice(after)
 }
 
-// Adds the line of the release and its form.
+// Adds the line of the release and the form in which it ships.
 fn add_heading(text: &mut Vec<u8>, bill: &Bill) -> Result<(), AllocError>
     ensures { OnOk result (text.new.items ≡ text.old.items ++ heading bill.now) }
 {
@@ -66,7 +66,7 @@ fn add_copyright(text: &mut Vec<u8>, copyright: &Option<Text>) -> Result<(), All
     }
 }
 
-// Adds what is said of a package.
+// Adds the notice of a package.
 #[tactic(auto, unfolding(crate::specs::Notices::package_notice))]
 fn add_package(text: &mut Vec<u8>, line: &BillLine) -> Result<(), AllocError>
     ensures { OnOk result (text.new.items ≡ text.old.items ++ package_notice line.now) }
@@ -77,7 +77,7 @@ fn add_package(text: &mut Vec<u8>, line: &BillLine) -> Result<(), AllocError>
     add_copyright(text, &line.copyright)
 }
 
-// Adds what is said of each package.
+// Adds the notice of each package.
 fn add_packages(text: &mut Vec<u8>, lines: &[BillLine]) -> Result<(), AllocError>
     ensures { OnOk result (text.new.items ≡ text.old.items ++ flat_map package_notice lines.now) }
 {
@@ -109,7 +109,7 @@ fn add_body(text: &mut Vec<u8>, body: &Option<Text>) -> Result<(), AllocError>
     }
 }
 
-// Adds a text behind its title.
+// Adds a text after its title.
 fn add_text(text: &mut Vec<u8>, given: &BillText) -> Result<(), AllocError>
     ensures { OnOk result (text.new.items ≡ text.old.items ++ text_notice given.now) }
 {
@@ -165,7 +165,7 @@ fn texts_room(texts: &[BillText]) -> usize {
     room
 }
 
-// An empty text with room for about all that a bill comes to, so that it hardly moves as it grows.
+// An empty text with room for about all that a bill needs, so that it is seldom moved as it grows.
 fn with_room(alloc: Global, bill: &Bill) -> Result<Vec<u8>, AllocError>
     ensures { IfOk result (λ text. text.items ≡ []) }
 {
@@ -174,11 +174,11 @@ fn with_room(alloc: Global, bill: &Bill) -> Result<Vec<u8>, AllocError>
     Vec::with_capacity(alloc, packages.saturating_add(texts))
 }
 
-/// The notices of a frozen release. `Notices for RELEASE (FORM)`; then for each package, behind an
+/// The notices of a frozen release. `Notices for RELEASE (FORM)`; then for each package, after an
 /// empty line, its name and its version, `Licence: RULE` for each rule of its terms and
-/// `Copyright: ` with its copyright, or `none given`; then for each text, behind an empty line,
-/// `---- TITLE ----` and its body, or `No text recorded.`. Each line is ended by LF, the last of a
-/// body too.
+/// `Copyright: ` with its copyright, or `none given`; then for each text, after an empty line,
+/// `---- TITLE ----` and its body, or `No text recorded.`. Each line is ended by LF, including the
+/// last one of a body.
 pub fn notices(alloc: Global, bill: &Bill) -> Result<Vec<u8>, AllocError>
     ensures { IfOk result (λ text. text.items ≡ notices_text bill.now) }
 {

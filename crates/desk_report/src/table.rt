@@ -25,12 +25,12 @@ pub fn add_record<W: Write + Drop>(
 {
     match writer.write_fields(fields) {
         Ok(()) => Ok(()),
-        // The records have one length, so that memory is all that can fail.
+        // All records have the same length, so only memory can run out.
         Err(_) => Err(AllocError),
     }
 }
 
-// The day as it is written, and an empty field where there is none.
+// The day as it is written, or an empty field if there is none.
 pub(crate) fn day_cell(day: &Option<Day>) -> &[u8]
     ensures { result.now ≡ unwrap_or day.now [] }
 {
@@ -40,7 +40,7 @@ pub(crate) fn day_cell(day: &Option<Day>) -> &[u8]
     }
 }
 
-// The fields of a duty, whose numbers are written already.
+// The fields of a duty; its numbers are written already.
 fn cells<'a>(number: &'a [u8], document: &'a [u8], line: &'a DutyLine) -> [&'a [u8]; 8]
     ensures { map (λ field. field.now) result ≡ number.now ∷ document.now ∷ cells_behind line.now }
 {
@@ -58,7 +58,7 @@ fn cells<'a>(number: &'a [u8], document: &'a [u8], line: &'a DutyLine) -> [&'a [
     ]
 }
 
-// The record of a duty.
+// Adds the record of a duty.
 fn add_duty<W: Write + Drop>(
     alloc: Global,
     writer: &mut Writer<W>,
@@ -78,7 +78,7 @@ fn add_duty<W: Write + Drop>(
     add_record(writer, &fields)
 }
 
-// The record of the columns' names.
+// Adds the record of the columns' names.
 fn add_names<W: Write + Drop>(writer: &mut Writer<W>) -> Result<(), AllocError>
     requires { is_between_rows writer.old }
     ensures bytes { OnOk result
@@ -101,8 +101,8 @@ fn add_names<W: Write + Drop>(writer: &mut Writer<W>) -> Result<(), AllocError>
 
 /// The table of duties as comma-separated values (RFC 4180): a record of the columns' names,
 /// `number`, `document`, `package`, `term`, `rule`, `code`, `state` and `since`, and one for each
-/// duty, `since` being the day of its last change. Each record is ended by LF, and a field stands
-/// in quotes only where it holds a comma, a quote or a line end.
+/// duty; `since` is the day of its last change. Each record is ended by LF, and a field is in
+/// quotes only if it has a comma, a quote or a line end.
 pub fn duties_csv(alloc: Global, lines: &[DutyLine]) -> Result<Vec<u8>, AllocError>
     ensures { IfOk result (λ text. text.items ≡ table_text lines.now) }
 {

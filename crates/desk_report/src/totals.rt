@@ -16,7 +16,7 @@ fn add_count(alloc: Global, text: &mut String, word: &str, count: u64) -> Result
     text.push_str(counted.as_str())
 }
 
-/// How many duties of a release were raised, and how many stand where:
+/// How many duties of a release were raised and how many are in each state:
 /// `raised N open N met N waived N withdrawn N`, ended by LF.
 pub fn totals_text(alloc: Global, totals: &Totals) -> Result<String, AllocError>
     ensures { IfOk result (λ text. string_bytes text ≡ totals_line totals.now) }

@@ -14,7 +14,7 @@ either : (b c : Bool) → cond b true c ≡ (b || c)
 either true c = refl
 either false c = refl
 
--- one text more
+-- one more text
 one_more : (v : Bor (List ℕ)) (old new : BTreeSet (Bor (List ℕ))) → UpdatesBy borrowed_cmp (borrowed_cmp v) old new true → (q : List ℕ) → has_text new q ≡ (bytes_eq v.now q || has_text old q)
 one_more v old new h q =
     h.0 (record v { now = q }) ∙ ap (λ b. cond b true (has_text old q)) (is_eq-slice_cmp v.now q) ∙ either (bytes_eq v.now q) (has_text old q)
@@ -24,7 +24,7 @@ or_moves true true c = refl
 or_moves true false c = refl
 or_moves false b c = refl
 
--- a text goes from those to come to those in the set
+-- a text moves from those that are still to come to those in the set
 pub set_step : (listed : List (Bor (List ℕ))) (i : ℕ) (v : Bor (List ℕ)) (old new : BTreeSet (Bor (List ℕ))) → i < length listed → UpdatesBy borrowed_cmp (borrowed_cmp (get_or listed i v)) old new true
     → (q : List ℕ) → (is_among (texts (drop (i + 1) listed)) q || has_text new q) ≡ (is_among (texts (drop i listed)) q || has_text old q)
 set_step listed i v old new within h q =

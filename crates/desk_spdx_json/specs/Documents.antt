@@ -1,5 +1,5 @@
--- The steps of a document: its own fields, the files, the packages, the extracted licences, the relationships. A file stands before
--- the packages, so it belongs to one by its relationships alone.
+-- The steps of a document: its own fields, the files, the packages, the extracted licences, the
+-- relationships. Files come before packages, so only relationships say to which package a file belongs.
 use Rattle.std.specs.Prelude.{ℕ, Bool, ◌&&◌, List, [], ◌∷◌, ◌++◌, Option, Some, None, option_and_then, is_some, false, codes, if◌then◌else◌}
 use Rattle.std.specs.List.{list_any}
 use Rattle.std.specs.Str.{bytes_eq}
@@ -25,12 +25,12 @@ all_parts part at key d = if_array (part_steps part) (member_at at key) (get key
 abbrev pub document_id : List ℕ
 document_id = codes "SPDXRef-DOCUMENT"
 
--- a relationship says that the document describes an element
+-- whether a relationship says that the document describes an element
 abbrev pub is_describing : Data → Bool
 is_describing d =
     bytes_eq (word_in (codes "spdxElementId") d) document_id && bytes_eq (word_in (codes "relationshipType") d) (codes "DESCRIBES")
 
--- this element
+-- this element, if the relationship says so
 abbrev pub target_of : Data → List (List ℕ)
 target_of d = if is_describing d then word_in (codes "relatedSpdxElement") d ∷ [] else []
 

@@ -15,7 +15,7 @@ pub record MemberText : Type 0 where
 abbrev pub member_text : Member → MemberText
 member_text m = record { key = m.key.now; form = m.form; is_needed = m.is_needed }
 
--- a member that must be there, and one that needn't be
+-- a required member, and an optional one
 abbrev pub needed : List ℕ → Form → MemberText
 needed key form = record { key = key; form = form; is_needed = true }
 

@@ -66,13 +66,13 @@ abbrev pub tie_step : List ℕ → List ℕ → List ℕ → Option (List ℕ) �
 tie_step at left kind None = step at bad_type
 tie_step at left kind (Some right) = if is_word right then step at (put (relationship_line left kind right)) else step at bad_value
 
--- the package CONTAINS a file that it has
+-- the relationship by which a package CONTAINS a file that it lists
 abbrev pub contained_steps : List ℕ → List ℕ → Data → List StepText
 contained_steps owner at d = tie_step at owner (codes "CONTAINS") (as_str d) ∷ []
 
 -- ---- parts
 
--- packages, files and extracted licences stand behind a blank line
+-- packages, files and extracted licences come after a blank line
 abbrev pub part_steps : Part → List ℕ → Data → List StepText
 part_steps parts.Package at d =
     step [] (put blank)

@@ -33,24 +33,24 @@ text_steps tag at d = line_step at (one_line tag) (as_str d) ∷ []
 
 -- ---- arrays, by the steps of an item
 
--- those of each item, from the one with number i
+-- the steps of each item; the first one here has the number i
 abbrev pub items_steps : (List ℕ → Data → List StepText) → List ℕ → ℕ → Items → List StepText
 items_steps steps at i no_items = []
 items_steps steps at i (item d ds) = steps (item_at at i) d ++ items_steps steps at (i + 1) ds
 
--- if the value is an array
+-- the steps of the items of an array, or a fault if the value is none
 abbrev pub in_array : (List ℕ → Data → List StepText) → List ℕ → Option Items → List StepText
 in_array steps at None = step at bad_type ∷ []
 in_array steps at (Some ds) = items_steps steps at 0 ds
 
--- if there is a value
+-- the same, or no steps if there is no value
 abbrev pub if_array : (List ℕ → Data → List StepText) → List ℕ → Option Data → List StepText
 if_array steps at None = []
 if_array steps at (Some d) = in_array steps at (as_array d)
 
 -- ---- values that are composed of several members
 
--- what is wrong with a member that must be a text of a form
+-- what is wrong with a member that must be a text that passes a test
 abbrev pub text_fault : List ℕ → (List ℕ → Bool) → Option (List ℕ) → List StepText
 text_fault at test None = step at bad_type ∷ []
 text_fault at test (Some text) = if test text then [] else step at bad_value ∷ []
@@ -62,7 +62,7 @@ found_fault at (Some d) = text_fault at is_word (as_str d)
 abbrev pub word_fault : List ℕ → List ℕ → Data → List StepText
 word_fault at key d = found_fault (member_at at key) (get key d)
 
--- its text, or nothing
+-- a text, or an empty one if there is none
 abbrev pub text_or_empty : Option (List ℕ) → List ℕ
 text_or_empty text = unwrap_or text []
 
@@ -77,7 +77,7 @@ abbrev pub checksum_steps : Tag → List ℕ → Data → List StepText
 checksum_steps tag at d =
     word_fault at (codes "algorithm") d ++ (word_fault at (codes "checksumValue") d ++ step at (put (checksum_line tag d)) ∷ [])
 
--- the names of the files that a verification code excludes (clause 7.9)
+-- what is wrong with the name of a file that a verification code excludes (clause 7.9)
 abbrev pub name_fault : List ℕ → Data → List StepText
 name_fault at d = text_fault at is_name (as_str d)
 
@@ -105,7 +105,7 @@ code_steps at tag d =
     word_fault at (codes "packageVerificationCodeValue") d
     ++ (if_array name_fault (member_at at (codes "packageVerificationCodeExcludedFiles")) (names_in d) ++ step at (put (code_line tag d)) ∷ [])
 
--- ---- what is left out: each item of an array, and a value of another type once
+-- ---- what is left out: each item of an array, or any other value as one
 abbrev pub left_items : Kind → Items → List StepText
 left_items kind no_items = []
 left_items kind (item d ds) = step [] (left_out kind) ∷ left_items kind ds

@@ -16,7 +16,7 @@ use std::alloc::{AllocError, Global};
 
 const EXCLUDED_FILES: &str = "packageVerificationCodeExcludedFiles";
 
-/// The text of a member, or nothing.
+/// The text of a member, or an empty one.
 pub(crate) fn word_in<'a>(value: &'a Value, key: &str) -> &'a str
     ensures { result.now ≡ word_in key.now (view value.now) }
 {
@@ -96,14 +96,14 @@ fn names_in(value: &Value) -> Option<&Value>
     value.get(EXCLUDED_FILES)
 }
 
-// The text of a value, or nothing.
+// The text of a value, or an empty one.
 fn text_or_empty(value: &Value) -> &str
     ensures { result.now ≡ text_or_empty (as_str (view value.now)) }
 {
     value.as_str().unwrap_or("")
 }
 
-// The names behind the first.
+// The names after the first.
 fn more_names(alloc: Global, list: &[Value]) -> Result<String, AllocError>
     ensures { IfOk result (λ s. string_bytes s ≡ more_names (items_view list.now)) }
 {
@@ -115,7 +115,7 @@ fn more_names(alloc: Global, list: &[Value]) -> Result<String, AllocError>
     Ok(text)
 }
 
-// The names of a list, as they stand behind a verification code.
+// The names of a list, as they are written after a verification code.
 fn names_text(alloc: Global, list: &[Value]) -> Result<String, AllocError>
     ensures { IfOk result (λ s. string_bytes s ≡ names_text (items_view list.now)) }
 {
@@ -128,7 +128,7 @@ fn names_text(alloc: Global, list: &[Value]) -> Result<String, AllocError>
     }
 }
 
-// What stands behind a verification code.
+// What is written after a verification code.
 fn excluded_text(alloc: Global, value: &Value) -> Result<String, AllocError>
     ensures { IfOk result (λ s. string_bytes s
         ≡ excluded_text (option_and_then as_array (names_in (view value.now)))) }

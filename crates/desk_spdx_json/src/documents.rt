@@ -20,7 +20,7 @@ use std::collections::BTreeSet;
 
 const DOCUMENT_ID: &str = "SPDXRef-DOCUMENT";
 
-// Adds how the document was made.
+// Adds how the document was created.
 fn add_creation<'a>(
     alloc: Global,
     steps: &mut Steps<'a>,
@@ -110,7 +110,7 @@ fn set_of<'a>(alloc: Global, listed: &[&'a str]) -> Result<BTreeSet<&'a str>, Al
     Ok(set)
 }
 
-// Adds that the document describes an element, unless that is listed.
+// Adds that the document describes an element, unless the set has that element.
 fn add_described(
     alloc: Global,
     steps: &mut Steps<'_>,
@@ -197,7 +197,7 @@ fn add_document<'a>(
     add_list(alloc, steps, Part::Relationship, at, "relationships", value)
 }
 
-// Adds the steps of a document, or of one in the member `sbom`.
+// Adds the steps of a document, or of the one in its member `sbom`.
 fn add_steps<'a>(alloc: Global, steps: &mut Steps<'a>, value: &'a Value) -> Result<(), AllocError>
     ensures { OnOk result (steps.new ≡ steps.old ++ document_steps (view value.now)) }
 {
@@ -210,7 +210,7 @@ fn add_steps<'a>(alloc: Global, steps: &mut Steps<'a>, value: &'a Value) -> Resu
     }
 }
 
-/// The steps of a document, in the order of the lines. `AllocError`: memory ran out.
+/// The steps of a document, in the order of the lines, or `AllocError` if no memory is left.
 pub fn document_steps<'a>(alloc: Global, value: &'a Value) -> Result<Steps<'a>, AllocError>
     ensures { IfOk result (λ steps. steps ≡ document_steps (view value.now)) }
 {

@@ -21,7 +21,7 @@ pub(crate) enum Item<'a> {
     /// A text, which is written on a line.
     Text(Tag),
     Checksum(Tag),
-    /// The name of a file that a verification code excludes, which is only tested.
+    /// The name of a file that a verification code excludes; it is only checked.
     Name,
     /// A file that a package has, by the id of the package.
     File(&'a str),

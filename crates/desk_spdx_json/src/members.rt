@@ -14,13 +14,13 @@ pub(crate) enum Form {
     Copyright(Tag),
     /// A boolean.
     Flag(Tag),
-    /// An array of texts, each on a line.
+    /// An array of texts, each on its own line.
     Texts(Tag),
     /// An array of checksums.
     Checksums(Tag),
     /// A package's verification code.
     Code(Tag),
-    /// Left out, each item of an array.
+    /// Left out, item by item if it is an array.
     LeftOut(Kind),
     /// Written elsewhere.
     Elsewhere,
@@ -34,7 +34,7 @@ pub(crate) struct Member {
     pub(crate) is_needed: bool,
 }
 
-// A member that must be there.
+// A required member.
 macro_rules! needed {
     ($key:literal, $form:expr) => {
         Member {
@@ -45,7 +45,7 @@ macro_rules! needed {
     };
 }
 
-// A member that needn't be there.
+// An optional member.
 macro_rules! perhaps {
     ($key:literal, $form:expr) => {
         Member {

@@ -110,7 +110,7 @@ fn leave_all_unknown(
     Ok(())
 }
 
-/// Adds the steps of an object that has some members.
+/// Adds the steps of an object that has these members.
 pub(crate) fn add_object<'a>(
     alloc: Global,
     steps: &mut Steps<'a>,
@@ -161,7 +161,7 @@ fn add_relationship<'a>(
     add_words(alloc, steps, at, value)
 }
 
-// Adds an object that has some members, behind a blank line.
+// Adds an object that has these members, after a blank line.
 fn add_element<'a>(
     alloc: Global,
     steps: &mut Steps<'a>,

@@ -17,7 +17,7 @@ pub enum Kind {
     Snippet,
     /// An annotation.
     Annotation,
-    /// A reference of a package to something outside, as a package URL.
+    /// A reference of a package to something outside, such as a package URL.
     ExternalReference,
     /// Any other member of an object.
     Field,
@@ -36,11 +36,11 @@ pub enum What<'a> {
     Composed(Tag, String),
     /// Something is left out.
     LeftOut(Kind),
-    /// A member that must be there isn't.
+    /// A required member is missing.
     Missing,
-    /// The value is of another type.
+    /// The value is of the wrong type.
     BadType,
-    /// The field can't hold the value.
+    /// The value can't be written in its field.
     BadValue,
 }
 

@@ -1,4 +1,4 @@
-//! Texts that a composed value can hold.
+//! Texts that a composed value can contain.
 
 ghost use Rattle.std.specs.Prelude.{◌≡◌, ◌==◌};
 ghost use Rattle.std.specs.List.{list_any};
@@ -25,14 +25,14 @@ fn has_comma(text: &str) -> bool
     text.as_bytes().iter().any(|byte| *byte == b',')
 }
 
-/// Whether a text is a word: some bytes, and no blank among them.
+/// Whether a text is a word: at least one byte, and no blank.
 pub(crate) fn is_word(text: &str) -> bool
     ensures { result ≡ is_word text.now }
 {
     !text.is_empty() && !has_blank(text)
 }
 
-/// Whether a text may stand in a list between commas.
+/// Whether a text can be written in a list, between commas.
 pub(crate) fn is_name(text: &str) -> bool
     ensures { result ≡ is_name text.now }
 {

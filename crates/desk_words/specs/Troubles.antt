@@ -15,7 +15,7 @@ use Rattle.desk_words.specs.declared.requests.RequestTrouble.TheVariants.{TooLon
 abbrev pub text_in : List ℕ → Data → Option (List ℕ)
 text_in key d = option_and_then as_str (get key d)
 
--- a number that a request may have
+-- a number, if a request may have it
 abbrev pub if_small : ℕ → Option ℕ
 if_small n = if nat_lt n (2 ^ 63) then Some n else None
 
@@ -23,7 +23,7 @@ if_small n = if nat_lt n (2 ^ 63) then Some n else None
 abbrev pub number_of : Data → Option ℕ
 number_of d = option_and_then if_small (option_and_then as_u64 (as_number d))
 
--- whether a list holds nothing but texts
+-- whether a list contains only texts
 abbrev pub are_texts : Items → Bool
 are_texts no_items = true
 are_texts (item d ds) = is_some (as_str d) && are_texts ds
@@ -32,14 +32,14 @@ abbrev pub are_texts_in : Option Items → Bool
 are_texts_in None = false
 are_texts_in (Some items) = are_texts items
 
--- whether a value is of the kind that a key wants
+-- whether a value is of the kind that a key needs
 abbrev pub is_wanted : Wanted → Data → Bool
 is_wanted Text d = is_some (as_str d)
 is_wanted Number d = is_some (number_of d)
 is_wanted Profile d = is_some (option_and_then profile_numbered (number_of d))
 is_wanted Texts d = are_texts_in (as_array d)
 
--- whether an object says what it asks for
+-- whether an object names a command or a question
 abbrev pub has_word : Data → Bool
 has_word d = is_some (text_in (codes "do") d) || is_some (text_in (codes "ask") d)
 
@@ -55,7 +55,7 @@ IsSoOf d (UnknownKey key) = get (string_bytes key) d ≢ None
 IsSoOf d (MissingKey key) = get key.now d ≡ None
 IsSoOf d (BadValue key wanted) = (value : Data) × (get key.now d ≡ Some value) × (is_wanted wanted value ≡ false)
 
--- where no trouble is found, the value is an object that says what it asks for
+-- if no trouble is found, the value is an object that names a command or a question
 abbrev pub IsFoundIn : Data → Option RequestTrouble → Type 0
 IsFoundIn d (Some trouble) = IsSoOf d trouble
 IsFoundIn d None = has_word d ≡ true
@@ -65,7 +65,7 @@ abbrev pub IsSo : List ℕ → RequestTrouble → Type 0
 IsSo bytes (NotJson byte) = IsUtf8 bytes → read bytes ≡ None
 IsSo bytes trouble = (d : Data) × (read bytes ≡ Some d) × IsSoOf d trouble
 
--- where no trouble is found, the line is such an object
+-- if no trouble is found, the line is such an object
 abbrev pub IsFound : List ℕ → Option RequestTrouble → Type 0
 IsFound bytes (Some trouble) = IsSo bytes trouble
 IsFound bytes None = (d : Data) × (read bytes ≡ Some d) × (has_word d ≡ true)

@@ -1,6 +1,6 @@
 //! The keys of each form of request.
 
-/// What stands behind a key.
+/// What the value of a key must be.
 #[derive(Clone, Copy, Debug, PartialEq, Eq)]
 pub enum Wanted {
     Text,
@@ -18,7 +18,7 @@ pub(crate) struct Key {
     pub(crate) is_optional: bool,
 }
 
-/// A form of request: the word that names it, and its keys beside that word's.
+/// A form of request: the word that names it, and its keys besides that of the word.
 #[derive(Clone, Copy)]
 pub(crate) struct Form {
     pub(crate) word: &'static str,
@@ -103,7 +103,7 @@ const UNTIL: Key = Key {
     is_optional: true,
 };
 
-/// The forms that a word behind `do` names.
+/// The forms that the value of `do` can name.
 pub(crate) const COMMANDS: [Form; 14] = [
     Form {
         word: "catalogue",
@@ -163,7 +163,7 @@ pub(crate) const COMMANDS: [Form; 14] = [
     },
 ];
 
-/// The forms that a word behind `ask` names.
+/// The forms that the value of `ask` can name.
 pub(crate) const QUERIES: [Form; 11] = [
     Form {
         word: "duties",
@@ -211,7 +211,7 @@ pub(crate) const QUERIES: [Form; 11] = [
     },
 ];
 
-/// The form that a word names, if it names one.
+/// The form that a word names, if there is one.
 pub(crate) fn form_named<'a>(word: &str, forms: &'a [Form]) -> Option<&'a Form> {
     for form in forms {
         if word == form.word {
@@ -222,7 +222,7 @@ pub(crate) fn form_named<'a>(word: &str, forms: &'a [Form]) -> Option<&'a Form> 
 }
 
 impl Form {
-    /// Whether the form has a key, besides the one of its word.
+    /// Whether the form has a key, besides that of its word.
     pub(crate) fn has(&self, name: &str) -> bool {
         self.keys.iter().any(|key| key.name == name)
     }

@@ -1,8 +1,8 @@
 //! Replies of the desk in words for people.
 //!
-//! - `RefusalWords` says a refusal with its fault and its place:
+//! - `RefusalWords` puts a refusal with its fault and its place into words:
 //!   `BadDocument: TooLarge, more than 4 MiB`.
-//! - `request_trouble` finds why a line is no request, and `RequestTrouble` says it
+//! - `request_trouble` finds why a line is no request, and `RequestTrouble` puts it into words
 //!   (`specs/Troubles.antt`).
 #![tactic(auto)]
 

@@ -146,7 +146,7 @@ impl fmt::Display for ExpressionWords<'_> {
     }
 }
 
-// Who is full, and of what it has how many at most.
+// What is full, how many it may have at most, and of what.
 fn fullness(limit: Limit) -> (&'static str, u64, &'static str) {
     match limit {
         Limit::Revisions => ("a desk", limits::REVISIONS, "revisions of the catalogue"),
@@ -164,7 +164,7 @@ fn write_full<W: fmt::Write>(limit: Limit, f: &mut fmt::Formatter<W>) -> fmt::Re
     write!(f, "{who} has {count} {what} at most")
 }
 
-// What is wrong where the refusal has no place.
+// What is wrong, for a refusal that has no place.
 fn plain_words(refusal: &Refusal) -> &'static str {
     match refusal {
         Refusal::UnknownDocument => "no document has this number",

@@ -20,17 +20,17 @@ pub enum RequestTrouble {
     /// It is too long to be one.
     #[error("the line is longer than a request may be")]
     TooLong,
-    /// It is no JSON: the byte at which that shows, from 1.
+    /// It is not JSON, as the byte with this number shows, counted from 1.
     #[error("it is no JSON, which shows at byte {0}")]
     NotJson(usize),
     #[error("it is no JSON object")]
     NotObject,
     #[error("it has neither the key do nor the key ask with a text")]
     NoWord,
-    /// The word behind `do` names no command.
+    /// The value of `do` names no command.
     #[error("the command {0:?} is not known")]
     UnknownCommand(String),
-    /// The word behind `ask` names no question.
+    /// The value of `ask` names no question.
     #[error("the question {0:?} is not known")]
     UnknownQuestion(String),
     /// A key that the form doesn't have.
@@ -39,7 +39,7 @@ pub enum RequestTrouble {
     /// A key that the form needs.
     #[error("the key {0} is missing")]
     MissingKey(&'static str),
-    /// A key with a value of another kind.
+    /// A key with a value of the wrong kind.
     #[error("the value of {0} is not {1}")]
     BadValue(&'static str, Wanted),
 }
@@ -72,7 +72,7 @@ fn number_of(value: &Value) -> Option<u64>
     value.as_u64().filter(|number| *number <= limits::NUMBER)
 }
 
-// Whether a list holds nothing but texts.
+// Whether a list contains only texts.
 fn are_texts(items: &[Value]) -> bool
     ensures { result ≡ are_texts (items_view items.now) }
 {
@@ -120,7 +120,7 @@ fn key_trouble(value: &Value, key: &Key) -> Option<RequestTrouble>
     }
 }
 
-// The first key of a form that is missing or has a value of another kind.
+// The first key of a form that is missing or has a value of the wrong kind.
 fn keys_trouble(value: &Value, form: &Form) -> Option<RequestTrouble>
     ensures { IfSome result (IsSoOf (view value.now)) }
 {
@@ -132,7 +132,7 @@ fn keys_trouble(value: &Value, form: &Form) -> Option<RequestTrouble>
     None
 }
 
-// The first key that a form doesn't have, beside that of its word.
+// The first key that a form doesn't have, besides that of its word.
 fn unknown_key(
     alloc: Global,
     value: &Value,
@@ -154,7 +154,7 @@ fn unknown_key(
     Ok(None)
 }
 
-// What is wrong in a form whose word stands behind this key.
+// What is wrong with a form whose word is the value of this key.
 fn form_trouble(
     alloc: Global,
     value: &Value,
@@ -213,7 +213,7 @@ fn value_trouble(alloc: Global, value: &Value) -> Result<Option<RequestTrouble>,
     }
 }
 
-/// Why the text of a line is no request, or `None` where nothing is found.
+/// Why the text of a line is no request, or `None` if nothing is found.
 pub fn request_trouble(alloc: Global, bytes: &[u8]) -> Result<Option<RequestTrouble>, AllocError>
     ensures { IfOk result (IsFound bytes.now) }
 {

@@ -5,7 +5,7 @@ use Rattle.desk_report.specs.Columns.{widened}
 use Rattle.desk_lists.proofs.Lists.{drop_item}
 use Rattle.desk_lists.proofs.columns.widths.Goals as goal
 
--- one row more
+-- one more row
 widened_more : (rows : List (List (List ℕ))) (i : ℕ) (row cells : List (List ℕ)) (before known after all : List ℕ) → i < length rows
     → row ≡ get_or rows i row → widths_with before (drop i rows) ≡ all → known ≡ before → cells ≡ row → after ≡ widened known cells
     → widths_with after (drop (i + 1) rows) ≡ all

@@ -5,7 +5,7 @@ use Rattle.desk_spdx_json.specs.Documents.{described_steps}
 use Rattle.desk_spdx_json.specs.Values.{items_steps}
 use Rattle.desk_spdx_json.proofs.documents.add_described_items.Given as goal
 
--- what was added, and what is still to come, is all
+-- what was added and what is still to come is everything
 abbrev pub invariant-loop-i : goal.invariant-loop-i
 invariant-loop-i l = (ids : List (List ℕ)) → IsSetOf ids l.listed
     → l.steps ++ items_steps (described_steps ids) l.at l.i (items_view (drop l.i l.list))

@@ -5,6 +5,6 @@ use Rattle.desk_spdx_json.specs.Members.{member_text}
 use Rattle.desk_spdx_json.specs.Parts.{member_steps}
 use Rattle.desk_spdx_json.proofs.parts.add_members.Given as goal
 
--- those so far were added
+-- the members so far were added
 abbrev pub invariant-loop-member : goal.invariant-loop-member
 invariant-loop-member l = l.steps ≡ l.initial.steps ++ flat_map (member_steps l.at (view l.value)) (map member_text (take l.member-index l.members))

@@ -4,7 +4,7 @@ use Rattle.desk_spdx_json.specs.Parts.{part_steps}
 use Rattle.desk_spdx_json.specs.Values.{items_steps}
 use Rattle.desk_spdx_json.proofs.parts.add_parts.Given as goal
 
--- what was added, and what is still to come, is all
+-- what was added and what is still to come is everything
 abbrev pub invariant-loop-i : goal.invariant-loop-i
 invariant-loop-i l =
     l.steps ++ items_steps (part_steps l.part) l.at l.i (items_view (drop l.i l.list))

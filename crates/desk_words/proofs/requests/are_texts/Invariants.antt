@@ -3,6 +3,6 @@ use Rattle.serde_json.specs.View.{items_view}
 use Rattle.desk_words.specs.Troubles.{are_texts}
 use Rattle.desk_words.proofs.requests.are_texts.Given as goal
 
--- those from the index on decide
+-- the items from the index on decide
 abbrev pub invariant-loop-item : goal.invariant-loop-item
 invariant-loop-item l = are_texts (items_view (drop l.item-index l.items)) ≡ are_texts (items_view l.items)
