@@ -1,4 +1,4 @@
--- What a stop left, opened again, shows the tables that stand in it.
+-- What a stop left, opened again, shows the tables that it holds.
 use Rattle.std.proofs.Common.{◌≡◌, ◌∙◌, sym, subst}
 use Rattle.sqlite.specs.State.{State}
 use Rattle.sqlite_catalog.proofs.ReadLemmas.{lists_once}

@@ -1,4 +1,4 @@
--- The tables of a history stand in the order that look-ups in a file rest on.
+-- The tables of a history are in the order that look-ups in a file rely on.
 use Rattle.std.proofs.Common.{◌≡◌, ◌∙◌, inl, inr, ℕ, ◌+◌, ◌≤◌, ◌<◌, Bool, true, false, List, [], ◌∷◌, map, length, refl, ap, sym, subst, arith}
 use Rattle.std.specs.Prelude.{nat_lt, nat_le, ◌==◌, ◌&&◌, ◌||◌}
 use Rattle.std.specs.List.{list_all, enumerate_from, flat_map}
@@ -48,7 +48,7 @@ at_most n m [] are there = absurd there
 at_most n m (k ∷ ks) are (inl e) = omega (arith, are.0, e)
 at_most n m (k ∷ ks) are (inr there) = omega (arith, at_most (n + 1) m ks are.1 there)
 
--- the number of a row is at most how many rows there are
+-- the number of a row is at most the number of rows
 within : {A : Type 0} (key : A → ℕ) (row : A) (rows : List A) → AreNumbered 1 (map key rows) → IsIn row rows → key row ≤ length rows
 within key row rows are m = omega (arith, at_most 1 (key row) (map key rows) are (in_map key row rows m), length-map rows key)
 

@@ -1,4 +1,4 @@
--- What a stop leaves of the desk of no command, and of one that is adopted.
+-- What a stop leaves of the empty desk, and of one that is adopted.
 use Rattle.std.proofs.Common.{[], ⊎_elim}
 use Rattle.std.specs.Prelude.{IsTrue}
 use Rattle.sqlite_trees.specs.Tree.{Trees}
@@ -14,7 +14,7 @@ use Rattle.desk_store.specs.Adopting.{IsEmpty}
 pub secure_empty : (s : Seen Trees) → IsEmpty s → s.is_honest → (w : Readings) → Secures Stands (tables w []) s
 secure_empty s empty clean w = record { is_open = empty.is_open clean; leaves = λ x left. empty.leaves clean x left w }
 
--- reading leaves what was left
+-- reading doesn't change what a stop leaves
 pub secure_stayed : (old new : State) → HasStayed old new → HasCleanDisk new → (t : Tables) → Secures Stands t (seen_of old) → Secures Stands t (seen_of new)
 secure_stayed old new stayed clean t s = record {
   is_open = stayed.1 clean s.is_open;

@@ -1,4 +1,4 @@
--- The cells of rows within the limits, with short texts, are small and such as a desk writes.
+-- The cells of rows within the limits, with short texts, are small and as a desk writes them.
 use Rattle.std.proofs.Common.{◌≡◌, ℕ, ◌^◌, ◌<◌, ◌≤◌, Bool, true, false, List, [], ◌∷◌, length, map, filter, Option, Some, None, refl, subst, arith, inl, inr}
 use Rattle.std.specs.Prelude.{All, codes, IfSome, IsTrue, IsUtf8, ◌==◌, if◌then◌else◌, nat_lt, slice_index}
 use Rattle.std.specs.Char.{is_ascii_digit}

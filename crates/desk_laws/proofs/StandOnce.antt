@@ -1,4 +1,4 @@
--- Rows that have keys of their own stand once at each key that is declared unique.
+-- If rows have different keys, each key that is declared unique appears once.
 use Rattle.std.proofs.Common.{◌≡◌, inl, inr, ℕ, ◌≤◌, Bool, true, false, cond, List, [], ◌∷◌, filter, length, map, refl, sym, subst, arith}
 use Rattle.std.specs.Prelude.{◌&&◌, ◌==◌}
 use Rattle.std.specs.Str.{bytes_eq}
@@ -34,7 +34,7 @@ use Rattle.desk_sql_layout.specs.Held.{rows_of}
 use Rattle.desk_sql_layout.proofs.Casts.{int_test, text_test}
 use Rattle.desk_sql_write.specs.Taking.{HaveKeys, in_cells, StandsOnce}
 
--- ---- rows with one key agree
+-- ---- rows with the same key agree
 
 agree_both : (places : List ℕ) (a b key : Row) → agree plain places a places key ≡ true → agree plain places b places key ≡ true → agree plain places a places b ≡ true
 agree_both places a b key one two = agree_chain plain places places places a key b one (agree_back plain places places b key two)
@@ -65,7 +65,7 @@ one_row : (row : Row) (places : List ℕ) → StandsOnce (row ∷ []) places
 one_row row places k =
     elim (agree plain (in_cells places) row (in_cells places) k) as (λ b. length (cond b (row ∷ []) []) ≤ 1) [ true ↦ omega arith | false ↦ omega arith ]
 
--- ---- the key that agreeing cells tell
+-- ---- the key that equal cells give
 
 catalogue_tells : (x y : CatalogueRow) → agree plain (in_cells (0 ∷ [])) (catalogue_cells x) (in_cells (0 ∷ [])) (catalogue_cells y) ≡ true → x.revision ≡ y.revision
 catalogue_tells x y e =

@@ -1,17 +1,18 @@
--- Texts that a file's cells can take.
+-- Texts that the cells of a file can hold.
 use Rattle.std.specs.Prelude.{ℕ, ◌^◌, ◌≤◌, List, [], ◌∷◌, length, IfSome, IsUtf8}
 use Rattle.std.specs.List.{AllByRecursion}
 use Rattle.desk_model.specs.Tables.{Tables}
 use Rattle.desk_sql_layout.specs.Cells.{joined}
 
--- a text in UTF-8 of a hundred million bytes at most
+-- a text in UTF-8 of at most a hundred million bytes
 abbrev pub IsShort : List ℕ → Type 0
 IsShort text = IsUtf8 text × (length text ≤ 10 ^ 8)
 
 abbrev pub AreShort : List (List ℕ) → Type 0
 AreShort = AllByRecursion IsShort
 
--- So is each text of each row, and no document has more bytes. Nothing is said of what a row may lack and hasn't.
+-- Each text of each row is as short as that, and no document has more bytes. Nothing is said of optional
+-- texts that a row lacks.
 pub record HaveShortTexts (t : Tables) : Type 0 where
   pub catalogue : AllByRecursion (λ row. IsShort row.body) t.catalogue
   pub rule : AllByRecursion (λ row. AreShort (row.term ∷ row.form ∷ row.spelled ∷ joined row.codes ∷ [])) t.rule

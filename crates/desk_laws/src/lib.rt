@@ -1,15 +1,15 @@
-//! Laws that stand above all else and that no program calls. Here the desk in a database from its
-//! creation on: its main contract with nothing left open but the disk.
+//! Laws over everything else, which no program calls. This file is about the desk in a database
+//! from its creation on: its main contract with no premise left but the disk.
 //!
-//! `run_in_database` creates an empty desk where nothing is and hands it a list of commands, as
-//! `standard::run_commands` does in memory. `adopt_left` goes on from what a stop left of such a
-//! desk: it is adopted with the rows of its history.
+//! `run_in_database` creates an empty desk in an empty database and runs a list of commands on it,
+//! as `standard::run_commands` does in memory. `adopt_left` continues with what a stop left of such
+//! a desk: it is adopted with the rows of its history.
 //!
 //! A disk is honest as long as it gives back what was written. The library says of each connection
 //! whether its disk was.
 //!
-//! `tables` says of each history that a file can hold its tables, and `trees` that a source tree has
-//! one gathering.
+//! `tables` says of each history that a file can hold its tables, and `trees` that a source tree
+//! has one gathering.
 #![tactic(auto)]
 
 pub mod standard;
@@ -39,17 +39,17 @@ use desk_store::{AdoptFault, CreateFault, SqlDesk};
 use sqlite::{Alter, Connection};
 use std::alloc::{AllocError, Global};
 
-/// Creates an empty desk in a database where nothing is, and hands commands to it. Gives the desk,
-/// and what became of each command if there was memory for their list; without it, the desk is the
-/// empty one.
+/// Creates an empty desk in an empty database, and runs commands on it. Returns the desk, and what
+/// became of each command if there was memory for the list of outcomes; if there wasn't, the desk
+/// is the empty one.
 ///
 /// Whatever is repeated or refused, if the disk was honest to the end: each outcome that is no
 /// fault is the answer at its place, after the commands recorded before it; these are a recorded
-/// history, and the rows at the end are its tables. Where no outcome is a fault, the desk shows
-/// these rows, and a stop leaves them and no others. A fault of the store comes to no command that
-/// is refused by itself.
+/// history, and the rows at the end are its tables. If no outcome is a fault, the desk shows these
+/// rows, and a stop leaves them and no others. No command that is refused from the command alone
+/// has a fault of the store.
 ///
-/// Where no desk could be created, that is told and left as by `SqlDesk::create`.
+/// If no desk could be created, the error and what is left are as for `SqlDesk::create`.
 pub fn run_in_database<S: Alter>(
     alloc: Global,
     conn: Connection<S>,
@@ -91,10 +91,10 @@ pub fn run_in_database<S: Alter>(
     }
 }
 
-/// Adopts the desk that a stop left, over a connection that was opened on it: where the tables of a
-/// recorded history are in what was left, the desk has them as its rows, and nothing but a fault
-/// keeps it from being adopted. Where a stop would leave these tables again and no others, it
-/// leaves no others of the desk.
+/// Adopts the desk that a stop left, over a connection that was opened on it. If what was left has
+/// the tables of a recorded history, the desk has them as its rows, and only a fault keeps it from
+/// being adopted. If a stop would leave these tables again and no others, it leaves no others of
+/// the desk.
 pub fn adopt_left<S: Alter>(
     alloc: Global,
     conn: Connection<S>,

@@ -1,9 +1,8 @@
-//! The desk in memory that reads texts by their standards: its main contract with nothing left
-//! open.
+//! The desk in memory that reads texts by their standards: its main contract with no premise left.
 //!
-//! `run_commands` hands a list of commands to an empty desk. Its contract speaks of each right
-//! reading of texts (`AreRight`, of which `desk_history_laws` proves that there is one and no other),
-//! of the definitions of the recorded history, and of nothing else.
+//! `run_commands` runs a list of commands on an empty desk. Its contract is about each right
+//! reading of texts (`AreRight`; `desk_history_laws` proves that there is one and no other), the
+//! definitions of the recorded history, and nothing else.
 
 ghost use Rattle.std.specs.Prelude.{◌≡◌, [], IfOk, length};
 ghost use Rattle.desk_model.specs.Readings.{Readings};
@@ -22,11 +21,11 @@ use std::alloc::{AllocError, Global};
 /// The desk in memory that reads texts by their standards.
 pub type StandardDesk = MemDesk<Standard>;
 
-/// Hands commands to an empty desk, and gives what became of each, and the desk.
+/// Runs commands on an empty desk, and returns what became of each, and the desk.
 ///
 /// Whatever is repeated or refused: each outcome that is no fault is the answer at its place, after
 /// the commands recorded before it; these are a recorded history, and the rows at the end are its
-/// tables; the only fault is want of memory.
+/// tables; the only fault is that no memory is left.
 pub fn run_commands(
     alloc: Global,
     commands: &[Command],

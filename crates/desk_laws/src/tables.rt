@@ -1,17 +1,17 @@
-//! Laws of a desk's tables as a file keeps them, each the contract of a function with an empty
+//! Laws about a desk's tables as a file keeps them, each the contract of a function with an empty
 //! body.
 //!
-//! A database holds tables in the order that look-ups by key and number rest on (`AreOrderly` of
-//! `desk_sql_layout`), and of a change it writes only one that the tables give back as it was
-//! (`is_writable`). Here stands that no history leaves tables of another form and that no command
-//! needs another change, where the reading of texts lists in order and names duties by ids, as each
-//! right reading does (`right_readings_give_orderly_tables`). What a stop leaves of a desk, opened
-//! again, shows its tables (`what_a_stop_leaves_opens_again`).
+//! A database holds tables in the order that look-ups by key and number rely on (`AreOrderly` of
+//! `desk_sql_layout`), and a change is written only if the tables give its rows back as they were
+//! (`is_writable`). The laws here say that each history leaves tables in this form and that each
+//! command makes such a change, if the reading of texts lists in order and names duties by ids, as
+//! each right reading does (`right_readings_give_orderly_tables`). What a stop leaves of a desk,
+//! opened again, shows its tables (`what_a_stop_leaves_opens_again`).
 //!
-//! That no write and no look-up fails without a cause is said of rows that can stand in the tables
-//! (`CanStand` of `desk_sql_write`) and are as a desk writes them (`AreWritten` of
-//! `desk_sql_lookup`). `tables_can_stand` says that those of each recorded history are, where their
-//! texts are short.
+//! Other contracts say that no write and no look-up fails without a cause, if the tables can hold
+//! the rows (`CanStand` of `desk_sql_write`) and the rows are as a desk writes them (`AreWritten`
+//! of `desk_sql_lookup`). `tables_can_stand` says that this is so for the rows of each recorded
+//! history whose texts are short.
 
 ghost use Rattle.std.specs.Prelude.{◌≡◌, true, List};
 ghost use Rattle.desk_model.specs.Readings.{Readings};
@@ -33,9 +33,9 @@ ghost use Rattle.sqlite_trees.specs.Tree.{Trees};
 
 use sqlite::{Alter, Connection};
 
-/// The tables of each list of commands are in the form that a file wants: sorted by their keys,
-/// revisions, documents and duties numbered from 1 on, packages and changes those of documents and
-/// duties that stand, and codes that are words.
+/// The tables of each list of commands are in the form that a file needs: sorted by their keys;
+/// revisions, documents and duties numbered 1, 2 and so on; packages and changes of documents and
+/// duties that exist; and codes that are words.
 pub fn tables_are_orderly()
     ensures { (w : Readings) (h : List Command) → ListsInOrder w → ListsIds w
         → AreOrderly (tables w h) }
@@ -52,8 +52,8 @@ pub fn changes_can_be_written()
         → is_writable (change_for w t c) ≡ true }
 {}
 
-/// By each right reading of texts the tables of each list of commands are in the form that a file
-/// wants, and the change of each command is one that a file can hold.
+/// By each right reading of texts, the tables of each list of commands are in the form that a file
+/// needs, and the change of each command is one that a file can hold.
 pub fn right_readings_give_orderly_tables()
     ensures tables { (w : Readings) (h : List Command) → AreRight w → AreOrderly (tables w h) }
     ensures changes { (w : Readings) (t : Tables) (c : Command) → AreRight w
@@ -65,15 +65,15 @@ pub fn right_readings_give_orderly_tables()
     changes_can_be_written();
 }
 
-/// What a stop of the program left, opened again, shows the tables that stand in it, all committed.
-/// So what a stop leaves of a desk is adopted as the desk with the rows of its history.
+/// What a stop of the program left, opened again, shows the tables that it holds, all committed. So
+/// what a stop leaves of a desk is adopted as the desk with the rows of its history.
 pub fn what_a_stop_leaves_opens_again<S: Alter>(conn: &Connection<S>)
     ensures { (left : Trees) (t : Tables) → IsOpenedOn (state S.Store conn.now) left → Stands left t
         → let seen = seen_of (state S.Store conn.now) in seen.holds t }
 {}
 
-/// The tables of each recorded history whose texts are short can stand in a file: each key that is
-/// declared unique stands once, and each cell is small. They are rows as a desk writes them.
+/// A file can hold the tables of each recorded history whose texts are short: each key that is
+/// declared unique appears once, and each cell is small. They are rows as a desk writes them.
 pub fn tables_can_stand()
     ensures stand { (w : Readings) (h : List Command) → AreRight w → IsHistory w h
         → HaveShortTexts (tables w h) → CanStand (rows_of (tables w h)) }

@@ -2,9 +2,9 @@
 //!
 //! What a tree gives is a function of its files and of a `Reader`: the pieces of patterns, which
 //! texts are licence expressions, which paths a pattern matches, and what each file states itself.
-//! Contracts speak of each right reader (`IsRightReader`), which would be nothing if there were
-//! none. `right_reader_exists` gives one, whatever memory is at hand; that there is no other is
-//! `desk_tree_gather::one_reader`.
+//! Contracts are about each right reader (`IsRightReader`), so they would say nothing if there were
+//! none. `right_reader_exists` gives one, however much memory there is;
+//! `desk_tree_gather::one_reader` says that there is no other.
 
 ghost use Rattle.std.specs.Prelude.{◌≡◌, List};
 ghost use Rattle.desk_tree_gather.specs.Gathering.{gathered};
@@ -20,9 +20,8 @@ pub fn right_reader_exists()
     ensures { (r : Reader) × IsRightReader r }
 {}
 
-/// A tree has one gathering and one survey, and there is one: all right readers gather the same of
-/// it, its files' information or its fault, and find the same flaws and the same information of the
-/// rest.
+/// A tree has exactly one gathering and one survey: all right readers gather the same from it, its
+/// files' information or its fault, and find the same flaws and the same information on the rest.
 pub fn each_tree_is_gathered_once()
     ensures gathering { (files : List SourceFile) → (answer : Read (List FileInfo)) × ((r : Reader)
         → IsRightReader r → gathered r files ≡ answer) }

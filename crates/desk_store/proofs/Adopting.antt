@@ -1,4 +1,4 @@
--- That a database isn't adopted only with a cause.
+-- A database is left without being adopted only for a cause.
 use Rattle.std.proofs.Common.{inl, inr, IfErr, Ok, Err, Result, IsTrue, ◌∙◌, arith}
 use Rattle.sqlite.specs.State.{State, HasCleanDisk}
 use Rattle.desk_model.specs.declared.command.Fault.{Fault}
@@ -14,7 +14,7 @@ use Rattle.desk_store.specs.declared.fault.AdoptFault.TheVariants as adopt
 
 -- ---- what was read
 
--- what a cause rests on is so where something else is
+-- a cause that needs one fact about the tables is one if they have another that implies it
 pub weaken_cause : (P Q : Tables → Type 0) (old new : State) (fault : Fault) → (HasCleanDisk new → IsTrue old.is_open → (t : Tables) → (seen_of old).holds t → AreWritten t → P t → Q t) → HasCauseIf Q old new fault → HasCauseIf P old new fault
 weaken_cause P Q old new fault so has = record { cause = λ clean opened unlimited t holds written is. has.cause clean opened unlimited t holds written (so clean opened t holds written is) }
 
@@ -25,11 +25,11 @@ later_cause Is a b c fault stayed spared =
 
 -- ---- what isn't adopted
 
--- a fault that was told
+-- a fault that was returned
 pub fault_adopts : (Given : Tables → Type 0) (old new : State) (fault : Fault) → HasCauseIf Given old new fault → AdoptFailsIf Given old new (adopt.Fault fault)
 fault_adopts Given old new fault has = record { cause = has.cause }
 
--- what is never told of such tables
+-- what is never returned for such tables
 pub never_adopts : (Given : Tables → Type 0) (old new : State) (fault : AdoptFault) → (HasCleanDisk new → IsTrue old.is_open → (t : Tables) → (seen_of old).holds t → Given t → ⊥) → AdoptFailsIf Given old new fault
 never_adopts Given old new fault never = record { cause = λ clean opened unlimited t holds written is. absurd (never clean opened t holds is) }
 

@@ -34,7 +34,7 @@ use Rattle.desk_store.specs.declared.adoptions.Adoptions.{Adoptions}
 use Rattle.desk_store.proofs.Distinct.{distinct_from, distinct_unmapped, tie, tie_flips, tied_alike}
 use Rattle.desk_sql_lookup.proofs.Ties.{is_key}
 
--- ---- no two adoptions are at one key
+-- ---- no two adoptions have the same key
 
 abbrev places : List ℕ
 places = 1 ∷ 2 ∷ []
@@ -55,16 +55,16 @@ apart t db holds =
     let same = (mine this.name 12 this.columns this.key this.primary this.uniques this.orders 7 refl adoption_cells (rows_of t) t.adoption refl db holds.rows).same in
     distinct_unmapped e adoption_cells t.adoption (IsDistinct-IsPermutation e (λ cs ds. tie_flips places (key_of_cells cs) (key_of_cells ds)) (map (cells this) stored) (map adoption_cells t.adoption) (IsPermutation-sym _ _ same) shown)
 
--- the rows at a reference of a document are at one key
+-- the rows for a reference of a document have the same key
 at_key : (d : ℕ) (r : List ℕ) (x : AdoptionRow) → is_adoption d r x ≡ true → key_of_cells (adoption_cells x) ≡ number d ∷ Text r ∷ []
 at_key d r x is = let both = and_parts (x.document == d) (bytes_eq x.reference r) is in rw (same_number x.document d both.0, same_text x.reference r both.1) refl
 
 tied : (d : ℕ) (r : List ℕ) (x y : AdoptionRow) → is_adoption d r x ≡ true → is_adoption d r y ≡ true → at_one_key x y ≡ true
 tied d r x y one two = tied_alike places (key_of_cells (adoption_cells x)) (key_of_cells (adoption_cells y)) (at_key d r x one ∙ sym (at_key d r y two))
 
--- ---- rows instead of those at their key
+-- ---- rows in place of those with the same key
 
--- one more stands where one was put
+-- there is one more after one was put
 count_put : {A : Type 0} (below : A → A → Bool) (p : A → Bool) (x : A) (ys : List A) → length (filter p (put below x ys)) ≡ length (filter p (x ∷ ys))
 count_put below p x [] = refl
 count_put {A} below p x (y ∷ ys) = go (below x y) (p x) (p y) refl refl (count_put below p x ys)
@@ -76,7 +76,7 @@ count_put {A} below p x (y ∷ ys) = go (below x y) (p x) (p y) refl refl (count
     go false false true e f more = rw (e, f) (let m = rw e at more in omega (arith, m))
     go false false false e f more = rw (e, f) (rw e at more)
 
--- no other is left out
+-- no other row is left out
 rest_stays : (d : ℕ) (r : List ℕ) (x : AdoptionRow) (ys : List AdoptionRow) → is_adoption d r x ≡ true → AllByRecursion (λ y. at_one_key x y ≡ false) ys → filter (λ y. not (is_adoption d r y)) ys ≡ ys
 rest_stays d r x [] is none = refl
 rest_stays d r x (y ∷ ys) is none = go (rest_stays d r x ys is none.1) (is_adoption d r y) refl
@@ -85,7 +85,7 @@ rest_stays d r x (y ∷ ys) is none = go (rest_stays d r x ys is none.1) (is_ado
     go more true too = absurd (true≢false (sym (tied d r x y is too) ∙ none.0))
     go more false apart = ap (λ l. y ∷ l) more
 
--- one is left out where one is found
+-- one row is left out if one is found
 one_out : (d : ℕ) (r : List ℕ) (xs : List AdoptionRow) → IsDistinct at_one_key xs → (find (is_adoption d r) xs ≡ None → ⊥)
     → length (filter (is_adoption_in d) xs) ≡ length (filter (is_adoption_in d) (filter (λ y. not (is_adoption d r y)) xs)) + 1
 unfolding IsDistinct
@@ -136,7 +136,7 @@ other_document d e other = grind (arith, nat_tests)
 first_counts : (row : AdoptionRow) (rows : List AdoptionRow) → length (filter (is_adoption_in row.document) (row ∷ rows)) ≡ length (filter (is_adoption_in row.document) rows) + 1
 first_counts row rows = rw (own_document row.document) (omega arith)
 
--- a reference that wasn't adopted
+-- of a reference that wasn't adopted
 pub adopted_first : (t : Tables) (row : AdoptionRow) → licence_for t.adoption row.document row.reference ≡ None → adoption_count (applied (Adopted row) t) row.document ≡ adoption_count t row.document + 1
 adopted_first t row none =
     let d = row.document in
@@ -150,13 +150,13 @@ adopted_first t row none =
     no_row None e = refl
     no_row (Some row) e = absurd (cc)
 
--- one of another document
+-- of a reference of another document
 adopted_elsewhere : (t : Tables) (row : AdoptionRow) (e : ℕ) → (row.document ≡ e → ⊥) → adoption_count (applied (Adopted row) t) e ≡ adoption_count t e
 adopted_elsewhere t row e other =
     let without = filter (λ y. not (is_adoption row.document row.reference y)) t.adoption in
     count_put (below_by adoption_order) (is_adoption_in e) row without ∙ (rw (other_document row.document e other) refl ∙ none_elsewhere e row.document row.reference t.adoption other)
 
--- one that was
+-- of a reference that was adopted
 adopted_again : (t : Tables) (row : AdoptionRow) (db : Database) (licence : List ℕ) → Holds t db → licence_for t.adoption row.document row.reference ≡ Some licence
     → adoption_count (applied (Adopted row) t) row.document ≡ adoption_count t row.document
 adopted_again t row db licence holds some =
@@ -170,7 +170,7 @@ adopted_again t row db licence holds some =
     has_row None e none = absurd (cc)
     has_row (Some row) e none = absurd (cc)
 
--- ---- what was found was found in a store that shows its rows: one that shows none would hold any
+-- ---- what was found was found in a store that shows its rows, since one that shows none would hold any
 
 shown : (s : State) (d : ℕ) (r : List ℕ) (found : Option (List ℕ)) (t : Tables) → ((u : Tables) → (seen_of s).holds u → found ≡ licence_for u.adoption d r) → IsTrue s.is_open
 shown s d r found t is = go s.is_open refl
@@ -248,7 +248,7 @@ pub not_true : (b : Bool) → not b ≡ true → b ≡ false
 not_true false is = refl
 not_true true is = absurd (cc)
 
--- what was found of the reference tells
+-- what the look-up of the reference found says whether it is adopted
 module _ (s : State) (row : AdoptionRow) (reference : List ℕ) (found : Option (List ℕ)) (named : reference ≡ row.reference)
     (is : (t : Tables) → (seen_of s).holds t → found ≡ licence_for t.adoption row.document reference) (t : Tables) (held : (seen_of s).holds t) (clean : HasCleanDisk s) where
   found_there : (u : Tables) → (seen_of s).holds u → found ≡ licence_for u.adoption row.document row.reference
@@ -306,7 +306,7 @@ pub kept_elsewhere : (row : AdoptionRow) (kept : Adoptions) (t : Tables) → (ro
 kept_elsewhere row kept t other are =
     (are.0 ∙ sym (adopted_elsewhere t row kept.document other), λ r lacks. other_licence row t kept.document r (rw (other_document row.document kept.document other) refl) ∙ are.1 r lacks)
 
--- and in its own
+-- and one in the same document
 pub kept_here : (row : AdoptionRow) (kept after : Adoptions) (t : Tables) (is_new : Bool) → row.document ≡ kept.document → after.document ≡ kept.document → after.count ≡ kept.count + (if is_new then 1 else 0)
     → ((other : List ℕ) → contains_text after.references other ≡ (bytes_eq row.reference other || contains_text kept.references other))
     → adoption_count (applied (Adopted row) t) row.document ≡ adoption_count t row.document + (if is_new then 1 else 0)

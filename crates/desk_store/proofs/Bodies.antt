@@ -1,4 +1,4 @@
--- The catalogue in force is that of the last revision's body.
+-- The catalogue in force is the text of the last revision.
 use Rattle.std.proofs.Common.{◌≡◌, ◌<◌, ℕ, ◌+◌, Bool, true, false, List, [], ◌∷◌, ◌++◌, length, Option, None, refl, sym, ap, ◌∙◌, arith, find}
 use Rattle.std.specs.Prelude.{◌==◌}
 use Rattle.std.specs.Option.{option_map, option_and_then}
@@ -40,7 +40,7 @@ none_higher (LoadCatalogue text ∷ h) n more =
     found_behind (is_revision n) (revisions h) last (none_higher h n before) ∙ rw other refl
 none_higher (_ ∷ h) n more = none_higher h n more
 
--- the revision with the number of all has the text that was loaded last
+-- the revision whose number is the number of revisions has the text that was loaded last
 last_body : (h : List Command) (n : ℕ) → length (revisions h) ≡ n → option_map (λ row. row.body) (find (is_revision n) (revisions h)) ≡ latest loaded h
 last_body [] n is = refl
 last_body (LoadCatalogue text ∷ h) n is =
@@ -51,7 +51,7 @@ last_body (LoadCatalogue text ∷ h) n is =
     ap (option_map (λ row. row.body)) (found_behind (is_revision n) (revisions h) last (none_higher h n before)) ∙ rw same refl
 last_body (_ ∷ h) n is = last_body h n is
 
--- what is read of tables is what a store knows of them
+-- what is read from tables is what a store knows of them
 pub known : (w : Readings) (t : Tables) (counts : Counts) (forms : List (List ℕ)) (body : Option (List ℕ)) → HasCounts counts t → body ≡ body_of t counts.revisions
     → forms ≡ forms_in (option_and_then (λ text. result_ok (w.catalogue text)) body) → HasForms w t → known_of t ≡ known_by counts forms
 known w t counts forms body has read are right =

@@ -1,4 +1,4 @@
--- What is seen of a store that keeps counts and tallies beside its tables.
+-- What contracts see of a store that keeps counts and tallies beside its tables.
 use Rattle.std.proofs.Common.{◌≡◌, ◌⊎◌, ◌∙◌, ℕ, List, sym, subst, ap, refl, Bool, inl, inr, Ok, Err, Result, Option, Some, None, false}
 use Rattle.std.specs.Prelude.{IsTrue, IfSome, IfNone, OnErr, OnOk}
 use Rattle.std.specs.Result.{is_ok}
@@ -26,11 +26,11 @@ use Rattle.desk_sql_layout.proofs.Counting.{known_kept}
 use Rattle.desk_sql_commit.specs.Committing.{taking}
 use Rattle.desk_sql_write.specs.Replacing.{Takes}
 
--- what is kept beside its rows says nothing of its disk
+-- what is kept beside the rows doesn't affect the disk
 beside : (had has : Found) (n m : Tallies) (k l : Known) (a b : Seen Trees) → Outlasts a b → Outlasts (tallied had n k a) (tallied has m l b)
 beside had has n m k l a b it = record { counts = it.counts; closes = it.closes }
 
--- nothing that was found is so of any tables
+-- if nothing was found, that is true of any tables
 pub nothing_found : (has : Found) → has ≡ nothing_kept → (t : Tables) → AreFound has t
 nothing_found has none t = subst (λ (f : Found). AreFound f t) (sym none) (tt, tt, record { document = tt; rule = tt; conclusions = tt; choices = tt })
 
@@ -57,7 +57,7 @@ module _ (had : Found) (n : Tallies) (k : Known) where
   pub of_rows : (P : Tables → Type 0) (a b : Seen Trees) → OfRows P a b → OfRows P (tallied had n k a) (tallied had n k b)
   of_rows P a b it = λ honest t holds. it honest t holds.2
 
-  -- what is found where the counts are right
+  -- what is found if the counts are right
   pub of_counted : (Q P : Tables → Type 0) (a b : Seen Trees) → ((t : Tables) → known_of t ≡ k → Q t) → OfRows (λ t. Q t → P t) a b → OfRows P (tallied had n k a) (tallied had n k b)
   of_counted Q P a b right it = λ honest t holds. it honest t holds.2 (right t holds.0)
 
@@ -89,11 +89,11 @@ known_is (change.Withdrew r moved) counts forms = refl
 known_is (change.Concluded row) counts forms = refl
 known_is (change.Adopted row) counts forms = refl
 
--- the releases of a desk's tables ascend
+-- the releases of a desk's tables are in order
 ascend : (s : State) (t : Tables) → HasCleanDisk s → IsTrue s.is_open → (seen_of s).holds t → Ascends release_below t.releases
 ascend s t clean is holds = (holds clean is).holds.orderly.sorted.releases
 
--- tables that a store holds are such as its change asks for
+-- the tables that a store holds are as its change requires
 taken : (c : Change) (had : Found) (n : Tallies) (k : Known) (is_new : Bool) → ((t : Tables) → AreFound had t → Takes is_new c t)
     → (a b : Seen Trees) → Same a b → (t : Tables) → (tallied had n k a).holds t → (taking is_new c b).holds t
 taken c had n k is_new takes a b still t holds =
@@ -147,7 +147,7 @@ failed c had has k n m a b d none kept still is_new takes it = record {
     either x f (inl p) = inl (f p)
     either x f (inr r) = inr r
 
--- nothing is written where a look-up failed, or there was no step, and nothing that was found is kept
+-- nothing is written if a look-up failed or there was no step, and nothing that was found is kept
 pub left : (c : Change) (had has : Found) (k : Known) (n m : Tallies) (a b : Seen Trees) → ((t : Tables) → AreFound has t) → ((t : Tables) → AreKept n t → AreKept m t) → Kept a b → Failed Stands c (tallied had n k a) (tallied has m k b)
 left c had has k n m a b none kept it = record {
   spared = record {
@@ -162,7 +162,7 @@ pub on_err : (r : Result (Unit {0}) Fault) (P : Type 0) → P → OnErr r P
 on_err (Ok x) P it = tt
 on_err (Err fault) P it = it
 
--- the forms are kept where the change was written
+-- the forms are kept if the change was written
 pub noted : (c : Change) (old s : Seen Trees) (has : Found) (m : Tallies) (counts : Counts) (forms now : List (List ℕ)) (r : Result (Unit {0}) Fault) (written : Bool) → written ≡ is_ok r → now ≡ forms_noted written c forms
     → OnOk r (Made Stands c old (tallied has m (known_by counts (forms_after c forms)) s)) → OnErr r (Failed Stands c old (tallied has m (known_by counts forms) s)) → Wrote Stands c old (tallied has m (known_by counts now) s) r
 noted c old s has m counts forms now (Ok x) written e f made failed = rw (f, e) made

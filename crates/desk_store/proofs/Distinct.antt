@@ -1,4 +1,4 @@
--- Rows of a table of which none are at one key.
+-- Rows of a table, no two of which have the same key.
 use Rattle.std.proofs.Common.{◌≡◌, ◌∙◌, ℕ, Bool, true, false, List, [], ◌∷◌, map, refl, ap, subst, is_eq, Less, Equal, Greater, Ordering}
 use Rattle.std.specs.List.{AllByRecursion, IsDistinct}
 use Rattle.std.specs.Ordering.{ordering_reverse}
@@ -9,7 +9,7 @@ use Rattle.sqlite_sql.specs.Query.{key_cmp}
 use Rattle.sqlite_sql.proofs.QueryLemmas.{key_cmp_total}
 use Rattle.desk_sql_lookup.proofs.Ties.{keys}
 
--- values of the key at these places are the same
+-- the values of the key in these places are the same
 abbrev pub tie : List ℕ → Row → Row → Bool
 tie places k l = is_eq (key_cmp 0 (keys places) k l)
 

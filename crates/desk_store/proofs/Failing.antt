@@ -48,7 +48,7 @@ all_put {X} P f below x (y ∷ ys) all = go (all_put P f below x ys) (below x y)
     go more true all = all.0
     go more false all = more all.1
 
--- the rows of a table that can stand are small
+-- the rows of a table that can hold them are small
 small_in : (rows : ℕ → List Row) → CanStand rows → (table : Table) (place : ℕ) → slice_get desk_schema.tables place ≡ Some table → AllByRecursion (AllByRecursion IsSmall) (rows table.tree)
 small_in rows stand table place is = all_has (λ (t : Table). AllByRecursion (AllByRecursion IsSmall) (rows t.tree)) desk_schema.tables table stand.small (has_got desk_schema.tables place table is)
 

@@ -1,4 +1,4 @@
--- What is looked up in rows, in the tables of a history.
+-- What is looked up in the rows of a history's tables.
 use Rattle.std.proofs.Common.{Result, Ok, Err}
 use Rattle.std.specs.Prelude.{IfOk}
 use Rattle.desk_model.specs.Readings.{Readings}

@@ -55,7 +55,7 @@ use Rattle.desk_sql_lookup.proofs.Ties.{is_key}
 use Rattle.desk_store.specs.Holding.{AreHoldersOf, IsPlace, have_releases}
 use Rattle.desk_store.proofs.Distinct.{distinct_from, distinct_unmapped, tie, tie_flips, tied_alike}
 
--- ---- a release found by halving
+-- ---- a release found by binary search
 
 in_at : {A : Type 0} (xs : List A) (i : ℕ) (x : A) → i < length xs → x ≡ get_or xs i x → IsIn x xs
 in_at [] i x low is = absurd (omega arith)
@@ -68,7 +68,7 @@ placed_at releases name i row low is at =
     let same : slice_cmp nat_cmp row.name name ≡ Equal = subst (λ (y : ReleaseRow). slice_cmp nat_cmp y.name name ≡ Equal) (sym is) (at row) in
     (row, in_at releases i row low is, texts_equal row.name name (texts_meet row.name name ∙ ap is_eq same), ap (λ (y : ReleaseRow). y.place) is)
 
--- where no row passes, none is found
+-- if no row passes, none is found
 none_passes : {A : Type 0} (test : A → Bool) (xs : List A) → ((k : ℕ) (d : A) → k < length xs → test (get_or xs k d) ≡ false) → find test xs ≡ None
 none_passes test [] fails = refl
 none_passes {A} test (x ∷ xs) fails = go (none_passes test xs (λ k d low. fails (suc k) d (omega arith))) (test x) (fails 0 x (omega arith))
@@ -95,7 +95,7 @@ none_at releases name i split up =
     either k d low parts true e = inl (parts.0 k d (omega arith) (let before : k < i = grind (arith, nat_tests) in before))
     either k d low parts false e = inr (parts.1 k d (let behind : i ≤ k = grind (arith, nat_tests) in behind) low)
 
--- a choice of no release is one of these
+-- a choice in no release is one of these
 pub one_is_of_none : (releases : List ReleaseRow) (choices : List ChoiceRow) (i : ℕ) (row : ChoiceRow) → i < length choices → row ≡ get_or choices i row → place_found releases row.release ≡ None → have_releases releases choices ≡ false
 one_is_of_none releases [] i row low is none = absurd (omega arith)
 one_is_of_none releases (y ∷ ys) zero row low is none = rw (ap (λ (x : ChoiceRow). x.release) (sym is), none) refl
@@ -105,9 +105,9 @@ one_is_of_none releases (y ∷ ys) (suc i) row low is none = go (is_some (place_
     go true rest = rest
     go false rest = refl
 
--- ---- a choice more
+-- ---- one more choice
 
--- one that is put is among those that are there
+-- a row that is put is among those that are there
 any_put : {A : Type 0} (below : A → A → Bool) (p : A → Bool) (x : A) (ys : List A) → list_any p (put below x ys) ≡ (p x || list_any p ys)
 any_put below p x [] = refl
 any_put {A} below p x (y ∷ ys) = go (below x y) (p x) (p y) refl refl (any_put below p x ys)
@@ -119,7 +119,7 @@ any_put {A} below p x (y ∷ ys) = go (below x y) (p x) (p y) refl refl (any_put
     go false false true e f more = rw (e, f) refl
     go false false false e f more = rw (e, f) (rw e at more)
 
--- those that are left out are as one that is put
+-- rows that are left out pass as the one that is put does
 any_left : {A : Type 0} (p at : A → Bool) (b : Bool) (ys : List A) → ((y : A) → at y ≡ true → p y ≡ b) → (b || list_any p (filter (λ y. not (at y)) ys)) ≡ (b || list_any p ys)
 any_left p at true ys same = refl
 any_left p at false [] same = refl
@@ -148,7 +148,7 @@ any_more p xs i x low is =
     ∙ (list_any-append p (take i xs) (x ∷ []) ∙ (ap (λ b. list_any p (take i xs) || b) (or_none (p x)) ∙ either_way (list_any p (take i xs)) (p x))))
 
 module _ (r : List ℕ) (place d : ℕ) (p : List ℕ) (r' : List ℕ) (d' : ℕ) (p' : List ℕ) where
-  -- a holder that is noted anew is as it was
+  -- a holder that is recorded again is as it was
   held_alike : (x : Holder) → is_holding d p place r x ≡ true → is_holder r' d' p' x ≡ is_holder r' d' p' (holder_of r place d p)
   held_alike x e =
       let rest = and_left (is_held d p x && (x.place == place)) (bytes_eq x.release r) e in
@@ -189,7 +189,7 @@ none_noted releases all none = record {
   holding = λ r d p. ap (list_any (is_holder r d p)) none;
 }
 
--- ---- no two releases have one name
+-- ---- no two releases have the same name
 
 abbrev names : List ℕ
 names = 1 ∷ []
@@ -231,7 +231,7 @@ own_place (y ∷ ys) are row (inr later) = go (own_place ys are.1 row later) (by
 
 -- ---- what was read
 
--- what was found was found in a store that shows its rows: one that shows none would hold any
+-- what was found was found in a store that shows its rows, since one that shows none would hold any
 shown : (s : State) (rows : List ReleaseRow) (t : Tables) → ((u : Tables) → (seen_of s).holds u → rows ≡ u.releases) → IsTrue s.is_open
 shown s rows t is = go s.is_open refl
   where
@@ -257,7 +257,7 @@ read_held s releases choices all held clean read t holds same =
       apart = own;
     }
 
--- the releases of a store that shows its rows ascend
+-- the releases of a store that shows its rows are in order
 rows_ascend : (rows : List ReleaseRow) → Ascends release_below rows → ascends (below_by release_order) rows ≡ true
 rows_ascend [] up = refl
 rows_ascend (y ∷ ys) up = both (over (below_by release_order) y ys) (ascends (below_by release_order) ys) (over_all ys up.0) (rows_ascend ys up.1)
@@ -282,7 +282,7 @@ pub none_weaker : {A : Type 0} (P Q : Type 0) → (P → Q) → (o : Option A) �
 none_weaker P Q f None is = f is
 none_weaker P Q f (Some x) is = is
 
--- a fault of what was read leaves the rows too
+-- a fault of what was read also leaves the rows
 pub looked_so : {A : Type 0} (a b : Seen Trees) (r : Result A Fault) → Same a b → Looked a b r
 looked_so a b (Ok x) it = it
 looked_so a b (Err fault) it = it.kept
@@ -301,7 +301,7 @@ among_updated test edit x [] is = absurd is
 among_updated test edit x (y ∷ ys) (inl same) = inl (ap (λ z. if test z then edit z else z) same)
 among_updated test edit x (y ∷ ys) (inr later) = inr (among_updated test edit x ys later)
 
--- releases ascend whose rows do after a change that keeps their names
+-- releases are still in order after a change of their rows that keeps their names
 ascend_updated : (test : ReleaseRow → Bool) (edit : ReleaseRow → ReleaseRow) → ((row : ReleaseRow) → (edit row).name ≡ row.name) → (rows : List ReleaseRow) → Ascends release_below (updated test edit rows) → Ascends release_below rows
 ascend_updated test edit same [] up = tt
 ascend_updated test edit same (y ∷ ys) up = (

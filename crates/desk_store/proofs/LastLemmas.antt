@@ -18,7 +18,7 @@ use Rattle.desk_sql_lookup.proofs.Keyed.{same_text}
 use Rattle.desk_store.specs.Last.{AreLast, IsDocument}
 use Rattle.desk_store.specs.Repeated.{no_choices, no_conclusions}
 
--- a document that was found stays, since others are put behind it
+-- a document that was found is kept, since others are added after it
 document_stays : (change : Change) (t : Tables) (known : ℕ × Profile) → IsDocument (Some known) t → IsDocument (Some known) (applied change t)
 document_stays (change.Imported row packages references) t known is =
     let at = is_document known.0 in
@@ -41,7 +41,7 @@ pub last_stays : (change : Change) (t : Tables) (document : Option (ℕ × Profi
 last_stays change t None is = record { document = tt; rule = tt; conclusions = tt; choices = tt }
 last_stays change t (Some known) is = record { document = document_stays change t known is; rule = tt; conclusions = tt; choices = tt }
 
--- a rule that was found is that for its own term and form
+-- a rule that was found is the rule for its own term and form
 pub rule_is_own : (rules : List Rule) (term form : List ℕ) (rule : Rule) → rule_for rules term form ≡ Some rule → rule_for rules rule.term rule.form ≡ Some rule
 rule_is_own rules term form rule is =
     let both = and_parts (bytes_eq rule.term term) (bytes_eq rule.form form) (found_in (is_rule term form) rules rule is).1 in

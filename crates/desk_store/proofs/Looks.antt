@@ -9,7 +9,7 @@ use Rattle.desk_model.specs.declared.command.Fault.TheVariants.{Memory}
 use Rattle.desk_sql_lookup.specs.Causes.{HasCauseIf}
 use Rattle.desk_sql_lookup.proofs.Causes.{memory_cause}
 
--- only want of memory is no fault of the rows
+-- a fault that says only that no memory was left always has a cause
 pub memory_causes : (Given : Tables → Type 0) (old new : State) {A : Type 0} (r : Result A Fault) → IfErr r (λ fault. fault ≡ Memory) → IfErr r (HasCauseIf Given old new)
 memory_causes Given old new r = IfErr-weaker r (λ fault. fault ≡ Memory) (HasCauseIf Given old new) (λ fault is. memory_cause Given old new fault is)
 

@@ -1,4 +1,4 @@
--- A migration, and what is read behind it.
+-- A migration, and what is read after it.
 use Rattle.std.proofs.Common.{◌≡◌, ◌∙◌, inl, IsTrue, sym, subst}
 use Rattle.sqlite.specs.Effect.{Database}
 use Rattle.sqlite.specs.State.{State, HasCleanDisk, Survives}

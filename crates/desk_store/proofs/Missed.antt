@@ -28,7 +28,7 @@ missed Given Is had n k a b right r = IfErr-weaker r (HasCauseIf Is a b) (Misses
 })
 
 module _ {S : Type 0} (g : Ghosts S) (had : Found) (n : Tallies) (k : Known) (a b : Held S) {A : Type 0} (r : Result A Fault) where
-  -- where the counts are right
+  -- if the counts are right
   pub finds_so : {Is : Tables → Type 0} {Told : A → Tables → Type 0} → LooksUpGiven g Is a b r Told → (Given : Tables → Type 0) (Has : A → Tables → Type 0)
       → ((t : Tables) → known_of t ≡ k → Given t → Is t) → ((x : A) (t : Tables) → known_of t ≡ k → Told x t → Has x t)
       → FindsGiven Given (tallied had n k (seen_of (state g a))) (tallied had n k (seen_of (state g b))) (state g a) (state g b) r Has
@@ -65,7 +65,7 @@ lacks_then g had n k a b (Err told) Given Has still fault memory is = record {
   cause = record { cause = λ clean opened unlimited t holds written so. inl (is ∙ memory) };
 }
 
--- where something else is kept of the rows that they are so of, before anything is asked
+-- something else that is true of the same rows is kept, before anything is asked
 module _ (had has : Found) (n : Tallies) (k : Known) (more : (t : Tables) → AreFound had t → AreFound has t) (s : Seen Trees) where
   before : (t : Tables) → (tallied had n k s).holds t → (tallied has n k s).holds t
   before t holds = (holds.0, holds.1, holds.2, λ honest. more t (holds.3 honest))

@@ -1,4 +1,4 @@
--- What an adoption rests on is so of the tables of a recorded history.
+-- What an adoption relies on is true of the tables of a recorded history.
 use Rattle.std.proofs.Common.{◌≡◌, ◌<◌, ◌≤◌, ◌^◌, ℕ, zero, suc, ◌+◌, ℤ, pos, negsuc, Bool, true, false, List, [], ◌∷◌, length, map, find, Option, Some, refl, sym, subst, arith}
 use Rattle.std.specs.Prelude.{IfSome, is_some}
 use Rattle.std.specs.List.{AllByRecursion, list_all, range_with_len}
@@ -30,7 +30,7 @@ use Rattle.desk_store.specs.Causes.{AreFew, AreRecorded, HasCatalogue}
 abbrev IsSmall : ℕ → Type 0
 IsSmall n = n < 2 ^ 32
 
--- numbers from n on, each of 32 bits
+-- the numbers n, n + 1 and so on, each of 32 bits
 numbered_few : (n : ℕ) (ns : List ℕ) → n ≤ 2 ^ 32 → AreNumbered n ns → AllByRecursion IsSmall ns → n + length ns ≤ 2 ^ 32
 numbered_few n [] low are all = omega (arith, low)
 numbered_few n (m ∷ ms) low are all =
@@ -44,7 +44,7 @@ small_keys cells key small (x ∷ xs) all = (small x all.0, small_keys cells key
 few : {X : Type 0} (cells : X → Row) (key : X → ℕ) → ((x : X) → IsRow (cells x) → IsSmall (key x)) → (xs : List X) → AreNumbered 1 (map key xs) → AllByRecursion IsRow (map cells xs) → length xs < 2 ^ 32
 few cells key small xs are all = let it = numbered_few 1 (map key xs) (omega arith) are (small_keys cells key small xs all) in omega (arith, it, length-map xs key)
 
--- places from 1 on, each of 32 bits
+-- a place, a number of 32 bits
 abbrev IsSmallPlace : ℤ → Type 0
 IsSmallPlace (pos n) = n < 2 ^ 32
 IsSmallPlace (negsuc n) = ⊥

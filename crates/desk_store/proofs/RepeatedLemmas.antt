@@ -1,4 +1,4 @@
--- What is found among rows that were read at once is what is found among all.
+-- What is found among rows that were read all at once is what is found among all.
 use Rattle.std.proofs.Common.{◌≡◌, ◌∙◌, ℕ, List, map, filter, ap}
 use Rattle.std.specs.Prelude.{◌==◌, ◌&&◌, bytes_eq}
 use Rattle.std.specs.Option.{option_map}

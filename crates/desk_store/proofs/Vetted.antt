@@ -1,4 +1,4 @@
--- What an examination and an audit of a connection tell together.
+-- What an examination and an audit of a connection report together.
 use Rattle.std.proofs.Common.{◌≡◌, Ok, Err, Result, IfErr, ap, subst, ◌∙◌}
 use Rattle.std.specs.Prelude.{IsTrue, OnOk}
 use Rattle.sqlite.specs.State.{State, HasCleanDisk, Survives}
@@ -24,7 +24,7 @@ survived a b (Err (BadVersion n)) stayed left = left.0.survives
 survived a b (Err (Unsound f)) stayed left = left.0.survives
 
 module _ (old between : State) where
-  -- a connection that stayed shows what it showed, if it was open
+  -- a connection that is unchanged shows what it showed, if it was open
   pub stayed_now : HasStayed old between → HasCleanDisk between → IsTrue old.is_open → between.now ≡ old.now
   stayed_now it clean is = it.0.now clean (it.1 clean is)
 

@@ -1,4 +1,4 @@
--- What creating a desk in a database, and adopting one, tell and leave.
+-- What creating a desk in a database, and adopting one, return and leave.
 use Rattle.std.specs.Prelude.{◌≡◌, false, [], length, IsTrue}
 use Rattle.sqlite_trees.specs.Tree.{Trees}
 use Rattle.sqlite.specs.State.{State}
@@ -20,28 +20,29 @@ use Rattle.desk_store.specs.declared.counts.Counts.{Counts}
 use Rattle.desk_store.specs.declared.fault.AdoptFault.{AdoptFault}
 use Rattle.desk_store.specs.declared.fault.AdoptFault.TheVariants.{NotADesk, BadVersion, Unsound, Fault}
 
--- what is left holds the tables of no command
+-- what is left holds the tables of an empty desk
 abbrev pub StandsEmpty : Trees → Type 0
 StandsEmpty trees = (w : Readings) → Stands trees (tables w [])
 
--- the desk of no command: it is open, its rows are those tables, and a stop leaves them alone
+-- the empty desk: it is open, its rows are those tables, and a stop leaves them and no others
 pub record IsEmpty (s : Seen Trees) : Type 0 where
   pub is_open : s.is_honest → s.is_open
   pub holds : s.is_honest → (w : Readings) → s.holds (tables w [])
   pub leaves : s.is_honest → (x : Trees) → s.leaves x → StandsEmpty x
 
--- there are so many rows of these tables
+-- these tables have this many rows
 pub record HasCounts (counts : Counts) (t : Tables) : Type 0 where
   pub revisions : length t.catalogue ≡ counts.revisions
   pub documents : length t.document ≡ counts.documents
   pub releases : length t.releases ≡ counts.releases
   pub duties : length t.duty ≡ counts.duties
 
--- the forms of tables, which stand in no table but a text, are those that a reading gives the catalogue in force
+-- the forms of tables, which are in no table, only in a text, are those that a reading gives the catalogue in
+-- force
 abbrev pub HasForms : Readings → Tables → Type 0
 HasForms w t = t.forms ≡ forms_in (option_and_then (λ text. result_ok (w.catalogue text)) (body_of t (length t.catalogue)))
 
--- memory was wanting, or the store failed
+-- no memory was left, or the store failed
 abbrev pub IsFault : AdoptFault → Type 0
 IsFault (Fault fault) = Unit {0}
 IsFault _ = ⊥
@@ -50,7 +51,7 @@ IsFault _ = ⊥
 abbrev pub IsUncountable : Tables → Type 0
 IsUncountable t = are_countable t.releases t.duty ≡ false
 
--- what may come of an audit: it finds something, or memory was wanting or the store failed
+-- what an audit may return: it finds something, or no memory was left or the store failed
 abbrev pub IsOfAudit : AdoptFault → Type 0
 IsOfAudit (Unsound fault) = Unit {0}
 IsOfAudit (Fault fault) = Unit {0}
@@ -61,7 +62,7 @@ abbrev pub IsFinding : State → AdoptFault → Type 0
 IsFinding s (Unsound fault) = Reports s (report.Unsound fault)
 IsFinding s _ = Unit {0}
 
--- what the database was found to hold, where it isn't adopted
+-- what the database was found to hold, if it isn't adopted
 abbrev pub IsReason : State → AdoptFault → Type 0
 IsReason s NotADesk = IsContent s content.Other
 IsReason s (BadVersion version) = IsContent s (content.OtherVersion version)

@@ -1,4 +1,4 @@
--- What an audit of a database tells.
+-- What an audit of a database reports.
 use Rattle.std.specs.Prelude.{◌≡◌}
 use Rattle.sqlite.specs.State.{State, HasCleanDisk}
 use Rattle.desk_model.specs.Readings.{Readings}
@@ -9,10 +9,10 @@ use Rattle.desk_snapshot.specs.declared.snapshot.Snapshot.{Snapshot}
 use Rattle.desk_sql_scan.specs.Scans.{IsSnapshot}
 use Rattle.desk_texts.specs.Right.{AreRight}
 
--- of the rows of a database, by each right reading
+-- the report on the rows of a database, by each right reading
 abbrev pub Reports : State → AuditReport → Type 0
 Reports old report = (s : Snapshot) × IsSnapshot s old.now × ((w : Readings) → AreRight w → IsReport w s report)
 
--- The report is that on the rows, where the tables are declared as a desk's are.
+-- The report is that on the rows, if the tables are declared as a desk's are.
 abbrev pub IsAudit : State → State → AuditReport → Type 0
 IsAudit old new report = HasCleanDisk new → old.now.schema ≡ desk_schema → Reports old report

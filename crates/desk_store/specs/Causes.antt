@@ -19,39 +19,40 @@ use Rattle.desk_store.specs.declared.fault.AdoptFault.{AdoptFault}
 use Rattle.desk_store.specs.declared.fault.AdoptFault.TheVariants as adopt
 use Rattle.desk_texts.specs.Right.{AreRight}
 
--- With rows as a desk writes them, and no limit on the steps of a query, a look-up of a store fails only if no memory is left, or with a
--- fault of the database as the disk failed once more. `Given` is what is said of the tables besides.
+-- If the rows are as a desk writes them, and the steps of a query have no limit, a look-up of a store fails
+-- only if no memory is left, or with a fault of the database if the disk failed once more. `Given` is what
+-- else is known of the tables.
 pub record MissesIf (Given : Tables → Type 0) (seen : Seen Trees) (old new : State) (fault : Fault) : Type 0 where
   pub cause : HasCleanDisk new → IsTrue old.is_open → old.step_limit ≡ None → (t : Tables) → seen.holds t → AreWritten t → Given t → IsCaused old new fault
 
 -- what a look-up does to a store, over a connection in these states
 pub record FindsGiven {A : Type 0} (Given : Tables → Type 0) (before after : Seen Trees) (old new : State) (result : Result A Fault) (Is : A → Tables → Type 0) : Type 0 where
-  -- what was found is so of the rows
+  -- what was found is true of the rows
   pub found : IfOk result (λ x. OfRows (Is x) before after)
   pub kept : Looked before after result
   pub cause : IfErr result (MissesIf Given before old new)
 
--- a look-up of a store, by what is seen of it, and by the state of its connection
+-- a look-up of a store, by what contracts see of the store, and by the state of its connection
 abbrev pub FindsIf : {Store A : Type 0} → (Tables → Type 0) → (Store → Seen Trees) → (Store → State) → Store → Store → Result A Fault → (A → Tables → Type 0) → Type 0
 FindsIf Given seen conn old new = FindsGiven Given (seen old) (seen new) (conn old) (conn new)
 
 abbrev pub Finds : {Store A : Type 0} → (Store → Seen Trees) → (Store → State) → Store → Store → Result A Fault → (A → Tables → Type 0) → Type 0
 Finds seen conn old new = FindsGiven (λ t. Unit {0}) (seen old) (seen new) (conn old) (conn new)
 
--- Where a change goes on from the rows, which are as a desk writes them, the rows before and after it can stand, and there are rowids for
--- those that it adds, a commit fails only for such a cause.
+-- If a change continues the rows, which are as a desk writes them, the tables can hold the rows before and
+-- after it, and there are rowids for those that it adds, a commit fails only for such a cause.
 pub record CommitFailsFor (change : Change) (seen : Seen Trees) (old new : State) (fault : Fault) : Type 0 where
   pub cause : HasCleanDisk new → IsTrue old.is_open → old.step_limit ≡ None → (t : Tables) → seen.holds t → AreWritten t → Follows change t
       → CanStand (rows_of t) → CanStand (rows_of (applied change t)) → HasRoom (rows_in change) old.now.trees → IsCaused old new fault
 
--- how many rows of each of these there are is a number of 32 bits
+-- the number of rows of each of these kinds is a number of 32 bits
 pub record AreFew (t : Tables) : Type 0 where
   pub revisions : length t.catalogue < 2 ^ 32
   pub documents : length t.document < 2 ^ 32
   pub releases : length t.releases < 2 ^ 32
   pub duties : length t.duty < 2 ^ 32
 
--- the body of the last revision, if there is one, is a catalogue
+-- the text of the last revision, if there is one, is a catalogue
 abbrev pub HasCatalogue : Readings → Tables → Type 0
 HasCatalogue w t = IfSome (body_of t (length t.catalogue)) (λ text. is_some (result_ok (w.catalogue text)) ≡ true)
 
@@ -63,16 +64,16 @@ pub record AreRecorded (t : Tables) : Type 0 where
   pub history : IsHistory w h
   pub is : t ≡ tables w h
 
--- it is a fault, and has a cause
+-- it is a fault that has a cause
 abbrev pub IsCausedFault : State → State → AdoptFault → Type 0
 IsCausedFault old new (adopt.Fault fault) = IsCaused old new fault
 IsCausedFault old new _ = ⊥
 
--- With rows as a desk writes them, and no limit on the steps of a query, a database isn't adopted only for such a cause. `Given` is what
--- is said of the tables besides.
+-- If the rows are as a desk writes them, and the steps of a query have no limit, a database is left without
+-- being adopted only for such a cause. `Given` is what else is known of the tables.
 pub record AdoptFailsIf (Given : Tables → Type 0) (old new : State) (fault : AdoptFault) : Type 0 where
   pub cause : HasCleanDisk new → IsTrue old.is_open → old.step_limit ≡ None → (t : Tables) → (seen_of old).holds t → AreWritten t → Given t → IsCausedFault old new fault
 
--- of the tables of recorded histories
+-- the same for the tables of recorded histories
 abbrev pub AdoptFailsFor : State → State → AdoptFault → Type 0
 AdoptFailsFor = AdoptFailsIf AreRecorded

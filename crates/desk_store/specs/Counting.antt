@@ -32,7 +32,7 @@ counts_after (change.Opened row) c = record c { releases = c.releases + 1 }
 counts_after (change.Froze release revision rows duties changes) c = record c { duties = c.duties + length duties }
 counts_after _ c = c
 
--- the count that a change adds to has room for it in 32 bits
+-- the count to which a change adds has room for it in 32 bits
 abbrev pub HasCount : Change → Counts → Type 0
 HasCount (change.Loaded row rules forms) c = c.revisions + 1 < 2 ^ 32
 HasCount (change.Imported row packages references) c = c.documents + 1 < 2 ^ 32
@@ -45,20 +45,20 @@ abbrev pub forms_after : Change → List (List ℕ) → List (List ℕ)
 forms_after (change.Loaded row rules forms) old = forms
 forms_after _ old = old
 
--- and after one that was written or not
+-- and after a change that was written or wasn't
 abbrev pub forms_noted : Bool → Change → List (List ℕ) → List (List ℕ)
 forms_noted true change old = forms_after change old
 forms_noted false change old = old
 
--- what was found of the rows is so of these
+-- what was found of the rows is true of these
 abbrev pub AreFound : Found → Tables → Type 0
 AreFound found t = AreAdopted found.adoptions t × AreHeld found.holders t × AreLast found.last t
 
 abbrev pub nothing_kept : Found
 nothing_kept = record { adoptions = None; holders = None; last = nothing_last }
 
--- What is seen of a store that knows these of its rows, has these tallies of them, and found this. It was looked up, so it is so of the
--- rows as far as the disk is honest.
+-- What contracts see of a store that knows this of its rows, has these tallies of them, and found this. It
+-- was looked up, so it is true of the rows as far as the disk is honest.
 abbrev pub tallied : Found → Tallies → Known → Seen Trees → Seen Trees
 tallied found tallies k s = record {
   holds = λ t. (known_of t ≡ k) × AreKept tallies t × s.holds t × (s.is_honest → AreFound found t);

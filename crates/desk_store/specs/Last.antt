@@ -1,4 +1,4 @@
--- What the last look-ups of a store found, which is so of its rows.
+-- What the last look-ups of a store found, which is true of its rows.
 use Rattle.std.specs.Prelude.{◌≡◌, ℕ, Option, Some, None, find}
 use Rattle.std.specs.Option.{option_map}
 use Rattle.desk_base.specs.declared.profile.Profile.{Profile}

@@ -1,4 +1,4 @@
--- The rows of one document and of one release that a store has read at once.
+-- The rows of one document and of one release that a store has read all at once.
 use Rattle.std.specs.Prelude.{◌≡◌, filter, IfSome, None}
 use Rattle.desk_model.specs.Keys.{is_choice_in}
 use Rattle.desk_model.specs.Tables.{Tables}

@@ -56,7 +56,7 @@ fn read_counts<S: Alter>(conn: &mut Connection<S>) -> Result<Counts, Fault>
     })
 }
 
-/// The forms of the catalogue that a body is; none where there is no body.
+/// The forms of the catalogue in a body, or none if there is no body.
 fn forms_of_body(alloc: Global, body: Option<Text>) -> Result<Items<Text>, Fault>
     ensures value { (w : Readings) → AreRight w → IfOk result (λ forms.
         forms ≡ forms_in (option_and_then (λ text. result_ok (w.catalogue text)) body)) }
@@ -212,7 +212,7 @@ fn vetted<S: Alter>(alloc: Global, conn: &mut Connection<S>) -> Result<(), Adopt
     }
 }
 
-/// Examines and audits a database, and reads of a desk what a store keeps beside its tables.
+/// Examines and audits a database and, if it is a desk, reads what a store keeps beside its tables.
 pub(crate) fn examine_desk<S: Alter>(
     alloc: Global,
     conn: &mut Connection<S>,

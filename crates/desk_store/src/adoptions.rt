@@ -17,7 +17,7 @@ use sqlite::{Alter, Connection};
 use std::alloc::{AllocError, Global};
 use std::collections::BTreeSet;
 
-/// How many references of a document are adopted, and references among which those are.
+/// How many references of a document are adopted, and a set of references that has all of these.
 #[derive(Drop)]
 pub(crate) struct Adoptions {
     pub(crate) document: u32,
@@ -38,7 +38,7 @@ fn set_of(alloc: Global, texts: &[Text]) -> Result<BTreeSet<String>, AllocError>
 }
 
 impl Adoptions {
-    /// Those of a document that has these adopted.
+    /// The adoptions of a document that has adopted these references.
     fn of(alloc: Global, document: u32, texts: &[Text]) -> Result<Adoptions, AllocError>
         ensures document { IfOk result (λ kept. kept.document ≡ document) }
         ensures count { IfOk result (λ kept. kept.count ≡ length texts.now) }
@@ -65,7 +65,7 @@ impl Adoptions {
         !self.references.contains(reference)
     }
 
-    /// After a reference of the document was adopted, which wasn't before, or was.
+    /// Adds a reference of the document that was adopted. `is_new` says whether it wasn't before.
     fn adopt(&mut self, alloc: Global, reference: &str, is_new: bool) -> Result<(), AllocError>
         ensures document { self.new.document ≡ self.old.document }
         ensures count { OnOk result
@@ -98,7 +98,7 @@ pub(crate) fn read_adoptions<S: Alter>(
     Ok(Adoptions::of(alloc, document, &texts)?)
 }
 
-/// Whether an adoption is of a new reference: where it may not be, the rows tell.
+/// Whether an adoption is of a new reference. If that isn't known, it is looked up in the rows.
 fn adds_one<S: Alter>(
     alloc: Global,
     conn: &mut Connection<S>,
@@ -116,7 +116,7 @@ fn adds_one<S: Alter>(
     Ok(licence.is_none())
 }
 
-/// After a change that is to be written.
+/// Changes the adoptions by a change that is to be written.
 pub(crate) fn change_adoptions<S: Alter>(
     alloc: Global,
     conn: &mut Connection<S>,

@@ -15,12 +15,12 @@ use desk_snapshot::AuditReport;
 use sqlite::{Alter, Connection};
 use std::alloc::Global;
 
-/// Audits the tables that a connection shows: whether they meet the ten conditions of a desk's
-/// tables, else which of them they don't meet first. The database is only read.
+/// Audits the tables that a connection shows: reports whether they meet the ten conditions of a
+/// desk's tables or, if not, the first that they don't meet. The database is only read.
 ///
-/// Any database may be audited. A fault tells that memory was wanting, that the database failed or
-/// lacks a table or a column of a desk, or that a cell has a value that no such column has. The
-/// tables of a recorded history are sound.
+/// Any database may be audited. The fault is that no memory was left, that the database failed or
+/// lacks a table or a column of a desk, or that a cell has a value that its column never has in a
+/// desk. The tables of a recorded history are sound.
 pub fn audit_connection<S: Alter>(
     alloc: Global,
     conn: &mut Connection<S>,

@@ -14,7 +14,7 @@ pub struct Counts {
     pub duties: u32,
 }
 
-/// The counts after a change, where they have room.
+/// The counts after a change, if there is room for them.
 pub(crate) fn counts_after(change: &Change, counts: Counts) -> Option<Counts>
     ensures after { IfSome result (λ after. after ≡ counts_after change.now counts) }
     ensures none { IfNone result (¬ HasCount change.now counts) }

@@ -49,7 +49,7 @@ const NO_ROWS: Counts = Counts {
     duties: 0,
 };
 
-/// A desk whose rows stand in a database, and that reads texts by their standards.
+/// A desk whose rows are in a database, and that reads texts by their standards.
 #[derive(Drop)]
 pub struct SqlDesk<S: Alter> {
     pub(crate) desk: TableDesk<Standard, SqlStore<S>>,
@@ -75,10 +75,10 @@ impl<S: Alter> SqlDesk<S> {
         }
     }
 
-    /// Creates the tables of an empty desk in a database where nothing stands, in one transaction.
+    /// Creates the tables of an empty desk in an empty database, in one transaction.
     ///
     /// A database with a table `meta` is refused as `NotEmpty`, and one with other tables by a
-    /// fault of the store; the connection is handed back. After `NotEmpty` it is as it was. After a
+    /// fault of the store; the connection is returned. After `NotEmpty` it is as it was. After a
     /// fault its tables are as they were, and a stop may leave the empty desk.
     pub fn create(
         alloc: Global,
@@ -113,16 +113,15 @@ impl<S: Alter> SqlDesk<S> {
     /// Adopts a database that holds a desk's tables, as the desk with those rows. The database is
     /// only read.
     ///
-    /// It isn't adopted as `BadVersion` where its table `meta` tells another version than 3,
-    /// whatever else stands in it; as `NotADesk` where no table `meta` tells one version, or where
-    /// not all tables of a desk are declared as `create` declares them, in its order, or where a
-    /// table, an index or a view stands beside them; as `Unsound` where `audit_connection` finds
-    /// that its tables aren't sound. After these the connection is as it was. A fault tells that
-    /// memory was wanting, that the database failed, or that it gave rows that no desk has.
+    /// It is refused as `BadVersion` if its table `meta` gives a version other than 3, whatever
+    /// else is in it; as `NotADesk` if no table `meta` gives a single version, or if not all tables
+    /// of a desk are declared as `create` declares them, in its order, or if there is a table, an
+    /// index or a view besides them; and as `Unsound` if `audit_connection` finds that its tables
+    /// aren't sound. After these the connection is as it was. The fault is that no memory was left,
+    /// that the database failed, or that it gave rows that no desk has.
     ///
-    /// The tables of a recorded history are sound, so of them a fault alone is answered. Whatever
-    /// rows the connection shows, sound as they are, are the desk's rows, so that a refusal or a
-    /// fault leaves them.
+    /// The tables of a recorded history are sound, so for them the only error is a fault. Whatever
+    /// sound rows the connection shows are the desk's rows, so a refusal or a fault leaves them.
     pub fn adopt_connection(
         alloc: Global,
         conn: Connection<S>,
@@ -161,11 +160,11 @@ impl<S: Alter> SqlDesk<S> {
         }
     }
 
-    /// Gives a database that holds a desk's tables in version 1 or 2 those of version 3, as
-    /// `migrate_tables` does, and adopts it. The old version is answered beside the desk.
+    /// Migrates a desk's tables of version 1 or 2 in a database to version 3, as `migrate_tables`
+    /// does, and adopts it. The old version is returned beside the desk.
     ///
-    /// It is refused, and as it was after a refusal, as `migrate_tables` says. A fault may come
-    /// after the migration too: then the database that is handed back shows the migrated tables.
+    /// It is refused as `migrate_tables` says, and is then as it was. A fault may also come after
+    /// the migration: then the database that is returned shows the migrated tables.
     pub fn migrate(
         alloc: Global,
         conn: Connection<S>,
@@ -212,8 +211,8 @@ impl<S: Alter> SqlDesk<S> {
         self.desk.store.audit()
     }
 
-    /// Hands the connection back, which shows the desk's rows and is in no transaction. A stop
-    /// leaves of it what it could leave of the desk.
+    /// Returns the connection, which shows the desk's rows and is in no transaction. A stop leaves
+    /// of it what it could leave of the desk.
     pub fn into_connection(self) -> Connection<S>
         ensures shows { Same (⟦<SqlDesk<S> as Desk>⟧.seen self) (seen_of (state S.Store result)) }
         ensures leaves { (left : Trees) → (state S.Store result).may_leave left

@@ -1,24 +1,26 @@
-//! Why a database isn't taken for a desk.
+//! Why a database isn't taken as a desk.
 
 use desk_model::Fault;
 use desk_snapshot::AuditFault;
 use thiserror::Error;
 
-/// Why no desk was created in a database. It is shown by its name.
+/// Why no desk was created in a database. It prints as its name.
 #[derive(Clone, Copy, Debug, Drop, PartialEq, Eq, Error)]
 pub enum CreateFault {
     /// The database has a table `meta`.
     #[error("NotEmpty")]
     NotEmpty,
-    /// Memory was wanting, or the database failed. It fails too where other tables stand in it.
+    /// No memory was left, or the database failed, as it does if it has other tables.
     #[error(transparent)]
     Fault(Fault),
 }
 
-/// Why a database wasn't adopted as a desk. It is shown by its name, with the version that the database tells.
+/// Why a database wasn't adopted as a desk. It prints as its name, with the version that the
+/// database gives.
 #[derive(Clone, Copy, Debug, Drop, PartialEq, Eq, Error)]
 pub enum AdoptFault {
-    /// The database tells no version, or one table of a desk isn't there as it is declared, or something stands beside them.
+    /// The database gives no version, or a table of a desk doesn't exist as it is declared, or
+    /// there is something besides these tables.
     #[error("NotADesk")]
     NotADesk,
     /// The tables are of another version.
@@ -27,7 +29,7 @@ pub enum AdoptFault {
     /// The tables aren't sound: the first condition of an audit that they don't meet.
     #[error("Unsound({0:?})")]
     Unsound(AuditFault),
-    /// Memory was wanting, or the database failed or gave rows that no desk has.
+    /// No memory was left, or the database failed or gave rows that no desk has.
     #[error(transparent)]
     Fault(Fault),
 }

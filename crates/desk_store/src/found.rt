@@ -18,8 +18,8 @@ use desk_model::{Change, Fault};
 use sqlite::{Alter, Connection};
 use std::alloc::Global;
 
-/// The adoptions of the document for whose count was asked last, if for one was, the releases that
-/// hold a choice, if one was asked for, and what was looked up last.
+/// The adoptions of the document whose count was asked for last, if any; the releases that hold a
+/// choice, if they were asked for; and what was looked up last.
 #[derive(Drop)]
 pub(crate) struct Found {
     pub(crate) adoptions: Option<Adoptions>,
@@ -38,7 +38,7 @@ impl Found {
         }
     }
 
-    /// Hands out what was found, and leaves nothing of it.
+    /// Returns what was found, and keeps nothing of it.
     pub(crate) fn take(&mut self) -> Found
         ensures taken { result ≡ self.old }
         ensures left { self.new ≡ nothing_kept }
@@ -50,7 +50,7 @@ impl Found {
         }
     }
 
-    /// Whether it is known that a change replaces no row: it adopts a reference that isn't adopted.
+    /// Whether a change is known to replace no row: it adopts a reference that isn't adopted.
     pub(crate) fn replaces_none(&self, change: &Change) -> bool
         ensures { result ≡ true → (t : Tables) → AreFound self.now t → ReplacesNone change.now t }
     {

@@ -24,7 +24,7 @@ pub(crate) struct Holders {
     rows: Blocks<Holder>,
 }
 
-/// The place of the release with a name, found by halving.
+/// The place of the release with this name, found by binary search.
 fn place_of(releases: &[ReleaseRow], name: &str) -> Option<u32>
     ensures found { IfSome result (IsPlace releases.now name.now) }
     ensures none { IfNone result (ascends (below_by release_order) releases.now ≡ true
@@ -37,7 +37,7 @@ fn place_of(releases: &[ReleaseRow], name: &str) -> Option<u32>
 }
 
 impl Holders {
-    /// Those of the rows of releases and choices, if each choice is of one of the releases.
+    /// The holders in the rows of releases and choices, if each choice is in one of the releases.
     fn of(
         alloc: Global,
         releases: &[ReleaseRow],
@@ -66,7 +66,7 @@ impl Holders {
         Ok(Some(Holders { rows }))
     }
 
-    /// The first opened release that holds a choice for a package.
+    /// The first release opened that holds a choice for a package.
     pub(crate) fn first(&self, document: u32, id: &str) -> Result<Option<Text>, AllocError>
         ensures { IfOk result (λ name. (t : Tables) → ArePlaces t.releases
             → AreHolders (held_by self.now) t → name ≡ holder_found t document id.now) }
@@ -77,7 +77,7 @@ impl Holders {
         }
     }
 
-    /// After a choice for a package in the release at a place.
+    /// Changes the holders by the terms, if any, chosen for a package in the release at a place.
     fn choose(
         &mut self,
         release: &Text,
@@ -98,7 +98,7 @@ impl Holders {
     }
 }
 
-/// The holders of the rows of a database, if each choice is of a release.
+/// The holders in the rows of a database, if each choice is in a release.
 pub(crate) fn read_holders<S: Alter>(
     alloc: Global,
     conn: &mut Connection<S>,
@@ -112,7 +112,7 @@ pub(crate) fn read_holders<S: Alter>(
     Holders::of(alloc, releases.as_slice(), choices.as_slice())
 }
 
-/// The place of the release with a name, if there is one.
+/// The place of the release with this name, if there is one.
 pub(crate) fn release_place<S: Alter>(
     alloc: Global,
     conn: &mut Connection<S>,
@@ -127,7 +127,7 @@ pub(crate) fn release_place<S: Alter>(
     }
 }
 
-/// After a choice for a package in a release.
+/// Changes the holders by the terms, if any, chosen for a package in a release.
 fn choose<S: Alter>(
     alloc: Global,
     conn: &mut Connection<S>,
@@ -147,7 +147,7 @@ fn choose<S: Alter>(
     }
 }
 
-/// After a release is withdrawn, which holds none of its choices any more.
+/// Changes the holders by the withdrawal of a release, which no longer holds any of its choices.
 fn withdraw<S: Alter>(
     alloc: Global,
     conn: &mut Connection<S>,
@@ -166,7 +166,7 @@ fn withdraw<S: Alter>(
     Ok(())
 }
 
-/// After a change that is to be written.
+/// Changes the holders by a change that is to be written.
 pub(crate) fn change_holders<S: Alter>(
     alloc: Global,
     conn: &mut Connection<S>,

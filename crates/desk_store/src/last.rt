@@ -1,5 +1,5 @@
-//! What look-ups found last, for those that ask again: a freeze asks package by package for the
-//! same document, the same rule, and for what was concluded and chosen there.
+//! What look-ups found last, for those that ask again: a freeze asks for each package for the same
+//! document and the same rule, and for what was concluded and chosen for it.
 
 ghost use Rattle.std.specs.Prelude.{◌≡◌, ℕ, List, Some, IfOk, IfSome, OnErr, OnOk, find};
 ghost use Rattle.std.specs.Option.{option_map};
@@ -15,7 +15,8 @@ use desk_base::{Items, Text};
 use desk_model::{Profile, Rule};
 use std::alloc::{AllocError, Global};
 
-/// A document with its profile, a rule, and what was asked for in a row with no change between.
+/// A document with its profile, a rule, and what was asked for repeatedly with no change in
+/// between.
 #[derive(Drop)]
 pub(crate) struct Last {
     pub(crate) document: Option<(u32, Profile)>,
@@ -57,7 +58,7 @@ impl Last {
         }
     }
 
-    /// Hands out what was found, and leaves nothing of it.
+    /// Returns what was found, and keeps nothing of it.
     pub(crate) fn take(&mut self) -> Last
         ensures taken { result ≡ self.old }
         ensures left { self.new ≡ nothing_last }
@@ -70,7 +71,7 @@ impl Last {
         }
     }
 
-    /// What is still so after a change: documents are only added.
+    /// What is still true after a change: documents are only added.
     pub(crate) fn after_change(self) -> Last
         ensures { (change : Change) (t : Tables) → AreLast self t
             → AreLast result (applied change t) }
@@ -83,7 +84,7 @@ impl Last {
         }
     }
 
-    /// The document with a number, if it is known.
+    /// The document with this number, if it is known.
     pub(crate) fn document_at(&self, number: u64) -> Option<(u32, Profile)>
         ensures found { IfSome result (λ known. (t : Tables) → IsDocument self.now.document t
             → Some known ≡ option_map known_document (find (is_document number) t.document)) }

@@ -6,16 +6,16 @@
 //! look-ups ask for again is kept once it was found: the references of one document that are
 //! adopted (`specs/References.antt`), the releases that hold a choice (`specs/Holding.antt`), a
 //! document and a rule of the last look-ups (`Last`), and the conclusions of a document and the
-//! choices of a release that are asked for in a row (`specs/Repeated.antt`).
+//! choices of a release that are asked for repeatedly (`specs/Repeated.antt`).
 //!
 //! `SqlDesk` is the desk over such a store, with the reader of texts by their standards. `create`
-//! makes the tables of an empty desk in a database where nothing stands; `adopt_connection` takes a
-//! database that holds a desk's tables as the desk with those rows; both hand the connection back
-//! where they don't. `audit_connection` tells whether the tables are such as a desk's are, which
-//! `adopt_connection` asks first (`specs/Auditing.antt`). `into_connection` gives back a desk's
-//! connection. What each tells and leaves, also for a stop of the program, is said in
-//! `specs/Adopting.antt`. `snapshot`, `wanting`, `idle_documents` and `sole_choices` are what is
-//! looked at beside the answers.
+//! makes the tables of an empty desk in an empty database; `adopt_connection` takes a database that
+//! holds a desk's tables as the desk with those rows; if they can't, both return the connection.
+//! `audit_connection` reports whether the tables are those of a sound desk, which
+//! `adopt_connection` checks first (`specs/Auditing.antt`). `into_connection` returns a desk's
+//! connection. `specs/Adopting.antt` says what each returns and leaves, also if the program stops.
+//! `snapshot`, `wanting`, `idle_documents` and `sole_choices` show what the answers of a desk
+//! don't.
 #![tactic(auto)]
 
 mod adopt;

@@ -1,5 +1,5 @@
-//! What is looked at in a desk beside its answers: all its rows, and what stands in the way of a
-//! freeze, and choices that leave nothing to choose.
+//! What can be looked at in a desk besides its answers: all its rows, what keeps a release from
+//! being frozen, and the choices for packages that have only one.
 
 ghost use Rattle.std.specs.Prelude.{◌≡◌, IfErr, IfOk};
 ghost use Rattle.std.specs.Result.{result_map_both};
@@ -39,8 +39,8 @@ impl<S: Alter> SqlDesk<S> {
         self.desk.store.snapshot()
     }
 
-    /// All that stands in the way of a freeze of a release, as `desk_wanting::wanting` lists it.
-    /// The desk is as it was.
+    /// Everything that keeps a release from being frozen, as `desk_wanting::wanting` lists it. The
+    /// desk is as it was.
     pub fn wanting(&mut self, alloc: Global, release: &Text) -> Result<Vec<Refusal>, Fault>
         ensures found { IfOk result (λ refusals. InHistory AreRight (λ w h.
             refusals.items ≡ wanting_found w (tables w h) release.now)
@@ -52,8 +52,8 @@ impl<S: Alter> SqlDesk<S> {
         desk_wanting::wanting(alloc, &Standard, &mut self.desk.store, release)
     }
 
-    /// The choices of a release that leave nothing to choose, as `desk_wanting::sole_choices` lists
-    /// them. The desk is as it was.
+    /// The choices of a release for packages that have only one, as `desk_wanting::sole_choices`
+    /// lists them. The desk is as it was.
     pub fn sole_choices(
         &mut self,
         alloc: Global,

@@ -25,8 +25,8 @@ use std::alloc::Global;
 /// What a store keeps beside its tables.
 pub(crate) type Beside = (Counts, Items<Text>, Tallies);
 
-/// Gives a database of an older version the tables of this one, and reads what a store keeps beside
-/// them.
+/// Migrates the tables of an older version in a database to this one, and reads what a store keeps
+/// beside them.
 pub(crate) fn migrated<S: Alter>(
     alloc: Global,
     conn: &mut Connection<S>,

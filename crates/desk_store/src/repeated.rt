@@ -1,5 +1,5 @@
-//! The conclusions of a document and the choices of a release, read at once where one after the
-//! other is asked for with no change between, as a freeze does.
+//! The conclusions of a document and the choices of a release. All are read at once if one after
+//! another is asked for with no change in between, as a freeze does.
 
 ghost use Rattle.std.specs.Prelude.{◌≡◌, ◌↔◌, ◌&&◌, ℕ, true, nat_lt, not, is_some, IfErr, IfNone, IfOk, IfSome, OnOk, List, Option, filter, map};
 ghost use Rattle.desk_model.specs.Conclusions.{office_text};
@@ -14,10 +14,10 @@ use desk_model::{ChoiceRow, ConclusionRow, Fault};
 use desk_sorted::{Appended, Keyed, Sought};
 use std::alloc::{AllocError, Global};
 
-/// So many in a row are looked up one by one before all are read.
+/// How many in a row are looked up one at a time before all are read.
 const ONE_BY_ONE: u32 = 16;
 
-/// Rows as they are looked up by halving.
+/// Rows in a form in which they are looked up by binary search.
 pub(crate) fn listed<R: Keyed + Drop>(alloc: Global, rows: Vec<R>) -> Result<Appended<R>, Fault>
     ensures rows { IfOk result (λ listed. listed.rows.items ≡ rows.items) }
     ensures fault { IfErr result (λ fault. fault ≡ Fault.Memory) }
@@ -28,8 +28,8 @@ pub(crate) fn listed<R: Keyed + Drop>(alloc: Global, rows: Vec<R>) -> Result<App
     Ok(listed)
 }
 
-/// The document whose conclusions were asked for last, how often in a row, and all of them if they
-/// were read.
+/// The document whose conclusions were asked for last, how many times in a row, and all of them if
+/// they were read.
 #[derive(Drop)]
 pub(crate) struct Conclusions {
     pub(crate) document: u32,
@@ -48,7 +48,7 @@ impl Conclusions {
         }
     }
 
-    /// All of a document.
+    /// All conclusions of a document.
     pub(crate) fn of(document: u32, rows: Appended<ConclusionRow>) -> Conclusions
         ensures are { (t : Tables)
             → rows.rows.items ≡ filter (is_conclusion_in document) t.conclusion
@@ -62,7 +62,8 @@ impl Conclusions {
         }
     }
 
-    /// Counts that a document is asked for. Whether all of its conclusions are to be read now.
+    /// Counts one more request for a document, and returns whether all its conclusions are to be
+    /// read now.
     pub(crate) fn ask(&mut self, document: u32) -> bool
         ensures are { (t : Tables) → AreConclusions self.old t → AreConclusions self.new t }
         ensures document { self.new.document ≡ document }
@@ -77,7 +78,7 @@ impl Conclusions {
         self.asked > ONE_BY_ONE && self.rows.is_none()
     }
 
-    /// All of a document, if they were read.
+    /// All conclusions of a document, if they were read.
     pub(crate) fn rows_of(&self, document: u32) -> Option<&Appended<ConclusionRow>>
         ensures are { IfSome result (λ rows. (t : Tables) → AreConclusions self.now t
             → rows.now.rows.items ≡ filter (is_conclusion_in document) t.conclusion) }
@@ -91,7 +92,7 @@ impl Conclusions {
     }
 }
 
-/// What is concluded for a package, among these.
+/// The conclusion for a package, among these.
 pub(crate) fn expression_in(
     rows: &Appended<ConclusionRow>,
     document: u32,
@@ -105,8 +106,8 @@ pub(crate) fn expression_in(
     }
 }
 
-/// The release whose choices were asked for last, how often in a row, and all of them if they were
-/// read.
+/// The release whose choices were asked for last, how many times in a row, and all of them if they
+/// were read.
 #[derive(Drop)]
 pub(crate) struct Choices {
     pub(crate) release: Option<Text>,
@@ -134,7 +135,7 @@ impl Choices {
         }
     }
 
-    /// All of a release.
+    /// All choices of a release.
     pub(crate) fn of(release: Text, rows: Appended<ChoiceRow>) -> Choices
         ensures are { (t : Tables) → rows.rows.items ≡ filter (is_choice_in release) t.choice
             → AreChoices result t }
@@ -148,7 +149,8 @@ impl Choices {
         }
     }
 
-    /// Counts that a release is asked for. Whether all of its choices are to be read now.
+    /// Counts one more request for a release, and returns whether all its choices are to be read
+    /// now.
     pub(crate) fn ask(&mut self, alloc: Global, release: &str) -> Result<bool, AllocError>
         ensures are { (t : Tables) → AreChoices self.old t → AreChoices self.new t }
         ensures release { OnOk result (self.new.release ≡ Option.Some release.now) }
@@ -166,7 +168,7 @@ impl Choices {
         Ok(self.asked > ONE_BY_ONE && self.rows.is_none())
     }
 
-    /// All of a release, if they were read.
+    /// All choices of a release, if they were read.
     pub(crate) fn rows_of(&self, release: &str) -> Option<&Appended<ChoiceRow>>
         ensures are { IfSome result (λ rows. (t : Tables) → AreChoices self.now t
             → rows.now.rows.items ≡ filter (is_choice_in release.now) t.choice) }

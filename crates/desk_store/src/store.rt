@@ -1,6 +1,6 @@
 //! The store: the desk's rows over a connection.
 //!
-//! Its look-ups and its commit say what the trait says of them, and when they fail
+//! Its look-ups and its commit do what the trait says, and its contracts also say when they fail
 //! (`specs/Causes.antt`).
 
 ghost use Rattle.std.specs.Prelude.{◌≡◌, ℕ, List, true, false, unwrap_or, IfErr, IfOk, IfSome, OnErr, OnOk, length, filter, find, map};
@@ -52,8 +52,8 @@ use desk_tally::{Step, Tallies};
 use sqlite::{Alter, Connection};
 use std::alloc::Global;
 
-/// Rows in a database, with how many there are of some, the forms of the catalogue in force, the
-/// tallies of the releases, and what was found of them that look-ups ask for again.
+/// Rows in a database, with how many there are of some kinds, the forms of the catalogue in force,
+/// the tallies of the releases, and what was found that look-ups ask for again.
 #[derive(Drop)]
 pub struct SqlStore<S: Alter> {
     alloc: Global,
@@ -66,9 +66,9 @@ pub struct SqlStore<S: Alter> {
 }
 
 impl<S: Alter> SqlStore<S> {
-    /// The store over a connection that is in no transaction. Where the connection shows tables
-    /// that have so many rows, these are the forms of the catalogue in force and the tallies are
-    /// theirs, they are the store's rows.
+    /// The store over a connection that is in no transaction. The tables that the connection shows
+    /// are the store's rows, if they have this many rows, these are the forms of the catalogue in
+    /// force, and the tallies are theirs.
     pub fn over(
         alloc: Global,
         conn: Connection<S>,
@@ -92,8 +92,8 @@ impl<S: Alter> SqlStore<S> {
         }
     }
 
-    /// Hands the connection back, which shows the store's rows and is in no transaction. A stop
-    /// leaves of it what it could leave of the store.
+    /// Returns the connection, which shows the store's rows and is in no transaction. A stop leaves
+    /// of it what it could leave of the store.
     pub fn into_connection(self) -> Connection<S>
         ensures same { result ≡ self.conn }
         ensures idle { result.in_transaction ≡ false }
@@ -147,7 +147,7 @@ impl<S: Alter> SqlStore<S> {
         desk_sql_scan::snapshot(self.alloc, &mut self.conn)
     }
 
-    /// Keeps the forms of a catalogue that was loaded, where it was written.
+    /// Keeps the forms of a catalogue that was loaded, if the change was written.
     fn take_forms(&mut self, change: Change, is_written: bool)
         ensures forms { self.new.forms ≡ forms_noted is_written change self.old.forms }
         ensures conn { self.new.conn ≡ self.old.conn }
@@ -164,7 +164,7 @@ impl<S: Alter> SqlStore<S> {
     }
 }
 
-/// Of a freeze, the place of its release.
+/// For a freeze, the place of its release.
 fn place_for<S: Alter>(
     alloc: Global,
     conn: &mut Connection<S>,
@@ -179,7 +179,7 @@ fn place_for<S: Alter>(
 }
 
 impl<S: Alter> SqlStore<S> {
-    /// What a change comes to for the tallies, with room made for it.
+    /// The step of a change in the tallies, with room made for it.
     fn plan(&mut self, change: &Change) -> Result<Step, Fault>
         ensures looks { LooksUpGiven S.Store (λ t. AreKept self.old.tallies t
             × Follows change.now t) self.old.conn self.new.conn result (λ step t.
@@ -207,7 +207,7 @@ struct Prepared {
 }
 
 impl<S: Alter> SqlStore<S> {
-    /// Looks up what goes with a change, and keeps nothing of what was found before it.
+    /// Looks up what goes with a change, and drops what was found before it.
     fn prepare(&mut self, change: &Change) -> Result<Prepared, Fault>
         ensures looks { LooksUpGiven S.Store (λ t. AreKept self.old.tallies t
             × Follows change.now t) self.old.conn self.new.conn result (λ made t.
@@ -240,7 +240,7 @@ impl<S: Alter> SqlStore<S> {
         self.found = found;
     }
 
-    /// Writes a change, and keeps what goes with it, apart from the forms.
+    /// Writes a change, and keeps what goes with it, except the forms.
     fn write(&mut self, change: &Change) -> Result<(), Fault>
         ensures wrote { OnOk result (Made Stands change.now (⟦<SqlStore<S> as Store>⟧.seen self.old)
             (tallied self.new.found self.new.tallies
@@ -272,7 +272,7 @@ impl<S: Alter> SqlStore<S> {
 }
 
 impl<S: Alter> SqlStore<S> {
-    /// Reads all conclusions of a document, and finds that for a package.
+    /// Reads all conclusions of a document, and finds the one for a package.
     fn read_conclusion(&mut self, document: u32, id: &str) -> Result<Option<Text>, Fault>
         ensures { Finds ⟦<SqlStore<S> as Store>⟧.seen (λ s. state S.Store s.conn) self.old self.new
             result (λ found t. found ≡ office_text t.conclusion document id.now) }
